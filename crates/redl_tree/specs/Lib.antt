@@ -1,0 +1,9 @@
+pub mod Nodes
+pub mod View
+pub mod Text
+pub mod Count
+pub mod Names
+pub mod Places
+pub mod Kinds
+pub mod Fates
+pub mod Pass

@@ -1,0 +1,20 @@
+//! The nodes of a document: their types, their text, and the definitions that the crates above speak of.
+//!
+//! Read `Node` first, then `write_nodes`. A contract sees a list of nodes as `Nodes` of `specs/Nodes.antt`, by the views
+//! of `specs/View.antt`. The laws of these are in `proofs/Laws.antt`, for all crates above.
+//! How nodes come from bytes, and what becomes of them, is left to the crates above.
+#![tactic(auto)]
+
+mod copy;
+mod count;
+mod kinds;
+mod names;
+mod node;
+mod write;
+
+pub use copy::copy_nodes;
+pub use count::count_nodes;
+pub use kinds::{Fate, Kind, Prop, Say, Space, Trace};
+pub use names::{is_named, is_quiet};
+pub use node::{Close, Elem, Node};
+pub use write::write_nodes;
