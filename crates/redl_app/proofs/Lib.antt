@@ -1,0 +1,4 @@
+pub mod PassLaws
+pub mod FormLaws
+pub mod SettleLaws
+pub mod FetchLaws

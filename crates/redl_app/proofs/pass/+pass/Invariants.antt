@@ -1,0 +1,14 @@
+use Rattle.std.proofs.Common.{◌≡◌, List}
+use Rattle.std.specs.Vec.Iter.{into_iter_items}
+use Rattle.redl_app.specs.Rounds.{round_of}
+use Rattle.redl_tree.specs.Nodes.{Tag, ◌⊕◌}
+use Rattle.redl_tree.specs.Pass.{pass}
+use Rattle.redl_tree.specs.View.{nodes_of}
+use Rattle.redl_app.proofs.pass.+pass.Given as goal
+
+-- what was passed, and the pass of the nodes that are left
+abbrev pub invariant-pass_nodes-loop-node : goal.invariant-pass_nodes-loop-node
+invariant-pass_nodes-loop-node l =
+    (around : List Tag) → l.round ≡ round_of l.says around
+    → nodes_of l.passed.items ⊕ pass l.says around (nodes_of (into_iter_items l.node-iterator))
+    ≡ nodes_of l.initial.passed.items ⊕ pass l.says around (nodes_of l.fn.nodes.items)

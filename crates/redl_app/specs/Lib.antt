@@ -1,0 +1,9 @@
+pub mod Rounds
+pub mod Status
+pub mod Words
+pub mod Commands
+pub mod Form
+pub mod Places
+pub mod Outcome
+pub mod Answers
+pub mod Lines

@@ -1,0 +1,31 @@
+-- How a command line is read. The words come without the program's name.
+use Rattle.std.specs.Prelude.{ℕ, List, [], ◌∷◌, Option, None, Some, option_map, Bool, false, codes, ◌&&◌, ◌==◌, not, if◌then◌else◌}
+use Rattle.std.specs.Str.{bytes_eq}
+use Rattle.redl_tree.specs.declared.kinds.Say.{Say}
+use Rattle.redl_tree.specs.declared.kinds.Say.TheVariants.{Accept, Reject}
+
+-- what the words ask for
+pub data Command : Type 0 where
+  -- the package of this name under one say for all revisions
+  settle : Say → List ℕ → Command
+
+-- a word that can name a file: not empty, and it doesn't begin with a dash
+abbrev pub is_name : List ℕ → Bool
+is_name [] = false
+is_name (first ∷ _) = not (first == 45)
+
+abbrev pub say_named : List ℕ → Option Say
+say_named word =
+    if bytes_eq word (codes "accept") then Some Accept
+    else if bytes_eq word (codes "reject") then Some Reject
+    else None
+
+-- `settle accept NAME` and `settle reject NAME`
+abbrev pub settle_of : List (List ℕ) → Option Command
+settle_of (say ∷ name ∷ []) = if is_name name then option_map (λ say. settle say name) (say_named say) else None
+settle_of _ = None
+
+-- the command of the words, where they are one
+abbrev pub command_of : List (List ℕ) → Option Command
+command_of [] = None
+command_of (verb ∷ words) = if bytes_eq verb (codes "settle") then settle_of words else None

@@ -1,0 +1,82 @@
+ghost use Rattle.std.specs.Prelude.{◌≡◌, ◌++◌, ◌∷◌, [], All, IsUtf8, OnOk, OnErr, option_map};
+ghost use Rattle.redl_app.specs.Words.{is_name, say_named, settle_of, command_of};
+ghost use Rattle.redl_app.specs.Commands.{command_view};
+
+use redl_io::Text;
+use redl_tree::Say;
+use std::alloc::{AllocError, Global};
+use std::str;
+
+/// What the words ask for.
+#[derive(Clone, Copy)]
+pub(crate) enum Command<'a> {
+    /// The package of this name under one say for all revisions.
+    Settle { say: Say, package: &'a str },
+}
+
+/// The command of the words, where they are one.
+pub(crate) fn read_command(words: &[Text]) -> Option<Command<'_>>
+    requires { All IsUtf8 words.now }
+    ensures { option_map command_view result ≡ command_of words.now }
+{
+    let [verb, rest @ ..] = words else {
+        return None;
+    };
+    if verb.as_bytes() == b"settle".as_slice() {
+        read_settle(rest)
+    } else {
+        None
+    }
+}
+
+// The words after `settle`.
+fn read_settle(words: &[Text]) -> Option<Command<'_>>
+    requires { All IsUtf8 words.now }
+    ensures { option_map command_view result ≡ settle_of words.now }
+{
+    let [say, name] = words else {
+        return None;
+    };
+    if !names_file(name.as_bytes()) {
+        return None;
+    }
+    let say = read_say(say.as_bytes())?;
+    Some(Command::Settle {
+        say,
+        package: str::from_utf8(name.as_bytes()).unwrap(),
+    })
+}
+
+// Can the word name a file?
+fn names_file(word: &[u8]) -> bool
+    ensures { result ≡ is_name word.now }
+{
+    match word {
+        [] => false,
+        [first, ..] => *first != b'-',
+    }
+}
+
+fn read_say(word: &[u8]) -> Option<Say>
+    ensures { result ≡ say_named word.now }
+{
+    if word == b"accept".as_slice() {
+        Some(Say::Accept)
+    } else if word == b"reject".as_slice() {
+        Some(Say::Reject)
+    } else {
+        None
+    }
+}
+
+/// Adds a copy of a word. `Err` is want of memory.
+pub fn add_word(alloc: Global, words: &mut Vec<Text>, word: &str) -> Result<(), AllocError>
+    requires { All IsUtf8 words.old.items }
+    ensures added { OnOk result (words.new.items ≡ words.old.items ++ word.now ∷ []) }
+    ensures kept { OnErr result (words.new.items ≡ words.old.items) }
+    ensures utf8 { All IsUtf8 words.new.items }
+{
+    let word = Text::copy_of(alloc, word.as_bytes())?;
+    words.push(word)?;
+    Ok(())
+}

@@ -1,0 +1,52 @@
+-- The numbers of revisions of run content: each `ins` and `del` is a revision, numbered from 1 in the order of the
+-- start tags (ECMA-376 Part 1, 17.13.5.14 and 17.13.5.18; the numbers are our own rule).
+use Rattle.std.specs.Prelude.{ℕ, ◌+◌, Option, Some, None, if◌then◌else◌}
+use Rattle.redl_tree.specs.Names.{is}
+use Rattle.redl_tree.specs.Nodes.{Tag, Nodes, no_nodes, bytes, element, Item, bytes_item, element_item}
+use Rattle.redl_tree.specs.declared.kinds.Trace.{Trace}
+use Rattle.redl_tree.specs.declared.kinds.Trace.TheVariants.{Ins, Del}
+use Rattle.redl_tree.specs.declared.kinds.Kind.{Kind}
+use Rattle.redl_tree.specs.declared.kinds.Kind.TheVariants.{Content}
+
+-- what an element marks the run content in it as, where it marks it
+abbrev pub content_trace : Tag → Option Trace
+content_trace tag = if is "ins" tag then Some Ins else if is "del" tag then Some Del else None
+
+abbrev pub one_for : Option Trace → ℕ
+one_for None = 0
+one_for (Some trace) = 1
+
+-- how many revisions stand in nodes
+abbrev pub revisions : Nodes → ℕ
+revisions no_nodes = 0
+revisions (bytes b rest) = revisions rest
+revisions (element tag kids rest) = (one_for (content_trace tag) + revisions kids) + revisions rest
+
+-- an element as the revision with the next number, where it is one
+abbrev pub labelled_as : ℕ → Option Trace → Tag → Tag
+labelled_as before None tag = tag
+labelled_as before (Some trace) tag = record tag { kind = Content trace; rev = before + 1 }
+
+abbrev pub labelled : ℕ → Tag → Tag
+labelled before tag = labelled_as before (content_trace tag) tag
+
+-- how many revisions there are up to an element's kids
+abbrev pub up_to_kids : ℕ → Tag → ℕ
+up_to_kids before tag = before + one_for (content_trace tag)
+
+-- nodes with the kinds and numbers of their revisions, where so many revisions stand before them
+abbrev pub numbered : ℕ → Nodes → Nodes
+numbered before no_nodes = no_nodes
+numbered before (bytes b rest) = bytes b (numbered before rest)
+numbered before (element tag kids rest) =
+    element (labelled before tag) (numbered (up_to_kids before tag) kids)
+    (numbered (up_to_kids before tag + revisions kids) rest)
+
+-- the same of one node
+abbrev pub item_revisions : Item → ℕ
+item_revisions (bytes_item b) = 0
+item_revisions (element_item tag kids) = one_for (content_trace tag) + revisions kids
+
+abbrev pub numbered_item : ℕ → Item → Item
+numbered_item before (bytes_item b) = bytes_item b
+numbered_item before (element_item tag kids) = element_item (labelled before tag) (numbered (up_to_kids before tag) kids)

@@ -1,0 +1,4 @@
+pub mod Plain
+pub mod Scan
+pub mod Build
+pub mod Views

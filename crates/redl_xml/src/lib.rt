@@ -1,0 +1,22 @@
+//! Plain documents read as nodes: elements of WordprocessingML and character data in printable ASCII.
+//!
+//! Call `read_plain`. What a plain document is, and which nodes its bytes are the text of, stands in `specs/Plain.antt`.
+//! `one_plain_reading` is the law that one text has at most one list of nodes.
+//! Declarations, references, comments and other namespaces are not read here; roles of elements are left to callers.
+#![tactic(auto)]
+
+mod attribute;
+mod distinct;
+mod error;
+mod name;
+mod piece;
+mod pile;
+mod read;
+mod scan;
+mod tag;
+
+/// How deep elements may stand in one another.
+pub const MAX_DEPTH: usize = 507;
+
+pub use error::PlainError;
+pub use read::{one_plain_reading, read_plain};

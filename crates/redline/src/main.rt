@@ -1,0 +1,56 @@
+//! The program: real files, standard output and standard error, and the words of the command line.
+//!
+//! All that it does is a call of `run`, whose clauses say what goes out and which exit status comes when.
+//! The words are copied first; a word that isn't UTF-8 ends the program before the call.
+#![tactic(auto)]
+
+ghost use Rattle.std.specs.Prelude.{IfOk, All, IsUtf8};
+
+use redl_app::{Status, add_word, run, tell};
+use redl_io::{FileShelf, StdSink, Text};
+use std::alloc::{AllocError, Global};
+use std::env;
+use std::env::Args;
+use std::io::ErrorKind;
+use std::process::ExitCode;
+use std::rt::Env;
+
+fn main(rt: HostRuntime) -> ExitCode {
+    let mut shelf = FileShelf::new(&rt);
+    let mut out = StdSink::new(rt.stdout());
+    let mut err = StdSink::new(rt.stderr());
+    let status = match read_words(&rt) {
+        Ok(words) => run(rt.alloc(), &words, &mut shelf, &mut out, &mut err),
+        Err(status) => {
+            tell(status, b"", &mut err);
+            status
+        }
+    };
+    ExitCode::from(status.code())
+}
+
+// The words of the command line, or the status that ends the program without them.
+fn read_words(rt: &(impl Env + AllocGlobal)) -> Result<Vec<Text>, Status>
+    ensures { IfOk result (λ words. All IsUtf8 words.items) }
+{
+    match env::args(rt) {
+        Ok(args) => match copy_words(rt.alloc(), args) {
+            Ok(words) => Ok(words),
+            Err(_) => Err(Status::NoMemory),
+        },
+        Err(error) if error.kind() == ErrorKind::OutOfMemory => Err(Status::NoMemory),
+        Err(_) => Err(Status::Usage),
+    }
+}
+
+// The words after the program's name.
+fn copy_words(alloc: Global, mut args: Args) -> Result<Vec<Text>, AllocError>
+    ensures { IfOk result (λ words. All IsUtf8 words.items) }
+{
+    let mut words = Vec::new(alloc);
+    let _program = args.next();
+    for word in args {
+        add_word(alloc, &mut words, word.as_str())?;
+    }
+    Ok(words)
+}
