@@ -1,4 +1,8 @@
 //! Where texts come from and where bytes go: a shelf of named texts, a sink of bytes, and owned bytes.
+//!
+//! Read `Shelf` and `Sink` first. Code over them is proved against what they tell and how often they failed, so the same
+//! code runs over memory and over the system's files and streams. Who writes a text in pieces puts them by `put_piece`,
+//! and cites the record `Puts`. What the texts say is left to the crates above.
 #![tactic(auto)]
 
 mod files;
