@@ -15,7 +15,7 @@ mod text;
 pub use files::FileShelf;
 pub use mem_shelf::{MemShelf, SureShelf};
 pub use mem_sink::MemSink;
-pub use pieces::{put_piece, put_text};
+pub use pieces::{put_piece, put_pieces, put_text};
 pub use shelf::{Shelf, ShelfError};
 pub use sink::{Failed, NullSink, Sink};
 pub use staged::Staged;
