@@ -4,7 +4,7 @@ use Rattle.std.proofs.lemmas.List.{drop_more}
 use Rattle.redl_tree.specs.declared.kinds.Trace.{Trace}
 use Rattle.redl_tree.specs.declared.node.Node.{Node}
 use Rattle.redl_tree.specs.Count.{count}
-use Rattle.redl_tree.specs.Nodes.{Tag, Nodes, no_nodes, bytes, element, Item, bytes_item, element_item, in_front, ◌⊕◌}
+use Rattle.redl_tree.specs.Nodes.{Nodes, no_nodes, bytes, element, Item, bytes_item, element_item, in_front, ◌⊕◌}
 use Rattle.redl_tree.specs.View.{item_of, nodes_of}
 use Rattle.redl_index.specs.Numbers.{content_trace, one_for, revisions, item_revisions, numbered, numbered_item, labelled, up_to_kids}
 

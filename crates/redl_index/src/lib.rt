@@ -8,3 +8,6 @@
 mod content;
 
 pub use content::number_content;
+
+#[cfg(test)]
+mod tests;

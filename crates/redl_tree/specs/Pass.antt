@@ -1,7 +1,7 @@
 -- The pass: what nodes become under a say for each revision (ECMA-376 Part 1, 17.13.5).
 -- It goes once over the original, whose members have their kinds and revisions on them. `around` is the list of the
 -- tags of a node's ancestors in the original, the nearest first.
-use Rattle.std.specs.Prelude.{List, ◌∷◌, Bool, true, false}
+use Rattle.std.specs.Prelude.{List, ◌∷◌, Bool, true}
 use Rattle.redl_tree.specs.Nodes.{Tag, Nodes, no_nodes, bytes, element, Item, bytes_item, element_item, ◌⊕◌}
 use Rattle.redl_tree.specs.Fates.{fate_of, renamed}
 use Rattle.redl_tree.specs.Kinds.{is_content}

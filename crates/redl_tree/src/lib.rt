@@ -18,3 +18,6 @@ pub use kinds::{Fate, Kind, Prop, Say, Space, Trace};
 pub use names::{is_named, is_quiet};
 pub use node::{Close, Elem, Node};
 pub use write::write_nodes;
+
+#[cfg(test)]
+mod tests;
