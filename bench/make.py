@@ -3,6 +3,7 @@
     python3 make.py document BYTES FILE          paragraphs up to so many bytes
     python3 make.py reviewed PARAGRAPHS ENTRIES FOLDER
                                                  P with two revisions a paragraph, and the journals J0, J1 and J2
+    python3 make.py shape NAME FILE              a document of about 20 MB of an unusual shape
 """
 import hashlib
 import sys
@@ -52,6 +53,36 @@ def journal(whole, revisions, entries, k):
     return "".join(lines)
 
 
+def letters(i):
+    """A word of ASCII letters, another one for each number."""
+    word = ""
+    while True:
+        word = chr(97 + i % 26) + word
+        i //= 26
+        if i == 0:
+            return word
+
+
+def nested(depth, inside):
+    return '<w:ins w:id="1">' * depth + inside + "</w:ins>" * depth
+
+
+SHAPES = {
+    # 2,900,000 empty elements in one run
+    "wide": lambda: "<w:p><w:r>%s</w:r></w:p>" % ("<w:br/>" * 2900000),
+    # as deep as the form allows, again and again
+    "deep": lambda: ("<w:p>%s</w:p>" % nested(504, "<w:r><w:br/></w:r>")) * 1650,
+    # elements that are never closed: not of the form
+    "open": lambda: "<w:ins>" * 2900000,
+    # 830,000 revisions with nothing in them
+    "revisions": lambda: "<w:p>%s</w:p>" % ('<w:del w:id="1"></w:del>' * 830000),
+    # 1,300,000 attributes in one tag
+    "attributes": lambda: "<w:p%s></w:p>" % "".join(' w:x%s="1"' % letters(i) for i in range(1300000)),
+    # one stretch of 20 MB
+    "text": lambda: "<w:p><w:r><w:t>%s</w:t></w:r></w:p>" % ("x" * 20000000),
+}
+
+
 def save(name, whole):
     with open(name, "w", newline="\n") as file:
         file.write(whole)
@@ -60,6 +91,9 @@ def save(name, whole):
 def main():
     if sys.argv[1] == "document":
         save(sys.argv[3], document(int(sys.argv[2])))
+        return
+    if sys.argv[1] == "shape":
+        save(sys.argv[3], FRONT + SHAPES[sys.argv[2]]() + BACK)
         return
     paragraphs, entries, folder = int(sys.argv[2]), int(sys.argv[3]), sys.argv[4]
     whole = FRONT + "".join(map(paragraph, range(paragraphs))) + BACK
