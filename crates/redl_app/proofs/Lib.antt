@@ -1,4 +1,7 @@
 pub mod PassLaws
 pub mod FormLaws
-pub mod SettleLaws
-pub mod FetchLaws
+pub mod JournalLaws
+pub mod NameLaws
+pub mod ReadLaws
+pub mod GatherLaws
+pub mod TopLaws

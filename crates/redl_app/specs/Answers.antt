@@ -1,33 +1,62 @@
--- What a call answers and leaves behind, where its outcome is known.
-use Rattle.std.specs.Prelude.{◌≡◌, ◌⊎◌, ℕ, List, [], ◌∷◌, ◌++◌, Option, None, Some, codes}
+-- What a call answers and leaves behind, by its outcome.
+use Rattle.std.specs.Prelude.{◌≡◌, ◌⊎◌, ℕ, List, [], ◌∷◌, ◌++◌, Option, None, Some, IfSome, Result, Ok, Err, Contains}
 use Rattle.std.specs.Io.KnownBytes.{append_known}
 use Rattle.redl_io.specs.Faults.{Rose}
 use Rattle.redl_io.specs.Shelf.{Files, Lacks}
 use Rattle.redl_io.specs.Sink.{GrowsByFront}
-use Rattle.redl_app.specs.Outcome.{Outcome}
-use Rattle.redl_app.specs.Words.{Command, settle, command_of}
+use Rattle.redl_app.specs.Outcome.{Reader, IsReader, Outcome, outcome}
+use Rattle.redl_app.specs.Refusals.{no_memory_line, unwritten_line, unread_line}
+use Rattle.redl_app.specs.Words.{Command, files_of}
 use Rattle.redl_app.specs.declared.status.Status.{Status}
 use Rattle.redl_app.specs.declared.status.Status.TheVariants as status
+
+-- Where the shelf tells what it holds, this holds of the call's outcome.
+abbrev pub OfOutcome : Option Files → List (List ℕ) → (Outcome → Type 0) → Type 0
+OfOutcome told words Holds =
+    IfSome told (λ files. (reader : Reader) → IsReader reader → Holds (outcome reader words files))
+
+-- a call with this outcome writes
+abbrev pub IsWritten : Status → Type 0
+IsWritten s = (s ≡ status.Done) ⊎ (s ≡ status.Refused)
 
 -- The status is the outcome's, but for what the outside forces: a read fault, a write fault, and want of memory.
 abbrev pub IsAnswer : Status → Outcome → Type 0 → Type 0 → Type 0
 IsAnswer status.NoMemory outcome read_failed write_failed = Unit {0}
 IsAnswer status.ReadFault outcome read_failed write_failed = read_failed ⊎ (outcome.status ≡ status.ReadFault)
-IsAnswer status.WriteFault outcome read_failed write_failed = write_failed × (outcome.status ≡ status.Done)
-IsAnswer status outcome read_failed write_failed = outcome.status ≡ status
+IsAnswer status.WriteFault outcome read_failed write_failed = write_failed × IsWritten outcome.status
+IsAnswer s outcome read_failed write_failed = outcome.status ≡ s
 
--- The output gained the bytes with `Done`, a front of them with `WriteFault`, and nothing with any other status.
+-- The output gained the bytes where all was written, a front of them with `WriteFault`, and nothing with any other status.
 abbrev pub Writes : Status → Option (List ℕ) → Option (List ℕ) → List ℕ → Type 0
 Writes status.Done old new bytes = new ≡ append_known old bytes
+Writes status.Refused old new bytes = new ≡ append_known old bytes
 Writes status.WriteFault old new bytes = GrowsByFront old new bytes
 Writes _ old new bytes = new ≡ old
 
--- why a read fault may be answered: the words name a file, and the shelf failed or lacks it
-abbrev pub MayFault : Option Command → Option Files → Type 0 → Type 0
-MayFault None told failed = ⊥
-MayFault (Some (settle say name)) told failed = failed ⊎ Lacks told name
+-- a read fault's line: the outcome's, or that of some file of the command where a fetch failed
+abbrev pub IsUnreadLine : Outcome → Option Command → Type 0 → List ℕ → Type 0
+IsUnreadLine outcome command read_failed lines =
+    (lines ≡ outcome.lines)
+    ⊎ (read_failed × ((name : List ℕ) × Contains (files_of command) name × (lines ≡ unread_line name)))
+
+-- The lines are the outcome's, but for what the outside forces.
+abbrev pub AreLines : Status → Outcome → Option Command → Type 0 → List ℕ → Type 0
+AreLines status.NoMemory outcome command read_failed lines = lines ≡ no_memory_line
+AreLines status.ReadFault outcome command read_failed lines = IsUnreadLine outcome command read_failed lines
+AreLines status.WriteFault outcome command read_failed lines = lines ≡ outcome.lines ++ unwritten_line
+AreLines _ outcome command read_failed lines = lines ≡ outcome.lines
 
 -- The lines went out, or a front of them where the count of faults rose.
 pub record Tells (old new : Option (List ℕ)) (before now : ℕ) (lines : List ℕ) : Type 0 where
   pub front : GrowsByFront old new lines
   pub whole : ¬ Rose before now → new ≡ append_known old lines
+
+-- some lines went out of which this holds
+abbrev pub TellsSome : Option (List ℕ) → Option (List ℕ) → ℕ → ℕ → (List ℕ → Type 0) → Type 0
+TellsSome old new before now Holds = (lines : List ℕ) × Holds lines × Tells old new before now lines
+
+-- why a read fault may be answered: the words ask for files, and the shelf failed or lacks one of them
+abbrev pub MayFault : Option Command → Option Files → Type 0 → Type 0
+MayFault None told failed = ⊥
+MayFault (Some command) told failed =
+    failed ⊎ ((name : List ℕ) × Contains (files_of (Some command)) name × Lacks told name)

@@ -1,9 +1,12 @@
 pub mod Rounds
 pub mod Status
 pub mod Words
-pub mod Commands
 pub mod Form
 pub mod Places
+pub mod Refusals
 pub mod Outcome
 pub mod Answers
-pub mod Lines
+pub mod Reading
+pub mod Prepared
+pub mod Ends
+pub mod Finishing

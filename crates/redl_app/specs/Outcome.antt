@@ -1,52 +1,196 @@
--- What a call of the program comes to, by the words and by what the shelf holds.
-use Rattle.std.specs.Prelude.{◌≡◌, ◌⊎◌, ℕ, List, [], ◌∷◌, ◌++◌, replicate, Option, None, Some, codes}
+-- What a call of the program comes to: a function of the words, of what the shelf holds, and of how texts are read.
+use Rattle.std.specs.Prelude.{◌≡◌, ℕ, ◌+◌, ◌-◌, List, [], ◌∷◌, ◌++◌, length, map, filter, replicate, Bool, true, false, ◌&&◌, ◌==◌, not, nat_le, nat_lt, Option, None, Some, Result, Ok, Err, if◌then◌else◌}
+use Rattle.std.specs.List.{flat_map, range_with_len}
+use Rattle.std.specs.Str.{bytes_eq}
+use Rattle.sha2.specs.Sha256.{sha256}
 use Rattle.redl_index.specs.Numbers.{revisions, numbered}
 use Rattle.redl_io.specs.Shelf.{Files}
+use Rattle.redl_join.specs.Books.{union}
+use Rattle.redl_join.specs.Verdicts.{verdict_at}
+use Rattle.redl_join.specs.declared.verdict.Verdict.{Verdict}
+use Rattle.redl_join.specs.declared.verdict.Verdict.TheVariants as verdict
+use Rattle.redl_journal.specs.declared.entry.Entry.{Entry}
+use Rattle.redl_journal.specs.Journals.{Journal, IsJournal, HasNoJournal}
 use Rattle.redl_tree.specs.Nodes.{Nodes}
 use Rattle.redl_tree.specs.Pass.{pass}
 use Rattle.redl_tree.specs.Text.{text}
 use Rattle.redl_tree.specs.declared.kinds.Say.{Say}
+use Rattle.redl_tree.specs.declared.kinds.Say.TheVariants as say
 use Rattle.redl_app.specs.Form.{package_text, IsFirstForm}
-use Rattle.redl_app.specs.Words.{Command, settle, command_of}
-use Rattle.redl_app.specs.declared.TheConstants.{PACKAGE_LIMIT}
+use Rattle.redl_app.specs.Refusals.{Refusal, unbuilt, unread, malformed, other_document, other_count, journal_bytes, status_of, refusal_line, refused_line}
+use Rattle.redl_app.specs.Words.{Command, settle, write, command_of}
+use Rattle.redl_app.specs.declared.TheConstants.{PACKAGE_LIMIT, JOURNALS_LIMIT}
 use Rattle.redl_app.specs.declared.status.Status.{Status}
 use Rattle.redl_app.specs.declared.status.Status.TheVariants as status
 
--- a status, and the bytes for the output
-pub record Outcome : Type 0 where
-  pub status : Status
-  pub bytes : List ℕ
+-- ---- how texts are read
 
-abbrev pub nothing_with : Status → Outcome
-nothing_with status = record { status = status; bytes = [] }
+-- the body of a package, and the journal of a text, where it has one
+pub record Reader : Type 0 where
+  pub body : List ℕ → Option Nodes
+  pub journal : List ℕ → Option Journal
 
-abbrev pub written : List ℕ → Outcome
-written bytes = record { status = status.Done; bytes = bytes }
-
--- A body under one say for all its revisions: the pass of the original, in which each `ins` and `del` is a revision.
-abbrev pub settled_body : Say → Nodes → Nodes
-settled_body say body = pass (replicate (revisions body) say) [] (numbered 0 body)
-
--- The text has this body, or it has none, where it is not of the form or longer than the limit.
+-- The text has this body, or none, where it is not of the form or longer than the limit.
 abbrev pub IsBodyOf : ℕ → List ℕ → Option Nodes → Type 0
 IsBodyOf limit text (Some body) = IsFirstForm limit text body
 IsBodyOf limit text None = (body : Nodes) → IsFirstForm limit text body → ⊥
 
--- what settling a text comes to that has this body
-abbrev pub outcome_of_body : Say → Option Nodes → Outcome
-outcome_of_body say None = nothing_with status.Unbuilt
-outcome_of_body say (Some body) = written (package_text (text (settled_body say body)))
+abbrev pub IsJournalOf : List ℕ → Option Journal → Type 0
+IsJournalOf text (Some journal) = IsJournal text journal
+IsJournalOf text None = HasNoJournal text
 
--- what settling comes to where the shelf holds this text under the name
-abbrev pub IsSettled : Say → Option (List ℕ) → Outcome → Type 0
-IsSettled say None outcome = outcome ≡ nothing_with status.ReadFault
-IsSettled say (Some text) outcome =
-    (body : Option Nodes) × IsBodyOf PACKAGE_LIMIT text body × (outcome ≡ outcome_of_body say body)
+-- Each text is read as what it is the text of. A text has one body and one journal at most, so all readers agree.
+pub record IsReader (reader : Reader) : Type 0 where
+  pub bodies : (text : List ℕ) → IsBodyOf PACKAGE_LIMIT text (reader.body text)
+  pub journals : (text : List ℕ) → IsJournalOf text (reader.journal text)
 
-abbrev pub IsOutcomeOf : Option Command → Files → Outcome → Type 0
-IsOutcomeOf None files outcome = outcome ≡ nothing_with status.Unbuilt
-IsOutcomeOf (Some (settle say name)) files outcome = IsSettled say (files name) outcome
+-- ---- outcomes
 
--- A call with these words over these files comes to this.
-abbrev pub IsOutcome : List (List ℕ) → Files → Outcome → Type 0
-IsOutcome words files outcome = IsOutcomeOf (command_of words) files outcome
+-- a status, the bytes for the output, and the lines for standard error
+pub record Outcome : Type 0 where
+  pub status : Status
+  pub bytes : List ℕ
+  pub lines : List ℕ
+
+-- what a call writes: bytes, and the entries that were refused
+pub record Writing : Type 0 where
+  pub bytes : List ℕ
+  pub unknown : List Entry
+
+-- the status of a call that wrote all, where these entries were refused
+abbrev pub written_status : List Entry → Status
+written_status [] = status.Done
+written_status (entry ∷ entries) = status.Refused
+
+abbrev pub outcome_of : Result Writing Refusal → Outcome
+outcome_of (Err refusal) = record { status = status_of refusal; bytes = []; lines = refusal_line refusal }
+outcome_of (Ok writing) = record {
+  status = written_status writing.unknown;
+  bytes = writing.bytes;
+  lines = flat_map refused_line writing.unknown;
+}
+
+-- one step after another, up to the first refusal
+infixl 10 ◌>>=◌
+abbrev pub ◌>>=◌ : {X Y : Type 0} → Result X Refusal → (X → Result Y Refusal) → Result Y Refusal
+(Ok x) >>= next = next x
+(Err refusal) >>= next = Err refusal
+
+-- ---- a body under says
+
+-- The text of the package of a body under a say for each revision: the pass of the original, in which each `ins` and
+-- `del` is a revision of its number.
+abbrev pub passed_text : List Say → Nodes → List ℕ
+passed_text says body = package_text (text (pass says [] (numbered 0 body)))
+
+-- one say for all revisions
+abbrev pub same_says : Say → Nodes → List Say
+same_says say body = replicate (revisions body) say
+
+-- disputed and open revisions are kept
+abbrev pub say_of_verdict : Verdict → Say
+say_of_verdict verdict.Undecided = say.Keep
+say_of_verdict verdict.Accept = say.Accept
+say_of_verdict verdict.Reject = say.Reject
+say_of_verdict verdict.Disputed = say.Keep
+
+-- the says of a book for the revisions 1 to count
+abbrev pub says_of : List Entry → ℕ → List Say
+says_of book count = map (λ rev. say_of_verdict (verdict_at book rev)) (range_with_len 1 count)
+
+-- ---- the journals of a package
+
+-- a package as its journals know it: the digest of its bytes, and how many revisions it has
+pub record Subject : Type 0 where
+  pub digest : List ℕ
+  pub count : ℕ
+
+abbrev pub subject_of : List ℕ → Nodes → Subject
+subject_of whole body = record { digest = sha256 whole; count = revisions body }
+
+-- the entries of a journal, where it is one of this package
+abbrev pub entries_of : Subject → List ℕ → Option Journal → Result (List Entry) Refusal
+entries_of subject name None = Err (malformed name)
+entries_of subject name (Some journal) =
+    if not (bytes_eq journal.digest subject.digest) then Err (other_document name journal.digest subject.digest)
+    else if not (journal.count == subject.count) then Err (other_count name journal.count subject.count)
+    else Ok journal.entries
+
+-- the entries of a journal of this text, where so many bytes may still come
+abbrev pub entries_in : Reader → Subject → ℕ → List ℕ → List ℕ → Result (List Entry) Refusal
+entries_in reader subject left name whole =
+    if nat_lt left (length whole) then Err journal_bytes else entries_of subject name (reader.journal whole)
+
+-- the file of this name
+abbrev pub held : List ℕ → Option (List ℕ) → Result (List ℕ) Refusal
+held name None = Err (unread name)
+held name (Some whole) = Ok whole
+
+abbrev pub file : Files → List ℕ → Result (List ℕ) Refusal
+file files name = held name (files name)
+
+-- the entries of the journal of this name, with the number of its bytes
+abbrev pub journal_at : Reader → Files → Subject → ℕ → List ℕ → Result (List Entry × ℕ) Refusal
+journal_at reader files subject left name = do
+  whole ← file files name
+  entries ← entries_in reader subject left name whole
+  Ok (entries, length whole)
+
+-- The entries of all journals of these names in their order, or why the first of them that is refused is. The bytes of
+-- all journals together are limited.
+abbrev pub gathered : Reader → Files → Subject → ℕ → List (List ℕ) → Result (List Entry) Refusal
+gathered reader files subject left [] = Ok []
+gathered reader files subject left (name ∷ names) =
+    journal_at reader files subject left name
+    >>= (λ first. gathered reader files subject (left - first.1) names >>= (λ more. Ok (first.0 ++ more)))
+
+-- an entry on one of the revisions 1 to count
+abbrev pub is_known : ℕ → Entry → Bool
+is_known count entry = nat_le 1 entry.rev && nat_le entry.rev count
+
+-- the set of the entries on revisions that the package has, and of those on others
+abbrev pub known_entries : ℕ → List Entry → List Entry
+known_entries count entries = union [] (filter (is_known count) entries)
+
+abbrev pub unknown_entries : ℕ → List Entry → List Entry
+unknown_entries count entries = union [] (filter (λ entry. not (is_known count entry)) entries)
+
+-- ---- the commands
+
+-- the body of a package of this text
+abbrev pub body_of : Option Nodes → Result Nodes Refusal
+body_of None = Err unbuilt
+body_of (Some body) = Ok body
+
+-- the package of this name: its text and its body
+abbrev pub package_at : Reader → Files → List ℕ → Result (List ℕ × Nodes) Refusal
+package_at reader files name = do
+  whole ← file files name
+  body ← body_of (reader.body whole)
+  Ok (whole, body)
+
+-- a body under one say for all its revisions
+abbrev pub settled : Say → Nodes → Writing
+settled say body = record { bytes = passed_text (same_says say body) body; unknown = [] }
+
+-- a body under the verdicts of these entries
+abbrev pub decided : List Entry → Nodes → Writing
+decided entries body = record {
+  bytes = passed_text (says_of (known_entries (revisions body) entries) (revisions body)) body;
+  unknown = unknown_entries (revisions body) entries;
+}
+
+-- what a command writes, or why it writes nothing
+abbrev pub writing_of : Reader → Files → Option Command → Result Writing Refusal
+writing_of reader files None = Err unbuilt
+writing_of reader files (Some (settle say name)) = do
+  package_ ← package_at reader files name
+  Ok (settled say package_.1)
+writing_of reader files (Some (write name journals)) = do
+  package_ ← package_at reader files name
+  entries ← gathered reader files (subject_of package_.0 package_.1) JOURNALS_LIMIT journals
+  Ok (decided entries package_.1)
+
+-- What a call with these words over these files comes to.
+abbrev pub outcome : Reader → List (List ℕ) → Files → Outcome
+outcome reader words files = outcome_of (writing_of reader files (command_of words))

@@ -1,13 +1,16 @@
 -- How a command line is read. The words come without the program's name.
-use Rattle.std.specs.Prelude.{ℕ, List, [], ◌∷◌, Option, None, Some, option_map, Bool, false, codes, ◌&&◌, ◌==◌, not, if◌then◌else◌}
+use Rattle.std.specs.Prelude.{ℕ, List, [], ◌∷◌, ◌++◌, Option, None, Some, option_map, Bool, false, codes, ◌&&◌, ◌==◌, not, if◌then◌else◌}
+use Rattle.std.specs.List.{list_all}
 use Rattle.std.specs.Str.{bytes_eq}
 use Rattle.redl_tree.specs.declared.kinds.Say.{Say}
 use Rattle.redl_tree.specs.declared.kinds.Say.TheVariants.{Accept, Reject}
 
 -- what the words ask for
 pub data Command : Type 0 where
-  -- the package of this name under one say for all revisions
+  -- the package of this name under one say for all its revisions
   settle : Say → List ℕ → Command
+  -- the package of the first name under the joined verdicts of the journals of the other names
+  write : List ℕ → List (List ℕ) → Command
 
 -- a word that can name a file: not empty, and it doesn't begin with a dash
 abbrev pub is_name : List ℕ → Bool
@@ -20,12 +23,27 @@ say_named word =
     else if bytes_eq word (codes "reject") then Some Reject
     else None
 
--- `settle accept NAME` and `settle reject NAME`
+-- `settle accept P` and `settle reject P`
 abbrev pub settle_of : List (List ℕ) → Option Command
-settle_of (say ∷ name ∷ []) = if is_name name then option_map (λ say. settle say name) (say_named say) else None
+settle_of (say ∷ package_ ∷ []) =
+    if is_name package_ then option_map (λ say. settle say package_) (say_named say) else None
 settle_of _ = None
+
+-- `write P` and any number of names of journals
+abbrev pub write_of : List (List ℕ) → Option Command
+write_of [] = None
+write_of (package_ ∷ journals) = if list_all is_name (package_ ∷ journals) then Some (write package_ journals) else None
 
 -- the command of the words, where they are one
 abbrev pub command_of : List (List ℕ) → Option Command
 command_of [] = None
-command_of (verb ∷ words) = if bytes_eq verb (codes "settle") then settle_of words else None
+command_of (verb ∷ words) =
+    if bytes_eq verb (codes "settle") then settle_of words
+    else if bytes_eq verb (codes "write") then write_of words
+    else None
+
+-- the names of the files that a command asks for
+abbrev pub files_of : Option Command → List (List ℕ)
+files_of None = []
+files_of (Some (settle say package_)) = package_ ∷ []
+files_of (Some (write package_ journals)) = package_ ∷ journals

@@ -8,7 +8,7 @@ ghost use Rattle.redl_tree.specs.View.{nodes_of, item_of, tag_of};
 
 use redl_tree::{Elem, Node, is_named};
 use redl_xml::{PlainError, read_plain};
-use std::alloc::{AllocError, Global};
+use std::alloc::Global;
 
 /// Where a node of the body stands.
 #[derive(Clone, Copy, Debug, PartialEq, Eq)]
@@ -100,16 +100,6 @@ pub(crate) enum FormError {
     Other,
     /// An allocation failed; nothing is known of the text.
     NoMemory,
-}
-
-impl From<AllocError> for FormError {
-    ghost use Rattle.redl_app.specs.declared.form.FormError.TheVariants.{NoMemory};
-
-    ghost from_gives = { λ _ error. error ≡ NoMemory };
-
-    fn from(_error: AllocError) -> FormError {
-        FormError::NoMemory
-    }
 }
 
 /// The body of a package of the form that is built, of at most so many bytes.

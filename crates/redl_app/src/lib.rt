@@ -1,24 +1,34 @@
 //! The top call: from the words of a command line and the files that they name to the bytes, the lines and the status.
 //!
 //! Read `run` first: its clauses say what goes out and which status comes when, by the outcome of a call in
-//! `specs/Outcome.antt`. The pass over a body is a private part of this crate.
+//! `specs/Outcome.antt`. The pass over a body, and what journals decide, are private parts of this crate.
 //! Real files and streams are made by the program above.
 #![tactic(auto)]
 
+mod decisions;
+mod end;
 mod fates;
+mod fetch;
 mod form;
+mod journals;
 mod lines;
 mod output;
+mod package;
 mod pass;
-mod settle;
+mod prepare;
+mod prepared;
+mod refusal;
 mod status;
+mod subject;
 mod top;
 mod words;
 
 /// The most bytes that a package may have.
 pub const PACKAGE_LIMIT: usize = 67_108_864;
 
-pub use lines::tell;
+/// The most bytes that all journals of a call may have together.
+pub const JOURNALS_LIMIT: usize = 67_108_864;
+
 pub use status::Status;
-pub use top::{run, run_surely};
-pub use words::add_word;
+pub use top::{refuse_words, run, run_surely};
+pub use words::{WordsError, add_word};

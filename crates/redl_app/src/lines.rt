@@ -1,49 +1,226 @@
-ghost use Rattle.std.specs.Prelude.{◌≡◌, ◌≤◌, ◌++◌, ℕ, OnOk, OnErr};
+ghost use Rattle.std.specs.Prelude.{◌≡◌, ◌≤◌, ◌++◌, List, ℕ, OnOk, OnErr};
 ghost use Rattle.std.specs.Io.KnownBytes.{append_known};
+ghost use Rattle.std.specs.List.{flat_map};
+ghost use Rattle.hex.specs.Hex.{encode_lower};
 ghost use Rattle.redl_app.specs.Answers.{Tells};
-ghost use Rattle.redl_app.specs.Lines.{line_of, unread_line};
+ghost use Rattle.redl_app.specs.Ends.{end_lines, end_view};
+ghost use Rattle.redl_app.specs.Prepared.{refusal_view};
+ghost use Rattle.redl_app.specs.Refusals.{refusal_line, unread_line, malformed_line, other_document_line, other_count_line, difference_line, refused_line, unknown_line};
 ghost use Rattle.redl_io.specs.Faults.{Rose};
 ghost use Rattle.redl_io.specs.Sink.{Puts, GrowsByFront, CountsPut};
+ghost use Rattle.redl_journal.specs.Journals.{word_text};
 
-use crate::Status;
-use redl_io::{Failed, Sink, Staged, put_piece};
+use crate::end::End;
+use crate::refusal::Refusal;
+use itoa::Buffer;
+use redl_io::{Failed, Sink, Staged, put_piece, put_pieces};
+use redl_join::Book;
+use redl_journal::{Entry, Word};
 
-/// Writes the line that goes with a status, where a file of this name is asked for. A fault of `err` only shortens it.
-pub fn tell<E: Sink>(status: Status, name: &[u8], err: &mut E)
-    ensures { Tells (E.told err.old) (E.told err.new) (E.faults err.old) (E.faults err.new) (line_of status name.now) }
+/// Writes the lines of a call that ends so. A fault of `err` only shortens them.
+pub(crate) fn tell<E: Sink>(end: &End<'_>, err: &mut E)
+    ensures { Tells (E.told err.old) (E.told err.new) (E.faults err.old) (E.faults err.new) (end_lines (end_view end.now)) }
 {
-    let _ = write_staged(status, name, err);
+    let _ = write_staged(end, err);
 }
 
-// Writes the line through a stage.
-fn write_staged<E: Sink>(status: Status, name: &[u8], err: &mut E) -> Result<(), Failed>
-    ensures all { OnOk result (E.told err.new ≡ append_known (E.told err.old) (line_of status name.now)) }
-    ensures front { OnErr result (GrowsByFront (E.told err.old) (E.told err.new) (line_of status name.now)) }
+// Writes the lines through a stage.
+fn write_staged<E: Sink>(end: &End<'_>, err: &mut E) -> Result<(), Failed>
+    ensures all { OnOk result (E.told err.new ≡ append_known (E.told err.old) (end_lines (end_view end.now))) }
+    ensures front { OnErr result (GrowsByFront (E.told err.old) (E.told err.new) (end_lines (end_view end.now))) }
     ensures cause { CountsPut (E.faults err.old) (E.faults err.new) result }
 {
     let mut staged = Staged::new(err);
-    write_line(status, name, &mut staged)?;
+    write_lines(end, &mut staged)?;
     staged.finish()
 }
 
-fn write_line<K: Sink>(status: Status, name: &[u8], err: &mut K) -> Result<(), Failed>
-    ensures { Puts K.told K.faults K.settled K.lenders err.old err.new (line_of status name.now) result }
+fn write_lines<K: Sink>(end: &End<'_>, err: &mut K) -> Result<(), Failed>
+    ensures { Puts K.told K.faults K.settled K.lenders err.old err.new (end_lines (end_view end.now)) result }
 {
-    match status {
-        Status::Usage => put_piece(b"redline: cannot read the command line\n", err),
-        Status::ReadFault => write_unread(name, err),
-        Status::WriteFault => put_piece(b"redline: cannot write\n", err),
-        Status::NoMemory => put_piece(b"redline: no memory\n", err),
-        Status::Unbuilt => put_piece(b"redline: not built yet\n", err),
-        _ => Ok(()),
+    match end {
+        End::Written(unknown) => write_refused(unknown, err),
+        End::Unwritten(unknown) => {
+            write_refused(unknown, err)?;
+            put_piece(b"redline: cannot write\n", err)
+        }
+        End::Refused(refusal) => write_refusal(refusal, err),
+        End::Usage => put_piece(b"redline: cannot read the command line\n", err),
     }
 }
 
-// The line of a file that can't be read.
-fn write_unread<K: Sink>(name: &[u8], err: &mut K) -> Result<(), Failed>
+// A line for each refused entry.
+fn write_refused<K: Sink>(unknown: &Book, err: &mut K) -> Result<(), Failed>
+    ensures { Puts K.told K.faults K.settled K.lenders err.old err.new (flat_map refused_line unknown.now) result }
+{
+    for entry in unknown.entries() {
+        write_entry(entry, err)?;
+    }
+    Ok(())
+}
+
+fn write_entry<K: Sink>(entry: &Entry, err: &mut K) -> Result<(), Failed>
+    ensures { Puts K.told K.faults K.settled K.lenders err.old err.new (refused_line entry.now) result }
+{
+    let mut seq = Buffer::new();
+    let mut rev = Buffer::new();
+    write_unknown(
+        seq.format(entry.seq),
+        rev.format(entry.rev),
+        word(entry.word),
+        entry.reviewer.as_bytes(),
+        err,
+    )
+}
+
+// The line of an entry with these fields.
+fn write_unknown<'a, K: Sink>(
+    seq: &'a str,
+    rev: &'a str,
+    word: &'a [u8],
+    reviewer: &'a [u8],
+    err: &mut K,
+) -> Result<(), Failed>
+    ensures { Puts K.told K.faults K.settled K.lenders err.old err.new (unknown_line seq.now rev.now word.now reviewer.now) result }
+{
+    put_pieces(
+        &[
+            b"redline: refused ".as_slice(),
+            seq.as_bytes(),
+            b" ",
+            rev.as_bytes(),
+            b" ",
+            word,
+            b" ",
+            reviewer,
+            b": unknown revision\n",
+        ],
+        err,
+    )
+}
+
+// The word as it stands in a journal.
+fn word(word: Word) -> &'static [u8]
+    ensures { result.now ≡ word_text word }
+{
+    match word {
+        Word::Accept => b"accept",
+        Word::Reject => b"reject",
+        Word::Withdraw => b"withdraw",
+    }
+}
+
+fn write_refusal<K: Sink>(refusal: &Refusal<'_>, err: &mut K) -> Result<(), Failed>
+    ensures { Puts K.told K.faults K.settled K.lenders err.old err.new (refusal_line (refusal_view refusal.now)) result }
+{
+    match refusal {
+        Refusal::Unbuilt => put_piece(b"redline: not built yet\n", err),
+        Refusal::Unread(name) => write_unread(name, err),
+        Refusal::Malformed(journal) => write_malformed(journal, err),
+        Refusal::OtherDocument {
+            journal,
+            found,
+            expected,
+        } => write_other_document(journal, found, expected, err),
+        Refusal::OtherCount {
+            journal,
+            found,
+            expected,
+        } => write_other_count(journal, *found, *expected, err),
+        Refusal::JournalBytes => put_piece(b"redline: limit journal bytes 67108864\n", err),
+        Refusal::NoMemory => put_piece(b"redline: no memory\n", err),
+    }
+}
+
+fn write_unread<K: Sink>(name: &str, err: &mut K) -> Result<(), Failed>
     ensures { Puts K.told K.faults K.settled K.lenders err.old err.new (unread_line name.now) result }
 {
-    put_piece(b"redline: cannot read ", err)?;
-    put_piece(name, err)?;
-    put_piece(b"\n", err)
+    put_pieces(
+        &[b"redline: cannot read ".as_slice(), name.as_bytes(), b"\n"],
+        err,
+    )
+}
+
+fn write_malformed<K: Sink>(journal: &str, err: &mut K) -> Result<(), Failed>
+    ensures { Puts K.told K.faults K.settled K.lenders err.old err.new (malformed_line journal.now) result }
+{
+    put_pieces(
+        &[
+            b"redline: journal ".as_slice(),
+            journal.as_bytes(),
+            b": malformed\n",
+        ],
+        err,
+    )
+}
+
+fn write_other_document<K: Sink>(
+    journal: &str,
+    found: &[u8; 32],
+    expected: &[u8; 32],
+    err: &mut K,
+) -> Result<(), Failed>
+    ensures { Puts K.told K.faults K.settled K.lenders err.old err.new (other_document_line journal.now found.now expected.now) result }
+{
+    write_difference(
+        journal.as_bytes(),
+        b"document",
+        &digits(found),
+        &digits(expected),
+        err,
+    )
+}
+
+// A digest in lower-case hexadecimal digits.
+fn digits(digest: &[u8; 32]) -> [u8; 64]
+    ensures { result ≡ encode_lower digest.now }
+{
+    let mut digits = [0; 64];
+    hex::encode_to_slice(digest, &mut digits).unwrap();
+    digits
+}
+
+fn write_other_count<K: Sink>(
+    journal: &str,
+    found: u32,
+    expected: u32,
+    err: &mut K,
+) -> Result<(), Failed>
+    ensures { Puts K.told K.faults K.settled K.lenders err.old err.new (other_count_line journal.now found expected) result }
+{
+    let mut one = Buffer::new();
+    let mut other = Buffer::new();
+    write_difference(
+        journal.as_bytes(),
+        b"revisions",
+        one.format(found).as_bytes(),
+        other.format(expected).as_bytes(),
+        err,
+    )
+}
+
+// The line of a journal that says one thing of its package where the package has another.
+fn write_difference<'a, K: Sink>(
+    journal: &'a [u8],
+    what: &'a [u8],
+    found: &'a [u8],
+    expected: &'a [u8],
+    err: &mut K,
+) -> Result<(), Failed>
+    ensures { Puts K.told K.faults K.settled K.lenders err.old err.new (difference_line journal.now what.now found.now expected.now) result }
+{
+    put_pieces(
+        &[
+            b"redline: journal ".as_slice(),
+            journal,
+            b": ",
+            what,
+            b" ",
+            found,
+            b", expected ",
+            expected,
+            b"\n",
+        ],
+        err,
+    )
 }

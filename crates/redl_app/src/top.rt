@@ -1,23 +1,29 @@
-ghost use Rattle.std.specs.Prelude.{◌≡◌, ◌≢◌, ◌⊎◌, ◌<◌, List, ℕ, None, Some, All, IsUtf8, IfSome};
-ghost use Rattle.redl_app.specs.Answers.{IsAnswer, Writes, Tells, MayFault};
-ghost use Rattle.redl_app.specs.Lines.{lines_of, name_in_command};
-ghost use Rattle.redl_app.specs.Outcome.{Outcome, IsOutcome};
+ghost use Rattle.std.specs.Prelude.{◌≡◌, ◌≢◌, ◌⊎◌, List, ℕ, None, All, IsUtf8, IfSome, Result};
+ghost use Rattle.redl_app.specs.Answers.{OfOutcome, IsAnswer, Writes, AreLines, Tells, TellsSome, MayFault};
+ghost use Rattle.redl_app.specs.Ends.{end_view};
+ghost use Rattle.redl_app.specs.Finishing.{Finishes, words_status, words_line};
+ghost use Rattle.redl_app.specs.Outcome.{Reader, IsReader, outcome};
+ghost use Rattle.redl_app.specs.Prepared.{made_of, writing_view};
 ghost use Rattle.redl_app.specs.Words.{command_of};
 ghost use Rattle.redl_io.specs.Faults.{Rose};
 ghost use Rattle.redl_io.specs.MemShelf.{file_named};
-ghost use Rattle.redl_io.specs.Shelf.{Files};
 
 use crate::Status;
+use crate::end::End;
 use crate::lines::tell;
-use crate::settle::settle_file;
-use crate::words::{Command, read_command};
+use crate::output::write_package;
+use crate::prepare::prepare;
+use crate::prepared::Prepared;
+use crate::refusal::Refusal;
+use crate::words::WordsError;
 use redl_io::{NullSink, Shelf, Sink, SureShelf, Text};
 use std::alloc::Global;
 
 /// Does what the words ask: takes files from the shelf, puts bytes on `out` and lines on `err`.
 ///
-/// `out` gains the bytes of the call's outcome with `Done`, a front of them with `WriteFault`, and nothing with any other
-/// status. A fault of `err` changes no status. Want of memory may come wherever memory is taken.
+/// `out` gains the bytes of the call's outcome with `Done` and `Refused`, a front of them with `WriteFault`, and nothing
+/// with any other status. A fault of `err` changes no status. Want of memory may come wherever memory is taken, and then
+/// nothing was put on `out`.
 pub fn run<F: Shelf, O: Sink, E: Sink>(
     alloc: Global,
     words: &[Text],
@@ -28,11 +34,11 @@ pub fn run<F: Shelf, O: Sink, E: Sink>(
     requires { All IsUtf8 words.now }
 
     // Where the shelf tells, the status is the outcome's, but for what the outside forces.
-    ensures status { IfSome (F.told shelf.old) (λ files. (outcome : Outcome) → IsOutcome words.now files outcome
-        → IsAnswer result outcome (Rose (F.faults shelf.old) (F.faults shelf.new)) (Rose (O.faults out.old) (O.faults out.new))) }
+    ensures status { OfOutcome (F.told shelf.old) words.now (λ outcome. IsAnswer result outcome
+        (Rose (F.faults shelf.old) (F.faults shelf.new)) (Rose (O.faults out.old) (O.faults out.new))) }
 
     // Over every shelf.
-    ensures unbuilt { command_of words.now ≡ None → (result ≡ Status.Unbuilt) ⊎ (result ≡ Status.NoMemory) }
+    ensures unbuilt { command_of words.now ≡ None → result ≡ Status.Unbuilt }
     ensures read { result ≡ Status.ReadFault
         → MayFault (command_of words.now) (F.told shelf.old) (Rose (F.faults shelf.old) (F.faults shelf.new)) }
     ensures write { result ≡ Status.WriteFault → Rose (O.faults out.old) (O.faults out.new) }
@@ -43,50 +49,40 @@ pub fn run<F: Shelf, O: Sink, E: Sink>(
     ensures same_files { F.told shelf.new ≡ F.told shelf.old }
 
     // What went out.
-    ensures bytes { IfSome (F.told shelf.old) (λ files. (outcome : Outcome) → IsOutcome words.now files outcome
-        → Writes result (O.told out.old) (O.told out.new) outcome.bytes) }
-    ensures untouched { result ≢ Status.Done → result ≢ Status.WriteFault → O.told out.new ≡ O.told out.old }
-    ensures lines { Tells (E.told err.old) (E.told err.new) (E.faults err.old) (E.faults err.new) (lines_of result words.now) }
+    ensures bytes { OfOutcome (F.told shelf.old) words.now (λ outcome. Writes result (O.told out.old) (O.told out.new) outcome.bytes) }
+    ensures untouched { result ≢ Status.Done → result ≢ Status.Refused → result ≢ Status.WriteFault → O.told out.new ≡ O.told out.old }
+    ensures lines { OfOutcome (F.told shelf.old) words.now (λ outcome. TellsSome (E.told err.old) (E.told err.new) (E.faults err.old) (E.faults err.new)
+        (AreLines result outcome (command_of words.now) (Rose (F.faults shelf.old) (F.faults shelf.new)))) }
 {
-    let status = answer(alloc, words, shelf, out);
-    tell(status, name_in(words).as_bytes(), err);
-    status
+    let end = finish(prepare(alloc, words, shelf), out);
+    tell(&end, err);
+    end.status()
 }
 
-// The name of the file that the words ask for.
-fn name_in(words: &[Text]) -> &str
-    requires { All IsUtf8 words.now }
-    ensures { result.now ≡ name_in_command (command_of words.now) }
+// Writes what was prepared.
+fn finish<'a, O: Sink>(prepared: Result<Prepared, Refusal<'a>>, out: &mut O) -> End<'a>
+    ensures { Finishes (O.told out.old) (O.told out.new) (O.faults out.old) (O.faults out.new) (made_of writing_view prepared.entry) (end_view result) }
 {
-    match read_command(words) {
-        Some(Command::Settle { package, .. }) => package,
-        None => "",
+    match prepared {
+        Ok(Prepared { body, unknown }) => match write_package(&body, out) {
+            Ok(()) => End::Written(unknown),
+            Err(_) => End::Unwritten(unknown),
+        },
+        Err(refusal) => End::Refused(refusal),
     }
 }
 
-// All of a call but the lines.
-fn answer<F: Shelf, O: Sink>(alloc: Global, words: &[Text], shelf: &mut F, out: &mut O) -> Status
-    requires { All IsUtf8 words.now }
-
-    ensures status { IfSome (F.told shelf.old) (λ files. (outcome : Outcome) → IsOutcome words.now files outcome
-        → IsAnswer result outcome (Rose (F.faults shelf.old) (F.faults shelf.new)) (Rose (O.faults out.old) (O.faults out.new))) }
-    ensures unbuilt { command_of words.now ≡ None → (result ≡ Status.Unbuilt) ⊎ (result ≡ Status.NoMemory) }
-    ensures read { result ≡ Status.ReadFault
-        → MayFault (command_of words.now) (F.told shelf.old) (Rose (F.faults shelf.old) (F.faults shelf.new)) }
-    ensures write { result ≡ Status.WriteFault → Rose (O.faults out.old) (O.faults out.new) }
-
-    ensures shelf_stands { result ≢ Status.ReadFault → F.faults shelf.new ≡ F.faults shelf.old }
-    ensures out_stands { result ≢ Status.WriteFault → O.faults out.new ≡ O.faults out.old }
-    ensures same_files { F.told shelf.new ≡ F.told shelf.old }
-
-    ensures bytes { IfSome (F.told shelf.old) (λ files. (outcome : Outcome) → IsOutcome words.now files outcome
-        → Writes result (O.told out.old) (O.told out.new) outcome.bytes) }
-    ensures untouched { result ≢ Status.Done → result ≢ Status.WriteFault → O.told out.new ≡ O.told out.old }
+/// Tells why the words of a command line could not be had, and gives the status that the program ends with.
+pub fn refuse_words<E: Sink>(error: WordsError, err: &mut E) -> Status
+    ensures status { result ≡ words_status error }
+    ensures lines { Tells (E.told err.old) (E.told err.new) (E.faults err.old) (E.faults err.new) (words_line error) }
 {
-    match read_command(words) {
-        Some(Command::Settle { say, package }) => settle_file(alloc, say, package, shelf, out),
-        None => Status::Unbuilt,
-    }
+    let end = match error {
+        WordsError::Usage => End::Usage,
+        WordsError::NoMemory => End::Refused(Refusal::NoMemory),
+    };
+    tell(&end, err);
+    end.status()
 }
 
 /// Over a shelf and a sink that never fail, the status is the outcome's, or memory is wanting.
@@ -97,8 +93,8 @@ pub fn run_surely<E: Sink>(
     err: &mut E,
 ) -> Status
     requires { All IsUtf8 words.now }
-    ensures { (outcome : Outcome) → IsOutcome words.now (file_named shelf.old) outcome
-        → (result ≡ outcome.status) ⊎ (result ≡ Status.NoMemory) }
+    ensures { (reader : Reader) → IsReader reader
+        → (result ≡ (outcome reader words.now (file_named shelf.old)).status) ⊎ (result ≡ Status.NoMemory) }
 {
     run(alloc, words, shelf, &mut NullSink, err)
 }

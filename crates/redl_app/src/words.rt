@@ -1,29 +1,50 @@
-ghost use Rattle.std.specs.Prelude.{◌≡◌, ◌++◌, ◌∷◌, [], All, IsUtf8, OnOk, OnErr, option_map};
-ghost use Rattle.redl_app.specs.Words.{is_name, say_named, settle_of, command_of};
-ghost use Rattle.redl_app.specs.Commands.{command_view};
+ghost use Rattle.std.specs.Prelude.{◌≡◌, ◌++◌, ◌∷◌, [], All, IsUtf8, OnOk, OnErr, IfSome, option_map};
+ghost use Rattle.std.specs.List.{list_all};
+ghost use Rattle.redl_app.specs.Prepared.{command_view, HasUtf8};
+ghost use Rattle.redl_app.specs.Words.{is_name, say_named, settle_of, write_of, command_of};
 
 use redl_io::Text;
 use redl_tree::Say;
 use std::alloc::{AllocError, Global};
 use std::str;
 
+/// Why the words of a command line could not be had.
+#[derive(Clone, Copy, Debug, PartialEq, Eq)]
+pub enum WordsError {
+    /// They can't be read, since one of them isn't UTF-8.
+    Usage,
+    /// An allocation failed.
+    NoMemory,
+}
+
 /// What the words ask for.
 #[derive(Clone, Copy)]
 pub(crate) enum Command<'a> {
     /// The package of this name under one say for all revisions.
-    Settle { say: Say, package: &'a str },
+    Settle {
+        say: Say,
+        package: &'a str,
+    },
+    /// The package of this name under the joined verdicts of the journals of these names.
+    Write {
+        package: &'a str,
+        journals: &'a [Text],
+    },
 }
 
 /// The command of the words, where they are one.
 pub(crate) fn read_command(words: &[Text]) -> Option<Command<'_>>
     requires { All IsUtf8 words.now }
-    ensures { option_map command_view result ≡ command_of words.now }
+    ensures command { option_map command_view result ≡ command_of words.now }
+    ensures utf8 { IfSome result HasUtf8 }
 {
     let [verb, rest @ ..] = words else {
         return None;
     };
     if verb.as_bytes() == b"settle".as_slice() {
         read_settle(rest)
+    } else if verb.as_bytes() == b"write".as_slice() {
+        read_write(rest)
     } else {
         None
     }
@@ -32,7 +53,8 @@ pub(crate) fn read_command(words: &[Text]) -> Option<Command<'_>>
 // The words after `settle`.
 fn read_settle(words: &[Text]) -> Option<Command<'_>>
     requires { All IsUtf8 words.now }
-    ensures { option_map command_view result ≡ settle_of words.now }
+    ensures command { option_map command_view result ≡ settle_of words.now }
+    ensures utf8 { IfSome result HasUtf8 }
 {
     let [say, name] = words else {
         return None;
@@ -45,6 +67,31 @@ fn read_settle(words: &[Text]) -> Option<Command<'_>>
         say,
         package: str::from_utf8(name.as_bytes()).unwrap(),
     })
+}
+
+// The words after `write`.
+fn read_write(words: &[Text]) -> Option<Command<'_>>
+    requires { All IsUtf8 words.now }
+    ensures command { option_map command_view result ≡ write_of words.now }
+    ensures utf8 { IfSome result HasUtf8 }
+{
+    let [package, journals @ ..] = words else {
+        return None;
+    };
+    if !are_names(words) {
+        return None;
+    }
+    Some(Command::Write {
+        package: str::from_utf8(package.as_bytes()).unwrap(),
+        journals,
+    })
+}
+
+// Can each word name a file?
+fn are_names(words: &[Text]) -> bool
+    ensures { result ≡ list_all is_name words.now }
+{
+    words.iter().all(|word| names_file(word.as_bytes()))
 }
 
 // Can the word name a file?

@@ -1,8 +1,8 @@
 -- What a push or a pop on the pile is, as plain data.
-use Rattle.std.proofs.Common.{◌≡◌, ℕ, Bool, true, false, List, [], ◌∷◌, ◌++◌, length, map, reverse, Option, Some, refl, ap, ◌∙◌, arith}
-use Rattle.std.specs.Prelude.{not, nat_lt, ◌≤◌, ◌<◌}
+use Rattle.std.proofs.Common.{◌≡◌, ℕ, Bool, true, false, List, [], ◌∷◌, ◌++◌, map, reverse, Option, Some, refl, ap, ◌∙◌, arith}
+use Rattle.std.specs.Prelude.{not, nat_lt, ◌<◌}
 use Rattle.std.proofs.lemmas.Bool.Decides.{nat_tests}
-use Rattle.std.proofs.lemmas.List.{map_push, reverse-append, length-map, length-reverse}
+use Rattle.std.proofs.lemmas.List.{map_push, reverse-append}
 use Rattle.redl_tree.specs.Nodes.{Nodes, no_nodes, Item, in_front, ◌⊕◌}
 use Rattle.redl_tree.specs.View.{item_of, nodes_of}
 use Rattle.redl_tree.specs.declared.node.Node.{Node}
@@ -23,9 +23,6 @@ frames fs = reverse (map frame_view fs)
 pub frames-push : (fs : List code.Frame) (f : code.Frame) → frames (fs ++ f ∷ []) ≡ frame_view f ∷ frames fs
 frames-push fs f = ap reverse (map_push frame_view fs f) ∙ reverse-append (map frame_view fs) (frame_view f ∷ [])
 
-pub length-frames : (fs : List code.Frame) → length (frames fs) ≡ length fs
-length-frames fs = length-reverse (map frame_view fs) ∙ length-map fs frame_view
-
 abbrev pub with_kids : List code.Frame → Nodes → Option State
 with_kids fs kids = Some (record { open_elements = frames fs; kids = kids })
 
@@ -40,6 +37,3 @@ not-false false e = absurd cc
 
 pub within : (m n : ℕ) → m < n → nat_lt m n ≡ true
 within m n h = grind (arith, nat_tests)
-
-pub not_within : (m n : ℕ) → n ≤ m → nat_lt m n ≡ false
-not_within m n h = grind (arith, nat_tests)

@@ -59,6 +59,6 @@ pub fails_through : (limit : ℕ) (rest : List ℕ) (s : State) (bs : List ℕ) 
 fails_through limit rest s bs NotPlain g some e = loop_fails limit rest s bs g some e
 fails_through limit rest s bs NoMemory g some e = tt
 
-pub refuses_through : (limit : ℕ) (rest : List ℕ) (s : State) (bs : List ℕ) (x : Piece × List ℕ) (e : PlainError) → Loop limit (rest, s) bs → (length rest ≢ 0) → piece_at rest ≡ Some x → (e ≡ NotPlain → placed limit x.0 s ≡ None) → Fails e (nodes_in limit bs)
-refuses_through limit rest s bs x NotPlain g some e p = loop_refuses limit rest s bs x g some e (p refl)
+pub refuses_through : (limit : ℕ) (rest : List ℕ) (s : State) (bs : List ℕ) (x : Piece × List ℕ) (e : PlainError) → Loop limit (rest, s) bs → (length rest ≢ 0) → piece_at rest ≡ Some x → Fails e (placed limit x.0 s) → Fails e (nodes_in limit bs)
+refuses_through limit rest s bs x NotPlain g some e p = loop_refuses limit rest s bs x g some e p
 refuses_through limit rest s bs x NoMemory g some e p = tt

@@ -20,3 +20,6 @@ pub const MAX_DEPTH: usize = 507;
 
 pub use error::PlainError;
 pub use read::{one_plain_reading, read_plain};
+
+#[cfg(test)]
+mod tests;

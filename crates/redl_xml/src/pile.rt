@@ -1,6 +1,6 @@
 //! The elements that are open, and the nodes in them so far.
 
-ghost use Rattle.std.specs.Prelude.{◌≡◌, IfOk, OnOk, IsErrOf, Some, None};
+ghost use Rattle.std.specs.Prelude.{◌≡◌, nat_lt, length, IfOk, OnOk};
 ghost use Rattle.redl_tree.specs.Nodes.{no_nodes, bytes, element_item, bytes_item};
 ghost use Rattle.redl_tree.specs.View.{item_of, nodes_of};
 ghost use Rattle.redl_xml.specs.Scan.{Finds, start_tag, empty_tag};
@@ -67,6 +67,13 @@ impl<'a> Pile<'a> {
         }
     }
 
+    /// Whether one more element may stand in the open ones.
+    fn has_room(&self, limit: usize) -> bool
+        ensures { result ≡ nat_lt (length (pile_view self.now).open_elements) limit }
+    {
+        self.open.len() < limit
+    }
+
     fn start(
         &mut self,
         alloc: Global,
@@ -74,10 +81,9 @@ impl<'a> Pile<'a> {
         name: Name<'a>,
         tail: &'a [u8],
     ) -> Result<(), PlainError>
-        ensures ok { OnOk result (placed limit (start_tag (name_view name.entry) tail.entry.now) (pile_view self.old) ≡ Some (pile_view self.new)) }
-        ensures not_plain { IsErrOf result PlainError.NotPlain → placed limit (start_tag (name_view name.entry) tail.entry.now) (pile_view self.old) ≡ None }
+        ensures { Finds (λ _. pile_view self.new) result (placed limit (start_tag (name_view name.entry) tail.entry.now) (pile_view self.old)) }
     {
-        if self.open.len() >= limit {
+        if !self.has_room(limit) {
             return Err(PlainError::NotPlain);
         }
         let before = mem::replace(&mut self.kids, Vec::new(alloc));
@@ -92,10 +98,9 @@ impl<'a> Pile<'a> {
         name: Name<'a>,
         tail: &'a [u8],
     ) -> Result<(), PlainError>
-        ensures ok { OnOk result (placed limit (empty_tag (name_view name.entry) tail.entry.now) (pile_view self.old) ≡ Some (pile_view self.new)) }
-        ensures not_plain { IsErrOf result PlainError.NotPlain → placed limit (empty_tag (name_view name.entry) tail.entry.now) (pile_view self.old) ≡ None }
+        ensures { Finds (λ _. pile_view self.new) result (placed limit (empty_tag (name_view name.entry) tail.entry.now) (pile_view self.old)) }
     {
-        if self.open.len() >= limit {
+        if !self.has_room(limit) {
             return Err(PlainError::NotPlain);
         }
         let node = element(alloc, name, tail, Vec::new(alloc), Close::Empty)?;
@@ -112,8 +117,7 @@ impl<'a> Pile<'a> {
     }
 
     fn end(&mut self, alloc: Global, name: Name<'a>) -> Result<(), PlainError>
-        ensures ok { OnOk result (closed (pile_view self.old).open_elements (pile_view self.old).kids (name_view name.entry) ≡ Some (pile_view self.new)) }
-        ensures not_plain { IsErrOf result PlainError.NotPlain → closed (pile_view self.old).open_elements (pile_view self.old).kids (name_view name.entry) ≡ None }
+        ensures { Finds (λ _. pile_view self.new) result (closed (pile_view self.old).open_elements (pile_view self.old).kids (name_view name.entry)) }
     {
         let Some(frame) = self.open.pop() else {
             return Err(PlainError::NotPlain);
@@ -141,8 +145,7 @@ impl<'a> Pile<'a> {
         limit: usize,
         piece: Piece<'a>,
     ) -> Result<(), PlainError>
-        ensures ok { OnOk result (placed limit (piece_view piece.entry) (pile_view self.old) ≡ Some (pile_view self.new)) }
-        ensures not_plain { IsErrOf result PlainError.NotPlain → placed limit (piece_view piece.entry) (pile_view self.old) ≡ None }
+        ensures { Finds (λ _. pile_view self.new) result (placed limit (piece_view piece.entry) (pile_view self.old)) }
     {
         match piece {
             Piece::Start(name, tail) => self.start(alloc, limit, name, tail)?,
@@ -157,8 +160,9 @@ impl<'a> Pile<'a> {
     pub(crate) fn finish(self) -> Result<Vec<Node>, PlainError>
         ensures { Finds (λ v. nodes_of v.items) result (finished (pile_view self.entry).open_elements (pile_view self.entry).kids) }
     {
-        let Pile { open, kids } = self;
+        let Pile { open, mut kids } = self;
         if open.is_empty() {
+            kids.shrink_to_fit();
             Ok(kids)
         } else {
             Err(PlainError::NotPlain)

@@ -6,7 +6,7 @@
 
 ghost use Rattle.std.specs.Prelude.{IfOk, All, IsUtf8};
 
-use redl_app::{Status, add_word, run, tell};
+use redl_app::{WordsError, add_word, refuse_words, run};
 use redl_io::{FileShelf, StdSink, Text};
 use std::alloc::{AllocError, Global};
 use std::env;
@@ -21,25 +21,22 @@ fn main(rt: HostRuntime) -> ExitCode {
     let mut err = StdSink::new(rt.stderr());
     let status = match read_words(&rt) {
         Ok(words) => run(rt.alloc(), &words, &mut shelf, &mut out, &mut err),
-        Err(status) => {
-            tell(status, b"", &mut err);
-            status
-        }
+        Err(error) => refuse_words(error, &mut err),
     };
     ExitCode::from(status.code())
 }
 
-// The words of the command line, or the status that ends the program without them.
-fn read_words(rt: &(impl Env + AllocGlobal)) -> Result<Vec<Text>, Status>
+// The words of the command line.
+fn read_words(rt: &(impl Env + AllocGlobal)) -> Result<Vec<Text>, WordsError>
     ensures { IfOk result (λ words. All IsUtf8 words.items) }
 {
     match env::args(rt) {
         Ok(args) => match copy_words(rt.alloc(), args) {
             Ok(words) => Ok(words),
-            Err(_) => Err(Status::NoMemory),
+            Err(_) => Err(WordsError::NoMemory),
         },
-        Err(error) if error.kind() == ErrorKind::OutOfMemory => Err(Status::NoMemory),
-        Err(_) => Err(Status::Usage),
+        Err(error) if error.kind() == ErrorKind::OutOfMemory => Err(WordsError::NoMemory),
+        Err(_) => Err(WordsError::Usage),
     }
 }
 

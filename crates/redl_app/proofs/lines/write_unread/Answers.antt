@@ -1,16 +1,4 @@
-use Rattle.std.proofs.Common.{refl, ◌++◌, ◌∷◌, []}
-use Rattle.redl_io.proofs.Puts.{puts_then, puts_fails}
 use Rattle.redl_app.proofs.lines.write_unread.Goals as goal
 
-pub returns-in_err-put_piece : goal.returns-in_err-put_piece
-returns-in_err-put_piece g c =
-    puts_fails (c.args.name.now ++ 10 ∷ []) refl c.from_residual.ensures.0 c.in_err-put_piece.ensures
-
-pub returns-in_err-put_piece-2 : goal.returns-in_err-put_piece-2
-returns-in_err-put_piece-2 g c =
-    puts_then refl c.in_ok-put_piece.ensures
-    (puts_fails (10 ∷ []) refl (c.from_residual-in_err-put_piece-2).ensures.0 (c.in_err-put_piece-2).ensures)
-
 pub returns : goal.returns
-returns g c =
-    puts_then refl c.in_ok-put_piece.ensures (puts_then refl (c.in_ok-put_piece-2).ensures (c.put_piece-3).ensures)
+returns g c = rw (c.as_slice.ensures, c.as_bytes.ensures.value) at c.put_pieces.ensures

@@ -1,7 +1,6 @@
-use Rattle.std.proofs.Common.{◌≡◌, ◌≢◌, ◌∙◌, ap, sym, Err, arith, length}
+use Rattle.std.proofs.Common.{◌≡◌, ◌≢◌, ◌∙◌, sym, arith, length}
 use Rattle.std.proofs.lemmas.Bool.{eqb-true}
 use Rattle.std.proofs.lemmas.Result.{err_from_is_err_and}
-use Rattle.redl_xml.specs.declared.error.PlainError.{PlainError}
 use Rattle.redl_xml.specs.Views.{piece_view, pile_view}
 use Rattle.redl_xml.proofs.Pieces.{piece_shorter}
 use Rattle.redl_xml.proofs.Reading.{loop_begins, loop_ends, loop_goes, fails_through, refuses_through}
@@ -25,7 +24,7 @@ pub returns-in_err-place : goal.returns-in_err-place
 returns-in_err-place c =
     let p = err_from_is_err_and c.from_residual-in_err-place.result c.from_residual-in_err-place.ensures.1 in
     let some : length c.loop-rest.rest.now ≢ 0 = grind arith in
-    rw (p.1, p.2) (refuses_through c.args.limit c.loop-rest.rest.now (pile_view c.loop-rest.pile) c.args.bytes.now (piece_view c.in_ok-piece.piece, c.in_ok-piece.behind.now) c.in_err-place.field-0.0 c.loop-rest.invariant some c.in_ok-piece.ensures (λ e. c.in_err-place.ensures.not_plain (ap (λ (x : PlainError). Err x) e)))
+    rw (p.1, p.2) (refuses_through c.args.limit c.loop-rest.rest.now (pile_view c.loop-rest.pile) c.args.bytes.now (piece_view c.in_ok-piece.piece, c.in_ok-piece.behind.now) c.in_err-place.field-0.0 c.loop-rest.invariant some c.in_ok-piece.ensures c.in_err-place.ensures)
 
 pub loop-rest-smaller : goal.loop-rest-smaller
 loop-rest-smaller c = piece_shorter c.loop-rest.rest.now (piece_view c.in_ok-piece.piece, c.in_ok-piece.behind.now) c.in_ok-piece.ensures
@@ -33,4 +32,4 @@ loop-rest-smaller c = piece_shorter c.loop-rest.rest.now (piece_view c.in_ok-pie
 pub loop-rest-preserved : goal.loop-rest-preserved
 loop-rest-preserved c =
     let some : length c.loop-rest.rest.now ≢ 0 = grind arith in
-    loop_goes c.args.limit c.loop-rest.rest.now (pile_view c.loop-rest.pile) (pile_view c.place.new.self) c.args.bytes.now (piece_view c.in_ok-piece.piece, c.in_ok-piece.behind.now) c.loop-rest.invariant some c.in_ok-piece.ensures c.in_ok-place.ensures.ok
+    loop_goes c.args.limit c.loop-rest.rest.now (pile_view c.loop-rest.pile) (pile_view c.place.new.self) c.args.bytes.now (piece_view c.in_ok-piece.piece, c.in_ok-piece.behind.now) c.loop-rest.invariant some c.in_ok-piece.ensures c.in_ok-place.ensures

@@ -10,8 +10,8 @@ use Rattle.redl_xml.specs.Views.{name_view}
 use Rattle.redl_xml.proofs.Piles.{pushed, with_kids, closed_at, not-false}
 use Rattle.redl_xml.proofs.pile.Pile.end.Goals as goal
 
-pub returns-clause-ok : goal.returns-clause-ok
-returns-clause-ok c =
+pub returns : goal.returns
+returns c =
     let old = c.args.self.now in
     let frame = c.in-Some.frame in
     let name = name_view frame.name in

@@ -1,0 +1,20 @@
+-- Names among names, and texts that are UTF-8.
+use Rattle.std.proofs.Common.{◌≡◌, ◌<◌, ◌+◌, ℕ, zero, suc, List, [], ◌∷◌, length, Contains, None, Some, Result, Ok, Err, MatchResult, IsOk, refl, sym, subst, arith}
+
+pub only_one : (x y : List ℕ) → Contains (x ∷ []) y → x ≡ y
+only_one x y (zero, within, is) = is
+only_one x y (suc k, within, is) = absurd (omega (arith, within))
+
+pub among_more : (x y : List ℕ) (xs : List (List ℕ)) → Contains xs y → Contains (x ∷ xs) y
+among_more x y xs (k, within, is) = (suc k, omega (arith, within), is)
+
+pub the_first : (x : List ℕ) (xs : List (List ℕ)) → Contains (x ∷ xs) x
+the_first x xs = (zero, omega arith, refl)
+
+pub is_ok_unless : {T E : Type 0} (Good : T → Type 0) (Bad : E → Type 0) (Held : Type 0) (r : Result T E)
+    → MatchResult r Good (λ e. ¬ Held × Bad e) → Held → IsOk r
+is_ok_unless Good Bad Held (Ok x) h held = refl
+is_ok_unless Good Bad Held (Err e) h held = absurd (h.0 held)
+
+pub some_none : {X : Type 0} {x : X} → Some x ≡ None → ⊥
+some_none is = absurd (cc is)

@@ -1,0 +1,39 @@
+-- What stands after what was prepared was written, or not.
+use Rattle.std.specs.Prelude.{◌≡◌, ◌⊎◌, ℕ, List, Option, Result, Ok, Err}
+use Rattle.std.specs.Io.KnownBytes.{append_known}
+use Rattle.redl_io.specs.Faults.{Rose}
+use Rattle.redl_io.specs.Sink.{GrowsByFront}
+use Rattle.redl_app.specs.Ends.{End, written, unwritten, refused}
+use Rattle.redl_app.specs.Outcome.{Writing}
+use Rattle.redl_app.specs.Refusals.{Refusal, usage_line, no_memory_line}
+use Rattle.redl_app.specs.declared.status.Status.{Status}
+use Rattle.redl_app.specs.declared.status.Status.TheVariants as status
+use Rattle.redl_app.specs.declared.words.WordsError.{WordsError}
+use Rattle.redl_app.specs.declared.words.WordsError.TheVariants as error
+
+-- all of the text went out
+pub record WritesAll (old new : Option (List ℕ)) (before now : ℕ) (text : List ℕ) : Type 0 where
+  pub bytes : new ≡ append_known old text
+  pub stands : now ≡ before
+
+-- the output failed, and a front of the text went out
+pub record WritesFront (old new : Option (List ℕ)) (before now : ℕ) (text : List ℕ) : Type 0 where
+  pub bytes : GrowsByFront old new text
+  pub rose : Rose before now
+
+-- What was made was written, or the output failed, or it was refused.
+abbrev pub Finishes : Option (List ℕ) → Option (List ℕ) → ℕ → ℕ → Result Writing Refusal → End → Type 0
+Finishes old new before now (Ok writing) end =
+    ((end ≡ written writing.unknown) × WritesAll old new before now writing.bytes)
+    ⊎ ((end ≡ unwritten writing.unknown) × WritesFront old new before now writing.bytes)
+Finishes old new before now (Err refusal) end = (end ≡ refused refusal) × (new ≡ old) × (now ≡ before)
+
+-- ---- words that could not be had
+
+abbrev pub words_status : WordsError → Status
+words_status error.Usage = status.Usage
+words_status error.NoMemory = status.NoMemory
+
+abbrev pub words_line : WordsError → List ℕ
+words_line error.Usage = usage_line
+words_line error.NoMemory = no_memory_line

@@ -1,0 +1,87 @@
+-- Why a call ends without its output, and the status and the line of each cause.
+use Rattle.std.specs.Prelude.{ℕ, List, [], ◌∷◌, ◌++◌, codes, decimal}
+use Rattle.hex.specs.Hex.{encode_lower}
+use Rattle.redl_journal.specs.declared.entry.Entry.{Entry}
+use Rattle.redl_journal.specs.Journals.{word_text}
+use Rattle.redl_app.specs.declared.status.Status.{Status}
+use Rattle.redl_app.specs.declared.status.Status.TheVariants as status
+
+pub data Refusal : Type 0 where
+  -- the words, or the form of the package
+  unbuilt : Refusal
+  -- the file of this name is missing, or couldn't be fetched
+  unread : List ℕ → Refusal
+  -- the journal of this name has no reading
+  malformed : List ℕ → Refusal
+  -- the journal of this name has the first digest, and the package the second
+  other_document : List ℕ → List ℕ → List ℕ → Refusal
+  -- the journal of this name has the first count of revisions, and the package the second
+  other_count : List ℕ → ℕ → ℕ → Refusal
+  -- the journals have too many bytes
+  journal_bytes : Refusal
+  no_memory : Refusal
+
+abbrev pub status_of : Refusal → Status
+status_of unbuilt = status.Unbuilt
+status_of (unread name) = status.ReadFault
+status_of (malformed name) = status.Journal
+status_of (other_document name found expected) = status.Journal
+status_of (other_count name found expected) = status.Journal
+status_of journal_bytes = status.Limit
+status_of no_memory = status.NoMemory
+
+-- ---- the lines on standard error
+
+abbrev pub newline : List ℕ
+newline = 10 ∷ []
+
+abbrev pub unbuilt_line : List ℕ
+unbuilt_line = codes "redline: not built yet" ++ newline
+
+abbrev pub unread_line : List ℕ → List ℕ
+unread_line name = codes "redline: cannot read " ++ (name ++ newline)
+
+abbrev pub malformed_line : List ℕ → List ℕ
+malformed_line name = codes "redline: journal " ++ (name ++ (codes ": malformed" ++ newline))
+
+-- the line of a journal that says one thing of its package where the package has another
+abbrev pub difference_line : List ℕ → List ℕ → List ℕ → List ℕ → List ℕ
+difference_line name what found expected =
+    codes "redline: journal " ++ (name ++ (codes ": " ++ (what ++ (codes " " ++ (found
+    ++ (codes ", expected " ++ (expected ++ newline)))))))
+
+abbrev pub other_document_line : List ℕ → List ℕ → List ℕ → List ℕ
+other_document_line name found expected = difference_line name (codes "document") (encode_lower found) (encode_lower expected)
+
+abbrev pub other_count_line : List ℕ → ℕ → ℕ → List ℕ
+other_count_line name found expected = difference_line name (codes "revisions") (decimal found) (decimal expected)
+
+abbrev pub journal_bytes_line : List ℕ
+journal_bytes_line = codes "redline: limit journal bytes 67108864" ++ newline
+
+abbrev pub no_memory_line : List ℕ
+no_memory_line = codes "redline: no memory" ++ newline
+
+abbrev pub usage_line : List ℕ
+usage_line = codes "redline: cannot read the command line" ++ newline
+
+abbrev pub unwritten_line : List ℕ
+unwritten_line = codes "redline: cannot write" ++ newline
+
+abbrev pub refusal_line : Refusal → List ℕ
+refusal_line unbuilt = unbuilt_line
+refusal_line (unread name) = unread_line name
+refusal_line (malformed name) = malformed_line name
+refusal_line (other_document name found expected) = other_document_line name found expected
+refusal_line (other_count name found expected) = other_count_line name found expected
+refusal_line journal_bytes = journal_bytes_line
+refusal_line no_memory = no_memory_line
+
+-- the line of an entry with an unknown number: its seq, its revision, its word and its reviewer
+abbrev pub unknown_line : List ℕ → List ℕ → List ℕ → List ℕ → List ℕ
+unknown_line seq rev word reviewer =
+    codes "redline: refused " ++ (seq ++ (codes " " ++ (rev ++ (codes " " ++ (word ++ (codes " "
+    ++ (reviewer ++ (codes ": unknown revision" ++ newline))))))))
+
+abbrev pub refused_line : Entry → List ℕ
+refused_line entry = unknown_line (decimal entry.seq) (decimal entry.rev) (word_text entry.word) entry.reviewer

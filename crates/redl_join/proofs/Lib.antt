@@ -1,0 +1,4 @@
+pub mod Lists
+pub mod Unions
+pub mod Verdicts
+mod Rows

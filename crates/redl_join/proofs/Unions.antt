@@ -1,0 +1,138 @@
+-- Books and their unions.
+use Rattle.std.proofs.Common.{◌≡◌, ℕ, Bool, true, false, cond, eqb, List, [], ◌∷◌, Equal, refl, sym, ap, ◌∙◌, Contains, arith, map, ◌++◌, append-nil, append_assoc}
+use Rattle.std.proofs.lemmas.List.{map_push}
+use Rattle.std.proofs.lemmas.List.Concat.{flat_map-append}
+use Rattle.std.specs.Prelude.{◌||◌, ◌↔◌}
+use Rattle.std.specs.List.{flat_map}
+use Rattle.std.specs.List.Sorted.{IsStrictlySortedBy}
+use Rattle.std.specs.Cmp.{eq_by_cmp_equiv}
+use Rattle.std.specs.BTreeMap.{BTreeMap}
+use Rattle.std.specs.BTreeSet.{BTreeSet}
+use Rattle.std.proofs.lemmas.Map.Views.{Contains-from_any, list_any-from_Contains, tells_apart, All-insert_key, All-remove_key}
+use Rattle.redl_journal.specs.declared.entry.Entry.{Entry}
+use Rattle.redl_journal.specs.Journals.{IsAllowed, entry_text}
+use Rattle.redl_journal.specs.Order.{entry_order}
+use Rattle.redl_journal.proofs.EntryOrder.{entry_order-total, entry_order-exact}
+use Rattle.redl_join.specs.Books.{IsBook, is_same, has_entry, with_entry, without_entry, union, is_on, entries_at, IsIndexed, IsKept}
+use Rattle.redl_join.proofs.Lists.{insert_present, remove_inserted, filter_insert, filter_remove, sorted_insert, any_insert, same_sorted}
+
+-- ---- unions
+
+book-union : (book entries : List Entry) → IsBook book → IsBook (union book entries)
+book-union book [] h = h
+book-union book (e ∷ es) h = book-union (with_entry book e) es (sorted_insert entry_order-total book e h)
+
+or_move : (a b c : Bool) → ((a || b) || c) ≡ (b || (a || c))
+or_move true true c = refl
+or_move true false c = refl
+or_move false true c = refl
+or_move false false c = refl
+
+has_entry-union : (book entries : List Entry) (q : Entry) → has_entry (union book entries) q ≡ (has_entry book q || has_entry entries q)
+has_entry-union book [] q = or_nothing (has_entry book q) where
+  or_nothing : (a : Bool) → a ≡ (a || false)
+  or_nothing true = refl
+  or_nothing false = refl
+has_entry-union book (e ∷ es) q =
+    has_entry-union (with_entry book e) es q ∙ ap (λ (b : Bool). b || has_entry es q) (any_insert entry_order-total q book e) ∙ or_move (is_same q e) (has_entry book q) (has_entry es q)
+
+same_members : (entries others : List Entry) → ((e : Entry) → Contains entries e → Contains others e) → (q : Entry) → has_entry entries q ≡ true → has_entry others q ≡ true
+same_members entries others h q has =
+    list_any-from_Contains (eq_by_cmp_equiv entry_order-total) q others (h q (Contains-from_any (tells_apart entry_order-exact) q entries has))
+
+both_ways : (a b : Bool) → (a ≡ true → b ≡ true) → (b ≡ true → a ≡ true) → a ≡ b
+both_ways true true f g = refl
+both_ways true false f g = sym (f refl)
+both_ways false true f g = g refl
+both_ways false false f g = refl
+
+pub one_book : (book other : List Entry) → IsBook book → IsBook other → ((e : Entry) → has_entry book e ≡ has_entry other e) → book ≡ other
+one_book book other h g same = same_sorted entry_order-total entry_order-exact book other h g same
+
+pub one_union : (entries others : List Entry) → ((e : Entry) → Contains entries e ↔ Contains others e) → union [] entries ≡ union [] others
+unfolding IsStrictlySortedBy
+one_union entries others h =
+    one_book (union [] entries) (union [] others) (book-union [] entries tt) (book-union [] others tt) (λ q.
+    has_entry-union [] entries q
+    ∙ both_ways (has_entry entries q) (has_entry others q) (same_members entries others (λ e. (h e).0) q) (same_members others entries (λ e. (h e).1) q)
+    ∙ sym (has_entry-union [] others q))
+
+-- ---- the entries of each revision
+
+is_on-same : (rev : ℕ) (a b : Entry) → entry_order a b ≡ Equal → is_on rev a ≡ is_on rev b
+is_on-same rev a b same = ap (is_on rev) (entry_order-exact a b same)
+
+eqb_turned : (m n : ℕ) → eqb m n ≡ eqb n m
+eqb_turned m n = grind arith
+
+pub indexed-with : (book : List Entry) (old new : BTreeMap ℕ (BTreeSet Entry)) (e : Entry) → IsBook book → IsIndexed book old
+    → ((rev : ℕ) → entries_at new rev ≡ cond (eqb rev e.rev) (with_entry (entries_at old rev) e) (entries_at old rev))
+    → IsIndexed (with_entry book e) new
+indexed-with book old new e sorted indexed h rev =
+    h rev ∙ rw (indexed rev, eqb_turned rev e.rev) (sym (filter_insert entry_order-total (is_on rev) (is_on-same rev) book e sorted))
+
+pub indexed-without : (book : List Entry) (old new : BTreeMap ℕ (BTreeSet Entry)) (e : Entry) → IsIndexed book old
+    → ((rev : ℕ) → entries_at new rev ≡ cond (eqb rev e.rev) (without_entry (entries_at old rev) e) (entries_at old rev))
+    → IsIndexed (without_entry book e) new
+indexed-without book old new e indexed h rev =
+    h rev ∙ rw (indexed rev, eqb_turned rev e.rev) (sym (filter_remove entry_order-total (is_on rev) (is_on-same rev) book e))
+
+-- ---- what a book keeps
+
+pub kept-present : (book : List Entry) (e : Entry) → IsBook book → has_entry book e ≡ true → with_entry book e ≡ book
+kept-present book e sorted has = insert_present entry_order-total book e sorted has
+
+pub kept-with : (book : List Entry) (old new : BTreeMap ℕ (BTreeSet Entry)) (e : Entry) → IsKept book old → IsAllowed e
+    → ((rev : ℕ) → entries_at new rev ≡ cond (eqb rev e.rev) (with_entry (entries_at old rev) e) (entries_at old rev))
+    → IsKept (with_entry book e) new
+kept-with book old new e kept allowed h = record {
+  ordered = sorted_insert entry_order-total book e kept.ordered;
+  indexed = indexed-with book old new e kept.ordered kept.indexed h;
+  allowed = All-insert_key entry_order e IsAllowed book kept.allowed allowed;
+}
+
+pub kept-without : (book : List Entry) (old new : BTreeMap ℕ (BTreeSet Entry)) (e : Entry) → IsKept book old → IsBook (without_entry book e)
+    → ((rev : ℕ) → entries_at new rev ≡ cond (eqb rev e.rev) (without_entry (entries_at old rev) e) (entries_at old rev))
+    → IsKept (without_entry book e) new
+kept-without book old new e kept ordered h = record {
+  ordered = ordered;
+  indexed = indexed-without book old new e kept.indexed h;
+  allowed = All-remove_key (is_same e) IsAllowed book kept.allowed;
+}
+
+-- an entry that was listed and taken off again
+pub kept-back : (book : List Entry) (old mid new : BTreeMap ℕ (BTreeSet Entry)) (e : Entry) → IsKept book old → has_entry book e ≡ false
+    → ((rev : ℕ) → entries_at mid rev ≡ cond (eqb rev e.rev) (with_entry (entries_at old rev) e) (entries_at old rev))
+    → ((rev : ℕ) → entries_at new rev ≡ cond (eqb rev e.rev) (without_entry (entries_at mid rev) e) (entries_at mid rev))
+    → IsKept book new
+kept-back book old mid new e kept lacks h g =
+    let back : without_entry (with_entry book e) e ≡ book = remove_inserted entry_order-total book e lacks in
+    record {
+      ordered = kept.ordered;
+      indexed = rw back at (indexed-without (with_entry book e) mid new e (indexed-with book old mid e kept.ordered kept.indexed h) g);
+      allowed = kept.allowed;
+    }
+
+pub kept-as : (book same : List Entry) (old new : BTreeMap ℕ (BTreeSet Entry)) → IsKept book old → same ≡ book
+    → ((rev : ℕ) → entries_at new rev ≡ entries_at old rev) → IsKept same new
+kept-as book same old new kept e h = rw e (record { ordered = kept.ordered; indexed = λ rev. h rev ∙ kept.indexed rev; allowed = kept.allowed })
+
+-- ---- texts
+
+-- one more entry behind those that were put
+pub lines_more : {E : Type 0} (shows : E → Entry) (before : List E) (e : E) → flat_map entry_text (map shows (before ++ e ∷ [])) ≡ flat_map entry_text (map shows before) ++ entry_text (shows e)
+lines_more shows before e =
+    ap (flat_map entry_text) (map_push shows before e) ∙ flat_map-append entry_text (map shows before) (shows e ∷ [])
+    ∙ ap (λ (z : List ℕ). flat_map entry_text (map shows before) ++ z) (append-nil (entry_text (shows e)))
+
+-- those that were put, one, and the others
+pub lines_around : (before rest all : List Entry) (e : Entry) → before ++ (e ∷ rest) ≡ all
+    → flat_map entry_text all ≡ flat_map entry_text before ++ (entry_text e ++ flat_map entry_text rest)
+lines_around before rest all e whole = ap (flat_map entry_text) (sym whole) ∙ flat_map-append entry_text before (e ∷ rest)
+
+-- one step of the loop over the entries
+pub moved : {E : Type 0} (shows : E → Entry) (seen : List E) (e : E) (left rest all : List Entry) → left ≡ shows e ∷ rest → map shows seen ++ left ≡ all
+    → map shows (seen ++ e ∷ []) ++ rest ≡ all
+moved shows seen e left rest all step whole =
+    ap (λ (l : List Entry). l ++ rest) (map_push shows seen e) ∙ append_assoc (map shows seen) (shows e ∷ []) rest
+    ∙ ap (λ (l : List Entry). map shows seen ++ l) (sym step) ∙ whole

@@ -1,0 +1,58 @@
+-- Books: sets of entries. A book is seen as the list of its entries in their order, each once.
+use Rattle.std.specs.Prelude.{◌≡◌, ◌==◌, ℕ, Bool, List, [], ◌∷◌, filter, Option, Some, None, All}
+use Rattle.std.specs.List.{list_any}
+use Rattle.std.specs.List.Sorted.{IsStrictlySortedBy}
+use Rattle.std.specs.Ordering.{is_eq, nat_cmp}
+use Rattle.std.specs.Set.{remove_key}
+use Rattle.std.specs.BTreeSet.{BTreeSet, insert_key}
+use Rattle.std.specs.BTreeMap.{BTreeMap, get}
+use Rattle.redl_journal.specs.declared.entry.Entry.{Entry}
+use Rattle.redl_journal.specs.Journals.{IsAllowed}
+use Rattle.redl_journal.specs.Order.{entry_order}
+
+-- The entries stand in their order, each once.
+abbrev pub IsBook : List Entry → Type 0
+IsBook entries = IsStrictlySortedBy entry_order entries
+
+-- the two entries are the same
+abbrev pub is_same : Entry → Entry → Bool
+is_same entry other = is_eq (entry_order entry other)
+
+-- the entry is one of these
+abbrev pub has_entry : List Entry → Entry → Bool
+has_entry entries entry = list_any (is_same entry) entries
+
+-- the union with one entry: it stands at its place in the order, once
+abbrev pub with_entry : List Entry → Entry → List Entry
+with_entry entries entry = insert_key entry_order entries entry
+
+abbrev pub without_entry : List Entry → Entry → List Entry
+without_entry entries entry = remove_key (is_same entry) entries
+
+-- the union with all entries of a list, in whatever order they stand there
+abbrev pub union : List Entry → List Entry → List Entry
+union book [] = book
+union book (entry ∷ entries) = union (with_entry book entry) entries
+
+-- ---- the entries of one revision
+
+abbrev pub is_on : ℕ → Entry → Bool
+is_on rev entry = entry.rev == rev
+
+abbrev pub listed : Option (BTreeSet Entry) → List Entry
+listed None = []
+listed (Some entries) = entries.keys
+
+-- what is listed at a revision
+abbrev pub entries_at : BTreeMap ℕ (BTreeSet Entry) → ℕ → List Entry
+entries_at by_revision rev = listed (get nat_cmp by_revision rev)
+
+-- At each revision just its entries are listed.
+abbrev pub IsIndexed : List Entry → BTreeMap ℕ (BTreeSet Entry) → Type 0
+IsIndexed entries by_revision = (rev : ℕ) → entries_at by_revision rev ≡ filter (is_on rev) entries
+
+-- What a book keeps: its entries in order, the same listed at each revision, and each allowed in a journal.
+pub record IsKept (entries : List Entry) (by_revision : BTreeMap ℕ (BTreeSet Entry)) : Type 0 where
+  pub ordered : IsBook entries
+  pub indexed : IsIndexed entries by_revision
+  pub allowed : All IsAllowed entries

@@ -1,0 +1,142 @@
+//! A set of entries.
+ghost use Rattle.std.specs.Prelude.{◌≡◌, ◌^◌, ◌-◌, min, All, List, [], ℕ, length, not, IfOk, OnOk, OnErr, flat_map};
+ghost use Rattle.redl_io.specs.Sink.{Puts};
+ghost use Rattle.redl_journal.specs.Journals.{IsAllowed, entry_text, journal_text};
+ghost use Rattle.redl_join.specs.Books.{IsBook, has_entry, with_entry, without_entry};
+ghost use Rattle.redl_join.specs.Verdicts.{verdict_at, greatest_seq};
+
+use crate::index::{ByRevision, list, unlist};
+use crate::tally;
+use crate::verdict::Verdict;
+use redl_io::{Failed, Sink};
+use redl_journal::{Entry, write_entry, write_head};
+use std::alloc::{AllocError, Global};
+use std::collections::btree_set::Iter;
+use std::collections::{BTreeMap, BTreeSet};
+use std::marker::Model;
+
+/// The entries of a book, in their order.
+pub type Entries<'a> = Iter<'a, Entry>;
+
+/// A set of entries, each allowed in a journal. A contract sees the list of them in their order:
+/// by the reviewer's bytes, then seq, then revision, then the word.
+#[derive(Drop)]
+pub struct Book {
+    alloc: Global,
+    entries: BTreeSet<Entry>,
+    by_revision: ByRevision,
+}
+
+impl Model for Book {
+    ghost use Rattle.std.specs.Prelude.{List};
+    ghost use Rattle.redl_journal.specs.declared.entry.Entry.{Entry};
+    ghost use Rattle.redl_join.specs.Books.{IsKept};
+
+    ghost Value = { List Entry };
+
+    ghost view = { λ book. book.entries.keys };
+
+    ghost invariant = { λ book. IsKept book.entries.keys book.by_revision };
+}
+
+impl Book {
+    /// The book without entries. It takes no memory.
+    pub fn new(alloc: Global) -> Book
+        ensures { result ≡ [] }
+    {
+        Book {
+            alloc,
+            entries: BTreeSet::new(alloc),
+            by_revision: BTreeMap::new(alloc),
+        }
+    }
+
+    /// Makes the union with this entry, and says whether it is new. `Err` is want of memory: then the
+    /// book is as it was, and the entry is dropped.
+    pub fn add(&mut self, entry: Entry) -> Result<bool, AllocError>
+        requires { IsAllowed entry }
+        ensures added { OnOk result (self.new ≡ with_entry self.old entry) }
+        ensures was_new { IfOk result (λ new. new ≡ not (has_entry self.old entry)) }
+        ensures untouched { OnErr result (self.new ≡ self.old) }
+    {
+        if self.entries.contains(&entry) {
+            return Ok(false);
+        }
+        list(self.alloc, &mut self.by_revision, entry.copy(self.alloc)?)?;
+        match self.entries.insert(entry) {
+            Ok(_) => Ok(true),
+            Err(refused) => {
+                unlist(&mut self.by_revision, &refused.value);
+                Err(AllocError)
+            }
+        }
+    }
+
+    /// Takes the entry out, and says whether it was there.
+    pub fn remove(&mut self, entry: &Entry) -> bool
+        ensures removed { self.new ≡ without_entry self.old entry.now }
+        ensures was_there { result ≡ has_entry self.old entry.now }
+    {
+        unlist(&mut self.by_revision, entry);
+        self.entries.remove(entry)
+    }
+
+    /// What the book decides on the revision: of each reviewer the words with his greatest seq on it
+    /// count, withdrawals left out.
+    pub fn verdict(&self, rev: u32) -> Verdict
+        ensures { result ≡ verdict_at self.now rev }
+    {
+        match self.by_revision.get(&rev) {
+            Some(entries) => tally::verdict(entries),
+            None => Verdict::Undecided,
+        }
+    }
+
+    /// The greatest seq of the reviewer's entries, 0 where he has none.
+    pub fn greatest(&self, reviewer: &[u8]) -> u32
+        ensures { result ≡ greatest_seq self.now reviewer.now }
+    {
+        let mut greatest = 0;
+        for entry in &self.entries {
+            if entry.reviewer.as_bytes() == reviewer {
+                greatest = entry.seq.max(greatest);
+            }
+        }
+        greatest
+    }
+
+    /// How many entries it has, or `u64::MAX` where there are more.
+    pub fn len(&self) -> u64
+        ensures { result ≡ min (length self.now) (2 ^ 64 - 1) }
+    {
+        self.entries.len() as u64
+    }
+
+    /// Its entries, in their order.
+    pub fn entries(&self) -> Entries<'_>
+        ensures entries { result ≡ self.now }
+        ensures ordered { IsBook self.now }
+        ensures allowed { All IsAllowed self.now }
+    {
+        self.entries.iter()
+    }
+
+    /// Puts the text of the journal with the book's entries in their order.
+    pub fn write<K: Sink>(&self, digest: &[u8; 32], count: u32, out: &mut K) -> Result<(), Failed>
+        ensures { Puts K.told K.faults K.settled K.lenders out.old out.new
+            (journal_text (record { digest = digest.now; count = count; entries = self.now })) result }
+    {
+        write_head(digest, count, out)?;
+        put_entries(&self.entries, out)
+    }
+}
+
+fn put_entries<K: Sink>(entries: &BTreeSet<Entry>, out: &mut K) -> Result<(), Failed>
+    requires { All IsAllowed entries.now.keys }
+    ensures { Puts K.told K.faults K.settled K.lenders out.old out.new (flat_map entry_text entries.now.keys) result }
+{
+    for entry in entries {
+        write_entry(entry, out)?;
+    }
+    Ok(())
+}

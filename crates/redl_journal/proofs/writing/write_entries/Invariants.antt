@@ -1,0 +1,9 @@
+use Rattle.std.proofs.Common.{take, Ok}
+use Rattle.std.specs.List.{flat_map}
+use Rattle.redl_io.specs.Sink.{Puts}
+use Rattle.redl_journal.specs.Journals.{entry_text}
+use Rattle.redl_journal.proofs.writing.write_entries.Given as goal
+
+abbrev pub invariant-loop-entry : goal.invariant-loop-entry
+invariant-loop-entry g l =
+    Puts {T = Unit {0}} g.K.Sink.told g.K.Sink.faults g.K.Sink.settled g.K.Sink.lenders l.initial.out l.out (flat_map entry_text (take l.entry-index l.entries)) (Ok tt)

@@ -1,0 +1,4 @@
+pub mod Journals
+pub mod Order
+pub mod Views
+pub mod Reading

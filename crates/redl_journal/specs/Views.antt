@@ -1,0 +1,10 @@
+-- What the code's journals are, as plain data.
+use Rattle.redl_journal.specs.declared.journal.Journal as code
+use Rattle.redl_journal.specs.Journals.{Journal}
+
+abbrev pub journal_of : code.Journal → Journal
+journal_of journal = record {
+  digest = journal.digest;
+  count = journal.count;
+  entries = journal.entries.items;
+}

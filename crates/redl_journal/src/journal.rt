@@ -1,0 +1,13 @@
+//! A journal.
+
+use crate::entry::Entry;
+
+/// The decisions on one package, in the order in which they were written down. They may repeat.
+#[derive(Drop)]
+pub struct Journal {
+    /// The SHA-256 of the package's bytes.
+    pub digest: [u8; 32],
+    /// How many revisions the package has.
+    pub count: u32,
+    pub entries: Vec<Entry>,
+}

@@ -1,0 +1,25 @@
+//! Journals: the decisions of reviewers on the revisions of one package, and their text.
+//! `read` takes bytes and gives the one journal whose text they are, or says that there is none.
+//! `write` puts exactly that text, so what was written is read as it was.
+//! What the decisions come to is left to `redl_join`.
+#![tactic(auto)]
+
+mod entry;
+mod error;
+mod fields;
+mod journal;
+mod laws;
+mod line;
+mod order;
+mod reading;
+mod writing;
+
+pub use entry::{Entry, Word};
+pub use error::JournalError;
+pub use journal::Journal;
+pub use laws::one_journal;
+pub use reading::read;
+pub use writing::{write, write_entry, write_head};
+
+#[cfg(test)]
+mod tests;
