@@ -16,3 +16,9 @@ invariant_of-self-in-Err c =
     rw c.in-Err.ensures.err
     (kept-back c.self.inside.entries.keys c.self.inside.by_revision c.list.new.by_revision c.unlist.new.by_revision c.args.entry c.self.invariant (sym c.contains.ensures ∙ c.if-contains.false)
     (rw c.in_ok-copy.ensures at c.in_ok-list.ensures.ok) (rw c.in-Err.ensures.value_returned at c.unlist.ensures))
+
+pub invariant_of-self-in-Err-2 : goal.invariant_of-self-in-Err-2
+invariant_of-self-in-Err-2 c =
+    rw c.in-Err.ensures.err
+    (kept-back c.self.inside.entries.keys c.self.inside.by_revision c.list.new.by_revision c.unlist.new.by_revision c.args.entry c.self.invariant (sym c.contains.ensures ∙ c.if-contains.false)
+    (rw c.in_ok-copy.ensures at c.in_ok-list.ensures.ok) (rw c.in-Err.ensures.value_returned at c.unlist.ensures))
