@@ -1,7 +1,8 @@
-pub mod PassLaws
+mod ReaderLaws
 pub mod FormLaws
+pub mod GatherLaws
 pub mod JournalLaws
 pub mod NameLaws
+pub mod PassLaws
 pub mod ReadLaws
-pub mod GatherLaws
 pub mod TopLaws

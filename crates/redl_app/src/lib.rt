@@ -11,6 +11,7 @@ mod fates;
 mod fetch;
 mod form;
 mod journals;
+mod laws;
 mod lines;
 mod output;
 mod package;
@@ -29,6 +30,7 @@ pub const PACKAGE_LIMIT: usize = 67_108_864;
 /// The most bytes that all journals of a call may have together.
 pub const JOURNALS_LIMIT: usize = 67_108_864;
 
+pub use laws::{a_reader, one_outcome};
 pub use status::Status;
 pub use top::{refuse_words, run, run_surely};
 pub use words::{WordsError, add_word};

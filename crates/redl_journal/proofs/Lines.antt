@@ -1,5 +1,5 @@
 -- The lines of a journal: what is read stands there, and what stands there is read.
-use Rattle.std.proofs.Common.{◌≡◌, ◌≢◌, ℕ, zero, suc, ◌^◌, ◌<◌, true, false, eqb, List, [], ◌∷◌, ◌++◌, length, Option, Some, None, refl, sym, ap, subst, ◌∙◌, arith, append_assoc, append-nil, length-append, get_or, take, drop, take-append-drop, drop-cons}
+use Rattle.std.proofs.Common.{◌≡◌, ◌≢◌, ℕ, zero, suc, ◌^◌, ◌<◌, true, false, eqb, List, [], ◌∷◌, ◌++◌, length, Option, Some, None, refl, sym, ap, subst, ◌∙◌, ◌⊎◌, inl, inr, arith, append_assoc, append-nil, length-append, get_or, take, drop, take-append-drop, drop-cons}
 use Rattle.std.proofs.lemmas.List.Concat.{flat_map-append}
 use Rattle.std.specs.Prelude.{◌&&◌, codes, decimal, nat_le, Result, Ok, Err, IsErrAnd, IsErrOf, All}
 use Rattle.std.specs.List.{list_all, flat_map, AllByRecursion}
@@ -249,6 +249,13 @@ one_reading bs i j h g = same_Some i j (sym (journal_again bs i h) ∙ journal_a
 
 no_journal : (bs : List ℕ) → journal_in bs ≡ None → HasNoJournal bs
 no_journal bs none j h = let e = journal_again bs j h in cc
+
+-- Either the bytes are the text of a well-formed journal, or of none.
+pub journal_or_none : (bs : List ℕ) → ((j : Journal) × IsJournal bs j) ⊎ HasNoJournal bs
+journal_or_none bs = of (journal_in bs) refl where
+  of : (o : Option Journal) → journal_in bs ≡ o → ((j : Journal) × IsJournal bs j) ⊎ HasNoJournal bs
+  of (Some j) e = inl (j, journal_takes bs j e)
+  of None e = inr (no_journal bs e)
 
 -- the same from the facts of the code
 pub no_head : (bs : List ℕ) → head_at bs ≡ None → HasNoJournal bs
