@@ -1,0 +1,13 @@
+pub mod Runs
+pub mod Words
+pub mod Turns
+pub mod Names
+pub mod Attributes
+pub mod Items
+pub mod Tags
+pub mod Declarations
+pub mod Stretches
+pub mod Laws
+pub mod Alike
+pub mod Characters
+pub mod Numbers

@@ -1,0 +1,1 @@
+//! Tables of readable and unreadable texts.
