@@ -7,7 +7,8 @@ pub mod Items
 pub mod Tags
 pub mod Declarations
 pub mod Stretches
-pub mod Laws
+pub mod Pieces
+pub mod Listing
 pub mod Alike
 pub mod Characters
 pub mod Numbers

@@ -9,6 +9,7 @@ pub mod Stretches
 pub mod Pieces
 pub mod ScanNames
 pub mod ScanTags
+pub mod Attributes
 pub mod ScanStretches
 pub mod ScanPieces
 pub mod Views

@@ -1,7 +1,8 @@
 //! The attributes of a tag.
 
-ghost use Rattle.std.specs.Prelude.{◌≡◌, codes};
+ghost use Rattle.std.specs.Prelude.{◌≡◌, ◌<◌, [], ◌∷◌, length, codes, IsNone, IfSome};
 ghost use Rattle.std.specs.List.{list_all};
+ghost use Rattle.redl_markup.specs.Attributes.{attributes_of};
 ghost use Rattle.redl_markup.specs.Lists.{is_other};
 ghost use Rattle.redl_markup.specs.Reading.{Gives};
 ghost use Rattle.redl_markup.specs.ScanTags.{quote_at, quoted_at, equated_at, is_value, attribute_at, attribute_in};
@@ -77,9 +78,9 @@ fn attribute_behind_gap(bytes: &[u8]) -> Option<(Attribute<'_>, &[u8])>
     }
 }
 
-/// The first attribute of a tail, with white space before it, and what is left of the tail. `None` where no more attribute stands there.
+/// The first attribute of a tail with the white space before it, and what is left of the tail.
 #[tactic(auto, unfolding(crate::specs::ScanTags::attribute_in))]
-pub fn next_attribute(tail: &[u8]) -> Option<(Attribute<'_>, &[u8])>
+pub(crate) fn first_attribute(tail: &[u8]) -> Option<(Attribute<'_>, &[u8])>
     ensures { Gives (λ x. (attribute_view x.0, x.1.now)) result (attribute_in tail.now) }
 {
     let (gap, more) = spaces(tail);
@@ -87,4 +88,13 @@ pub fn next_attribute(tail: &[u8]) -> Option<(Attribute<'_>, &[u8])>
         return None;
     }
     attribute_behind_gap(more)
+}
+
+/// The first attribute of a tail, and what is left of the tail. `None` where no further attribute stands there.
+pub fn next_attribute(tail: &[u8]) -> Option<(Attribute<'_>, &[u8])>
+    ensures found { IfSome result (λ x. attributes_of tail.now ≡ attribute_view x.0 ∷ attributes_of x.1.now) }
+    ensures none { IsNone result → attributes_of tail.now ≡ [] }
+    ensures shorter { IfSome result (λ x. length x.1.now < length tail.now) }
+{
+    first_attribute(tail)
 }

@@ -5,7 +5,7 @@ ghost use Rattle.redl_markup.specs.Reading.{Gives, Finds};
 ghost use Rattle.redl_markup.specs.ScanTags.{ends_tag, attributes_at, tail_at, tag_at, end_tag_at};
 ghost use Rattle.redl_markup.specs.Views.{name_view, piece_view};
 
-use crate::attribute::next_attribute;
+use crate::attribute::first_attribute;
 use crate::distinct::no_two_alike;
 use crate::error::MarkupError;
 use crate::name::Name;
@@ -32,7 +32,7 @@ fn attributes(alloc: Global, bytes: &[u8]) -> Result<(Vec<Name<'_>>, &[u8]), Mar
         if is_at_end(more) {
             return Ok((names, more));
         }
-        let Some((attribute, behind)) = next_attribute(rest) else {
+        let Some((attribute, behind)) = first_attribute(rest) else {
             return Err(MarkupError::Unreadable);
         };
         names.push(attribute.name)?;
