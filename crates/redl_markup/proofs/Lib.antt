@@ -9,6 +9,9 @@ pub mod Declarations
 pub mod Stretches
 pub mod Pieces
 pub mod Listing
+pub mod Decoding
+pub mod Utf8
+pub mod Rows
 pub mod Alike
 pub mod Characters
 pub mod Numbers

@@ -2,6 +2,7 @@
 
 ghost use Rattle.std.specs.Prelude.{◌≡◌, ◌<◌, [], ◌∷◌, length, codes, IsNone, IfSome};
 ghost use Rattle.std.specs.List.{list_all};
+ghost use Rattle.std.specs.Str.{IsUtf8};
 ghost use Rattle.redl_markup.specs.Attributes.{attributes_of};
 ghost use Rattle.redl_markup.specs.Lists.{is_other};
 ghost use Rattle.redl_markup.specs.Reading.{Gives};
@@ -95,6 +96,7 @@ pub fn next_attribute(tail: &[u8]) -> Option<(Attribute<'_>, &[u8])>
     ensures found { IfSome result (λ x. attributes_of tail.now ≡ attribute_view x.0 ∷ attributes_of x.1.now) }
     ensures none { IsNone result → attributes_of tail.now ≡ [] }
     ensures shorter { IfSome result (λ x. length x.1.now < length tail.now) }
+    ensures utf8 { IsUtf8 tail.now → IfSome result (λ x. IsUtf8 x.0.value.now × IsUtf8 x.1.now) }
 {
     first_attribute(tail)
 }

@@ -1,6 +1,7 @@
 //! What a value says.
 
 ghost use Rattle.std.specs.Prelude.{◌≡◌, IfOk};
+ghost use Rattle.std.specs.Str.{IsUtf8};
 ghost use Rattle.redl_markup.specs.Decoding.{decoded_value};
 
 use crate::reference::reference;
@@ -9,7 +10,8 @@ use std::alloc::{AllocError, Global};
 
 /// An attribute's value with each reference replaced by its character, and white space by spaces.
 pub fn decode_value(alloc: Global, value: &[u8]) -> Result<Vec<u8>, AllocError>
-    ensures { IfOk result (λ text. text.items ≡ decoded_value value.now) }
+    ensures decoded { IfOk result (λ text. text.items ≡ decoded_value value.now) }
+    ensures utf8 { IsUtf8 value.now → IfOk result (λ text. IsUtf8 text.items) }
 {
     let mut text = Vec::new(alloc);
     let mut in_reference = false;
