@@ -1,20 +1,20 @@
 -- An attribute that is read stands there, and one that stands there is read; and so with a tail of them.
-use Rattle.std.proofs.Common.{◌≡◌, ◌≢◌, ℕ, zero, suc, ◌<◌, ◌≤◌, ◌+◌, ◌-◌, Bool, true, false, cond, eqb, leb, List, [], ◌∷◌, ◌++◌, length, take, map, Option, Some, None, refl, sym, ap, subst, ◌∙◌, append_assoc, length-append, arith, inl, inr, ◌⊎◌}
-use Rattle.std.specs.Prelude.{not, ◌&&◌, ◌||◌, codes}
+use Rattle.std.proofs.Common.{◌≡◌, ◌≢◌, ℕ, zero, suc, ◌<◌, ◌≤◌, true, false, cond, eqb, List, [], ◌∷◌, ◌++◌, length, map, Option, Some, None, refl, sym, ap, subst, ◌∙◌, append_assoc, length-append, arith, inl, inr}
+use Rattle.std.specs.Prelude.{◌||◌, codes}
 use Rattle.std.specs.List.{list_all, AllByRecursion}
 use Rattle.std.proofs.lemmas.Bool.Decides.{nat_tests}
 use Rattle.std.proofs.lemmas.Bool.{eqb-true}
-use Rattle.std.proofs.lemmas.List.{take_at, append-nil, nil_from_length}
-use Rattle.std.proofs.lemmas.Option.{some_pair_parts, same_Some, cond_some}
+use Rattle.std.proofs.lemmas.List.{append-nil}
+use Rattle.std.proofs.lemmas.Option.{same_Some, cond_some}
 use Rattle.redl_markup.specs.Characters.{is_space}
-use Rattle.redl_markup.specs.Lists.{behind, front, after, before, is_filled, is_other}
-use Rattle.redl_markup.specs.Reading.{◌>>=◌, Turn, done, next, turn, turns}
+use Rattle.redl_markup.specs.Lists.{behind, front, after, is_filled, is_other}
+use Rattle.redl_markup.specs.Reading.{◌>>=◌, done, next, turn, turns}
 use Rattle.redl_markup.specs.Names.{Name, name_text, IsName}
 use Rattle.redl_markup.specs.References.{has_references}
 use Rattle.redl_markup.specs.Tails.{IsSpace, Attribute, attribute_then, attributes_then, IsQuote, IsAttribute, named_value}
 use Rattle.redl_markup.specs.ScanNames.{name_at}
-use Rattle.redl_markup.specs.ScanTags.{quote_at, quoted_at, equated_at, is_value, attribute_at, attribute_in, ends_tag, Tail, after_attribute, tail_step, attributes_at}
-use Rattle.redl_markup.proofs.Runs.{stops, and-true, and-both, either, not-true, front-after, front_passes, front_again, after_again}
+use Rattle.redl_markup.specs.ScanTags.{quote_at, quoted_at, equated_at, is_value, attribute_at, attribute_in, ends_tag, Tail, tail_step, attributes_at}
+use Rattle.redl_markup.proofs.Runs.{stops, and-true, either, front-after, front_passes, front_again, after_again}
 use Rattle.redl_markup.proofs.Turns.{Going, begins, goes_on, ends}
 use Rattle.redl_markup.proofs.Words.{behind_takes, behind_again, eqb_same}
 use Rattle.redl_markup.proofs.Names.{bind_some, is_delimiter, ends_name, name_head, name_takes, name_again}

@@ -1,6 +1,6 @@
 -- The head of a text that is read stands there, and one that stands there is read.
-use Rattle.std.proofs.Common.{◌≡◌, ◌≢◌, ℕ, zero, suc, ◌<◌, ◌≤◌, ◌+◌, Bool, true, false, cond, eqb, List, [], ◌∷◌, ◌++◌, length, Option, Some, None, refl, sym, ap, subst, ◌∙◌, append_assoc, arith, inl, inr, ◌⊎◌}
-use Rattle.std.specs.Prelude.{not, ◌&&◌, ◌||◌, codes}
+use Rattle.std.proofs.Common.{◌≡◌, ℕ, Bool, true, false, cond, eqb, List, [], ◌∷◌, ◌++◌, Option, Some, None, refl, sym, ap, ◌∙◌, append_assoc, arith, inl, inr}
+use Rattle.std.specs.Prelude.{not, ◌||◌, codes}
 use Rattle.std.specs.List.{list_all, AllByRecursion}
 use Rattle.std.proofs.lemmas.Bool.{eqb-true}
 use Rattle.std.proofs.lemmas.Bool.Decides.{nat_tests}
@@ -13,14 +13,14 @@ use Rattle.redl_markup.specs.Lists.{behind, begins, front, after, is_filled}
 use Rattle.redl_markup.specs.Reading.{◌>>=◌, or_same}
 use Rattle.redl_markup.specs.Names.{may_start, may_follow, IsWord, Name, name_text}
 use Rattle.redl_markup.specs.Tails.{IsSpace, Attribute, attribute_then}
-use Rattle.redl_markup.specs.Stretches.{IsSetting, is_version, is_encoding, is_standalone, Declaration, IsOptional, IsDeclaration, optional_then, declaration_then, byte_order_mark, Head, mark_then, declared_then, head_then, IsDeclared, no_head, IsHead, is_xml, IsInstruction, Item, comment, instruction, cdata, item_then, items_then, IsItem, is_run, IsRun, ends_stretch, begins_item}
+use Rattle.redl_markup.specs.Stretches.{IsSetting, is_version, is_encoding, is_standalone, Declaration, IsOptional, IsDeclaration, optional_then, declaration_then, byte_order_mark, Head, mark_then, declared_then, head_then, IsDeclared, no_head, IsHead, is_xml, IsInstruction, Item, comment, instruction, cdata, item_then, items_then, IsItem, IsRun, ends_stretch, begins_item}
 use Rattle.redl_markup.specs.ScanNames.{word_at}
 use Rattle.redl_markup.specs.ScanTags.{equated_at}
 use Rattle.redl_markup.specs.ScanStretches.{setting_at, optional_after, version_at, declaration_at, after_mark, after_declaration, after_head}
 use Rattle.redl_markup.proofs.Runs.{stops, and-true, either, not-true, front-after, front_passes, front_again, after_again}
 use Rattle.redl_markup.proofs.Words.{behind_takes, behind_again, behind_longer}
-use Rattle.redl_markup.proofs.Names.{bind_some, ends_name, is_delimiter, word_takes, word_again}
-use Rattle.redl_markup.proofs.Attributes.{is_filled-some, filled-is, space_ends_name, equated_then, IsEquated, Equates, equated_takes, equated_again}
+use Rattle.redl_markup.proofs.Names.{bind_some, ends_name, word_again}
+use Rattle.redl_markup.proofs.Attributes.{is_filled-some, filled-is, space_ends_name, equated_then, equated_takes, equated_again}
 use Rattle.redl_markup.proofs.Items.{text_ends_name}
 use Rattle.redl_markup.proofs.Tags.{attribute_then-append}
 

@@ -1,19 +1,19 @@
 -- What decoding gives: a reference's character and then what is behind the reference; of UTF-8 it makes UTF-8.
-use Rattle.std.proofs.Common.{◌≡◌, ℕ, ◌<◌, ◌≤◌, ◌+◌, ◌/◌, ◌%◌, Bool, true, false, cond, eqb, ltb, leb, List, [], ◌∷◌, ◌++◌, Option, Some, None, refl, sym, ap, subst, ◌∙◌, append_assoc, arith, inl, inr, ◌⊎◌}
-use Rattle.std.specs.Prelude.{not, ◌&&◌, ◌||◌, codes, encode_utf8}
-use Rattle.std.specs.Char.{IsScalar, is_digit, digit_value}
+use Rattle.std.proofs.Common.{◌≡◌, ℕ, ◌<◌, ◌≤◌, Bool, true, false, cond, eqb, ltb, List, [], ◌∷◌, ◌++◌, Option, Some, None, refl, sym, ap, subst, ◌∙◌, append_assoc, arith, inl, inr, ◌⊎◌}
+use Rattle.std.specs.Prelude.{not, ◌&&◌, codes, encode_utf8}
+use Rattle.std.specs.Char.{IsScalar}
 use Rattle.std.specs.List.{list_all}
 use Rattle.std.specs.Str.{IsUtf8, encode_utf8_all, all_scalars}
 use Rattle.std.proofs.lemmas.Bool.{eqb-true, cases_lt}
 use Rattle.std.proofs.lemmas.Bool.Decides.{nat_tests}
-use Rattle.std.proofs.lemmas.List.{append-nil, nil_from_length}
-use Rattle.std.proofs.lemmas.Option.{same_Some, cond_some}
+use Rattle.std.proofs.lemmas.List.{append-nil}
+use Rattle.std.proofs.lemmas.Option.{same_Some}
 use Rattle.std.proofs.lemmas.Str.{IsUtf8-nil, IsUtf8-append, IsUtf8-encode, encode_ascii}
 use lib.Utf8.{scalar, encode}
 use Rattle.redl_markup.specs.Characters.{is_character, is_space}
 use Rattle.redl_markup.specs.Lists.{behind, begins, front, after, is_filled, is_other}
 use Rattle.redl_markup.specs.Reading.{or_else}
-use Rattle.redl_markup.specs.References.{valued, named_at, is_digit_in, number_of, numbered, number_at, numbered_by, reference_at}
+use Rattle.redl_markup.specs.References.{valued, named_at, is_digit_in, number_of, number_at, numbered_by, reference_at}
 use Rattle.redl_markup.specs.Decoding.{character_text, decoded_from, decoded_value}
 use Rattle.redl_markup.proofs.Characters.{character_scalar}
 use Rattle.redl_markup.proofs.Runs.{and-true, and-both, either, front-after, front_passes}

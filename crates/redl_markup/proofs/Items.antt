@@ -1,19 +1,15 @@
 -- A comment, an instruction or CDATA that is read stands there, and one that stands there is read.
-use Rattle.std.proofs.Common.{◌≡◌, ◌≢◌, ℕ, zero, suc, ◌<◌, ◌≤◌, ◌+◌, Bool, true, false, cond, eqb, List, [], ◌∷◌, ◌++◌, length, Option, Some, None, refl, sym, ap, subst, ◌∙◌, append_assoc, length-append, arith, inl, inr, ◌⊎◌}
-use Rattle.std.specs.Prelude.{not, ◌&&◌, ◌||◌, codes}
-use Rattle.std.specs.List.{list_all}
-use Rattle.std.proofs.lemmas.Option.{same_Some, cond_some}
+use Rattle.std.proofs.Common.{◌≡◌, ◌≢◌, ℕ, Bool, true, false, cond, eqb, List, [], ◌∷◌, ◌++◌, Option, Some, None, refl, sym, ap, subst, ◌∙◌, inl, inr}
+use Rattle.std.specs.Prelude.{not, ◌||◌, codes}
 use Rattle.redl_markup.specs.declared.place.Place.{Place}
 use Rattle.redl_markup.specs.declared.place.Place.TheVariants.{BeforeRoot, InElement, AfterRoot}
 use Rattle.redl_markup.specs.Characters.{is_space}
 use Rattle.redl_markup.specs.Lists.{behind, begins, lacks, past}
-use Rattle.redl_markup.specs.Reading.{◌>>=◌}
-use Rattle.redl_markup.specs.Names.{IsWord}
 use Rattle.redl_markup.specs.Stretches.{is_comment, begins_other, is_xml, is_apart, IsInstruction, Item, comment, instruction, cdata, item_then, IsItem, begins_item}
 use Rattle.redl_markup.specs.ScanNames.{word_at}
 use Rattle.redl_markup.specs.ScanStretches.{comment_at, begins_with_space, instruction_end, instruction_at, cdata_at, opened_at, item_at}
 use Rattle.redl_markup.proofs.Runs.{and-true, and-both, either, not-true}
-use Rattle.redl_markup.proofs.Words.{behind_takes, behind_again, begins_some, begins_again, past_here, past_later, past_takes, past_again}
+use Rattle.redl_markup.proofs.Words.{behind_takes, begins_some, past_here, past_later, past_takes, past_again}
 use Rattle.redl_markup.proofs.Names.{bind_some, ends_name, is_delimiter, word_takes, word_again}
 use Rattle.redl_markup.proofs.Attributes.{space_ends_name}
 

@@ -1,5 +1,5 @@
 -- The list of a tail's attributes.
-use Rattle.std.proofs.Common.{◌≡◌, ℕ, inl, inr, zero, suc, ◌<◌, ◌≤◌, ◌+◌, List, [], ◌∷◌, ◌++◌, length, map, Option, Some, None, refl, sym, ap, ◌∙◌, arith, length-append}
+use Rattle.std.proofs.Common.{◌≡◌, ℕ, inl, inr, zero, suc, ◌<◌, List, [], ◌∷◌, length, map, Option, Some, None, refl, sym, ap, ◌∙◌, arith}
 use Rattle.std.specs.Prelude.{IfSome, IsNone}
 use Rattle.std.specs.List.{AllByRecursion}
 use Rattle.redl_markup.specs.Reading.{Gives}
@@ -12,7 +12,7 @@ use Rattle.redl_markup.specs.ScanNames.{name_at, char_at, word_at}
 use Rattle.redl_markup.specs.ScanTags.{attribute_at, attribute_in}
 use Rattle.redl_markup.specs.Attributes.{attributes_by, attributes_from, attributes_of}
 use Rattle.redl_markup.proofs.Runs.{after_again, either}
-use Rattle.redl_markup.proofs.Attributes.{first_takes, first_again, first_shorter}
+use Rattle.redl_markup.proofs.Attributes.{first_again, first_shorter}
 
 -- any count above what is left gives the same list
 counts_alike : (n m : ℕ) (tail : List ℕ) → length tail < n → length tail < m → attributes_from n tail ≡ attributes_from m tail

@@ -1,24 +1,23 @@
 -- A name that is read stands there, and a name that stands there is read.
-use Rattle.std.proofs.Common.{◌≡◌, ◌≢◌, ℕ, zero, suc, ◌<◌, ◌≤◌, ◌+◌, ◌/◌, ◌%◌, Bool, true, false, cond, ltb, leb, eqb, List, [], ◌∷◌, ◌++◌, length, take, drop, Option, Some, None, refl, sym, ap, subst, ◌∙◌, append_assoc, length-append, arith, inl, inr, ◌⊎◌, ⊎_elim}
-use Rattle.std.specs.Prelude.{not, ◌&&◌, ◌||◌, codes, encode_utf8}
+use Rattle.std.proofs.Common.{◌≡◌, ℕ, zero, suc, ◌<◌, ◌≤◌, ◌+◌, ◌/◌, ◌%◌, Bool, true, false, cond, ltb, eqb, List, [], ◌∷◌, ◌++◌, length, drop, Option, Some, None, refl, sym, ap, subst, ◌∙◌, append_assoc, length-append, arith, inl, inr, ◌⊎◌}
+use Rattle.std.specs.Prelude.{◌&&◌, ◌||◌, codes, encode_utf8}
 use Rattle.std.specs.List.{list_all}
 use Rattle.std.specs.Str.{encode_utf8_all, all_scalars}
 use Rattle.std.specs.Char.{IsScalar}
 use Rattle.std.proofs.lemmas.Bool.Decides.{nat_tests}
-use Rattle.std.proofs.lemmas.Bool.{eqb-true}
-use Rattle.std.proofs.lemmas.Option.{some_pair_parts, same_Some, cond_some}
+use Rattle.std.proofs.lemmas.Option.{same_Some, cond_some}
 use Rattle.std.proofs.lemmas.List.{drop_at}
 use Rattle.std.proofs.lemmas.Str.{encode_ascii}
 use lib.Utf8.{scalar, encode, low_scalar}
-use Rattle.bstr.specs.Utf8.{Decoded, decoded, good}
-use Rattle.bstr.proofs.lemmas.SoundLemmas.{SpellsChar, SpellsChar-decoded}
+use Rattle.bstr.specs.Utf8.{decoded}
+use Rattle.bstr.proofs.lemmas.SoundLemmas.{SpellsChar-decoded}
 use Rattle.bstr.proofs.lemmas.EncodeLemmas.{decoded-encode}
 use Rattle.redl_markup.specs.Characters.{is_space, is_name_start, is_name_character}
 use Rattle.redl_markup.specs.Lists.{behind, before}
-use Rattle.redl_markup.specs.Reading.{◌>>=◌, Turn, done, next, turn, turns}
+use Rattle.redl_markup.specs.Reading.{◌>>=◌, done, next, turn, turns}
 use Rattle.redl_markup.specs.Names.{may_start, may_follow, IsWord, Name, name_text, IsName}
-use Rattle.redl_markup.specs.ScanNames.{taken, char_at, after_char, name_step, name_end, word_at, local_at, name_at}
-use Rattle.redl_markup.proofs.Runs.{stops, and-true, and-both, either, not-true}
+use Rattle.redl_markup.specs.ScanNames.{taken, char_at, name_step, name_end, word_at, local_at, name_at}
+use Rattle.redl_markup.proofs.Runs.{and-true, and-both, either}
 use Rattle.redl_markup.proofs.Words.{behind_takes, before-append}
 use Rattle.redl_markup.proofs.Turns.{Going, begins, goes_on, ends}
 

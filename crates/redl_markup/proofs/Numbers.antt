@@ -1,7 +1,7 @@
 -- The number that digits write, counted up to a bound.
-use Rattle.std.proofs.Common.{◌≡◌, ℕ, ◌+◌, ◌*◌, ◌<◌, ◌≤◌, List, [], ◌∷◌, min, refl, sym, ap, ◌∙◌, arith, ◌⊎◌, inl, inr}
+use Rattle.std.proofs.Common.{◌≡◌, ℕ, ◌+◌, ◌*◌, ◌<◌, ◌≤◌, List, [], ◌∷◌, min, refl, sym, ◌∙◌, arith, inl, inr}
 use Rattle.std.specs.Int.Digits.{number_from_digits_after}
-use Rattle.std.proofs.Common.{Bool, true, false, Option, None, subst}
+use Rattle.std.proofs.Common.{Bool, true, false, None, subst}
 use Rattle.std.specs.Prelude.{◌&&◌}
 use Rattle.std.specs.Char.{IsScalar, digit_value}
 use Rattle.std.specs.Prelude.{map}

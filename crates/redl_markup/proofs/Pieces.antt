@@ -1,19 +1,17 @@
 -- A piece that is read stands there, and a piece that stands there is read.
-use Rattle.std.proofs.Common.{◌≡◌, ◌≢◌, ℕ, zero, suc, ◌<◌, ◌≤◌, ◌+◌, Bool, true, false, cond, eqb, List, [], ◌∷◌, ◌++◌, length, Option, Some, None, Result, Ok, Err, refl, sym, ap, subst, ◌∙◌, append_assoc, length-append, arith, inl, inr, ◌⊎◌}
+use Rattle.std.proofs.Common.{◌≡◌, ◌≢◌, ℕ, ◌<◌, ◌≤◌, Bool, true, false, eqb, List, [], ◌∷◌, ◌++◌, length, Option, Some, None, Result, Ok, Err, refl, sym, ap, subst, ◌∙◌, length-append, arith, inl, inr, ◌⊎◌}
 use Rattle.std.specs.Prelude.{not, ◌&&◌, ◌||◌, codes, IfOk, IsErrOf}
-use Rattle.std.specs.List.{list_all, AllByRecursion}
+use Rattle.std.specs.List.{list_all}
 use Rattle.std.proofs.lemmas.Bool.Decides.{nat_tests}
 use Rattle.std.proofs.lemmas.Bool.{eqb-true}
 use Rattle.std.proofs.lemmas.Option.{some_pair_parts}
 use Rattle.redl_markup.specs.declared.error.MarkupError.{MarkupError}
 use Rattle.redl_markup.specs.declared.error.MarkupError.TheVariants.{Unreadable, NoMemory}
 use Rattle.redl_markup.specs.declared.place.Place.{Place}
-use Rattle.redl_markup.specs.declared.place.Place.TheVariants.{BeforeRoot, InElement, AfterRoot}
 use Rattle.redl_markup.specs.Lists.{behind, begins, is_other}
-use Rattle.redl_markup.specs.Reading.{Fails, Finds}
+use Rattle.redl_markup.specs.Reading.{Finds}
 use Rattle.redl_markup.specs.Names.{Name, name_text, IsName}
-use Rattle.redl_markup.specs.Tails.{IsSpace, IsTail}
-use Rattle.redl_markup.specs.Stretches.{Item, item_then, items_then, Head, Declaration, head_then, IsHead, IsRun, IsStretch, begins_item, ends_stretch}
+use Rattle.redl_markup.specs.Stretches.{Item, items_then, Head, Declaration, head_then, begins_item, ends_stretch}
 use Rattle.redl_markup.specs.Pieces.{Piece, start_tag, empty_tag, end_tag, stretch, piece_then, IsPiece, Follows, Stands, HasNoPiece}
 use Rattle.redl_markup.specs.ScanTags.{tag_at, end_tag_at}
 use Rattle.redl_markup.specs.ScanStretches.{stretch_at}

@@ -1,10 +1,10 @@
 -- Rows of the definitions, each by computing.
-use Rattle.std.proofs.Common.{◌≡◌, ℕ, true, false, List, [], ◌∷◌, ◌++◌, Some, None, refl}
+use Rattle.std.proofs.Common.{◌≡◌, true, false, [], ◌∷◌, Some, None, refl}
 use Rattle.std.specs.Prelude.{codes}
 use lib.Utf8.{encode}
 use Rattle.redl_markup.specs.Characters.{is_character, is_space, is_name_start, is_name_character}
 use Rattle.redl_markup.specs.Names.{may_start, may_follow}
-use Rattle.redl_markup.specs.References.{named_at, number_at, reference_at, has_references}
+use Rattle.redl_markup.specs.References.{named_at, number_at, reference_at}
 use Rattle.redl_markup.specs.Decoding.{decoded_value}
 use Rattle.redl_markup.specs.Stretches.{is_comment, is_xml, is_version, is_encoding, is_standalone, ends_stretch}
 

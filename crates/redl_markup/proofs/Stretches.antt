@@ -1,14 +1,13 @@
 -- A stretch that is read stands there, and one that stands there is read.
-use Rattle.std.proofs.Common.{◌≡◌, ◌≢◌, ℕ, zero, suc, ◌<◌, ◌≤◌, ◌+◌, ◌-◌, Bool, true, false, cond, eqb, List, [], ◌∷◌, ◌++◌, length, take, Option, Some, None, refl, sym, ap, subst, ◌∙◌, append_assoc, length-append, arith, inl, inr, ◌⊎◌}
-use Rattle.std.specs.Prelude.{not, ◌&&◌, ◌||◌, codes}
-use Rattle.std.specs.List.{list_all, AllByRecursion}
-use Rattle.std.proofs.lemmas.Bool.{eqb-true}
+use Rattle.std.proofs.Common.{◌≡◌, ◌≢◌, ℕ, zero, suc, ◌<◌, ◌≤◌, Bool, true, false, cond, eqb, List, [], ◌∷◌, ◌++◌, length, Option, Some, None, refl, sym, ap, ◌∙◌, append_assoc, length-append, arith, inl, inr}
+use Rattle.std.specs.Prelude.{not}
+use Rattle.std.specs.List.{AllByRecursion}
 use Rattle.std.proofs.lemmas.Option.{same_Some, cond_some}
 use Rattle.redl_markup.specs.declared.place.Place.{Place}
 use Rattle.redl_markup.specs.declared.place.Place.TheVariants.{BeforeRoot, InElement, AfterRoot}
-use Rattle.redl_markup.specs.Lists.{behind, begins, front, after, before, is_filled, is_other}
-use Rattle.redl_markup.specs.Reading.{◌>>=◌, Turn, done, next, turn, turns, go_on}
-use Rattle.redl_markup.specs.Stretches.{is_run, IsRun, Item, comment, instruction, cdata, item_then, IsItem, items_then, Head, head_then, IsHead, IsStretch, begins_item, ends_stretch}
+use Rattle.redl_markup.specs.Lists.{front, after, before, is_filled, is_other}
+use Rattle.redl_markup.specs.Reading.{done, next, turn, turns}
+use Rattle.redl_markup.specs.Stretches.{is_run, IsRun, Item, comment, instruction, cdata, item_then, IsItem, items_then, Head, head_then, IsStretch, begins_item, ends_stretch}
 use Rattle.redl_markup.specs.Pieces.{Piece, stretch}
 use Rattle.redl_markup.specs.ScanStretches.{item_at, after_head, stretch_step, items_end, stretch_at}
 use Rattle.redl_markup.proofs.Runs.{stops, and-true, and-both, either, not-true, front-after, front_passes, after_stops, front_again, after_again}

@@ -1,5 +1,5 @@
 -- A loop that reads in turns.
-use Rattle.std.proofs.Common.{◌≡◌, ℕ, zero, suc, ◌<◌, ◌≤◌, Option, Some, None, refl, sym, ap, ◌∙◌, arith}
+use Rattle.std.proofs.Common.{◌≡◌, ℕ, zero, suc, ◌<◌, Option, Some, refl, sym, arith}
 use Rattle.redl_markup.specs.Reading.{Turn, done, next, turn, turns}
 
 -- from this state the loop still gives the whole answer

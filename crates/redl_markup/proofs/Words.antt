@@ -1,9 +1,9 @@
 -- A word at the front of a list.
-use Rattle.std.proofs.Common.{◌≡◌, ℕ, zero, suc, Bool, true, false, cond, eqb, List, [], ◌∷◌, ◌++◌, length, length-append, ◌-◌, take, drop, Option, Some, None, refl, sym, ap, ◌∙◌, MatchOption, arith, inl, inr}
+use Rattle.std.proofs.Common.{◌≡◌, ℕ, Bool, true, false, cond, eqb, List, [], ◌∷◌, ◌++◌, length, length-append, ◌-◌, take, drop, Option, Some, None, refl, sym, ap, ◌∙◌, MatchOption, arith, inl, inr}
 use Rattle.std.proofs.lemmas.Bool.{eqb-true}
 use lib.Pointwise.{pointwise}
 use Rattle.redl_markup.specs.Lists.{behind, begins, before, lacks, past}
-use Rattle.std.specs.Prelude.{not, ◌&&◌}
+use Rattle.std.specs.Prelude.{not}
 use Rattle.std.proofs.Common.{◌≢◌}
 use Rattle.std.proofs.lemmas.List.{take_at}
 use Rattle.redl_markup.proofs.Runs.{and-true, and-both, either, not-true}

@@ -1,5 +1,5 @@
 -- What an attribute's value says (XML 1.0, 2.11 and 3.3.3).
-use Rattle.std.specs.Prelude.{ℕ, Bool, true, false, ◌==◌, ◌&&◌, List, [], ◌∷◌, ◌++◌, Option, Some, None, if◌then◌else◌, codes, not, encode_utf8}
+use Rattle.std.specs.Prelude.{ℕ, Bool, true, false, ◌==◌, ◌&&◌, List, [], ◌∷◌, ◌++◌, Option, Some, None, if◌then◌else◌, not, encode_utf8}
 use Rattle.redl_markup.specs.Characters.{is_space}
 use Rattle.redl_markup.specs.Lists.{begins}
 use Rattle.redl_markup.specs.References.{reference_at}

@@ -5,6 +5,7 @@ use Rattle.redl_markup.specs.Names.{Name, name_text, IsName}
 use Rattle.redl_markup.specs.Tails.{IsSpace, IsTail}
 use Rattle.redl_markup.specs.Stretches.{IsStretch, ends_stretch}
 
+-- STag, EmptyElemTag and ETag, productions 40, 44 and 42, and a stretch. A tag has its name, and its tail or the white space behind the name.
 pub data Piece : Type 0 where
   start_tag : Name → List ℕ → Piece
   empty_tag : Name → List ℕ → Piece
@@ -18,6 +19,7 @@ piece_then (empty_tag name tail) rest = 60 ∷ (name_text name ++ (tail ++ (47 �
 piece_then (end_tag name space) rest = 60 ∷ 47 ∷ (name_text name ++ (space ++ (62 ∷ rest)))
 piece_then (stretch bs) rest = bs ++ rest
 
+-- the place decides about stretches alone
 abbrev pub IsPiece : Place → Piece → Type 0
 IsPiece place (start_tag name tail) = IsName name × IsTail tail
 IsPiece place (empty_tag name tail) = IsName name × IsTail tail
@@ -37,5 +39,6 @@ pub record Stands (place : Place) (bytes : List ℕ) (piece : Piece) (rest : Lis
   pub legal : IsPiece place piece
   pub follows : Follows piece rest
 
+-- no piece stands at the front of the bytes
 abbrev pub HasNoPiece : Place → List ℕ → Type 0
 HasNoPiece place bytes = (piece : Piece) (rest : List ℕ) → Stands place bytes piece rest → ⊥

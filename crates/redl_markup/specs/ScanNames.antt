@@ -1,5 +1,5 @@
 -- Reading a name from the left.
-use Rattle.std.specs.Prelude.{ℕ, suc, Bool, true, false, List, [], ◌∷◌, length, drop, Option, Some, None, if◌then◌else◌, codes}
+use Rattle.std.specs.Prelude.{ℕ, suc, Bool, false, List, [], length, drop, Option, Some, None, if◌then◌else◌, codes}
 use Rattle.bstr.specs.Utf8.{decoded}
 use Rattle.redl_markup.specs.Lists.{behind, before}
 use Rattle.redl_markup.specs.Reading.{◌>>=◌, Turn, done, next, turns}

@@ -1,5 +1,5 @@
 -- Stretches without a tag, by their place: before the root, in an element, and after the root (XML 1.0, productions 1, 14 to 28, 32, 43 and 80).
-use Rattle.std.specs.Prelude.{◌≡◌, ◌≢◌, ℕ, Bool, true, false, ◌==◌, ◌&&◌, ◌||◌, List, [], ◌∷◌, ◌++◌, Option, Some, None, codes, not, map}
+use Rattle.std.specs.Prelude.{◌≡◌, ◌≢◌, ℕ, Bool, true, false, ◌==◌, ◌&&◌, ◌||◌, List, [], ◌∷◌, ◌++◌, Option, Some, None, codes, not}
 use Rattle.std.specs.List.{list_all, AllByRecursion}
 use Rattle.std.specs.Char.{is_ascii_digit}
 use Rattle.std.specs.Str.{str_eq_ignore_ascii_case, bytes_eq}
@@ -7,13 +7,13 @@ use Rattle.redl_markup.specs.declared.place.Place.{Place}
 use Rattle.redl_markup.specs.declared.place.Place.TheVariants.{BeforeRoot, InElement, AfterRoot}
 use Rattle.redl_markup.specs.Characters.{is_space}
 use Rattle.redl_markup.specs.Lists.{begins, behind, lacks, is_other, is_filled}
-use Rattle.redl_markup.specs.Names.{Name, IsWord}
+use Rattle.redl_markup.specs.Names.{IsWord}
 use Rattle.redl_markup.specs.References.{has_references}
 use Rattle.redl_markup.specs.Tails.{IsSpace, Attribute, attribute_then, IsQuote}
 
 -- ---- runs
 
--- In an element a run is character data and references, without `]]>`; elsewhere it is white space.
+-- In an element a run is character data and references, without `]]>` (productions 14 and 67); elsewhere it is white space.
 abbrev pub is_run : Place → List ℕ → Bool
 is_run InElement bs = has_references bs && lacks (codes "]]>") bs
 is_run BeforeRoot bs = list_all is_space bs
@@ -29,7 +29,7 @@ abbrev pub begins_other : ℕ → List ℕ → Bool
 begins_other b [] = false
 begins_other b (c ∷ cs) = not (c == b)
 
--- a comment's text: each `-` in it has another character behind it, which is no `-`
+-- a comment's text, production 15: each `-` in it has another character behind it, which is no `-`
 abbrev pub is_comment : List ℕ → Bool
 is_comment [] = true
 is_comment (b ∷ bs) = (not (b == 45) || begins_other 45 bs) && is_comment bs
@@ -37,17 +37,19 @@ is_comment (b ∷ bs) = (not (b == 45) || begins_other 45 bs) && is_comment bs
 abbrev pub is_xml : List ℕ → Bool
 is_xml name = str_eq_ignore_ascii_case name (codes "xml")
 
--- an instruction's text: none, or white space and then anything
+-- an instruction's text behind its name, production 16: none, or white space and then anything
 abbrev pub is_apart : List ℕ → Bool
 is_apart [] = true
 is_apart (b ∷ bs) = is_space b
 
+-- The name isn't `xml` in letters of any case (production 17), and the text has no `?>`.
 pub record IsInstruction (target text : List ℕ) : Type 0 where
   pub name : IsWord true target
   pub not_xml : is_xml target ≡ false
   pub apart : is_apart text ≡ true
   pub no_end : lacks (codes "?>") text ≡ true
 
+-- Comment, PI and CDSect, productions 15 to 21. An instruction has its name and the text behind it.
 pub data Item : Type 0 where
   comment : List ℕ → Item
   instruction : List ℕ → List ℕ → Item
@@ -72,7 +74,7 @@ items_then (i ∷ more) rest = item_then i.0 (i.1 ++ items_then more rest)
 
 -- ---- the XML declaration and the byte order mark
 
--- A setting of the declaration: a word with a value that fits it.
+-- A setting of the declaration: a word with a value that fits it, and Eq between them, production 25.
 pub record IsSetting (word : List ℕ) (fits : List ℕ → Bool) (a : Attribute) : Type 0 where
   pub gap : (a.gap ≢ []) × IsSpace a.gap
   pub name : a.name ≡ record { prefix = []; local = word }
@@ -86,13 +88,15 @@ abbrev pub is_minor : Option (List ℕ) → Bool
 is_minor None = false
 is_minor (Some digits) = is_filled digits && list_all is_ascii_digit digits
 
--- `1.` and digits
+-- VersionNum, production 26: `1.` and one or more digits
 unfoldable pub is_version : List ℕ → Bool
 is_version value = is_minor (behind (codes "1.") value)
 
+-- UTF-8 in letters of any case (production 80 has other encodings too)
 abbrev pub is_encoding : List ℕ → Bool
 is_encoding value = str_eq_ignore_ascii_case value (codes "UTF-8")
 
+-- production 32
 abbrev pub is_standalone : List ℕ → Bool
 is_standalone value = bytes_eq value (codes "yes") || bytes_eq value (codes "no")
 
@@ -106,6 +110,7 @@ abbrev pub IsOptional : (Attribute → Type 0) → Option Attribute → Type 0
 IsOptional Fits None = Unit {0}
 IsOptional Fits (Some a) = Fits a
 
+-- XMLDecl, production 23
 pub record IsDeclaration (d : Declaration) : Type 0 where
   pub version : IsSetting (codes "version") is_version d.version
   pub encoding : IsOptional (IsSetting (codes "encoding") is_encoding) d.encoding

@@ -1,5 +1,5 @@
 -- The tail of a start tag: all of it between its name and its `>` or `/>` (XML 1.0, productions 10, 25, 40, 41 and 44).
-use Rattle.std.specs.Prelude.{◌≡◌, ◌≢◌, ℕ, Bool, true, ◌==◌, List, [], ◌∷◌, ◌++◌, not, ◌⊎◌, map}
+use Rattle.std.specs.Prelude.{◌≡◌, ◌≢◌, ℕ, true, List, [], ◌∷◌, ◌++◌, ◌⊎◌, map}
 use Rattle.std.specs.List.{list_all, AllByRecursion}
 use Rattle.redl_markup.specs.Characters.{is_space}
 use Rattle.redl_markup.specs.Lists.{is_other}
@@ -19,7 +19,7 @@ pub record Attribute : Type 0 where
   pub quote : ℕ
   pub value : List ℕ
 
--- the text of an attribute, and what stands behind it
+-- the text of an attribute, production 41 with Eq, production 25, and what stands behind it
 abbrev pub attribute_then : Attribute → List ℕ → List ℕ
 attribute_then a rest =
     a.gap ++ (name_text a.name ++ (a.left ++ (61 ∷ (a.right ++ (a.quote ∷ (a.value ++ (a.quote ∷ rest)))))))
@@ -27,7 +27,7 @@ attribute_then a rest =
 abbrev pub IsQuote : ℕ → Type 0
 IsQuote q = (q ≡ 34) ⊎ (q ≡ 39)
 
--- The value has no `<` and none of its own quotes, and each `&` in it begins a reference.
+-- AttValue, production 10: the value has no `<` and none of its own quotes, and each `&` in it begins a reference.
 pub record IsAttribute (a : Attribute) : Type 0 where
   pub gap : (a.gap ≢ []) × IsSpace a.gap
   pub name : IsName a.name
@@ -42,7 +42,7 @@ abbrev pub attributes_then : List Attribute → List ℕ → List ℕ
 attributes_then [] rest = rest
 attributes_then (a ∷ more) rest = attribute_then a (attributes_then more rest)
 
--- Attributes with distinct names as written, and white space or none.
+-- Productions 40 and 44: attributes with distinct names as written, and white space or none.
 pub record IsTail (tail : List ℕ) : Type 0 where
   pub attributes : List Attribute
   pub space : List ℕ

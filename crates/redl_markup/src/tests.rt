@@ -61,7 +61,7 @@ fn tags_are_read_with_what_is_left(rt: HostRuntime) {
 }
 
 #[test]
-fn stretches_are_as_long_as_they_can_be(rt: HostRuntime) {
+fn stretches_outside_the_root_are_as_long_as_they_can_be(rt: HostRuntime) {
     for (place, text, want) in [
         (Place::BeforeRoot, "\u{FEFF}<a/>", "\u{FEFF}"),
         (
@@ -86,23 +86,6 @@ fn stretches_are_as_long_as_they_can_be(rt: HostRuntime) {
         ),
         (Place::BeforeRoot, "<?p?>", "<?p?>"),
         (
-            Place::InElement,
-            "<![CDATA[<b>]]>&lt;</a>",
-            "<![CDATA[<b>]]>&lt;",
-        ),
-        (
-            Place::InElement,
-            "]] > ]]&gt;<![CDATA[]]]]><!----><!-- - -->\"'</a>",
-            "]] > ]]&gt;<![CDATA[]]]]><!----><!-- - -->\"'",
-        ),
-        (
-            Place::InElement,
-            "&amp;&lt;&gt;&quot;&apos;&#9;&#x0041;&#xfFfD;<b>",
-            "&amp;&lt;&gt;&quot;&apos;&#9;&#x0041;&#xfFfD;",
-        ),
-        (Place::InElement, "<?a:b:c ?> ??>x<b/>", "<?a:b:c ?> ??>x"),
-        (Place::InElement, "<?:p\u{B7} text?>", "<?:p\u{B7} text?>"),
-        (
             Place::AfterRoot,
             " \r\n<!--c--><?p a?b >?>",
             " \r\n<!--c--><?p a?b >?>",
@@ -114,6 +97,32 @@ fn stretches_are_as_long_as_they_can_be(rt: HostRuntime) {
             piece,
             Ok((Piece::Stretch(want.as_bytes()), left.as_bytes())),
             "{text} {place:?}"
+        );
+    }
+}
+
+#[test]
+fn stretches_in_elements_are_as_long_as_they_can_be(rt: HostRuntime) {
+    for (text, want) in [
+        ("<![CDATA[<b>]]>&lt;</a>", "<![CDATA[<b>]]>&lt;"),
+        (
+            "]] > ]]&gt;<![CDATA[]]]]><!----><!-- - -->\"'</a>",
+            "]] > ]]&gt;<![CDATA[]]]]><!----><!-- - -->\"'",
+        ),
+        (
+            "&amp;&lt;&gt;&quot;&apos;&#9;&#x0041;&#xfFfD;<b>",
+            "&amp;&lt;&gt;&quot;&apos;&#9;&#x0041;&#xfFfD;",
+        ),
+        ("<?a:b:c ?> ??>x<b/>", "<?a:b:c ?> ??>x"),
+        ("<?:p\u{B7} text?>", "<?:p\u{B7} text?>"),
+        ("\u{FEFF}<a/>", "\u{FEFF}"),
+    ] {
+        let left = text.strip_prefix(want).expect(&rt, text);
+        let piece = next_piece(rt.alloc(), text.as_bytes(), Place::InElement);
+        assert_eq!(rt;
+            piece,
+            Ok((Piece::Stretch(want.as_bytes()), left.as_bytes())),
+            "{text}"
         );
     }
 }
@@ -164,38 +173,56 @@ fn broken_tags_are_unreadable(rt: HostRuntime) {
 }
 
 #[test]
-fn broken_stretches_are_unreadable(rt: HostRuntime) {
+fn broken_items_are_unreadable(rt: HostRuntime) {
+    for text in [
+        "]]></a>",
+        "x]]]><a/>",
+        "<!-- x -- y --></a>",
+        "<!-- x ---></a>",
+        "<!-->",
+        "<!--",
+        "<![CDATA[x",
+        "<![CDATA[x]]",
+        "<![cdata[x]]>",
+        "<!DOCTYPE a>",
+        "x<!DOCTYPE a>",
+        "<?xml version='1.0'?>",
+        "<?XmL a?>",
+        "<?p+?>",
+        "<? p?>",
+        "<?p ?",
+    ] {
+        let piece = next_piece(rt.alloc(), text.as_bytes(), Place::InElement);
+        assert_eq!(rt; piece, Err(MarkupError::Unreadable), "{text}");
+    }
+}
+
+#[test]
+fn broken_references_are_unreadable(rt: HostRuntime) {
+    for text in [
+        "&",
+        "&amp",
+        "&AMP;",
+        "&#0;</a>",
+        "&#;",
+        "&#x;",
+        "&#X41;",
+        "&#8;",
+        "&#xD800;",
+        "&#xFFFE;",
+        "&#x110000;",
+        "&#99999999999999999999;",
+        "&#x41",
+        "&#41a;",
+    ] {
+        let piece = next_piece(rt.alloc(), text.as_bytes(), Place::InElement);
+        assert_eq!(rt; piece, Err(MarkupError::Unreadable), "{text}");
+    }
+}
+
+#[test]
+fn broken_stretches_outside_the_root_are_unreadable(rt: HostRuntime) {
     for (place, text) in [
-        (Place::InElement, "]]></a>"),
-        (Place::InElement, "x]]]><a/>"),
-        (Place::InElement, "<!-- x -- y --></a>"),
-        (Place::InElement, "<!-- x ---></a>"),
-        (Place::InElement, "<!-->"),
-        (Place::InElement, "<!--"),
-        (Place::InElement, "<![CDATA[x"),
-        (Place::InElement, "<![CDATA[x]]"),
-        (Place::InElement, "<![cdata[x]]>"),
-        (Place::InElement, "<!DOCTYPE a>"),
-        (Place::InElement, "x<!DOCTYPE a>"),
-        (Place::InElement, "<?xml version='1.0'?>"),
-        (Place::InElement, "<?XmL a?>"),
-        (Place::InElement, "<?p+?>"),
-        (Place::InElement, "<? p?>"),
-        (Place::InElement, "<?p ?"),
-        (Place::InElement, "&"),
-        (Place::InElement, "&amp"),
-        (Place::InElement, "&AMP;"),
-        (Place::InElement, "&#0;</a>"),
-        (Place::InElement, "&#;"),
-        (Place::InElement, "&#x;"),
-        (Place::InElement, "&#X41;"),
-        (Place::InElement, "&#8;"),
-        (Place::InElement, "&#xD800;"),
-        (Place::InElement, "&#xFFFE;"),
-        (Place::InElement, "&#x110000;"),
-        (Place::InElement, "&#99999999999999999999;"),
-        (Place::InElement, "&#x41"),
-        (Place::InElement, "&#41a;"),
         (Place::BeforeRoot, "x<a/>"),
         (Place::BeforeRoot, "&lt;<a/>"),
         (Place::BeforeRoot, "<![CDATA[]]><a/>"),

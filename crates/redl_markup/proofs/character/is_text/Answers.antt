@@ -1,8 +1,7 @@
-use Rattle.std.proofs.Common.{◌≡◌, ap, sym, ◌∙◌, subst, rules, tests, List, ℕ}
-use Rattle.std.specs.Str.{IsUtf8, chars}
+use Rattle.std.proofs.Common.{◌∙◌, rules, tests}
 use Rattle.std.proofs.lemmas.Iterator.{YieldsList-from_chars}
 use Rattle.std.proofs.lemmas.Iterator.Search.{all_from_yields_List}
-use Rattle.redl_markup.specs.Characters.{is_character, IsText}
+use Rattle.redl_markup.specs.Characters.{is_character}
 use Rattle.redl_markup.proofs.Characters.{tests_text, text_is_utf8}
 use Rattle.redl_markup.proofs.character.is_text.Goals as goal
 

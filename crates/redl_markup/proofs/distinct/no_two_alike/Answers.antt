@@ -1,4 +1,4 @@
-use Rattle.std.proofs.Common.{◌≡◌, ap, ◌∙◌, eqb, length, map, List, Bool, sym, arith, subst, vec_len}
+use Rattle.std.proofs.Common.{◌≡◌, ap, ◌∙◌, eqb, length, map, List, arith, subst}
 use Rattle.std.specs.BTreeSet.{btree_set_len}
 use Rattle.std.specs.Vec.Iter.{into_iter_items}
 use Rattle.redl_markup.specs.Names.{are_distinct}

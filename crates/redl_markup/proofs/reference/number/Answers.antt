@@ -1,4 +1,4 @@
-use Rattle.std.proofs.Common.{◌≡◌, ◌∷◌, ◌∙◌, ◌+◌, ◌*◌, ap, min, arith}
+use Rattle.std.proofs.Common.{◌∙◌, ◌+◌, ◌*◌, ap, min, arith}
 use Rattle.redl_markup.specs.declared.reference.TheConstants.{BEYOND}
 use Rattle.redl_markup.proofs.Numbers.{number_step}
 use Rattle.redl_markup.proofs.reference.number.Goals as goal

@@ -1,4 +1,4 @@
-use Rattle.std.proofs.Common.{◌≡◌, ◌≤◌, ℕ, length, map, min}
+use Rattle.std.proofs.Common.{◌≡◌, ◌≤◌, length, map, min}
 use Rattle.std.specs.Char.{digit_value}
 use Rattle.std.specs.Int.Digits.{number_from_digits_after}
 use Rattle.redl_markup.specs.declared.reference.TheConstants.{BEYOND}

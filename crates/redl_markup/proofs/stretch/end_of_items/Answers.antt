@@ -1,4 +1,4 @@
-use Rattle.std.proofs.Common.{◌≡◌, sym, ◌∙◌, true, false, not}
+use Rattle.std.proofs.Common.{sym, ◌∙◌}
 use Rattle.redl_markup.proofs.Stretches.{loop_begins, loop_refuses, loop_ends, loop_fails, loop_goes, loop_shrinks}
 use Rattle.redl_markup.proofs.stretch.end_of_items.Goals as goal
 

@@ -1,5 +1,4 @@
-use Rattle.std.proofs.Common.{◌≡◌, ◌≤◌, ◌∙◌, sym, length}
-use Rattle.bstr.specs.Utf8.{decoded}
+use Rattle.std.proofs.Common.{◌∙◌, sym}
 use Rattle.redl_markup.proofs.Names.{size_fits}
 use Rattle.redl_markup.proofs.word.first_char.Goals as goal
 
