@@ -13,7 +13,7 @@ mod value;
 pub use laws::value_of_the_first;
 pub use moment::read_moment;
 pub use stamp::{Stamp, read_stamp};
-pub use value::attribute;
+pub use value::{attribute, has_attribute};
 
 #[cfg(test)]
 mod tests;

@@ -1,6 +1,6 @@
 //! Attributes by their local name.
 
-ghost use Rattle.std.specs.Prelude.{◌≡◌, IfOk, IfSome};
+ghost use Rattle.std.specs.Prelude.{◌≡◌, is_some, IfOk, IfSome};
 ghost use Rattle.std.specs.Str.{IsUtf8};
 ghost use Rattle.redl_markup.specs.Reading.{Gives};
 ghost use Rattle.redl_markup.specs.Views.{attribute_view};
@@ -30,6 +30,13 @@ fn written_value<'a>(tail: &'a [u8], local: &[u8]) -> Option<&'a [u8]>
         left = rest;
     }
     None
+}
+
+/// Whether a tag's tail has an attribute with this local name and a prefix other than `xmlns`.
+pub fn has_attribute(tail: &[u8], local: &[u8]) -> bool
+    ensures { result ≡ is_some (attribute_value tail.now local.now) }
+{
+    written_value(tail, local).is_some()
 }
 
 /// The decoded value of the first attribute of a tag's tail with this local name and a prefix other than `xmlns`, or none.
