@@ -1,0 +1,13 @@
+use Rattle.std.proofs.Common.{◌≡◌, arith, ap, length, map, ◌∙◌}
+use Rattle.std.proofs.lemmas.List.{length-map}
+use Rattle.redl_tree.specs.View.{nodes_of}
+use Rattle.redl_opc.specs.Shape.{parts_of}
+use Rattle.redl_opc.specs.PartView.{part_view}
+use Rattle.redl_opc.proofs.PartLaws.{length-places_of}
+use Rattle.redl_opc.proofs.package.Package.parts.Goals as goal
+
+pub returns : goal.returns
+returns c =
+    let listed : length (map part_view c.self.inside.parts.items) ≡ length (parts_of c.args.self.now) =
+    ap length c.self.invariant.parts ∙ length-places_of (nodes_of c.self.inside.nodes.items) ∙ ap (λ nodes. length (parts_of nodes)) c.self.view_is in
+    c.len.ensures ∙ omega (arith, simp length-map at listed)

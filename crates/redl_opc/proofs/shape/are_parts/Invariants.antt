@@ -1,0 +1,12 @@
+use Rattle.std.proofs.Common.{◌≡◌, length}
+use Rattle.std.specs.List.{list_all}
+use Rattle.redl_tree.specs.View.{nodes_of}
+use Rattle.redl_opc.specs.Elements.{elements_of}
+use Rattle.redl_opc.specs.Shape.{is_part}
+use Rattle.redl_opc.proofs.shape.are_parts.Given as goal
+
+abbrev pub invariant-loop-part : goal.invariant-loop-part
+invariant-loop-part l = list_all is_part (elements_of (nodes_of l.left)) ≡ list_all is_part (elements_of (nodes_of l.nodes))
+
+abbrev pub decreases-loop-part : goal.decreases-loop-part
+decreases-loop-part l = length l.left

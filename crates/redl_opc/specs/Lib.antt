@@ -1,0 +1,6 @@
+pub mod Code
+pub mod Elements
+pub mod Shape
+pub mod Parts
+pub mod Tree
+pub mod PartView

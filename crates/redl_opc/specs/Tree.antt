@@ -1,0 +1,15 @@
+-- What is asked of nodes that may be a package. Those that were read from a text of at most 2,097,152 nodes have it.
+use Rattle.std.specs.Prelude.{◌<◌, ◌^◌}
+use Rattle.std.specs.Str.{IsUtf8}
+use Rattle.redl_tree.specs.Nodes.{Nodes, no_nodes, bytes, element}
+use Rattle.redl_tree.specs.Count.{count}
+
+-- the tail of each element is UTF-8
+abbrev pub HasUtf8Tails : Nodes → Type 0
+HasUtf8Tails no_nodes = Unit {0}
+HasUtf8Tails (bytes b rest) = HasUtf8Tails rest
+HasUtf8Tails (element tag kids rest) = IsUtf8 tag.tail × HasUtf8Tails kids × HasUtf8Tails rest
+
+pub record IsTree (nodes : Nodes) : Type 0 where
+  pub tails : HasUtf8Tails nodes
+  pub few : count nodes < 2 ^ 32

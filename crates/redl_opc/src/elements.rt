@@ -1,0 +1,63 @@
+//! The elements among nodes.
+
+ghost use Rattle.std.specs.Prelude.{◌≡◌, ◌∷◌, [], ◌<◌, IsNone, IfSome, length, map, slice_get};
+ghost use Rattle.redl_markup.specs.Reading.{Gives};
+ghost use Rattle.redl_tree.specs.Nodes.{items_of};
+ghost use Rattle.redl_tree.specs.View.{item_of, nodes_of, tag_of};
+ghost use Rattle.redl_opc.specs.Elements.{element_of, elements_of, only_element, element_in};
+ghost use Rattle.redl_opc.specs.Shape.{named_pkg};
+
+use redl_tree::{Elem, Node, Space};
+
+/// The first element of nodes, and the nodes behind it.
+pub(crate) fn first_element(nodes: &[Node]) -> Option<(&Elem, &[Node])>
+    ensures found { IfSome result (λ x. elements_of (nodes_of nodes.now) ≡ element_of x.0.now ∷ elements_of (nodes_of x.1.now)) }
+    ensures none { IsNone result → elements_of (nodes_of nodes.now) ≡ [] }
+    ensures shorter { IfSome result (λ x. length x.1.now < length nodes.now) }
+{
+    let mut left = nodes;
+    while let Some((node, rest)) = left.split_first() {
+        if let Node::Elem(elem) = node {
+            return Some((elem, rest));
+        }
+        left = rest;
+    }
+    None
+}
+
+/// The one element of nodes. `None` where they have no element, or several.
+pub(crate) fn only_element(nodes: &[Node]) -> Option<&Elem>
+    ensures { Gives (λ elem. element_of elem.now) result (only_element (nodes_of nodes.now)) }
+{
+    let (elem, rest) = first_element(nodes)?;
+    match first_element(rest) {
+        Some(_) => None,
+        None => Some(elem),
+    }
+}
+
+fn node_at(nodes: &[Node], place: usize) -> Option<&Node>
+    ensures { Gives (λ node. item_of node.now) result (slice_get (map item_of nodes.now) place) }
+{
+    nodes.get(place)
+}
+
+/// The element at a place among nodes. `None` where no element stands there.
+pub(crate) fn element_at(nodes: &[Node], place: usize) -> Option<&Elem>
+    ensures { Gives (λ elem. element_of elem.now) result (element_in (slice_get (items_of (nodes_of nodes.now)) place)) }
+{
+    match node_at(nodes, place)? {
+        Node::Elem(elem) => Some(elem),
+        Node::Bytes(_) => None,
+    }
+}
+
+/// Whether an element of the package's namespace has this local name.
+pub(crate) fn is_named_pkg(elem: &Elem, name: &[u8]) -> bool
+    ensures { result ≡ named_pkg name.now (tag_of elem.now) }
+{
+    match elem.space {
+        Space::Pkg => elem.local.as_bytes() == name,
+        _ => false,
+    }
+}

@@ -1,0 +1,38 @@
+ghost use Rattle.std.specs.Prelude.{◌≡◌};
+ghost use Rattle.redl_opc.specs.declared.error.OpcError.TheVariants.{NoMemory};
+
+use std::alloc::{AllocError, AllocFailed};
+use thiserror::Error;
+
+/// Why nodes are no package, in the order in which the causes are looked for.
+#[derive(Clone, Copy, Debug, PartialEq, Eq, Error)]
+pub enum OpcError {
+    /// The root isn't `package` of the package's namespace.
+    #[error("not a package")]
+    NotPackage,
+    /// A child element of the root isn't a part with a name, a content type and one `xmlData` or `binaryData`.
+    #[error("part shape")]
+    PartShape,
+    /// No part has the root `document`.
+    #[error("no document")]
+    NoDocument,
+    /// An allocation failed; nothing is known of the nodes.
+    #[error("no memory")]
+    NoMemory,
+}
+
+impl From<AllocError> for OpcError {
+    ghost from_gives = { λ _ error. error ≡ NoMemory };
+
+    fn from(_error: AllocError) -> OpcError {
+        OpcError::NoMemory
+    }
+}
+
+impl<T: Drop> From<AllocFailed<T>> for OpcError {
+    ghost from_gives = { λ _ error. error ≡ NoMemory };
+
+    fn from(_error: AllocFailed<T>) -> OpcError {
+        OpcError::NoMemory
+    }
+}

@@ -1,0 +1,40 @@
+//! The list of a package's parts.
+
+ghost use Rattle.std.specs.Prelude.{◌≡◌, IfOk, map};
+ghost use Rattle.std.specs.Str.{IsUtf8};
+ghost use Rattle.redl_tree.specs.View.{nodes_of, tag_of};
+ghost use Rattle.redl_opc.specs.Parts.{name_in, places_from};
+ghost use Rattle.redl_opc.specs.PartView.{part_view};
+ghost use Rattle.redl_opc.specs.Tree.{HasUtf8Tails};
+
+use crate::part::Part;
+use redl_io::Text;
+use redl_stamp::attribute;
+use redl_tree::{Elem, Node};
+use std::alloc::{AllocError, Global};
+
+/// The decoded name in a part's tag. Without one it is the empty text.
+fn name_of(alloc: Global, elem: &Elem) -> Result<Text, AllocError>
+    ensures value { IfOk result (λ name. name ≡ name_in (tag_of elem.now)) }
+    ensures utf8 { IsUtf8 elem.now.tail → IfOk result IsUtf8 }
+{
+    match attribute(alloc, elem.tail.as_bytes(), b"name")? {
+        Some(name) => Ok(name),
+        None => Text::copy_of(alloc, b""),
+    }
+}
+
+/// The elements of nodes, each with its place and its name. `Err` is want of memory.
+pub(crate) fn list_parts(alloc: Global, nodes: &[Node]) -> Result<Vec<Part>, AllocError>
+    requires { HasUtf8Tails (nodes_of nodes.now) }
+    ensures parts { IfOk result (λ parts. map part_view parts.items ≡ places_from 0 (nodes_of nodes.now)) }
+{
+    let mut parts = Vec::new(alloc);
+    for place in 0..nodes.len() {
+        if let Node::Elem(elem) = &nodes[place] {
+            let name = name_of(alloc, elem)?;
+            parts.push(Part { place, name })?;
+        }
+    }
+    Ok(parts)
+}

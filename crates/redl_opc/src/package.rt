@@ -1,0 +1,122 @@
+//! Packages.
+
+ghost use Rattle.std.specs.Prelude.{◌≡◌, None, length, map, slice_get, IfOk, IfErr, IfSome};
+ghost use Rattle.std.specs.Str.{IsUtf8};
+ghost use Rattle.redl_markup.specs.Reading.{Gives};
+ghost use Rattle.redl_tree.specs.View.{nodes_of};
+ghost use Rattle.redl_opc.specs.Elements.{element_of};
+ghost use Rattle.redl_opc.specs.Shape.{refusal, IsCause, parts_of};
+ghost use Rattle.redl_opc.specs.Parts.{part_name, story, places_of};
+ghost use Rattle.redl_opc.specs.PartView.{part_view};
+ghost use Rattle.redl_opc.specs.Tree.{IsTree};
+
+use crate::elements::element_at;
+use crate::error::OpcError;
+use crate::listing::list_parts;
+use crate::part::Part;
+use crate::shape::{are_parts, have_document, package_of, story_of};
+use redl_tree::{Elem, Node};
+use std::alloc::Global;
+use std::marker::Model;
+
+/// A package, which a contract sees as its nodes. Its parts are numbered from 0, in their order.
+#[derive(Drop)]
+pub struct Package {
+    nodes: Vec<Node>,
+    parts: Vec<Part>,
+}
+
+impl Model for Package {
+    ghost use Rattle.std.specs.Prelude.{map};
+    ghost use Rattle.std.specs.Coded.{codes};
+    ghost use Rattle.redl_tree.specs.Nodes.{Nodes};
+    ghost use Rattle.redl_opc.specs.Code.{nodes_code};
+
+    ghost Value = { Nodes };
+
+    ghost coded = { nodes_code (Prim.hlevel codes) };
+
+    ghost use Rattle.redl_tree.specs.View.{nodes_of};
+    ghost use Rattle.redl_opc.specs.Parts.{IsKept};
+    ghost use Rattle.redl_opc.specs.PartView.{part_view};
+
+    ghost view = { λ pkg. nodes_of pkg.nodes.items };
+
+    ghost invariant = { λ pkg. IsKept (nodes_of pkg.nodes.items) (map part_view pkg.parts.items) };
+}
+
+fn parts_in(alloc: Global, nodes: &[Node]) -> Result<Vec<Part>, OpcError>
+    requires { IsTree (nodes_of nodes.now) }
+    ensures shape { IfOk result (λ parts. refusal (nodes_of nodes.now) ≡ None) }
+    ensures parts { IfOk result (λ parts. map part_view parts.items ≡ places_of (nodes_of nodes.now)) }
+    ensures cause { IfErr result (λ error. IsCause error (nodes_of nodes.now)) }
+{
+    let Some(root) = package_of(nodes) else {
+        return Err(OpcError::NotPackage);
+    };
+    if !are_parts(&root.kids) {
+        return Err(OpcError::PartShape);
+    }
+    if !have_document(&root.kids) {
+        return Err(OpcError::NoDocument);
+    }
+    Ok(list_parts(alloc, &root.kids)?)
+}
+
+fn part_at(parts: &[Part], number: u32) -> Option<&Part>
+    ensures { Gives (λ part. part_view part.now) result (slice_get (map part_view parts.now) number) }
+{
+    parts.get(number as usize)
+}
+
+impl Package {
+    /// The package that nodes are.
+    ///
+    /// The nodes are those of a text that was read: the tail of each element is UTF-8, and there are fewer than 2^32 nodes.
+    /// `NotPackage` exactly where the root isn't `package` of the package's namespace. Else `PartShape` exactly where a child
+    /// element of the root isn't a part with a name, a content type, and one `binaryData` or one `xmlData` with one element.
+    /// Else `NoDocument` exactly where no part has the root `document`. `NoMemory` is want of memory. A refusal drops the nodes.
+    pub fn make(alloc: Global, nodes: Vec<Node>) -> Result<Package, OpcError>
+        requires { IsTree (nodes_of nodes.items) }
+        ensures nodes { IfOk result (λ pkg. pkg ≡ nodes_of nodes.items) }
+        ensures shape { IfOk result (λ pkg. refusal pkg ≡ None) }
+        ensures cause { IfErr result (λ error. IsCause error (nodes_of nodes.items)) }
+    {
+        let parts = parts_in(alloc, &nodes)?;
+        Ok(Package { nodes, parts })
+    }
+
+    /// All nodes, with what stands before and behind the root.
+    pub fn nodes(&self) -> &[Node]
+        ensures nodes { nodes_of result.now ≡ self.now }
+        ensures shape { refusal self.now ≡ None }
+    {
+        &self.nodes
+    }
+
+    /// How many parts there are.
+    pub fn parts(&self) -> u32
+        ensures { result ≡ length (parts_of self.now) }
+    {
+        self.parts.len() as u32
+    }
+
+    /// The decoded name of a part. `None` exactly where there is no part with this number.
+    pub fn part_name(&self, part: u32) -> Option<&[u8]>
+        ensures value { Gives (λ name. name.now) result (part_name self.now part) }
+        ensures utf8 { IfSome result (λ name. IsUtf8 name.now) }
+    {
+        let part = part_at(&self.parts, part)?;
+        Some(part.name())
+    }
+
+    /// The root of a story. `None` exactly where there is no part with this number, or where it isn't a story.
+    pub fn story(&self, part: u32) -> Option<&Elem>
+        ensures { Gives (λ root. element_of root.now) result (story self.now part) }
+    {
+        let part = part_at(&self.parts, part)?;
+        let root = package_of(&self.nodes)?;
+        let part = element_at(&root.kids, part.place)?;
+        story_of(part)
+    }
+}

@@ -1,0 +1,23 @@
+//! What is kept of a part.
+
+ghost use Rattle.std.specs.Prelude.{◌≡◌};
+ghost use Rattle.std.specs.Str.{IsUtf8};
+
+use redl_io::Text;
+
+/// A part: its place among the kids of the root, and its decoded name.
+#[derive(Drop)]
+pub(crate) struct Part {
+    pub(crate) place: usize,
+    pub(crate) name: Text,
+    ghost utf8: { ∥ IsUtf8 name ∥₁ },
+}
+
+impl Part {
+    pub(crate) fn name(&self) -> &[u8]
+        ensures value { result.now ≡ self.now.name }
+        ensures utf8 { IsUtf8 result.now }
+    {
+        self.name.as_bytes()
+    }
+}

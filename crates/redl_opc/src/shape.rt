@@ -1,0 +1,106 @@
+//! The shape of a package and of its parts.
+
+ghost use Rattle.std.specs.Prelude.{◌≡◌};
+ghost use Rattle.std.specs.List.{list_all, list_any};
+ghost use Rattle.redl_markup.specs.Reading.{Gives};
+ghost use Rattle.redl_tree.specs.View.{nodes_of, tag_of};
+ghost use Rattle.redl_opc.specs.Elements.{element_of, elements_of};
+ghost use Rattle.redl_opc.specs.Shape.{is_data, is_part, is_story_root, story_of, is_document, package_of};
+
+use crate::elements::{first_element, is_named_pkg, only_element};
+use redl_stamp::has_attribute;
+use redl_tree::{Elem, Node, is_named};
+
+fn is_data(elem: &Elem) -> bool
+    ensures { result ≡ is_data (element_of elem.now) }
+{
+    is_named_pkg(elem, b"binaryData")
+        || is_named_pkg(elem, b"xmlData") && only_element(&elem.kids).is_some()
+}
+
+/// Whether an element is a part, with a name, a content type and one element of data.
+fn is_part(elem: &Elem) -> bool
+    ensures { result ≡ is_part (element_of elem.now) }
+{
+    let tail = elem.tail.as_bytes();
+    is_named_pkg(elem, b"part")
+        && has_attribute(tail, b"name")
+        && has_attribute(tail, b"contentType")
+        && only_element(&elem.kids).is_some_and(|data| is_data(data))
+}
+
+fn is_story_root(elem: &Elem) -> bool
+    ensures { result ≡ is_story_root (tag_of elem.now) }
+{
+    is_named(elem, b"document")
+        || is_named(elem, b"hdr")
+        || is_named(elem, b"ftr")
+        || is_named(elem, b"footnotes")
+        || is_named(elem, b"endnotes")
+        || is_named(elem, b"comments")
+}
+
+/// The root of a part that is a story.
+pub(crate) fn story_of(part: &Elem) -> Option<&Elem>
+    ensures { Gives (λ root. element_of root.now) result (story_of (element_of part.now)) }
+{
+    let data = only_element(&part.kids)?;
+    if !is_named_pkg(data, b"xmlData") {
+        return None;
+    }
+    let root = only_element(&data.kids)?;
+    if is_story_root(root) {
+        Some(root)
+    } else {
+        None
+    }
+}
+
+fn is_document(part: &Elem) -> bool
+    ensures { result ≡ is_document (element_of part.now) }
+{
+    match story_of(part) {
+        Some(root) => is_named(root, b"document"),
+        None => false,
+    }
+}
+
+/// The root, where it is `package`.
+pub(crate) fn package_of(nodes: &[Node]) -> Option<&Elem>
+    ensures { Gives (λ root. element_of root.now) result (package_of (nodes_of nodes.now)) }
+{
+    let root = only_element(nodes)?;
+    if is_named_pkg(root, b"package") {
+        Some(root)
+    } else {
+        None
+    }
+}
+
+/// Whether all elements of nodes are well-shaped parts.
+pub(crate) fn are_parts(nodes: &[Node]) -> bool
+    ensures { result ≡ list_all is_part (elements_of (nodes_of nodes.now)) }
+{
+    let mut left = nodes;
+    while let Some((part, rest)) = first_element(left) {
+        if !is_part(part) {
+            return false;
+        }
+        left = rest;
+    }
+    true
+}
+
+/// Whether some element of nodes is a part with the root `document`.
+pub(crate) fn have_document(nodes: &[Node]) -> bool
+    ensures { result ≡ list_any is_document (elements_of (nodes_of nodes.now)) }
+{
+    let mut left = nodes;
+    while let Some((part, rest)) = first_element(left) {
+        if is_document(part) {
+            return true;
+        }
+        left = rest;
+    }
+    false
+}

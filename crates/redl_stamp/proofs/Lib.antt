@@ -1,0 +1,3 @@
+pub mod Quotients
+mod AttributeLaws
+mod MomentRows

@@ -1,0 +1,66 @@
+//! Numbers of two and of four decimal digits.
+
+ghost use Rattle.std.specs.Prelude.{◌<◌, ◌≡◌, IfSome, length};
+ghost use Rattle.redl_markup.specs.Lists.{behind, front, after};
+ghost use Rattle.redl_markup.specs.Reading.{Gives};
+ghost use Rattle.redl_stamp.specs.Moment.{is_decimal, digit_at, two_digits_at, four_digits_at, marked_digits_at};
+
+fn digit(bytes: &[u8]) -> Option<(u8, &[u8])>
+    ensures value { Gives (λ x. (x.0, x.1.now)) result (digit_at bytes.now) }
+    ensures range { IfSome result (λ x. x.0 < 10) }
+{
+    match bytes {
+        [digit, rest @ ..] if digit.is_ascii_digit() => Some((*digit - b'0', rest)),
+        _ => None,
+    }
+}
+
+/// The number that two digits at the front write, and what stands behind them.
+pub(crate) fn two_digits(bytes: &[u8]) -> Option<(u8, &[u8])>
+    ensures value { Gives (λ x. (x.0, x.1.now)) result (two_digits_at bytes.now) }
+    ensures range { IfSome result (λ x. x.0 < 100) }
+{
+    let (tens, rest) = digit(bytes)?;
+    let (ones, rest) = digit(rest)?;
+    Some((tens * 10 + ones, rest))
+}
+
+/// The number that four digits at the front write, and what stands behind them.
+pub(crate) fn four_digits(bytes: &[u8]) -> Option<(u16, &[u8])>
+    ensures value { Gives (λ x. (x.0, x.1.now)) result (four_digits_at bytes.now) }
+    ensures range { IfSome result (λ x. x.0 < 10_000) }
+{
+    let (high, rest) = two_digits(bytes)?;
+    let (low, rest) = two_digits(rest)?;
+    Some((high as u16 * 100 + low as u16, rest))
+}
+
+/// What stands behind a mark at the front.
+#[tactic(auto, using(redl_markup::proofs::Words::behind_pointwise, redl_markup::proofs::Words::behind_not_pointwise))]
+pub(crate) fn skip<'a>(bytes: &'a [u8], mark: &[u8]) -> Option<&'a [u8]>
+    ensures { Gives (λ rest. rest.now) result (behind mark.now bytes.now) }
+{
+    bytes.strip_prefix(mark)
+}
+
+/// The number that two digits behind a mark write, and what stands behind them.
+pub(crate) fn marked_digits<'a>(bytes: &'a [u8], mark: &[u8]) -> Option<(u8, &'a [u8])>
+    ensures value { Gives (λ x. (x.0, x.1.now)) result (marked_digits_at mark.now bytes.now) }
+    ensures range { IfSome result (λ x. x.0 < 100) }
+{
+    let rest = skip(bytes, mark)?;
+    two_digits(rest)
+}
+
+/// The digits at the front, and what stands behind them.
+#[tactic(auto, using(redl_markup::proofs::Runs::front_at, redl_markup::proofs::Runs::after_at))]
+pub(crate) fn digits(bytes: &[u8]) -> (&[u8], &[u8])
+    ensures front { result.0.now ≡ front is_decimal bytes.now }
+    ensures rest { result.1.now ≡ after is_decimal bytes.now }
+{
+    let mut n = 0;
+    while n < bytes.len() && bytes[n].is_ascii_digit() {
+        n += 1;
+    }
+    bytes.split_at(n)
+}

@@ -1,0 +1,15 @@
+//! What holds of all tails, whatever was read.
+
+ghost use Rattle.std.specs.Prelude.{◌≡◌, ℕ, List, find};
+ghost use Rattle.std.specs.Option.{option_map};
+ghost use Rattle.redl_markup.specs.Decoding.{decoded_value};
+ghost use Rattle.redl_markup.specs.Tails.{IsTail, named_value};
+ghost use Rattle.redl_stamp.specs.Attribute.{has_local_name, attribute_value};
+
+/// In a legal tail, the value is that of the first of its attributes that has the local name and isn't a declaration's.
+pub fn value_of_the_first()
+    ensures { (tail local : List ℕ) (legal : IsTail tail)
+        → attribute_value tail local
+        ≡ option_map (λ attribute. decoded_value attribute.value)
+        (find (λ attribute. has_local_name local (named_value attribute)) legal.attributes) }
+{}
