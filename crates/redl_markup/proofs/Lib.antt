@@ -1,0 +1,17 @@
+pub mod Runs
+pub mod Words
+pub mod Turns
+pub mod Names
+pub mod Attributes
+pub mod Items
+pub mod Tags
+pub mod Declarations
+pub mod Stretches
+pub mod Pieces
+pub mod Listing
+pub mod Decoding
+pub mod Utf8
+pub mod Rows
+pub mod Alike
+pub mod Characters
+pub mod Numbers

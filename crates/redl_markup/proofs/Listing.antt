@@ -1,0 +1,71 @@
+-- The list of a tail's attributes.
+use Rattle.std.proofs.Common.{◌≡◌, ℕ, inl, inr, zero, suc, ◌<◌, List, [], ◌∷◌, length, map, Option, Some, None, refl, sym, ap, ◌∙◌, arith}
+use Rattle.std.specs.Prelude.{IfSome, IsNone}
+use Rattle.std.specs.List.{AllByRecursion}
+use Rattle.redl_markup.specs.Reading.{Gives}
+use Rattle.std.proofs.lemmas.List.{append-nil}
+use Rattle.redl_markup.specs.Characters.{is_space}
+use Rattle.redl_markup.specs.Lists.{front, after, is_filled}
+use Rattle.redl_markup.specs.Names.{Name}
+use Rattle.redl_markup.specs.Tails.{IsSpace, Attribute, attribute_then, attributes_then, IsAttribute, IsTail, named_value}
+use Rattle.redl_markup.specs.ScanNames.{name_at, char_at, word_at}
+use Rattle.redl_markup.specs.ScanTags.{attribute_at, attribute_in}
+use Rattle.redl_markup.specs.Attributes.{attributes_by, attributes_from, attributes_of}
+use Rattle.redl_markup.proofs.Runs.{after_again, either}
+use Rattle.redl_markup.proofs.Attributes.{first_again, first_shorter}
+
+-- any count above what is left gives the same list
+counts_alike : (n m : ℕ) (tail : List ℕ) → length tail < n → length tail < m → attributes_from n tail ≡ attributes_from m tail
+counts_alike zero m tail hn hm = absurd (omega arith)
+counts_alike (suc n) zero tail hn hm = absurd (omega arith)
+counts_alike (suc n) (suc m) tail hn hm = of (attribute_in tail) refl (λ rest less. counts_alike n m rest (omega arith) (omega arith)) where
+  of : (o : Option ((Name × List ℕ) × List ℕ)) → attribute_in tail ≡ o → ((rest : List ℕ) → length rest < length tail → attributes_from n rest ≡ attributes_from m rest) → attributes_by (attributes_from n) o ≡ attributes_by (attributes_from m) o
+  of None e go = refl
+  of (Some x) e go = ap (λ (more : List (Name × List ℕ)). x.0 ∷ more) (go x.1 (first_shorter tail x e))
+
+pub lists_more : (tail : List ℕ) (x : (Name × List ℕ) × List ℕ) → attribute_in tail ≡ Some x → attributes_of tail ≡ x.0 ∷ attributes_of x.1
+unfolding attributes_of
+lists_more tail x e =
+    let less = first_shorter tail x e in
+    rw e (ap (λ (more : List (Name × List ℕ)). x.0 ∷ more) (counts_alike (length tail) (suc (length x.1)) x.1 less (omega arith)))
+
+pub lists_none : (tail : List ℕ) → attribute_in tail ≡ None → attributes_of tail ≡ []
+unfolding attributes_of
+lists_none tail e = rw e refl
+
+none_in_nothing : attribute_at [] ≡ None
+unfolding attribute_at name_at word_at char_at
+none_in_nothing = refl
+
+none_in_space : (space : List ℕ) → IsSpace space → attribute_in space ≡ None
+unfolding attribute_in
+none_in_space space h =
+    let left : after is_space space ≡ [] = ap (after is_space) (sym (append-nil space)) ∙ after_again is_space space [] h refl in
+    elim (either (is_filled (front is_space space))) [
+      | inl filled ↦ rw (filled, left) none_in_nothing
+      | inr lacks ↦ rw lacks refl
+    ]
+
+lists_all : (attrs : List Attribute) (space : List ℕ) → AllByRecursion IsAttribute attrs → IsSpace space → attributes_of (attributes_then attrs space) ≡ map named_value attrs
+lists_all [] space each h = lists_none space (none_in_space space h)
+lists_all (a ∷ attrs) space each h =
+    lists_more (attribute_then a (attributes_then attrs space)) (named_value a, attributes_then attrs space) (first_again a (attributes_then attrs space) each.0)
+    ∙ ap (λ (more : List (Name × List ℕ)). named_value a ∷ more) (lists_all attrs space each.1 h)
+
+-- The list of a legal tail is that of its attributes.
+pub tail_lists : (tail : List ℕ) (h : IsTail tail) → attributes_of tail ≡ map named_value h.attributes
+tail_lists tail h = ap attributes_of h.whole ∙ lists_all h.attributes h.space h.each h.is_space
+
+-- ---- what the code answers
+
+pub is_first : {X : Type 0} (view : X → (Name × List ℕ) × List ℕ) (tail : List ℕ) (r : Option X) → Gives view r (attribute_in tail) → IfSome r (λ x. attributes_of tail ≡ (view x).0 ∷ attributes_of (view x).1)
+is_first view tail None e = tt
+is_first view tail (Some x) e = lists_more tail (view x) e
+
+pub is_last : {X : Type 0} (view : X → (Name × List ℕ) × List ℕ) (tail : List ℕ) (r : Option X) → Gives view r (attribute_in tail) → IsNone r → attributes_of tail ≡ []
+is_last view tail None e h = lists_none tail e
+is_last view tail (Some x) e h = absurd cc
+
+pub is_shorter : {X : Type 0} (view : X → (Name × List ℕ) × List ℕ) (tail : List ℕ) (r : Option X) → Gives view r (attribute_in tail) → IfSome r (λ x. length (view x).1 < length tail)
+is_shorter view tail None e = tt
+is_shorter view tail (Some x) e = first_shorter tail (view x) e

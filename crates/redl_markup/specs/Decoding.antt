@@ -1,0 +1,24 @@
+-- What an attribute's value says (XML 1.0, 2.11 and 3.3.3).
+use Rattle.std.specs.Prelude.{ℕ, Bool, true, false, ◌==◌, ◌&&◌, List, [], ◌∷◌, ◌++◌, Option, Some, None, if◌then◌else◌, not, encode_utf8}
+use Rattle.redl_markup.specs.Characters.{is_space}
+use Rattle.redl_markup.specs.Lists.{begins}
+use Rattle.redl_markup.specs.References.{reference_at}
+
+-- the UTF-8 of a reference's character
+abbrev pub character_text : Option (ℕ × List ℕ) → List ℕ
+character_text None = []
+character_text (Some x) = encode_utf8 x.0
+
+-- A reference becomes its character, and what is left of it up to its `;` is passed over. White space that stands there as itself
+-- becomes a space, and U+000D with U+000A behind it one space.
+abbrev pub decoded_from : Bool → List ℕ → List ℕ
+decoded_from in_reference [] = []
+decoded_from true (b ∷ bs) = decoded_from (not (b == 59)) bs
+decoded_from false (b ∷ bs) =
+    if b == 38 then character_text (reference_at bs) ++ decoded_from true bs
+    else (if b == 13 && begins (10 ∷ []) bs then decoded_from false bs
+    else (if is_space b then 32 ∷ decoded_from false bs else b ∷ decoded_from false bs))
+
+-- the decoded value
+abbrev pub decoded_value : List ℕ → List ℕ
+decoded_value value = decoded_from false value

@@ -1,0 +1,44 @@
+-- Words at the front of a list, and the longest front whose elements pass a test.
+use Rattle.std.specs.Prelude.{ℕ, ◌-◌, Bool, true, false, ◌==◌, ◌&&◌, List, [], ◌∷◌, length, take, Option, Some, None, if◌then◌else◌, not}
+use Rattle.redl_markup.specs.Reading.{or_else}
+
+-- what stands behind a word at the front
+abbrev pub behind : List ℕ → List ℕ → Option (List ℕ)
+behind [] bs = Some bs
+behind (w ∷ ws) [] = None
+behind (w ∷ ws) (b ∷ bs) = if b == w then behind ws bs else None
+
+abbrev pub begins : List ℕ → List ℕ → Bool
+begins [] bs = true
+begins (w ∷ ws) [] = false
+begins (w ∷ ws) (b ∷ bs) = b == w && begins ws bs
+
+-- nowhere stands the word
+abbrev pub lacks : List ℕ → List ℕ → Bool
+lacks word [] = not (begins word [])
+lacks word (b ∷ bs) = not (begins word (b ∷ bs)) && lacks word bs
+
+-- what stands behind the first place where the word stands
+abbrev pub past : List ℕ → List ℕ → Option (List ℕ)
+past word [] = None
+past word (b ∷ bs) = or_else (behind word (b ∷ bs)) (past word bs)
+
+-- the longest front of elements that pass, and what stands behind it
+abbrev pub front : (ℕ → Bool) → List ℕ → List ℕ
+front p [] = []
+front p (b ∷ bs) = if p b then b ∷ front p bs else []
+
+abbrev pub after : (ℕ → Bool) → List ℕ → List ℕ
+after p [] = []
+after p (b ∷ bs) = if p b then after p bs else b ∷ bs
+
+-- what stands before a rest
+abbrev pub before : List ℕ → List ℕ → List ℕ
+before bs rest = take (length bs - length rest) bs
+
+abbrev pub is_filled : List ℕ → Bool
+is_filled [] = false
+is_filled (b ∷ bs) = true
+
+abbrev pub is_other : ℕ → ℕ → Bool
+is_other a b = not (b == a)

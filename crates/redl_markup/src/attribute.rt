@@ -1,0 +1,102 @@
+//! The attributes of a tag.
+
+ghost use Rattle.std.specs.Prelude.{◌≡◌, ◌<◌, [], ◌∷◌, length, codes, IsNone, IfSome};
+ghost use Rattle.std.specs.List.{list_all};
+ghost use Rattle.std.specs.Str.{IsUtf8};
+ghost use Rattle.redl_markup.specs.Attributes.{attributes_of};
+ghost use Rattle.redl_markup.specs.Lists.{is_other};
+ghost use Rattle.redl_markup.specs.Reading.{Gives};
+ghost use Rattle.redl_markup.specs.ScanTags.{quote_at, quoted_at, equated_at, is_value, attribute_at, attribute_in};
+ghost use Rattle.redl_markup.specs.Views.{attribute_view};
+
+use crate::name::Name;
+use crate::reference::are_references;
+use crate::scan::{skip, spaces, until};
+use crate::word::name;
+
+/// An attribute as it is written: its name, and its value without the quotes.
+#[derive(Clone, Copy, Debug, PartialEq, Eq)]
+pub struct Attribute<'a> {
+    pub name: Name<'a>,
+    pub value: &'a [u8],
+}
+
+#[tactic(auto, unfolding(crate::specs::ScanTags::quote_at))]
+fn quote(bytes: &[u8]) -> Option<(u8, &[u8])>
+    ensures { Gives (λ x. (x.0, x.1.now)) result (quote_at bytes.now) }
+{
+    match bytes {
+        [first, rest @ ..] if *first == b'"' || *first == b'\'' => Some((*first, rest)),
+        _ => None,
+    }
+}
+
+/// A text between quotes of one kind, and what stands behind it.
+#[tactic(auto, unfolding(crate::specs::ScanTags::quoted_at))]
+fn quoted(bytes: &[u8]) -> Option<(&[u8], &[u8])>
+    ensures { Gives (λ x. (x.0.now, x.1.now)) result (quoted_at bytes.now) }
+{
+    let (quote, more) = quote(bytes)?;
+    let (text, end) = until(more, quote);
+    let rest = skip(end, &[quote])?;
+    Some((text, rest))
+}
+
+/// A `=` in white space, and a text between quotes.
+#[tactic(auto, unfolding(crate::specs::ScanTags::equated_at))]
+pub(crate) fn equated(bytes: &[u8]) -> Option<(&[u8], &[u8])>
+    ensures { Gives (λ x. (x.0.now, x.1.now)) result (equated_at bytes.now) }
+{
+    let (_, end) = spaces(bytes);
+    let more = skip(end, b"=")?;
+    let (_, more) = spaces(more);
+    quoted(more)
+}
+
+fn has_no_tag(bytes: &[u8]) -> bool
+    ensures { result ≡ list_all (is_other 60) bytes.now }
+{
+    bytes.iter().all(|b| *b != b'<')
+}
+
+#[tactic(auto, unfolding(crate::specs::ScanTags::is_value))]
+fn is_value(bytes: &[u8]) -> bool
+    ensures { result ≡ is_value bytes.now }
+{
+    has_no_tag(bytes) && are_references(bytes)
+}
+
+#[tactic(auto, unfolding(crate::specs::ScanTags::attribute_at))]
+fn attribute_behind_gap(bytes: &[u8]) -> Option<(Attribute<'_>, &[u8])>
+    ensures { Gives (λ x. (attribute_view x.0, x.1.now)) result (attribute_at bytes.now) }
+{
+    let (name, more) = name(bytes)?;
+    let (value, rest) = equated(more)?;
+    if is_value(value) {
+        Some((Attribute { name, value }, rest))
+    } else {
+        None
+    }
+}
+
+/// The first attribute of a tail with the white space before it, and what is left of the tail.
+#[tactic(auto, unfolding(crate::specs::ScanTags::attribute_in))]
+pub(crate) fn first_attribute(tail: &[u8]) -> Option<(Attribute<'_>, &[u8])>
+    ensures { Gives (λ x. (attribute_view x.0, x.1.now)) result (attribute_in tail.now) }
+{
+    let (gap, more) = spaces(tail);
+    if gap.is_empty() {
+        return None;
+    }
+    attribute_behind_gap(more)
+}
+
+/// The first attribute of a tail, and what is left of the tail. `None` where no further attribute stands there.
+pub fn next_attribute(tail: &[u8]) -> Option<(Attribute<'_>, &[u8])>
+    ensures found { IfSome result (λ x. attributes_of tail.now ≡ attribute_view x.0 ∷ attributes_of x.1.now) }
+    ensures none { IsNone result → attributes_of tail.now ≡ [] }
+    ensures shorter { IfSome result (λ x. length x.1.now < length tail.now) }
+    ensures utf8 { IsUtf8 tail.now → IfSome result (λ x. IsUtf8 x.0.value.now × IsUtf8 x.1.now) }
+{
+    first_attribute(tail)
+}

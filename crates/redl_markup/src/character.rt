@@ -1,0 +1,39 @@
+//! The characters of a text.
+
+ghost use Rattle.std.specs.Prelude.{◌≡◌, IsTrue, ◌↔◌};
+ghost use Rattle.redl_markup.specs.Characters.{is_character, is_name_start, is_name_character, IsText};
+
+#[tactic(auto, unfolding(crate::specs::Characters::is_character))]
+pub(crate) fn is_character(c: char) -> bool
+    ensures { result ≡ is_character c }
+{
+    matches!(c, '\t' | '\n' | '\r' | '\u{20}'..='\u{D7FF}' | '\u{E000}'..='\u{FFFD}' | '\u{10000}'..='\u{10FFFF}')
+}
+
+#[tactic(auto, unfolding(crate::specs::Characters::is_name_start))]
+pub(crate) fn is_name_start(c: char) -> bool
+    ensures { result ≡ is_name_start c }
+{
+    matches!(c, ':' | 'A'..='Z' | '_' | 'a'..='z' | '\u{C0}'..='\u{D6}' | '\u{D8}'..='\u{F6}' | '\u{F8}'..='\u{2FF}'
+        | '\u{370}'..='\u{37D}' | '\u{37F}'..='\u{1FFF}' | '\u{200C}'..='\u{200D}' | '\u{2070}'..='\u{218F}'
+        | '\u{2C00}'..='\u{2FEF}' | '\u{3001}'..='\u{D7FF}' | '\u{F900}'..='\u{FDCF}' | '\u{FDF0}'..='\u{FFFD}'
+        | '\u{10000}'..='\u{EFFFF}')
+}
+
+#[tactic(auto, unfolding(crate::specs::Characters::is_name_character))]
+pub(crate) fn is_name_character(c: char) -> bool
+    ensures { result ≡ is_name_character c }
+{
+    is_name_start(c)
+        || matches!(c, '-' | '.' | '0'..='9' | '\u{B7}' | '\u{300}'..='\u{36F}' | '\u{203F}'..='\u{2040}')
+}
+
+/// Whether the bytes are UTF-8 and each character is one that an XML text may have (XML 1.0, production 2).
+pub fn is_text(bytes: &[u8]) -> bool
+    ensures { IsTrue result ↔ IsText bytes.now }
+{
+    match str::from_utf8(bytes) {
+        Ok(text) => text.chars().all(is_character),
+        Err(_) => false,
+    }
+}

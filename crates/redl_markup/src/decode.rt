@@ -1,0 +1,37 @@
+//! What a value says.
+
+ghost use Rattle.std.specs.Prelude.{◌≡◌, IfOk};
+ghost use Rattle.std.specs.Str.{IsUtf8};
+ghost use Rattle.redl_markup.specs.Decoding.{decoded_value};
+
+use crate::reference::reference;
+use crate::scan::is_space;
+use std::alloc::{AllocError, Global};
+
+/// An attribute's value with each reference replaced by its character, and white space by spaces.
+pub fn decode_value(alloc: Global, value: &[u8]) -> Result<Vec<u8>, AllocError>
+    ensures decoded { IfOk result (λ text. text.items ≡ decoded_value value.now) }
+    ensures utf8 { IsUtf8 value.now → IfOk result (λ text. IsUtf8 text.items) }
+{
+    let mut text = Vec::new(alloc);
+    let mut in_reference = false;
+    let mut left = value;
+    while let Some((first, rest)) = left.split_first() {
+        if in_reference {
+            in_reference = *first != b';';
+        } else if *first == b'&' {
+            if let Some((c, _)) = reference(rest) {
+                text.extend_from_slice(c.encode_utf8(&mut [0; 4]).as_bytes())?;
+            }
+            in_reference = true;
+        } else if *first == b'\r' && rest.starts_with(b"\n") {
+            // the line feed behind it becomes the one space
+        } else if is_space(*first) {
+            text.push(b' ')?;
+        } else {
+            text.push(*first)?;
+        }
+        left = rest;
+    }
+    Ok(text)
+}

@@ -1,0 +1,31 @@
+//! Why a piece was not read.
+
+ghost use Rattle.std.specs.Prelude.{◌≡◌};
+ghost use Rattle.redl_markup.specs.declared.error.MarkupError.TheVariants.{NoMemory};
+
+use std::alloc::{AllocError, AllocFailed};
+
+/// Why a piece was not read.
+#[derive(Clone, Copy, Debug, PartialEq, Eq)]
+pub enum MarkupError {
+    /// No piece stands at the front of the bytes.
+    Unreadable,
+    /// An allocation failed; nothing is known of the bytes.
+    NoMemory,
+}
+
+impl From<AllocError> for MarkupError {
+    ghost from_gives = { λ _ error. error ≡ NoMemory };
+
+    fn from(_error: AllocError) -> MarkupError {
+        MarkupError::NoMemory
+    }
+}
+
+impl<T: Drop> From<AllocFailed<T>> for MarkupError {
+    ghost from_gives = { λ _ error. error ≡ NoMemory };
+
+    fn from(_error: AllocFailed<T>) -> MarkupError {
+        MarkupError::NoMemory
+    }
+}

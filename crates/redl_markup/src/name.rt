@@ -1,0 +1,8 @@
+//! The name of an element or an attribute.
+
+/// A name as it is written. With no prefix, `prefix` is empty.
+#[derive(Clone, Copy, Debug, PartialEq, Eq, PartialOrd, Ord)]
+pub struct Name<'a> {
+    pub prefix: &'a [u8],
+    pub local: &'a [u8],
+}

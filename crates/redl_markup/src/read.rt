@@ -1,0 +1,46 @@
+//! One piece from the left.
+
+ghost use Rattle.std.specs.Prelude.{◌≡◌, codes, IfOk, IsErrOf};
+ghost use Rattle.redl_markup.specs.Pieces.{Stands, HasNoPiece};
+ghost use Rattle.redl_markup.specs.Reading.{Finds};
+ghost use Rattle.redl_markup.specs.ScanPieces.{piece_at};
+ghost use Rattle.redl_markup.specs.Views.{piece_view};
+
+use crate::error::MarkupError;
+use crate::item::begins_item;
+use crate::piece::Piece;
+use crate::place::Place;
+use crate::scan::skip;
+use crate::stretch::stretch;
+use crate::tag::{end_tag, start_tag};
+use std::alloc::Global;
+
+#[tactic(auto, unfolding(crate::specs::ScanPieces::piece_at))]
+fn read_piece(alloc: Global, bytes: &[u8], place: Place) -> Result<(Piece<'_>, &[u8]), MarkupError>
+    ensures { Finds (λ x. (piece_view x.0, x.1.now)) result (piece_at place bytes.now) }
+{
+    if let Some(rest) = skip(bytes, b"</") {
+        return end_tag(rest).ok_or(MarkupError::Unreadable);
+    }
+    match skip(bytes, b"<") {
+        Some(rest) if !begins_item(bytes) => start_tag(alloc, rest),
+        _ => stretch(bytes, place).ok_or(MarkupError::Unreadable),
+    }
+}
+
+/// The piece at the front of the bytes, as one of this place, and what stands behind it. A stretch is the longest one.
+///
+/// `Unreadable` exactly where no piece stands there, as at the end of the bytes. `NoMemory` comes of start tags alone.
+pub fn next_piece(
+    alloc: Global,
+    bytes: &[u8],
+    place: Place,
+) -> Result<(Piece<'_>, &[u8]), MarkupError>
+    ensures found { IfOk result (λ x. Stands place bytes.now (piece_view x.0) x.1.now) }
+    ensures unreadable { IsErrOf result MarkupError.Unreadable → HasNoPiece place bytes.now }
+
+    // The same as a function on lists, for those who read a list of pieces.
+    ensures read { Finds (λ x. (piece_view x.0, x.1.now)) result (piece_at place bytes.now) }
+{
+    read_piece(alloc, bytes, place)
+}

@@ -1,0 +1,75 @@
+//! Stretches without a tag.
+
+ghost use Rattle.std.specs.Prelude.{◌≡◌, length, codes};
+ghost use Rattle.std.specs.List.{list_all};
+ghost use Rattle.redl_markup.specs.Characters.{is_space};
+ghost use Rattle.redl_markup.specs.Lists.{lacks};
+ghost use Rattle.redl_markup.specs.Reading.{Gives};
+ghost use Rattle.redl_markup.specs.Stretches.{is_run};
+ghost use Rattle.redl_markup.specs.ScanStretches.{items_end, stretch_at};
+ghost use Rattle.redl_markup.specs.Views.{piece_view};
+
+use crate::declaration::after_head;
+use crate::item::{begins_item, item};
+use crate::piece::Piece;
+use crate::place::Place;
+use crate::reference::are_references;
+use crate::scan::{before, is_space, until};
+
+fn has_no_close(bytes: &[u8]) -> bool
+    ensures { result ≡ lacks (codes "]]>") bytes.now }
+{
+    let mut left = bytes;
+    while let Some((_, rest)) = left.split_first() {
+        if left.starts_with(b"]]>") {
+            return false;
+        }
+        left = rest;
+    }
+    true
+}
+
+fn is_all_space(bytes: &[u8]) -> bool
+    ensures { result ≡ list_all is_space bytes.now }
+{
+    bytes.iter().all(|b| is_space(*b))
+}
+
+fn is_run(bytes: &[u8], place: Place) -> bool
+    ensures { result ≡ is_run place bytes.now }
+{
+    match place {
+        Place::InElement => are_references(bytes) && has_no_close(bytes),
+        Place::BeforeRoot | Place::AfterRoot => is_all_space(bytes),
+    }
+}
+
+/// What stands behind runs and items.
+fn end_of_items(bytes: &[u8], place: Place) -> Option<&[u8]>
+    ensures { Gives (λ rest. rest.now) result (items_end place bytes.now) }
+{
+    let mut left = bytes;
+    loop {
+        let (run, rest) = until(left, b'<');
+        if !is_run(run, place) {
+            return None;
+        }
+        if !begins_item(rest) {
+            return Some(rest);
+        }
+        left = item(rest, place)?;
+    }
+}
+
+/// The longest stretch without a tag, and what stands behind it.
+#[tactic(auto, unfolding(crate::specs::ScanStretches::stretch_at))]
+pub(crate) fn stretch(bytes: &[u8], place: Place) -> Option<(Piece<'_>, &[u8])>
+    ensures { Gives (λ x. (piece_view x.0, x.1.now)) result (stretch_at place bytes.now) }
+{
+    let rest = end_of_items(after_head(bytes, place), place)?;
+    let stretch = before(bytes, rest);
+    if stretch.is_empty() {
+        return None;
+    }
+    Some((Piece::Stretch(stretch), rest))
+}

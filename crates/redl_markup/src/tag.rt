@@ -1,0 +1,82 @@
+//! Tags.
+
+ghost use Rattle.std.specs.Prelude.{◌≡◌, codes, map};
+ghost use Rattle.redl_markup.specs.Reading.{Gives, Finds};
+ghost use Rattle.redl_markup.specs.ScanTags.{ends_tag, attributes_at, tail_at, tag_at, end_tag_at};
+ghost use Rattle.redl_markup.specs.Views.{name_view, piece_view};
+
+use crate::attribute::first_attribute;
+use crate::distinct::no_two_alike;
+use crate::error::MarkupError;
+use crate::name::Name;
+use crate::piece::Piece;
+use crate::scan::{before, skip, spaces};
+use crate::word::name;
+use std::alloc::Global;
+
+#[tactic(auto, unfolding(crate::specs::ScanTags::ends_tag))]
+fn is_at_end(bytes: &[u8]) -> bool
+    ensures { result ≡ ends_tag bytes.now }
+{
+    matches!(bytes, [b'>' | b'/', ..])
+}
+
+/// The names of a tag's attributes, and what stands behind these and their white space.
+fn attributes(alloc: Global, bytes: &[u8]) -> Result<(Vec<Name<'_>>, &[u8]), MarkupError>
+    ensures { Finds (λ x. (map name_view x.0.items, x.1.now)) result (attributes_at bytes.now) }
+{
+    let mut names = Vec::new(alloc);
+    let mut rest = bytes;
+    loop {
+        let (_, more) = spaces(rest);
+        if is_at_end(more) {
+            return Ok((names, more));
+        }
+        let Some((attribute, behind)) = first_attribute(rest) else {
+            return Err(MarkupError::Unreadable);
+        };
+        names.push(attribute.name)?;
+        rest = behind;
+    }
+}
+
+/// A start tag's tail, and what stands behind it.
+#[tactic(auto, unfolding(crate::specs::ScanTags::tail_at))]
+fn tail(alloc: Global, bytes: &[u8]) -> Result<(&[u8], &[u8]), MarkupError>
+    ensures { Finds (λ x. (x.0.now, x.1.now)) result (tail_at bytes.now) }
+{
+    let (names, rest) = attributes(alloc, bytes)?;
+    if !no_two_alike(alloc, names)? {
+        return Err(MarkupError::Unreadable);
+    }
+    Ok((before(bytes, rest), rest))
+}
+
+/// A start tag or an empty element's tag, from behind its `<`.
+#[tactic(auto, unfolding(crate::specs::ScanTags::tag_at))]
+pub(crate) fn start_tag(alloc: Global, bytes: &[u8]) -> Result<(Piece<'_>, &[u8]), MarkupError>
+    ensures { Finds (λ x. (piece_view x.0, x.1.now)) result (tag_at bytes.now) }
+{
+    let Some((name, rest)) = name(bytes) else {
+        return Err(MarkupError::Unreadable);
+    };
+    let (tail, end) = tail(alloc, rest)?;
+    if let Some(rest) = skip(end, b">") {
+        return Ok((Piece::Start(name, tail), rest));
+    }
+    match skip(end, b"/>") {
+        Some(rest) => Ok((Piece::Empty(name, tail), rest)),
+        None => Err(MarkupError::Unreadable),
+    }
+}
+
+/// An end tag, from behind its `</`.
+#[tactic(auto, unfolding(crate::specs::ScanTags::end_tag_at))]
+pub(crate) fn end_tag(bytes: &[u8]) -> Option<(Piece<'_>, &[u8])>
+    ensures { Gives (λ x. (piece_view x.0, x.1.now)) result (end_tag_at bytes.now) }
+{
+    let (name, rest) = name(bytes)?;
+    let (space, end) = spaces(rest);
+    let rest = skip(end, b">")?;
+    Some((Piece::End(name, space), rest))
+}
