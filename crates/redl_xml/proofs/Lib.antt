@@ -10,3 +10,4 @@ pub mod Reading
 pub mod Texts
 pub mod Trees
 pub mod Readings
+pub mod Nearest

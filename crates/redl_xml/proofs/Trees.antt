@@ -29,7 +29,7 @@ use Rattle.redl_xml.proofs.Texts.{closing_then, text_then, text-then, text_then-
 
 -- ---- names
 
-same_bytes : (xs ys : List ℕ) → bytes_eq xs ys ≡ true → xs ≡ ys
+pub same_bytes : (xs ys : List ℕ) → bytes_eq xs ys ≡ true → xs ≡ ys
 same_bytes [] [] e = refl
 same_bytes [] (y ∷ ys) e = absurd cc
 same_bytes (x ∷ xs) [] e = absurd cc
@@ -37,7 +37,7 @@ same_bytes (x ∷ xs) (y ∷ ys) e =
     let both = and-true (eqb x y) (bytes_eq xs ys) e in
     rw (eqb-true x y both.0, same_bytes xs ys both.1) refl
 
-bytes_same : (xs : List ℕ) → bytes_eq xs xs ≡ true
+pub bytes_same : (xs : List ℕ) → bytes_eq xs xs ≡ true
 bytes_same [] = refl
 bytes_same (x ∷ xs) = and-both _ _ (eqb_same x) (bytes_same xs)
 

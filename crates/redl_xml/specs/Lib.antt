@@ -2,3 +2,8 @@ pub mod Plain
 pub mod Scan
 pub mod Build
 pub mod Views
+pub mod Scopes
+pub mod Readings
+pub mod Elements
+pub mod Surveys
+pub mod Stacks

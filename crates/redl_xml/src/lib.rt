@@ -6,17 +6,20 @@
 #![tactic(auto)]
 
 mod attribute;
+mod declaration;
 mod distinct;
 mod error;
 mod name;
 mod piece;
 mod pile;
-mod read;
+mod plain_document;
 mod scan;
+mod scope;
 mod tag;
+mod tail;
 
 /// How deep elements may stand in one another.
 pub const MAX_DEPTH: usize = 507;
 
 pub use error::PlainError;
-pub use read::{one_plain_reading, read_plain};
+pub use plain_document::{one_plain_reading, read_plain};
