@@ -11,3 +11,5 @@ pub mod Texts
 pub mod Trees
 pub mod Readings
 pub mod Nearest
+pub mod Scoping
+pub mod Buildings

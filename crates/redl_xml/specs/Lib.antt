@@ -7,3 +7,4 @@ pub mod Readings
 pub mod Elements
 pub mod Surveys
 pub mod Stacks
+pub mod Buildings

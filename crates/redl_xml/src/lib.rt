@@ -6,6 +6,7 @@
 #![tactic(auto)]
 
 mod attribute;
+mod building;
 mod declaration;
 mod distinct;
 mod error;
