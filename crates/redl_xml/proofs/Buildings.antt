@@ -1,5 +1,5 @@
 -- What a push or a pop on the open elements is, as plain data.
-use Rattle.std.proofs.Common.{◌≡◌, ℕ, true, List, [], ◌∷◌, ◌++◌, length, map, reverse, Some, refl, sym, ap, ◌∙◌}
+use Rattle.std.proofs.Common.{◌≡◌, ◌≢◌, ℕ, true, List, [], ◌∷◌, ◌++◌, length, map, reverse, Some, None, refl, sym, ap, ◌∙◌}
 use Rattle.std.proofs.lemmas.List.{map_push, reverse-append, length-map, length-reverse}
 use Rattle.redl_tree.specs.declared.kinds.Space.{Space}
 use Rattle.redl_tree.specs.declared.node.Close.TheVariants.{Empty, End}
@@ -8,9 +8,10 @@ use Rattle.redl_tree.specs.View.{nodes_of}
 use Rattle.redl_markup.specs.Names.{Name, name_eq}
 use Rattle.redl_markup.specs.Pieces.{empty_tag}
 use Rattle.redl_xml.specs.declared.building.OpenElement.{OpenElement}
+use Rattle.redl_xml.specs.declared.building.Building.{Building}
 use Rattle.redl_xml.specs.Scopes.{Scope}
-use Rattle.redl_xml.specs.Elements.{Frame, State, one_element, entered, left, closed, stretched, placed}
-use Rattle.redl_xml.specs.Buildings.{frame_view}
+use Rattle.redl_xml.specs.Elements.{Frame, State, one_element, entered, left, closed, stretched, placed, finished_by, finished}
+use Rattle.redl_xml.specs.Buildings.{frame_view, building_view}
 use Rattle.redl_xml.proofs.Scoping.{left_entered}
 
 abbrev pub state : List Frame → Nodes → Scope → State
@@ -39,3 +40,17 @@ pub closed_at : (fs rest : List OpenElement) (f : OpenElement) (kids : Nodes) (s
     → closed (frames fs) kids scope name space ≡ Some (state (frames rest) (nodes_of f.before.items ⊕ one_element (frame_view f).name f.space f.tail.now (End space) kids) (left f.tail.now scope))
 closed_at fs rest f kids scope name space e same =
     ap (λ (x : List Frame). closed x kids scope name space) (ap frames e ∙ frames-push rest f) ∙ rw same refl
+
+finished_none : (fs : List Frame) (kids : Nodes) → length fs ≡ 0 → finished_by fs kids ≡ Some kids
+finished_none [] kids e = refl
+finished_none (f ∷ fs) kids e = absurd cc
+
+finished_some : (fs : List Frame) (kids : Nodes) → (length fs ≢ 0) → finished_by fs kids ≡ None
+finished_some [] kids e = absurd (e refl)
+finished_some (f ∷ fs) kids e = refl
+
+pub finished_at : (b : Building) → length b.open.items ≡ 0 → finished (building_view b) ≡ Some (nodes_of b.kids.items)
+finished_at b e = finished_none (frames b.open.items) (nodes_of b.kids.items) (length-frames b.open.items ∙ e)
+
+pub unfinished_at : (b : Building) → (length b.open.items ≢ 0) → finished (building_view b) ≡ None
+unfinished_at b e = finished_some (frames b.open.items) (nodes_of b.kids.items) (λ h. e (sym (length-frames b.open.items) ∙ h))

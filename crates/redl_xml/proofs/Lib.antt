@@ -13,3 +13,6 @@ pub mod Readings
 pub mod Nearest
 pub mod Scoping
 pub mod Buildings
+pub mod OpenTags
+pub mod Loops
+pub mod Parts

@@ -8,3 +8,6 @@ pub mod Elements
 pub mod Surveys
 pub mod Stacks
 pub mod Buildings
+pub mod OpenTags
+pub mod Documents
+pub mod OutlineViews

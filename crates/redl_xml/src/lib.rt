@@ -9,13 +9,16 @@ mod attribute;
 mod building;
 mod declaration;
 mod distinct;
+mod document;
 mod error;
 mod name;
+mod outline;
 mod piece;
 mod pile;
 mod plain_document;
 mod scan;
 mod scope;
+mod survey;
 mod tag;
 mod tail;
 
