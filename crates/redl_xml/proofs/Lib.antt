@@ -16,3 +16,9 @@ pub mod Buildings
 pub mod OpenTags
 pub mod Loops
 pub mod Parts
+pub mod TreeTexts
+pub mod Sound
+pub mod Complete
+pub mod Measures
+pub mod Documents
+pub mod Answered

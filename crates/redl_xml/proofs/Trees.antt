@@ -117,12 +117,12 @@ less m n h = grind (arith, nat_tests)
 
 -- ---- what was built so far is plain
 
-abbrev last_is_bytes : Bool → Nodes → Bool
+abbrev pub last_is_bytes : Bool → Nodes → Bool
 last_is_bytes t no_nodes = t
 last_is_bytes t (bytes b rest) = last_is_bytes true rest
 last_is_bytes t (element tag kids rest) = last_is_bytes false rest
 
-abbrev ends_with_bytes : Nodes → Bool
+abbrev pub ends_with_bytes : Nodes → Bool
 ends_with_bytes x = last_is_bytes false x
 
 plain-⊕ : (x y : Nodes) → ArePlain x → ArePlain y → (ends_with_bytes x ≡ true → begins_with_bytes y ≡ false) → ArePlain (x ⊕ y)

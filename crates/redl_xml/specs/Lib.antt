@@ -11,3 +11,4 @@ pub mod Buildings
 pub mod OpenTags
 pub mod Documents
 pub mod OutlineViews
+pub mod Errors

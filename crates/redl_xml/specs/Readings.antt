@@ -2,6 +2,7 @@
 -- A text is UTF-8 of allowed characters with one root, without a document type declaration.
 use Rattle.std.specs.Prelude.{◌≡◌, ℕ, true, false, List, []}
 use Rattle.std.specs.List.{list_all}
+use Rattle.std.specs.Str.{IsUtf8}
 use Rattle.redl_tree.specs.Nodes.{Tag, Nodes, no_nodes, bytes, element, ◌⊕◌}
 use Rattle.redl_tree.specs.Text.{text}
 use Rattle.redl_tree.specs.declared.kinds.Kind.TheVariants.{Plain}
@@ -68,3 +69,19 @@ pub record IsReading (whole : List ℕ) (nodes : Nodes) : Type 0 where
   pub text : text nodes ≡ whole
   pub characters : IsText whole
   pub document : IsDocument nodes
+
+-- the bytes have a reading, of which this holds
+pub record HasReading (whole : List ℕ) (Fits : Nodes → Type 0) : Type 0 where
+  pub nodes : Nodes
+  pub reading : IsReading whole nodes
+  pub fits : Fits nodes
+
+-- no nodes are the reading of the bytes
+abbrev pub HasNoReading : List ℕ → Type 0
+HasNoReading whole = (nodes : Nodes) → IsReading whole nodes → ⊥
+
+-- each tail is that of a legal tag, in UTF-8
+abbrev pub HaveLegalTails : Nodes → Type 0
+HaveLegalTails no_nodes = Unit {0}
+HaveLegalTails (bytes b rest) = HaveLegalTails rest
+HaveLegalTails (element tag kids rest) = IsTail tag.tail × IsUtf8 tag.tail × HaveLegalTails kids × HaveLegalTails rest

@@ -11,6 +11,7 @@ mod declaration;
 mod distinct;
 mod document;
 mod error;
+mod laws;
 mod name;
 mod outline;
 mod piece;
@@ -21,9 +22,19 @@ mod scope;
 mod survey;
 mod tag;
 mod tail;
+mod xml_error;
 
 /// How deep elements may stand in one another.
 pub const MAX_DEPTH: usize = 507;
 
+/// How deep elements may stand in one another in a text that `read` reads, the root being at depth 1.
+pub const DEPTH_LIMIT: usize = 512;
+
+/// How many nodes a text that `read` reads may have.
+pub const NODE_LIMIT: u32 = 2_097_152;
+
+pub use document::read;
 pub use error::PlainError;
+pub use laws::{one_tree, tails_are_legal};
 pub use plain_document::{one_plain_reading, read_plain};
+pub use xml_error::XmlError;
