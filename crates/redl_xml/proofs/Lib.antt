@@ -10,3 +10,15 @@ pub mod Reading
 pub mod Texts
 pub mod Trees
 pub mod Readings
+pub mod Nearest
+pub mod Scoping
+pub mod Buildings
+pub mod OpenTags
+pub mod Loops
+pub mod Parts
+pub mod TreeTexts
+pub mod Sound
+pub mod Complete
+pub mod Measures
+pub mod Documents
+pub mod Answered

@@ -29,7 +29,7 @@ use Rattle.redl_xml.proofs.Texts.{closing_then, text_then, text-then, text_then-
 
 -- ---- names
 
-same_bytes : (xs ys : List ℕ) → bytes_eq xs ys ≡ true → xs ≡ ys
+pub same_bytes : (xs ys : List ℕ) → bytes_eq xs ys ≡ true → xs ≡ ys
 same_bytes [] [] e = refl
 same_bytes [] (y ∷ ys) e = absurd cc
 same_bytes (x ∷ xs) [] e = absurd cc
@@ -37,7 +37,7 @@ same_bytes (x ∷ xs) (y ∷ ys) e =
     let both = and-true (eqb x y) (bytes_eq xs ys) e in
     rw (eqb-true x y both.0, same_bytes xs ys both.1) refl
 
-bytes_same : (xs : List ℕ) → bytes_eq xs xs ≡ true
+pub bytes_same : (xs : List ℕ) → bytes_eq xs xs ≡ true
 bytes_same [] = refl
 bytes_same (x ∷ xs) = and-both _ _ (eqb_same x) (bytes_same xs)
 
@@ -117,12 +117,12 @@ less m n h = grind (arith, nat_tests)
 
 -- ---- what was built so far is plain
 
-abbrev last_is_bytes : Bool → Nodes → Bool
+abbrev pub last_is_bytes : Bool → Nodes → Bool
 last_is_bytes t no_nodes = t
 last_is_bytes t (bytes b rest) = last_is_bytes true rest
 last_is_bytes t (element tag kids rest) = last_is_bytes false rest
 
-abbrev ends_with_bytes : Nodes → Bool
+abbrev pub ends_with_bytes : Nodes → Bool
 ends_with_bytes x = last_is_bytes false x
 
 plain-⊕ : (x y : Nodes) → ArePlain x → ArePlain y → (ends_with_bytes x ≡ true → begins_with_bytes y ≡ false) → ArePlain (x ⊕ y)

@@ -2,3 +2,13 @@ pub mod Plain
 pub mod Scan
 pub mod Build
 pub mod Views
+pub mod Scopes
+pub mod Readings
+pub mod Elements
+pub mod Surveys
+pub mod Stacks
+pub mod Buildings
+pub mod OpenTags
+pub mod Documents
+pub mod OutlineViews
+pub mod Errors

@@ -4,7 +4,7 @@ use Rattle.std.proofs.lemmas.Result.{err_from_is_err_and}
 use Rattle.redl_xml.specs.Views.{piece_view, pile_view}
 use Rattle.redl_xml.proofs.Pieces.{piece_shorter}
 use Rattle.redl_xml.proofs.Reading.{loop_begins, loop_ends, loop_goes, fails_through, refuses_through}
-use Rattle.redl_xml.proofs.read.read_within.Goals as goal
+use Rattle.redl_xml.proofs.plain_document.read_within.Goals as goal
 
 pub loop-rest-init : goal.loop-rest-init
 loop-rest-init c = rw c.new-pile.ensures (loop_begins c.args.limit c.args.bytes.now)

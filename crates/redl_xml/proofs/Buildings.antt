@@ -1,0 +1,56 @@
+-- What a push or a pop on the open elements is, as plain data.
+use Rattle.std.proofs.Common.{◌≡◌, ◌≢◌, ℕ, true, List, [], ◌∷◌, ◌++◌, length, map, reverse, Some, None, refl, sym, ap, ◌∙◌}
+use Rattle.std.proofs.lemmas.List.{map_push, reverse-append, length-map, length-reverse}
+use Rattle.redl_tree.specs.declared.kinds.Space.{Space}
+use Rattle.redl_tree.specs.declared.node.Close.TheVariants.{Empty, End}
+use Rattle.redl_tree.specs.Nodes.{Nodes, no_nodes, bytes, ◌⊕◌}
+use Rattle.redl_tree.specs.View.{nodes_of}
+use Rattle.redl_markup.specs.Names.{Name, name_eq}
+use Rattle.redl_markup.specs.Pieces.{empty_tag}
+use Rattle.redl_xml.specs.declared.building.OpenElement.{OpenElement}
+use Rattle.redl_xml.specs.declared.building.Building.{Building}
+use Rattle.redl_xml.specs.Scopes.{Scope}
+use Rattle.redl_xml.specs.Elements.{Frame, State, one_element, entered, left, closed, stretched, placed, finished_by, finished}
+use Rattle.redl_xml.specs.Buildings.{frame_view, building_view}
+use Rattle.redl_xml.proofs.Scoping.{left_entered}
+
+abbrev pub state : List Frame → Nodes → Scope → State
+state fs kids scope = record { open_elements = fs; kids = kids; scope = scope }
+
+-- the frames with the innermost first
+abbrev pub frames : List OpenElement → List Frame
+frames fs = reverse (map frame_view fs)
+
+frames-push : (fs : List OpenElement) (f : OpenElement) → frames (fs ++ f ∷ []) ≡ frame_view f ∷ frames fs
+frames-push fs f = ap reverse (map_push frame_view fs f) ∙ reverse-append (map frame_view fs) (frame_view f ∷ [])
+
+pub length-frames : (fs : List OpenElement) → length (frames fs) ≡ length fs
+length-frames fs = length-reverse (map frame_view fs) ∙ length-map fs frame_view
+
+pub stretched_at : (fs : List Frame) (s : State) (b : List ℕ) (kids : Nodes) → (length fs ≡ 0 → ⊥) → kids ≡ s.kids ⊕ bytes b no_nodes → stretched fs s b ≡ Some (state s.open_elements kids s.scope)
+stretched_at [] s b kids some e = absurd (some refl)
+stretched_at (f ∷ fs) s b kids some e = ap (λ (k : Nodes). Some (state s.open_elements k s.scope)) (sym e)
+
+pub empty_at : (s : State) (name : Name) (tail : List ℕ) (x : Space × Scope) (kids : Nodes) (scope : Scope) → entered s.scope name tail ≡ Some x → kids ≡ s.kids ⊕ one_element name x.0 tail Empty no_nodes → scope ≡ left tail x.1 → placed (empty_tag name tail) s ≡ Some (state s.open_elements kids scope)
+empty_at s name tail x kids scope e k l =
+    let same : s.scope ≡ scope = sym (l ∙ left_entered s.scope name tail x e) in
+    rw e (ap (λ (n : Nodes). Some (state s.open_elements n s.scope)) (sym k) ∙ ap (λ (sc : Scope). Some (state s.open_elements kids sc)) same)
+
+pub closed_at : (fs rest : List OpenElement) (f : OpenElement) (kids : Nodes) (scope : Scope) (name : Name) (space : List ℕ) → fs ≡ rest ++ f ∷ [] → name_eq (frame_view f).name name ≡ true
+    → closed (frames fs) kids scope name space ≡ Some (state (frames rest) (nodes_of f.before.items ⊕ one_element (frame_view f).name f.space f.tail.now (End space) kids) (left f.tail.now scope))
+closed_at fs rest f kids scope name space e same =
+    ap (λ (x : List Frame). closed x kids scope name space) (ap frames e ∙ frames-push rest f) ∙ rw same refl
+
+finished_none : (fs : List Frame) (kids : Nodes) → length fs ≡ 0 → finished_by fs kids ≡ Some kids
+finished_none [] kids e = refl
+finished_none (f ∷ fs) kids e = absurd cc
+
+finished_some : (fs : List Frame) (kids : Nodes) → (length fs ≢ 0) → finished_by fs kids ≡ None
+finished_some [] kids e = absurd (e refl)
+finished_some (f ∷ fs) kids e = refl
+
+pub finished_at : (b : Building) → length b.open.items ≡ 0 → finished (building_view b) ≡ Some (nodes_of b.kids.items)
+finished_at b e = finished_none (frames b.open.items) (nodes_of b.kids.items) (length-frames b.open.items ∙ e)
+
+pub unfinished_at : (b : Building) → (length b.open.items ≢ 0) → finished (building_view b) ≡ None
+unfinished_at b e = finished_some (frames b.open.items) (nodes_of b.kids.items) (λ h. e (sym (length-frames b.open.items) ∙ h))

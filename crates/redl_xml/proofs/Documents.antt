@@ -1,0 +1,238 @@
+-- A document that is read is a reading of the bytes, and each reading is read.
+use Rattle.std.proofs.Common.{◌≡◌, ◌≢◌, ℕ, ◌+◌, Bool, true, false, cond, List, [], ◌∷◌, ◌++◌, Option, Some, None, refl, sym, ap, subst, ◌∙◌, arith, inl, inr, ◌⊎◌}
+use Rattle.std.specs.Option.{option_map}
+use Rattle.std.proofs.lemmas.List.{append-nil}
+use Rattle.std.proofs.lemmas.Option.{same_Some}
+use Rattle.redl_tree.specs.Nodes.{Tag, Nodes, no_nodes, bytes, element, ◌⊕◌}
+use Rattle.redl_tree.specs.Text.{text}
+use Rattle.redl_tree.specs.Count.{count}
+use Rattle.redl_tree.specs.declared.node.Close.{Close}
+use Rattle.redl_tree.specs.declared.node.Close.TheVariants.{Empty, End}
+use Rattle.redl_markup.specs.declared.place.Place.{Place}
+use Rattle.redl_markup.specs.declared.place.Place.TheVariants.{BeforeRoot, AfterRoot}
+use Rattle.redl_markup.specs.Lists.{is_filled}
+use Rattle.redl_markup.specs.Characters.{IsText}
+use Rattle.redl_markup.specs.Names.{name_text}
+use Rattle.redl_markup.specs.Stretches.{IsStretch, ends_stretch}
+use Rattle.redl_markup.specs.Pieces.{Piece, start_tag, empty_tag, end_tag, stretch}
+use Rattle.redl_markup.specs.ScanPieces.{piece_at}
+use Rattle.redl_markup.proofs.Names.{bind_some}
+use Rattle.redl_markup.proofs.Pieces.{piece_takes, piece_again, piece_shorter, start_ends_stretch}
+use Rattle.redl_xml.specs.Plain.{depth_of}
+use Rattle.redl_xml.specs.Readings.{name_of, AreLegal, IsStretchOrNone, IsReading}
+use Rattle.redl_xml.specs.Elements.{element_at}
+use Rattle.redl_xml.specs.Surveys.{survey_at}
+use Rattle.redl_xml.specs.Documents.{stretch_or_none, stretch_in, Outline, counted, outlined, outline_at, bytes_or_none, nodes_at}
+use Rattle.redl_xml.proofs.TreeTexts.{close_then, tree_then, tree-then, tree_then-⊕}
+use Rattle.redl_xml.proofs.Sound.{element_sound}
+use Rattle.redl_xml.proofs.Complete.{element_again}
+use Rattle.redl_xml.proofs.Measures.{depth-⊕, count-⊕, capped, one_more-capped, found_sizes, survey_measures}
+use Rattle.redl_xml.proofs.Parts.{outline, outline_is}
+
+none_some : {A : Type 0} (x : A) → None ≡ Some x → ⊥
+none_some x e = cc
+
+-- ---- a stretch or none
+
+stretch_of : (place : Place) (bs : List ℕ) (o : Option (Piece × List ℕ)) → piece_at place bs ≡ o → stretch_in place bs ≡ stretch_or_none bs o
+unfolding stretch_in
+stretch_of place bs o e = ap (stretch_or_none bs) e
+
+filled_or_none : (place : Place) (b : List ℕ) → IsStretch place b → IsStretchOrNone place (bytes_or_none b)
+filled_or_none place [] h = tt
+filled_or_none place (b ∷ bs) h = h
+
+-- what is read as a stretch or none stands there
+record TakesStretch (place : Place) (bs : List ℕ) (x : List ℕ × List ℕ) : Type 0 where
+  whole : bs ≡ x.0 ++ x.1
+  legal : IsStretchOrNone place (bytes_or_none x.0)
+
+takes_none : (place : Place) (bs : List ℕ) → TakesStretch place bs ([], bs)
+takes_none place bs = record { whole = refl; legal = tt }
+
+stretch_takes : (place : Place) (bs : List ℕ) → TakesStretch place bs (stretch_in place bs)
+stretch_takes place bs = of (piece_at place bs) refl where
+  of_piece : (p : Piece) (rest : List ℕ) → piece_at place bs ≡ Some (p, rest) → TakesStretch place bs (stretch_or_none bs (Some (p, rest)))
+  of_piece (stretch b) rest e = let t = piece_takes place bs (stretch b, rest) e in record { whole = t.whole; legal = filled_or_none place b t.legal }
+  of_piece (start_tag name tail) rest e = takes_none place bs
+  of_piece (empty_tag name tail) rest e = takes_none place bs
+  of_piece (end_tag name space) rest e = takes_none place bs
+
+  of : (o : Option (Piece × List ℕ)) → piece_at place bs ≡ o → TakesStretch place bs (stretch_in place bs)
+  of None e = let P : List ℕ × List ℕ → Type 0 = TakesStretch place bs in subst P (sym (stretch_of place bs None e)) (takes_none place bs)
+  of (Some x) e = let P : List ℕ × List ℕ → Type 0 = TakesStretch place bs in subst P (sym (stretch_of place bs (Some x) e)) (of_piece x.0 x.1 e)
+
+stretch_in_nothing : (place : Place) → stretch_in place [] ≡ ([], [])
+stretch_in_nothing place = of (piece_at place []) refl where
+  of : (o : Option (Piece × List ℕ)) → piece_at place [] ≡ o → stretch_in place [] ≡ ([], [])
+  of None e = stretch_of place [] None e
+  of (Some x) e = let less = piece_shorter place [] x e in absurd (omega arith)
+
+-- the bytes of a stretch or none
+pub record HasBytes (place : Place) (x : Nodes) : Type 0 where
+  pub bytes_of : List ℕ
+  pub is : x ≡ bytes_or_none bytes_of
+  pub legal : (bytes_of ≡ []) ⊎ IsStretch place bytes_of
+
+pub has_bytes : (place : Place) (x : Nodes) → IsStretchOrNone place x → HasBytes place x
+has_bytes place no_nodes h = record { bytes_of = []; is = refl; legal = inl refl }
+has_bytes place (bytes b no_nodes) h = record { bytes_of = b; is = filled b h.filled; legal = inr h } where
+  filled : (b : List ℕ) → (b ≢ []) → bytes b no_nodes ≡ bytes_or_none b
+  filled [] f = absurd (f refl)
+  filled (c ∷ cs) f = refl
+has_bytes place (bytes b (bytes c rest)) h = absurd h
+has_bytes place (bytes b (element tag kids rest)) h = absurd h
+has_bytes place (element tag kids rest) h = absurd h
+
+-- where no stretch stands in the rest, the bytes before it are read
+stretch_again : (place : Place) (b rest : List ℕ) → ((b ≡ []) ⊎ IsStretch place b) → ends_stretch rest ≡ true → stretch_in place rest ≡ ([], rest) → stretch_in place (b ++ rest) ≡ (b, rest)
+stretch_again place b rest (inl none) end e = ap (λ (x : List ℕ). stretch_in place (x ++ rest)) none ∙ e ∙ ap (λ (x : List ℕ). (x, rest)) (sym none)
+stretch_again place b rest (inr h) end e = stretch_of place (b ++ rest) (Some (stretch b, rest)) (piece_again place (stretch b) rest h end)
+
+-- before an element stands no stretch
+root_is_no_stretch : (place : Place) (tag : Tag) (kids : Nodes) (y : List ℕ) → AreLegal [] (element tag kids no_nodes) → stretch_in place (tree_then (element tag kids no_nodes) y) ≡ ([], tree_then (element tag kids no_nodes) y)
+root_is_no_stretch place tag kids y h = of tag.close where
+  of : (close : Close) → (let bs : List ℕ = 60 ∷ (name_text (name_of tag) ++ (tag.tail ++ close_then tag close (tree_then kids) y)) in stretch_in place bs ≡ ([], bs))
+  of Empty = stretch_of place _ _ (piece_again place (empty_tag (name_of tag) tag.tail) y (h.0.name, h.0.tail) tt)
+  of (End space) = stretch_of place _ _ (piece_again place (start_tag (name_of tag) tag.tail) (tree_then kids (60 ∷ 47 ∷ (name_text (name_of tag) ++ (space ++ (62 ∷ y))))) (h.0.name, h.0.tail) tt)
+
+-- ---- text and sizes of the parts
+
+bytes_then : (b y : List ℕ) → tree_then (bytes_or_none b) y ≡ b ++ y
+bytes_then [] y = refl
+bytes_then (c ∷ cs) y = refl
+
+pub whole_then : (b a : List ℕ) (u : Nodes) → text (bytes_or_none b ⊕ (u ⊕ bytes_or_none a)) ≡ b ++ tree_then u a
+whole_then b a u =
+    let whole : Nodes = bytes_or_none b ⊕ (u ⊕ bytes_or_none a) in
+    sym (append-nil (text whole)) ∙ tree-then whole [] ∙ tree_then-⊕ (bytes_or_none b) (u ⊕ bytes_or_none a) [] ∙ bytes_then b (tree_then (u ⊕ bytes_or_none a) [])
+    ∙ ap (λ (z : List ℕ). b ++ z) (tree_then-⊕ u (bytes_or_none a) [] ∙ ap (tree_then u) (bytes_then a [] ∙ append-nil a))
+
+bytes_depth : (b : List ℕ) → depth_of (bytes_or_none b) ≡ 0
+bytes_depth [] = refl
+bytes_depth (c ∷ cs) = refl
+
+whole_depth : (b a : List ℕ) (u : Nodes) → depth_of (bytes_or_none b ⊕ (u ⊕ bytes_or_none a)) ≡ depth_of u
+whole_depth b a u = omega (arith, depth-⊕ (bytes_or_none b) (u ⊕ bytes_or_none a), depth-⊕ u (bytes_or_none a), bytes_depth b, bytes_depth a)
+
+counted-capped : (limit : ℕ) (b : List ℕ) (n : ℕ) → counted limit b (capped limit n) ≡ capped limit (n + count (bytes_or_none b))
+counted-capped limit [] n = ap (capped limit) (let e : n ≡ n + 0 = omega arith in e)
+counted-capped limit (c ∷ cs) n = one_more-capped limit n
+
+whole_count : (limit : ℕ) (b a : List ℕ) (u : Nodes) → counted limit a (counted limit b (capped limit (count u))) ≡ capped limit (count (bytes_or_none b ⊕ (u ⊕ bytes_or_none a)))
+whole_count limit b a u =
+    let all : (count u + count (bytes_or_none b)) + count (bytes_or_none a) ≡ count (bytes_or_none b ⊕ (u ⊕ bytes_or_none a)) = omega (arith, count-⊕ (bytes_or_none b) (u ⊕ bytes_or_none a), count-⊕ u (bytes_or_none a)) in
+    ap (counted limit a) (counted-capped limit b (count u)) ∙ counted-capped limit a (count u + count (bytes_or_none b)) ∙ ap (capped limit) all
+
+-- ---- what is read is a reading
+
+-- the outline is that of a reading
+pub record HasOutline (limit : ℕ) (bs : List ℕ) (o : Outline) : Type 0 where
+  pub read : Nodes
+  pub reading : IsReading bs read
+  pub made : nodes_at o.before o.root o.after ≡ Some read
+  pub deepest : o.deepest ≡ depth_of read
+  pub nodes : o.nodes ≡ capped limit (count read)
+
+unfilled : (bs : List ℕ) → is_filled bs ≡ false → bs ≡ []
+unfilled [] e = refl
+unfilled (b ∷ bs) e = absurd cc
+
+cond_none : {A : Type 0} (t : Bool) (x y : A) → cond t None (Some x) ≡ Some y → (t ≡ false) × (x ≡ y)
+cond_none true x y e = absurd (none_some y e)
+cond_none false x y e = (refl, same_Some x y e)
+
+map_some : {A B : Type 0} (f : A → B) (o : Option A) (y : B) → option_map f o ≡ Some y → (x : A) × (o ≡ Some x) × (f x ≡ y)
+map_some f None y e = absurd (none_some y e)
+map_some f (Some x) y e = (x, refl, same_Some (f x) y e)
+
+made_at : (before root after : List ℕ) (x : Nodes × List ℕ) → element_at root ≡ Some x → nodes_at before root after ≡ Some (bytes_or_none before ⊕ (x.0 ⊕ bytes_or_none after))
+unfolding nodes_at
+made_at before root after x e = rw e refl
+
+parts_read : (limit : ℕ) (bs : List ℕ) (u : Nodes) (rest : List ℕ) (b a : List ℕ × List ℕ) → IsText bs → TakesStretch BeforeRoot bs b → element_at b.1 ≡ Some (u, rest) → TakesStretch AfterRoot rest a → a.1 ≡ []
+    → HasOutline limit bs (outline b.0 b.1 a.0 (depth_of u) (counted limit a.0 (counted limit b.0 (capped limit (count u)))))
+parts_read limit bs u rest b a t tb e ta none =
+    let s = element_sound b.1 u rest e in
+    let behind : rest ≡ a.0 = ta.whole ∙ ap (λ (z : List ℕ). a.0 ++ z) none ∙ append-nil a.0 in
+    let whole : text (bytes_or_none b.0 ⊕ (u ⊕ bytes_or_none a.0)) ≡ bs = whole_then b.0 a.0 u ∙ ap (λ (z : List ℕ). b.0 ++ tree_then u z) (sym behind) ∙ ap (λ (z : List ℕ). b.0 ++ z) s.whole ∙ sym tb.whole in
+    let P : Nodes → Type 0 = λ x. AreLegal [] x in
+    record {
+      read = bytes_or_none b.0 ⊕ (u ⊕ bytes_or_none a.0);
+      reading = record {
+        text = whole;
+        characters = t;
+        document = record {
+          before = bytes_or_none b.0;
+          root = s.one.tag;
+          kids = s.one.kids;
+          after = bytes_or_none a.0;
+          whole = ap (λ (x : Nodes). bytes_or_none b.0 ⊕ (x ⊕ bytes_or_none a.0)) s.one.whole;
+          is_before = tb.legal;
+          is_root = subst P s.one.whole s.legal;
+          is_after = ta.legal;
+        };
+      };
+      made = made_at b.0 b.1 a.0 (u, rest) e;
+      deepest = sym (whole_depth b.0 a.0 u);
+      nodes = whole_count limit b.0 a.0 u;
+    }
+
+pub outline_read : (limit : ℕ) (bs : List ℕ) (o : Outline) → IsText bs → outline_at limit bs ≡ Some o → HasOutline limit bs o
+unfolding outline_at
+outline_read limit bs o t e =
+    let b = stretch_in BeforeRoot bs in
+    let r = bind_some (survey_at limit b.1) (outlined limit b) o e in
+    let m = map_some (found_sizes limit) (element_at b.1) r.0 (sym (survey_measures limit b.1) ∙ r.1) in
+    let F : (ℕ × ℕ) × List ℕ → Type 0 = λ x. outlined limit b x ≡ Some o in
+    let out = subst F (sym m.2) r.2 in
+    let a = stretch_in AfterRoot m.0.1 in
+    let made : Outline = outline b.0 b.1 a.0 (depth_of m.0.0) (counted limit a.0 (counted limit b.0 (capped limit (count m.0.0)))) in
+    let c = cond_none (is_filled a.1) made o out in
+    let P : Outline → Type 0 = HasOutline limit bs in
+    subst P c.1 (parts_read limit bs m.0.0 m.0.1 b a t (stretch_takes BeforeRoot bs) m.1 (stretch_takes AfterRoot m.0.1) (unfilled a.1 c.0))
+
+-- ---- each reading is read
+
+pub record IsOutlined (limit : ℕ) (bs : List ℕ) (u : Nodes) : Type 0 where
+  pub parts : Outline
+  pub is : outline_at limit bs ≡ Some parts
+  pub made : nodes_at parts.before parts.root parts.after ≡ Some u
+
+parts_again : (limit : ℕ) (tag : Tag) (kids : Nodes) (b a : List ℕ) → AreLegal [] (element tag kids no_nodes) → ((b ≡ []) ⊎ IsStretch BeforeRoot b) → ((a ≡ []) ⊎ IsStretch AfterRoot a)
+    → IsOutlined limit (b ++ tree_then (element tag kids no_nodes) a) (bytes_or_none b ⊕ (element tag kids no_nodes ⊕ bytes_or_none a))
+parts_again limit tag kids b a h hb ha =
+    let r : Nodes = element tag kids no_nodes in
+    let root : List ℕ = tree_then r a in
+    let read = element_again tag kids a h in
+    let before : Some (stretch_in BeforeRoot (b ++ root)) ≡ Some (b, root) = ap (λ (x : List ℕ × List ℕ). Some x) (stretch_again BeforeRoot b root hb (start_ends_stretch (name_of tag) (tag.tail ++ close_then tag tag.close (tree_then kids) a) h.0.name) (root_is_no_stretch BeforeRoot tag kids a h)) in
+    let after : Some (stretch_in AfterRoot a) ≡ Some (a, []) = ap (λ (x : List ℕ). Some (stretch_in AfterRoot x)) (sym (append-nil a)) ∙ ap (λ (x : List ℕ × List ℕ). Some x) (stretch_again AfterRoot a [] ha refl (stretch_in_nothing AfterRoot)) in
+    let survey : survey_at limit root ≡ Some ((depth_of r, capped limit (count r)), a) = survey_measures limit root ∙ ap (option_map (found_sizes limit)) read in
+    record {
+      parts = outline b root a (depth_of r) (counted limit a (counted limit b (capped limit (count r))));
+      is = outline_is limit (b ++ root) b root (depth_of r) (capped limit (count r)) a a [] before survey after refl;
+      made = made_at b root a (r, a) read;
+    }
+
+pub reading_outlined : (limit : ℕ) (bs : List ℕ) (u : Nodes) → IsReading bs u → IsOutlined limit bs u
+reading_outlined limit bs u h =
+    let d = h.document in
+    let b = has_bytes BeforeRoot d.before d.is_before in
+    let a = has_bytes AfterRoot d.after d.is_after in
+    let r : Nodes = element d.root d.kids no_nodes in
+    let parts : u ≡ bytes_or_none b.bytes_of ⊕ (r ⊕ bytes_or_none a.bytes_of) = d.whole ∙ ap (λ (x : Nodes). x ⊕ element d.root d.kids d.after) b.is ∙ ap (λ (x : Nodes). bytes_or_none b.bytes_of ⊕ element d.root d.kids x) a.is in
+    let whole : b.bytes_of ++ tree_then r a.bytes_of ≡ bs = sym (whole_then b.bytes_of a.bytes_of r) ∙ ap text (sym parts) ∙ h.text in
+    let P : List ℕ → Type 0 = λ z. IsOutlined limit z (bytes_or_none b.bytes_of ⊕ (r ⊕ bytes_or_none a.bytes_of)) in
+    let Q : Nodes → Type 0 = λ x. IsOutlined limit bs x in
+    subst Q (sym parts) (subst P whole (parts_again limit d.root d.kids b.bytes_of a.bytes_of d.is_root b.legal a.legal))
+
+-- One text has at most one tree.
+pub one_tree : (bs : List ℕ) (u v : Nodes) → IsReading bs u → IsReading bs v → u ≡ v
+one_tree bs u v hu hv =
+    let m = reading_outlined 0 bs u hu in
+    let n = reading_outlined 0 bs v hv in
+    let same = same_Some m.parts n.parts (sym m.is ∙ n.is) in
+    same_Some u v (sym m.made ∙ ap (λ (o : Outline). nodes_at o.before o.root o.after) same ∙ n.made)
+
+pub no_outline : (limit : ℕ) (bs : List ℕ) → outline_at limit bs ≡ None → (u : Nodes) → IsReading bs u → ⊥
+no_outline limit bs e u h = let m = reading_outlined limit bs u h in none_some m.parts (sym e ∙ m.is)

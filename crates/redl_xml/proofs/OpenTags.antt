@@ -1,0 +1,62 @@
+-- What a push or a pop on the open tags is, as plain data.
+use Rattle.std.proofs.Common.{◌≡◌, ◌≢◌, ℕ, ◌+◌, max, true, List, [], ◌∷◌, ◌++◌, length, map, reverse, Some, None, refl, sym, ap, ◌∙◌}
+use Rattle.std.proofs.lemmas.List.{map_push, reverse-append, length-map, length-reverse}
+use Rattle.redl_tree.specs.declared.kinds.Space.{Space}
+use Rattle.redl_markup.specs.Names.{Name, name_eq}
+use Rattle.redl_markup.specs.Pieces.{start_tag, empty_tag}
+use Rattle.redl_xml.specs.declared.survey.OpenTag.{OpenTag}
+use Rattle.redl_xml.specs.declared.survey.Survey as code
+use Rattle.redl_xml.specs.Scopes.{Scope}
+use Rattle.redl_xml.specs.Elements.{entered, left}
+use Rattle.redl_xml.specs.Surveys.{Survey, one_more, surveyed, survey_closed, survey_stretched, survey_finished_by, survey_finished}
+use Rattle.redl_xml.specs.OpenTags.{tag_view, survey_view}
+use Rattle.redl_xml.proofs.Scoping.{left_entered}
+
+abbrev pub survey : List (Name × List ℕ) → ℕ → ℕ → Scope → Survey
+survey tags deepest nodes scope = record { open_tags = tags; deepest = deepest; nodes = nodes; scope = scope }
+
+-- the tags with the innermost first
+abbrev pub tags : List OpenTag → List (Name × List ℕ)
+tags ts = reverse (map tag_view ts)
+
+pub tags-push : (ts : List OpenTag) (t : OpenTag) → tags (ts ++ t ∷ []) ≡ tag_view t ∷ tags ts
+tags-push ts t = ap reverse (map_push tag_view ts t) ∙ reverse-append (map tag_view ts) (tag_view t ∷ [])
+
+pub length-tags : (ts : List OpenTag) → length (tags ts) ≡ length ts
+length-tags ts = length-reverse (map tag_view ts) ∙ length-map ts tag_view
+
+pub start_at : (limit : ℕ) (s : Survey) (name : Name) (tail : List ℕ) (x : Space × Scope) (open_now : List (Name × List ℕ)) (deepest nodes : ℕ) → entered s.scope name tail ≡ Some x → open_now ≡ (name, tail) ∷ s.open_tags → deepest ≡ max s.deepest (length s.open_tags + 1) → nodes ≡ one_more limit s.nodes
+    → surveyed limit (start_tag name tail) s ≡ Some (survey open_now deepest nodes x.1)
+start_at limit s name tail x open_now deepest nodes e o d n =
+    rw e (ap (λ (ts : List (Name × List ℕ)). Some (survey ts (max s.deepest (length s.open_tags + 1)) (one_more limit s.nodes) x.1)) (sym o)
+    ∙ ap (λ (k : ℕ). Some (survey open_now k (one_more limit s.nodes) x.1)) (sym d)
+    ∙ ap (λ (k : ℕ). Some (survey open_now deepest k x.1)) (sym n))
+
+pub empty_at : (limit : ℕ) (s : Survey) (name : Name) (tail : List ℕ) (x : Space × Scope) (deepest nodes : ℕ) (scope : Scope) → entered s.scope name tail ≡ Some x → deepest ≡ max s.deepest (length s.open_tags + 1) → nodes ≡ one_more limit s.nodes → scope ≡ left tail x.1
+    → surveyed limit (empty_tag name tail) s ≡ Some (survey s.open_tags deepest nodes scope)
+empty_at limit s name tail x deepest nodes scope e d n l =
+    let same : s.scope ≡ scope = sym (l ∙ left_entered s.scope name tail x e) in
+    rw e (ap (λ (k : ℕ). Some (survey s.open_tags k (one_more limit s.nodes) s.scope)) (sym d)
+    ∙ ap (λ (k : ℕ). Some (survey s.open_tags deepest k s.scope)) (sym n)
+    ∙ ap (λ (sc : Scope). Some (survey s.open_tags deepest nodes sc)) same)
+
+pub stretched_at : (limit : ℕ) (ts : List (Name × List ℕ)) (s : Survey) (nodes : ℕ) → (length ts ≡ 0 → ⊥) → nodes ≡ one_more limit s.nodes → survey_stretched limit ts s ≡ Some (survey s.open_tags s.deepest nodes s.scope)
+stretched_at limit [] s nodes some e = absurd (some refl)
+stretched_at limit (t ∷ ts) s nodes some e = ap (λ (k : ℕ). Some (survey s.open_tags s.deepest k s.scope)) (sym e)
+
+pub closed_at : (ts rest : List OpenTag) (t : OpenTag) (s : Survey) (name : Name) → ts ≡ rest ++ t ∷ [] → name_eq (tag_view t).0 name ≡ true → survey_closed (tags ts) s name ≡ Some (survey (tags rest) s.deepest s.nodes (left t.tail.now s.scope))
+closed_at ts rest t s name e same = ap (λ (x : List (Name × List ℕ)). survey_closed x s name) (ap tags e ∙ tags-push rest t) ∙ rw same refl
+
+finished_none : (ts : List (Name × List ℕ)) (deepest nodes : ℕ) → length ts ≡ 0 → survey_finished_by ts deepest nodes ≡ Some (deepest, nodes)
+finished_none [] deepest nodes e = refl
+finished_none (t ∷ ts) deepest nodes e = absurd cc
+
+finished_some : (ts : List (Name × List ℕ)) (deepest nodes : ℕ) → (length ts ≢ 0) → survey_finished_by ts deepest nodes ≡ None
+finished_some [] deepest nodes e = absurd (e refl)
+finished_some (t ∷ ts) deepest nodes e = refl
+
+pub finished_at : (v : code.Survey) → length v.open.items ≡ 0 → survey_finished (survey_view v) ≡ Some (v.deepest, v.nodes)
+finished_at v e = finished_none (tags v.open.items) v.deepest v.nodes (length-tags v.open.items ∙ e)
+
+pub unfinished_at : (v : code.Survey) → (length v.open.items ≢ 0) → survey_finished (survey_view v) ≡ None
+unfinished_at v e = finished_some (tags v.open.items) v.deepest v.nodes (λ h. e (sym (length-tags v.open.items) ∙ h))

@@ -1,0 +1,99 @@
+-- Into an element and out of it again: the scope is what it was.
+use Rattle.std.proofs.Common.{◌≡◌, ℕ, suc, true, cond, List, [], ◌∷◌, ◌++◌, length, drop, Option, Some, None, refl, sym, ap, subst, ◌∙◌, append_assoc, arith, length-append}
+use Rattle.std.specs.Prelude.{◌&&◌}
+use Rattle.std.specs.List.{list_all}
+use Rattle.std.proofs.Math.Seq.{drop-append_seam}
+use Rattle.std.proofs.lemmas.Option.{same_Some, cond_some}
+use Rattle.redl_tree.specs.declared.kinds.Space.{Space}
+use Rattle.redl_markup.specs.References.{is_there}
+use Rattle.redl_markup.specs.Names.{Name}
+use Rattle.redl_markup.specs.Decoding.{decoded_value}
+use Rattle.redl_markup.specs.Attributes.{attributes_of}
+use Rattle.redl_markup.proofs.Names.{bind_some}
+use Rattle.redl_markup.proofs.Runs.{and-true, and-both}
+use Rattle.redl_xml.specs.Scopes.{Scope, space_named, declared_prefix, declared_by, is_allowed, with_declarations, scope_in, space_of, is_element_prefix, is_known_attribute}
+use Rattle.redl_xml.specs.Elements.{with_attribute, with_attributes, known, entered, declarations, left}
+
+-- ---- the scope grows by the declarations
+
+record Grown (attributes : List (Name × List ℕ)) (scope : Scope) : Type 0 where
+  front : Scope
+  whole : with_declarations attributes scope ≡ front ++ scope
+  long : length front ≡ declarations attributes
+
+grown_more : (a : Name × List ℕ) (more : List (Name × List ℕ)) (scope : Scope) (o : Option (List ℕ)) → declared_prefix a.0 ≡ o → ((s : Scope) → Grown more s) → Grown (a ∷ more) scope
+grown_more a more scope None e go =
+    let g = go scope in
+    record {
+      front = g.front;
+      whole = ap (λ (x : Option (List ℕ)). with_declarations more (declared_by x a.1 scope)) e ∙ g.whole;
+      long = g.long ∙ ap (λ (x : Option (List ℕ)). cond (is_there x) (suc (declarations more)) (declarations more)) (sym e);
+    }
+grown_more a more scope (Some prefix) e go =
+    let d : List ℕ × Space = (prefix, space_named (decoded_value a.1)) in
+    let g = go (d ∷ scope) in
+    record {
+      front = g.front ++ d ∷ [];
+      whole = ap (λ (x : Option (List ℕ)). with_declarations more (declared_by x a.1 scope)) e ∙ g.whole ∙ sym (append_assoc g.front (d ∷ []) scope);
+      long = length-append g.front (d ∷ []) ∙ omega (arith, g.long) ∙ ap (λ (x : Option (List ℕ)). cond (is_there x) (suc (declarations more)) (declarations more)) (sym e);
+    }
+
+grown : (attributes : List (Name × List ℕ)) (scope : Scope) → Grown attributes scope
+grown [] scope = record { front = []; whole = refl; long = refl }
+grown (a ∷ more) scope = grown_more a more scope (declared_prefix a.0) refl (grown more)
+
+pub left_again : (tail : List ℕ) (scope : Scope) → left tail (scope_in tail scope) ≡ scope
+unfolding left
+left_again tail scope =
+    let g = grown (attributes_of tail) scope in
+    ap (drop (declarations (attributes_of tail))) g.whole ∙ ap (λ (n : ℕ). drop n (g.front ++ scope)) (sym g.long) ∙ drop-append_seam g.front scope
+
+-- ---- what entering says
+
+-- an element with these attributes may be entered
+pub record MayEnter (scope : Scope) (name : Name) (tail : List ℕ) : Type 0 where
+  pub declarations : list_all is_allowed (attributes_of tail) ≡ true
+  pub prefix : is_element_prefix (scope_in tail scope) name.prefix ≡ true
+  pub prefixes : list_all (is_known_attribute (scope_in tail scope)) (attributes_of tail) ≡ true
+
+abbrev pub inside : Scope → Name → List ℕ → Space × Scope
+inside scope name tail = (space_of (scope_in tail scope) name.prefix, scope_in tail scope)
+
+with_takes : (attributes : List (Name × List ℕ)) (scope s : Scope) → with_attributes attributes scope ≡ Some s → (list_all is_allowed attributes ≡ true) × (with_declarations attributes scope ≡ s)
+unfolding with_attribute
+with_takes [] scope s e = (refl, same_Some scope s e)
+with_takes (a ∷ more) scope s e =
+    let first = bind_some (cond (is_allowed a) (Some (declared_by (declared_prefix a.0) a.1 scope)) None) (with_attributes more) s e in
+    let c = cond_some (is_allowed a) (declared_by (declared_prefix a.0) a.1 scope) first.0 first.1 in
+    let P : Scope → Type 0 = λ x. with_attributes more x ≡ Some s in
+    let go = with_takes more (declared_by (declared_prefix a.0) a.1 scope) s (subst P (sym c.1) first.2) in
+    (and-both (is_allowed a) (list_all is_allowed more) c.0 go.0, go.1)
+
+with_again : (attributes : List (Name × List ℕ)) (scope : Scope) → list_all is_allowed attributes ≡ true → with_attributes attributes scope ≡ Some (with_declarations attributes scope)
+unfolding with_attribute
+with_again [] scope h = refl
+with_again (a ∷ more) scope h =
+    let both = and-true (is_allowed a) (list_all is_allowed more) h in
+    rw both.0 (with_again more (declared_by (declared_prefix a.0) a.1 scope) both.1)
+
+pub entered_takes : (scope : Scope) (name : Name) (tail : List ℕ) (x : Space × Scope) → entered scope name tail ≡ Some x → MayEnter scope name tail × (inside scope name tail ≡ x)
+unfolding entered known
+entered_takes scope name tail x e =
+    let r = bind_some (with_attributes (attributes_of tail) scope) (known name (attributes_of tail)) x e in
+    let t = with_takes (attributes_of tail) scope r.0 r.1 in
+    let P : Scope → Type 0 = λ s. known name (attributes_of tail) s ≡ Some x in
+    let inner = scope_in tail scope in
+    let c = cond_some (is_element_prefix inner name.prefix && list_all (is_known_attribute inner) (attributes_of tail)) (inside scope name tail) x (subst P (sym t.1) r.2) in
+    let both = and-true (is_element_prefix inner name.prefix) (list_all (is_known_attribute inner) (attributes_of tail)) c.0 in
+    (record { declarations = t.0; prefix = both.0; prefixes = both.1 }, c.1)
+
+pub entered_again : (scope : Scope) (name : Name) (tail : List ℕ) → MayEnter scope name tail → entered scope name tail ≡ Some (inside scope name tail)
+unfolding entered known
+entered_again scope name tail h =
+    rw (with_again (attributes_of tail) scope h.declarations, h.prefix, h.prefixes) refl
+
+-- the scope behind an element that was entered
+pub left_entered : (scope : Scope) (name : Name) (tail : List ℕ) (x : Space × Scope) → entered scope name tail ≡ Some x → left tail x.1 ≡ scope
+left_entered scope name tail x e =
+    let t = entered_takes scope name tail x e in
+    ap (λ (y : Space × Scope). left tail y.1) (sym t.1) ∙ left_again tail scope

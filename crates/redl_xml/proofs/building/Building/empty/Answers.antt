@@ -1,0 +1,18 @@
+use Rattle.std.proofs.Common.{◌∙◌, ap, List}
+use Rattle.redl_tree.specs.Nodes.{element_item}
+use Rattle.redl_tree.specs.View.{nodes_of}
+use Rattle.redl_tree.specs.declared.node.Node.{Node}
+use Rattle.redl_tree.specs.declared.node.Close.TheVariants.{Empty}
+use Rattle.redl_markup.specs.Views.{name_view}
+use Rattle.redl_xml.specs.Elements.{plain_tag}
+use Rattle.redl_xml.specs.Buildings.{building_view}
+use Rattle.redl_xml.proofs.Piles.{pushed}
+use Rattle.redl_xml.proofs.Buildings.{empty_at}
+use Rattle.redl_xml.proofs.building.Building.empty.Goals as goal
+
+pub returns-clause-ok : goal.returns-clause-ok
+returns-clause-ok c =
+    let old = c.args.self.now in
+    let name = name_view c.args.name in
+    let made = c.in_ok-node.ensures ∙ ap (λ (items : List Node). element_item (plain_tag name c.in_ok-space.space c.args.tail.now Empty) (nodes_of items)) c.new.ensures.items in
+    empty_at (building_view old) name c.args.tail.now (c.in_ok-space.space, c.enter.new.scopes) _ c.leave.new.scopes c.in_ok-space.ensures (pushed _ _ _ _ c.in_ok-push.ensures.items made) c.leave.ensures

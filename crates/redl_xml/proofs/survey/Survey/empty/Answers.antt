@@ -1,0 +1,12 @@
+use Rattle.std.proofs.Common.{◌≡◌, ◌∙◌, ◌+◌, ap, max, length, arith}
+use Rattle.redl_markup.specs.Views.{name_view}
+use Rattle.redl_xml.specs.OpenTags.{survey_view}
+use Rattle.redl_xml.proofs.OpenTags.{tags, length-tags, empty_at}
+use Rattle.redl_xml.proofs.survey.Survey.empty.Goals as goal
+
+pub returns-clause-ok : goal.returns-clause-ok
+returns-clause-ok c =
+    let old = c.args.self.now in
+    let len : c.len.result + 1 ≡ length (tags old.open.items) + 1 = omega (arith, c.len.ensures, old.open.ok.0, length-tags old.open.items) in
+    let deepest = c.max-self.ensures ∙ ap (max old.deepest) len in
+    empty_at c.args.limit (survey_view old) (name_view c.args.name) c.args.tail.now (c.in_ok-enter.field-0, c.enter.new.scopes) _ _ c.leave.new.scopes c.in_ok-enter.ensures deepest c.one_more-self.ensures c.leave.ensures

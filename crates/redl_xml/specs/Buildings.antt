@@ -1,0 +1,13 @@
+-- What the code's open elements are, as plain data.
+use Rattle.std.specs.Prelude.{map, reverse}
+use Rattle.redl_tree.specs.View.{nodes_of}
+use Rattle.redl_markup.specs.Views.{name_view}
+use Rattle.redl_xml.specs.declared.building.OpenElement.{OpenElement}
+use Rattle.redl_xml.specs.declared.building.Building.{Building}
+use Rattle.redl_xml.specs.Elements.{Frame, State}
+
+abbrev pub frame_view : OpenElement → Frame
+frame_view f = record { name = name_view f.name; tail = f.tail.now; space = f.space; before = nodes_of f.before.items }
+
+abbrev pub building_view : Building → State
+building_view b = record { open_elements = reverse (map frame_view b.open.items); kids = nodes_of b.kids.items; scope = b.scopes }

@@ -1,0 +1,141 @@
+-- One element read from the left, piece by piece, as a function on plain data.
+use Rattle.std.specs.Prelude.{ℕ, suc, ◌&&◌, List, [], ◌∷◌, length, drop, Option, Some, None, if◌then◌else◌}
+use Rattle.std.specs.List.{list_all}
+use Rattle.redl_tree.specs.Nodes.{Tag, Nodes, no_nodes, bytes, element, ◌⊕◌}
+use Rattle.redl_tree.specs.declared.kinds.Space.{Space}
+use Rattle.redl_tree.specs.declared.kinds.Kind.TheVariants.{Plain}
+use Rattle.redl_tree.specs.declared.node.Close.{Close}
+use Rattle.redl_tree.specs.declared.node.Close.TheVariants.{Empty, End}
+use Rattle.redl_markup.specs.declared.place.Place.TheVariants.{InElement}
+use Rattle.redl_markup.specs.Reading.{◌>>=◌, Turn, done, next, turns}
+use Rattle.redl_markup.specs.References.{is_there}
+use Rattle.redl_markup.specs.Names.{Name, name_eq}
+use Rattle.redl_markup.specs.Pieces.{Piece, start_tag, empty_tag, end_tag, stretch}
+use Rattle.redl_markup.specs.Attributes.{attributes_of}
+use Rattle.redl_markup.specs.ScanPieces.{piece_at}
+use Rattle.redl_xml.specs.Scopes.{Scope, declared_prefix, declared_by, is_allowed, space_of, is_element_prefix, is_known_attribute}
+
+-- ---- into an element and out of it
+
+-- the scope with what an attribute declares, where that may stand
+unfoldable pub with_attribute : Name × List ℕ → Scope → Option Scope
+with_attribute a scope = if is_allowed a then Some (declared_by (declared_prefix a.0) a.1 scope) else None
+
+abbrev pub with_attributes : List (Name × List ℕ) → Scope → Option Scope
+with_attributes [] scope = Some scope
+with_attributes (a ∷ more) scope = with_attribute a scope >>= with_attributes more
+
+-- the element's space and the scope in it, where its prefixes may be used
+unfoldable pub known : Name → List (Name × List ℕ) → Scope → Option (Space × Scope)
+known name attributes scope =
+    if is_element_prefix scope name.prefix && list_all (is_known_attribute scope) attributes then Some (space_of scope name.prefix, scope) else None
+
+unfoldable pub entered : Scope → Name → List ℕ → Option (Space × Scope)
+entered scope name tail = with_attributes (attributes_of tail) scope >>= known name (attributes_of tail)
+
+-- how many of the attributes are declarations
+abbrev pub declarations : List (Name × List ℕ) → ℕ
+declarations [] = 0
+declarations (a ∷ more) = if is_there (declared_prefix a.0) then suc (declarations more) else declarations more
+
+-- the scope behind the end tag of an element with this tail
+unfoldable pub left : List ℕ → Scope → Scope
+left tail scope = drop (declarations (attributes_of tail)) scope
+
+-- ---- the open elements
+
+-- an open element, and its siblings before it
+pub record Frame : Type 0 where
+  pub name : Name
+  pub tail : List ℕ
+  pub space : Space
+  pub before : Nodes
+
+-- The open elements, the innermost first, the nodes so far in that one, and its scope.
+pub record State : Type 0 where
+  pub open_elements : List Frame
+  pub kids : Nodes
+  pub scope : Scope
+
+-- the tag of an element in no revision
+abbrev pub plain_tag : Name → Space → List ℕ → Close → Tag
+plain_tag name space tail close = record {
+  prefix = name.prefix;
+  local = name.local;
+  space = space;
+  tail = tail;
+  close = close;
+  kind = Plain;
+  rev = 0;
+}
+
+abbrev pub one_element : Name → Space → List ℕ → Close → Nodes → Nodes
+one_element name space tail close kids = element (plain_tag name space tail close) kids no_nodes
+
+abbrev pub added : State → Nodes → State
+added s more = record { open_elements = s.open_elements; kids = s.kids ⊕ more; scope = s.scope }
+
+abbrev pub opened : Name → List ℕ → State → Space × Scope → State
+opened name tail s x = record {
+  open_elements = record { name = name; tail = tail; space = x.0; before = s.kids } ∷ s.open_elements;
+  kids = no_nodes;
+  scope = x.1;
+}
+
+abbrev pub closed : List Frame → Nodes → Scope → Name → List ℕ → Option State
+closed [] kids scope name space = None
+closed (f ∷ fs) kids scope name space =
+    if name_eq f.name name then Some (record { open_elements = fs; kids = f.before ⊕ one_element f.name f.space f.tail (End space) kids; scope = left f.tail scope }) else None
+
+-- a stretch stands in an element
+abbrev pub stretched : List Frame → State → List ℕ → Option State
+stretched [] s b = None
+stretched (f ∷ fs) s b = Some (added s (bytes b no_nodes))
+
+-- one more piece
+abbrev pub placed : Piece → State → Option State
+placed (start_tag name tail) s = entered s.scope name tail >>= λ x. Some (opened name tail s x)
+placed (empty_tag name tail) s = entered s.scope name tail >>= λ x. Some (added s (one_element name x.0 tail Empty no_nodes))
+placed (stretch b) s = stretched s.open_elements s b
+placed (end_tag name space) s = closed s.open_elements s.kids s.scope name space
+
+abbrev pub finished_by : List Frame → Nodes → Option Nodes
+finished_by [] kids = Some kids
+finished_by (f ∷ fs) kids = None
+
+-- the nodes, where no element is open
+abbrev pub finished : State → Option Nodes
+finished s = finished_by s.open_elements s.kids
+
+abbrev pub nothing_yet : State
+nothing_yet = record { open_elements = []; kids = no_nodes; scope = [] }
+
+-- ---- the turns
+
+-- what is left of the bytes, and what was made of those before it
+abbrev pub Point : Type 0 → Type 0
+Point S = List ℕ × S
+
+abbrev pub from_result : {S R : Type 0} → List ℕ → S → Option R → Turn (Point S) (R × List ℕ)
+from_result rest s None = next (rest, s)
+from_result rest s (Some r) = done (Some (r, rest))
+
+abbrev pub from_state : {S R : Type 0} → (S → Option R) → List ℕ → Option S → Turn (Point S) (R × List ℕ)
+from_state finish rest None = done None
+from_state finish rest (Some s) = from_result rest s (finish s)
+
+abbrev pub from_piece : {S R : Type 0} → (Piece → S → Option S) → (S → Option R) → S → Option (Piece × List ℕ) → Turn (Point S) (R × List ℕ)
+from_piece place finish s None = done None
+from_piece place finish s (Some x) = from_state finish x.1 (place x.0 s)
+
+-- a piece is placed, and where that finishes an element the turns end
+unfoldable pub element_step : {S R : Type 0} → (Piece → S → Option S) → (S → Option R) → Point S → Turn (Point S) (R × List ℕ)
+element_step place finish p = from_piece place finish p.1 (piece_at InElement p.0)
+
+-- pieces placed from a first state on, until an element is finished; with what stands behind it
+unfoldable pub element_by : {S R : Type 0} → (Piece → S → Option S) → (S → Option R) → S → List ℕ → Option (R × List ℕ)
+element_by place finish start bs = turns (element_step place finish) (suc (length bs)) (bs, start)
+
+-- the element at the front
+abbrev pub element_at : List ℕ → Option (Nodes × List ℕ)
+element_at bs = element_by placed finished nothing_yet bs

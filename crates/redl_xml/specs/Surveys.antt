@@ -1,0 +1,60 @@
+-- How deep an element goes and how many nodes it has, by the tags of the open elements alone.
+use Rattle.std.specs.Prelude.{ℕ, ◌+◌, max, nat_le, List, [], ◌∷◌, length, Option, Some, None, if◌then◌else◌}
+use Rattle.redl_markup.specs.Reading.{◌>>=◌}
+use Rattle.redl_markup.specs.Names.{Name, name_eq}
+use Rattle.redl_markup.specs.Pieces.{Piece, start_tag, empty_tag, end_tag, stretch}
+use Rattle.redl_xml.specs.Scopes.{Scope}
+use Rattle.redl_xml.specs.Elements.{entered, left, element_by}
+
+-- The names and tails of the open elements, the innermost first, the greatest depth so far, the nodes so far, up to
+-- one above a limit, and the scope in the innermost.
+pub record Survey : Type 0 where
+  pub open_tags : List (Name × List ℕ)
+  pub deepest : ℕ
+  pub nodes : ℕ
+  pub scope : Scope
+
+-- a count that goes to one above the limit
+abbrev pub one_more : ℕ → ℕ → ℕ
+one_more limit n = if nat_le n limit then n + 1 else n
+
+abbrev pub survey_closed : List (Name × List ℕ) → Survey → Name → Option Survey
+survey_closed [] s name = None
+survey_closed (t ∷ ts) s name =
+    if name_eq t.0 name then Some (record { open_tags = ts; deepest = s.deepest; nodes = s.nodes; scope = left t.1 s.scope }) else None
+
+abbrev pub survey_stretched : ℕ → List (Name × List ℕ) → Survey → Option Survey
+survey_stretched limit [] s = None
+survey_stretched limit (t ∷ ts) s = Some (record { open_tags = s.open_tags; deepest = s.deepest; nodes = one_more limit s.nodes; scope = s.scope })
+
+-- one more piece
+abbrev pub surveyed : ℕ → Piece → Survey → Option Survey
+surveyed limit (start_tag name tail) s = entered s.scope name tail >>= λ x. Some (record {
+  open_tags = (name, tail) ∷ s.open_tags;
+  deepest = max s.deepest (length s.open_tags + 1);
+  nodes = one_more limit s.nodes;
+  scope = x.1;
+})
+surveyed limit (empty_tag name tail) s = entered s.scope name tail >>= λ x. Some (record {
+  open_tags = s.open_tags;
+  deepest = max s.deepest (length s.open_tags + 1);
+  nodes = one_more limit s.nodes;
+  scope = s.scope;
+})
+surveyed limit (stretch b) s = survey_stretched limit s.open_tags s
+surveyed limit (end_tag name space) s = survey_closed s.open_tags s name
+
+abbrev pub survey_finished_by : List (Name × List ℕ) → ℕ → ℕ → Option (ℕ × ℕ)
+survey_finished_by [] deepest nodes = Some (deepest, nodes)
+survey_finished_by (t ∷ ts) deepest nodes = None
+
+-- depth and nodes, where no element is open
+abbrev pub survey_finished : Survey → Option (ℕ × ℕ)
+survey_finished s = survey_finished_by s.open_tags s.deepest s.nodes
+
+abbrev pub survey_begun : Survey
+survey_begun = record { open_tags = []; deepest = 0; nodes = 0; scope = [] }
+
+-- depth and nodes of the element at the front, and what stands behind it
+abbrev pub survey_at : ℕ → List ℕ → Option ((ℕ × ℕ) × List ℕ)
+survey_at limit bs = element_by (surveyed limit) survey_finished survey_begun bs

@@ -1,0 +1,77 @@
+//! The namespace declarations in scope.
+
+ghost use Rattle.std.specs.Prelude.{◌≡◌, [], ◌∷◌, drop, OnOk};
+ghost use Rattle.redl_xml.specs.Scopes.{Scope, nearest};
+ghost use Rattle.redl_xml.specs.Stacks.{scope_view, Agrees};
+
+use crate::declaration::Declaration;
+use redl_tree::Space;
+use std::alloc::{AllocError, Global};
+use std::collections::BTreeMap;
+use std::marker::Model;
+
+/// The declarations in scope, the nearest last, and for each prefix the space of its nearest one.
+#[derive(Drop)]
+pub(crate) struct Scopes<'a> {
+    declarations: Vec<Declaration<'a>>,
+    spaces: BTreeMap<&'a [u8], Option<Space>>,
+}
+
+impl<'a> Model for Scopes<'a> {
+    ghost Value = { Scope };
+
+    ghost view = { λ s. scope_view s.declarations.items };
+
+    ghost invariant = { λ s. Agrees s.spaces s.declarations.items };
+}
+
+impl<'a> Scopes<'a> {
+    pub(crate) fn new(alloc: Global) -> Scopes<'a>
+        ensures { result ≡ [] }
+    {
+        Scopes {
+            declarations: Vec::new(alloc),
+            spaces: BTreeMap::new(alloc),
+        }
+    }
+
+    /// The space of the nearest declaration of a prefix.
+    pub(crate) fn space(&self, prefix: &'a [u8]) -> Option<Space>
+        ensures { result ≡ nearest prefix.now self.now }
+    {
+        match self.spaces.get(prefix) {
+            Some(space) => *space,
+            None => None,
+        }
+    }
+
+    /// One more declaration, which is the nearest then.
+    pub(crate) fn declare(&mut self, prefix: &'a [u8], space: Space) -> Result<(), AllocError>
+        ensures { OnOk result (self.new ≡ (prefix.entry.now, space) ∷ self.old) }
+    {
+        let former = self.space(prefix);
+        self.declarations.push(Declaration {
+            prefix,
+            space,
+            former,
+        })?;
+        match self.spaces.insert(prefix, Some(space)) {
+            Ok(_) => Ok(()),
+            Err(_) => {
+                self.declarations.pop();
+                Err(AllocError)
+            }
+        }
+    }
+
+    /// The nearest declaration goes.
+    pub(crate) fn forget(&mut self)
+        ensures { self.new ≡ drop 1 self.old }
+    {
+        if let Some(nearest) = self.declarations.pop() {
+            if let Some(space) = self.spaces.get_mut(nearest.prefix) {
+                *space = nearest.former;
+            }
+        }
+    }
+}

@@ -1,0 +1,186 @@
+//! What the attributes of a start tag declare, and whether their prefixes may be used.
+
+ghost use Rattle.std.specs.Prelude.{◌≡◌, ◌||◌, codes};
+ghost use Rattle.std.specs.List.{list_all};
+ghost use Rattle.redl_markup.specs.Reading.{Gives, Finds};
+ghost use Rattle.redl_markup.specs.References.{is_there};
+ghost use Rattle.redl_markup.specs.Decoding.{decoded_value};
+ghost use Rattle.redl_markup.specs.Attributes.{attributes_of};
+ghost use Rattle.redl_markup.specs.Views.{name_view, attribute_view};
+ghost use Rattle.redl_xml.specs.Scopes.{space_named, is_xml_namespace, is_xml_prefix, is_xmlns, declared_prefix, may_declare, is_known, is_known_attribute, is_element_prefix};
+ghost use Rattle.redl_xml.specs.Elements.{with_attribute, with_attributes, known, entered, left};
+
+use crate::scope::Scopes;
+use redl_markup::{Attribute, MarkupError, Name, decode_value, next_attribute};
+use redl_tree::Space;
+use std::alloc::{AllocError, Global};
+
+/// The space of the namespace with this name.
+#[tactic(auto, unfolding(crate::specs::Scopes::space_named))]
+fn space_named(name: &[u8]) -> Space
+    ensures { result ≡ space_named name.now }
+{
+    if name == b"http://schemas.openxmlformats.org/wordprocessingml/2006/main".as_slice()
+        || name == b"http://purl.oclc.org/ooxml/wordprocessingml/main".as_slice()
+    {
+        return Space::W;
+    }
+    if name == b"http://schemas.openxmlformats.org/officeDocument/2006/math".as_slice() {
+        return Space::M;
+    }
+    if name == b"http://schemas.microsoft.com/office/2006/xmlPackage".as_slice() {
+        return Space::Pkg;
+    }
+    Space::Other
+}
+
+#[tactic(auto, unfolding(crate::specs::Scopes::is_xml_namespace))]
+fn is_xml_namespace(name: &[u8]) -> bool
+    ensures { result ≡ is_xml_namespace name.now }
+{
+    name == b"http://www.w3.org/XML/1998/namespace".as_slice()
+}
+
+#[tactic(auto, unfolding(crate::specs::Scopes::is_xml_prefix))]
+fn is_xml_prefix(prefix: &[u8]) -> bool
+    ensures { result ≡ is_xml_prefix prefix.now }
+{
+    prefix == b"xml".as_slice()
+}
+
+#[tactic(auto, unfolding(crate::specs::Scopes::is_xmlns))]
+fn is_xmlns(word: &[u8]) -> bool
+    ensures { result ≡ is_xmlns word.now }
+{
+    word == b"xmlns".as_slice()
+}
+
+/// The prefix that an attribute with this name declares, which is empty in `xmlns`.
+fn declared_prefix<'a>(name: Name<'a>) -> Option<&'a [u8]>
+    ensures { Gives (λ prefix. prefix.now) result (declared_prefix (name_view name.entry)) }
+{
+    if is_xmlns(name.prefix) {
+        return Some(name.local);
+    }
+    if name.prefix.is_empty() && is_xmlns(name.local) {
+        return Some(name.prefix);
+    }
+    None
+}
+
+/// Whether a prefix may be declared with this value, given as it is written and decoded.
+#[tactic(auto, unfolding(crate::specs::Scopes::may_declare))]
+fn may_declare(prefix: &[u8], value: &[u8], decoded: &[u8]) -> bool
+    requires { decoded.now ≡ decoded_value value.now }
+    ensures { result ≡ may_declare prefix.now value.now }
+{
+    if prefix.is_empty() {
+        return true;
+    }
+    !is_xmlns(prefix) && !value.is_empty() && (!is_xml_prefix(prefix) || is_xml_namespace(decoded))
+}
+
+#[tactic(auto, unfolding(crate::specs::Scopes::is_known))]
+fn is_known<'a>(scopes: &Scopes<'a>, prefix: &'a [u8]) -> bool
+    ensures { result ≡ is_known scopes.now prefix.now }
+{
+    prefix.is_empty() || is_xml_prefix(prefix) || scopes.space(prefix).is_some()
+}
+
+/// Whether an attribute with this name is a declaration, or has a prefix that may be used.
+fn is_known_attribute<'a>(scopes: &Scopes<'a>, name: Name<'a>) -> bool
+    ensures { result ≡ (is_there (declared_prefix (name_view name.entry)) || is_known scopes.now (name_view name.entry).prefix) }
+{
+    declared_prefix(name).is_some() || is_known(scopes, name.prefix)
+}
+
+/// Declares what an attribute declares.
+#[tactic(auto, unfolding(crate::specs::Elements::with_attribute))]
+fn declare_attribute<'a>(
+    scopes: &mut Scopes<'a>,
+    alloc: Global,
+    attribute: Attribute<'a>,
+) -> Result<(), MarkupError>
+    ensures { Finds (λ _. scopes.new) result (with_attribute (attribute_view attribute.entry) scopes.old) }
+{
+    let Some(prefix) = declared_prefix(attribute.name) else {
+        return Ok(());
+    };
+    let name = decode_value(alloc, attribute.value)?;
+    if !may_declare(prefix, attribute.value, &name) {
+        return Err(MarkupError::Unreadable);
+    }
+    scopes.declare(prefix, space_named(&name))?;
+    Ok(())
+}
+
+/// Declares what the attributes of a tail declare.
+fn declare_attributes<'a>(
+    scopes: &mut Scopes<'a>,
+    alloc: Global,
+    tail: &'a [u8],
+) -> Result<(), MarkupError>
+    ensures { Finds (λ _. scopes.new) result (with_attributes (attributes_of tail.entry.now) scopes.old) }
+{
+    let mut more = tail;
+    while let Some((attribute, rest)) = next_attribute(more) {
+        declare_attribute(scopes, alloc, attribute)?;
+        more = rest;
+    }
+    Ok(())
+}
+
+/// Whether the prefixes of a tail's attributes may be used.
+fn are_known<'a>(scopes: &Scopes<'a>, tail: &'a [u8]) -> bool
+    ensures { result ≡ list_all (is_known_attribute scopes.now) (attributes_of tail.now) }
+{
+    let mut more = tail;
+    while let Some((attribute, rest)) = next_attribute(more) {
+        if !is_known_attribute(scopes, attribute.name) {
+            return false;
+        }
+        more = rest;
+    }
+    true
+}
+
+/// The space of an element, whose prefix and whose attributes' prefixes may be used.
+#[tactic(auto, unfolding(crate::specs::Elements::known))]
+fn known_space<'a>(scopes: &Scopes<'a>, name: Name<'a>, tail: &'a [u8]) -> Option<Space>
+    ensures { Gives (λ space. (space, scopes.now)) result (known (name_view name.entry) (attributes_of tail.now) scopes.now) }
+{
+    if is_xmlns(name.prefix) || !is_known(scopes, name.prefix) || !are_known(scopes, tail) {
+        return None;
+    }
+    Some(scopes.space(name.prefix).unwrap_or(Space::Other))
+}
+
+/// Goes into an element: declares what it declares, and gives its space.
+///
+/// `Unreadable` exactly where a declaration may not stand, or a prefix of the tag may not be used.
+#[tactic(auto, unfolding(crate::specs::Elements::entered))]
+pub(crate) fn enter<'a>(
+    scopes: &mut Scopes<'a>,
+    alloc: Global,
+    name: Name<'a>,
+    tail: &'a [u8],
+) -> Result<Space, MarkupError>
+    ensures { Finds (λ space. (space, scopes.new)) result (entered scopes.old (name_view name.entry) tail.entry.now) }
+{
+    declare_attributes(scopes, alloc, tail)?;
+    known_space(scopes, name, tail).ok_or(MarkupError::Unreadable)
+}
+
+/// Goes out of an element with this tail.
+#[tactic(auto, unfolding(crate::specs::Elements::left))]
+pub(crate) fn leave<'a>(scopes: &mut Scopes<'a>, tail: &'a [u8])
+    ensures { scopes.new ≡ left tail.entry.now scopes.old }
+{
+    let mut more = tail;
+    while let Some((attribute, rest)) = next_attribute(more) {
+        if declared_prefix(attribute.name).is_some() {
+            scopes.forget();
+        }
+        more = rest;
+    }
+}

@@ -1,0 +1,30 @@
+//! Why a text was not read.
+
+ghost use Rattle.std.specs.Prelude.{◌≡◌};
+ghost use Rattle.redl_xml.specs.Errors.{error_of};
+
+use redl_markup::MarkupError;
+
+/// Why a text was not read.
+#[derive(Clone, Copy, Debug, PartialEq, Eq)]
+pub enum XmlError {
+    /// The bytes are the text of no tree.
+    Unreadable,
+    /// An element of the tree stands deeper than 512, the root being at depth 1.
+    Depth,
+    /// The tree goes no deeper, and has more than 2,097,152 nodes.
+    Nodes,
+    /// An allocation failed; nothing is known of the bytes.
+    NoMemory,
+}
+
+impl From<MarkupError> for XmlError {
+    ghost from_gives = { λ error e. e ≡ error_of error };
+
+    fn from(error: MarkupError) -> XmlError {
+        match error {
+            MarkupError::Unreadable => XmlError::Unreadable,
+            MarkupError::NoMemory => XmlError::NoMemory,
+        }
+    }
+}
