@@ -13,3 +13,6 @@ mod shape;
 
 pub use error::OpcError;
 pub use package::Package;
+
+#[cfg(test)]
+mod tests;
