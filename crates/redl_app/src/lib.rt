@@ -34,3 +34,6 @@ pub use laws::{a_reader, one_outcome};
 pub use status::Status;
 pub use top::{refuse_words, run, run_surely};
 pub use words::{WordsError, add_word};
+
+#[cfg(test)]
+mod tests;
