@@ -1,2 +1,4 @@
 pub mod ElementLaws
 pub mod PartLaws
+pub mod LabelLaws
+pub mod PlaceLaws

@@ -2,5 +2,6 @@ pub mod Code
 pub mod Elements
 pub mod Shape
 pub mod Parts
+pub mod Labels
 pub mod Tree
 pub mod PartView

@@ -8,14 +8,16 @@ ghost use Rattle.redl_opc.specs.Elements.{element_of};
 ghost use Rattle.redl_opc.specs.Shape.{refusal, IsCause, parts_of};
 ghost use Rattle.redl_opc.specs.Parts.{part_name, story, places_of};
 ghost use Rattle.redl_opc.specs.PartView.{part_view};
+ghost use Rattle.redl_opc.specs.Labels.{way_to_story, labelled_package};
 ghost use Rattle.redl_opc.specs.Tree.{IsTree};
 
-use crate::elements::element_at;
+use crate::elements::{element_at, only_element};
 use crate::error::OpcError;
+use crate::label::{first_place, label_at};
 use crate::listing::list_parts;
 use crate::part::Part;
 use crate::shape::{are_parts, have_document, package_of, story_of};
-use redl_tree::{Elem, Node};
+use redl_tree::{Elem, Kind, Node};
 use std::alloc::Global;
 use std::marker::Model;
 
@@ -118,5 +120,31 @@ impl Package {
         let root = package_of(&self.nodes)?;
         let part = element_at(&root.kids, part.place)?;
         story_of(part)
+    }
+
+    /// The places on the way from the package's root to the root of a story.
+    fn way_to_story(&self, part: u32) -> Option<[usize; 3]>
+        ensures { Gives (λ way. way) result (way_to_story self.now part) }
+    {
+        let part = part_at(&self.parts, part)?;
+        let place = part.place;
+        let root = package_of(&self.nodes)?;
+        let part = element_at(&root.kids, place)?;
+        let held = only_element(&part.kids)?;
+        Some([place, first_place(&part.kids), first_place(&held.kids)])
+    }
+
+    /// Labels one element of a story: sets its kind and the number of its revision. All else stays.
+    ///
+    /// The path leads down from the root of the story: the empty one names the root, and each item is a place among kids.
+    /// Where there is no such story or no such element, nothing is labelled. The call goes one level deeper for each item.
+    pub fn label(&mut self, part: u32, path: &[u32], kind: Kind, rev: u32)
+        ensures { self.new ≡ labelled_package kind rev part path.now self.old }
+    {
+        let Some(way) = self.way_to_story(part) else {
+            return;
+        };
+        let place = first_place(&self.nodes);
+        label_at(&mut self.nodes, place, &way, path, kind, rev);
     }
 }

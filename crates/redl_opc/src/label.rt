@@ -1,0 +1,64 @@
+//! Labels of elements.
+
+ghost use Rattle.std.specs.Prelude.{◌≡◌, ◌++◌};
+ghost use Rattle.redl_tree.specs.View.{nodes_of, item_of};
+ghost use Rattle.redl_opc.specs.Elements.{element_of};
+ghost use Rattle.redl_opc.specs.Labels.{changed_at, changed_item, labelled, first_place};
+
+use redl_tree::{Elem, Kind, Node};
+
+/// Labels the element at the end of a way and then a path down from an element. It goes one level deeper for each item.
+#[cycle(label)]
+pub(crate) fn label_below(elem: &mut Elem, way: &[usize], path: &[u32], kind: Kind, rev: u32)
+    ensures { element_of elem.new ≡ labelled kind rev (way.now ++ path.now) (element_of elem.old) }
+{
+    if let Some((place, rest)) = way.split_first() {
+        label_at(&mut elem.kids, *place, rest, path, kind, rev);
+    } else if let Some((place, rest)) = path.split_first() {
+        label_at(&mut elem.kids, *place as usize, &[], rest, kind, rev);
+    } else {
+        elem.kind = kind;
+        elem.rev = rev;
+    }
+}
+
+/// The same from the element at a place among nodes. Where no element stands there, nothing is labelled.
+#[cycle(label)]
+pub(crate) fn label_at(
+    nodes: &mut Vec<Node>,
+    place: usize,
+    way: &[usize],
+    path: &[u32],
+    kind: Kind,
+    rev: u32,
+)
+    ensures { nodes_of nodes.new.items ≡ changed_at place (labelled kind rev (way.now ++ path.now)) (nodes_of nodes.old.items) }
+{
+    if place < nodes.len() {
+        label_node(&mut nodes[place], way, path, kind, rev);
+    }
+}
+
+#[cycle(label)]
+fn label_node(node: &mut Node, way: &[usize], path: &[u32], kind: Kind, rev: u32)
+    ensures { item_of node.new ≡ changed_item (labelled kind rev (way.now ++ path.now)) (item_of node.old) }
+{
+    match node {
+        Node::Elem(elem) => label_below(elem, way, path, kind, rev),
+        Node::Bytes(_) => {}
+    }
+}
+
+/// The place of the first element among nodes, or how many nodes there are.
+pub(crate) fn first_place(nodes: &[Node]) -> usize
+    ensures { result ≡ first_place (nodes_of nodes.now) }
+{
+    let mut place = 0;
+    while place < nodes.len() {
+        if let Node::Elem(_) = &nodes[place] {
+            return place;
+        }
+        place += 1;
+    }
+    place
+}
