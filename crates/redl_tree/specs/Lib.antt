@@ -7,3 +7,4 @@ pub mod Places
 pub mod Kinds
 pub mod Fates
 pub mod Pass
+pub mod Packages

@@ -8,6 +8,7 @@
 mod copy;
 mod count;
 mod kinds;
+mod level;
 mod names;
 mod node;
 mod write;
@@ -15,6 +16,7 @@ mod write;
 pub use copy::copy_nodes;
 pub use count::count_nodes;
 pub use kinds::{Fate, Kind, Prop, Say, Space, Trace};
+pub use level::{Level, is_named_pkg, is_story_root};
 pub use names::{is_named, is_quiet};
 pub use node::{Close, Elem, Node};
 pub use write::write_nodes;

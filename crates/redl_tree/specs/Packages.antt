@@ -1,0 +1,56 @@
+-- Where nodes stand in a package, which of its elements are the roots of stories, and the pass of a package.
+-- A package is one XML text in the Flat OPC form: a `package` of parts, whose data is XML or not.
+-- `around` is the list of the tags of a node's ancestors, the nearest first.
+use Rattle.std.specs.Prelude.{ℕ, List, [], ◌∷◌, Bool, true, false, ◌&&◌, bytes_eq, codes, if◌then◌else◌}
+use Rattle.redl_tree.specs.Nodes.{Tag, Nodes, no_nodes, bytes, element}
+use Rattle.redl_tree.specs.Names.{is_any}
+use Rattle.redl_tree.specs.Pass.{pass}
+use Rattle.redl_tree.specs.declared.kinds.Say.{Say}
+use Rattle.redl_tree.specs.declared.kinds.Space.{Space}
+use Rattle.redl_tree.specs.declared.kinds.Space.TheVariants.{Pkg}
+use Rattle.redl_tree.specs.declared.level.Level.{Level}
+use Rattle.redl_tree.specs.declared.level.Level.TheVariants.{Top, Package, Part, Data, Below}
+
+abbrev pub is_pkg : Space → Bool
+is_pkg Pkg = true
+is_pkg _ = false
+
+-- an element of the package's namespace with this local name, given by its bytes
+abbrev pub named_pkg : List ℕ → Tag → Bool
+named_pkg name tag = is_pkg tag.space && bytes_eq tag.local name
+
+-- the level of the kids of an element
+abbrev pub level_below : Level → Tag → Level
+level_below Top tag = if named_pkg (codes "package") tag then Package else Below
+level_below Package tag = if named_pkg (codes "part") tag then Part else Below
+level_below Part tag = if named_pkg (codes "xmlData") tag then Data else Below
+level_below Data tag = Below
+level_below Below tag = Below
+
+-- the level of nodes with these ancestors
+abbrev pub level_of : List Tag → Level
+level_of [] = Top
+level_of (tag ∷ around) = level_below (level_of around) tag
+
+abbrev pub is_data_level : Level → Bool
+is_data_level Data = true
+is_data_level _ = false
+
+-- The roots of stories, the parts whose content is decided (ECMA-376 Part 1, 17.2.3, 17.10.3, 17.10.4, 17.11.15, 17.11.9, 17.13.4.6).
+abbrev pub is_story_root : Tag → Bool
+is_story_root tag = is_any ("document" ∷ "hdr" ∷ "ftr" ∷ "footnotes" ∷ "endnotes" ∷ "comments" ∷ []) tag
+
+-- an element with these ancestors is the root of a story: it stands in the data of a part, and has one of the six names
+abbrev pub is_root : List Tag → Tag → Bool
+is_root around tag = is_data_level (level_of around) && is_story_root tag
+
+-- The pass of a package passes the kids of each story's root, and leaves all else as it is.
+abbrev pub pass_in : List Say → List Tag → Nodes → Nodes
+pass_in says around no_nodes = no_nodes
+pass_in says around (bytes b rest) = bytes b (pass_in says around rest)
+pass_in says around (element tag kids rest) =
+    element tag (if is_root around tag then pass says (tag ∷ []) kids else pass_in says (tag ∷ around) kids)
+    (pass_in says around rest)
+
+abbrev pub pass_package : List Say → Nodes → Nodes
+pass_package says nodes = pass_in says [] nodes
