@@ -23,7 +23,7 @@ use Rattle.redl_markup.proofs.Runs.{either}
 use Rattle.redl_markup.proofs.Utf8.{piece_is_utf8}
 use Rattle.redl_xml.specs.declared.xml_error.XmlError.{XmlError}
 use Rattle.redl_xml.specs.declared.xml_error.XmlError.TheVariants.{Unreadable}
-use Rattle.redl_xml.specs.Plain.{depth_of}
+use Rattle.redl_xml.specs.Shapes.{depth_of}
 use Rattle.redl_xml.specs.Scopes.{Scope, scope_in}
 use Rattle.redl_xml.specs.Readings.{name_of, IsTag, ClosesBy, AreLegal, IsReading, HasReading, HasNoReading, HaveLegalTails}
 use Rattle.redl_xml.specs.Errors.{error_of}

@@ -1,10 +1,13 @@
--- What a push or a pop on the open elements is, as plain data.
-use Rattle.std.proofs.Common.{◌≡◌, ◌≢◌, ℕ, true, List, [], ◌∷◌, ◌++◌, length, map, reverse, Some, None, refl, sym, ap, ◌∙◌}
+-- What a push or a pop on nodes and on the open elements is, as plain data.
+use Rattle.std.proofs.Common.{◌≡◌, ◌≢◌, ℕ, Bool, true, false, List, [], ◌∷◌, ◌++◌, length, map, reverse, Some, None, refl, sym, ap, ◌∙◌}
+use Rattle.std.specs.Prelude.{not}
 use Rattle.std.proofs.lemmas.List.{map_push, reverse-append, length-map, length-reverse}
 use Rattle.redl_tree.specs.declared.kinds.Space.{Space}
 use Rattle.redl_tree.specs.declared.node.Close.TheVariants.{Empty, End}
-use Rattle.redl_tree.specs.Nodes.{Nodes, no_nodes, bytes, ◌⊕◌}
-use Rattle.redl_tree.specs.View.{nodes_of}
+use Rattle.redl_tree.specs.Nodes.{Nodes, no_nodes, bytes, Item, in_front, ◌⊕◌}
+use Rattle.redl_tree.specs.View.{item_of, nodes_of}
+use Rattle.redl_tree.specs.declared.node.Node.{Node}
+use Rattle.redl_tree.proofs.Laws.{nodes_of-push}
 use Rattle.redl_markup.specs.Names.{Name, name_eq}
 use Rattle.redl_markup.specs.Pieces.{empty_tag}
 use Rattle.redl_xml.specs.declared.building.OpenElement.{OpenElement}
@@ -13,6 +16,13 @@ use Rattle.redl_xml.specs.Scopes.{Scope}
 use Rattle.redl_xml.specs.Elements.{Frame, State, one_element, entered, left, closed, stretched, placed, finished_by, finished}
 use Rattle.redl_xml.specs.Buildings.{frame_view, building_view}
 use Rattle.redl_xml.proofs.Scoping.{left_entered}
+
+pub pushed : (old now : List Node) (n : Node) (i : Item) → now ≡ old ++ n ∷ [] → item_of n ≡ i → nodes_of now ≡ nodes_of old ⊕ in_front i no_nodes
+pushed old now n i e h = ap nodes_of e ∙ nodes_of-push old n ∙ ap (λ (j : Item). nodes_of old ⊕ in_front j no_nodes) h
+
+pub not-false : (t : Bool) → not t ≡ false → t ≡ true
+not-false true e = refl
+not-false false e = absurd cc
 
 abbrev pub state : List Frame → Nodes → Scope → State
 state fs kids scope = record { open_elements = fs; kids = kids; scope = scope }

@@ -16,7 +16,7 @@ use Rattle.redl_markup.specs.ScanPieces.{piece_at}
 use Rattle.redl_markup.proofs.Runs.{and-both}
 use Rattle.redl_markup.proofs.Turns.{enough}
 use Rattle.redl_markup.proofs.Pieces.{piece_again, piece_shorter, start_ends_stretch, end_ends_stretch}
-use Rattle.redl_xml.specs.Plain.{begins_with_bytes}
+use Rattle.redl_xml.specs.Shapes.{begins_with_bytes}
 use Rattle.redl_xml.specs.Scopes.{Scope, scope_in, space_of}
 use Rattle.redl_xml.specs.Readings.{name_of, IsTag, ClosesBy, AreLegal}
 use Rattle.redl_xml.specs.Elements.{left, Frame, State, plain_tag, placed, finished, nothing_yet, Point, from_result, from_state, from_piece, element_step, element_by, element_at}
@@ -24,7 +24,7 @@ use Rattle.redl_xml.proofs.Scoping.{MayEnter, entered_again, left_again}
 use Rattle.redl_xml.proofs.Buildings.{state}
 use Rattle.redl_xml.proofs.Loops.{size, step_of, step_goes, step_ends}
 use Rattle.redl_xml.proofs.TreeTexts.{close_then, tree_then}
-use Rattle.redl_xml.proofs.Trees.{bytes_same}
+use Rattle.redl_xml.proofs.Words.{bytes_same}
 
 -- the turns from a point give this, in some number
 record Gets (p : Point State) (u : Nodes) (rest : List ℕ) : Type 0 where

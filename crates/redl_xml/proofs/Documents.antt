@@ -18,7 +18,7 @@ use Rattle.redl_markup.specs.Pieces.{Piece, start_tag, empty_tag, end_tag, stret
 use Rattle.redl_markup.specs.ScanPieces.{piece_at}
 use Rattle.redl_markup.proofs.Names.{bind_some}
 use Rattle.redl_markup.proofs.Pieces.{piece_takes, piece_again, piece_shorter, start_ends_stretch}
-use Rattle.redl_xml.specs.Plain.{depth_of}
+use Rattle.redl_xml.specs.Shapes.{depth_of}
 use Rattle.redl_xml.specs.Readings.{name_of, AreLegal, IsStretchOrNone, IsReading}
 use Rattle.redl_xml.specs.Elements.{element_at}
 use Rattle.redl_xml.specs.Surveys.{survey_at}

@@ -1,15 +1,5 @@
-pub mod Runs
 pub mod Words
-pub mod Turns
-pub mod Names
-pub mod Alike
-pub mod Attributes
-pub mod Piles
-pub mod Pieces
-pub mod Reading
 pub mod Texts
-pub mod Trees
-pub mod Readings
 pub mod Nearest
 pub mod Scoping
 pub mod Buildings

@@ -14,7 +14,7 @@ use Rattle.redl_markup.specs.Names.{Name, name_eq}
 use Rattle.redl_markup.specs.Pieces.{Piece, start_tag, empty_tag, end_tag, stretch}
 use Rattle.redl_markup.specs.ScanPieces.{piece_at}
 use Rattle.redl_markup.proofs.Runs.{either}
-use Rattle.redl_xml.specs.Plain.{depth_of}
+use Rattle.redl_xml.specs.Shapes.{depth_of}
 use Rattle.redl_xml.specs.Scopes.{Scope}
 use Rattle.redl_xml.specs.Elements.{entered, left, Frame, State, one_element, added, opened, closed, stretched, placed, finished_by, finished, nothing_yet, Point, from_result, from_state, from_piece, element_step, element_by, element_at}
 use Rattle.redl_xml.specs.Surveys.{Survey, one_more, survey_closed, survey_stretched, surveyed, survey_finished_by, survey_finished, survey_at}

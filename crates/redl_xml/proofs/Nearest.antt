@@ -11,7 +11,7 @@ use Rattle.redl_tree.specs.declared.kinds.Space.{Space}
 use Rattle.redl_xml.specs.declared.declaration.Declaration.{Declaration}
 use Rattle.redl_xml.specs.Scopes.{Scope, nearest}
 use Rattle.redl_xml.specs.Stacks.{scope_by, scope_view, KeepFormer, flat, found, Agrees}
-use Rattle.redl_xml.proofs.Trees.{same_bytes, bytes_same}
+use Rattle.redl_xml.proofs.Words.{same_bytes, bytes_same}
 
 -- a map after a write at a prefix
 abbrev WrittenAt : List ℕ → BTreeMap (Bor (List ℕ)) (Option Space) → BTreeMap (Bor (List ℕ)) (Option Space) → Option Space → Type 0

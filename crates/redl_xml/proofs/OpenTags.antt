@@ -3,7 +3,7 @@ use Rattle.std.proofs.Common.{◌≡◌, ◌≢◌, ℕ, ◌+◌, max, true, Lis
 use Rattle.std.proofs.lemmas.List.{map_push, reverse-append, length-map, length-reverse}
 use Rattle.redl_tree.specs.declared.kinds.Space.{Space}
 use Rattle.redl_markup.specs.Names.{Name, name_eq}
-use Rattle.redl_markup.specs.Pieces.{start_tag, empty_tag}
+use Rattle.redl_markup.specs.Pieces.{empty_tag}
 use Rattle.redl_xml.specs.declared.survey.OpenTag.{OpenTag}
 use Rattle.redl_xml.specs.declared.survey.Survey as code
 use Rattle.redl_xml.specs.Scopes.{Scope}
@@ -24,13 +24,6 @@ tags-push ts t = ap reverse (map_push tag_view ts t) ∙ reverse-append (map tag
 
 pub length-tags : (ts : List OpenTag) → length (tags ts) ≡ length ts
 length-tags ts = length-reverse (map tag_view ts) ∙ length-map ts tag_view
-
-pub start_at : (limit : ℕ) (s : Survey) (name : Name) (tail : List ℕ) (x : Space × Scope) (open_now : List (Name × List ℕ)) (deepest nodes : ℕ) → entered s.scope name tail ≡ Some x → open_now ≡ (name, tail) ∷ s.open_tags → deepest ≡ max s.deepest (length s.open_tags + 1) → nodes ≡ one_more limit s.nodes
-    → surveyed limit (start_tag name tail) s ≡ Some (survey open_now deepest nodes x.1)
-start_at limit s name tail x open_now deepest nodes e o d n =
-    rw e (ap (λ (ts : List (Name × List ℕ)). Some (survey ts (max s.deepest (length s.open_tags + 1)) (one_more limit s.nodes) x.1)) (sym o)
-    ∙ ap (λ (k : ℕ). Some (survey open_now k (one_more limit s.nodes) x.1)) (sym d)
-    ∙ ap (λ (k : ℕ). Some (survey open_now deepest k x.1)) (sym n))
 
 pub empty_at : (limit : ℕ) (s : Survey) (name : Name) (tail : List ℕ) (x : Space × Scope) (deepest nodes : ℕ) (scope : Scope) → entered s.scope name tail ≡ Some x → deepest ≡ max s.deepest (length s.open_tags + 1) → nodes ≡ one_more limit s.nodes → scope ≡ left tail x.1
     → surveyed limit (empty_tag name tail) s ≡ Some (survey s.open_tags deepest nodes scope)

@@ -20,7 +20,7 @@ use Rattle.redl_markup.proofs.Names.{bind_some}
 use Rattle.redl_markup.proofs.Items.{item_begins}
 use Rattle.redl_markup.proofs.Stretches.{whole_then}
 use Rattle.redl_markup.proofs.Pieces.{piece_takes}
-use Rattle.redl_xml.specs.Plain.{begins_with_bytes}
+use Rattle.redl_xml.specs.Shapes.{begins_with_bytes}
 use Rattle.redl_xml.specs.Scopes.{Scope}
 use Rattle.redl_xml.specs.Readings.{IsTag, ClosesBy, AreLegal}
 use Rattle.redl_xml.specs.Elements.{entered, left, Frame, State, plain_tag, one_element, added, opened, closed, stretched, placed, finished_by, finished, nothing_yet, element_step, element_by, element_at}
@@ -28,7 +28,7 @@ use Rattle.redl_xml.proofs.Scoping.{MayEnter, inside, entered_takes, left_entere
 use Rattle.redl_xml.proofs.Buildings.{state}
 use Rattle.redl_xml.proofs.Loops.{step_goes, step_ends, step_fails, step_refuses}
 use Rattle.redl_xml.proofs.TreeTexts.{tree_then, tree_then-⊕}
-use Rattle.redl_xml.proofs.Trees.{ends_with_bytes, last_is_bytes, same_bytes}
+use Rattle.redl_xml.proofs.Words.{same_bytes}
 
 none_some : {A : Type 0} (x : A) → None ≡ Some x → ⊥
 none_some x e = cc
@@ -87,6 +87,14 @@ placed_text (stretch b) s s' rest e =
 placed_text (end_tag name space) s s' rest e = closed_text s.open_elements s.kids s.scope name space s' rest e
 
 -- ---- what was built so far is legal
+
+abbrev pub last_is_bytes : Bool → Nodes → Bool
+last_is_bytes t no_nodes = t
+last_is_bytes t (bytes b rest) = last_is_bytes true rest
+last_is_bytes t (element tag kids rest) = last_is_bytes false rest
+
+abbrev pub ends_with_bytes : Nodes → Bool
+ends_with_bytes x = last_is_bytes false x
 
 legal-⊕ : (scope : Scope) (x y : Nodes) → AreLegal scope x → AreLegal scope y → (ends_with_bytes x ≡ true → begins_with_bytes y ≡ false) → AreLegal scope (x ⊕ y)
 legal-⊕ scope no_nodes y hx hy apart = hy

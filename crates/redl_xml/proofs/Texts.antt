@@ -1,6 +1,6 @@
 -- The text of nodes with what stands behind it, as lists that compute.
 use Rattle.std.proofs.Common.{◌≡◌, ℕ, List, [], ◌∷◌, ◌++◌, refl, ap, ◌∙◌, append_assoc}
-use Rattle.redl_tree.specs.Nodes.{Tag, Nodes, no_nodes, bytes, element, ◌⊕◌}
+use Rattle.redl_tree.specs.Nodes.{Tag, Nodes, no_nodes, bytes, element}
 use Rattle.redl_tree.specs.Text.{text, name_text, rest_text}
 use Rattle.redl_tree.specs.declared.node.Close.{Close}
 use Rattle.redl_tree.specs.declared.node.Close.TheVariants.{Empty, End}
@@ -34,8 +34,3 @@ text-then (element tag kids rest) y =
     let name : List ℕ = name_text tag.prefix tag.local in
     regroup name tag.tail (rest_text tag tag.close (text kids)) (text rest) y
     ∙ ap (λ (w : List ℕ). 60 ∷ (name ++ (tag.tail ++ w))) (closing-then tag tag.close kids (text rest ++ y) (text_then rest y) (text-then kids) (text-then rest y))
-
-pub text_then-⊕ : (x y : Nodes) (z : List ℕ) → text_then (x ⊕ y) z ≡ text_then x (text_then y z)
-text_then-⊕ no_nodes y z = refl
-text_then-⊕ (bytes b rest) y z = ap (λ (w : List ℕ). b ++ w) (text_then-⊕ rest y z)
-text_then-⊕ (element tag kids rest) y z = ap (λ (w : List ℕ). 60 ∷ (name_text tag.prefix tag.local ++ (tag.tail ++ closing_then tag tag.close (text_then kids) w))) (text_then-⊕ rest y z)

@@ -1,7 +1,4 @@
-pub mod Plain
-pub mod Scan
-pub mod Build
-pub mod Views
+pub mod Shapes
 pub mod Scopes
 pub mod Readings
 pub mod Elements

@@ -15,7 +15,7 @@ use Rattle.redl_markup.specs.Names.{Name, IsName}
 use Rattle.redl_markup.specs.Tails.{IsSpace, IsTail}
 use Rattle.redl_markup.specs.Stretches.{IsStretch}
 use Rattle.redl_markup.specs.Attributes.{attributes_of}
-use Rattle.redl_xml.specs.Plain.{begins_with_bytes}
+use Rattle.redl_xml.specs.Shapes.{begins_with_bytes}
 use Rattle.redl_xml.specs.Scopes.{Scope, scope_in, space_of, is_allowed, is_element_prefix, is_known_attribute}
 
 abbrev pub name_of : Tag → Name

@@ -5,7 +5,7 @@ ghost use Rattle.redl_tree.specs.Nodes.{Nodes, ◌⊕◌};
 ghost use Rattle.redl_tree.specs.Count.{count};
 ghost use Rattle.redl_tree.specs.View.{nodes_of};
 ghost use Rattle.redl_markup.specs.Reading.{Finds};
-ghost use Rattle.redl_xml.specs.Plain.{depth_of};
+ghost use Rattle.redl_xml.specs.Shapes.{depth_of};
 ghost use Rattle.redl_xml.specs.Elements.{element_at};
 ghost use Rattle.redl_xml.specs.Documents.{nodes_at, bytes_or_none};
 ghost use Rattle.redl_xml.specs.Readings.{IsReading, HasReading, HasNoReading};

@@ -6,8 +6,7 @@ use Rattle.redl_tree.specs.declared.node.Close.TheVariants.{Empty}
 use Rattle.redl_markup.specs.Views.{name_view}
 use Rattle.redl_xml.specs.Elements.{plain_tag}
 use Rattle.redl_xml.specs.Buildings.{building_view}
-use Rattle.redl_xml.proofs.Piles.{pushed}
-use Rattle.redl_xml.proofs.Buildings.{empty_at}
+use Rattle.redl_xml.proofs.Buildings.{pushed, empty_at}
 use Rattle.redl_xml.proofs.building.Building.empty.Goals as goal
 
 pub returns-clause-ok : goal.returns-clause-ok

@@ -8,8 +8,7 @@ use Rattle.redl_markup.specs.Names.{name_eq}
 use Rattle.redl_markup.specs.Views.{name_view}
 use Rattle.redl_xml.specs.Scopes.{Scope}
 use Rattle.redl_xml.specs.Elements.{plain_tag, one_element, left}
-use Rattle.redl_xml.proofs.Piles.{pushed, not-false}
-use Rattle.redl_xml.proofs.Buildings.{state, frames, closed_at}
+use Rattle.redl_xml.proofs.Buildings.{pushed, not-false, state, frames, closed_at}
 use Rattle.redl_xml.proofs.building.Building.end.Goals as goal
 
 pub returns-clause-ok : goal.returns-clause-ok

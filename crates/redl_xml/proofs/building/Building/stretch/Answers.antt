@@ -1,7 +1,6 @@
 use Rattle.std.proofs.Common.{◌≡◌, length, arith}
 use Rattle.redl_xml.specs.Buildings.{building_view}
-use Rattle.redl_xml.proofs.Piles.{pushed}
-use Rattle.redl_xml.proofs.Buildings.{frames, length-frames, stretched_at}
+use Rattle.redl_xml.proofs.Buildings.{pushed, frames, length-frames, stretched_at}
 use Rattle.redl_xml.proofs.building.Building.stretch.Goals as goal
 
 pub returns-clause-ok : goal.returns-clause-ok
