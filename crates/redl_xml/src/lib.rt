@@ -24,3 +24,6 @@ pub const NODE_LIMIT: u32 = 2_097_152;
 pub use document::read;
 pub use laws::{one_tree, tails_are_legal};
 pub use xml_error::XmlError;
+
+#[cfg(test)]
+mod tests;
