@@ -1,14 +1,14 @@
--- What a push or a pop on the open tags is, as plain data.
-use Rattle.std.proofs.Common.{◌≡◌, ◌≢◌, ℕ, ◌+◌, max, true, List, [], ◌∷◌, ◌++◌, length, map, reverse, Some, None, refl, sym, ap, ◌∙◌}
-use Rattle.std.proofs.lemmas.List.{map_push, reverse-append, length-map, length-reverse}
+-- What an empty tag and the end of an element do to a survey, as plain data.
+use Rattle.std.proofs.Common.{◌≡◌, ◌≢◌, ℕ, ◌+◌, max, List, [], ◌∷◌, length, map, reverse, Some, None, refl, sym, ap, ◌∙◌}
+use Rattle.std.proofs.lemmas.List.{length-map, length-reverse}
 use Rattle.redl_tree.specs.declared.kinds.Space.{Space}
-use Rattle.redl_markup.specs.Names.{Name, name_eq}
+use Rattle.redl_markup.specs.Names.{Name}
 use Rattle.redl_markup.specs.Pieces.{empty_tag}
 use Rattle.redl_xml.specs.declared.survey.OpenTag.{OpenTag}
 use Rattle.redl_xml.specs.declared.survey.Survey as code
 use Rattle.redl_xml.specs.Scopes.{Scope}
 use Rattle.redl_xml.specs.Elements.{entered, left}
-use Rattle.redl_xml.specs.Surveys.{Survey, one_more, surveyed, survey_closed, survey_stretched, survey_finished_by, survey_finished}
+use Rattle.redl_xml.specs.Surveys.{Survey, one_more, surveyed, survey_finished_by, survey_finished}
 use Rattle.redl_xml.specs.OpenTags.{tag_view, survey_view}
 use Rattle.redl_xml.proofs.Scoping.{left_entered}
 
@@ -18,9 +18,6 @@ survey tags deepest nodes scope = record { open_tags = tags; deepest = deepest; 
 -- the tags with the innermost first
 abbrev pub tags : List OpenTag → List (Name × List ℕ)
 tags ts = reverse (map tag_view ts)
-
-pub tags-push : (ts : List OpenTag) (t : OpenTag) → tags (ts ++ t ∷ []) ≡ tag_view t ∷ tags ts
-tags-push ts t = ap reverse (map_push tag_view ts t) ∙ reverse-append (map tag_view ts) (tag_view t ∷ [])
 
 pub length-tags : (ts : List OpenTag) → length (tags ts) ≡ length ts
 length-tags ts = length-reverse (map tag_view ts) ∙ length-map ts tag_view
@@ -32,13 +29,6 @@ empty_at limit s name tail x deepest nodes scope e d n l =
     rw e (ap (λ (k : ℕ). Some (survey s.open_tags k (one_more limit s.nodes) s.scope)) (sym d)
     ∙ ap (λ (k : ℕ). Some (survey s.open_tags deepest k s.scope)) (sym n)
     ∙ ap (λ (sc : Scope). Some (survey s.open_tags deepest nodes sc)) same)
-
-pub stretched_at : (limit : ℕ) (ts : List (Name × List ℕ)) (s : Survey) (nodes : ℕ) → (length ts ≡ 0 → ⊥) → nodes ≡ one_more limit s.nodes → survey_stretched limit ts s ≡ Some (survey s.open_tags s.deepest nodes s.scope)
-stretched_at limit [] s nodes some e = absurd (some refl)
-stretched_at limit (t ∷ ts) s nodes some e = ap (λ (k : ℕ). Some (survey s.open_tags s.deepest k s.scope)) (sym e)
-
-pub closed_at : (ts rest : List OpenTag) (t : OpenTag) (s : Survey) (name : Name) → ts ≡ rest ++ t ∷ [] → name_eq (tag_view t).0 name ≡ true → survey_closed (tags ts) s name ≡ Some (survey (tags rest) s.deepest s.nodes (left t.tail.now s.scope))
-closed_at ts rest t s name e same = ap (λ (x : List (Name × List ℕ)). survey_closed x s name) (ap tags e ∙ tags-push rest t) ∙ rw same refl
 
 finished_none : (ts : List (Name × List ℕ)) (deepest nodes : ℕ) → length ts ≡ 0 → survey_finished_by ts deepest nodes ≡ Some (deepest, nodes)
 finished_none [] deepest nodes e = refl
