@@ -149,6 +149,7 @@ fn an_element_keeps_what_its_tags_say(rt: HostRuntime) -> Result<(), Fail> {
         ),
         ("<a></a>", "", "a", "", Some("")),
         ("<a/>", "", "a", "", None),
+        ("\u{FEFF}<a/>", "", "a", "", None),
         ("<p:q xmlns:p='u'\t/>", "p", "q", " xmlns:p='u'\t", None),
         (
             "<p:q\nxmlns:p='u'>x</p:q\r\n>",
@@ -215,102 +216,108 @@ fn space_at(nodes: &[Node], inner: bool) -> Option<Space> {
     Some(root.space)
 }
 
+// A namespace with what stands before it and behind it, whether the last element in the root is meant, and its space.
+const SPACES: &[(&str, &str, &str, bool, Space)] = &[
+    ("<w:p xmlns:w='", WORD, "'/>", false, Space::W),
+    ("<p xmlns='", STRICT, "'/>", false, Space::W),
+    ("<m:r xmlns:m=\"", MATH, "\"></m:r>", false, Space::M),
+    ("<a xmlns='", PACKAGE, "'/>", false, Space::Pkg),
+    ("<a xmlns='", "", "'/>", false, Space::Other),
+    ("<a x='", WORD, "'/>", false, Space::Other),
+    ("<xml:p xmlns='", WORD, "'/>", false, Space::Other),
+    ("<p xmlns:w='", WORD, "'/>", false, Space::Other),
+    ("<w:p xmlns='", WORD, "' xmlns:w='u'/>", false, Space::Other),
+    ("<w:p xmlns:w='", WORD, " '/>", false, Space::Other),
+    ("<w:p xmlns:w=' ", WORD, "'/>", false, Space::Other),
+    ("<w:p xmlns:w='", WORD, "/'/>", false, Space::Other),
+    ("<w:p xmlns:w='\t", WORD, "'/>", false, Space::Other),
+    ("<w:p xmlns:w='", WORD, "\r\n'/>", false, Space::Other),
+    ("<w:p xmlns:w='", WORD, "&#32;'/>", false, Space::Other),
+    (
+        "<w:p xmlns:w='",
+        "&#x68;ttp://schemas.openxmlformats.org/wordprocessingml/2006/mai&#110;",
+        "'/>",
+        false,
+        Space::W,
+    ),
+    (
+        "<w:p xmlns:w='",
+        "http://schemas.openxmlformats.org/wordprocessingml/2006/Main",
+        "'/>",
+        false,
+        Space::Other,
+    ),
+    ("<w:a xmlns:w='", WORD, "'><w:b/></w:a>", true, Space::W),
+    ("<a xmlns='", WORD, "'>x<b></b></a>", true, Space::W),
+    (
+        "<a xmlns='",
+        WORD,
+        "'><b xmlns=''/></a>",
+        true,
+        Space::Other,
+    ),
+    (
+        "<w:a xmlns:w='",
+        WORD,
+        "'><w:b xmlns:w='u'/></w:a>",
+        true,
+        Space::Other,
+    ),
+    (
+        "<w:a xmlns:w='u'><w:b xmlns:w='",
+        WORD,
+        "'/></w:a>",
+        true,
+        Space::W,
+    ),
+    (
+        "<w:a xmlns:w='u'><w:b xmlns:w='",
+        WORD,
+        "'/></w:a>",
+        false,
+        Space::Other,
+    ),
+    (
+        "<w:a xmlns:w='",
+        MATH,
+        "'><w:b xmlns:w='u'/><w:c/></w:a>",
+        true,
+        Space::M,
+    ),
+    (
+        "<w:a xmlns:w='",
+        MATH,
+        "'><b xmlns:w='u'></b><w:c/></w:a>",
+        true,
+        Space::M,
+    ),
+    (
+        "<a xmlns:w='u'><b xmlns='",
+        WORD,
+        "'/><c/></a>",
+        true,
+        Space::Other,
+    ),
+    (
+        "<a xmlns='",
+        PACKAGE,
+        "'><b xmlns:w='u' xmlns='v'/><c/></a>",
+        true,
+        Space::Pkg,
+    ),
+];
+
 #[test]
 fn a_space_is_that_of_the_nearest_declaration(rt: HostRuntime) -> Result<(), Fail> {
-    for (before, namespace, after, inner, want) in [
-        ("<w:p xmlns:w='", WORD, "'/>", false, Space::W),
-        ("<p xmlns='", STRICT, "'/>", false, Space::W),
-        ("<m:r xmlns:m=\"", MATH, "\"></m:r>", false, Space::M),
-        ("<a xmlns='", PACKAGE, "'/>", false, Space::Pkg),
-        ("<a xmlns='", "", "'/>", false, Space::Other),
-        ("<a x='", WORD, "'/>", false, Space::Other),
-        ("<xml:p xmlns='", WORD, "'/>", false, Space::Other),
-        ("<p xmlns:w='", WORD, "'/>", false, Space::Other),
-        ("<w:p xmlns='", WORD, "' xmlns:w='u'/>", false, Space::Other),
-        ("<w:p xmlns:w='", WORD, " '/>", false, Space::Other),
-        ("<w:p xmlns:w=' ", WORD, "'/>", false, Space::Other),
-        ("<w:p xmlns:w='", WORD, "/'/>", false, Space::Other),
-        (
-            "<w:p xmlns:w='",
-            "&#x68;ttp://schemas.openxmlformats.org/wordprocessingml/2006/mai&#110;",
-            "'/>",
-            false,
-            Space::W,
-        ),
-        (
-            "<w:p xmlns:w='",
-            "http://schemas.openxmlformats.org/wordprocessingml/2006/Main",
-            "'/>",
-            false,
-            Space::Other,
-        ),
-        ("<w:a xmlns:w='", WORD, "'><w:b/></w:a>", true, Space::W),
-        ("<a xmlns='", WORD, "'>x<b></b></a>", true, Space::W),
-        (
-            "<a xmlns='",
-            WORD,
-            "'><b xmlns=''/></a>",
-            true,
-            Space::Other,
-        ),
-        (
-            "<w:a xmlns:w='",
-            WORD,
-            "'><w:b xmlns:w='u'/></w:a>",
-            true,
-            Space::Other,
-        ),
-        (
-            "<w:a xmlns:w='u'><w:b xmlns:w='",
-            WORD,
-            "'/></w:a>",
-            true,
-            Space::W,
-        ),
-        (
-            "<w:a xmlns:w='u'><w:b xmlns:w='",
-            WORD,
-            "'/></w:a>",
-            false,
-            Space::Other,
-        ),
-        (
-            "<w:a xmlns:w='",
-            MATH,
-            "'><w:b xmlns:w='u'/><w:c/></w:a>",
-            true,
-            Space::M,
-        ),
-        (
-            "<w:a xmlns:w='",
-            MATH,
-            "'><b xmlns:w='u'></b><w:c/></w:a>",
-            true,
-            Space::M,
-        ),
-        (
-            "<a xmlns:w='u'><b xmlns='",
-            WORD,
-            "'/><c/></a>",
-            true,
-            Space::Other,
-        ),
-        (
-            "<a xmlns='",
-            PACKAGE,
-            "'><b xmlns:w='u' xmlns='v'/><c/></a>",
-            true,
-            Space::Pkg,
-        ),
-    ] {
+    for (before, namespace, after, inner, want) in SPACES {
         let alloc = rt.alloc();
         let mut text = before.as_bytes().to_vec(alloc)?;
         text.extend_from_slice(namespace.as_bytes())?;
         text.extend_from_slice(after.as_bytes())?;
         let read = read(alloc, &text)?;
         assert_eq!(rt;
-            space_at(&read, inner),
-            Some(want),
+            space_at(&read, *inner),
+            Some(*want),
             "{before}{namespace}{after}"
         );
     }
