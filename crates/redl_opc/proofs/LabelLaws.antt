@@ -4,7 +4,8 @@ use Rattle.std.specs.List.{list_all, list_any}
 use Rattle.redl_tree.specs.Nodes.{Nodes, no_nodes, bytes, element}
 use Rattle.redl_tree.specs.declared.kinds.Kind.{Kind}
 use Rattle.redl_opc.specs.Elements.{Element, elements_of, only, only_element}
-use Rattle.redl_opc.specs.Shape.{named_pkg, has_attribute, is_data, is_data_alone, is_part, root_in, is_story_root, story_root, story_of, is_document_root, is_document, package_in, package_of, parts_refusal, refusal_of, refusal}
+use Rattle.redl_tree.specs.Packages.{named_pkg, is_story_root}
+use Rattle.redl_opc.specs.Shape.{has_attribute, is_data, is_data_alone, is_part, root_in, story_root, story_of, is_document_root, is_document, package_in, package_of, parts_refusal, refusal_of, refusal}
 use Rattle.redl_opc.specs.Parts.{name_in, places_from, places_in, places_of, IsKept}
 use Rattle.redl_opc.specs.Labels.{changed_at, labelled, unlabelled}
 
