@@ -1,7 +1,8 @@
 -- Labels are no part of the shape of a package.
-use Rattle.std.proofs.Common.{◌≡◌, ◌&&◌, ◌||◌, ℕ, zero, suc, List, [], ◌∷◌, map, Option, Some, None, Bool, true, false, cond, is_some, option_map, refl, sym, ap, ◌∙◌, codes}
+use Rattle.std.proofs.Common.{◌≡◌, ◌+◌, ◌&&◌, ◌||◌, ℕ, arith, zero, suc, List, [], ◌∷◌, map, Option, Some, None, Bool, true, false, cond, is_some, option_map, refl, sym, ap, ◌∙◌, codes}
 use Rattle.std.specs.List.{list_all, list_any}
 use Rattle.redl_tree.specs.Nodes.{Nodes, no_nodes, bytes, element}
+use Rattle.redl_tree.specs.Count.{count}
 use Rattle.redl_tree.specs.declared.kinds.Kind.{Kind}
 use Rattle.redl_opc.specs.Elements.{Element, elements_of, only, only_element}
 use Rattle.redl_tree.specs.Packages.{named_pkg, is_story_root}
@@ -106,6 +107,11 @@ places_in-plain (Some e) = places_from-unlabelled 0 e.kids
 places_of-unlabelled : (ns : Nodes) → places_of (unlabelled ns) ≡ places_of ns
 places_of-unlabelled ns = ap places_in (package_of-unlabelled ns) ∙ places_in-plain (package_of ns)
 
+count-unlabelled : (ns : Nodes) → count (unlabelled ns) ≡ count ns
+count-unlabelled no_nodes = refl
+count-unlabelled (bytes b rest) = ap (λ more. 1 + more) (count-unlabelled rest)
+count-unlabelled (element tag kids rest) = omega (arith, count-unlabelled kids, count-unlabelled rest)
+
 -- ---- nodes that differ in labels alone
 
 changed_at-unlabelled : (place : ℕ) (change : Element → Element) → ((e : Element) → plain (change e) ≡ plain e) → (ns : Nodes)
@@ -130,7 +136,7 @@ kept-labelled old new listed same kept =
     record {
       shape = sym (refusal-unlabelled new) ∙ ap refusal same ∙ refusal-unlabelled old ∙ kept.shape;
       parts = kept.parts ∙ sym (places_of-unlabelled old) ∙ ap places_of (sym same) ∙ places_of-unlabelled new;
-      few = kept.few;
+      few = rw (← count-unlabelled new, same, count-unlabelled old) kept.few;
     }
 
 pub labels_alone : (kind : Kind) (rev place : ℕ) (path : List ℕ) (ns : Nodes) → unlabelled (changed_at place (labelled kind rev path) ns) ≡ unlabelled ns

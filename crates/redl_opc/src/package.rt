@@ -1,8 +1,9 @@
 //! Packages.
 
-ghost use Rattle.std.specs.Prelude.{◌≡◌, None, length, map, slice_get, IfOk, IfErr, IfSome};
+ghost use Rattle.std.specs.Prelude.{◌≡◌, ◌<◌, ◌^◌, None, length, map, slice_get, IfOk, IfErr, IfSome};
 ghost use Rattle.std.specs.Str.{IsUtf8};
 ghost use Rattle.redl_markup.specs.Reading.{Gives};
+ghost use Rattle.redl_tree.specs.Count.{count};
 ghost use Rattle.redl_tree.specs.View.{nodes_of};
 ghost use Rattle.redl_opc.specs.Elements.{element_of};
 ghost use Rattle.redl_opc.specs.Shape.{refusal, IsCause, parts_of};
@@ -92,8 +93,18 @@ impl Package {
     pub fn nodes(&self) -> &[Node]
         ensures nodes { nodes_of result.now ≡ self.now }
         ensures shape { refusal self.now ≡ None }
+        ensures few { count self.now < 2 ^ 32 }
     {
         &self.nodes
+    }
+
+    /// The nodes of the package, with their labels.
+    pub fn into_nodes(self) -> Vec<Node>
+        ensures nodes { nodes_of result.items ≡ self }
+        ensures shape { refusal (nodes_of result.items) ≡ None }
+        ensures few { count (nodes_of result.items) < 2 ^ 32 }
+    {
+        self.nodes
     }
 
     /// How many parts there are.
