@@ -11,8 +11,10 @@ mod listing;
 mod package;
 mod part;
 mod shape;
+mod stories;
 
 pub use error::OpcError;
+pub use label::Label;
 pub use package::Package;
 
 #[cfg(test)]

@@ -9,16 +9,17 @@ ghost use Rattle.redl_opc.specs.Elements.{element_of};
 ghost use Rattle.redl_opc.specs.Shape.{refusal, IsCause, parts_of};
 ghost use Rattle.redl_opc.specs.Parts.{part_name, story, places_of};
 ghost use Rattle.redl_opc.specs.PartView.{part_view};
-ghost use Rattle.redl_opc.specs.Labels.{way_to_story, labelled_package};
+ghost use Rattle.redl_opc.specs.Labels.{way_to_story, labelled_package, labelled_stories};
 ghost use Rattle.redl_opc.specs.Tree.{IsTree};
 
 use crate::elements::{element_at, only_element};
 use crate::error::OpcError;
-use crate::label::{first_place, label_at};
+use crate::label::{Label, first_place, label_at};
 use crate::listing::list_parts;
 use crate::part::Part;
 use crate::shape::{are_parts, have_document, package_of, story_of};
-use redl_tree::{Elem, Kind, Node};
+use crate::stories::label_nodes;
+use redl_tree::{Elem, Kind, Level, Node};
 use std::alloc::Global;
 use std::marker::Model;
 
@@ -157,5 +158,15 @@ impl Package {
         };
         let place = first_place(&self.nodes);
         label_at(&mut self.nodes, place, &way, path, kind, rev);
+    }
+
+    /// Labels the elements below the roots of all stories, in the order of their start tags, with these labels.
+    ///
+    /// Where there are fewer labels than elements, the others stay. All else stays. It takes no memory.
+    pub fn label_stories(&mut self, labels: &[Label])
+        ensures { self.new ≡ labelled_stories labels.now self.old }
+    {
+        let mut at = 0;
+        label_nodes(&mut self.nodes, Level::Top, labels, &mut at);
     }
 }
