@@ -7,7 +7,7 @@ use Rattle.redl_tree.specs.declared.kinds.Kind.{Kind}
 use Rattle.redl_opc.specs.declared.label.Label.{Label}
 use Rattle.redl_opc.specs.Elements.{Element, element_in, only_element}
 use Rattle.redl_opc.specs.Parts.{places_of}
-use Rattle.redl_opc.specs.Shape.{package_of}
+use Rattle.redl_opc.specs.Shape.{package_of, story_of}
 
 -- an element in front of nodes
 abbrev pub with_element : Element → Nodes → Nodes
@@ -47,6 +47,7 @@ way_to_story nodes number = do
   root ← package_of nodes
   part ← element_in (slice_get (items_of root.kids) place.0)
   held ← only_element part.kids
+  found ← story_of part
   Some (place.0 ∷ first_place part.kids ∷ first_place held.kids ∷ [])
 
 abbrev pub labelled_on : Kind → ℕ → List ℕ → Nodes → Option (List ℕ) → Nodes

@@ -143,6 +143,7 @@ impl Package {
         let root = package_of(&self.nodes)?;
         let part = element_at(&root.kids, place)?;
         let held = only_element(&part.kids)?;
+        story_of(part)?;
         Some([place, first_place(&part.kids), first_place(&held.kids)])
     }
 
