@@ -1,61 +1,72 @@
-ghost use Rattle.std.specs.Prelude.{◌≡◌, ◌+◌, ◌^◌, ◌<◌};
-ghost use Rattle.redl_index.specs.Numbers.{content_trace as content_trace_of, revisions, item_revisions, numbered, numbered_item, labelled, up_to_kids};
-ghost use Rattle.redl_tree.specs.Count.{count};
+//! The labels of run content in one story.
+
+ghost use Rattle.std.specs.Prelude.{◌≡◌, ◌+◌, ◌^◌, ◌<◌, ◌++◌, OnOk};
 ghost use Rattle.redl_tree.specs.View.{nodes_of, item_of, tag_of, kids_of};
+ghost use Rattle.redl_index.specs.Numbers.{content_trace as content_trace_of, one_for, revisions, item_revisions, up_to_kids};
+ghost use Rattle.redl_index.specs.Labels.{label_for, labels_of, item_labels, element_labels};
 
+use redl_opc::Label;
 use redl_tree::{Elem, Kind, Node, Trace, is_named};
+use std::alloc::AllocError;
 
-/// Gives each inserted or deleted run content its kind and its number, and answers how many there are. Numbers count
-/// from 1 in the order of the start tags (ECMA-376 Part 1, 17.13.5.14 and 17.13.5.18). All else stays. It takes no memory.
-pub fn number_content(nodes: &mut [Node]) -> u32
-    requires { count (nodes_of nodes.old) < 2 ^ 32 }
-
-    ensures count { result ≡ revisions (nodes_of nodes.old) }
-    ensures nodes { nodes_of nodes.new ≡ numbered 0 (nodes_of nodes.old) }
-{
-    let mut before = 0;
-    number_nodes(nodes, &mut before);
-    before
-}
-
-// The same for nodes before which so many revisions stand.
-#[cycle(number)]
+/// Adds a label for each element, where so many revisions stand before the nodes. `Err` is want of memory.
+#[cycle(content)]
 #[tactic(auto, using(crate::proofs::NumberLaws::revisions_here))]
-fn number_nodes(nodes: &mut [Node], before: &mut u32)
-    requires fits { before.old + revisions (nodes_of nodes.old) < 2 ^ 32 }
-    ensures before { before.new ≡ before.old + revisions (nodes_of nodes.old) }
-    ensures nodes { nodes_of nodes.new ≡ numbered before.old (nodes_of nodes.old) }
+pub(crate) fn add_labels(
+    nodes: &[Node],
+    before: &mut u32,
+    labels: &mut Vec<Label>,
+) -> Result<(), AllocError>
+    requires { before.old + revisions (nodes_of nodes.now) < 2 ^ 32 }
+    ensures before { OnOk result (before.new ≡ before.old + revisions (nodes_of nodes.now)) }
+    ensures labels { OnOk result (labels.new.items ≡ labels.old.items ++ labels_of before.old (nodes_of nodes.now)) }
 {
-    for i in 0..nodes.len() {
-        number_node(&mut nodes[i], before);
+    for node in nodes {
+        add_in_node(node, before, labels)?;
     }
+    Ok(())
 }
 
-#[cycle(number)]
-fn number_node(node: &mut Node, before: &mut u32)
-    requires fits { before.old + item_revisions (item_of node.old) < 2 ^ 32 }
-    ensures before { before.new ≡ before.old + item_revisions (item_of node.old) }
-    ensures node { item_of node.new ≡ numbered_item before.old (item_of node.old) }
+#[cycle(content)]
+fn add_in_node(node: &Node, before: &mut u32, labels: &mut Vec<Label>) -> Result<(), AllocError>
+    requires { before.old + item_revisions (item_of node.now) < 2 ^ 32 }
+    ensures before { OnOk result (before.new ≡ before.old + item_revisions (item_of node.now)) }
+    ensures labels { OnOk result (labels.new.items ≡ labels.old.items ++ item_labels before.old (item_of node.now)) }
 {
     match node {
-        Node::Elem(elem) => number_elem(elem, before),
-        Node::Bytes(_) => {}
+        Node::Elem(elem) => add_in_elem(elem, before, labels),
+        Node::Bytes(_) => Ok(()),
     }
 }
 
-#[cycle(number)]
-fn number_elem(elem: &mut Elem, before: &mut u32)
-    requires fits { up_to_kids before.old (tag_of elem.old) + revisions (kids_of elem.old) < 2 ^ 32 }
-    ensures before { before.new ≡ up_to_kids before.old (tag_of elem.old) + revisions (kids_of elem.old) }
-    ensures tag { tag_of elem.new ≡ labelled before.old (tag_of elem.old) }
-    ensures kids { kids_of elem.new ≡ numbered (up_to_kids before.old (tag_of elem.old)) (kids_of elem.old) }
+#[cycle(content)]
+fn add_in_elem(elem: &Elem, before: &mut u32, labels: &mut Vec<Label>) -> Result<(), AllocError>
+    requires { up_to_kids before.old (tag_of elem.now) + revisions (kids_of elem.now) < 2 ^ 32 }
+    ensures before { OnOk result (before.new ≡ up_to_kids before.old (tag_of elem.now) + revisions (kids_of elem.now)) }
+    ensures labels { OnOk result (labels.new.items ≡ labels.old.items ++ element_labels before.old (tag_of elem.now) (kids_of elem.now)) }
 {
-    if let Some(trace) = content_trace(elem) {
-        *before += 1;
-        elem.kind = Kind::Content(trace);
-        elem.rev = *before;
+    let label = next_label(content_trace(elem), before);
+    labels.push(label)?;
+    add_labels(&elem.kids, before, labels)
+}
+
+/// The label of the next element, which takes a number where it is a revision.
+fn next_label(trace: Option<Trace>, before: &mut u32) -> Label
+    requires { before.old + one_for trace < 2 ^ 32 }
+    ensures before { before.new ≡ before.old + one_for trace }
+    ensures label { result ≡ label_for before.old trace }
+{
+    let Some(trace) = trace else {
+        return Label {
+            kind: Kind::Plain,
+            rev: 0,
+        };
+    };
+    *before += 1;
+    Label {
+        kind: Kind::Content(trace),
+        rev: *before,
     }
-    number_nodes(&mut elem.kids, before);
 }
 
 fn content_trace(elem: &Elem) -> Option<Trace>

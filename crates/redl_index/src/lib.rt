@@ -1,13 +1,14 @@
-//! The revisions of a document: which elements are members of one, and their numbers.
+//! The revisions of a package: which elements of its stories are members of one, and their numbers.
 //!
-//! `number_content` goes over nodes as they were read, and gives each inserted or deleted run content its kind and number.
+//! `number_package` goes over a package as it was read, and gives each inserted or deleted run content its kind and number.
 //! A number is what a reviewer's decision names, so the crates above speak of revisions by number alone.
 //! What a decision does is left to the crates above.
 #![tactic(auto)]
 
 mod content;
+mod package;
 
-pub use content::number_content;
+pub use package::number_package;
 
 #[cfg(test)]
 mod tests;

@@ -1,12 +1,18 @@
 -- Labels are no part of the shape of a package.
-use Rattle.std.proofs.Common.{◌≡◌, ◌&&◌, ◌||◌, ℕ, zero, suc, List, [], ◌∷◌, map, Option, Some, None, Bool, true, false, cond, is_some, option_map, refl, sym, ap, ◌∙◌, codes}
+use Rattle.std.proofs.Common.{◌≡◌, ◌+◌, ◌<◌, ◌≤◌, ◌&&◌, ◌||◌, ℕ, arith, zero, suc, length, get_or, drop, slice_get, List, [], ◌∷◌, map, Option, Some, None, Bool, true, false, cond, is_some, option_map, refl, sym, ap, ◌∙◌, codes}
 use Rattle.std.specs.List.{list_all, list_any}
-use Rattle.redl_tree.specs.Nodes.{Nodes, no_nodes, bytes, element}
+use Rattle.std.proofs.lemmas.List.{drop_more}
+use Rattle.redl_tree.specs.Nodes.{Tag, Nodes, no_nodes, bytes, element, Item, bytes_item, element_item, in_front, ◌⊕◌}
+use Rattle.redl_tree.specs.View.{item_of, nodes_of}
+use Rattle.redl_tree.specs.declared.node.Node.{Node}
+use Rattle.redl_tree.specs.Count.{count}
 use Rattle.redl_tree.specs.declared.kinds.Kind.{Kind}
 use Rattle.redl_opc.specs.Elements.{Element, elements_of, only, only_element}
-use Rattle.redl_opc.specs.Shape.{named_pkg, has_attribute, is_data, is_data_alone, is_part, root_in, is_story_root, story_root, story_of, is_document_root, is_document, package_in, package_of, parts_refusal, refusal_of, refusal}
+use Rattle.redl_tree.specs.Packages.{named_pkg, is_story_root, is_root}
+use Rattle.redl_opc.specs.Shape.{has_attribute, is_data, is_data_alone, is_part, root_in, story_root, story_of, is_document_root, is_document, package_in, package_of, parts_refusal, refusal_of, refusal}
 use Rattle.redl_opc.specs.Parts.{name_in, places_from, places_in, places_of, IsKept}
-use Rattle.redl_opc.specs.Labels.{changed_at, labelled, unlabelled}
+use Rattle.redl_opc.specs.Labels.{changed_at, labelled, unlabelled, elements, item_elements, relabelled_tag, relabelled, relabelled_item, story_elements, kids_story_elements, item_story_elements, labelled_in, labelled_item}
+use Rattle.redl_opc.specs.declared.label.Label.{Label}
 
 -- an element without its labels
 abbrev plain : Element → Element
@@ -105,6 +111,11 @@ places_in-plain (Some e) = places_from-unlabelled 0 e.kids
 places_of-unlabelled : (ns : Nodes) → places_of (unlabelled ns) ≡ places_of ns
 places_of-unlabelled ns = ap places_in (package_of-unlabelled ns) ∙ places_in-plain (package_of ns)
 
+count-unlabelled : (ns : Nodes) → count (unlabelled ns) ≡ count ns
+count-unlabelled no_nodes = refl
+count-unlabelled (bytes b rest) = ap (λ more. 1 + more) (count-unlabelled rest)
+count-unlabelled (element tag kids rest) = omega (arith, count-unlabelled kids, count-unlabelled rest)
+
 -- ---- nodes that differ in labels alone
 
 changed_at-unlabelled : (place : ℕ) (change : Element → Element) → ((e : Element) → plain (change e) ≡ plain e) → (ns : Nodes)
@@ -129,8 +140,72 @@ kept-labelled old new listed same kept =
     record {
       shape = sym (refusal-unlabelled new) ∙ ap refusal same ∙ refusal-unlabelled old ∙ kept.shape;
       parts = kept.parts ∙ sym (places_of-unlabelled old) ∙ ap places_of (sym same) ∙ places_of-unlabelled new;
-      few = kept.few;
+      few = rw (← count-unlabelled new, same, count-unlabelled old) kept.few;
     }
 
 pub labels_alone : (kind : Kind) (rev place : ℕ) (path : List ℕ) (ns : Nodes) → unlabelled (changed_at place (labelled kind rev path) ns) ≡ unlabelled ns
 labels_alone kind rev place path ns = changed_at-unlabelled place (labelled kind rev path) (labelled-plain kind rev path) ns
+
+-- ---- labels of all stories, a node at a time
+
+pub elements-in_front : (x : Item) (ys : Nodes) → elements (in_front x ys) ≡ item_elements x + elements ys
+elements-in_front (bytes_item b) ys = omega arith
+elements-in_front (element_item tag kids) ys = refl
+
+-- no more elements than nodes
+pub elements_at_most : (ns : Nodes) → elements ns ≤ count ns
+elements_at_most no_nodes = omega arith
+elements_at_most (bytes b rest) = omega (arith, elements_at_most rest)
+elements_at_most (element tag kids rest) = omega (arith, elements_at_most kids, elements_at_most rest)
+
+-- a node has no more elements than the nodes from it on
+pub elements_here : (xs : List Node) (i : ℕ) (d : Node) → i < length xs → item_elements (item_of (get_or xs i d)) ≤ elements (nodes_of (drop i xs))
+elements_here xs i d within =
+    omega (arith, ap (λ ns. elements (nodes_of ns)) (drop_more xs i d within), elements-in_front (item_of (get_or xs i d)) (nodes_of (drop (i + 1) xs)))
+
+pub relabelled-in_front : (labels : List Label) (at : ℕ) (x : Item) (ys : Nodes)
+    → relabelled labels at (in_front x ys) ≡ in_front (relabelled_item labels at x) no_nodes ⊕ relabelled labels (at + item_elements x) ys
+relabelled-in_front labels at (bytes_item b) ys =
+    let same : at ≡ at + 0 = omega arith in
+    ap (λ m. bytes b (relabelled labels m ys)) same
+relabelled-in_front labels at (element_item tag kids) ys = refl
+
+pub story_elements-in_front : (around : List Tag) (x : Item) (ys : Nodes)
+    → story_elements around (in_front x ys) ≡ item_story_elements around x + story_elements around ys
+story_elements-in_front around (bytes_item b) ys = omega arith
+story_elements-in_front around (element_item tag kids) ys = refl
+
+pub labelled_in-in_front : (labels : List Label) (at : ℕ) (around : List Tag) (x : Item) (ys : Nodes)
+    → labelled_in labels at around (in_front x ys)
+    ≡ in_front (labelled_item labels at around x) no_nodes ⊕ labelled_in labels (at + item_story_elements around x) around ys
+labelled_in-in_front labels at around (bytes_item b) ys =
+    let same : at ≡ at + 0 = omega arith in
+    ap (λ m. bytes b (labelled_in labels m around ys)) same
+labelled_in-in_front labels at around (element_item tag kids) ys = refl
+
+-- ---- labels of all stories change labels alone
+
+relabelled_tag-plain : (label : Option Label) (tag : Tag)
+    → record (relabelled_tag label tag) { kind = Kind.Plain; rev = 0 } ≡ record tag { kind = Kind.Plain; rev = 0 }
+relabelled_tag-plain None tag = refl
+relabelled_tag-plain (Some label) tag = refl
+
+relabelled-unlabelled : (labels : List Label) (at : ℕ) (ns : Nodes) → unlabelled (relabelled labels at ns) ≡ unlabelled ns
+relabelled-unlabelled labels at no_nodes = refl
+relabelled-unlabelled labels at (bytes b rest) = ap (bytes b) (relabelled-unlabelled labels at rest)
+relabelled-unlabelled labels at (element tag kids rest) =
+    rw (relabelled_tag-plain (slice_get labels at) tag, relabelled-unlabelled labels (at + 1) kids, relabelled-unlabelled labels (at + (1 + elements kids)) rest) refl
+
+-- kids of a root, or others
+either_way : (is_root : Bool) (xs ys kids : Nodes) → unlabelled xs ≡ unlabelled kids → unlabelled ys ≡ unlabelled kids
+    → unlabelled (cond is_root xs ys) ≡ unlabelled kids
+either_way true xs ys kids h k = h
+either_way false xs ys kids h k = k
+
+pub stories_alone : (labels : List Label) (at : ℕ) (around : List Tag) (ns : Nodes) → unlabelled (labelled_in labels at around ns) ≡ unlabelled ns
+stories_alone labels at around no_nodes = refl
+stories_alone labels at around (bytes b rest) = ap (bytes b) (stories_alone labels at around rest)
+stories_alone labels at around (element tag kids rest) =
+    let below = either_way (is_root around tag) (relabelled labels at kids) (labelled_in labels at (tag ∷ around) kids) kids
+    (relabelled-unlabelled labels at kids) (stories_alone labels at (tag ∷ around) kids) in
+    rw (below, stories_alone labels (at + kids_story_elements around tag kids) around rest) refl

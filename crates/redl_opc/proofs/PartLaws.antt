@@ -10,7 +10,8 @@ use Rattle.redl_tree.proofs.Laws.{item_of-Elem, item_of-Bytes, nodes_here}
 use Rattle.std.specs.Str.{IsUtf8}
 use Rattle.redl_markup.specs.Reading.{◌>>=◌, Gives}
 use Rattle.redl_opc.specs.Elements.{Element, element_in, elements_of, only, only_element}
-use Rattle.redl_opc.specs.Shape.{package_in, package_of, parts_of, elements_in, named_pkg, story_of}
+use Rattle.redl_tree.specs.Packages.{named_pkg}
+use Rattle.redl_opc.specs.Shape.{package_in, package_of, parts_of, elements_in, story_of}
 use Rattle.redl_opc.specs.Parts.{name_in, part_name, story, places_from, places_in, places_of}
 use Rattle.redl_opc.specs.Tree.{HasUtf8Tails}
 

@@ -1,11 +1,13 @@
 -- Labels: what an element is in a revision, and the number of the revision. A label isn't written in a text.
-use Rattle.std.specs.Prelude.{ℕ, zero, suc, List, [], ◌∷◌, ◌++◌, Option, Some, None, slice_get}
+use Rattle.std.specs.Prelude.{ℕ, zero, suc, ◌+◌, List, [], ◌∷◌, ◌++◌, Option, Some, None, slice_get, if◌then◌else◌}
 use Rattle.redl_markup.specs.Reading.{◌>>=◌}
-use Rattle.redl_tree.specs.Nodes.{Nodes, no_nodes, bytes, element, Item, bytes_item, element_item, items_of}
+use Rattle.redl_tree.specs.Nodes.{Tag, Nodes, no_nodes, bytes, element, Item, bytes_item, element_item, items_of}
+use Rattle.redl_tree.specs.Packages.{is_root}
 use Rattle.redl_tree.specs.declared.kinds.Kind.{Kind}
+use Rattle.redl_opc.specs.declared.label.Label.{Label}
 use Rattle.redl_opc.specs.Elements.{Element, element_in, only_element}
 use Rattle.redl_opc.specs.Parts.{places_of}
-use Rattle.redl_opc.specs.Shape.{package_of}
+use Rattle.redl_opc.specs.Shape.{package_of, story_of}
 
 -- an element in front of nodes
 abbrev pub with_element : Element → Nodes → Nodes
@@ -45,6 +47,7 @@ way_to_story nodes number = do
   root ← package_of nodes
   part ← element_in (slice_get (items_of root.kids) place.0)
   held ← only_element part.kids
+  found ← story_of part
   Some (place.0 ∷ first_place part.kids ∷ first_place held.kids ∷ [])
 
 abbrev pub labelled_on : Kind → ℕ → List ℕ → Nodes → Option (List ℕ) → Nodes
@@ -55,6 +58,70 @@ labelled_on kind rev path nodes (Some way) = changed_at (first_place nodes) (lab
 -- Where there is no such story or no such element, nothing is labelled.
 abbrev pub labelled_package : Kind → ℕ → ℕ → List ℕ → Nodes → Nodes
 labelled_package kind rev part path nodes = labelled_on kind rev path nodes (way_to_story nodes part)
+
+-- how many elements there are, at every depth
+abbrev pub elements : Nodes → ℕ
+elements no_nodes = 0
+elements (bytes b rest) = elements rest
+elements (element tag kids rest) = (1 + elements kids) + elements rest
+
+abbrev pub item_elements : Item → ℕ
+item_elements (bytes_item b) = 0
+item_elements (element_item tag kids) = 1 + elements kids
+
+abbrev pub relabelled_tag : Option Label → Tag → Tag
+relabelled_tag None tag = tag
+relabelled_tag (Some label) tag = record tag { kind = label.kind; rev = label.rev }
+
+-- nodes with these labels on their elements, in the order of the start tags, where the first has the label at this place
+abbrev pub relabelled : List Label → ℕ → Nodes → Nodes
+relabelled labels at no_nodes = no_nodes
+relabelled labels at (bytes b rest) = bytes b (relabelled labels at rest)
+relabelled labels at (element tag kids rest) =
+    element (relabelled_tag (slice_get labels at) tag) (relabelled labels (at + 1) kids)
+    (relabelled labels (at + (1 + elements kids)) rest)
+
+abbrev pub relabelled_item : List Label → ℕ → Item → Item
+relabelled_item labels at (bytes_item b) = bytes_item b
+relabelled_item labels at (element_item tag kids) =
+    element_item (relabelled_tag (slice_get labels at) tag) (relabelled labels (at + 1) kids)
+
+-- how many elements stand below the roots of stories, among nodes with these ancestors
+abbrev pub story_elements : List Tag → Nodes → ℕ
+story_elements around no_nodes = 0
+story_elements around (bytes b rest) = story_elements around rest
+story_elements around (element tag kids rest) =
+    (if is_root around tag then elements kids else story_elements (tag ∷ around) kids) + story_elements around rest
+
+-- the same among the kids of an element, and in one node
+abbrev pub kids_story_elements : List Tag → Tag → Nodes → ℕ
+kids_story_elements around tag kids = if is_root around tag then elements kids else story_elements (tag ∷ around) kids
+
+abbrev pub item_story_elements : List Tag → Item → ℕ
+item_story_elements around (bytes_item b) = 0
+item_story_elements around (element_item tag kids) = kids_story_elements around tag kids
+
+-- nodes with these labels on the elements below the roots of their stories
+abbrev pub labelled_in : List Label → ℕ → List Tag → Nodes → Nodes
+labelled_in labels at around no_nodes = no_nodes
+labelled_in labels at around (bytes b rest) = bytes b (labelled_in labels at around rest)
+labelled_in labels at around (element tag kids rest) =
+    element tag (if is_root around tag then relabelled labels at kids else labelled_in labels at (tag ∷ around) kids)
+    (labelled_in labels (at + kids_story_elements around tag kids) around rest)
+
+-- the kids of an element, and one node, with these labels
+abbrev pub labelled_kids : List Label → ℕ → List Tag → Tag → Nodes → Nodes
+labelled_kids labels at around tag kids =
+    if is_root around tag then relabelled labels at kids else labelled_in labels at (tag ∷ around) kids
+
+abbrev pub labelled_item : List Label → ℕ → List Tag → Item → Item
+labelled_item labels at around (bytes_item b) = bytes_item b
+labelled_item labels at around (element_item tag kids) = element_item tag (labelled_kids labels at around tag kids)
+
+-- A package with these labels on the elements below the roots of its stories, in the order of their start tags. Where there are
+-- fewer labels than elements, the others stay.
+abbrev pub labelled_stories : List Label → Nodes → Nodes
+labelled_stories labels nodes = labelled_in labels 0 [] nodes
 
 -- nodes without their labels
 abbrev pub unlabelled : Nodes → Nodes

@@ -1,7 +1,8 @@
 -- The parts of a package by their numbers, which count from 0 in the order of the parts.
-use Rattle.std.specs.Prelude.{◌≡◌, ℕ, suc, List, [], ◌∷◌, Option, Some, None, unwrap_or, option_and_then, slice_get, codes, length, ◌<◌, ◌^◌}
+use Rattle.std.specs.Prelude.{◌≡◌, ℕ, suc, List, [], ◌∷◌, Option, Some, None, unwrap_or, option_and_then, slice_get, codes, ◌<◌, ◌^◌}
 use Rattle.std.specs.Option.{option_map}
 use Rattle.redl_tree.specs.Nodes.{Tag, Nodes, no_nodes, bytes, element}
+use Rattle.redl_tree.specs.Count.{count}
 use Rattle.redl_stamp.specs.Attribute.{attribute_value}
 use Rattle.redl_opc.specs.Elements.{Element}
 use Rattle.redl_opc.specs.Shape.{package_of, parts_of, story_of, refusal}
@@ -32,8 +33,8 @@ places_in (Some root) = places_from 0 root.kids
 abbrev pub places_of : Nodes → List (ℕ × List ℕ)
 places_of nodes = places_in (package_of nodes)
 
--- what a package keeps: it has the shape, its parts are listed, and a number names each of them
+-- what a package keeps: it has the shape, its parts are listed, and a number names each of its nodes
 pub record IsKept (nodes : Nodes) (listed : List (ℕ × List ℕ)) : Type 0 where
   pub shape : refusal nodes ≡ None
   pub parts : listed ≡ places_of nodes
-  pub few : length listed < 2 ^ 32
+  pub few : count nodes < 2 ^ 32

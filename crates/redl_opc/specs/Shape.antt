@@ -1,23 +1,14 @@
 -- The shape of a package in one XML text, the Flat OPC form: a `package` of parts, each with a name and a content type,
 -- that holds XML or other data. Its names are of the namespace `http://schemas.microsoft.com/office/2006/xmlPackage`.
-use Rattle.std.specs.Prelude.{◌≡◌, ℕ, List, [], ◌∷◌, Bool, true, false, ◌&&◌, ◌||◌, not, bytes_eq, codes, Option, Some, None, is_some, if◌then◌else◌}
+use Rattle.std.specs.Prelude.{◌≡◌, ℕ, List, [], Bool, false, ◌&&◌, ◌||◌, not, codes, Option, Some, None, is_some, if◌then◌else◌}
 use Rattle.std.specs.List.{list_all, list_any}
 use Rattle.redl_tree.specs.Nodes.{Tag, Nodes}
-use Rattle.redl_tree.specs.Names.{is, is_any}
-use Rattle.redl_tree.specs.declared.kinds.Space.{Space}
-use Rattle.redl_tree.specs.declared.kinds.Space.TheVariants.{Pkg}
+use Rattle.redl_tree.specs.Names.{is}
+use Rattle.redl_tree.specs.Packages.{named_pkg, is_story_root}
 use Rattle.redl_stamp.specs.Attribute.{attribute_value}
 use Rattle.redl_opc.specs.Elements.{Element, elements_of, only_element}
 use Rattle.redl_opc.specs.declared.error.OpcError.{OpcError}
 use Rattle.redl_opc.specs.declared.error.OpcError.TheVariants.{NotPackage, PartShape, NoDocument, NoMemory}
-
-abbrev pub is_pkg : Space → Bool
-is_pkg Pkg = true
-is_pkg _ = false
-
--- an element of the package's namespace with this local name, given by its bytes
-abbrev pub named_pkg : List ℕ → Tag → Bool
-named_pkg name tag = is_pkg tag.space && bytes_eq tag.local name
 
 abbrev pub has_attribute : List ℕ → Tag → Bool
 has_attribute name tag = is_some (attribute_value tag.tail name)
@@ -40,10 +31,6 @@ is_part e =
 abbrev pub root_in : Option Element → Option Element
 root_in None = None
 root_in (Some e) = if named_pkg (codes "xmlData") e.tag then only_element e.kids else None
-
--- the roots of stories, the parts whose content is decided (ECMA-376 Part 1, 17.2.3, 17.10.3, 17.10.4, 17.11.15, 17.11.9, 17.13.4.6)
-abbrev pub is_story_root : Tag → Bool
-is_story_root tag = is_any ("document" ∷ "hdr" ∷ "ftr" ∷ "footnotes" ∷ "endnotes" ∷ "comments" ∷ []) tag
 
 abbrev pub story_root : Option Element → Option Element
 story_root None = None

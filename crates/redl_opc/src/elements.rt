@@ -3,11 +3,10 @@
 ghost use Rattle.std.specs.Prelude.{◌≡◌, ◌∷◌, [], ◌<◌, IsNone, IfSome, length, map, slice_get};
 ghost use Rattle.redl_markup.specs.Reading.{Gives};
 ghost use Rattle.redl_tree.specs.Nodes.{items_of};
-ghost use Rattle.redl_tree.specs.View.{item_of, nodes_of, tag_of};
+ghost use Rattle.redl_tree.specs.View.{item_of, nodes_of};
 ghost use Rattle.redl_opc.specs.Elements.{element_of, elements_of, only_element, element_in};
-ghost use Rattle.redl_opc.specs.Shape.{named_pkg};
 
-use redl_tree::{Elem, Node, Space};
+use redl_tree::{Elem, Node};
 
 /// The first element of nodes, and the nodes behind it.
 pub(crate) fn first_element(nodes: &[Node]) -> Option<(&Elem, &[Node])>
@@ -49,15 +48,5 @@ pub(crate) fn element_at(nodes: &[Node], place: usize) -> Option<&Elem>
     match node_at(nodes, place)? {
         Node::Elem(elem) => Some(elem),
         Node::Bytes(_) => None,
-    }
-}
-
-/// Whether an element of the package's namespace has this local name.
-pub(crate) fn is_named_pkg(elem: &Elem, name: &[u8]) -> bool
-    ensures { result ≡ named_pkg name.now (tag_of elem.now) }
-{
-    match elem.space {
-        Space::Pkg => elem.local.as_bytes() == name,
-        _ => false,
     }
 }

@@ -7,6 +7,13 @@ ghost use Rattle.redl_opc.specs.Labels.{changed_at, changed_item, labelled, firs
 
 use redl_tree::{Elem, Kind, Node};
 
+/// What an element is labelled with: its kind and the number of its revision.
+#[derive(Clone, Copy, Debug, PartialEq, Eq)]
+pub struct Label {
+    pub kind: Kind,
+    pub rev: u32,
+}
+
 /// Labels the element at the end of a way and then a path down from an element. It goes one level deeper for each item.
 #[cycle(label)]
 pub(crate) fn label_below(elem: &mut Elem, way: &[usize], path: &[u32], kind: Kind, rev: u32)

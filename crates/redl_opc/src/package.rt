@@ -1,23 +1,25 @@
 //! Packages.
 
-ghost use Rattle.std.specs.Prelude.{◌≡◌, None, length, map, slice_get, IfOk, IfErr, IfSome};
+ghost use Rattle.std.specs.Prelude.{◌≡◌, ◌<◌, ◌^◌, None, length, map, slice_get, IfOk, IfErr, IfSome};
 ghost use Rattle.std.specs.Str.{IsUtf8};
 ghost use Rattle.redl_markup.specs.Reading.{Gives};
+ghost use Rattle.redl_tree.specs.Count.{count};
 ghost use Rattle.redl_tree.specs.View.{nodes_of};
 ghost use Rattle.redl_opc.specs.Elements.{element_of};
 ghost use Rattle.redl_opc.specs.Shape.{refusal, IsCause, parts_of};
 ghost use Rattle.redl_opc.specs.Parts.{part_name, story, places_of};
 ghost use Rattle.redl_opc.specs.PartView.{part_view};
-ghost use Rattle.redl_opc.specs.Labels.{way_to_story, labelled_package};
+ghost use Rattle.redl_opc.specs.Labels.{way_to_story, labelled_package, labelled_stories};
 ghost use Rattle.redl_opc.specs.Tree.{IsTree};
 
 use crate::elements::{element_at, only_element};
 use crate::error::OpcError;
-use crate::label::{first_place, label_at};
+use crate::label::{Label, first_place, label_at};
 use crate::listing::list_parts;
 use crate::part::Part;
 use crate::shape::{are_parts, have_document, package_of, story_of};
-use redl_tree::{Elem, Kind, Node};
+use crate::stories::label_nodes;
+use redl_tree::{Elem, Kind, Level, Node};
 use std::alloc::Global;
 use std::marker::Model;
 
@@ -92,8 +94,18 @@ impl Package {
     pub fn nodes(&self) -> &[Node]
         ensures nodes { nodes_of result.now ≡ self.now }
         ensures shape { refusal self.now ≡ None }
+        ensures few { count self.now < 2 ^ 32 }
     {
         &self.nodes
+    }
+
+    /// The nodes of the package, with their labels.
+    pub fn into_nodes(self) -> Vec<Node>
+        ensures nodes { nodes_of result.items ≡ self }
+        ensures shape { refusal (nodes_of result.items) ≡ None }
+        ensures few { count (nodes_of result.items) < 2 ^ 32 }
+    {
+        self.nodes
     }
 
     /// How many parts there are.
@@ -131,6 +143,7 @@ impl Package {
         let root = package_of(&self.nodes)?;
         let part = element_at(&root.kids, place)?;
         let held = only_element(&part.kids)?;
+        story_of(part)?;
         Some([place, first_place(&part.kids), first_place(&held.kids)])
     }
 
@@ -146,5 +159,15 @@ impl Package {
         };
         let place = first_place(&self.nodes);
         label_at(&mut self.nodes, place, &way, path, kind, rev);
+    }
+
+    /// Labels the elements below the roots of all stories, in the order of their start tags, with these labels.
+    ///
+    /// Where there are fewer labels than elements, the others stay. All else stays. It takes no memory.
+    pub fn label_stories(&mut self, labels: &[Label])
+        ensures { self.new ≡ labelled_stories labels.now self.old }
+    {
+        let mut at = 0;
+        label_nodes(&mut self.nodes, Level::Top, labels, &mut at);
     }
 }

@@ -3,13 +3,13 @@
 ghost use Rattle.std.specs.Prelude.{◌≡◌};
 ghost use Rattle.std.specs.List.{list_all, list_any};
 ghost use Rattle.redl_markup.specs.Reading.{Gives};
-ghost use Rattle.redl_tree.specs.View.{nodes_of, tag_of};
+ghost use Rattle.redl_tree.specs.View.{nodes_of};
 ghost use Rattle.redl_opc.specs.Elements.{element_of, elements_of};
-ghost use Rattle.redl_opc.specs.Shape.{is_data, is_part, is_story_root, story_of, is_document, package_of};
+ghost use Rattle.redl_opc.specs.Shape.{is_data, is_part, story_of, is_document, package_of};
 
-use crate::elements::{first_element, is_named_pkg, only_element};
+use crate::elements::{first_element, only_element};
 use redl_stamp::has_attribute;
-use redl_tree::{Elem, Node, is_named};
+use redl_tree::{Elem, Node, is_named, is_named_pkg, is_story_root};
 
 fn is_data(elem: &Elem) -> bool
     ensures { result ≡ is_data (element_of elem.now) }
@@ -27,17 +27,6 @@ fn is_part(elem: &Elem) -> bool
         && has_attribute(tail, b"name")
         && has_attribute(tail, b"contentType")
         && only_element(&elem.kids).is_some_and(|data| is_data(data))
-}
-
-fn is_story_root(elem: &Elem) -> bool
-    ensures { result ≡ is_story_root (tag_of elem.now) }
-{
-    is_named(elem, b"document")
-        || is_named(elem, b"hdr")
-        || is_named(elem, b"ftr")
-        || is_named(elem, b"footnotes")
-        || is_named(elem, b"endnotes")
-        || is_named(elem, b"comments")
 }
 
 /// The root of a part that is a story.

@@ -6,7 +6,7 @@ ghost use Rattle.redl_opc.specs.Tree.{HasUtf8Tails, IsTree};
 
 use super::*;
 use redl_io::Text;
-use redl_tree::{Close, Elem, Kind, Node, Space, count_nodes};
+use redl_tree::{Close, Elem, Kind, Node, Space, Trace, count_nodes};
 use std::alloc::Global;
 use std::str::from_utf8;
 use std::test::Fail;
@@ -192,5 +192,137 @@ fn parts_have_names_and_stories(rt: HostRuntime) -> Result<(), Fail> {
             .is_some_and(|root| root.local.as_bytes() == b"document".as_slice())
     );
     assert!(rt; made.story(1).is_none());
+    Ok(())
+}
+
+/// A part whose data is an element round a paragraph with a run, a line end before each.
+fn part(alloc: Global, root: &str) -> Result<Node, Fail> {
+    let run = elem(alloc, Space::W, "r", "", Vec::new(alloc))?;
+    let kids = vec![in alloc; Node::Bytes(Text::copy_of(alloc, b"\n")?), run]?;
+    let paragraph = elem(alloc, Space::W, "p", "", kids)?;
+    let kids = vec![in alloc; Node::Bytes(Text::copy_of(alloc, b"\n")?), paragraph]?;
+    let held = vec![in alloc; elem(alloc, Space::W, root, "", kids)?]?;
+    let data = vec![in alloc; elem(alloc, Space::Pkg, "xmlData", "", held)?]?;
+    elem(alloc, Space::Pkg, "part", BOTH, data)
+}
+
+/// A package with two such parts.
+fn two_parts(alloc: Global, first: &str, second: &str) -> Result<Vec<Node>, Fail> {
+    let parts = vec![in alloc; part(alloc, first)?, part(alloc, second)?]?;
+    Ok(vec![in alloc; elem(alloc, Space::Pkg, "package", "", parts)?]?)
+}
+
+const LABELLED: Kind = Kind::Row(Trace::Ins);
+
+/// Adds the places of the labelled elements in the order of all start tags, which count from 0, with their numbers.
+#[cycle(labelled)]
+fn add_labelled(
+    nodes: &[Node],
+    place: &mut usize,
+    labelled: &mut Vec<(usize, u32)>,
+) -> Result<(), Fail> {
+    for node in nodes {
+        add_labelled_in(node, place, labelled)?;
+    }
+    Ok(())
+}
+
+#[cycle(labelled)]
+fn add_labelled_in(
+    node: &Node,
+    place: &mut usize,
+    labelled: &mut Vec<(usize, u32)>,
+) -> Result<(), Fail> {
+    let Node::Elem(elem) = node else {
+        return Ok(());
+    };
+    if elem.kind == LABELLED {
+        labelled.push((*place, elem.rev))?;
+    }
+    *place = place.saturating_add(1);
+    add_labelled(&elem.kids, place, labelled)
+}
+
+fn labelled(alloc: Global, nodes: &[Node]) -> Result<Vec<(usize, u32)>, Fail> {
+    let mut labelled = Vec::new(alloc);
+    let mut place = 0;
+    add_labelled(nodes, &mut place, &mut labelled)?;
+    Ok(labelled)
+}
+
+/// So many labels, numbered from 1.
+fn labels(alloc: Global, many: u32) -> Result<Vec<Label>, Fail> {
+    let mut labels = Vec::new(alloc);
+    for before in 0..many {
+        labels.push(Label {
+            kind: LABELLED,
+            rev: before.saturating_add(1),
+        })?;
+    }
+    Ok(labels)
+}
+
+#[test]
+fn labels_go_on_from_story_to_story(rt: HostRuntime) -> Result<(), Fail> {
+    let alloc = rt.alloc();
+    for (first, second, many, want) in [
+        (
+            "document",
+            "hdr",
+            4,
+            [(4, 1), (5, 2), (9, 3), (10, 4)].as_slice(),
+        ),
+        (
+            "document",
+            "hdr",
+            9,
+            [(4, 1), (5, 2), (9, 3), (10, 4)].as_slice(),
+        ),
+        ("document", "hdr", 3, [(4, 1), (5, 2), (9, 3)].as_slice()),
+        ("document", "hdr", 1, [(4, 1)].as_slice()),
+        ("document", "hdr", 0, [].as_slice()),
+        ("document", "styles", 4, [(4, 1), (5, 2)].as_slice()),
+        ("styles", "document", 4, [(9, 1), (10, 2)].as_slice()),
+        (
+            "document",
+            "document",
+            4,
+            [(4, 1), (5, 2), (9, 3), (10, 4)].as_slice(),
+        ),
+    ] {
+        let nodes = two_parts(alloc, first, second)?;
+        assert!(rt; is_tree(&nodes));
+        let mut made = Package::make(alloc, nodes)?;
+        made.label_stories(&labels(alloc, many)?);
+        let nodes = made.into_nodes();
+        assert_eq!(rt; count_nodes(&nodes), 15);
+        let labelled = labelled(alloc, &nodes)?;
+        assert_eq!(rt; labelled.as_slice(), want, "{first} {second} {many}");
+    }
+    Ok(())
+}
+
+#[test]
+fn one_element_of_a_story_is_labelled(rt: HostRuntime) -> Result<(), Fail> {
+    let alloc = rt.alloc();
+    for (second, part, path, want) in [
+        ("hdr", 0, [].as_slice(), [(3, 7)].as_slice()),
+        ("hdr", 0, [1].as_slice(), [(4, 7)].as_slice()),
+        ("hdr", 0, [1, 1].as_slice(), [(5, 7)].as_slice()),
+        ("hdr", 1, [].as_slice(), [(8, 7)].as_slice()),
+        ("hdr", 1, [1, 1].as_slice(), [(10, 7)].as_slice()),
+        ("hdr", 0, [0].as_slice(), [].as_slice()),
+        ("hdr", 0, [2].as_slice(), [].as_slice()),
+        ("hdr", 0, [1, 1, 0].as_slice(), [].as_slice()),
+        ("hdr", 2, [].as_slice(), [].as_slice()),
+        ("styles", 1, [].as_slice(), [].as_slice()),
+    ] {
+        let nodes = two_parts(alloc, "document", second)?;
+        assert!(rt; is_tree(&nodes));
+        let mut made = Package::make(alloc, nodes)?;
+        made.label(part, path, LABELLED, 7);
+        let labelled = labelled(alloc, made.nodes())?;
+        assert_eq!(rt; labelled.as_slice(), want, "{second} {part} {path:?}");
+    }
     Ok(())
 }

@@ -1,8 +1,7 @@
-use Rattle.std.proofs.Common.{◌≡◌, arith, ap, length, map, ◌∙◌}
+use Rattle.std.proofs.Common.{◌≡◌, ap, map, ◌∙◌}
 use Rattle.redl_tree.specs.View.{nodes_of}
 use Rattle.redl_opc.specs.PartView.{part_view}
 use Rattle.redl_opc.specs.Parts.{places_of}
-use Rattle.redl_opc.proofs.PartLaws.{few-places_of}
 use Rattle.redl_opc.proofs.package.Package.make.Goals as goal
 
 pub invariant_of-result : goal.invariant_of-result
@@ -12,5 +11,5 @@ invariant_of-result c =
     record {
       shape = rw c.deref.ensures.value at c.in_ok-parts.ensures.shape;
       parts = listed;
-      few = omega (arith, ap length listed, few-places_of (nodes_of c.args.nodes.items), c.requires.few);
+      few = c.requires.few;
     }
