@@ -46,5 +46,5 @@ kept_among_one story =
     kept_by-same (λ test. holds test (story ∷ []))
     (λ test. test [] story.tag story.kids && everywhere test (story.tag ∷ []) story.kids)
     (λ test.
-        and-true (everywhere test [] (element story.tag story.kids no_nodes))
-        ∙ and-true (test [] story.tag story.kids && everywhere test (story.tag ∷ []) story.kids))
+    and-true (everywhere test [] (element story.tag story.kids no_nodes))
+    ∙ and-true (test [] story.tag story.kids && everywhere test (story.tag ∷ []) story.kids))

@@ -3,3 +3,4 @@ pub mod EndLaws
 pub mod KeptLaws
 pub mod RuleLaws
 pub mod StoryLaws
+mod Rows

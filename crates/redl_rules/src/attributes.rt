@@ -40,5 +40,6 @@ fn is_declaration(attribute: &Attribute<'_>) -> bool
     ensures { result ≡ is_declaration (attribute_view attribute.now) }
 {
     let name = attribute.name;
-    name.prefix == b"xmlns".as_slice() || (name.prefix.is_empty() && name.local == b"xmlns".as_slice())
+    name.prefix == b"xmlns".as_slice()
+        || (name.prefix.is_empty() && name.local == b"xmlns".as_slice())
 }

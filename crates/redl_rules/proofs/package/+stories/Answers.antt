@@ -19,7 +19,7 @@ kept_by_stories-loop-node-preserved t c =
     (c.and-kept.ensures ∙ ap (in_both c.loop-node.kept) c.kept_by_stories_of_node.ensures)
     ∙ in_both-assoc c.loop-node.kept (kept_among (item_stories level (item_of x))) (kept_among (stories_at level rest))
     ∙ ap (in_both c.loop-node.kept) (sym (kept_among-append (item_stories level (item_of x)) (stories_at level rest))
-        ∙ ap kept_among (sym (stories_at-in_front level (item_of x) rest)) ∙ sym (ap (λ ns. kept_among (stories_at level ns)) here))
+    ∙ ap kept_among (sym (stories_at-in_front level (item_of x) rest)) ∙ sym (ap (λ ns. kept_among (stories_at level ns)) here))
     ∙ c.loop-node.invariant
 
 pub kept_by_stories-returns : goal.kept_by_stories-returns
