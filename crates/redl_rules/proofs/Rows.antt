@@ -1,6 +1,6 @@
 -- Worked rows of the nine rules, with the attributes that they ask of a tag.
 use Prim.Native.String.{String}
-use Rattle.std.proofs.Common.{◌≡◌, ℕ, List, [], ◌∷◌, Bool, true, false, Option, None, Some, codes, map, refl}
+use Rattle.std.proofs.Common.{◌≡◌, ℕ, [], ◌∷◌, true, false, Option, None, Some, codes, map, refl}
 use Rattle.redl_tree.specs.Nodes.{Nodes, no_nodes, ◌⊕◌}
 use Rattle.redl_tree.proofs.Build.{opened, opened_with, closed, run, deleted_run, package_of}
 use Rattle.redl_markup.specs.Attributes.{attributes_of}

@@ -1,6 +1,6 @@
 -- Those of the nine rules that take several steps, by what the ancestors of an element are to it.
 use Prim.Native.String.{String}
-use Rattle.std.specs.Prelude.{List, Bool, ◌&&◌, ◌||◌, not, ◌∷◌, [], is_some}
+use Rattle.std.specs.Prelude.{List, Bool, ◌&&◌, ◌||◌, not, ◌∷◌, []}
 use Rattle.redl_tree.specs.Nodes.{Tag, Nodes}
 use Rattle.redl_tree.specs.Names.{is, is_any}
 use Rattle.redl_tree.specs.Kids.{some_element}
