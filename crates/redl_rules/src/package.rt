@@ -12,13 +12,16 @@ use crate::walk::kept_by_story;
 use redl_opc::Package;
 use redl_tree::{Elem, Level, Node};
 use std::alloc::Global;
+use thiserror::Error;
 
 /// Why a package can't be decided.
-#[derive(Clone, Copy, Debug, PartialEq, Eq)]
+#[derive(Clone, Copy, Debug, PartialEq, Eq, Error)]
 pub enum RuleError {
     /// A rule is broken, and this is the least number of one.
+    #[error("rule {0}")]
     Broken(u8),
-    /// An allocation failed.
+    /// An allocation failed; nothing is known of the package.
+    #[error("no memory")]
     NoMemory,
 }
 
