@@ -2,7 +2,7 @@
 use Rattle.std.specs.Prelude.{Bool, true, false}
 use Rattle.redl_tree.specs.declared.kinds.Trace.TheVariants.{Del, From}
 use Rattle.redl_tree.specs.declared.kinds.Kind.{Kind}
-use Rattle.redl_tree.specs.declared.kinds.Kind.TheVariants.{Content}
+use Rattle.redl_tree.specs.declared.kinds.Kind.TheVariants.{Content, Change}
 use Rattle.redl_tree.specs.declared.kinds.Fate.{Fate}
 use Rattle.redl_tree.specs.declared.kinds.Fate.TheVariants.{Leave, Free}
 
@@ -16,6 +16,11 @@ abbrev pub is_old_content : Kind → Bool
 is_old_content (Content Del) = true
 is_old_content (Content From) = true
 is_old_content _ = false
+
+-- a change of properties
+abbrev pub is_change : Kind → Bool
+is_change (Change prop) = true
+is_change _ = false
 
 -- left as it is
 abbrev pub is_leave : Fate → Bool

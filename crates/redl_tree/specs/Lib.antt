@@ -4,7 +4,12 @@ pub mod Text
 pub mod Count
 pub mod Names
 pub mod Places
+pub mod Arounds
+pub mod Lists
+pub mod Kids
 pub mod Kinds
 pub mod Fates
+pub mod Tables
 pub mod Pass
 pub mod Packages
+pub mod Sound

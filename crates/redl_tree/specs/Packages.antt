@@ -1,10 +1,11 @@
 -- Where nodes stand in a package, which of its elements are the roots of stories, and the pass of a package.
 -- A package is one XML text in the Flat OPC form: a `package` of parts, whose data is XML or not.
 -- `around` is the list of the tags of a node's ancestors, the nearest first.
-use Rattle.std.specs.Prelude.{ℕ, List, [], ◌∷◌, Bool, true, false, ◌&&◌, bytes_eq, codes, if◌then◌else◌}
+use Rattle.std.specs.Prelude.{ℕ, List, [], ◌∷◌, ◌++◌, Bool, true, false, ◌&&◌, bytes_eq, codes, if◌then◌else◌}
 use Rattle.redl_tree.specs.Nodes.{Tag, Nodes, no_nodes, bytes, element}
 use Rattle.redl_tree.specs.Names.{is_any}
 use Rattle.redl_tree.specs.Pass.{pass}
+use Rattle.redl_tree.specs.View.{Parts}
 use Rattle.redl_tree.specs.declared.kinds.Say.{Say}
 use Rattle.redl_tree.specs.declared.kinds.Space.{Space}
 use Rattle.redl_tree.specs.declared.kinds.Space.TheVariants.{Pkg}
@@ -43,6 +44,18 @@ is_story_root tag = is_any ("document" ∷ "hdr" ∷ "ftr" ∷ "footnotes" ∷ "
 -- an element with these ancestors is the root of a story: it stands in the data of a part, and has one of the six names
 abbrev pub is_root : List Tag → Tag → Bool
 is_root around tag = is_data_level (level_of around) && is_story_root tag
+
+-- the stories among nodes with these ancestors, in their order, each by its root's tag and kids
+abbrev pub stories_in : List Tag → Nodes → List Parts
+stories_in around no_nodes = []
+stories_in around (bytes b rest) = stories_in around rest
+stories_in around (element tag kids rest) =
+    (if is_root around tag then record { tag = tag; kids = kids } ∷ [] else stories_in (tag ∷ around) kids)
+    ++ stories_in around rest
+
+-- the stories of a package
+abbrev pub stories : Nodes → List Parts
+stories nodes = stories_in [] nodes
 
 -- The pass of a package passes the kids of each story's root, and leaves all else as it is.
 abbrev pub pass_in : List Say → List Tag → Nodes → Nodes

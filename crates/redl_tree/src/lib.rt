@@ -5,18 +5,24 @@
 //! How nodes come from bytes, and what becomes of them, is left to the crates above.
 #![tactic(auto)]
 
+mod around;
 mod copy;
 mod count;
 mod kinds;
 mod level;
+mod lists;
+mod marks;
 mod names;
 mod node;
 mod write;
 
+pub use around::Around;
 pub use copy::copy_nodes;
 pub use count::count_nodes;
 pub use kinds::{Fate, Kind, Prop, Say, Space, Trace};
 pub use level::{Level, is_named_pkg, is_story_root};
+pub use lists::{Lot, Place, Reach, is_thick, is_wrapper};
+pub use marks::{cell_trace_of, is_range_edge, prop_of, row_trace_of, trace_of};
 pub use names::{is_named, is_quiet};
 pub use node::{Close, Elem, Node};
 pub use write::write_nodes;

@@ -1,0 +1,6 @@
+pub mod RoundLaws
+pub mod EndLaws
+pub mod KeptLaws
+pub mod RuleLaws
+pub mod StoryLaws
+mod Rows

@@ -1,0 +1,16 @@
+use Rattle.std.proofs.Common.{◌≡◌, ◌&&◌, not, List, drop}
+use Rattle.redl_tree.specs.Nodes.{Tag}
+use Rattle.redl_tree.specs.View.{nodes_of}
+use Rattle.redl_tree.specs.Kids.{has_element}
+use Rattle.redl_tree.specs.Kinds.{is_change}
+use Rattle.redl_tree.specs.Places.{role}
+use Rattle.redl_tree.specs.Sound.{implies, only_last}
+use Rattle.redl_tree.specs.Arounds.{around_of}
+use Rattle.redl_rules.proofs.kids.changes_are_last.Given as goal
+
+abbrev pub invariant-loop-node : goal.invariant-loop-node
+invariant-loop-node l =
+    (above : List Tag) → l.around ≡ around_of above
+    → (implies l.ended (not (has_element (nodes_of (drop l.node-index l.nodes))))
+    && only_last (λ kid. is_change (role above kid)) (nodes_of (drop l.node-index l.nodes)))
+    ≡ only_last (λ kid. is_change (role above kid)) (nodes_of l.nodes)

@@ -1,0 +1,11 @@
+use Rattle.std.proofs.Common.{◌≡◌, List, drop}
+use Rattle.redl_tree.specs.Nodes.{Tag}
+use Rattle.redl_tree.specs.View.{nodes_of}
+use Rattle.redl_rules.specs.Rounds.{round_of}
+use Rattle.redl_rules.specs.Keeping.{in_both, kept_in}
+use Rattle.redl_rules.proofs.walk.+kept.Given as goal
+
+abbrev pub invariant-kept_by_nodes-loop-node : goal.invariant-kept_by_nodes-loop-node
+invariant-kept_by_nodes-loop-node l =
+    (above : List Tag) → l.round ≡ round_of above
+    → in_both l.kept (kept_in above (nodes_of (drop l.node-index l.nodes))) ≡ kept_in above (nodes_of l.nodes)

@@ -1,0 +1,7 @@
+pub mod Attributes
+pub mod Rounds
+pub mod Rules
+pub mod Ends
+pub mod Keeping
+pub mod Stories
+pub mod Answers

@@ -1,0 +1,52 @@
+-- Those of the nine rules that take several steps, by what the ancestors of an element are to it.
+use Prim.Native.String.{String}
+use Rattle.std.specs.Prelude.{List, Bool, ◌&&◌, ◌||◌, not, ◌∷◌, []}
+use Rattle.redl_tree.specs.Nodes.{Tag, Nodes}
+use Rattle.redl_tree.specs.Names.{is, is_any}
+use Rattle.redl_tree.specs.Kids.{some_element}
+use Rattle.redl_tree.specs.Kinds.{is_content, is_change}
+use Rattle.redl_tree.specs.Lists.{is_thick}
+use Rattle.redl_tree.specs.Sound.{implies, is_banned, once, each_once, only_first, only_last, change_declares}
+use Rattle.redl_tree.specs.declared.kinds.Kind.{Kind}
+use Rattle.redl_tree.specs.Arounds.{role_in}
+use Rattle.redl_tree.specs.declared.around.Around.{Around}
+use Rattle.redl_rules.specs.declared.round.Round.{Round}
+use Rattle.redl_rules.specs.Attributes.{declares}
+
+-- an open element with one of these names
+abbrev pub open_in : List String → Around → Tag → Bool
+open_in names around tag = is_any names tag && not around.quiet
+
+-- what content revisions hold
+abbrev pub by_round_3 : Round → Tag → Nodes → Bool
+by_round_3 round tag kids =
+    implies (is_banned tag && not round.around.quiet) (not round.below_content)
+    && implies (open_in ("rPr" ∷ "sdtContent" ∷ []) round.around tag) (not round.in_content)
+    && implies (is_content (role_in round.around tag) && round.among_blocks) (not (some_element is_thick kids))
+
+-- marks that stand once, by what is round the kids
+abbrev pub by_round_5 : Around → Nodes → Bool
+by_round_5 inner kids =
+    implies inner.para_props (once "rPr" kids)
+    && implies inner.mark_props (each_once ("ins" ∷ "del" ∷ "moveFrom" ∷ "moveTo" ∷ []) kids)
+    && implies inner.row_props (each_once ("ins" ∷ "del" ∷ []) kids)
+    && implies inner.cell_props (each_once ("cellIns" ∷ "cellDel" ∷ []) kids)
+
+-- properties that stand once, and in their place
+abbrev pub by_round_6 : Around → Tag → Nodes → Bool
+by_round_6 around tag kids =
+    implies (is "p" tag && not around.quiet) (only_first (is "pPr") kids)
+    && implies (is "tr" tag && not around.quiet) (once "trPr" kids)
+    && implies (is "tc" tag && not around.quiet) (once "tcPr" kids)
+    && implies (is "body" tag && not around.quiet) (only_last (is "sectPr") kids)
+    && implies (is "sdt" tag && not around.quiet) (once "sdtContent" kids)
+
+-- an element of this role may lose its tags
+abbrev pub loses_tags : Around → Kind → Tag → Bool
+loses_tags around kind tag = is "p" tag && not around.quiet || is_content kind || is_change kind
+
+-- declarations of namespaces
+abbrev pub by_round_9 : Around → Tag → Nodes → Bool
+by_round_9 around tag kids =
+    implies (loses_tags around (role_in around tag) tag) (not (declares tag.tail))
+    && not (change_declares declares (role_in around tag) kids)

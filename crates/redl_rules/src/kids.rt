@@ -1,0 +1,117 @@
+//! Questions about the kids of an element.
+
+ghost use Rattle.std.specs.Prelude.{◌≡◌, ◌∷◌, List};
+ghost use Rattle.redl_tree.specs.Nodes.{Tag};
+ghost use Rattle.redl_tree.specs.Names.{named};
+ghost use Rattle.redl_tree.specs.Kids.{some_element, has_element};
+ghost use Rattle.redl_tree.specs.Kinds.{is_change};
+ghost use Rattle.redl_tree.specs.Lists.{is_thick as is_thick_tag};
+ghost use Rattle.redl_tree.specs.Places.{role};
+ghost use Rattle.redl_tree.specs.Sound.{at_most_one, only_first, only_last};
+ghost use Rattle.redl_tree.specs.View.{nodes_of};
+ghost use Rattle.redl_tree.specs.Arounds.{around_of};
+
+use redl_tree::{Around, Node, is_named, is_thick};
+
+/// Whether there is an element among these.
+pub fn has_elements(nodes: &[Node]) -> bool
+    ensures { result ≡ has_element (nodes_of nodes.now) }
+{
+    for node in nodes {
+        if let Node::Elem(_) = node {
+            return true;
+        }
+    }
+    false
+}
+
+/// Whether some element has this name.
+pub fn has_named(nodes: &[Node], name: &[u8]) -> bool
+    ensures { result ≡ some_element (named name.now) (nodes_of nodes.now) }
+{
+    for node in nodes {
+        if let Node::Elem(elem) = node {
+            if is_named(elem, name) {
+                return true;
+            }
+        }
+    }
+    false
+}
+
+/// Whether there is a block among these.
+pub fn has_thick(nodes: &[Node]) -> bool
+    ensures { result ≡ some_element is_thick_tag (nodes_of nodes.now) }
+{
+    for node in nodes {
+        if let Node::Elem(elem) = node {
+            if is_thick(elem) {
+                return true;
+            }
+        }
+    }
+    false
+}
+
+/// Whether at most one element has this name.
+pub fn is_once(nodes: &[Node], name: &[u8]) -> bool
+    ensures { result ≡ at_most_one (named name.now) (nodes_of nodes.now) }
+{
+    let mut seen = false;
+    for node in nodes {
+        if let Node::Elem(elem) = node {
+            if is_named(elem, name) {
+                if seen {
+                    return false;
+                }
+                seen = true;
+            }
+        }
+    }
+    true
+}
+
+/// Whether no element with this name comes after another element.
+pub fn is_only_first(nodes: &[Node], name: &[u8]) -> bool
+    ensures { result ≡ only_first (named name.now) (nodes_of nodes.now) }
+{
+    for i in 0..nodes.len() {
+        if let Node::Elem(_) = &nodes[i] {
+            return !has_named(&nodes[i + 1..], name);
+        }
+    }
+    true
+}
+
+/// Whether no element comes after one with this name.
+pub fn is_only_last(nodes: &[Node], name: &[u8]) -> bool
+    ensures { result ≡ only_last (named name.now) (nodes_of nodes.now) }
+{
+    let mut ended = false;
+    for node in nodes {
+        if let Node::Elem(elem) = node {
+            if ended {
+                return false;
+            }
+            ended = is_named(elem, name);
+        }
+    }
+    true
+}
+
+/// Whether no element comes after a change of properties. `around` is what is round these nodes.
+pub fn changes_are_last(nodes: &[Node], around: Around) -> bool
+    ensures { (above : List Tag) → around ≡ around_of above
+        → result ≡ only_last (λ kid. is_change (role above kid)) (nodes_of nodes.now) }
+{
+    let mut ended = false;
+    for node in nodes {
+        if let Node::Elem(elem) = node {
+            if ended {
+                return false;
+            }
+            ended = around.role(elem).is_change();
+        }
+    }
+    true
+}

@@ -1,0 +1,19 @@
+//! The nine rules of structure that a package must keep, for its revisions to be decided: a package goes in, and the least
+//! rule that it breaks comes out. Read `check` first, then the rules in `rules.rt` beside `Sound` of `redl_tree`.
+//! A package that keeps them all is sound: whatever is decided, what the decision leaves is a document.
+//! Which elements are revisions is told by `Around` of `redl_tree`; what a decision does is left to the crates above.
+#![tactic(auto)]
+
+mod attributes;
+mod ends;
+mod kept;
+mod kids;
+mod package;
+mod round;
+mod rules;
+mod walk;
+
+pub use package::{RuleError, check};
+
+#[cfg(test)]
+mod tests;

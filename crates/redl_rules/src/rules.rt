@@ -1,0 +1,298 @@
+//! The nine rules, of one element by itself.
+
+ghost use Rattle.std.specs.Prelude.{◌≡◌, ◌∷◌, ◌&&◌, not, [], List};
+ghost use Rattle.redl_tree.specs.Nodes.{Tag};
+ghost use Rattle.redl_tree.specs.Names.{is, is_any};
+ghost use Rattle.redl_tree.specs.Kids.{some_element};
+ghost use Rattle.redl_tree.specs.Kinds.{is_content};
+ghost use Rattle.redl_tree.specs.Lists.{is_thick};
+ghost use Rattle.redl_tree.specs.Sound.{implies, is_banned as is_banned_tag, is_banned_below_change as is_banned_below_change_tag, test_1, test_2, test_4, test_7, test_8, former_declares, change_declares as change_declares_by, once, each_once, only_first, only_last, props_name as props_name_of};
+ghost use Rattle.redl_tree.specs.View.{tag_of, kids_of, nodes_of};
+ghost use Rattle.redl_tree.specs.Arounds.{role_in, around_of};
+ghost use Rattle.redl_rules.specs.Attributes.{has_id as has_id_tail, declares};
+ghost use Rattle.redl_rules.specs.Rounds.{round_of};
+ghost use Rattle.redl_rules.specs.Rules.{open_in, loses_tags as loses_tags_of, by_round_3, by_round_5, by_round_6, by_round_9};
+
+use crate::attributes::{declares_names, has_id};
+use crate::ends::{end_of_nodes, has_own_cell, is_so_end};
+use crate::kids::{
+    changes_are_last, has_elements, has_thick, is_once, is_only_first, is_only_last,
+};
+use crate::round::Round;
+use redl_tree::{Around, Elem, Kind, Node, Prop, Reach, is_named, is_range_edge, prop_of};
+
+/// A cell ends in a paragraph (rule 1).
+pub fn keeps_1(elem: &Elem, round: Round) -> bool
+    ensures { (above : List Tag) → round ≡ round_of above → result ≡ test_1 above (tag_of elem.now) (kids_of elem.now) }
+{
+    if is_named(elem, b"tc") && !round.around.quiet {
+        is_so_end(end_of_nodes(&elem.kids, Reach::Direct))
+    } else {
+        true
+    }
+}
+
+/// A row has a cell (rule 2).
+pub fn keeps_2(elem: &Elem, round: Round) -> bool
+    ensures { (above : List Tag) → round ≡ round_of above → result ≡ test_2 above (tag_of elem.now) (kids_of elem.now) }
+{
+    if is_named(elem, b"tr") && !round.around.quiet {
+        has_own_cell(&elem.kids, Reach::Direct)
+    } else {
+        true
+    }
+}
+
+/// A content revision holds no block (rule 3).
+pub fn keeps_3(elem: &Elem, round: Round) -> bool
+    ensures { result ≡ by_round_3 round (tag_of elem.now) (kids_of elem.now) }
+{
+    is_no_block_below(elem, round)
+        && is_no_props_in(elem, round)
+        && is_thin_among_blocks(elem, round)
+}
+
+fn is_no_block_below(elem: &Elem, round: Round) -> bool
+    ensures { result ≡ implies (is_banned_tag (tag_of elem.now) && not round.around.quiet) (not round.below_content) }
+{
+    !round.below_content || round.around.quiet || !is_banned(elem)
+}
+
+fn is_no_props_in(elem: &Elem, round: Round) -> bool
+    ensures { result ≡ implies (open_in ("rPr" ∷ "sdtContent" ∷ []) round.around (tag_of elem.now)) (not round.in_content) }
+{
+    !round.in_content || round.around.quiet || !is_run_props_or_control(elem)
+}
+
+fn is_thin_among_blocks(elem: &Elem, round: Round) -> bool
+    ensures { result ≡ implies (is_content (role_in round.around (tag_of elem.now)) && round.among_blocks)
+        (not (some_element is_thick (kids_of elem.now))) }
+{
+    !is_content_among_blocks(elem, round) || !has_thick(&elem.kids)
+}
+
+fn is_content_among_blocks(elem: &Elem, round: Round) -> bool
+    ensures { result ≡ (is_content (role_in round.around (tag_of elem.now)) && round.among_blocks) }
+{
+    round.among_blocks && round.around.role(elem).is_content()
+}
+
+fn is_banned(elem: &Elem) -> bool
+    ensures { result ≡ is_banned_tag (tag_of elem.now) }
+{
+    is_named(elem, b"p")
+        || is_named(elem, b"tbl")
+        || is_named(elem, b"tr")
+        || is_named(elem, b"tc")
+        || is_named(elem, b"pPr")
+        || is_named(elem, b"tblPr")
+        || is_named(elem, b"tblPrEx")
+        || is_named(elem, b"trPr")
+        || is_named(elem, b"tcPr")
+        || is_named(elem, b"sectPr")
+}
+
+fn is_run_props_or_control(elem: &Elem) -> bool
+    ensures { result ≡ is_any ("rPr" ∷ "sdtContent" ∷ []) (tag_of elem.now) }
+{
+    is_named(elem, b"rPr") || is_named(elem, b"sdtContent")
+}
+
+/// A change is the last kid (rule 4). `inner` is round the kids.
+pub fn keeps_4(elem: &Elem, inner: Around) -> bool
+    ensures { (above : List Tag) → inner ≡ around_of (tag_of elem.now ∷ above)
+        → result ≡ test_4 above (tag_of elem.now) (kids_of elem.now) }
+{
+    changes_are_last(&elem.kids, inner)
+}
+
+/// Marks stand once (rule 5). `inner` is round the kids.
+pub fn keeps_5(elem: &Elem, inner: Around) -> bool
+    ensures { result ≡ by_round_5 inner (kids_of elem.now) }
+{
+    keeps_mark_props(elem, inner)
+        && keeps_mark(elem, inner)
+        && keeps_row_marks(elem, inner)
+        && keeps_cell_marks(elem, inner)
+}
+
+fn keeps_mark_props(elem: &Elem, inner: Around) -> bool
+    ensures { result ≡ implies inner.para_props (once "rPr" (kids_of elem.now)) }
+{
+    !inner.para_props || is_once(&elem.kids, b"rPr")
+}
+
+fn keeps_mark(elem: &Elem, inner: Around) -> bool
+    ensures { result ≡ implies inner.mark_props (each_once ("ins" ∷ "del" ∷ "moveFrom" ∷ "moveTo" ∷ []) (kids_of elem.now)) }
+{
+    !inner.mark_props || mark_is_once(&elem.kids)
+}
+
+fn keeps_row_marks(elem: &Elem, inner: Around) -> bool
+    ensures { result ≡ implies inner.row_props (each_once ("ins" ∷ "del" ∷ []) (kids_of elem.now)) }
+{
+    !inner.row_props || row_is_once(&elem.kids)
+}
+
+fn keeps_cell_marks(elem: &Elem, inner: Around) -> bool
+    ensures { result ≡ implies inner.cell_props (each_once ("cellIns" ∷ "cellDel" ∷ []) (kids_of elem.now)) }
+{
+    !inner.cell_props || cell_is_once(&elem.kids)
+}
+
+fn mark_is_once(kids: &[Node]) -> bool
+    ensures { result ≡ each_once ("ins" ∷ "del" ∷ "moveFrom" ∷ "moveTo" ∷ []) (nodes_of kids.now) }
+{
+    is_once(kids, b"ins")
+        && is_once(kids, b"del")
+        && is_once(kids, b"moveFrom")
+        && is_once(kids, b"moveTo")
+}
+
+fn row_is_once(kids: &[Node]) -> bool
+    ensures { result ≡ each_once ("ins" ∷ "del" ∷ []) (nodes_of kids.now) }
+{
+    is_once(kids, b"ins") && is_once(kids, b"del")
+}
+
+fn cell_is_once(kids: &[Node]) -> bool
+    ensures { result ≡ each_once ("cellIns" ∷ "cellDel" ∷ []) (nodes_of kids.now) }
+{
+    is_once(kids, b"cellIns") && is_once(kids, b"cellDel")
+}
+
+/// Properties stand once and in their place (rule 6).
+pub fn keeps_6(elem: &Elem, round: Round) -> bool
+    ensures { result ≡ by_round_6 round.around (tag_of elem.now) (kids_of elem.now) }
+{
+    if round.around.quiet {
+        return true;
+    }
+    keeps_para(elem)
+        && keeps_row(elem)
+        && keeps_cell(elem)
+        && keeps_body(elem)
+        && keeps_control(elem)
+}
+
+fn keeps_para(elem: &Elem) -> bool
+    ensures { result ≡ implies (is "p" (tag_of elem.now)) (only_first (is "pPr") (kids_of elem.now)) }
+{
+    !is_named(elem, b"p") || is_only_first(&elem.kids, b"pPr")
+}
+
+fn keeps_row(elem: &Elem) -> bool
+    ensures { result ≡ implies (is "tr" (tag_of elem.now)) (once "trPr" (kids_of elem.now)) }
+{
+    !is_named(elem, b"tr") || is_once(&elem.kids, b"trPr")
+}
+
+fn keeps_cell(elem: &Elem) -> bool
+    ensures { result ≡ implies (is "tc" (tag_of elem.now)) (once "tcPr" (kids_of elem.now)) }
+{
+    !is_named(elem, b"tc") || is_once(&elem.kids, b"tcPr")
+}
+
+fn keeps_body(elem: &Elem) -> bool
+    ensures { result ≡ implies (is "body" (tag_of elem.now)) (only_last (is "sectPr") (kids_of elem.now)) }
+{
+    !is_named(elem, b"body") || is_only_last(&elem.kids, b"sectPr")
+}
+
+fn keeps_control(elem: &Elem) -> bool
+    ensures { result ≡ implies (is "sdt" (tag_of elem.now)) (once "sdtContent" (kids_of elem.now)) }
+{
+    !is_named(elem, b"sdt") || is_once(&elem.kids, b"sdtContent")
+}
+
+/// A marker of a move holds no element (rule 7).
+pub fn keeps_7(elem: &Elem, round: Round) -> bool
+    ensures { (above : List Tag) → round ≡ round_of above
+        → result ≡ test_7 has_id_tail above (tag_of elem.now) (kids_of elem.now) }
+{
+    if round.around.quiet || !is_range_edge(elem) {
+        return true;
+    }
+    !has_id(&elem.tail) || !has_elements(&elem.kids)
+}
+
+/// Former properties hold no change element and no block (rule 8).
+pub fn keeps_8(elem: &Elem, round: Round) -> bool
+    ensures { (above : List Tag) → round ≡ round_of above → result ≡ test_8 above (tag_of elem.now) (kids_of elem.now) }
+{
+    !round.below_change || !is_banned_below_change(elem)
+}
+
+fn is_banned_below_change(elem: &Elem) -> bool
+    ensures { result ≡ is_banned_below_change_tag (tag_of elem.now) }
+{
+    prop_of(elem).is_some()
+        || is_named(elem, b"p")
+        || is_named(elem, b"tbl")
+        || is_named(elem, b"tr")
+        || is_named(elem, b"tc")
+        || is_named(elem, b"txbxContent")
+}
+
+/// What a decision can take the tags of declares no namespace (rule 9).
+pub fn keeps_9(elem: &Elem, round: Round) -> bool
+    ensures { result ≡ by_round_9 round.around (tag_of elem.now) (kids_of elem.now) }
+{
+    let kind = round.around.role(elem);
+    keeps_own_tag(elem, round, kind) && !change_declares(kind, &elem.kids)
+}
+
+fn keeps_own_tag(elem: &Elem, round: Round, kind: Kind) -> bool
+    ensures { result ≡ implies (loses_tags_of round.around kind (tag_of elem.now)) (not (declares (tag_of elem.now).tail)) }
+{
+    !loses_tags(elem, round, kind) || !declares_names(&elem.tail)
+}
+
+/// Whether some decision takes the tags of an element and leaves its kids.
+fn loses_tags(elem: &Elem, round: Round, kind: Kind) -> bool
+    ensures { result ≡ loses_tags_of round.around kind (tag_of elem.now) }
+{
+    match kind {
+        Kind::Content(_) | Kind::Change(_) => true,
+        _ => is_named(elem, b"p") && !round.around.quiet,
+    }
+}
+
+/// Whether the former properties in a change declare a namespace.
+fn change_declares(kind: Kind, kids: &[Node]) -> bool
+    ensures { result ≡ change_declares_by declares kind (nodes_of kids.now) }
+{
+    match kind {
+        Kind::Change(prop) => former_declares_names(props_name(prop), kids),
+        _ => false,
+    }
+}
+
+/// The name of the properties that a change is of.
+fn props_name(prop: Prop) -> &'static [u8]
+    ensures { result.now ≡ props_name_of prop }
+{
+    match prop {
+        Prop::Run => b"rPr",
+        Prop::Para => b"pPr",
+        Prop::Sect => b"sectPr",
+        Prop::Table => b"tblPr",
+        Prop::Except => b"tblPrEx",
+        Prop::Row => b"trPr",
+        Prop::Cell => b"tcPr",
+    }
+}
+
+/// Whether the first element with this name declares a namespace.
+fn former_declares_names(name: &[u8], kids: &[Node]) -> bool
+    ensures { result ≡ former_declares declares name.now (nodes_of kids.now) }
+{
+    for node in kids {
+        if let Node::Elem(elem) = node {
+            if is_named(elem, name) {
+                return declares_names(&elem.tail);
+            }
+        }
+    }
+    false
+}

@@ -1,0 +1,71 @@
+//! The rules that hold in a story, by one walk through its elements.
+
+ghost use Rattle.std.specs.Prelude.{◌≡◌, ◌∷◌, [], List};
+ghost use Rattle.redl_tree.specs.Nodes.{Tag};
+ghost use Rattle.redl_tree.specs.View.{nodes_of, item_of, tag_of, kids_of};
+ghost use Rattle.redl_rules.specs.Rounds.{round_of};
+ghost use Rattle.redl_rules.specs.Keeping.{kept_here as kept_of, kept_in, element_kept, item_kept};
+
+use crate::kept::Kept;
+use crate::round::Round;
+use crate::rules::{
+    keeps_1, keeps_2, keeps_3, keeps_4, keeps_5, keeps_6, keeps_7, keeps_8, keeps_9,
+};
+use redl_tree::{Elem, Node};
+
+/// Which rules hold in the story with this root.
+pub fn kept_by_story(root: &Elem) -> Kept
+    ensures { result ≡ element_kept [] (tag_of root.now) (kids_of root.now) }
+{
+    kept_by_elem(root, Round::top())
+}
+
+#[cycle(kept)]
+fn kept_by_nodes(nodes: &[Node], round: Round) -> Kept
+    ensures { (above : List Tag) → round ≡ round_of above → result ≡ kept_in above (nodes_of nodes.now) }
+{
+    let mut kept = Kept::all();
+    for node in nodes {
+        kept = kept.and(kept_by_node(node, round));
+    }
+    kept
+}
+
+#[cycle(kept)]
+fn kept_by_node(node: &Node, round: Round) -> Kept
+    ensures { (above : List Tag) → round ≡ round_of above → result ≡ item_kept above (item_of node.now) }
+{
+    match node {
+        Node::Elem(elem) => kept_by_elem(elem, round),
+        Node::Bytes(_) => Kept::all(),
+    }
+}
+
+#[cycle(kept)]
+fn kept_by_elem(elem: &Elem, round: Round) -> Kept
+    ensures { (above : List Tag) → round ≡ round_of above
+        → result ≡ element_kept above (tag_of elem.now) (kids_of elem.now) }
+{
+    let inner = round.inside(elem);
+    let here = kept_here(elem, round, inner);
+    here.and(kept_by_nodes(&elem.kids, inner))
+}
+
+/// Which rules hold of an element by itself. `inner` is round its kids.
+fn kept_here(elem: &Elem, round: Round, inner: Round) -> Kept
+    ensures { (above : List Tag) → round ≡ round_of above
+        → inner ≡ round_of (tag_of elem.now ∷ above)
+        → result ≡ kept_of above (tag_of elem.now) (kids_of elem.now) }
+{
+    Kept {
+        rule_1: keeps_1(elem, round),
+        rule_2: keeps_2(elem, round),
+        rule_3: keeps_3(elem, round),
+        rule_4: keeps_4(elem, inner.around),
+        rule_5: keeps_5(elem, inner.around),
+        rule_6: keeps_6(elem, round),
+        rule_7: keeps_7(elem, round),
+        rule_8: keeps_8(elem, round),
+        rule_9: keeps_9(elem, round),
+    }
+}
