@@ -1,9 +1,12 @@
 """Makes the inputs of bench/run: plain documents of a size or a number of paragraphs, and journals for them.
 
     python3 make.py document BYTES FILE          paragraphs up to so many bytes
+    python3 make.py package BYTES FILE           a package of several parts, as a word processor saves one: a document with
+                                                 references in its text and many attributes, styles, a picture of 6 MB
+    python3 make.py nodes COUNT FILE             a document of so many small nodes
     python3 make.py reviewed PARAGRAPHS ENTRIES FOLDER
                                                  P with two revisions a paragraph, and the journals J0, J1 and J2
-    python3 make.py shape NAME FILE              a document of about 20 MB of an unusual shape
+    python3 make.py shape NAME FILE              a document of 6 to 60 MB of an unusual shape
 """
 import hashlib
 import sys
@@ -45,6 +48,59 @@ def document(size):
         i += 1
 
 
+PACKAGE_FRONT = (
+    '<?xml version="1.0" encoding="UTF-8" standalone="yes"?>\n<?mso-application progid="Word.Document"?>\n'
+    '<pkg:package xmlns:pkg="http://schemas.microsoft.com/office/2006/xmlPackage">'
+    '<pkg:part pkg:name="/_rels/.rels" pkg:contentType="application/vnd.openxmlformats-package.relationships+xml" pkg:padding="512">'
+    '<pkg:xmlData><Relationships xmlns="http://schemas.openxmlformats.org/package/2006/relationships">'
+    '<Relationship Id="rId1" Type="http://schemas.openxmlformats.org/officeDocument/2006/relationships/officeDocument" Target="word/document.xml"/>'
+    "</Relationships></pkg:xmlData></pkg:part>"
+    '<pkg:part pkg:name="/word/document.xml" pkg:contentType="application/vnd.openxmlformats-officedocument.wordprocessingml.document.main+xml">'
+    '<pkg:xmlData><w:document xmlns:w="http://schemas.openxmlformats.org/wordprocessingml/2006/main"'
+    ' xmlns:r="http://schemas.openxmlformats.org/officeDocument/2006/relationships"'
+    ' xmlns:w14="http://schemas.microsoft.com/office/word/2010/wordml"><w:body>'
+)
+PACKAGE_MIDDLE = (
+    "</w:body></w:document></pkg:xmlData></pkg:part>"
+    '<pkg:part pkg:name="/word/styles.xml" pkg:contentType="application/vnd.openxmlformats-officedocument.wordprocessingml.styles+xml">'
+    '<pkg:xmlData><w:styles xmlns:w="http://schemas.openxmlformats.org/wordprocessingml/2006/main">'
+)
+STYLE = '<w:style w:type="paragraph" w:styleId="Style%d"><w:name w:val="Style %d"/><w:pPr><w:spacing w:after="120"/></w:pPr></w:style>'
+PACKAGE_BACK = (
+    "</w:styles></pkg:xmlData></pkg:part>"
+    '<pkg:part pkg:name="/word/media/image1.png" pkg:contentType="image/png" pkg:compression="store"><pkg:binaryData>%s'
+    "</pkg:binaryData></pkg:part></pkg:package>\n"
+)
+LINE = "iVBORw0KGgoAAAANSUhEUgAAAAEAAAABCAYAAAAfFcSJAAAADUlEQVR42mNkYPhfDwAEhAGA\r\n"
+LETTER_PARAGRAPH = (
+    '<w:p w14:paraId="%08X" w14:textId="77777777" w:rsidR="00A77B3E" w:rsidRDefault="00A77B3E">'
+    '<w:r w:rsidRPr="00B1C2D3"><w:t xml:space="preserve">%s &#8212; Smith &amp; Sons, no. %d </w:t></w:r>'
+    '<w:ins w:id="%d" w:author="Ann Gray" ' + STAMP + '><w:r w:rsidRPr="00B1C2D3"><w:t>%s &lt;40&gt;</w:t></w:r></w:ins>'
+    '<w:r><w:tab/><w:t>%s</w:t></w:r></w:p>'
+)
+
+
+def package(size):
+    """A package of about so many bytes."""
+    picture = LINE * (6000000 // len(LINE))
+    styles = "".join(STYLE % (i, i) for i in range(400))
+    back = PACKAGE_MIDDLE + styles + PACKAGE_BACK % picture
+    pieces = [PACKAGE_FRONT]
+    left = size - len(PACKAGE_FRONT) - len(back)
+    i = 0
+    while left > 0:
+        piece = LETTER_PARAGRAPH % (i, SENTENCE, i, i, SENTENCE, SENTENCE)
+        pieces.append(piece)
+        left -= len(piece)
+        i += 1
+    return "".join(pieces + [back])
+
+
+def nodes(count):
+    """A document with so many nodes: five nodes a paragraph."""
+    return FRONT + "<w:p><w:r><w:br/><w:tab/></w:r><w:r/></w:p>" * ((count - 6) // 5) + BACK
+
+
 def journal(whole, revisions, entries, k):
     """Reviewer k's journal: his share of the entries, spread over the revisions, with rising sequence numbers."""
     lines = ["redline-journal 1\n", "document %s\n" % hashlib.sha256(whole).hexdigest(), "revisions %d\n" % revisions]
@@ -68,16 +124,23 @@ def nested(depth, inside):
 
 
 SHAPES = {
-    # 2,900,000 empty elements in one run
-    "wide": lambda: "<w:p><w:r>%s</w:r></w:p>" % ("<w:br/>" * 2900000),
-    # as deep as the form allows, again and again
+    # 2,000,000 empty elements in one run, and more than there may be
+    "wide": lambda: "<w:p><w:r>%s</w:r></w:p>" % ("<w:br/>" * 2000000),
+    "wider": lambda: "<w:p><w:r>%s</w:r></w:p>" % ("<w:br/>" * 8000000),
+    # as deep as elements may stand, again and again, and deeper
     "deep": lambda: ("<w:p>%s</w:p>" % nested(504, "<w:r><w:br/></w:r>")) * 1650,
-    # elements that are never closed: not of the form
-    "open": lambda: "<w:ins>" * 2900000,
+    "deeper": lambda: "<w:p>%s</w:p>" % nested(800000, ""),
+    # elements that are never closed
+    "open": lambda: "<w:ins>" * 8000000,
     # 830,000 revisions with nothing in them
     "revisions": lambda: "<w:p>%s</w:p>" % ('<w:del w:id="1"></w:del>' * 830000),
     # 1,300,000 attributes in one tag
     "attributes": lambda: "<w:p%s></w:p>" % "".join(' w:x%s="1"' % letters(i) for i in range(1300000)),
+    # 200,000 attributes and 100,000 declarations in one tag
+    "declarations": lambda: "<w:p%s%s></w:p>"
+    % ("".join(' w:x%s="1"' % letters(i) for i in range(200000)), "".join(' xmlns:n%s="u"' % letters(i) for i in range(100000))),
+    # 400,000 elements with a declaration each
+    "scopes": lambda: "<w:p>%s</w:p>" % "".join('<w:r xmlns:n%s="u"/>' % letters(i) for i in range(400000)),
     # one stretch of 20 MB
     "text": lambda: "<w:p><w:r><w:t>%s</w:t></w:r></w:p>" % ("x" * 20000000),
 }
@@ -91,6 +154,12 @@ def save(name, whole):
 def main():
     if sys.argv[1] == "document":
         save(sys.argv[3], document(int(sys.argv[2])))
+        return
+    if sys.argv[1] == "package":
+        save(sys.argv[3], package(int(sys.argv[2])))
+        return
+    if sys.argv[1] == "nodes":
+        save(sys.argv[3], nodes(int(sys.argv[2])))
         return
     if sys.argv[1] == "shape":
         save(sys.argv[3], FRONT + SHAPES[sys.argv[2]]() + BACK)

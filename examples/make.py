@@ -19,6 +19,31 @@ ANN = 'w:author="Ann Gray" w:date="2026-11-02T09:00:00Z"'
 BOB = 'w:author="Bob Hay" w:date="2026-11-03T14:30:00Z"'
 
 
+# A package of several parts, as a word processor saves one: how to find the document, the document, its styles, a picture.
+LETTER_FRONT = (
+    '<?xml version="1.0" encoding="UTF-8" standalone="yes"?>\n'
+    '<?mso-application progid="Word.Document"?>\n'
+    '<pkg:package xmlns:pkg="http://schemas.microsoft.com/office/2006/xmlPackage">'
+    '<pkg:part pkg:name="/_rels/.rels" pkg:contentType="application/vnd.openxmlformats-package.relationships+xml" pkg:padding="512">'
+    '<pkg:xmlData><Relationships xmlns="http://schemas.openxmlformats.org/package/2006/relationships">'
+    '<Relationship Id="rId1" Type="http://schemas.openxmlformats.org/officeDocument/2006/relationships/officeDocument" Target="word/document.xml"/>'
+    "</Relationships></pkg:xmlData></pkg:part>\n"
+    '<pkg:part pkg:name="/word/document.xml" pkg:contentType="application/vnd.openxmlformats-officedocument.wordprocessingml.document.main+xml">'
+    '<pkg:xmlData><w:document xmlns:w="http://schemas.openxmlformats.org/wordprocessingml/2006/main"'
+    " xmlns:r='http://schemas.openxmlformats.org/officeDocument/2006/relationships' >\n<w:body>"
+)
+LETTER_BACK = (
+    "</w:body>\n</w:document></pkg:xmlData></pkg:part>\n"
+    '<pkg:part pkg:name="/word/styles.xml" pkg:contentType="application/vnd.openxmlformats-officedocument.wordprocessingml.styles+xml">'
+    '<pkg:xmlData><w:styles xmlns:w="http://schemas.openxmlformats.org/wordprocessingml/2006/main">'
+    "<!-- a mark in the styles is no revision of the document -->"
+    '<w:style w:styleId="Changed"><w:rPr><w:ins w:id="90" w:author="Ann Gray"/></w:rPr></w:style>'
+    "</w:styles ></pkg:xmlData></pkg:part>\n"
+    '<pkg:part pkg:name="/word/media/image1.png" pkg:contentType="image/png" pkg:compression="store">'
+    "<pkg:binaryData>iVBORw0KGgo=\r\n</pkg:binaryData></pkg:part></pkg:package>\n"
+)
+
+
 def text(words):
     return '<w:r><w:t xml:space="preserve">%s</w:t></w:r>' % words
 
@@ -51,6 +76,15 @@ PARAGRAPHS = [
     + text("shall inspect the goods."),
     # a whole line inserted: revision 9
     change("ins", 9, BOB, text("Signed in two copies.")),
+]
+
+LETTER = [
+    text("Smith &amp; Sons &#8212; offer of 3 November"),
+    text("Dear Ms Gray, ") + change("ins", 31, BOB.replace('"', "'"), text("we thank you for your letter, and ")),
+    text("we offer 40 &lt;m&gt; of cable")
+    + change("del", 32, ANN, deleted(" at 3 &#x20AC; each"))
+    + change("ins", 33, ANN, text(" at 2.80 &#x20AC; each"))
+    + text("."),
 ]
 
 # seq, revision, word
@@ -133,6 +167,9 @@ def main():
     save("plain.accepted.xml", package(resolve(body, lambda number: "accept")))
     save("plain.rejected.xml", package(resolve(body, lambda number: "reject")))
     save("plain.written.xml", package(resolve(body, lambda number: verdict(number, entries))))
+    letter = "".join("\n<w:p w:rsidR='00A77B3E'>%s</w:p >" % paragraph for paragraph in LETTER)
+    save("letter.xml", LETTER_FRONT + letter + LETTER_BACK)
+    save("letter.accepted.xml", LETTER_FRONT + resolve(letter, lambda number: "accept") + LETTER_BACK)
     for who, says, file in reviewers:
         save(file + ".journal", journal(plain, count, who, says))
 

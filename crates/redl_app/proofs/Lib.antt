@@ -1,8 +1,9 @@
 mod ReaderLaws
-pub mod FormLaws
 pub mod GatherLaws
 pub mod JournalLaws
 pub mod NameLaws
+pub mod PackageLaws
 pub mod PassLaws
 pub mod ReadLaws
+pub mod StoryLaws
 pub mod TopLaws

@@ -1,5 +1,5 @@
 -- Names among names, and texts that are UTF-8.
-use Rattle.std.proofs.Common.{◌≡◌, ◌<◌, ◌+◌, ℕ, zero, suc, List, [], ◌∷◌, length, Contains, None, Some, Result, Ok, Err, MatchResult, IsOk, refl, sym, subst, arith}
+use Rattle.std.proofs.Common.{◌≡◌, ℕ, zero, suc, List, [], ◌∷◌, Contains, None, Some, Result, Ok, Err, MatchResult, IsOk, refl, arith}
 
 pub only_one : (x y : List ℕ) → Contains (x ∷ []) y → x ≡ y
 only_one x y (zero, within, is) = is

@@ -1,11 +1,11 @@
 -- Steps that take files from the shelf, one after another.
 use Rattle.std.proofs.lemmas.List.{take_all}
-use Rattle.std.proofs.Common.{◌≡◌, ◌≤◌, ◌+◌, arith, length, take, length-take, ◌⊎◌, inl, inr, ℕ, List, [], ◌++◌, Option, None, Some, IfSome, Result, Ok, Err, Contains, refl, sym, ap, ◌∙◌, subst}
+use Rattle.std.proofs.Common.{◌≡◌, ◌≤◌, ◌+◌, arith, length, take, length-take, inl, inr, ℕ, List, Option, None, Some, IfSome, Result, Ok, Err, Contains, sym, ap, ◌∙◌, subst}
 use Rattle.redl_app.specs.Outcome.{Reader, IsReader, ◌>>=◌}
 use Rattle.redl_app.specs.Reading.{IsMade, IsUnread, UnlessUnread, NeverUnread, ReadsFiles, front_of}
-use Rattle.redl_app.specs.Refusals.{Refusal, unbuilt, unread, malformed, other_document, other_count, journal_bytes, no_memory}
+use Rattle.redl_app.specs.Refusals.{Refusal, unbuilt, no_package, unread, malformed, other_document, other_count, over, no_memory}
 use Rattle.redl_io.specs.Faults.{Rose}
-use Rattle.redl_io.specs.Shelf.{Files, Lacks}
+use Rattle.redl_io.specs.Shelf.{Files}
 
 -- ---- one step
 
@@ -22,7 +22,8 @@ refused_bind unbuilt due next failed h = ap (λ d. d >>= next) h
 refused_bind (malformed name) due next failed h = ap (λ d. d >>= next) h
 refused_bind (other_document name found expected) due next failed h = ap (λ d. d >>= next) h
 refused_bind (other_count name found expected) due next failed h = ap (λ d. d >>= next) h
-refused_bind journal_bytes due next failed h = ap (λ d. d >>= next) h
+refused_bind (over limit) due next failed h = ap (λ d. d >>= next) h
+refused_bind (no_package fault) due next failed h = ap (λ d. d >>= next) h
 
 unread_in : {Y : Type 0} (made : Result Y Refusal) (names more : List (List ℕ)) (told : Option Files) (failed : Type 0)
     → ((name : List ℕ) → Contains names name → Contains more name) → IsUnread made names told failed → IsUnread made more told failed
@@ -33,7 +34,8 @@ unread_in (Err unbuilt) names more told failed among h = tt
 unread_in (Err (malformed name)) names more told failed among h = tt
 unread_in (Err (other_document name found expected)) names more told failed among h = tt
 unread_in (Err (other_count name found expected)) names more told failed among h = tt
-unread_in (Err journal_bytes) names more told failed among h = tt
+unread_in (Err (over limit)) names more told failed among h = tt
+unread_in (Err (no_package fault)) names more told failed among h = tt
 
 unread_as : (X Y : Type 0) (refusal : Refusal) (names : List (List ℕ)) (told : Option Files) (failed : Type 0)
     → IsUnread {Y = X} (Err refusal) names told failed → IsUnread {Y = Y} (Err refusal) names told failed
@@ -43,7 +45,8 @@ unread_as X Y unbuilt names told failed h = tt
 unread_as X Y (malformed name) names told failed h = tt
 unread_as X Y (other_document name found expected) names told failed h = tt
 unread_as X Y (other_count name found expected) names told failed h = tt
-unread_as X Y journal_bytes names told failed h = tt
+unread_as X Y (over limit) names told failed h = tt
+unread_as X Y (no_package fault) names told failed h = tt
 
 stands_as : (X Y : Type 0) (refusal : Refusal) (Holds : Type 0)
     → UnlessUnread {Y = X} (Err refusal) Holds → UnlessUnread {Y = Y} (Err refusal) Holds
@@ -53,7 +56,8 @@ stands_as X Y unbuilt Holds h = h
 stands_as X Y (malformed name) Holds h = h
 stands_as X Y (other_document name found expected) Holds h = h
 stands_as X Y (other_count name found expected) Holds h = h
-stands_as X Y journal_bytes Holds h = h
+stands_as X Y (over limit) Holds h = h
+stands_as X Y (no_package fault) Holds h = h
 
 -- ---- steps in a row
 
@@ -112,7 +116,8 @@ stands_of (Err unbuilt) Holds h = h
 stands_of (Err (malformed name)) Holds h = h
 stands_of (Err (other_document name found expected)) Holds h = h
 stands_of (Err (other_count name found expected)) Holds h = h
-stands_of (Err journal_bytes) Holds h = h
+stands_of (Err (over limit)) Holds h = h
+stands_of (Err (no_package fault)) Holds h = h
 
 never_unread : {Y : Type 0} (made : Result Y Refusal) (names : List (List ℕ)) (told : Option Files) (failed : Type 0) → NeverUnread made → IsUnread made names told failed
 never_unread (Ok y) names told failed never = tt
@@ -122,7 +127,8 @@ never_unread (Err unbuilt) names told failed never = tt
 never_unread (Err (malformed name)) names told failed never = tt
 never_unread (Err (other_document name found expected)) names told failed never = tt
 never_unread (Err (other_count name found expected)) names told failed never = tt
-never_unread (Err journal_bytes) names told failed never = tt
+never_unread (Err (over limit)) names told failed never = tt
+never_unread (Err (no_package fault)) names told failed never = tt
 
 -- what takes no file was made of what a step read
 pub reads_after : {X Y : Type 0} {old new : Option Files} {before now : ℕ} {names : List (List ℕ)} {x : X} {due : Reader → Files → Result X Refusal}
@@ -171,7 +177,8 @@ capped_err {X} {Y} limit (Ok whole) bytes step view refusal failed front same h 
     surely (malformed name) due failed h = h
     surely (other_document name found expected) due failed h = h
     surely (other_count name found expected) due failed h = h
-    surely journal_bytes due failed h = h
+    surely (over limit) due failed h = h
+    surely (no_package fault) due failed h = h
 
 uncapped : (cap : ℕ) (found : Result (List ℕ) Refusal) (refusal : Refusal) → front_of cap found ≡ Err refusal → found ≡ Err refusal
 uncapped cap (Ok whole) refusal is = absurd (cc is)
@@ -186,7 +193,8 @@ made_uncapped cap found unbuilt failed h = uncapped cap found unbuilt h
 made_uncapped cap found (malformed name) failed h = uncapped cap found (malformed name) h
 made_uncapped cap found (other_document name was expected) failed h = uncapped cap found (other_document name was expected) h
 made_uncapped cap found (other_count name was expected) failed h = uncapped cap found (other_count name was expected) h
-made_uncapped cap found journal_bytes failed h = uncapped cap found journal_bytes h
+made_uncapped cap found (over limit) failed h = uncapped cap found (over limit) h
+made_uncapped cap found (no_package fault) failed h = uncapped cap found (no_package fault) h
 
 -- a fetch was refused
 pub fetch_stops : {old new : Option Files} {before now : ℕ} {names : List (List ℕ)} {refusal : Refusal} (cap : ℕ) (due : Reader → Files → Result (List ℕ) Refusal)

@@ -1,19 +1,18 @@
 -- What a call answers and leaves behind, by how it ended.
-use Rattle.std.proofs.Common.{◌≡◌, ◌≢◌, ◌⊎◌, inl, inr, ℕ, List, [], ◌∷◌, ◌++◌, Option, None, Some, IfSome, Result, Ok, Err, Contains, refl, sym, ap, ◌∙◌, subst, arith}
+use Rattle.std.proofs.Common.{◌≡◌, ◌≢◌, inl, inr, ℕ, List, [], ◌∷◌, ◌++◌, Option, None, Some, Result, Ok, Err, refl, sym, ap, ◌∙◌, subst, arith}
 use Rattle.std.specs.List.{flat_map}
 use Rattle.std.specs.Io.KnownBytes.{append_known}
 use Rattle.redl_app.proofs.ReadLaws.{if_some}
-use Rattle.redl_app.specs.Answers.{OfOutcome, IsAnswer, IsWritten, Writes, AreLines, IsUnreadLine, MayFault}
-use Rattle.redl_app.specs.Ends.{End, written, unwritten, refused, end_status, end_lines}
-use Rattle.redl_app.specs.Finishing.{Finishes, WritesAll, WritesFront}
-use Rattle.redl_app.specs.Outcome.{Reader, IsReader, Outcome, Writing, outcome, outcome_of, written_status, writing_of}
+use Rattle.redl_app.specs.Answers.{OfOutcome, IsAnswer, IsWritten, Writes, AreLines, MayFault}
+use Rattle.redl_app.specs.Ends.{End, end_status, end_lines}
+use Rattle.redl_app.specs.Finishing.{Finishes}
+use Rattle.redl_app.specs.Outcome.{Outcome, Writing, outcome_of, written_status, writing_of}
 use Rattle.redl_app.specs.Reading.{IsMade, IsUnread, UnlessUnread, ReadsFiles}
-use Rattle.redl_app.specs.Refusals.{Refusal, unbuilt, unread, malformed, other_document, other_count, journal_bytes, no_memory, status_of, refusal_line, refused_line, unwritten_line}
+use Rattle.redl_app.specs.Refusals.{Refusal, unbuilt, no_package, unread, malformed, other_document, other_count, over, no_memory, status_of, refusal_line, refused_line, unwritten_line}
 use Rattle.redl_app.specs.Words.{Command, command_of, files_of}
-use Rattle.redl_app.specs.declared.status.Status.{Status}
 use Rattle.redl_app.specs.declared.status.Status.TheVariants as status
 use Rattle.redl_io.specs.Faults.{Rose}
-use Rattle.redl_io.specs.Shelf.{Files, Lacks}
+use Rattle.redl_io.specs.Shelf.{Files}
 use Rattle.redl_io.specs.Sink.{GrowsByFront}
 use Rattle.redl_journal.specs.declared.entry.Entry.{Entry}
 
@@ -36,7 +35,8 @@ answer_refused unbuilt due failed w h = ap (λ d. (outcome_of d).status) h
 answer_refused (malformed name) due failed w h = ap (λ d. (outcome_of d).status) h
 answer_refused (other_document name found expected) due failed w h = ap (λ d. (outcome_of d).status) h
 answer_refused (other_count name found expected) due failed w h = ap (λ d. (outcome_of d).status) h
-answer_refused journal_bytes due failed w h = ap (λ d. (outcome_of d).status) h
+answer_refused (over limit) due failed w h = ap (λ d. (outcome_of d).status) h
+answer_refused (no_package fault) due failed w h = ap (λ d. (outcome_of d).status) h
 
 pub answer_by : (old new : Option (List ℕ)) (before now : ℕ) (made : Result Writing Refusal) (end : End) (due : Result Writing Refusal) (failed : Type 0)
     → Finishes old new before now made end → IsMade made due failed → IsAnswer (end_status end) (outcome_of due) failed (Rose before now)
@@ -58,7 +58,8 @@ writes_nothing unbuilt old new bytes is = is
 writes_nothing (malformed name) old new bytes is = is
 writes_nothing (other_document name found expected) old new bytes is = is
 writes_nothing (other_count name found expected) old new bytes is = is
-writes_nothing journal_bytes old new bytes is = is
+writes_nothing (over limit) old new bytes is = is
+writes_nothing (no_package fault) old new bytes is = is
 
 pub writes_by : (old new : Option (List ℕ)) (before now : ℕ) (made : Result Writing Refusal) (end : End) (due : Result Writing Refusal) (failed : Type 0)
     → Finishes old new before now made end → IsMade made due failed → Writes (end_status end) old new (outcome_of due).bytes
@@ -84,7 +85,8 @@ lines_refused unbuilt due command told failed h u = sym (ap (λ d. (outcome_of d
 lines_refused (malformed name) due command told failed h u = sym (ap (λ d. (outcome_of d).lines) h)
 lines_refused (other_document name found expected) due command told failed h u = sym (ap (λ d. (outcome_of d).lines) h)
 lines_refused (other_count name found expected) due command told failed h u = sym (ap (λ d. (outcome_of d).lines) h)
-lines_refused journal_bytes due command told failed h u = sym (ap (λ d. (outcome_of d).lines) h)
+lines_refused (over limit) due command told failed h u = sym (ap (λ d. (outcome_of d).lines) h)
+lines_refused (no_package fault) due command told failed h u = sym (ap (λ d. (outcome_of d).lines) h)
 
 pub lines_by : (old new : Option (List ℕ)) (before now : ℕ) (made : Result Writing Refusal) (end : End) (due : Result Writing Refusal) (command : Option Command) (told : Option Files) (failed : Type 0)
     → Finishes old new before now made end → IsMade made due failed → IsUnread made (files_of command) told failed
@@ -137,7 +139,8 @@ may_fault unbuilt command told failed u is = absurd (cc is)
 may_fault (malformed name) command told failed u is = absurd (cc is)
 may_fault (other_document name found expected) command told failed u is = absurd (cc is)
 may_fault (other_count name found expected) command told failed u is = absurd (cc is)
-may_fault journal_bytes command told failed u is = absurd (cc is)
+may_fault (over limit) command told failed u is = absurd (cc is)
+may_fault (no_package fault) command told failed u is = absurd (cc is)
 
 pub read_cause : (old new : Option (List ℕ)) (before now : ℕ) (made : Result Writing Refusal) (end : End) (command : Option Command) (told : Option Files) (failed : Type 0)
     → Finishes old new before now made end → IsUnread made (files_of command) told failed → end_status end ≡ status.ReadFault → MayFault command told failed
@@ -157,7 +160,8 @@ refused_no_write_fault unbuilt is = absurd (cc is)
 refused_no_write_fault (malformed name) is = absurd (cc is)
 refused_no_write_fault (other_document name found expected) is = absurd (cc is)
 refused_no_write_fault (other_count name found expected) is = absurd (cc is)
-refused_no_write_fault journal_bytes is = absurd (cc is)
+refused_no_write_fault (over limit) is = absurd (cc is)
+refused_no_write_fault (no_package fault) is = absurd (cc is)
 
 pub write_cause : (old new : Option (List ℕ)) (before now : ℕ) (made : Result Writing Refusal) (end : End)
     → Finishes old new before now made end → end_status end ≡ status.WriteFault → Rose before now
@@ -191,7 +195,8 @@ refused_stands unbuilt Holds h other = h
 refused_stands (malformed name) Holds h other = h
 refused_stands (other_document name found expected) Holds h other = h
 refused_stands (other_count name found expected) Holds h other = h
-refused_stands journal_bytes Holds h other = h
+refused_stands (over limit) Holds h other = h
+refused_stands (no_package fault) Holds h other = h
 
 pub shelf_stands : (old new : Option (List ℕ)) (before now : ℕ) (made : Result Writing Refusal) (end : End) (Holds : Type 0)
     → Finishes old new before now made end → UnlessUnread made Holds → end_status end ≢ status.ReadFault → Holds

@@ -2,7 +2,6 @@ pub mod Rounds
 pub mod Status
 pub mod Words
 pub mod Form
-pub mod Places
 pub mod Refusals
 pub mod Outcome
 pub mod Answers

@@ -1,9 +1,9 @@
 -- What a call of the program comes to: a function of the words, of what the shelf holds, and of how texts are read.
-use Rattle.std.specs.Prelude.{◌≡◌, ℕ, ◌+◌, ◌-◌, List, [], ◌∷◌, ◌++◌, length, map, filter, replicate, Bool, true, false, ◌&&◌, ◌==◌, not, nat_le, nat_lt, Option, None, Some, Result, Ok, Err, if◌then◌else◌}
+use Rattle.std.specs.Prelude.{ℕ, ◌-◌, List, [], ◌∷◌, ◌++◌, length, map, filter, replicate, Bool, ◌&&◌, ◌==◌, not, nat_le, nat_lt, Option, None, Some, Result, Ok, Err, if◌then◌else◌}
 use Rattle.std.specs.List.{flat_map, range_with_len}
 use Rattle.std.specs.Str.{bytes_eq}
 use Rattle.sha2.specs.Sha256.{sha256}
-use Rattle.redl_index.specs.Numbers.{revisions, numbered}
+use Rattle.redl_index.specs.Numbers.{package_revisions, numbered_package}
 use Rattle.redl_io.specs.Shelf.{Files}
 use Rattle.redl_join.specs.Books.{union}
 use Rattle.redl_join.specs.Verdicts.{verdict_at}
@@ -12,12 +12,21 @@ use Rattle.redl_join.specs.declared.verdict.Verdict.TheVariants as verdict
 use Rattle.redl_journal.specs.declared.entry.Entry.{Entry}
 use Rattle.redl_journal.specs.Journals.{Journal, IsJournal, HasNoJournal}
 use Rattle.redl_tree.specs.Nodes.{Nodes}
-use Rattle.redl_tree.specs.Pass.{pass}
+use Rattle.redl_tree.specs.Count.{count}
+use Rattle.redl_tree.specs.Packages.{pass_package}
 use Rattle.redl_tree.specs.Text.{text}
 use Rattle.redl_tree.specs.declared.kinds.Say.{Say}
 use Rattle.redl_tree.specs.declared.kinds.Say.TheVariants as say
-use Rattle.redl_app.specs.Form.{package_text, IsFirstForm}
-use Rattle.redl_app.specs.Refusals.{Refusal, unbuilt, unread, malformed, other_document, other_count, journal_bytes, status_of, refusal_line, refused_line}
+use Rattle.redl_opc.specs.Shape.{refusal}
+use Rattle.redl_opc.specs.declared.error.OpcError.{OpcError}
+use Rattle.redl_opc.specs.declared.error.OpcError.TheVariants as opc
+use Rattle.redl_xml.specs.Shapes.{depth_of}
+use Rattle.redl_xml.specs.Readings.{IsReading, HasNoReading}
+use Rattle.redl_xml.specs.declared.TheConstants.{DEPTH_LIMIT, NODE_LIMIT}
+use Rattle.redl_app.specs.Form.{is_built}
+use Rattle.redl_app.specs.Refusals.{Refusal, unbuilt, no_package, unread, malformed, other_document, other_count, over, no_memory, status_of, refusal_line, refused_line}
+use Rattle.redl_app.specs.declared.refusal.Limit.TheVariants.{PackageBytes, JournalBytes, Depth, Nodes as TooManyNodes}
+use Rattle.redl_app.specs.declared.refusal.PackageFault.TheVariants.{NotReadable, NotPackage, PartShape, NoDocument}
 use Rattle.redl_app.specs.Words.{Command, settle, write, command_of}
 use Rattle.redl_app.specs.declared.TheConstants.{PACKAGE_LIMIT, JOURNALS_LIMIT}
 use Rattle.redl_app.specs.declared.status.Status.{Status}
@@ -25,23 +34,22 @@ use Rattle.redl_app.specs.declared.status.Status.TheVariants as status
 
 -- ---- how texts are read
 
--- the body of a package, and the journal of a text, where it has one
+-- the tree of an XML text, and the journal of a text, where it has one
 pub record Reader : Type 0 where
-  pub body : List ℕ → Option Nodes
+  pub tree : List ℕ → Option Nodes
   pub journal : List ℕ → Option Journal
 
--- The text has this body, or none, where it is not of the form or longer than the limit.
-abbrev pub IsBodyOf : ℕ → List ℕ → Option Nodes → Type 0
-IsBodyOf limit text (Some body) = IsFirstForm limit text body
-IsBodyOf limit text None = (body : Nodes) → IsFirstForm limit text body → ⊥
+abbrev pub IsTreeOf : List ℕ → Option Nodes → Type 0
+IsTreeOf text (Some nodes) = IsReading text nodes
+IsTreeOf text None = HasNoReading text
 
 abbrev pub IsJournalOf : List ℕ → Option Journal → Type 0
 IsJournalOf text (Some journal) = IsJournal text journal
 IsJournalOf text None = HasNoJournal text
 
--- Each text is read as what it is the text of. A text has one body and one journal at most, so all readers agree.
+-- Each text is read as what it is the text of. A text has one tree and one journal at most, so all readers agree.
 pub record IsReader (reader : Reader) : Type 0 where
-  pub bodies : (text : List ℕ) → IsBodyOf PACKAGE_LIMIT text (reader.body text)
+  pub trees : (text : List ℕ) → IsTreeOf text (reader.tree text)
   pub journals : (text : List ℕ) → IsJournalOf text (reader.journal text)
 
 -- ---- outcomes
@@ -76,16 +84,16 @@ abbrev pub ◌>>=◌ : {X Y : Type 0} → Result X Refusal → (X → Result Y R
 (Ok x) >>= next = next x
 (Err refusal) >>= next = Err refusal
 
--- ---- a body under says
+-- ---- a package under says
 
--- The text of the package of a body under a say for each revision: the pass of the original, in which each `ins` and
--- `del` is a revision of its number.
+-- The text of a package under a say for each revision: the pass of the original, in which each `ins` and `del` of a
+-- story is a revision of its number.
 abbrev pub passed_text : List Say → Nodes → List ℕ
-passed_text says body = package_text (text (pass says [] (numbered 0 body)))
+passed_text says nodes = text (pass_package says (numbered_package nodes))
 
 -- one say for all revisions
 abbrev pub same_says : Say → Nodes → List Say
-same_says say body = replicate (revisions body) say
+same_says say nodes = replicate (package_revisions nodes) say
 
 -- disputed and open revisions are kept
 abbrev pub say_of_verdict : Verdict → Say
@@ -98,6 +106,48 @@ say_of_verdict verdict.Disputed = say.Keep
 abbrev pub says_of : List Entry → ℕ → List Say
 says_of book count = map (λ rev. say_of_verdict (verdict_at book rev)) (range_with_len 1 count)
 
+-- ---- the package
+
+-- a tree within the limits
+abbrev pub limited : Nodes → Result Nodes Refusal
+limited nodes =
+    if nat_lt DEPTH_LIMIT (depth_of nodes) then Err (over Depth)
+    else if nat_lt NODE_LIMIT (count nodes) then Err (over TooManyNodes)
+    else Ok nodes
+
+abbrev pub limited_tree : Option Nodes → Result Nodes Refusal
+limited_tree None = Err (no_package NotReadable)
+limited_tree (Some nodes) = limited nodes
+
+-- the tree of a text that is no longer than a limit
+abbrev pub tree_in : Reader → ℕ → List ℕ → Result Nodes Refusal
+tree_in reader limit whole = if nat_lt limit (length whole) then Err (over PackageBytes) else limited_tree (reader.tree whole)
+
+abbrev pub shape_refusal : OpcError → Refusal
+shape_refusal opc.NotPackage = no_package NotPackage
+shape_refusal opc.PartShape = no_package PartShape
+shape_refusal opc.NoDocument = no_package NoDocument
+shape_refusal opc.NoMemory = no_memory
+
+abbrev pub shaped_unless : Option OpcError → Nodes → Result Nodes Refusal
+shaped_unless None nodes = Ok nodes
+shaped_unless (Some error) nodes = Err (shape_refusal error)
+
+-- nodes that have the shape of a package
+abbrev pub shaped : Nodes → Result Nodes Refusal
+shaped nodes = shaped_unless (refusal nodes) nodes
+
+-- a package of the form that is built
+abbrev pub built : Nodes → Result Nodes Refusal
+built nodes = if is_built nodes then Ok nodes else Err unbuilt
+
+-- the nodes of a package of this text, or the first cause why there are none
+abbrev pub package_in : Reader → ℕ → List ℕ → Result Nodes Refusal
+package_in reader limit whole = do
+  tree ← tree_in reader limit whole
+  package_ ← shaped tree
+  built package_
+
 -- ---- the journals of a package
 
 -- a package as its journals know it: the digest of its bytes, and how many revisions it has
@@ -106,7 +156,7 @@ pub record Subject : Type 0 where
   pub count : ℕ
 
 abbrev pub subject_of : List ℕ → Nodes → Subject
-subject_of whole body = record { digest = sha256 whole; count = revisions body }
+subject_of whole nodes = record { digest = sha256 whole; count = package_revisions nodes }
 
 -- the entries of a journal, where it is one of this package
 abbrev pub entries_of : Subject → List ℕ → Option Journal → Result (List Entry) Refusal
@@ -119,7 +169,7 @@ entries_of subject name (Some journal) =
 -- the entries of a journal of this text, where so many bytes may still come
 abbrev pub entries_in : Reader → Subject → ℕ → List ℕ → List ℕ → Result (List Entry) Refusal
 entries_in reader subject left name whole =
-    if nat_lt left (length whole) then Err journal_bytes else entries_of subject name (reader.journal whole)
+    if nat_lt left (length whole) then Err (over JournalBytes) else entries_of subject name (reader.journal whole)
 
 -- the file of this name
 abbrev pub held : List ℕ → Option (List ℕ) → Result (List ℕ) Refusal
@@ -157,27 +207,22 @@ unknown_entries count entries = union [] (filter (λ entry. not (is_known count 
 
 -- ---- the commands
 
--- the body of a package of this text
-abbrev pub body_of : Option Nodes → Result Nodes Refusal
-body_of None = Err unbuilt
-body_of (Some body) = Ok body
-
--- the package of this name: its text and its body
+-- the text and the nodes of the package of this name
 abbrev pub package_at : Reader → Files → List ℕ → Result (List ℕ × Nodes) Refusal
 package_at reader files name = do
   whole ← file files name
-  body ← body_of (reader.body whole)
-  Ok (whole, body)
+  nodes ← package_in reader PACKAGE_LIMIT whole
+  Ok (whole, nodes)
 
--- a body under one say for all its revisions
+-- a package under one say for all its revisions
 abbrev pub settled : Say → Nodes → Writing
-settled say body = record { bytes = passed_text (same_says say body) body; unknown = [] }
+settled say nodes = record { bytes = passed_text (same_says say nodes) nodes; unknown = [] }
 
--- a body under the verdicts of these entries
+-- a package under the verdicts of these entries
 abbrev pub decided : List Entry → Nodes → Writing
-decided entries body = record {
-  bytes = passed_text (says_of (known_entries (revisions body) entries) (revisions body)) body;
-  unknown = unknown_entries (revisions body) entries;
+decided entries nodes = record {
+  bytes = passed_text (says_of (known_entries (package_revisions nodes) entries) (package_revisions nodes)) nodes;
+  unknown = unknown_entries (package_revisions nodes) entries;
 }
 
 -- what a command writes, or why it writes nothing

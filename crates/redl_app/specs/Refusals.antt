@@ -3,12 +3,18 @@ use Rattle.std.specs.Prelude.{ℕ, List, [], ◌∷◌, ◌++◌, codes, decimal
 use Rattle.hex.specs.Hex.{encode_lower}
 use Rattle.redl_journal.specs.declared.entry.Entry.{Entry}
 use Rattle.redl_journal.specs.Journals.{word_text}
+use Rattle.redl_app.specs.declared.refusal.Limit.{Limit}
+use Rattle.redl_app.specs.declared.refusal.Limit.TheVariants.{PackageBytes, JournalBytes, Depth, Nodes}
+use Rattle.redl_app.specs.declared.refusal.PackageFault.{PackageFault}
+use Rattle.redl_app.specs.declared.refusal.PackageFault.TheVariants.{NotReadable, NotPackage, PartShape, NoDocument}
 use Rattle.redl_app.specs.declared.status.Status.{Status}
 use Rattle.redl_app.specs.declared.status.Status.TheVariants as status
 
 pub data Refusal : Type 0 where
   -- the words, or the form of the package
   unbuilt : Refusal
+  -- the file is no package
+  no_package : PackageFault → Refusal
   -- the file of this name is missing, or couldn't be fetched
   unread : List ℕ → Refusal
   -- the journal of this name has no reading
@@ -17,17 +23,18 @@ pub data Refusal : Type 0 where
   other_document : List ℕ → List ℕ → List ℕ → Refusal
   -- the journal of this name has the first count of revisions, and the package the second
   other_count : List ℕ → ℕ → ℕ → Refusal
-  -- the journals have too many bytes
-  journal_bytes : Refusal
+  -- a quantity is over its limit
+  over : Limit → Refusal
   no_memory : Refusal
 
 abbrev pub status_of : Refusal → Status
 status_of unbuilt = status.Unbuilt
+status_of (no_package fault) = status.Package
 status_of (unread name) = status.ReadFault
 status_of (malformed name) = status.Journal
 status_of (other_document name found expected) = status.Journal
 status_of (other_count name found expected) = status.Journal
-status_of journal_bytes = status.Limit
+status_of (over limit) = status.Limit
 status_of no_memory = status.NoMemory
 
 -- ---- the lines on standard error
@@ -56,8 +63,17 @@ other_document_line name found expected = difference_line name (codes "document"
 abbrev pub other_count_line : List ℕ → ℕ → ℕ → List ℕ
 other_count_line name found expected = difference_line name (codes "revisions") (decimal found) (decimal expected)
 
-abbrev pub journal_bytes_line : List ℕ
-journal_bytes_line = codes "redline: limit journal bytes 67108864" ++ newline
+abbrev pub fault_line : PackageFault → List ℕ
+fault_line NotReadable = codes "redline: package: not readable" ++ newline
+fault_line NotPackage = codes "redline: package: not a package" ++ newline
+fault_line PartShape = codes "redline: package: part shape" ++ newline
+fault_line NoDocument = codes "redline: package: no document" ++ newline
+
+abbrev pub limit_line : Limit → List ℕ
+limit_line PackageBytes = codes "redline: limit package bytes 67108864" ++ newline
+limit_line JournalBytes = codes "redline: limit journal bytes 67108864" ++ newline
+limit_line Depth = codes "redline: limit depth 512" ++ newline
+limit_line Nodes = codes "redline: limit nodes 2097152" ++ newline
 
 abbrev pub no_memory_line : List ℕ
 no_memory_line = codes "redline: no memory" ++ newline
@@ -70,11 +86,12 @@ unwritten_line = codes "redline: cannot write" ++ newline
 
 abbrev pub refusal_line : Refusal → List ℕ
 refusal_line unbuilt = unbuilt_line
+refusal_line (no_package fault) = fault_line fault
 refusal_line (unread name) = unread_line name
 refusal_line (malformed name) = malformed_line name
 refusal_line (other_document name found expected) = other_document_line name found expected
 refusal_line (other_count name found expected) = other_count_line name found expected
-refusal_line journal_bytes = journal_bytes_line
+refusal_line (over limit) = limit_line limit
 refusal_line no_memory = no_memory_line
 
 -- the line of an entry with an unknown number: its seq, its revision, its word and its reviewer

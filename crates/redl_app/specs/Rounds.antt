@@ -1,9 +1,11 @@
 -- What the pass has to know of the ancestors of a node.
-use Rattle.std.specs.Prelude.{List, Bool, ◌&&◌, ◌||◌, not}
+use Rattle.std.specs.Prelude.{List, [], ◌∷◌, Bool, ◌&&◌, ◌||◌, not, if◌then◌else◌}
 use Rattle.std.specs.List.{list_any}
-use Rattle.redl_tree.specs.Fates.{fate_of, is_revived}
+use Rattle.redl_tree.specs.Fates.{fate_of}
 use Rattle.redl_tree.specs.Kinds.{is_old_content, is_free, is_leave}
-use Rattle.redl_tree.specs.Nodes.{Tag}
+use Rattle.redl_tree.specs.Nodes.{Tag, Nodes, Item, bytes_item, element_item}
+use Rattle.redl_tree.specs.Packages.{is_root, pass_in}
+use Rattle.redl_tree.specs.Pass.{pass}
 use Rattle.redl_tree.specs.Places.{is_quiet}
 use Rattle.redl_tree.specs.declared.kinds.Say.{Say}
 use Rattle.redl_app.specs.declared.pass.Round.{Round}
@@ -34,3 +36,14 @@ inside_of says tag round = record {
 -- deleted text is live again there
 abbrev pub revives : Round → Bool
 revives round = not round.quiet && round.freed && not round.left
+
+-- ---- a node of a package, with its stories passed
+
+-- what an element with these ancestors in the package becomes
+abbrev pub element_pass_in : List Say → List Tag → Tag → Nodes → Item
+element_pass_in says around tag kids =
+    element_item tag (if is_root around tag then pass says (tag ∷ []) kids else pass_in says (tag ∷ around) kids)
+
+abbrev pub item_pass_in : List Say → List Tag → Item → Item
+item_pass_in says around (bytes_item b) = bytes_item b
+item_pass_in says around (element_item tag kids) = element_pass_in says around tag kids

@@ -1,5 +1,5 @@
 -- How a command line is read. The words come without the program's name.
-use Rattle.std.specs.Prelude.{ℕ, List, [], ◌∷◌, ◌++◌, Option, None, Some, option_map, Bool, false, codes, ◌&&◌, ◌==◌, not, if◌then◌else◌}
+use Rattle.std.specs.Prelude.{ℕ, List, [], ◌∷◌, Option, None, Some, option_map, Bool, false, codes, ◌==◌, not, if◌then◌else◌}
 use Rattle.std.specs.List.{list_all}
 use Rattle.std.specs.Str.{bytes_eq}
 use Rattle.redl_tree.specs.declared.kinds.Say.{Say}

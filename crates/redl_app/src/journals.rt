@@ -5,7 +5,7 @@ ghost use Rattle.redl_app.specs.Reading.{ReadsFiles, Reads, NeverUnread};
 ghost use Rattle.redl_journal.specs.Journals.{IsAllowed};
 
 use crate::fetch::fetch_file;
-use crate::refusal::Refusal;
+use crate::refusal::{Limit, Refusal};
 use crate::subject::Subject;
 use redl_io::{Shelf, Text};
 use redl_journal::{Entry, JournalError, read};
@@ -71,7 +71,7 @@ fn read_journal<'a>(
     ensures within { IfOk result (λ _. length bytes.now ≤ left) }
 {
     if bytes.len() > left {
-        return Err(Refusal::JournalBytes);
+        return Err(Refusal::Limit(Limit::JournalBytes));
     }
     let journal = match read(alloc, bytes) {
         Ok(journal) => journal,

@@ -5,13 +5,13 @@ ghost use Rattle.hex.specs.Hex.{encode_lower};
 ghost use Rattle.redl_app.specs.Answers.{Tells};
 ghost use Rattle.redl_app.specs.Ends.{end_lines, end_view};
 ghost use Rattle.redl_app.specs.Prepared.{refusal_view};
-ghost use Rattle.redl_app.specs.Refusals.{refusal_line, unread_line, malformed_line, other_document_line, other_count_line, difference_line, refused_line, unknown_line};
+ghost use Rattle.redl_app.specs.Refusals.{refusal_line, fault_line as fault_line_of, limit_line as limit_line_of, unread_line, malformed_line, other_document_line, other_count_line, difference_line, refused_line, unknown_line};
 ghost use Rattle.redl_io.specs.Faults.{Rose};
 ghost use Rattle.redl_io.specs.Sink.{Puts, GrowsByFront, CountsPut};
 ghost use Rattle.redl_journal.specs.Journals.{word_text};
 
 use crate::end::End;
-use crate::refusal::Refusal;
+use crate::refusal::{Limit, PackageFault, Refusal};
 use itoa::Buffer;
 use redl_io::{Failed, Sink, Staged, put_piece, put_pieces};
 use redl_join::Book;
@@ -115,6 +115,7 @@ fn write_refusal<K: Sink>(refusal: &Refusal<'_>, err: &mut K) -> Result<(), Fail
 {
     match refusal {
         Refusal::Unbuilt => put_piece(b"redline: not built yet\n", err),
+        Refusal::Package(fault) => put_piece(fault_line(*fault), err),
         Refusal::Unread(name) => write_unread(name, err),
         Refusal::Malformed(journal) => write_malformed(journal, err),
         Refusal::OtherDocument {
@@ -127,8 +128,30 @@ fn write_refusal<K: Sink>(refusal: &Refusal<'_>, err: &mut K) -> Result<(), Fail
             found,
             expected,
         } => write_other_count(journal, *found, *expected, err),
-        Refusal::JournalBytes => put_piece(b"redline: limit journal bytes 67108864\n", err),
+        Refusal::Limit(limit) => put_piece(limit_line(*limit), err),
         Refusal::NoMemory => put_piece(b"redline: no memory\n", err),
+    }
+}
+
+fn fault_line(fault: PackageFault) -> &'static [u8]
+    ensures { result.now ≡ fault_line_of fault }
+{
+    match fault {
+        PackageFault::NotReadable => b"redline: package: not readable\n",
+        PackageFault::NotPackage => b"redline: package: not a package\n",
+        PackageFault::PartShape => b"redline: package: part shape\n",
+        PackageFault::NoDocument => b"redline: package: no document\n",
+    }
+}
+
+fn limit_line(limit: Limit) -> &'static [u8]
+    ensures { result.now ≡ limit_line_of limit }
+{
+    match limit {
+        Limit::PackageBytes => b"redline: limit package bytes 67108864\n",
+        Limit::JournalBytes => b"redline: limit journal bytes 67108864\n",
+        Limit::Depth => b"redline: limit depth 512\n",
+        Limit::Nodes => b"redline: limit nodes 2097152\n",
     }
 }
 

@@ -1,23 +1,24 @@
-ghost use Rattle.std.specs.Prelude.{◌≡◌, ◌≤◌, ◌<◌, ◌^◌, ◌∷◌, [], IfOk, length};
-ghost use Rattle.redl_app.specs.Outcome.{body_of, package_at};
+ghost use Rattle.std.specs.Prelude.{◌≡◌, ◌≤◌, ◌∷◌, [], Some, IfOk, length};
+ghost use Rattle.redl_app.specs.Outcome.{tree_in, shaped, built, package_in, package_at};
 ghost use Rattle.redl_app.specs.Prepared.{made_of, package_view};
 ghost use Rattle.redl_app.specs.Reading.{ReadsFiles, Reads, NeverUnread};
-ghost use Rattle.redl_tree.specs.Count.{count};
+ghost use Rattle.redl_opc.specs.Tree.{IsTree};
 ghost use Rattle.redl_tree.specs.View.{nodes_of};
 
 use crate::PACKAGE_LIMIT;
 use crate::fetch::fetch_file;
-use crate::form::{FormError, read_form};
-use crate::refusal::Refusal;
+use crate::form::is_built;
+use crate::refusal::{Limit, Refusal};
 use redl_io::Shelf;
+use redl_opc::Package;
 use redl_tree::Node;
 use std::alloc::Global;
 
-/// A package of the form that is built: its text and its body.
+/// A file that is a package: its text and its parts.
 #[derive(Drop)]
-pub(crate) struct Package {
+pub(crate) struct PackageFile {
     pub bytes: Vec<u8>,
-    pub body: Vec<Node>,
+    pub package: Package,
 }
 
 /// The package of this name.
@@ -25,26 +26,47 @@ pub(crate) fn read_package<'a, F: Shelf>(
     alloc: Global,
     name: &'a str,
     shelf: &mut F,
-) -> Result<Package, Refusal<'a>>
-    ensures read { ReadsFiles (F.told shelf.old) (F.told shelf.new) (F.faults shelf.old) (F.faults shelf.new) (name.now ∷ [])
+) -> Result<PackageFile, Refusal<'a>>
+    ensures { ReadsFiles (F.told shelf.old) (F.told shelf.new) (F.faults shelf.old) (F.faults shelf.new) (name.now ∷ [])
         (made_of package_view result) (λ reader files. package_at reader files name.now) }
-    ensures few { IfOk result (λ read. count (nodes_of read.body.items) < 2 ^ 32) }
 {
     let bytes = fetch_file(alloc, name, PACKAGE_LIMIT + 1, shelf)?;
-    let body = read_body(alloc, &bytes)?;
-    Ok(Package { bytes, body })
+    let package = make_package(alloc, &bytes, PACKAGE_LIMIT)?;
+    Ok(PackageFile { bytes, package })
 }
 
-// The body of a package of this text.
-fn read_body<'a>(alloc: Global, bytes: &[u8]) -> Result<Vec<Node>, Refusal<'a>>
-    ensures read { Reads (made_of (λ body. nodes_of body.items) result) (λ reader. body_of (reader.body bytes.now)) }
-    ensures never_unread { NeverUnread (made_of (λ body. nodes_of body.items) result) }
-    ensures within { IfOk result (λ _. length bytes.now ≤ PACKAGE_LIMIT) }
-    ensures few { IfOk result (λ body. count (nodes_of body.items) < 2 ^ 32) }
+// The package of this text, which may have so many bytes.
+fn make_package<'a>(alloc: Global, bytes: &[u8], limit: usize) -> Result<Package, Refusal<'a>>
+    ensures read { Reads (made_of (λ made. made) result) (λ reader. package_in reader limit bytes.now) }
+    ensures never_unread { NeverUnread (made_of (λ made. made) result) }
+    ensures within { IfOk result (λ _. length bytes.now ≤ limit) }
 {
-    match read_form(alloc, bytes, PACKAGE_LIMIT) {
-        Ok(body) => Ok(body),
-        Err(FormError::Other) => Err(Refusal::Unbuilt),
-        Err(FormError::NoMemory) => Err(Refusal::NoMemory),
+    let nodes = read_nodes(alloc, bytes, limit)?;
+    let package = shape(alloc, nodes)?;
+    if !is_built(&package) {
+        return Err(Refusal::Unbuilt);
     }
+    Ok(package)
+}
+
+// The tree of this text, which may have so many bytes.
+fn read_nodes<'a>(alloc: Global, bytes: &[u8], limit: usize) -> Result<Vec<Node>, Refusal<'a>>
+    ensures read { Reads (made_of (λ nodes. nodes_of nodes.items) result) (λ reader. tree_in reader limit bytes.now) }
+    ensures never_unread { NeverUnread (made_of (λ nodes. nodes_of nodes.items) result) }
+    ensures tree { IfOk result (λ nodes. IsTree (nodes_of nodes.items)) }
+    ensures within { IfOk result (λ _. length bytes.now ≤ limit) }
+{
+    if bytes.len() > limit {
+        return Err(Refusal::Limit(Limit::PackageBytes));
+    }
+    Ok(redl_xml::read(alloc, bytes)?)
+}
+
+// The package that the nodes are.
+fn shape<'a>(alloc: Global, nodes: Vec<Node>) -> Result<Package, Refusal<'a>>
+    requires { IsTree (nodes_of nodes.items) }
+    ensures read { Reads (made_of (λ made. made) result) (λ _. shaped (nodes_of nodes.items)) }
+    ensures never_unread { NeverUnread (made_of (λ made. made) result) }
+{
+    Ok(Package::make(alloc, nodes)?)
 }

@@ -1,13 +1,14 @@
 ghost use Rattle.std.specs.Prelude.{◌≡◌, ◌∷◌, List, [], IfOk, OnOk, unwrap_or, if◌then◌else◌};
-ghost use Rattle.redl_app.specs.Rounds.{round_of, inside_of, revives};
+ghost use Rattle.redl_app.specs.Rounds.{round_of, inside_of, revives, item_pass_in, element_pass_in};
 ghost use Rattle.redl_tree.specs.Fates.{fate_of, live_name, renamed};
 ghost use Rattle.redl_tree.specs.Nodes.{Tag, ◌⊕◌};
+ghost use Rattle.redl_tree.specs.Packages.{level_of, pass_in, pass_package as pass_package_by};
 ghost use Rattle.redl_tree.specs.Pass.{pass, item_pass, element_pass};
 ghost use Rattle.redl_tree.specs.View.{nodes_of, item_of, tag_of, kids_of};
 
 use crate::fates::{fate, is_content, is_old_content, say_at};
 use redl_io::Text;
-use redl_tree::{Elem, Fate, Kind, Node, Say, is_named, is_quiet};
+use redl_tree::{Elem, Fate, Kind, Level, Node, Say, is_named, is_quiet};
 use std::alloc::{AllocError, Global};
 
 /// What the pass has to know of a node's ancestors: whether one is quiet, and whether a content revision of old matter
@@ -19,21 +20,90 @@ struct Round {
     left: bool,
 }
 
-/// The pass of the nodes of a body: what they become under a say for each revision. `says[v - 1]` belongs to revision v.
-pub(crate) fn pass_body(
+/// The pass of a package: what its nodes become under a say for each revision. `says[v - 1]` belongs to revision v.
+pub(crate) fn pass_package(
     alloc: Global,
     nodes: Vec<Node>,
     says: &[Say],
 ) -> Result<Vec<Node>, AllocError>
-    ensures { IfOk result (λ passed. nodes_of passed.items ≡ pass says.now [] (nodes_of nodes.items)) }
+    ensures { IfOk result (λ passed. nodes_of passed.items ≡ pass_package_by says.now (nodes_of nodes.items)) }
+{
+    pass_stories(alloc, nodes, says, Level::Top)
+}
+
+// The nodes with the stories among them passed.
+#[cycle(stories)]
+fn pass_stories(
+    alloc: Global,
+    nodes: Vec<Node>,
+    says: &[Say],
+    level: Level,
+) -> Result<Vec<Node>, AllocError>
+    ensures { IfOk result (λ passed. (around : List Tag) → level ≡ level_of around
+        → nodes_of passed.items ≡ pass_in says.now around (nodes_of nodes.items)) }
+{
+    if let Level::Below = level {
+        return Ok(nodes);
+    }
+    let mut passed = Vec::with_capacity(alloc, nodes.len())?;
+    for node in nodes {
+        let node = pass_in_node(alloc, node, says, level)?;
+        passed.push(node)?;
+    }
+    Ok(passed)
+}
+
+#[cycle(stories)]
+fn pass_in_node(alloc: Global, node: Node, says: &[Say], level: Level) -> Result<Node, AllocError>
+    ensures { IfOk result (λ passed. (around : List Tag) → level ≡ level_of around
+        → item_of passed ≡ item_pass_in says.now around (item_of node)) }
+{
+    match node {
+        Node::Elem(elem) => pass_in_elem(alloc, elem, says, level),
+        Node::Bytes(text) => Ok(Node::Bytes(text)),
+    }
+}
+
+#[cycle(stories)]
+fn pass_in_elem(alloc: Global, elem: Elem, says: &[Say], level: Level) -> Result<Node, AllocError>
+    ensures { IfOk result (λ passed. (around : List Tag) → level ≡ level_of around
+        → item_of passed ≡ element_pass_in says.now around (tag_of elem) (kids_of elem)) }
+{
+    if level.is_root(&elem) {
+        let round = in_root(says, &elem);
+        let kids = pass_kids(alloc, elem.kids, says, round)?;
+        return Ok(Node::Elem(Elem { kids, ..elem }));
+    }
+    let below = level.below(&elem);
+    let kids = pass_stories(alloc, elem.kids, says, below)?;
+    Ok(Node::Elem(Elem { kids, ..elem }))
+}
+
+// What is to be known of the ancestors of the kids of a story's root.
+fn in_root(says: &[Say], root: &Elem) -> Round
+    ensures { result ≡ round_of says.now (tag_of root.now ∷ []) }
 {
     let top = Round {
         quiet: false,
         freed: false,
         left: false,
     };
-    let mut passed = Vec::with_capacity(alloc, nodes.len())?;
-    pass_nodes(alloc, nodes, says, top, &mut passed)?;
+    inside(top, root, fate(root.kind, say_at(says, root.rev)))
+}
+
+// The pass of the kids of an element, by what is to be known of their ancestors.
+#[cycle(pass)]
+fn pass_kids(
+    alloc: Global,
+    kids: Vec<Node>,
+    says: &[Say],
+    round: Round,
+) -> Result<Vec<Node>, AllocError>
+    ensures { IfOk result (λ passed. (around : List Tag) → round ≡ round_of says.now around
+        → nodes_of passed.items ≡ pass says.now around (nodes_of kids.items)) }
+{
+    let mut passed = Vec::with_capacity(alloc, kids.len())?;
+    pass_nodes(alloc, kids, says, round, &mut passed)?;
     Ok(passed)
 }
 
@@ -92,28 +162,12 @@ fn pass_elem(
     match fate {
         Fate::Leave => {
             let live = live_local(alloc, &elem, round)?;
-            let Elem {
-                prefix,
-                local,
-                space,
-                tail,
-                kids,
-                close,
-                kind,
-                rev,
-            } = elem;
-            let local = live.unwrap_or(local);
-            let mut inside = Vec::with_capacity(alloc, kids.len())?;
-            pass_nodes(alloc, kids, says, inner, &mut inside)?;
+            let kids = pass_kids(alloc, elem.kids, says, inner)?;
+            let local = live.unwrap_or(elem.local);
             passed.push(Node::Elem(Elem {
-                prefix,
                 local,
-                space,
-                tail,
-                kids: inside,
-                close,
-                kind,
-                rev,
+                kids,
+                ..elem
             }))?;
             Ok(())
         }

@@ -4,27 +4,27 @@ ghost use Rattle.redl_app.specs.Prepared.{made_of, subject_view, writing_view};
 ghost use Rattle.redl_app.specs.Reading.{ReadsFiles};
 ghost use Rattle.redl_app.specs.Refusals.{unbuilt};
 ghost use Rattle.redl_app.specs.Words.{settle, write, command_of, files_of};
-ghost use Rattle.redl_index.specs.Numbers.{numbered, revisions};
+ghost use Rattle.redl_index.specs.Numbers.{numbered_package};
 ghost use Rattle.redl_journal.specs.Journals.{IsAllowed};
-ghost use Rattle.redl_tree.specs.Count.{count};
-ghost use Rattle.redl_tree.specs.Pass.{pass};
+ghost use Rattle.redl_tree.specs.Packages.{pass_package as pass_package_by};
 ghost use Rattle.redl_tree.specs.View.{nodes_of};
 ghost use Rattle.sha2.specs.Sha256.{sha256};
 
 use crate::JOURNALS_LIMIT;
 use crate::decisions::{decided, join};
 use crate::journals::gather;
-use crate::package::{Package, read_package};
-use crate::pass::pass_body;
+use crate::package::{PackageFile, read_package};
+use crate::pass::pass_package;
 use crate::prepared::Prepared;
 use crate::refusal::Refusal;
 use crate::subject::Subject;
 use crate::words::{Command, read_command};
-use redl_index::number_content;
+use redl_index::number_package;
 use redl_io::{Shelf, Text};
 use redl_join::Book;
 use redl_journal::Entry;
-use redl_tree::{Node, Say};
+use redl_opc::Package;
+use redl_tree::Say;
 use sha2::{Digest, Sha256};
 use std::alloc::{AllocError, Global};
 
@@ -58,20 +58,19 @@ fn prepare_settled<'a, F: Shelf>(
     ensures { ReadsFiles (F.told shelf.old) (F.told shelf.new) (F.faults shelf.old) (F.faults shelf.new) (name.now ∷ [])
         (made_of writing_view result) (λ reader files. writing_of reader files (Some (settle say name.now))) }
 {
-    let Package { bytes, body } = read_package(alloc, name, shelf)?;
+    let PackageFile { bytes, package } = read_package(alloc, name, shelf)?;
     drop(bytes);
-    Ok(settle_body(alloc, say, body)?)
+    Ok(settle_package(alloc, say, package)?)
 }
 
-fn settle_body(alloc: Global, say: Say, body: Vec<Node>) -> Result<Prepared, AllocError>
-    requires { count (nodes_of body.items) < 2 ^ 32 }
-    ensures { IfOk result (λ prepared. writing_view prepared ≡ settled say (nodes_of body.items)) }
+fn settle_package(alloc: Global, say: Say, read: Package) -> Result<Prepared, AllocError>
+    ensures { IfOk result (λ prepared. writing_view prepared ≡ settled say read) }
 {
-    let mut body = body;
-    let revisions = number_content(&mut body);
+    let mut package = read;
+    let revisions = number_package(alloc, &mut package)?;
     let says = vec![in alloc; say; revisions as usize]?;
     Ok(Prepared {
-        body: pass_body(alloc, body, &says)?,
+        nodes: pass_package(alloc, package.into_nodes(), &says)?,
         unknown: Book::new(alloc),
     })
 }
@@ -87,32 +86,31 @@ fn prepare_written<'a, F: Shelf>(
     ensures { ReadsFiles (F.told shelf.old) (F.told shelf.new) (F.faults shelf.old) (F.faults shelf.new) (name.now ∷ journals.now)
         (made_of writing_view result) (λ reader files. writing_of reader files (Some (write name.now journals.now))) }
 {
-    let package = read_package(alloc, name, shelf)?;
-    let reviewed = number_package(package);
+    let file = read_package(alloc, name, shelf)?;
+    let reviewed = review(alloc, file)?;
     let entries = gather(alloc, reviewed.subject, journals, JOURNALS_LIMIT, shelf)?;
-    Ok(write_body(alloc, reviewed, entries)?)
+    Ok(write_reviewed(alloc, reviewed, entries)?)
 }
 
-// A numbered body, and the package as its journals know it.
+// A package with its numbers, and as its journals know it.
 #[derive(Drop)]
 struct Reviewed {
-    body: Vec<Node>,
+    package: Package,
     subject: Subject,
 }
 
 // The digest is taken of the package's text, which goes before the journals are read.
-fn number_package(read: Package) -> Reviewed
-    requires { count (nodes_of read.body.items) < 2 ^ 32 }
-    ensures body { nodes_of result.body.items ≡ numbered 0 (nodes_of read.body.items) }
-    ensures subject { subject_view result.subject ≡ subject_of read.bytes.items (nodes_of read.body.items) }
+fn review(alloc: Global, file: PackageFile) -> Result<Reviewed, AllocError>
+    ensures numbered { IfOk result (λ reviewed. reviewed.«package» ≡ numbered_package file.«package») }
+    ensures subject { IfOk result (λ reviewed. subject_view reviewed.subject ≡ subject_of file.bytes.items file.«package») }
 {
-    let Package { bytes, mut body } = read;
+    let PackageFile { bytes, mut package } = file;
     let digest = digest_of(&bytes);
-    let count = number_content(&mut body);
-    Reviewed {
-        body,
+    let count = number_package(alloc, &mut package)?;
+    Ok(Reviewed {
+        package,
         subject: Subject { digest, count },
-    }
+    })
 }
 
 fn digest_of(bytes: &[u8]) -> [u8; 32]
@@ -121,22 +119,22 @@ fn digest_of(bytes: &[u8]) -> [u8; 32]
     Sha256::digest(bytes)
 }
 
-// The body under the verdicts of these entries.
-fn write_body(
+// The package under the verdicts of these entries.
+fn write_reviewed(
     alloc: Global,
     reviewed: Reviewed,
     entries: Vec<Entry>,
 ) -> Result<Prepared, AllocError>
     requires { All IsAllowed entries.items }
-    ensures body { IfOk result (λ prepared. nodes_of prepared.body.items
-        ≡ pass (says_of (known_entries reviewed.subject.count entries.items) reviewed.subject.count) [] (nodes_of reviewed.body.items)) }
+    ensures nodes { IfOk result (λ prepared. nodes_of prepared.nodes.items
+        ≡ pass_package_by (says_of (known_entries reviewed.subject.count entries.items) reviewed.subject.count) reviewed.«package») }
     ensures unknown { IfOk result (λ prepared. prepared.unknown ≡ unknown_entries reviewed.subject.count entries.items) }
 {
-    let Reviewed { body, subject } = reviewed;
+    let Reviewed { package, subject } = reviewed;
     let decisions = join(alloc, entries, subject.count)?;
     let says = decided(alloc, &decisions.known, subject.count)?;
     Ok(Prepared {
-        body: pass_body(alloc, body, &says)?,
+        nodes: pass_package(alloc, package.into_nodes(), &says)?,
         unknown: decisions.unknown,
     })
 }

@@ -1,13 +1,43 @@
 ghost use Rattle.std.specs.Prelude.{◌≡◌};
 
 use crate::Status;
+use redl_opc::OpcError;
+use redl_xml::XmlError;
 use std::alloc::AllocError;
+
+/// Why a file is no package.
+#[derive(Clone, Copy, Debug, PartialEq, Eq)]
+pub(crate) enum PackageFault {
+    /// It is the text of no tree.
+    NotReadable,
+    /// Its root isn't `package`.
+    NotPackage,
+    /// A part hasn't the shape of one.
+    PartShape,
+    /// No story has the root `document`.
+    NoDocument,
+}
+
+/// What is over its limit.
+#[derive(Clone, Copy, Debug, PartialEq, Eq)]
+pub(crate) enum Limit {
+    /// The bytes of the package.
+    PackageBytes,
+    /// The bytes of all journals.
+    JournalBytes,
+    /// How deep elements stand in one another.
+    Depth,
+    /// How many nodes the package has.
+    Nodes,
+}
 
 /// Why a call ends without its output.
 #[derive(Clone, Copy)]
 pub(crate) enum Refusal<'a> {
     /// The words, or the form of the package, are not built yet.
     Unbuilt,
+    /// The file is no package.
+    Package(PackageFault),
     /// The file of this name is missing, or couldn't be fetched.
     Unread(&'a str),
     /// The journal of this name has no reading.
@@ -24,8 +54,8 @@ pub(crate) enum Refusal<'a> {
         found: u32,
         expected: u32,
     },
-    /// The journals have too many bytes.
-    JournalBytes,
+    /// A quantity is over its limit.
+    Limit(Limit),
     /// An allocation failed.
     NoMemory,
 }
@@ -40,10 +70,11 @@ impl Refusal<'_> {
     {
         match self {
             Refusal::Unbuilt => Status::Unbuilt,
+            Refusal::Package(_) => Status::Package,
             Refusal::Unread(_) => Status::ReadFault,
             Refusal::Malformed(_) | Refusal::OtherDocument { .. } | Refusal::OtherCount { .. } =>
                 Status::Journal,
-            Refusal::JournalBytes => Status::Limit,
+            Refusal::Limit(_) => Status::Limit,
             Refusal::NoMemory => Status::NoMemory,
         }
     }
@@ -56,5 +87,36 @@ impl From<AllocError> for Refusal<'_> {
 
     fn from(_error: AllocError) -> Self {
         Refusal::NoMemory
+    }
+}
+
+impl From<XmlError> for Refusal<'_> {
+    ghost use Rattle.redl_app.specs.Prepared.{refusal_view, xml_refusal};
+
+    ghost from_gives = { λ error refusal. refusal_view refusal ≡ xml_refusal error };
+
+    fn from(error: XmlError) -> Self {
+        match error {
+            XmlError::Unreadable => Refusal::Package(PackageFault::NotReadable),
+            XmlError::Depth => Refusal::Limit(Limit::Depth),
+            XmlError::Nodes => Refusal::Limit(Limit::Nodes),
+            XmlError::NoMemory => Refusal::NoMemory,
+        }
+    }
+}
+
+impl From<OpcError> for Refusal<'_> {
+    ghost use Rattle.redl_app.specs.Outcome.{shape_refusal};
+    ghost use Rattle.redl_app.specs.Prepared.{refusal_view};
+
+    ghost from_gives = { λ error refusal. refusal_view refusal ≡ shape_refusal error };
+
+    fn from(error: OpcError) -> Self {
+        match error {
+            OpcError::NotPackage => Refusal::Package(PackageFault::NotPackage),
+            OpcError::PartShape => Refusal::Package(PackageFault::PartShape),
+            OpcError::NoDocument => Refusal::Package(PackageFault::NoDocument),
+            OpcError::NoMemory => Refusal::NoMemory,
+        }
     }
 }

@@ -379,30 +379,111 @@ fn a_package_of_another_form_is_not_built(rt: HostRuntime) -> Result<(), Fail> {
     for body in [
         "<w:tbl/>",
         "<w:r/>",
-        "a",
-        "\n",
-        "<w:p>a</w:p>",
         "<w:p><w:p/></w:p>",
         "<w:p><w:t/></w:p>",
         "<w:p><w:moveTo{A}/></w:p>",
         "<w:p><w:r><w:ins{A}/></w:r></w:p>",
-        "<w:p><w:r><w:tab>a</w:tab></w:r></w:p>",
-        "<w:p><w:r><w:t>a&amp;b</w:t></w:r></w:p>",
         "<w:p><w:r><w:t><w:br/></w:t></w:r></w:p>",
-        "<w:p></w:p >",
-        "<w:p>",
-        "</w:p>",
+        "<w:p><w:r><w:tab><w:br/></w:tab></w:r></w:p>",
+        "<w:p xmlns:w=\"u\"/>",
+        "<w:p><r xmlns=\"u\"/></w:p>",
         "<w:p/></w:body><w:body>",
     ] {
         let files = files_of(alloc, body, "0", ["", "", ""])?;
         let mut shelf = MemShelf::new(files, Vec::new(alloc));
         expect_call(&rt, alloc, "settle accept P", &mut shelf, &[], UNBUILT)?;
     }
-    for text in [b"".as_slice(), FRONT, BACK, b"<?xml version=\"1.0\"?>"] {
+    Ok(())
+}
+
+// Text, comments, instructions and white space may stand anywhere, and each byte is passed on.
+#[test]
+fn what_is_no_revision_is_passed_on(rt: HostRuntime) -> Result<(), Fail> {
+    let alloc = rt.alloc();
+    for body in [
+        "a",
+        "\r\n\t<w:p>a</w:p >",
+        "<!-- <w:ins> --><w:p/><?q <w:del>?>",
+        "<w:p><w:r><w:tab>a</w:tab></w:r></w:p>",
+        "<w:p><w:r><w:t xml:space = 'preserve' >a&amp;b&#x41;&lt;w:ins></w:t></w:r></w:p>",
+        "<x:p xmlns:x='http://purl.oclc.org/ooxml/wordprocessingml/main' ></x:p>",
+    ] {
+        let bytes = package(alloc, body)?;
+        let mut shelf = MemShelf::new(files_of(alloc, body, "0", ["", "", ""])?, Vec::new(alloc));
+        let want = Want {
+            status: Status::Done,
+            bytes: &bytes,
+            lines: "",
+        };
+        expect_call(&rt, alloc, "settle accept P", &mut shelf, &[], want)?;
+    }
+    Ok(())
+}
+
+// A part with this tail and these kids, in a package.
+fn part(alloc: Global, tail: &str, kids: &str) -> Result<String, AllocError> {
+    format!(in alloc;
+        "<pkg:package xmlns:pkg=\"http://schemas.microsoft.com/office/2006/xmlPackage\"><pkg:part{tail}>{kids}</pkg:part></pkg:package>"
+    )
+}
+
+// Calls over a file `P` that is no package.
+fn expect_fault(
+    rt: &impl Abort,
+    alloc: Global,
+    text: &[u8],
+    lines: &str,
+) -> Result<(), AllocError> {
+    for line in ["settle accept P", "write P Q"] {
         let mut files = Vec::new(alloc);
         add_file(alloc, &mut files, "P", text)?;
         let mut shelf = MemShelf::new(files, Vec::new(alloc));
-        expect_call(&rt, alloc, "write P Q", &mut shelf, &[], UNBUILT)?;
+        let want = Want {
+            status: Status::Package,
+            bytes: b"",
+            lines,
+        };
+        expect_call(rt, alloc, line, &mut shelf, &[], want)?;
+    }
+    Ok(())
+}
+
+#[test]
+fn a_file_that_is_no_package_is_refused(rt: HostRuntime) -> Result<(), Fail> {
+    let alloc = rt.alloc();
+    let unreadable = "redline: package: not readable\n";
+    let inserted = package(alloc, INSERTED)?;
+    let open = package(alloc, "<w:p>")?;
+    let beside = package(alloc, "</w:p>")?;
+    let crossed = package(alloc, "<w:p><w:r></w:p></w:r>")?;
+    for text in [
+        b"".as_slice(),
+        FRONT,
+        BACK,
+        b"<?xml version=\"1.0\"?>",
+        b"<!DOCTYPE a><a/>",
+        b"<a>\xff</a>",
+        b"<a>\xc0\x80</a>",
+        b"<a>\xed\xa0\x80</a>",
+        inserted.get(..100).unwrap_or(b""),
+        &open,
+        &beside,
+        &crossed,
+    ] {
+        expect_fault(&rt, alloc, text, unreadable)?;
+    }
+    let named = part(alloc, " pkg:name=\"/a\"", "<pkg:binaryData/>")?;
+    let typed = part(
+        alloc,
+        " pkg:name=\"/a\" pkg:contentType=\"x/y\"",
+        "<pkg:binaryData/>",
+    )?;
+    for (text, lines) in [
+        ("<a/>", "redline: package: not a package\n"),
+        (named.as_str(), "redline: package: part shape\n"),
+        (typed.as_str(), "redline: package: no document\n"),
+    ] {
+        expect_fault(&rt, alloc, text.as_bytes(), lines)?;
     }
     Ok(())
 }
@@ -541,7 +622,11 @@ fn limits_are_kept_to_the_byte(rt: HostRuntime) -> Result<(), Fail> {
     let over = "redline: limit journal bytes 67108864\n";
     for (line, status, lines) in [
         ("settle accept M", Status::Done, ""),
-        ("settle accept N", Status::Unbuilt, UNBUILT.lines),
+        (
+            "settle accept N",
+            Status::Limit,
+            "redline: limit package bytes 67108864\n",
+        ),
         ("write P H H", Status::Done, ""),
         ("write P H H J", Status::Limit, over),
         ("write P H I", Status::Limit, over),
@@ -551,6 +636,60 @@ fn limits_are_kept_to_the_byte(rt: HostRuntime) -> Result<(), Fail> {
         let answer = call_surely(alloc, line, &mut shelf, &mut err)?;
         assert_eq!(rt; answer, status, "{line}");
         assert_eq!(rt; err.bytes(), lines.as_bytes(), "{line}");
+    }
+    Ok(())
+}
+
+// A package whose body is one text so many times, and then another one.
+fn repeated(
+    alloc: Global,
+    times: (&str, usize),
+    back: (&str, usize),
+) -> Result<Vec<u8>, AllocError> {
+    let mut text = Vec::from_slice(alloc, FRONT)?;
+    for (piece, count) in [times, back] {
+        for _ in 0..count {
+            text.extend_from_slice(piece.as_bytes())?;
+        }
+    }
+    text.extend_from_slice(BACK)?;
+    Ok(text)
+}
+
+// The body of a package stands at depth 5, and six nodes stand beside those in it.
+#[test]
+fn depth_and_nodes_are_kept_to_one(rt: HostRuntime) -> Result<(), Fail> {
+    let alloc = rt.alloc();
+    let deep = "redline: limit depth 512\n";
+    let many = "redline: limit nodes 2097152\n";
+    let unreadable = "redline: package: not readable\n";
+    for (times, back, status, lines) in [
+        (
+            ("<w:p>", 507),
+            ("</w:p>", 507),
+            Status::Unbuilt,
+            UNBUILT.lines,
+        ),
+        (("<w:p>", 508), ("</w:p>", 508), Status::Limit, deep),
+        (("<w:p>", 508), ("</w:p>", 507), Status::Package, unreadable),
+        (("<w:p/>", 2_097_146), ("", 0), Status::Done, ""),
+        (("<w:p/>", 2_097_147), ("", 0), Status::Limit, many),
+        (
+            ("<w:p/>", 2_097_147),
+            ("<w:p>", 508),
+            Status::Package,
+            unreadable,
+        ),
+        (("<a>", 8_000_000), ("", 0), Status::Package, unreadable),
+        (("<a/>", 8_000_000), ("", 0), Status::Limit, many),
+    ] {
+        let mut files = Vec::new(alloc);
+        add_file(alloc, &mut files, "P", &repeated(alloc, times, back)?)?;
+        let mut shelf = SureShelf::new(files);
+        let mut err = MemSink::new(alloc, 100, Vec::new(alloc))?;
+        let answer = call_surely(alloc, "settle accept P", &mut shelf, &mut err)?;
+        assert_eq!(rt; answer, status, "{times:?} {back:?}");
+        assert_eq!(rt; err.bytes(), lines.as_bytes(), "{times:?} {back:?}");
     }
     Ok(())
 }

@@ -64,7 +64,7 @@ fn finish<'a, O: Sink>(prepared: Result<Prepared, Refusal<'a>>, out: &mut O) -> 
     ensures { Finishes (O.told out.old) (O.told out.new) (O.faults out.old) (O.faults out.new) (made_of writing_view prepared.entry) (end_view result) }
 {
     match prepared {
-        Ok(Prepared { body, unknown }) => match write_package(&body, out) {
+        Ok(Prepared { nodes, unknown }) => match write_package(&nodes, out) {
             Ok(()) => End::Written(unknown),
             Err(_) => End::Unwritten(unknown),
         },

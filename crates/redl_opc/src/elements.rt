@@ -25,7 +25,7 @@ pub(crate) fn first_element(nodes: &[Node]) -> Option<(&Elem, &[Node])>
 }
 
 /// The one element of nodes. `None` where they have no element, or several.
-pub(crate) fn only_element(nodes: &[Node]) -> Option<&Elem>
+pub fn only_element(nodes: &[Node]) -> Option<&Elem>
     ensures { Gives (λ elem. element_of elem.now) result (only_element (nodes_of nodes.now)) }
 {
     let (elem, rest) = first_element(nodes)?;

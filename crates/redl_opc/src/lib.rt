@@ -13,6 +13,7 @@ mod part;
 mod shape;
 mod stories;
 
+pub use elements::only_element;
 pub use error::OpcError;
 pub use label::Label;
 pub use package::Package;

@@ -1,4 +1,4 @@
-use Rattle.std.proofs.Common.{◌≡◌, ◌∷◌, ◌≤◌, filter, not, ap, sym, ◌∙◌, arith, rules, All, [], true, false, refl}
+use Rattle.std.proofs.Common.{◌≡◌, ◌∷◌, filter, not, ap, sym, ◌∙◌, rules, [], true, false, refl}
 use Rattle.std.proofs.lemmas.List.{nil_from_length}
 use Rattle.std.proofs.lemmas.List.Elements.{All-tail}
 use Rattle.std.specs.Vec.Iter.{into_iter_items}

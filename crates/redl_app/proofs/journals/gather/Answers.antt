@@ -1,8 +1,8 @@
-use Rattle.std.proofs.Common.{◌≡◌, ◌<◌, ◌+◌, List, ℕ, [], ◌∷◌, length, drop, Contains, IsUtf8, arith, ap, sym, ◌∙◌, rules, subst}
+use Rattle.std.proofs.Common.{◌≡◌, ◌+◌, ◌∷◌, drop, Contains, IsUtf8, arith, ap, sym, ◌∙◌, rules, subst}
 use Rattle.std.proofs.lemmas.List.{drop_more, drop_all}
 use Rattle.std.proofs.lemmas.List.Elements.{All-append, All-get_or, Contains-get_or}
 use Rattle.std.proofs.lemmas.Result.{err_from_is_err_and}
-use Rattle.redl_app.proofs.GatherLaws.{IsGathering, gathering_goes_on, gathering_stops, gathering_ends}
+use Rattle.redl_app.proofs.GatherLaws.{gathering_goes_on, gathering_stops, gathering_ends}
 use Rattle.redl_app.proofs.NameLaws.{only_one, is_ok_unless}
 use Rattle.redl_app.specs.Prepared.{subject_view}
 use Rattle.redl_journal.specs.Journals.{IsAllowed}

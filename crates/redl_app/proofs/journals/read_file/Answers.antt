@@ -1,4 +1,4 @@
-use Rattle.std.proofs.Common.{◌≡◌, ◌+◌, arith, ap, sym, ◌∙◌, Ok, Err, length}
+use Rattle.std.proofs.Common.{◌≡◌, ◌+◌, arith, Ok, Err, length}
 use Rattle.std.proofs.lemmas.Result.{err_from_is_err_and}
 use Rattle.redl_app.proofs.JournalLaws.{same_entries}
 use Rattle.redl_app.proofs.ReadLaws.{reads_stops, reads_after, fetch_stops, capped_ok, capped_err}

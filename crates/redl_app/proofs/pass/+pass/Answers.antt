@@ -1,14 +1,14 @@
-use Rattle.std.proofs.Common.{◌≡◌, ◌≢◌, ◌+◌, List, ◌∷◌, [], refl, sym, ap, ◌∙◌, arith, false, length, rules, if◌then◌else◌}
+use Rattle.std.proofs.Common.{◌≡◌, ◌∷◌, [], sym, ap, ◌∙◌, if◌then◌else◌}
 use Rattle.std.proofs.lemmas.List.{nil_from_length}
-use Rattle.std.specs.Vec.Iter.{into_iter_items, into_iter_len}
+use Rattle.std.specs.Vec.Iter.{into_iter_items}
 use Rattle.redl_app.proofs.PassLaws.{pass-in_front, by_fate-gone, by_fate-remark}
 use Rattle.redl_app.specs.Rounds.{round_of, inside_of, revives}
-use Rattle.redl_tree.proofs.Laws.{item_of-Elem, item_of-Bytes, ⊕-no_nodes, ⊕_assoc, built_more, nodes_of-push_elem, nodes_of-push_bytes}
-use Rattle.redl_tree.specs.declared.kinds.Fate.TheVariants.{Leave, Free}
+use Rattle.redl_tree.proofs.Laws.{item_of-Bytes, ⊕-no_nodes, built_more, nodes_of-push_elem, nodes_of-push_bytes}
+use Rattle.redl_tree.specs.declared.kinds.Fate.TheVariants.{Leave}
 use Rattle.redl_tree.specs.Fates.{fate_of, fate, live_name, renamed}
 use Rattle.redl_tree.specs.Kinds.{is_content}
 use Rattle.redl_tree.specs.Nodes.{Tag, no_nodes, element, in_front, ◌⊕◌}
-use Rattle.redl_tree.specs.Pass.{pass, item_pass, element_pass, by_fate}
+use Rattle.redl_tree.specs.Pass.{pass, by_fate}
 use Rattle.redl_tree.specs.View.{nodes_of, item_of, tag_of, kids_of}
 use Rattle.redl_app.proofs.pass.+pass.Goals.{pass_elem-in_default-via-in-Free+else-is_content, pass_elem-in_default-via-in_default}
 use Rattle.redl_app.proofs.pass.+pass.Goals as goal
@@ -22,9 +22,7 @@ pass_elem-returns-in_ok-push-in-Leave t c = λ around round_is.
     let left : fate_of says tag ≡ Leave = sym fate_is ∙ c.in-Leave.is in
     let inner_is : c.inside-inner.result ≡ round_of says inside =
     c.inside-inner.ensures says fate_is ∙ ap (inside_of says tag) round_is in
-    let kids : nodes_of c.pass_nodes.new.passed.items ≡ pass says inside (kids_of c.args.elem) =
-    c.in_ok-pass_nodes-in-Leave.ensures inside inner_is
-    ∙ ap (λ xs. nodes_of xs ⊕ pass says inside (kids_of c.args.elem)) c.in_ok-inside-in-Leave.ensures.items in
+    let kids : nodes_of c.in_ok-kids-in-Leave.kids.items ≡ pass says inside (kids_of c.args.elem) = c.in_ok-kids-in-Leave.ensures inside inner_is in
     let tag_is : record tag { local = c.unwrap_or-local.result } ≡ renamed says around tag =
     ap (λ l. let renamed_to : Tag = record tag { local = l } in renamed_to) c.unwrap_or-local.ensures ∙ c.in_ok-live-in-Leave.ensures
     ∙ ap (λ r. if revives r then live_name tag else tag) round_is in

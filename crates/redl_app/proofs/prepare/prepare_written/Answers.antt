@@ -1,4 +1,4 @@
-use Rattle.std.proofs.Common.{◌≡◌, ◌∷◌, Contains, ap, sym, ◌∙◌, Ok, Err, subst}
+use Rattle.std.proofs.Common.{◌∷◌, Contains, ap, sym, ◌∙◌, Ok, subst}
 use Rattle.std.proofs.lemmas.Result.{err_from_is_err_and}
 use Rattle.redl_app.proofs.GatherLaws.{view_decided}
 use Rattle.redl_app.proofs.NameLaws.{only_one, among_more, the_first}
@@ -6,44 +6,44 @@ use Rattle.redl_app.proofs.ReadLaws.{reads_then, reads_stops, reads_after}
 use Rattle.redl_app.specs.Outcome.{Subject, decided, gathered, subject_of, ◌>>=◌}
 use Rattle.redl_app.specs.Prepared.{writing_view}
 use Rattle.redl_app.specs.declared.TheConstants.{JOURNALS_LIMIT}
-use Rattle.redl_tree.specs.View.{nodes_of}
 use Rattle.redl_app.proofs.prepare.prepare_written.Goals as goal
 
-pub returns-in_err-package : goal.returns-in_err-package
-returns-in_err-package g c =
+pub returns-in_err-file : goal.returns-in_err-file
+returns-in_err-file g c =
     let p = err_from_is_err_and c.from_residual.result c.from_residual.ensures.1 in
     let name = c.args.name.now in
     let journals = c.args.journals.now in
     rw (p.1, p.2) (reads_stops
     (λ read reader files. gathered reader files (subject_of read.0 read.1) JOURNALS_LIMIT journals >>= (λ entries. Ok (decided entries read.1)))
-    c.in_err-package.ensures.read (λ one h. subst (Contains (name ∷ journals)) (only_one name one h) (the_first name journals)))
+    c.in_err-file.ensures (λ one h. subst (Contains (name ∷ journals)) (only_one name one h) (the_first name journals)))
 
 pub returns-in_err-entries : goal.returns-in_err-entries
 returns-in_err-entries g c =
     let p = err_from_is_err_and c.from_residual-in_err-entries.result c.from_residual-in_err-entries.ensures.1 in
     let name = c.args.name.now in
     let journals = c.args.journals.now in
-    let body = nodes_of c.in_ok-package.«package».body.items in
-    let gathering = rw c.number_package-reviewed.ensures.subject at c.in_err-entries.ensures.read in
+    let nodes = c.in_ok-file.file.«package» in
+    let gathering = rw c.in_ok-reviewed.ensures.subject at c.in_err-entries.ensures.read in
     rw (p.1, p.2) (reads_then
     (λ read reader files. gathered reader files (subject_of read.0 read.1) JOURNALS_LIMIT journals >>= (λ entries. Ok (decided entries read.1)))
-    c.in_ok-package.ensures.read (λ one h. among_more name one journals h)
-    (reads_stops (λ entries reader files. Ok (decided entries body)) gathering (λ one h. h)))
+    c.in_ok-file.ensures (λ one h. among_more name one journals h)
+    (reads_stops (λ entries reader files. Ok (decided entries nodes)) gathering (λ one h. h)))
 
 pub returns : goal.returns
 returns g c =
     let name = c.args.name.now in
     let journals = c.args.journals.now in
-    let bytes = c.in_ok-package.«package».bytes.items in
-    let body = nodes_of c.in_ok-package.«package».body.items in
+    let bytes = c.in_ok-file.file.bytes.items in
+    let nodes = c.in_ok-file.file.«package» in
+    let reviewed = c.in_ok-reviewed.reviewed in
     let entries = c.in_ok-entries.entries.items in
-    let gathering = rw c.number_package-reviewed.ensures.subject at c.in_ok-entries.ensures.read in
-    let is = view_decided c.in_ok-write_body.field-0 body (nodes_of c.number_package-reviewed.result.body.items) c.number_package-reviewed.result.subject.count entries
-    c.in_ok-write_body.ensures.body c.in_ok-write_body.ensures.unknown c.number_package-reviewed.ensures.body
-    (ap (λ (s : Subject). s.count) c.number_package-reviewed.ensures.subject) in
+    let gathering = rw c.in_ok-reviewed.ensures.subject at c.in_ok-entries.ensures.read in
+    let is = view_decided c.in_ok-write_reviewed.field-0 nodes reviewed.«package» reviewed.subject.count entries
+    c.in_ok-write_reviewed.ensures.nodes c.in_ok-write_reviewed.ensures.unknown c.in_ok-reviewed.ensures.numbered
+    (ap (λ (s : Subject). s.count) c.in_ok-reviewed.ensures.subject) in
     reads_then
     (λ read reader files. gathered reader files (subject_of read.0 read.1) JOURNALS_LIMIT journals >>= (λ made. Ok (decided made read.1)))
-    c.in_ok-package.ensures.read (λ one h. among_more name one journals h)
-    (reads_after (Ok (writing_view c.in_ok-write_body.field-0))
-    (λ reader files. gathered reader files (subject_of bytes body) JOURNALS_LIMIT journals >>= (λ made. Ok (decided made body))) gathering tt
-    (λ reader files is_reader read. ap (λ made. made >>= (λ all. Ok (decided all body))) read ∙ ap Ok (sym is)))
+    c.in_ok-file.ensures (λ one h. among_more name one journals h)
+    (reads_after (Ok (writing_view c.in_ok-write_reviewed.field-0))
+    (λ reader files. gathered reader files (subject_of bytes nodes) JOURNALS_LIMIT journals >>= (λ made. Ok (decided made nodes))) gathering tt
+    (λ reader files is_reader read. ap (λ made. made >>= (λ all. Ok (decided all nodes))) read ∙ ap Ok (sym is)))
