@@ -73,7 +73,8 @@ pub char_again : (c : ℕ) (rest : List ℕ) → scalar c ≡ true → char_at (
 unfolding char_at
 char_again c rest h = rw (decoded-encode c rest h, drop_at (encode_utf8 c) rest (length (encode_utf8 c)) refl) refl
 
-ascii_again : (b : ℕ) (rest : List ℕ) → b < 128 → char_at (b ∷ rest) ≡ Some (b, rest)
+-- an ASCII byte is its own character
+pub ascii_again : (b : ℕ) (rest : List ℕ) → b < 128 → char_at (b ∷ rest) ≡ Some (b, rest)
 ascii_again b rest h = ap (λ (z : List ℕ). char_at (z ++ rest)) (sym (encode_ascii b h)) ∙ char_again b rest (low_scalar b (omega arith))
 
 scalar_is : (c : ℕ) → IsScalar c → scalar c ≡ true

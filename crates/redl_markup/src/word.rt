@@ -26,13 +26,24 @@ fn may_follow(c: char, colons: bool) -> bool
 }
 
 #[tactic(auto, unfolding(crate::specs::ScanNames::char_at))]
-fn first_char(bytes: &[u8]) -> Option<(char, &[u8])>
+fn decoded_char(bytes: &[u8]) -> Option<(char, &[u8])>
     ensures { Gives (λ x. (x.0, x.1.now)) result (char_at bytes.now) }
 {
     let (c, size) = bstr::decode_utf8(bytes);
     let c = c?;
     let (_, rest) = bytes.split_at(size);
     Some((c, rest))
+}
+
+/// The first character. An ASCII byte is one, so that few are decoded.
+#[tactic(auto, using(crate::proofs::Names::ascii_again))]
+fn first_char(bytes: &[u8]) -> Option<(char, &[u8])>
+    ensures { Gives (λ x. (x.0, x.1.now)) result (char_at bytes.now) }
+{
+    match bytes.split_first() {
+        Some((first, rest)) if first.is_ascii() => Some((char::from(*first), rest)),
+        _ => decoded_char(bytes),
+    }
 }
 
 /// What stands behind name characters.
