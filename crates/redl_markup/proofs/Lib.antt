@@ -1,5 +1,6 @@
 pub mod Runs
 pub mod Words
+pub mod Places
 pub mod Turns
 pub mod Names
 pub mod Attributes

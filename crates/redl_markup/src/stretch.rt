@@ -16,15 +16,16 @@ use crate::place::Place;
 use crate::reference::are_references;
 use crate::scan::{before, is_space, until};
 
+#[tactic(auto, using(crate::proofs::Places::lacks_after, crate::proofs::Places::after_fits))]
 fn has_no_close(bytes: &[u8]) -> bool
     ensures { result ≡ lacks (codes "]]>") bytes.now }
 {
-    let mut left = bytes;
+    let (_, mut left) = until(bytes, b']');
     while let Some((_, rest)) = left.split_first() {
         if left.starts_with(b"]]>") {
             return false;
         }
-        left = rest;
+        left = until(rest, b']').1;
     }
     true
 }
