@@ -1,5 +1,5 @@
 -- A set of names has as many keys as the list that it was made of exactly if no two are alike.
-use Rattle.std.proofs.Common.{◌≡◌, ℕ, true, false, List, [], ◌∷◌, Ordering, Less, Equal, Greater, refl, sym, ◌∙◌, eqb, length, map, arith}
+use Rattle.std.proofs.Common.{◌≡◌, ℕ, Bool, true, false, List, [], ◌∷◌, Ordering, Less, Equal, Greater, refl, sym, ◌∙◌, eqb, length, map, arith}
 use Rattle.std.specs.Prelude.{not, ◌&&◌}
 use Rattle.std.specs.List.{list_all, AllByRecursion, IsDistinct}
 use Rattle.std.specs.Cmp.{IsTotalOrder, IsEquivalence, eq_by_cmp_equiv}
@@ -53,6 +53,10 @@ unlike_from_test x [] h = tt
 unlike_from_test x (y ∷ ys) h =
     let both = and-true (not (name_eq (name_view x) (name_view y))) (list_all (λ m. not (name_eq (name_view x) m)) (map name_view ys)) h in
     (alike x y ∙ not-true (name_eq (name_view x) (name_view y)) both.0, unlike_from_test x ys both.1)
+
+pub distinct_step : (x : code.Name) (rest left : List code.Name) (t : Bool) → left ≡ x ∷ rest → list_all (λ m. not (name_eq (name_view x) m)) (map name_view rest) ≡ t → are_distinct (map name_view left) ≡ (t && are_distinct (map name_view rest))
+unfolding are_distinct
+distinct_step x rest left t e h = rw (e, h) refl
 
 distinct_test : (xs : List code.Name) → IsDistinct (eq_by_cmp compare) xs → are_distinct (map name_view xs) ≡ true
 unfolding are_distinct IsDistinct

@@ -1,6 +1,6 @@
 -- The places where a byte stands: what lies between them is passed over.
 use Rattle.std.proofs.Common.{◌≡◌, ℕ, ◌<◌, ◌≤◌, eqb, List, [], ◌∷◌, length, Option, Some, None, refl, sym, ap, ◌∙◌, inl, inr, arith}
-use Rattle.std.specs.Prelude.{◌&&◌, Bool, true, false}
+use Rattle.std.specs.Prelude.{◌&&◌, true}
 use Rattle.redl_markup.specs.Lists.{behind, lacks, after, is_other}
 use Rattle.std.specs.Option.{is_some}
 use Rattle.redl_markup.specs.Reading.{Gives}

@@ -1,17 +1,56 @@
 //! That no two names are written alike.
 
-ghost use Rattle.std.specs.Prelude.{◌≡◌, IfOk, map};
-ghost use Rattle.redl_markup.specs.Names.{are_distinct};
+ghost use Rattle.std.specs.Prelude.{◌≡◌, IfOk, map, not};
+ghost use Rattle.std.specs.List.{list_all};
+ghost use Rattle.redl_markup.specs.Names.{name_eq, are_distinct};
 ghost use Rattle.redl_markup.specs.Views.{name_view};
 
 use crate::name::Name;
 use std::alloc::{AllocError, Global};
 use std::collections::BTreeSet;
 
-pub(crate) fn no_two_alike(alloc: Global, names: Vec<Name<'_>>) -> Result<bool, AllocError>
+/// So many names are compared each with each, and no set is made of them.
+const FEW: usize = 8;
+
+fn are_alike(a: Name<'_>, b: Name<'_>) -> bool
+    ensures { result ≡ name_eq (name_view a.entry) (name_view b.entry) }
+{
+    a.prefix == b.prefix && a.local == b.local
+}
+
+/// Whether a name is written like none of the others.
+fn is_unlike<'a>(name: Name<'a>, others: &[Name<'a>]) -> bool
+    ensures { result ≡ list_all (λ m. not (name_eq (name_view name.entry) m)) (map name_view others.now) }
+{
+    others.iter().all(|other| !are_alike(name, *other))
+}
+
+#[tactic(auto, unfolding(crate::specs::Names::are_distinct))]
+fn few_unlike<'a>(names: &[Name<'a>]) -> bool
+    ensures { result ≡ are_distinct (map name_view names.now) }
+{
+    let mut left = names.iter();
+    while let Some(first) = left.next() {
+        if !is_unlike(*first, left.as_slice()) {
+            return false;
+        }
+    }
+    true
+}
+
+fn many_unlike(alloc: Global, names: Vec<Name<'_>>) -> Result<bool, AllocError>
     ensures { IfOk result (λ b. b ≡ are_distinct (map name_view names.entry.items)) }
 {
     let count = names.len();
     let set: BTreeSet<Name<'_>> = names.into_iter().collect(alloc)?;
     Ok(set.len() == count)
+}
+
+pub(crate) fn no_two_alike(alloc: Global, names: Vec<Name<'_>>) -> Result<bool, AllocError>
+    ensures { IfOk result (λ b. b ≡ are_distinct (map name_view names.entry.items)) }
+{
+    if names.len() <= FEW {
+        return Ok(few_unlike(&names));
+    }
+    many_unlike(alloc, names)
 }

@@ -5,7 +5,7 @@ use Rattle.redl_markup.specs.Names.{are_distinct}
 use Rattle.redl_markup.specs.Views.{name_view}
 use Rattle.redl_markup.specs.declared.name.Name as code
 use Rattle.redl_markup.proofs.Alike.{count_test}
-use Rattle.redl_markup.proofs.distinct.no_two_alike.Goals as goal
+use Rattle.redl_markup.proofs.distinct.many_unlike.Goals as goal
 
 pub returns : goal.returns
 returns c =
