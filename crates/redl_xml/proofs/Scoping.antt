@@ -1,6 +1,6 @@
 -- Into an element and out of it again: the scope is what it was.
-use Rattle.std.proofs.Common.{◌≡◌, ℕ, suc, true, cond, List, [], ◌∷◌, ◌++◌, length, drop, Option, Some, None, refl, sym, ap, subst, ◌∙◌, append_assoc, arith, length-append}
-use Rattle.std.specs.Prelude.{◌&&◌}
+use Rattle.std.proofs.Common.{◌≡◌, ℕ, suc, Bool, true, cond, List, [], ◌∷◌, ◌++◌, length, drop, Option, Some, None, refl, sym, ap, subst, ◌∙◌, append_assoc, arith, length-append}
+use Rattle.std.specs.Prelude.{◌&&◌, not}
 use Rattle.std.specs.List.{list_all}
 use Rattle.std.proofs.Math.Seq.{drop-append_seam}
 use Rattle.std.proofs.lemmas.Option.{same_Some, cond_some}
@@ -11,7 +11,7 @@ use Rattle.redl_markup.specs.Decoding.{decoded_value}
 use Rattle.redl_markup.specs.Attributes.{attributes_of}
 use Rattle.redl_markup.proofs.Names.{bind_some}
 use Rattle.redl_markup.proofs.Runs.{and-true, and-both}
-use Rattle.redl_xml.specs.Scopes.{Scope, space_named, declared_prefix, declared_by, is_allowed, with_declarations, scope_in, space_of, is_element_prefix, is_known_attribute}
+use Rattle.redl_xml.specs.Scopes.{Scope, space_named, declared_prefix, declared_by, is_allowed, with_declarations, scope_in, space_of, is_known, is_element_prefix, is_known_attribute}
 use Rattle.redl_xml.specs.Elements.{with_attribute, with_attributes, known, entered, declarations, left}
 
 -- ---- the scope grows by the declarations
@@ -97,3 +97,30 @@ pub left_entered : (scope : Scope) (name : Name) (tail : List ℕ) (x : Space ×
 left_entered scope name tail x e =
     let t = entered_takes scope name tail x e in
     ap (λ (y : Space × Scope). left tail y.1) (sym t.1) ∙ left_again tail scope
+
+-- ---- an element that declares nothing
+
+-- an attribute that is no declaration, and whose prefix may be used
+abbrev pub is_plain : Scope → Name × List ℕ → Bool
+is_plain scope a = not (is_there (declared_prefix a.0)) && is_known scope a.0.prefix
+
+declares_nothing : (o : Option (List ℕ)) → not (is_there o) ≡ true → o ≡ None
+declares_nothing None e = refl
+declares_nothing (Some x) e = absurd cc
+
+plain_attributes : (scope : Scope) (attributes : List (Name × List ℕ)) → list_all (is_plain scope) attributes ≡ true → (with_attributes attributes scope ≡ Some scope) × (list_all (is_known_attribute scope) attributes ≡ true)
+unfolding with_attribute
+plain_attributes scope [] h = (refl, refl)
+plain_attributes scope (a ∷ more) h =
+    let both = and-true (is_plain scope a) (list_all (is_plain scope) more) h in
+    let plain = and-true (not (is_there (declared_prefix a.0))) (is_known scope a.0.prefix) both.0 in
+    let none = declares_nothing (declared_prefix a.0) plain.0 in
+    let rest = plain_attributes scope more both.1 in
+    (rw none rest.0, rw (none, plain.1) rest.1)
+
+-- Going into it asks for its own prefix alone, and the scope stays.
+pub plain_entered : (scope : Scope) (name : Name) (tail : List ℕ) → list_all (is_plain scope) (attributes_of tail) ≡ true → entered scope name tail ≡ known name [] scope
+unfolding entered known
+plain_entered scope name tail h =
+    let p = plain_attributes scope (attributes_of tail) h in
+    rw (p.0, p.1) refl

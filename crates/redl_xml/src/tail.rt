@@ -1,6 +1,6 @@
 //! What the attributes of a start tag declare, and whether their prefixes may be used.
 
-ghost use Rattle.std.specs.Prelude.{◌≡◌, ◌||◌, codes};
+ghost use Rattle.std.specs.Prelude.{◌≡◌, ◌||◌, ◌&&◌, not, [], codes};
 ghost use Rattle.std.specs.List.{list_all};
 ghost use Rattle.redl_markup.specs.Reading.{Gives, Finds};
 ghost use Rattle.redl_markup.specs.References.{is_there};
@@ -144,21 +144,51 @@ fn are_known<'a>(scopes: &Scopes<'a>, tail: &'a [u8]) -> bool
     true
 }
 
+/// Whether no attribute of a tail is a declaration, and all their prefixes may be used.
+fn are_plain<'a>(scopes: &Scopes<'a>, tail: &'a [u8]) -> bool
+    ensures { result ≡ list_all (λ a. not (is_there (declared_prefix a.0)) && is_known scopes.now a.0.prefix) (attributes_of tail.now) }
+{
+    let mut more = tail;
+    while let Some((attribute, rest)) = next_attribute(more) {
+        if declared_prefix(attribute.name).is_some() || !is_known(scopes, attribute.name.prefix) {
+            return false;
+        }
+        more = rest;
+    }
+    true
+}
+
+/// The space of an element, whose prefix may be used.
+#[tactic(auto, unfolding(crate::specs::Scopes::is_known, crate::specs::Elements::known))]
+fn element_space<'a>(scopes: &Scopes<'a>, name: Name<'a>) -> Option<Space>
+    ensures { Gives (λ space. (space, scopes.now)) result (known (name_view name.entry) [] scopes.now) }
+{
+    if is_xmlns(name.prefix) {
+        return None;
+    }
+    match scopes.space(name.prefix) {
+        Some(space) => Some(space),
+        None if name.prefix.is_empty() || is_xml_prefix(name.prefix) => Some(Space::Other),
+        None => None,
+    }
+}
+
 /// The space of an element, whose prefix and whose attributes' prefixes may be used.
 #[tactic(auto, unfolding(crate::specs::Elements::known))]
 fn known_space<'a>(scopes: &Scopes<'a>, name: Name<'a>, tail: &'a [u8]) -> Option<Space>
     ensures { Gives (λ space. (space, scopes.now)) result (known (name_view name.entry) (attributes_of tail.now) scopes.now) }
 {
-    if is_xmlns(name.prefix) || !is_known(scopes, name.prefix) || !are_known(scopes, tail) {
-        return None;
+    if are_known(scopes, tail) {
+        element_space(scopes, name)
+    } else {
+        None
     }
-    Some(scopes.space(name.prefix).unwrap_or(Space::Other))
 }
 
 /// Goes into an element: declares what it declares, and gives its space.
 ///
 /// `Unreadable` exactly where a declaration may not stand, or a prefix of the tag may not be used.
-#[tactic(auto, unfolding(crate::specs::Elements::entered))]
+#[tactic(auto, unfolding(crate::specs::Elements::entered), using(crate::proofs::Scoping::plain_entered))]
 pub(crate) fn enter<'a>(
     scopes: &mut Scopes<'a>,
     alloc: Global,
@@ -167,6 +197,9 @@ pub(crate) fn enter<'a>(
 ) -> Result<Space, MarkupError>
     ensures { Finds (λ space. (space, scopes.new)) result (entered scopes.old (name_view name.entry) tail.entry.now) }
 {
+    if are_plain(scopes, tail) {
+        return element_space(scopes, name).ok_or(MarkupError::Unreadable);
+    }
     declare_attributes(scopes, alloc, tail)?;
     known_space(scopes, name, tail).ok_or(MarkupError::Unreadable)
 }
