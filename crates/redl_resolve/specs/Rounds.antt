@@ -1,0 +1,51 @@
+-- What the pass has to know of the ancestors of a node.
+use Rattle.std.specs.Prelude.{List, [], ◌∷◌, Bool, ◌&&◌, ◌||◌, not, if◌then◌else◌}
+use Rattle.std.specs.List.{list_any}
+use Rattle.redl_tree.specs.Fates.{fate_of}
+use Rattle.redl_tree.specs.Kinds.{is_old_content, is_free, is_leave}
+use Rattle.redl_tree.specs.Nodes.{Tag, Nodes, Item, bytes_item, element_item}
+use Rattle.redl_tree.specs.Packages.{is_root, pass_in}
+use Rattle.redl_tree.specs.Pass.{pass}
+use Rattle.redl_tree.specs.Places.{is_quiet}
+use Rattle.redl_tree.specs.declared.kinds.Say.{Say}
+use Rattle.redl_resolve.specs.declared.rounds.Round.{Round}
+
+-- a content revision of old matter that is freed
+abbrev pub frees : List Say → Tag → Bool
+frees says tag = is_old_content tag.kind && is_free (fate_of says tag)
+
+-- a content revision of old matter that is left
+abbrev pub leaves : List Say → Tag → Bool
+leaves says tag = is_old_content tag.kind && is_leave (fate_of says tag)
+
+abbrev pub round_of : List Say → List Tag → Round
+round_of says around = record {
+  quiet = list_any is_quiet around;
+  freed = list_any (frees says) around;
+  left = list_any (leaves says) around;
+}
+
+-- the same for the kids of an element
+abbrev pub inside_of : List Say → Tag → Round → Round
+inside_of says tag round = record {
+  quiet = is_quiet tag || round.quiet;
+  freed = frees says tag || round.freed;
+  left = leaves says tag || round.left;
+}
+
+-- deleted text is live again there
+abbrev pub revives : Round → Bool
+revives round = not round.quiet && round.freed && not round.left
+
+-- ---- a node of a package, with its stories passed
+
+-- what the kids of an element with these ancestors in the package become
+abbrev pub kids_pass_in : List Say → List Tag → Tag → Nodes → Nodes
+kids_pass_in says around tag kids = if is_root around tag then pass says (tag ∷ []) kids else pass_in says (tag ∷ around) kids
+
+abbrev pub element_pass_in : List Say → List Tag → Tag → Nodes → Item
+element_pass_in says around tag kids = element_item tag (kids_pass_in says around tag kids)
+
+abbrev pub item_pass_in : List Say → List Tag → Item → Item
+item_pass_in says around (bytes_item b) = bytes_item b
+item_pass_in says around (element_item tag kids) = element_pass_in says around tag kids

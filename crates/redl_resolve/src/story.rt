@@ -1,0 +1,118 @@
+//! The pass of the nodes of a story.
+
+ghost use Rattle.std.specs.Prelude.{◌≡◌, ◌∷◌, ◌≤◌, ◌+◌, List, IfOk, OnOk};
+ghost use Rattle.redl_resolve.specs.Rounds.{round_of};
+ghost use Rattle.redl_tree.specs.Count.{count, item_count};
+ghost use Rattle.redl_tree.specs.Nodes.{Tag, ◌⊕◌};
+ghost use Rattle.redl_tree.specs.Pass.{pass, item_pass, element_pass};
+ghost use Rattle.redl_tree.specs.View.{nodes_of, item_of, tag_of, kids_of};
+
+use crate::copies::renamed;
+use crate::fates::fate_of;
+use crate::rounds::{Round, inside};
+use crate::steps::Steps;
+use redl_tree::{Elem, Fate, Node, Say};
+use std::alloc::{AllocError, Global};
+use std::sync::ledger::Ledger;
+
+/// The pass of the kids of an element, by what is to be known of their ancestors.
+#[cycle(pass)]
+pub(crate) fn pass_kids<L: Ledger>(
+    alloc: Global,
+    kids: &[Node],
+    says: &[Say],
+    round: Round,
+    steps: &mut Steps<L>,
+) -> Result<Vec<Node>, AllocError>
+    ensures passed { IfOk result (λ passed. (around : List Tag) → round ≡ round_of says.now around
+        → nodes_of passed.items ≡ pass says.now around (nodes_of kids.now)) }
+    ensures entered { steps.new ≤ steps.old + count (nodes_of kids.now) }
+    ensures made { IfOk result (λ passed. steps.old + count (nodes_of passed.items) ≤ steps.new) }
+{
+    let mut passed = Vec::with_capacity(alloc, kids.len())?;
+    pass_nodes(alloc, kids, says, round, &mut passed, steps)?;
+    Ok(passed)
+}
+
+// Adds the pass of the nodes.
+#[cycle(pass)]
+fn pass_nodes<L: Ledger>(
+    alloc: Global,
+    nodes: &[Node],
+    says: &[Say],
+    round: Round,
+    passed: &mut Vec<Node>,
+    steps: &mut Steps<L>,
+) -> Result<(), AllocError>
+    ensures passed { OnOk result ((around : List Tag) → round ≡ round_of says.now around
+        → nodes_of passed.new.items ≡ nodes_of passed.old.items ⊕ pass says.now around (nodes_of nodes.now)) }
+    ensures entered { steps.new ≤ steps.old + count (nodes_of nodes.now) }
+    ensures made { OnOk result (steps.old + count (nodes_of passed.new.items)
+        ≤ steps.new + count (nodes_of passed.old.items)) }
+{
+    for node in nodes {
+        pass_node(alloc, node, says, round, passed, steps)?;
+    }
+    Ok(())
+}
+
+#[cycle(pass)]
+fn pass_node<L: Ledger>(
+    alloc: Global,
+    node: &Node,
+    says: &[Say],
+    round: Round,
+    passed: &mut Vec<Node>,
+    steps: &mut Steps<L>,
+) -> Result<(), AllocError>
+    ensures passed { OnOk result ((around : List Tag) → round ≡ round_of says.now around
+        → nodes_of passed.new.items ≡ nodes_of passed.old.items ⊕ item_pass says.now around (item_of node.now)) }
+    ensures entered { steps.new ≤ steps.old + item_count (item_of node.now) }
+    ensures made { OnOk result (steps.old + count (nodes_of passed.new.items)
+        ≤ steps.new + count (nodes_of passed.old.items)) }
+{
+    match node {
+        Node::Elem(elem) => pass_elem(alloc, elem, says, round, passed, steps),
+        Node::Bytes(text) => {
+            steps.tick();
+            passed.push(Node::Bytes(text.copy(alloc)?))?;
+            Ok(())
+        }
+    }
+}
+
+// What is cut is one step, with all that it holds.
+#[cycle(pass)]
+fn pass_elem<L: Ledger>(
+    alloc: Global,
+    elem: &Elem,
+    says: &[Say],
+    round: Round,
+    passed: &mut Vec<Node>,
+    steps: &mut Steps<L>,
+) -> Result<(), AllocError>
+    ensures passed { OnOk result ((around : List Tag) → round ≡ round_of says.now around
+        → nodes_of passed.new.items ≡ nodes_of passed.old.items
+        ⊕ element_pass says.now around (tag_of elem.now) (pass says.now (tag_of elem.now ∷ around) (kids_of elem.now))) }
+    ensures entered { steps.new ≤ steps.old + (1 + count (kids_of elem.now)) }
+    ensures made { OnOk result (steps.old + count (nodes_of passed.new.items)
+        ≤ steps.new + count (nodes_of passed.old.items)) }
+{
+    steps.tick();
+    let fate = fate_of(says, elem);
+    let inner = inside(round, elem, fate);
+    match fate {
+        Fate::Leave => {
+            let kids = pass_kids(alloc, &elem.kids, says, inner, steps)?;
+            passed.push(Node::Elem(renamed(alloc, elem, round, kids)?))?;
+            Ok(())
+        }
+        Fate::Free => {
+            if elem.kind.is_content() {
+                return pass_nodes(alloc, &elem.kids, says, inner, passed, steps);
+            }
+            Ok(())
+        }
+        _ => Ok(()),
+    }
+}
