@@ -69,15 +69,14 @@ fn pass_in_node<L: Ledger>(
     ensures entered { steps.new ≤ steps.old + item_count (item_of node.now) }
     ensures made { IfOk result (λ passed. steps.old + item_count (item_of passed) ≤ steps.new) }
 {
+    steps.tick();
     match node {
         Node::Elem(elem) => pass_in_elem(alloc, elem, says, level, steps),
-        Node::Bytes(text) => {
-            steps.tick();
-            Ok(Node::Bytes(text.copy(alloc)?))
-        }
+        Node::Bytes(text) => Ok(Node::Bytes(text.copy(alloc)?)),
     }
 }
 
+// The step of the element itself is counted already.
 #[cycle(stories)]
 fn pass_in_elem<L: Ledger>(
     alloc: Global,
@@ -88,10 +87,9 @@ fn pass_in_elem<L: Ledger>(
 ) -> Result<Node, AllocError>
     ensures passed { IfOk result (λ passed. (around : List Tag) → level ≡ level_of around
         → item_of passed ≡ element_pass_in says.now around (tag_of elem.now) (kids_of elem.now)) }
-    ensures entered { steps.new ≤ steps.old + (1 + count (kids_of elem.now)) }
-    ensures made { IfOk result (λ passed. steps.old + item_count (item_of passed) ≤ steps.new) }
+    ensures entered { steps.new ≤ steps.old + count (kids_of elem.now) }
+    ensures made { IfOk result (λ passed. steps.old + item_count (item_of passed) ≤ steps.new + 1) }
 {
-    steps.tick();
     let kids = pass_in_kids(alloc, elem, says, level, steps)?;
     Ok(Node::Elem(with_kids(alloc, elem, kids)?))
 }

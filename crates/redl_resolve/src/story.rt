@@ -71,17 +71,17 @@ fn pass_node<L: Ledger>(
     ensures made { OnOk result (steps.old + count (nodes_of passed.new.items)
         ≤ steps.new + count (nodes_of passed.old.items)) }
 {
+    steps.tick();
     match node {
         Node::Elem(elem) => pass_elem(alloc, elem, says, round, passed, steps),
         Node::Bytes(text) => {
-            steps.tick();
             passed.push(Node::Bytes(text.copy(alloc)?))?;
             Ok(())
         }
     }
 }
 
-// What is cut is one step, with all that it holds.
+// The step of the element itself is counted already. What goes has no other, with all that it holds.
 #[cycle(pass)]
 fn pass_elem<L: Ledger>(
     alloc: Global,
@@ -94,11 +94,10 @@ fn pass_elem<L: Ledger>(
     ensures passed { OnOk result ((around : List Tag) → round ≡ round_of says.now around
         → nodes_of passed.new.items ≡ nodes_of passed.old.items
         ⊕ element_pass says.now around (tag_of elem.now) (pass says.now (tag_of elem.now ∷ around) (kids_of elem.now))) }
-    ensures entered { steps.new ≤ steps.old + (1 + count (kids_of elem.now)) }
+    ensures entered { steps.new ≤ steps.old + count (kids_of elem.now) }
     ensures made { OnOk result (steps.old + count (nodes_of passed.new.items)
-        ≤ steps.new + count (nodes_of passed.old.items)) }
+        ≤ steps.new + (1 + count (nodes_of passed.old.items))) }
 {
-    steps.tick();
     let fate = fate_of(says, elem);
     let inner = inside(round, elem, fate);
     match fate {
