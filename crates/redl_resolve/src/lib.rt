@@ -14,3 +14,6 @@ mod story;
 
 pub use steps::Steps;
 pub use stories::pass;
+
+#[cfg(test)]
+mod tests;
