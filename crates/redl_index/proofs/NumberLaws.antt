@@ -1,43 +1,46 @@
 -- Laws of numbers and labels.
-use Rattle.std.proofs.Common.{◌≡◌, ℕ, ◌+◌, ◌<◌, ◌≤◌, List, [], ◌∷◌, ◌++◌, length, get_or, drop, slice_get, Option, None, Some, Bool, true, false, cond, refl, arith, ap, sym, ◌∙◌, append_assoc, length-append}
+use Rattle.std.proofs.Common.{◌≡◌, ℕ, ◌+◌, ◌<◌, ◌≤◌, List, [], ◌∷◌, ◌++◌, length, get_or, drop, slice_get, Some, Bool, true, false, cond, refl, arith, ap, sym, ◌∙◌, append_assoc, length-append}
 use Rattle.std.proofs.lemmas.List.{drop_more}
-use Rattle.redl_tree.specs.declared.kinds.Trace.{Trace}
+use Rattle.redl_tree.specs.declared.kinds.Kind.{Kind}
+use Rattle.redl_tree.specs.declared.kinds.Kind.TheVariants.{Plain, Content, Mark, Row, Cell, Change, Marker}
 use Rattle.redl_tree.specs.declared.node.Node.{Node}
 use Rattle.redl_tree.specs.Count.{count, item_count}
 use Rattle.redl_tree.specs.Nodes.{Tag, Nodes, no_nodes, bytes, element, Item, bytes_item, element_item, in_front}
 use Rattle.redl_tree.specs.Packages.{is_root}
+use Rattle.redl_tree.specs.Places.{role}
 use Rattle.redl_tree.specs.View.{item_of, nodes_of}
 use Rattle.redl_tree.proofs.Laws.{count-in_front}
 use Rattle.redl_opc.specs.declared.label.Label.{Label}
-use Rattle.redl_opc.specs.Labels.{elements, relabelled_tag, relabelled, story_elements, kids_story_elements, labelled_in}
-use Rattle.redl_index.specs.Numbers.{content_trace, one_for, revisions, item_revisions, numbered, labelled_as, up_to_kids, revisions_in, numbered_in, package_revisions}
+use Rattle.redl_opc.specs.Labels.{elements, relabelled, story_elements, kids_story_elements, labelled_in}
+use Rattle.redl_index.specs.Numbers.{one_for, members, item_members, element_members, labelled, revisions_in, numbered_in, package_revisions}
 use Rattle.redl_index.specs.Labels.{label_for, labels_of, item_labels, kids_revisions_in, item_revisions_in, labels_in, kids_labels_in, item_labels_in}
 
 -- ---- how many revisions there are
 
-pub revisions-in_front : (x : Item) (ys : Nodes) → revisions (in_front x ys) ≡ item_revisions x + revisions ys
-revisions-in_front (bytes_item b) ys = omega arith
-revisions-in_front (element_item tag kids) ys = refl
+pub members-in_front : (around : List Tag) (x : Item) (ys : Nodes) → members around (in_front x ys) ≡ item_members around x + members around ys
+members-in_front around (bytes_item b) ys = omega arith
+members-in_front around (element_item tag kids) ys = refl
 
--- a node has no more revisions, and no more nodes, than the nodes from it on
-pub revisions_here : (xs : List Node) (i : ℕ) (d : Node) → i < length xs → item_revisions (item_of (get_or xs i d)) ≤ revisions (nodes_of (drop i xs))
-revisions_here xs i d within =
-    omega (arith, ap (λ ns. revisions (nodes_of ns)) (drop_more xs i d within), revisions-in_front (item_of (get_or xs i d)) (nodes_of (drop (i + 1) xs)))
-
+-- a node has no more nodes in it than the nodes from it on
 pub count_here : (xs : List Node) (i : ℕ) (d : Node) → i < length xs → item_count (item_of (get_or xs i d)) ≤ count (nodes_of (drop i xs))
 count_here xs i d within =
     omega (arith, ap (λ ns. count (nodes_of ns)) (drop_more xs i d within), count-in_front (item_of (get_or xs i d)) (nodes_of (drop (i + 1) xs)))
 
-at_most_one : (trace : Option Trace) → one_for trace ≤ 1
-at_most_one None = omega arith
-at_most_one (Some trace) = omega arith
+pub at_most_one : (kind : Kind) → one_for kind ≤ 1
+at_most_one Plain = omega arith
+at_most_one (Content trace) = omega arith
+at_most_one (Mark trace) = omega arith
+at_most_one (Row trace) = omega arith
+at_most_one (Cell trace) = omega arith
+at_most_one (Change prop) = omega arith
+at_most_one Marker = omega arith
 
--- no more revisions than nodes
-pub revisions_within_count : (nodes : Nodes) → revisions nodes ≤ count nodes
-revisions_within_count no_nodes = omega arith
-revisions_within_count (bytes b rest) = omega (arith, revisions_within_count rest)
-revisions_within_count (element tag kids rest) =
-    omega (arith, at_most_one (content_trace tag), revisions_within_count kids, revisions_within_count rest)
+-- no more members than nodes
+pub members_within_count : (around : List Tag) (nodes : Nodes) → members around nodes ≤ count nodes
+members_within_count around no_nodes = omega arith
+members_within_count around (bytes b rest) = omega (arith, members_within_count around rest)
+members_within_count around (element tag kids rest) =
+    omega (arith, at_most_one (role around tag), members_within_count (tag ∷ around) kids, members_within_count around rest)
 
 either_within : (is_root : Bool) (xs ys most : ℕ) → xs ≤ most → ys ≤ most → cond is_root xs ys ≤ most
 either_within true xs ys most h k = h
@@ -48,8 +51,8 @@ pub revisions_in_within_count : (around : List Tag) (nodes : Nodes) → revision
 revisions_in_within_count around no_nodes = omega arith
 revisions_in_within_count around (bytes b rest) = omega (arith, revisions_in_within_count around rest)
 revisions_in_within_count around (element tag kids rest) =
-    let below = either_within (is_root around tag) (revisions kids) (revisions_in (tag ∷ around) kids) (count kids)
-    (revisions_within_count kids) (revisions_in_within_count (tag ∷ around) kids) in
+    let below = either_within (is_root around tag) (members (tag ∷ []) kids) (revisions_in (tag ∷ around) kids) (count kids)
+    (members_within_count (tag ∷ []) kids) (revisions_in_within_count (tag ∷ around) kids) in
     omega (arith, below, revisions_in_within_count around rest)
 
 pub package_revisions_within_count : (nodes : Nodes) → package_revisions nodes ≤ count nodes
@@ -57,17 +60,17 @@ package_revisions_within_count nodes = revisions_in_within_count [] nodes
 
 -- ---- labels in one story
 
-length-labels_of : (before : ℕ) (nodes : Nodes) → length (labels_of before nodes) ≡ elements nodes
-length-labels_of before no_nodes = refl
-length-labels_of before (bytes b rest) = length-labels_of before rest
-length-labels_of before (element tag kids rest) =
-    let inner = labels_of (up_to_kids before tag) kids in
-    let after = labels_of (up_to_kids before tag + revisions kids) rest in
+length-labels_of : (around : List Tag) (next : ℕ) (nodes : Nodes) → length (labels_of around next nodes) ≡ elements nodes
+length-labels_of around next no_nodes = refl
+length-labels_of around next (bytes b rest) = length-labels_of around next rest
+length-labels_of around next (element tag kids rest) =
+    let inner = labels_of (tag ∷ around) (next + one_for (role around tag)) kids in
+    let after = labels_of around (next + element_members around tag kids) rest in
     omega (
       arith,
-      length-append (label_for before (content_trace tag) ∷ inner) after,
-      length-labels_of (up_to_kids before tag) kids,
-      length-labels_of (up_to_kids before tag + revisions kids) rest,
+      length-append (label_for (role around tag) next ∷ inner) after,
+      length-labels_of (tag ∷ around) (next + one_for (role around tag)) kids,
+      length-labels_of around (next + element_members around tag kids) rest,
     )
 
 get_behind : {X : Type 0} (pre ys : List X) (x : X) (at : ℕ) → at ≡ length pre → slice_get (pre ++ x ∷ ys) at ≡ Some x
@@ -75,30 +78,27 @@ get_behind [] ys x at is = ap (slice_get (x ∷ ys)) is
 get_behind (p ∷ pre) ys x at is =
     ap (slice_get (p ∷ (pre ++ x ∷ ys))) is ∙ get_behind pre ys x (length pre) refl
 
-relabelled_tag-for : (before : ℕ) (trace : Option Trace) (tag : Tag) → relabelled_tag (Some (label_for before trace)) tag ≡ labelled_as before trace tag
-relabelled_tag-for before None tag = refl
-relabelled_tag-for before (Some trace) tag = refl
-
--- nodes whose labels stand in a list behind others are numbered by that list
-pub relabelled-labels_of : (before : ℕ) (all : List Label) (at : ℕ) (pre : List Label) (nodes : Nodes) (post : List Label)
-    → all ≡ pre ++ (labels_of before nodes ++ post) → at ≡ length pre → relabelled all at nodes ≡ numbered before nodes
-relabelled-labels_of before all at pre no_nodes post is place = refl
-relabelled-labels_of before all at pre (bytes b rest) post is place = ap (bytes b) (relabelled-labels_of before all at pre rest post is place)
-relabelled-labels_of before all at pre (element tag kids rest) post is place =
-    let trace = content_trace tag in
-    let here = label_for before trace in
-    let inner = labels_of (up_to_kids before tag) kids in
-    let after = labels_of (up_to_kids before tag + revisions kids) rest in
+-- nodes whose labels stand in a list behind others are labelled by that list
+pub relabelled-labels_of : (around : List Tag) (next : ℕ) (all : List Label) (at : ℕ) (pre : List Label) (nodes : Nodes) (post : List Label)
+    → all ≡ pre ++ (labels_of around next nodes ++ post) → at ≡ length pre → relabelled all at nodes ≡ labelled around next nodes
+relabelled-labels_of around next all at pre no_nodes post is place = refl
+relabelled-labels_of around next all at pre (bytes b rest) post is place =
+    ap (bytes b) (relabelled-labels_of around next all at pre rest post is place)
+relabelled-labels_of around next all at pre (element tag kids rest) post is place =
+    let kind = role around tag in
+    let here = label_for kind next in
+    let inner = labels_of (tag ∷ around) (next + one_for kind) kids in
+    let after = labels_of around (next + element_members around tag kids) rest in
     let at_here : pre ++ (((here ∷ inner) ++ after) ++ post) ≡ pre ++ here ∷ (inner ++ (after ++ post)) = simp append_assoc in
     let in_kids : pre ++ (((here ∷ inner) ++ after) ++ post) ≡ (pre ++ here ∷ []) ++ (inner ++ (after ++ post)) = simp append_assoc in
     let in_rest : pre ++ (((here ∷ inner) ++ after) ++ post) ≡ ((pre ++ here ∷ []) ++ inner) ++ (after ++ post) = simp append_assoc in
     let label_is = ap (λ (xs : List Label). slice_get xs at) (is ∙ at_here) ∙ get_behind pre (inner ++ (after ++ post)) here at place in
     let place_1 : at + 1 ≡ length (pre ++ here ∷ []) = omega (arith, length-append pre (here ∷ [])) in
     let place_2 : at + (1 + elements kids) ≡ length ((pre ++ here ∷ []) ++ inner) =
-    omega (arith, length-append (pre ++ here ∷ []) inner, length-append pre (here ∷ []), length-labels_of (up_to_kids before tag) kids) in
-    let kids_is = relabelled-labels_of (up_to_kids before tag) all (at + 1) (pre ++ here ∷ []) kids (after ++ post) (is ∙ in_kids) place_1 in
-    let rest_is = relabelled-labels_of (up_to_kids before tag + revisions kids) all (at + (1 + elements kids)) ((pre ++ here ∷ []) ++ inner) rest post (is ∙ in_rest) place_2 in
-    rw (label_is, relabelled_tag-for before trace tag, kids_is, rest_is) refl
+    omega (arith, length-append (pre ++ here ∷ []) inner, length-append pre (here ∷ []), length-labels_of (tag ∷ around) (next + one_for kind) kids) in
+    let kids_is = relabelled-labels_of (tag ∷ around) (next + one_for kind) all (at + 1) (pre ++ here ∷ []) kids (after ++ post) (is ∙ in_kids) place_1 in
+    let rest_is = relabelled-labels_of around (next + element_members around tag kids) all (at + (1 + elements kids)) ((pre ++ here ∷ []) ++ inner) rest post (is ∙ in_rest) place_2 in
+    rw (label_is, kids_is, rest_is) refl
 
 -- ---- labels in all stories
 
@@ -106,16 +106,16 @@ length-either : (is_root : Bool) (xs ys : List Label) (m n : ℕ) → length xs 
 length-either true xs ys m n h k = h
 length-either false xs ys m n h k = k
 
-length-labels_in : (around : List Tag) (before : ℕ) (nodes : Nodes) → length (labels_in around before nodes) ≡ story_elements around nodes
-length-labels_in around before no_nodes = refl
-length-labels_in around before (bytes b rest) = length-labels_in around before rest
-length-labels_in around before (element tag kids rest) =
-    let inner = kids_labels_in around before tag kids in
-    let after = labels_in around (before + kids_revisions_in around tag kids) rest in
+length-labels_in : (around : List Tag) (next : ℕ) (nodes : Nodes) → length (labels_in around next nodes) ≡ story_elements around nodes
+length-labels_in around next no_nodes = refl
+length-labels_in around next (bytes b rest) = length-labels_in around next rest
+length-labels_in around next (element tag kids rest) =
+    let inner = kids_labels_in around next tag kids in
+    let after = labels_in around (next + kids_revisions_in around tag kids) rest in
     let below : length inner ≡ kids_story_elements around tag kids =
-    length-either (is_root around tag) (labels_of before kids) (labels_in (tag ∷ around) before kids) (elements kids) (story_elements (tag ∷ around) kids)
-    (length-labels_of before kids) (length-labels_in (tag ∷ around) before kids) in
-    omega (arith, length-append inner after, below, length-labels_in around (before + kids_revisions_in around tag kids) rest)
+    length-either (is_root around tag) (labels_of (tag ∷ []) next kids) (labels_in (tag ∷ around) next kids) (elements kids) (story_elements (tag ∷ around) kids)
+    (length-labels_of (tag ∷ []) next kids) (length-labels_in (tag ∷ around) next kids) in
+    omega (arith, length-append inner after, below, length-labels_in around (next + kids_revisions_in around tag kids) rest)
 
 -- what is said of the kids of a root, and what of other kids
 either_way : (is_root : Bool) (all pre post xs ys : List Label) (a b c d : Nodes)
@@ -124,46 +124,44 @@ either_way : (is_root : Bool) (all pre post xs ys : List Label) (a b c d : Nodes
 either_way true all pre post xs ys a b c d h k is = h is
 either_way false all pre post xs ys a b c d h k is = k is
 
-pub labelled_in-labels_in : (around : List Tag) (before : ℕ) (all : List Label) (at : ℕ) (pre : List Label) (nodes : Nodes) (post : List Label)
-    → all ≡ pre ++ (labels_in around before nodes ++ post) → at ≡ length pre → labelled_in all at around nodes ≡ numbered_in around before nodes
-labelled_in-labels_in around before all at pre no_nodes post is place = refl
-labelled_in-labels_in around before all at pre (bytes b rest) post is place =
-    ap (bytes b) (labelled_in-labels_in around before all at pre rest post is place)
-labelled_in-labels_in around before all at pre (element tag kids rest) post is place =
-    let next = before + kids_revisions_in around tag kids in
-    let inner = kids_labels_in around before tag kids in
-    let after = labels_in around next rest in
+pub labelled_in-labels_in : (around : List Tag) (next : ℕ) (all : List Label) (at : ℕ) (pre : List Label) (nodes : Nodes) (post : List Label)
+    → all ≡ pre ++ (labels_in around next nodes ++ post) → at ≡ length pre → labelled_in all at around nodes ≡ numbered_in around next nodes
+labelled_in-labels_in around next all at pre no_nodes post is place = refl
+labelled_in-labels_in around next all at pre (bytes b rest) post is place =
+    ap (bytes b) (labelled_in-labels_in around next all at pre rest post is place)
+labelled_in-labels_in around next all at pre (element tag kids rest) post is place =
+    let then_next = next + kids_revisions_in around tag kids in
+    let inner = kids_labels_in around next tag kids in
+    let after = labels_in around then_next rest in
     let in_kids : pre ++ ((inner ++ after) ++ post) ≡ pre ++ (inner ++ (after ++ post)) = ap (λ xs. pre ++ xs) (append_assoc inner after post) in
     let in_rest : pre ++ ((inner ++ after) ++ post) ≡ (pre ++ inner) ++ (after ++ post) = in_kids ∙ sym (append_assoc pre inner (after ++ post)) in
     let below : length inner ≡ kids_story_elements around tag kids =
-    length-either (is_root around tag) (labels_of before kids) (labels_in (tag ∷ around) before kids) (elements kids) (story_elements (tag ∷ around) kids)
-    (length-labels_of before kids) (length-labels_in (tag ∷ around) before kids) in
+    length-either (is_root around tag) (labels_of (tag ∷ []) next kids) (labels_in (tag ∷ around) next kids) (elements kids) (story_elements (tag ∷ around) kids)
+    (length-labels_of (tag ∷ []) next kids) (length-labels_in (tag ∷ around) next kids) in
     let place_2 : at + kids_story_elements around tag kids ≡ length (pre ++ inner) = omega (arith, length-append pre inner, below) in
-    let kids_is = either_way (is_root around tag) all pre (after ++ post) (labels_of before kids) (labels_in (tag ∷ around) before kids) _ _ _ _
-    (λ held. relabelled-labels_of before all at pre kids (after ++ post) held place)
-    (λ held. labelled_in-labels_in (tag ∷ around) before all at pre kids (after ++ post) held place) (is ∙ in_kids) in
-    let rest_is = labelled_in-labels_in around next all (at + kids_story_elements around tag kids) (pre ++ inner) rest post (is ∙ in_rest) place_2 in
+    let kids_is = either_way (is_root around tag) all pre (after ++ post) (labels_of (tag ∷ []) next kids) (labels_in (tag ∷ around) next kids) _ _ _ _
+    (λ held. relabelled-labels_of (tag ∷ []) next all at pre kids (after ++ post) held place)
+    (λ held. labelled_in-labels_in (tag ∷ around) next all at pre kids (after ++ post) held place) (is ∙ in_kids) in
+    let rest_is = labelled_in-labels_in around then_next all (at + kids_story_elements around tag kids) (pre ++ inner) rest post (is ∙ in_rest) place_2 in
     rw (kids_is, rest_is) refl
 
 -- ---- a node at a time
 
-pub labels_of-in_front : (before : ℕ) (x : Item) (ys : Nodes)
-    → labels_of before (in_front x ys) ≡ item_labels before x ++ labels_of (before + item_revisions x) ys
-labels_of-in_front before (bytes_item b) ys =
-    let same : before ≡ before + 0 = omega arith in
-    ap (λ m. labels_of m ys) same
-labels_of-in_front before (element_item tag kids) ys =
-    let same : up_to_kids before tag + revisions kids ≡ before + (one_for (content_trace tag) + revisions kids) = omega arith in
-    ap (λ m. (label_for before (content_trace tag) ∷ labels_of (up_to_kids before tag) kids) ++ labels_of m ys) same
+pub labels_of-in_front : (around : List Tag) (next : ℕ) (x : Item) (ys : Nodes)
+    → labels_of around next (in_front x ys) ≡ item_labels around next x ++ labels_of around (next + item_members around x) ys
+labels_of-in_front around next (bytes_item b) ys =
+    let same : next ≡ next + 0 = omega arith in
+    ap (λ m. labels_of around m ys) same
+labels_of-in_front around next (element_item tag kids) ys = refl
 
 pub revisions_in-in_front : (around : List Tag) (x : Item) (ys : Nodes)
     → revisions_in around (in_front x ys) ≡ item_revisions_in around x + revisions_in around ys
 revisions_in-in_front around (bytes_item b) ys = omega arith
 revisions_in-in_front around (element_item tag kids) ys = refl
 
-pub labels_in-in_front : (around : List Tag) (before : ℕ) (x : Item) (ys : Nodes)
-    → labels_in around before (in_front x ys) ≡ item_labels_in around before x ++ labels_in around (before + item_revisions_in around x) ys
-labels_in-in_front around before (bytes_item b) ys =
-    let same : before ≡ before + 0 = omega arith in
+pub labels_in-in_front : (around : List Tag) (next : ℕ) (x : Item) (ys : Nodes)
+    → labels_in around next (in_front x ys) ≡ item_labels_in around next x ++ labels_in around (next + item_revisions_in around x) ys
+labels_in-in_front around next (bytes_item b) ys =
+    let same : next ≡ next + 0 = omega arith in
     ap (λ m. labels_in around m ys) same
-labels_in-in_front around before (element_item tag kids) ys = refl
+labels_in-in_front around next (element_item tag kids) ys = refl

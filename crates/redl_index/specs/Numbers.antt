@@ -1,71 +1,69 @@
--- The numbers of revisions of run content: each `ins` and `del` of a story is a revision, numbered from 1 through all stories in
--- the order of the start tags (ECMA-376 Part 1, 17.13.5.14 and 17.13.5.18; the numbers are our own rule).
-use Rattle.std.specs.Prelude.{ℕ, ◌+◌, List, [], ◌∷◌, Option, Some, None, if◌then◌else◌}
-use Rattle.redl_tree.specs.Names.{is}
+-- The members of revisions and their numbers: each element of a story that has a role is the member of a revision of its own,
+-- numbered from 1 through all stories in the order of the start tags (ECMA-376 Part 1, 17.13.5; the numbers are our own rule).
+use Rattle.std.specs.Prelude.{ℕ, ◌+◌, List, [], ◌∷◌, if◌then◌else◌}
 use Rattle.redl_tree.specs.Nodes.{Tag, Nodes, no_nodes, bytes, element, Item, bytes_item, element_item}
 use Rattle.redl_tree.specs.Packages.{is_root}
-use Rattle.redl_tree.specs.declared.kinds.Trace.{Trace}
-use Rattle.redl_tree.specs.declared.kinds.Trace.TheVariants.{Ins, Del}
-use Rattle.redl_tree.specs.declared.kinds.Kind.TheVariants.{Plain, Content}
+use Rattle.redl_tree.specs.Places.{role}
+use Rattle.redl_tree.specs.declared.kinds.Kind.{Kind}
+use Rattle.redl_tree.specs.declared.kinds.Kind.TheVariants.{Plain}
 
--- what an element marks the run content in it as, where it marks it
-abbrev pub content_trace : Tag → Option Trace
-content_trace tag = if is "ins" tag then Some Ins else if is "del" tag then Some Del else None
+-- an element with a role counts, another doesn't
+abbrev pub one_for : Kind → ℕ
+one_for Plain = 0
+one_for _ = 1
 
-abbrev pub one_for : Option Trace → ℕ
-one_for None = 0
-one_for (Some trace) = 1
+-- the number of an element of this kind, where this is the next number
+abbrev pub number_for : Kind → ℕ → ℕ
+number_for Plain next = 0
+number_for _ next = next
 
--- how many revisions stand in nodes
-abbrev pub revisions : Nodes → ℕ
-revisions no_nodes = 0
-revisions (bytes b rest) = revisions rest
-revisions (element tag kids rest) = (one_for (content_trace tag) + revisions kids) + revisions rest
+-- how many members stand among nodes with these ancestors in their story
+abbrev pub members : List Tag → Nodes → ℕ
+members around no_nodes = 0
+members around (bytes b rest) = members around rest
+members around (element tag kids rest) =
+    (one_for (role around tag) + members (tag ∷ around) kids) + members around rest
 
--- an element as the revision with the next number, where it is one; any other is plain
-abbrev pub labelled_as : ℕ → Option Trace → Tag → Tag
-labelled_as before None tag = record tag { kind = Plain; rev = 0 }
-labelled_as before (Some trace) tag = record tag { kind = Content trace; rev = before + 1 }
+-- the same of one element, and of one node
+abbrev pub element_members : List Tag → Tag → Nodes → ℕ
+element_members around tag kids = one_for (role around tag) + members (tag ∷ around) kids
 
-abbrev pub labelled : ℕ → Tag → Tag
-labelled before tag = labelled_as before (content_trace tag) tag
+abbrev pub item_members : List Tag → Item → ℕ
+item_members around (bytes_item b) = 0
+item_members around (element_item tag kids) = element_members around tag kids
 
--- how many revisions there are up to an element's kids
-abbrev pub up_to_kids : ℕ → Tag → ℕ
-up_to_kids before tag = before + one_for (content_trace tag)
+-- a tag with this kind, and its number
+abbrev pub labelled_as : ℕ → Kind → Tag → Tag
+labelled_as next kind tag = record tag { kind = kind; rev = number_for kind next }
 
--- nodes with the kinds and numbers of their revisions, where so many revisions stand before them
-abbrev pub numbered : ℕ → Nodes → Nodes
-numbered before no_nodes = no_nodes
-numbered before (bytes b rest) = bytes b (numbered before rest)
-numbered before (element tag kids rest) =
-    element (labelled before tag) (numbered (up_to_kids before tag) kids)
-    (numbered (up_to_kids before tag + revisions kids) rest)
+-- nodes with the kind and the number of each element, where this is the next number
+abbrev pub labelled : List Tag → ℕ → Nodes → Nodes
+labelled around next no_nodes = no_nodes
+labelled around next (bytes b rest) = bytes b (labelled around next rest)
+labelled around next (element tag kids rest) =
+    element (labelled_as next (role around tag) tag)
+    (labelled (tag ∷ around) (next + one_for (role around tag)) kids)
+    (labelled around (next + element_members around tag kids) rest)
 
--- how many revisions stand in one node
-abbrev pub item_revisions : Item → ℕ
-item_revisions (bytes_item b) = 0
-item_revisions (element_item tag kids) = one_for (content_trace tag) + revisions kids
-
--- how many revisions stand in the stories among nodes with these ancestors
+-- how many revisions stand in the stories among nodes with these ancestors in their package
 abbrev pub revisions_in : List Tag → Nodes → ℕ
 revisions_in around no_nodes = 0
 revisions_in around (bytes b rest) = revisions_in around rest
 revisions_in around (element tag kids rest) =
-    (if is_root around tag then revisions kids else revisions_in (tag ∷ around) kids) + revisions_in around rest
+    (if is_root around tag then members (tag ∷ []) kids else revisions_in (tag ∷ around) kids) + revisions_in around rest
 
--- nodes with the kinds and numbers of the revisions in their stories, where so many revisions stand before them
+-- nodes with the kinds and numbers of the members in their stories, where this is the next number
 abbrev pub numbered_in : List Tag → ℕ → Nodes → Nodes
-numbered_in around before no_nodes = no_nodes
-numbered_in around before (bytes b rest) = bytes b (numbered_in around before rest)
-numbered_in around before (element tag kids rest) =
-    element tag (if is_root around tag then numbered before kids else numbered_in (tag ∷ around) before kids)
-    (numbered_in around (before + (if is_root around tag then revisions kids else revisions_in (tag ∷ around) kids)) rest)
+numbered_in around next no_nodes = no_nodes
+numbered_in around next (bytes b rest) = bytes b (numbered_in around next rest)
+numbered_in around next (element tag kids rest) =
+    element tag (if is_root around tag then labelled (tag ∷ []) next kids else numbered_in (tag ∷ around) next kids)
+    (numbered_in around (next + (if is_root around tag then members (tag ∷ []) kids else revisions_in (tag ∷ around) kids)) rest)
 
 -- how many revisions a package has
 abbrev pub package_revisions : Nodes → ℕ
 package_revisions nodes = revisions_in [] nodes
 
--- a package with the kinds and numbers of its revisions
+-- a package with the kinds and numbers of its members
 abbrev pub numbered_package : Nodes → Nodes
-numbered_package nodes = numbered_in [] 0 nodes
+numbered_package nodes = numbered_in [] 1 nodes

@@ -13,6 +13,6 @@ invariant-add_story_labels-loop-node l = record {
   before : (around : List Tag) → l.level ≡ level_of around
       → l.before + revisions_in around (nodes_of (drop l.node-index l.nodes)) ≡ l.initial.before + revisions_in around (nodes_of l.nodes);
   labels : (around : List Tag) → l.level ≡ level_of around
-      → l.labels.items ++ labels_in around l.before (nodes_of (drop l.node-index l.nodes))
-      ≡ l.initial.labels.items ++ labels_in around l.initial.before (nodes_of l.nodes);
+      → l.labels.items ++ labels_in around (1 + l.before) (nodes_of (drop l.node-index l.nodes))
+      ≡ l.initial.labels.items ++ labels_in around (1 + l.initial.before) (nodes_of l.nodes);
 }

@@ -8,9 +8,9 @@ use Rattle.redl_index.proofs.package.number_package.Goals as goal
 pub returns-clause-nodes : goal.returns-clause-nodes
 returns-clause-nodes c =
     let nodes = c.args.pkg.now in
-    let labels_are : c.deref.result.now ≡ labels_in [] 0 nodes ++ [] =
+    let labels_are : c.deref.result.now ≡ labels_in [] 1 nodes ++ [] =
     c.deref.ensures.value ∙ c.in_ok-add_story_labels.ensures.labels [] refl
-    ∙ ap (λ (xs : List Label). xs ++ labels_in [] 0 (nodes_of c.nodes.result.now)) c.new-labels.ensures.items
-    ∙ ap (labels_in [] 0) c.nodes.ensures.nodes
-    ∙ sym (append-nil (labels_in [] 0 nodes)) in
-    c.label_stories.ensures ∙ labelled_in-labels_in [] 0 c.deref.result.now 0 [] nodes [] labels_are refl
+    ∙ ap (λ (xs : List Label). xs ++ labels_in [] 1 (nodes_of c.nodes.result.now)) c.new-labels.ensures.items
+    ∙ ap (labels_in [] 1) c.nodes.ensures.nodes
+    ∙ sym (append-nil (labels_in [] 1 nodes)) in
+    c.label_stories.ensures ∙ labelled_in-labels_in [] 1 c.deref.result.now 0 [] nodes [] labels_are refl
