@@ -1,5 +1,5 @@
 -- Labels are no part of the shape of a package.
-use Rattle.std.proofs.Common.{◌≡◌, ◌+◌, ◌<◌, ◌≤◌, ◌&&◌, ◌||◌, ℕ, arith, zero, suc, length, get_or, drop, slice_get, List, [], ◌∷◌, map, Option, Some, None, Bool, true, false, cond, is_some, option_map, refl, sym, ap, ◌∙◌, codes}
+use Rattle.std.proofs.Common.{◌≡◌, ◌+◌, ◌<◌, ◌≤◌, ◌&&◌, ◌||◌, ℕ, arith, zero, suc, length, get_or, drop, slice_get, List, [], ◌∷◌, map, Option, Some, None, Bool, true, false, cond, is_some, option_map, refl, sym, ap, ◌∙◌, codes, subst}
 use Rattle.std.specs.List.{list_all, list_any}
 use Rattle.std.proofs.lemmas.List.{drop_more}
 use Rattle.redl_tree.specs.Nodes.{Tag, Nodes, no_nodes, bytes, element, Item, bytes_item, element_item, in_front, ◌⊕◌}
@@ -10,6 +10,7 @@ use Rattle.redl_tree.specs.declared.kinds.Kind.{Kind}
 use Rattle.redl_opc.specs.Elements.{Element, elements_of, only, only_element}
 use Rattle.redl_tree.specs.Packages.{named_pkg, is_story_root, is_root}
 use Rattle.redl_opc.specs.Shape.{has_attribute, is_data, is_data_alone, is_part, root_in, story_root, story_of, is_document_root, is_document, package_in, package_of, parts_refusal, refusal_of, refusal}
+use Rattle.redl_opc.specs.Tree.{HasUtf8Tails}
 use Rattle.redl_opc.specs.Parts.{name_in, places_from, places_in, places_of, IsKept}
 use Rattle.redl_opc.specs.Labels.{changed_at, labelled, unlabelled, elements, item_elements, relabelled_tag, relabelled, relabelled_item, story_elements, kids_story_elements, item_story_elements, labelled_in, labelled_item}
 use Rattle.redl_opc.specs.declared.label.Label.{Label}
@@ -116,6 +117,16 @@ count-unlabelled no_nodes = refl
 count-unlabelled (bytes b rest) = ap (λ more. 1 + more) (count-unlabelled rest)
 count-unlabelled (element tag kids rest) = omega (arith, count-unlabelled kids, count-unlabelled rest)
 
+tails-unlabelled : (ns : Nodes) → HasUtf8Tails ns → HasUtf8Tails (unlabelled ns)
+tails-unlabelled no_nodes tails = tt
+tails-unlabelled (bytes b rest) tails = tails-unlabelled rest tails
+tails-unlabelled (element tag kids rest) tails = (tails.0, tails-unlabelled kids tails.1, tails-unlabelled rest tails.2)
+
+tails-labelled : (ns : Nodes) → HasUtf8Tails (unlabelled ns) → HasUtf8Tails ns
+tails-labelled no_nodes tails = tt
+tails-labelled (bytes b rest) tails = tails-labelled rest tails
+tails-labelled (element tag kids rest) tails = (tails.0, tails-labelled kids tails.1, tails-labelled rest tails.2)
+
 -- ---- nodes that differ in labels alone
 
 changed_at-unlabelled : (place : ℕ) (change : Element → Element) → ((e : Element) → plain (change e) ≡ plain e) → (ns : Nodes)
@@ -140,6 +151,7 @@ kept-labelled old new listed same kept =
     record {
       shape = sym (refusal-unlabelled new) ∙ ap refusal same ∙ refusal-unlabelled old ∙ kept.shape;
       parts = kept.parts ∙ sym (places_of-unlabelled old) ∙ ap places_of (sym same) ∙ places_of-unlabelled new;
+      tails = tails-labelled new (subst HasUtf8Tails (sym same) (tails-unlabelled old kept.tails));
       few = rw (← count-unlabelled new, same, count-unlabelled old) kept.few;
     }
 

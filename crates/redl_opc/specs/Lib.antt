@@ -1,7 +1,7 @@
 pub mod Code
 pub mod Elements
 pub mod Shape
+pub mod Tree
 pub mod Parts
 pub mod Labels
-pub mod Tree
 pub mod PartView

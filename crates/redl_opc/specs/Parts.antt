@@ -6,6 +6,7 @@ use Rattle.redl_tree.specs.Count.{count}
 use Rattle.redl_stamp.specs.Attribute.{attribute_value}
 use Rattle.redl_opc.specs.Elements.{Element}
 use Rattle.redl_opc.specs.Shape.{package_of, parts_of, story_of, refusal}
+use Rattle.redl_opc.specs.Tree.{HasUtf8Tails}
 
 -- the decoded name in a part's tag
 abbrev pub name_in : Tag → List ℕ
@@ -33,8 +34,9 @@ places_in (Some root) = places_from 0 root.kids
 abbrev pub places_of : Nodes → List (ℕ × List ℕ)
 places_of nodes = places_in (package_of nodes)
 
--- what a package keeps: it has the shape, its parts are listed, and a number names each of its nodes
+-- what a package keeps: it has the shape, its parts are listed, its tails are UTF-8, and a number names each of its nodes
 pub record IsKept (nodes : Nodes) (listed : List (ℕ × List ℕ)) : Type 0 where
   pub shape : refusal nodes ≡ None
   pub parts : listed ≡ places_of nodes
+  pub tails : HasUtf8Tails nodes
   pub few : count nodes < 2 ^ 32

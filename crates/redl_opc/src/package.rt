@@ -10,7 +10,7 @@ ghost use Rattle.redl_opc.specs.Shape.{refusal, IsCause, parts_of};
 ghost use Rattle.redl_opc.specs.Parts.{part_name, story, places_of};
 ghost use Rattle.redl_opc.specs.PartView.{part_view};
 ghost use Rattle.redl_opc.specs.Labels.{way_to_story, labelled_package, labelled_stories};
-ghost use Rattle.redl_opc.specs.Tree.{IsTree};
+ghost use Rattle.redl_opc.specs.Tree.{HasUtf8Tails, IsTree};
 
 use crate::elements::{element_at, only_element};
 use crate::error::OpcError;
@@ -94,6 +94,7 @@ impl Package {
     pub fn nodes(&self) -> &[Node]
         ensures nodes { nodes_of result.now ≡ self.now }
         ensures shape { refusal self.now ≡ None }
+        ensures tails { HasUtf8Tails self.now }
         ensures few { count self.now < 2 ^ 32 }
     {
         &self.nodes
@@ -103,6 +104,7 @@ impl Package {
     pub fn into_nodes(self) -> Vec<Node>
         ensures nodes { nodes_of result.items ≡ self }
         ensures shape { refusal (nodes_of result.items) ≡ None }
+        ensures tails { HasUtf8Tails (nodes_of result.items) }
         ensures few { count (nodes_of result.items) < 2 ^ 32 }
     {
         self.nodes

@@ -11,5 +11,6 @@ invariant_of-result c =
     record {
       shape = rw c.deref.ensures.value at c.in_ok-parts.ensures.shape;
       parts = listed;
+      tails = c.requires.tails;
       few = c.requires.few;
     }
