@@ -1,2 +1,4 @@
 pub mod NumberLaws
+pub mod RevisionLaws
+pub mod MarkerLaws
 mod Rows

@@ -1,2 +1,4 @@
 pub mod Numbers
 pub mod Labels
+pub mod Revisions
+pub mod Markers

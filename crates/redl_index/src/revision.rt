@@ -1,0 +1,78 @@
+//! Revisions.
+
+ghost use Rattle.std.specs.Prelude.{◌≡◌, IfOk, IsTrue};
+ghost use Rattle.std.specs.Str.{IsUtf8};
+ghost use Rattle.redl_tree.specs.View.{tag_of};
+ghost use Rattle.redl_index.specs.Revisions.{kind_of, is_named, IsTold, revision_of};
+
+use redl_io::Text;
+use redl_stamp::read_stamp;
+use redl_tree::{Elem, Kind, Prop, Trace};
+use std::alloc::{AllocError, Global};
+
+/// What a revision is: content, a paragraph's mark, a row or a cell that is inserted, deleted or moved, a move with its
+/// ranges, or a change of properties.
+#[derive(Clone, Copy, Debug, PartialEq, Eq)]
+pub enum RevKind {
+    Content(Trace),
+    Move,
+    Mark(Trace),
+    Row(Trace),
+    Cell(Trace),
+    Change(Prop),
+}
+
+impl RevKind {
+    /// What the revision is that an element of this kind is a member of. `None` where it is a member of none.
+    pub(crate) fn of(kind: Kind) -> Option<RevKind>
+        ensures { result ≡ kind_of kind }
+    {
+        match kind {
+            Kind::Plain => None,
+            Kind::Content(trace) => Some(RevKind::Content(trace)),
+            Kind::Mark(trace) => Some(RevKind::Mark(trace)),
+            Kind::Row(trace) => Some(RevKind::Row(trace)),
+            Kind::Cell(trace) => Some(RevKind::Cell(trace)),
+            Kind::Change(prop) => Some(RevKind::Change(prop)),
+            Kind::Marker => Some(RevKind::Move),
+        }
+    }
+}
+
+/// A revision: its number from 1 on, what it is, who made it and when, the number of its part from 0 on, and how many
+/// members it has. The moment is in seconds from 1970-01-01T00:00:00Z.
+#[derive(Drop)]
+pub struct Revision {
+    pub number: u32,
+    pub kind: RevKind,
+    pub author: Text,
+    pub seconds: Option<i64>,
+    pub part: u32,
+    pub members: u32,
+}
+
+impl Revision {
+    /// The revision with this one member. `Err` is want of memory.
+    pub(crate) fn with_member(
+        alloc: Global,
+        kind: RevKind,
+        part: u32,
+        number: u32,
+        elem: &Elem,
+    ) -> Result<Revision, AllocError>
+        requires named { IsTrue (is_named kind) }
+        requires tail { IsUtf8 ((tag_of elem.now).tail) }
+        ensures value { IfOk result (λ revision. revision ≡ revision_of kind part number (tag_of elem.now)) }
+        ensures told { IfOk result IsTold }
+    {
+        let stamp = read_stamp(alloc, elem.tail.as_bytes())?;
+        Ok(Revision {
+            number,
+            kind,
+            author: stamp.author,
+            seconds: stamp.seconds,
+            part,
+            members: 1,
+        })
+    }
+}
