@@ -2,3 +2,4 @@ pub mod NumberLaws
 pub mod RevisionLaws
 pub mod MarkerLaws
 mod Rows
+mod RevisionRows
