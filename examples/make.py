@@ -170,6 +170,8 @@ def main():
     letter = "".join("\n<w:p w:rsidR='00A77B3E'>%s</w:p >" % paragraph for paragraph in LETTER)
     save("letter.xml", LETTER_FRONT + letter + LETTER_BACK)
     save("letter.accepted.xml", LETTER_FRONT + resolve(letter, lambda number: "accept") + LETTER_BACK)
+    # a paragraph whose properties don't come first
+    save("unsound.xml", package("<w:p>%s<w:pPr/></w:p>" % text("Terms of sale")))
     for who, says, file in reviewers:
         save(file + ".journal", journal(plain, count, who, says))
 

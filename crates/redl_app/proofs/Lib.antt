@@ -3,7 +3,5 @@ pub mod GatherLaws
 pub mod JournalLaws
 pub mod NameLaws
 pub mod PackageLaws
-pub mod PassLaws
 pub mod ReadLaws
-pub mod StoryLaws
 pub mod TopLaws

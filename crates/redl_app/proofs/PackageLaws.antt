@@ -3,7 +3,7 @@ use Rattle.std.proofs.Common.{◌≡◌, inl, inr, take, length-take, ◌<◌, �
 use Rattle.std.proofs.lemmas.List.{take_all}
 use Rattle.std.proofs.lemmas.Bool.{cases_lt, lt-ltb, le-ltb}
 use Rattle.redl_app.proofs.JournalLaws.{if_true, if_false}
-use Rattle.redl_app.specs.Outcome.{Reader, IsReader, IsTreeOf, limited, limited_tree, tree_in, package_in, shaped, built, ◌>>=◌}
+use Rattle.redl_app.specs.Outcome.{Reader, IsReader, IsTreeOf, limited, limited_tree, tree_in, package_in, shaped, sound, built, ◌>>=◌}
 use Rattle.redl_app.specs.Prepared.{made_of, refusal_view, xml_refusal}
 use Rattle.redl_app.specs.Reading.{IsMade}
 use Rattle.redl_app.specs.Refusals.{Refusal, over, no_package}
@@ -113,4 +113,4 @@ same_tree reader limit cut whole is =
     ]
 
 pub same_package : (reader : Reader) (limit : ℕ) (cut whole : List ℕ) → cut ≡ take (limit + 1) whole → package_in reader limit cut ≡ package_in reader limit whole
-same_package reader limit cut whole is = ap (λ tree. tree >>= (λ nodes. shaped nodes >>= built)) (same_tree reader limit cut whole is)
+same_package reader limit cut whole is = ap (λ tree. tree >>= (λ nodes. shaped nodes >>= (λ package_. sound package_ >>= built))) (same_tree reader limit cut whole is)

@@ -13,7 +13,7 @@ made_bind : {X Y : Type 0} (x : X) (made : Result Y Refusal) (due : Result X Ref
     → due ≡ Ok x → IsMade made (next x) failed → IsMade made (due >>= next) failed
 made_bind x made due next failed is h = subst (λ d. IsMade made (d >>= next) failed) (sym is) h
 
-refused_bind : {X Y : Type 0} (refusal : Refusal) (due : Result X Refusal) (next : X → Result Y Refusal) (failed : Type 0)
+pub refused_bind : {X Y : Type 0} (refusal : Refusal) (due : Result X Refusal) (next : X → Result Y Refusal) (failed : Type 0)
     → IsMade {Y = X} (Err refusal) due failed → IsMade {Y = Y} (Err refusal) (due >>= next) failed
 refused_bind no_memory due next failed h = tt
 refused_bind (unread name) due next failed (inl h) = inl h
@@ -143,6 +143,37 @@ reads_after {X} {Y} {old} {new} {before} {now} {names} {x} {due} made later firs
   stands = stands_of made (now ≡ before) first.stands;
 }
 
+-- a step that takes no file makes what is due, whatever failed
+surely : {X : Type 0} (refusal : Refusal) (due : Result X Refusal) (failed : Type 0) → IsMade {Y = X} (Err refusal) due ⊥ → IsMade {Y = X} (Err refusal) due failed
+surely no_memory due failed h = tt
+surely (unread name) due failed (inl h) = absurd h
+surely (unread name) due failed (inr h) = inr h
+surely unbuilt due failed h = h
+surely (malformed name) due failed h = h
+surely (other_document name found expected) due failed h = h
+surely (other_count name found expected) due failed h = h
+surely (over limit) due failed h = h
+surely (no_package fault) due failed h = h
+
+surely_made : {X : Type 0} (made : Result X Refusal) (due : Result X Refusal) (failed : Type 0) → IsMade made due ⊥ → IsMade made due failed
+surely_made (Ok x) due failed h = h
+surely_made (Err refusal) due failed h = surely refusal due failed h
+
+-- what takes no file was made of what a step read, or refused
+pub reads_next : {X Y : Type 0} {old new : Option Files} {before now : ℕ} {names : List (List ℕ)} {x : X} {due : Reader → Files → Result X Refusal}
+    (whole : List (List ℕ)) (made : Result Y Refusal) (next : X → Reader → Files → Result Y Refusal)
+    → ReadsFiles old new before now names (Ok x) due → NeverUnread made
+    → ((reader : Reader) (files : Files) → IsReader reader → IsMade made (next x reader files) ⊥)
+    → ReadsFiles old new before now whole made (λ reader files. due reader files >>= (λ y. next y reader files))
+reads_next {X} {Y} {old} {new} {before} {now} {names} {x} {due} whole made next first never step = record {
+  as_due = if_some old
+      (λ files h reader is. made_bind x made (due reader files) (λ y. next y reader files) (Rose before now) (h reader is)
+      (surely_made made (next x reader files) (Rose before now) (step reader files is))) first.as_due;
+  unread = never_unread made whole old (Rose before now) never;
+  same_files = first.same_files;
+  stands = stands_of made (now ≡ before) first.stands;
+}
+
 -- ---- files that are fetched up to one byte more than a limit
 
 front_whole : (limit : ℕ) (whole bytes : List ℕ) → bytes ≡ take (limit + 1) whole → length bytes ≤ limit → bytes ≡ whole
@@ -168,17 +199,6 @@ capped_err {X} {Y} limit (Ok whole) bytes step view refusal failed front same h 
     let cut : bytes ≡ take (limit + 1) whole = cc front in
     refused_bind refusal (step whole) (λ y. Ok (view whole y)) failed
     (surely refusal (step whole) failed (subst (λ due. IsMade {Y = X} (Err refusal) due ⊥) (same whole cut) h))
-  where
-    surely : (refusal : Refusal) (due : Result X Refusal) (failed : Type 0) → IsMade {Y = X} (Err refusal) due ⊥ → IsMade {Y = X} (Err refusal) due failed
-    surely no_memory due failed h = tt
-    surely (unread name) due failed (inl h) = absurd h
-    surely (unread name) due failed (inr h) = inr h
-    surely unbuilt due failed h = h
-    surely (malformed name) due failed h = h
-    surely (other_document name found expected) due failed h = h
-    surely (other_count name found expected) due failed h = h
-    surely (over limit) due failed h = h
-    surely (no_package fault) due failed h = h
 
 uncapped : (cap : ℕ) (found : Result (List ℕ) Refusal) (refusal : Refusal) → front_of cap found ≡ Err refusal → found ≡ Err refusal
 uncapped cap (Ok whole) refusal is = absurd (cc is)

@@ -1,7 +1,6 @@
-pub mod Rounds
 pub mod Status
 pub mod Words
-pub mod Form
+pub mod Built
 pub mod Refusals
 pub mod Outcome
 pub mod Answers

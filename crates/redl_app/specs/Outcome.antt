@@ -1,9 +1,12 @@
 -- What a call of the program comes to: a function of the words, of what the shelf holds, and of how texts are read.
-use Rattle.std.specs.Prelude.{ℕ, ◌-◌, List, [], ◌∷◌, ◌++◌, length, map, filter, replicate, Bool, ◌&&◌, ◌==◌, not, nat_le, nat_lt, Option, None, Some, Result, Ok, Err, if◌then◌else◌}
+use Rattle.std.specs.Prelude.{codes, decimal, ℕ, ◌-◌, List, [], ◌∷◌, ◌++◌, length, map, filter, replicate, Bool, ◌&&◌, ◌==◌, not, nat_le, nat_lt, Option, None, Some, Result, Ok, Err, if◌then◌else◌}
 use Rattle.std.specs.List.{flat_map, range_with_len}
 use Rattle.std.specs.Str.{bytes_eq}
 use Rattle.sha2.specs.Sha256.{sha256}
+use Rattle.redl_index.specs.Markers.{has_markers}
 use Rattle.redl_index.specs.Numbers.{package_revisions, numbered_package}
+use Rattle.redl_index.specs.Revisions.{revisions_of}
+use Rattle.redl_rules.specs.Attributes.{broken_rule}
 use Rattle.redl_io.specs.Shelf.{Files}
 use Rattle.redl_join.specs.Books.{union}
 use Rattle.redl_join.specs.Verdicts.{verdict_at}
@@ -23,11 +26,11 @@ use Rattle.redl_opc.specs.declared.error.OpcError.TheVariants as opc
 use Rattle.redl_xml.specs.Shapes.{depth_of}
 use Rattle.redl_xml.specs.Readings.{IsReading, HasNoReading}
 use Rattle.redl_xml.specs.declared.TheConstants.{DEPTH_LIMIT, NODE_LIMIT}
-use Rattle.redl_app.specs.Form.{is_built}
-use Rattle.redl_app.specs.Refusals.{Refusal, unbuilt, no_package, unread, malformed, other_document, other_count, over, no_memory, status_of, refusal_line, refused_line}
+use Rattle.redl_app.specs.Built.{are_run_content}
+use Rattle.redl_app.specs.Refusals.{Refusal, unbuilt, no_package, unread, malformed, other_document, other_count, over, no_memory, newline, status_of, refusal_line, refused_line}
 use Rattle.redl_app.specs.declared.refusal.Limit.TheVariants.{PackageBytes, JournalBytes, Depth, Nodes as TooManyNodes}
-use Rattle.redl_app.specs.declared.refusal.PackageFault.TheVariants.{NotReadable, NotPackage, PartShape, NoDocument}
-use Rattle.redl_app.specs.Words.{Command, settle, write, command_of}
+use Rattle.redl_app.specs.declared.refusal.PackageFault.TheVariants.{NotReadable, NotPackage, PartShape, NoDocument, Rule}
+use Rattle.redl_app.specs.Words.{Command, settle, write, check, command_of}
 use Rattle.redl_app.specs.declared.TheConstants.{PACKAGE_LIMIT, JOURNALS_LIMIT}
 use Rattle.redl_app.specs.declared.status.Status.{Status}
 use Rattle.redl_app.specs.declared.status.Status.TheVariants as status
@@ -86,8 +89,8 @@ abbrev pub ◌>>=◌ : {X Y : Type 0} → Result X Refusal → (X → Result Y R
 
 -- ---- a package under says
 
--- The text of a package under a say for each revision: the pass of the original, in which each `ins` and `del` of a
--- story is a revision of its number.
+-- The text of a package under a say for each revision: the pass of the original, in which each member of a revision has
+-- the revision's kind and number.
 abbrev pub passed_text : List Say → Nodes → List ℕ
 passed_text says nodes = text (pass_package says (numbered_package nodes))
 
@@ -137,16 +140,29 @@ shaped_unless (Some error) nodes = Err (shape_refusal error)
 abbrev pub shaped : Nodes → Result Nodes Refusal
 shaped nodes = shaped_unless (refusal nodes) nodes
 
--- a package of the form that is built
+abbrev pub sound_unless : Option ℕ → Nodes → Result Nodes Refusal
+sound_unless None nodes = Ok nodes
+sound_unless (Some rule) nodes = Err (no_package (Rule rule))
+
+-- a package that keeps the nine rules of structure
+abbrev pub sound : Nodes → Result Nodes Refusal
+sound nodes = sound_unless (broken_rule nodes) nodes
+
+-- a package without markers of moves
 abbrev pub built : Nodes → Result Nodes Refusal
-built nodes = if is_built nodes then Ok nodes else Err unbuilt
+built nodes = if has_markers nodes then Err unbuilt else Ok nodes
+
+-- a package whose revisions can be decided
+abbrev pub decidable : Nodes → Result Nodes Refusal
+decidable nodes = if are_run_content (revisions_of nodes) then Ok nodes else Err unbuilt
 
 -- the nodes of a package of this text, or the first cause why there are none
 abbrev pub package_in : Reader → ℕ → List ℕ → Result Nodes Refusal
 package_in reader limit whole = do
   tree ← tree_in reader limit whole
   package_ ← shaped tree
-  built package_
+  nodes ← sound package_
+  built nodes
 
 -- ---- the journals of a package
 
@@ -218,6 +234,12 @@ package_at reader files name = do
 abbrev pub settled : Say → Nodes → Writing
 settled say nodes = record { bytes = passed_text (same_says say nodes) nodes; unknown = [] }
 
+-- the same, where its revisions can be decided
+abbrev pub settled_of : Say → Nodes → Result Writing Refusal
+settled_of say nodes = do
+  undecided ← decidable nodes
+  Ok (settled say undecided)
+
 -- a package under the verdicts of these entries
 abbrev pub decided : List Entry → Nodes → Writing
 decided entries nodes = record {
@@ -225,16 +247,32 @@ decided entries nodes = record {
   unknown = unknown_entries (package_revisions nodes) entries;
 }
 
+-- a package of this text under the journals of these names
+abbrev pub written_of : Reader → Files → List (List ℕ) → List ℕ → Nodes → Result Writing Refusal
+written_of reader files journals whole nodes = do
+  entries ← gathered reader files (subject_of whole nodes) JOURNALS_LIMIT journals
+  Ok (decided entries nodes)
+
+-- the line that tells of a sound package
+abbrev pub sound_text : ℕ → List ℕ
+sound_text count = codes "sound " ++ (decimal count ++ (codes " revisions" ++ newline))
+
+abbrev pub checked : Nodes → Writing
+checked nodes = record { bytes = sound_text (package_revisions nodes); unknown = [] }
+
 -- what a command writes, or why it writes nothing
 abbrev pub writing_of : Reader → Files → Option Command → Result Writing Refusal
 writing_of reader files None = Err unbuilt
 writing_of reader files (Some (settle say name)) = do
   package_ ← package_at reader files name
-  Ok (settled say package_.1)
+  settled_of say package_.1
 writing_of reader files (Some (write name journals)) = do
   package_ ← package_at reader files name
-  entries ← gathered reader files (subject_of package_.0 package_.1) JOURNALS_LIMIT journals
-  Ok (decided entries package_.1)
+  nodes ← decidable package_.1
+  written_of reader files journals package_.0 nodes
+writing_of reader files (Some (check name)) = do
+  package_ ← package_at reader files name
+  Ok (checked package_.1)
 
 -- What a call with these words over these files comes to.
 abbrev pub outcome : Reader → List (List ℕ) → Files → Outcome

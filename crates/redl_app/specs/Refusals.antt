@@ -6,12 +6,12 @@ use Rattle.redl_journal.specs.Journals.{word_text}
 use Rattle.redl_app.specs.declared.refusal.Limit.{Limit}
 use Rattle.redl_app.specs.declared.refusal.Limit.TheVariants.{PackageBytes, JournalBytes, Depth, Nodes}
 use Rattle.redl_app.specs.declared.refusal.PackageFault.{PackageFault}
-use Rattle.redl_app.specs.declared.refusal.PackageFault.TheVariants.{NotReadable, NotPackage, PartShape, NoDocument}
+use Rattle.redl_app.specs.declared.refusal.PackageFault.TheVariants.{NotReadable, NotPackage, PartShape, NoDocument, Rule}
 use Rattle.redl_app.specs.declared.status.Status.{Status}
 use Rattle.redl_app.specs.declared.status.Status.TheVariants as status
 
 pub data Refusal : Type 0 where
-  -- the words, or the form of the package
+  -- the words, or a kind of revision of the package
   unbuilt : Refusal
   -- the file is no package
   no_package : PackageFault → Refusal
@@ -68,6 +68,7 @@ fault_line NotReadable = codes "redline: package: not readable" ++ newline
 fault_line NotPackage = codes "redline: package: not a package" ++ newline
 fault_line PartShape = codes "redline: package: part shape" ++ newline
 fault_line NoDocument = codes "redline: package: no document" ++ newline
+fault_line (Rule rule) = codes "redline: package: rule " ++ (decimal rule ++ newline)
 
 abbrev pub limit_line : Limit → List ℕ
 limit_line PackageBytes = codes "redline: limit package bytes 67108864" ++ newline

@@ -11,6 +11,8 @@ pub data Command : Type 0 where
   settle : Say → List ℕ → Command
   -- the package of the first name under the joined verdicts of the journals of the other names
   write : List ℕ → List (List ℕ) → Command
+  -- whether the package of this name is sound
+  check : List ℕ → Command
 
 -- a word that can name a file: not empty, and it doesn't begin with a dash
 abbrev pub is_name : List ℕ → Bool
@@ -34,12 +36,18 @@ abbrev pub write_of : List (List ℕ) → Option Command
 write_of [] = None
 write_of (package_ ∷ journals) = if list_all is_name (package_ ∷ journals) then Some (write package_ journals) else None
 
+-- `check P`
+abbrev pub check_of : List (List ℕ) → Option Command
+check_of (package_ ∷ []) = if is_name package_ then Some (check package_) else None
+check_of _ = None
+
 -- the command of the words, where they are one
 abbrev pub command_of : List (List ℕ) → Option Command
 command_of [] = None
 command_of (verb ∷ words) =
     if bytes_eq verb (codes "settle") then settle_of words
     else if bytes_eq verb (codes "write") then write_of words
+    else if bytes_eq verb (codes "check") then check_of words
     else None
 
 -- the names of the files that a command asks for
@@ -47,3 +55,4 @@ abbrev pub files_of : Option Command → List (List ℕ)
 files_of None = []
 files_of (Some (settle say package_)) = package_ ∷ []
 files_of (Some (write package_ journals)) = package_ ∷ journals
+files_of (Some (check package_)) = package_ ∷ []

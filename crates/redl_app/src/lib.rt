@@ -1,21 +1,18 @@
 //! The top call: from the words of a command line and the files that they name to the bytes, the lines and the status.
 //!
 //! Read `run` first: its clauses say what goes out and which status comes when, by the outcome of a call in
-//! `specs/Outcome.antt`. The pass over a body, and what journals decide, are private parts of this crate.
+//! `specs/Outcome.antt`. What journals decide is a private part of this crate.
 //! Real files and streams are made by the program above.
 #![tactic(auto)]
 
 mod decisions;
 mod end;
-mod fates;
 mod fetch;
-mod form;
 mod journals;
 mod laws;
 mod lines;
 mod output;
 mod package;
-mod pass;
 mod prepare;
 mod prepared;
 mod refusal;

@@ -5,7 +5,7 @@ ghost use Rattle.hex.specs.Hex.{encode_lower};
 ghost use Rattle.redl_app.specs.Answers.{Tells};
 ghost use Rattle.redl_app.specs.Ends.{end_lines, end_view};
 ghost use Rattle.redl_app.specs.Prepared.{refusal_view};
-ghost use Rattle.redl_app.specs.Refusals.{refusal_line, fault_line as fault_line_of, limit_line as limit_line_of, unread_line, malformed_line, other_document_line, other_count_line, difference_line, refused_line, unknown_line};
+ghost use Rattle.redl_app.specs.Refusals.{refusal_line, fault_line, limit_line as limit_line_of, unread_line, malformed_line, other_document_line, other_count_line, difference_line, refused_line, unknown_line};
 ghost use Rattle.redl_io.specs.Faults.{Rose};
 ghost use Rattle.redl_io.specs.Sink.{Puts, GrowsByFront, CountsPut};
 ghost use Rattle.redl_journal.specs.Journals.{word_text};
@@ -115,7 +115,7 @@ fn write_refusal<K: Sink>(refusal: &Refusal<'_>, err: &mut K) -> Result<(), Fail
 {
     match refusal {
         Refusal::Unbuilt => put_piece(b"redline: not built yet\n", err),
-        Refusal::Package(fault) => put_piece(fault_line(*fault), err),
+        Refusal::Package(fault) => write_fault(*fault, err),
         Refusal::Unread(name) => write_unread(name, err),
         Refusal::Malformed(journal) => write_malformed(journal, err),
         Refusal::OtherDocument {
@@ -133,15 +133,31 @@ fn write_refusal<K: Sink>(refusal: &Refusal<'_>, err: &mut K) -> Result<(), Fail
     }
 }
 
-fn fault_line(fault: PackageFault) -> &'static [u8]
-    ensures { result.now ≡ fault_line_of fault }
+fn write_fault<K: Sink>(fault: PackageFault, err: &mut K) -> Result<(), Failed>
+    ensures { Puts K.told K.faults K.settled K.lenders err.old err.new (fault_line fault) result }
 {
     match fault {
-        PackageFault::NotReadable => b"redline: package: not readable\n",
-        PackageFault::NotPackage => b"redline: package: not a package\n",
-        PackageFault::PartShape => b"redline: package: part shape\n",
-        PackageFault::NoDocument => b"redline: package: no document\n",
+        PackageFault::NotReadable => put_piece(b"redline: package: not readable\n", err),
+        PackageFault::NotPackage => put_piece(b"redline: package: not a package\n", err),
+        PackageFault::PartShape => put_piece(b"redline: package: part shape\n", err),
+        PackageFault::NoDocument => put_piece(b"redline: package: no document\n", err),
+        PackageFault::Rule(rule) => write_rule(rule, err),
     }
+}
+
+fn write_rule<K: Sink>(rule: u8, err: &mut K) -> Result<(), Failed>
+    ensures { Puts K.told K.faults K.settled K.lenders err.old err.new (fault_line (PackageFault.Rule rule)) result }
+{
+    let mut buffer = Buffer::new();
+    let rule = buffer.format(rule);
+    put_pieces(
+        &[
+            b"redline: package: rule ".as_slice(),
+            rule.as_bytes(),
+            b"\n",
+        ],
+        err,
+    )
 }
 
 fn limit_line(limit: Limit) -> &'static [u8]

@@ -1,5 +1,5 @@
 ghost use Rattle.std.specs.Prelude.{◌≡◌, ◌≤◌, ◌∷◌, [], Some, IfOk, length};
-ghost use Rattle.redl_app.specs.Outcome.{tree_in, shaped, built, package_in, package_at};
+ghost use Rattle.redl_app.specs.Outcome.{tree_in, shaped, sound, package_in, package_at};
 ghost use Rattle.redl_app.specs.Prepared.{made_of, package_view};
 ghost use Rattle.redl_app.specs.Reading.{ReadsFiles, Reads, NeverUnread};
 ghost use Rattle.redl_opc.specs.Tree.{IsTree};
@@ -7,10 +7,11 @@ ghost use Rattle.redl_tree.specs.View.{nodes_of};
 
 use crate::PACKAGE_LIMIT;
 use crate::fetch::fetch_file;
-use crate::form::is_built;
 use crate::refusal::{Limit, Refusal};
+use redl_index::has_markers;
 use redl_io::Shelf;
 use redl_opc::Package;
+use redl_rules::check;
 use redl_tree::Node;
 use std::alloc::Global;
 
@@ -43,7 +44,8 @@ fn make_package<'a>(alloc: Global, bytes: &[u8], limit: usize) -> Result<Package
 {
     let nodes = read_nodes(alloc, bytes, limit)?;
     let package = shape(alloc, nodes)?;
-    if !is_built(&package) {
+    check_rules(alloc, &package)?;
+    if has_markers(&package) {
         return Err(Refusal::Unbuilt);
     }
     Ok(package)
@@ -69,4 +71,12 @@ fn shape<'a>(alloc: Global, nodes: Vec<Node>) -> Result<Package, Refusal<'a>>
     ensures never_unread { NeverUnread (made_of (λ made. made) result) }
 {
     Ok(Package::make(alloc, nodes)?)
+}
+
+// Whether the package keeps the rules of structure.
+fn check_rules<'a>(alloc: Global, package: &Package) -> Result<(), Refusal<'a>>
+    ensures read { Reads (made_of (λ _. «package».now) result) (λ _. sound «package».now) }
+    ensures never_unread { NeverUnread (made_of (λ _. «package».now) result) }
+{
+    Ok(check(alloc, package)?)
 }

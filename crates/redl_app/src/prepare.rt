@@ -1,12 +1,14 @@
 ghost use Rattle.std.specs.Prelude.{◌≡◌, ◌<◌, ◌^◌, ◌∷◌, [], None, Some, Err, All, IsUtf8, IfOk};
-ghost use Rattle.redl_app.specs.Outcome.{settled, decided as decided_by, gathered, same_says, says_of, subject_of, known_entries, unknown_entries, package_at, writing_of};
-ghost use Rattle.redl_app.specs.Prepared.{made_of, subject_view, writing_view};
-ghost use Rattle.redl_app.specs.Reading.{ReadsFiles};
+ghost use Rattle.redl_app.specs.Built.{are_run_content as are_run_content_in, is_run_content as is_run_content_kind};
+ghost use Rattle.redl_app.specs.Outcome.{checked, decidable, settled_of, decided as decided_by, gathered, same_says, says_of, subject_of, known_entries, unknown_entries, package_at, writing_of};
+ghost use Rattle.redl_app.specs.Prepared.{made_of, output_text, subject_view, writing_view};
+ghost use Rattle.redl_app.specs.Reading.{ReadsFiles, Reads, NeverUnread};
 ghost use Rattle.redl_app.specs.Refusals.{unbuilt};
-ghost use Rattle.redl_app.specs.Words.{settle, write, command_of, files_of};
-ghost use Rattle.redl_index.specs.Numbers.{numbered_package};
+ghost use Rattle.redl_app.specs.Words.{settle, write, check, command_of, files_of};
+ghost use Rattle.redl_index.specs.Numbers.{numbered_package, package_revisions};
 ghost use Rattle.redl_journal.specs.Journals.{IsAllowed};
 ghost use Rattle.redl_tree.specs.Packages.{pass_package as pass_package_by};
+ghost use Rattle.redl_tree.specs.Text.{text};
 ghost use Rattle.redl_tree.specs.View.{nodes_of};
 ghost use Rattle.sha2.specs.Sha256.{sha256};
 
@@ -14,19 +16,21 @@ use crate::JOURNALS_LIMIT;
 use crate::decisions::{decided, join};
 use crate::journals::gather;
 use crate::package::{PackageFile, read_package};
-use crate::pass::pass_package;
-use crate::prepared::Prepared;
+use crate::prepared::{Output, Prepared};
 use crate::refusal::Refusal;
 use crate::subject::Subject;
 use crate::words::{Command, read_command};
-use redl_index::number_package;
+use redl_index::{Index, RevKind, Revision};
 use redl_io::{Shelf, Text};
 use redl_join::Book;
 use redl_journal::Entry;
 use redl_opc::Package;
-use redl_tree::Say;
+use redl_resolve::{Steps, pass};
+use redl_tree::{Node, Say};
 use sha2::{Digest, Sha256};
 use std::alloc::{AllocError, Global};
+use std::marker::Brand;
+use std::sync::ledger::{Blank, Ledger};
 
 /// What the call with these words writes, or why it writes nothing.
 pub(crate) fn prepare<'a, F: Shelf>(
@@ -44,6 +48,7 @@ pub(crate) fn prepare<'a, F: Shelf>(
         Some(Command::Write { package, journals }) => {
             prepare_written(alloc, package, journals, shelf)
         }
+        Some(Command::Check { package }) => prepare_checked(alloc, package, shelf),
         None => Err(Refusal::Unbuilt),
     }
 }
@@ -60,17 +65,109 @@ fn prepare_settled<'a, F: Shelf>(
 {
     let PackageFile { bytes, package } = read_package(alloc, name, shelf)?;
     drop(bytes);
-    Ok(settle_package(alloc, say, package)?)
+    settle_package(alloc, say, package)
 }
 
-fn settle_package(alloc: Global, say: Say, read: Package) -> Result<Prepared, AllocError>
-    ensures { IfOk result (λ prepared. writing_view prepared ≡ settled say read) }
+fn settle_package<'a>(alloc: Global, say: Say, read: Package) -> Result<Prepared, Refusal<'a>>
+    ensures read { Reads (made_of writing_view result) (λ _. settled_of say read) }
+    ensures never_unread { NeverUnread (made_of writing_view result) }
+{
+    let numbered = number_package(alloc, read)?;
+    let says = vec![in alloc; say; numbered.count as usize]?;
+    Ok(Prepared {
+        output: pass_package(alloc, numbered.package, &says)?,
+        unknown: Book::new(alloc),
+    })
+}
+
+// A package with the kinds and numbers of its revisions, and how many there are.
+#[derive(Drop)]
+struct Numbered {
+    package: Package,
+    count: u32,
+}
+
+// The package with its numbers, where its revisions can be decided.
+fn number_package<'a>(alloc: Global, read: Package) -> Result<Numbered, Refusal<'a>>
+    ensures read { Reads (made_of (λ _. read) result) (λ _. decidable read) }
+    ensures never_unread { NeverUnread (made_of (λ _. read) result) }
+    ensures numbered { IfOk result (λ made. made.«package» ≡ numbered_package read) }
+    ensures count { IfOk result (λ made. made.count ≡ package_revisions read) }
 {
     let mut package = read;
-    let revisions = number_package(alloc, &mut package)?;
-    let says = vec![in alloc; say; revisions as usize]?;
+    let index = Index::build(alloc, &mut package)?;
+    if !are_run_content(&index) {
+        return Err(Refusal::Unbuilt);
+    }
+    Ok(Numbered {
+        package,
+        count: index.count(),
+    })
+}
+
+// Whether all revisions are run content.
+fn are_run_content(index: &Index) -> bool
+    ensures { result ≡ are_run_content_in index.now }
+{
+    index.revisions().iter().all(is_run_content)
+}
+
+fn is_run_content(revision: &Revision) -> bool
+    ensures { result ≡ is_run_content_kind revision.now.kind }
+{
+    matches!(revision.kind, RevKind::Content(_))
+}
+
+// What is left of a numbered package. Its own nodes go right after.
+fn pass_package(alloc: Global, package: Package, says: &[Say]) -> Result<Output, AllocError>
+    ensures { IfOk result (λ output. output_text output ≡ text (pass_package_by says.now «package»)) }
+{
+    let nodes = pass_nodes(alloc, package, says)?;
+    Ok(Output::Package(nodes))
+}
+
+fn pass_nodes(alloc: Global, package: Package, says: &[Say]) -> Result<Vec<Node>, AllocError>
+    ensures { IfOk result (λ passed. nodes_of passed.items ≡ pass_package_by says.now «package») }
+{
+    pass_counted::<Brand>(alloc, package.nodes(), says, Blank::new(1))
+}
+
+// The pass with a counter of its own, which nobody reads.
+fn pass_counted<L: Ledger>(
+    alloc: Global,
+    nodes: &[Node],
+    says: &[Say],
+    blank: Blank,
+) -> Result<Vec<Node>, AllocError>
+    requires name { blank.name ≡ L.name }
+    requires parts { blank.parts ≡ L.parts }
+    requires some { 0 < L.parts }
+    ensures { IfOk result (λ passed. nodes_of passed.items ≡ pass_package_by says.now (nodes_of nodes.now)) }
+{
+    pass(alloc, nodes, says, &mut Steps::<L>::new(blank))
+}
+
+// Whether the package of this name is sound.
+fn prepare_checked<'a, F: Shelf>(
+    alloc: Global,
+    name: &'a str,
+    shelf: &mut F,
+) -> Result<Prepared, Refusal<'a>>
+    ensures { ReadsFiles (F.told shelf.old) (F.told shelf.new) (F.faults shelf.old) (F.faults shelf.new) (name.now ∷ [])
+        (made_of writing_view result) (λ reader files. writing_of reader files (Some (check name.now))) }
+{
+    let PackageFile { bytes, package } = read_package(alloc, name, shelf)?;
+    drop(bytes);
+    Ok(count_revisions(alloc, package)?)
+}
+
+fn count_revisions(alloc: Global, read: Package) -> Result<Prepared, AllocError>
+    ensures { IfOk result (λ prepared. writing_view prepared ≡ checked read) }
+{
+    let mut package = read;
+    let index = Index::build(alloc, &mut package)?;
     Ok(Prepared {
-        nodes: pass_package(alloc, package.into_nodes(), &says)?,
+        output: Output::Count(index.count()),
         unknown: Book::new(alloc),
     })
 }
@@ -100,13 +197,15 @@ struct Reviewed {
 }
 
 // The digest is taken of the package's text, which goes before the journals are read.
-fn review(alloc: Global, file: PackageFile) -> Result<Reviewed, AllocError>
+fn review<'a>(alloc: Global, file: PackageFile) -> Result<Reviewed, Refusal<'a>>
+    ensures read { Reads (made_of (λ _. file.«package») result) (λ _. decidable file.«package») }
+    ensures never_unread { NeverUnread (made_of (λ _. file.«package») result) }
     ensures numbered { IfOk result (λ reviewed. reviewed.«package» ≡ numbered_package file.«package») }
     ensures subject { IfOk result (λ reviewed. subject_view reviewed.subject ≡ subject_of file.bytes.items file.«package») }
 {
-    let PackageFile { bytes, mut package } = file;
+    let PackageFile { bytes, package } = file;
     let digest = digest_of(&bytes);
-    let count = number_package(alloc, &mut package)?;
+    let Numbered { package, count } = number_package(alloc, package)?;
     Ok(Reviewed {
         package,
         subject: Subject { digest, count },
@@ -126,15 +225,15 @@ fn write_reviewed(
     entries: Vec<Entry>,
 ) -> Result<Prepared, AllocError>
     requires { All IsAllowed entries.items }
-    ensures nodes { IfOk result (λ prepared. nodes_of prepared.nodes.items
-        ≡ pass_package_by (says_of (known_entries reviewed.subject.count entries.items) reviewed.subject.count) reviewed.«package») }
+    ensures bytes { IfOk result (λ prepared. output_text prepared.output
+        ≡ text (pass_package_by (says_of (known_entries reviewed.subject.count entries.items) reviewed.subject.count) reviewed.«package»)) }
     ensures unknown { IfOk result (λ prepared. prepared.unknown ≡ unknown_entries reviewed.subject.count entries.items) }
 {
     let Reviewed { package, subject } = reviewed;
     let decisions = join(alloc, entries, subject.count)?;
     let says = decided(alloc, &decisions.known, subject.count)?;
     Ok(Prepared {
-        nodes: pass_package(alloc, package.into_nodes(), &says)?,
+        output: pass_package(alloc, package, &says)?,
         unknown: decisions.unknown,
     })
 }

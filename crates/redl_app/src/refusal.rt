@@ -2,6 +2,7 @@ ghost use Rattle.std.specs.Prelude.{◌≡◌};
 
 use crate::Status;
 use redl_opc::OpcError;
+use redl_rules::RuleError;
 use redl_xml::XmlError;
 use std::alloc::AllocError;
 
@@ -16,6 +17,8 @@ pub(crate) enum PackageFault {
     PartShape,
     /// No story has the root `document`.
     NoDocument,
+    /// It breaks the structure rule with this number, and none with a lesser one.
+    Rule(u8),
 }
 
 /// What is over its limit.
@@ -34,7 +37,7 @@ pub(crate) enum Limit {
 /// Why a call ends without its output.
 #[derive(Clone, Copy)]
 pub(crate) enum Refusal<'a> {
-    /// The words, or the form of the package, are not built yet.
+    /// The words, or a kind of revision of the package, are not built yet.
     Unbuilt,
     /// The file is no package.
     Package(PackageFault),
@@ -117,6 +120,19 @@ impl From<OpcError> for Refusal<'_> {
             OpcError::PartShape => Refusal::Package(PackageFault::PartShape),
             OpcError::NoDocument => Refusal::Package(PackageFault::NoDocument),
             OpcError::NoMemory => Refusal::NoMemory,
+        }
+    }
+}
+
+impl From<RuleError> for Refusal<'_> {
+    ghost use Rattle.redl_app.specs.Prepared.{refusal_view, rule_refusal};
+
+    ghost from_gives = { λ error refusal. refusal_view refusal ≡ rule_refusal error };
+
+    fn from(error: RuleError) -> Self {
+        match error {
+            RuleError::Broken(rule) => Refusal::Package(PackageFault::Rule(rule)),
+            RuleError::NoMemory => Refusal::NoMemory,
         }
     }
 }

@@ -365,7 +365,10 @@ fn words_of_no_command_fetch_nothing(rt: HostRuntime) -> Result<(), Fail> {
         "write P --lock Ann J",
         "join J K",
         "list P --format tab",
-        "check P",
+        "check",
+        "check ",
+        "check -P",
+        "check P Q",
     ] {
         let mut shelf = MemShelf::new(Vec::new(alloc), vec![in alloc; 1]?);
         expect_call(&rt, alloc, line, &mut shelf, &[], UNBUILT)?;
@@ -374,26 +377,138 @@ fn words_of_no_command_fetch_nothing(rt: HostRuntime) -> Result<(), Fail> {
 }
 
 #[test]
-fn a_package_of_another_form_is_not_built(rt: HostRuntime) -> Result<(), Fail> {
+fn what_is_no_run_content_is_not_decided(rt: HostRuntime) -> Result<(), Fail> {
     let alloc = rt.alloc();
     for body in [
-        "<w:tbl/>",
-        "<w:r/>",
-        "<w:p><w:p/></w:p>",
-        "<w:p><w:t/></w:p>",
-        "<w:p><w:moveTo{A}/></w:p>",
-        "<w:p><w:r><w:ins{A}/></w:r></w:p>",
-        "<w:p><w:r><w:t><w:br/></w:t></w:r></w:p>",
-        "<w:p><w:r><w:tab><w:br/></w:tab></w:r></w:p>",
-        "<w:p xmlns:w=\"u\"/>",
-        "<w:p><r xmlns=\"u\"/></w:p>",
-        "<w:p/></w:body><w:body>",
+        "<w:p><w:pPr><w:rPr><w:del{A}/></w:rPr></w:pPr><w:r><w:t>e</w:t></w:r></w:p><w:p/>",
+        "<w:tbl><w:tr><w:trPr><w:ins{A}/></w:trPr><w:tc><w:p/></w:tc></w:tr></w:tbl>",
+        "<w:tbl><w:tr><w:tc><w:tcPr><w:cellDel{A}/></w:tcPr><w:p/></w:tc></w:tr></w:tbl>",
+        "<w:p><w:r><w:rPr><w:rPrChange{A}><w:rPr/></w:rPrChange></w:rPr></w:r></w:p>",
+        "<w:p><w:pPr><w:pPrChange{A}/></w:pPr></w:p>",
+        "<w:sectPr><w:sectPrChange{A}/></w:sectPr>",
+        "<w:tbl><w:tblPr><w:tblPrChange{A}/></w:tblPr></w:tbl>",
     ] {
-        let files = files_of(alloc, body, "0", ["", "", ""])?;
+        let files = files_of(alloc, body, "1", ["", "", ""])?;
         let mut shelf = MemShelf::new(files, Vec::new(alloc));
         expect_call(&rt, alloc, "settle accept P", &mut shelf, &[], UNBUILT)?;
+        expect_call(&rt, alloc, "write P J", &mut shelf, &[], UNBUILT)?;
+        expect_call(&rt, alloc, "check P", &mut shelf, &[], SOUND_WITH_ONE)?;
+    }
+    let marked = "<w:p><w:moveFromRangeStart w:id=\"1\"/></w:p>";
+    let mut shelf = MemShelf::new(files_of(alloc, marked, "0", ["", "", ""])?, Vec::new(alloc));
+    expect_call(&rt, alloc, "settle accept P", &mut shelf, &[], UNBUILT)?;
+    expect_call(&rt, alloc, "check P", &mut shelf, &[], UNBUILT)?;
+    Ok(())
+}
+
+const SOUND_WITH_ONE: Want<'static> = Want {
+    status: Status::Done,
+    bytes: b"sound 1 revisions\n",
+    lines: "",
+};
+
+// Each command that reads a package refuses one that isn't sound, with the least rule that it breaks.
+#[test]
+fn a_package_that_breaks_a_rule_is_refused(rt: HostRuntime) -> Result<(), Fail> {
+    let alloc = rt.alloc();
+    for (body, lines) in [
+        (
+            "<w:tbl><w:tr><w:tc><w:p/><w:tbl><w:tr><w:tc><w:p/></w:tc></w:tr></w:tbl></w:tc></w:tr></w:tbl>",
+            "redline: package: rule 1\n",
+        ),
+        ("<w:tbl><w:tr></w:tr></w:tbl>", "redline: package: rule 2\n"),
+        (
+            "<w:p><w:ins{A}><w:p/></w:ins></w:p>",
+            "redline: package: rule 3\n",
+        ),
+        (
+            "<w:p><w:r><w:rPr><w:rPrChange{A}><w:rPr/></w:rPrChange><w:b/></w:rPr></w:r></w:p>",
+            "redline: package: rule 4\n",
+        ),
+        (
+            "<w:p><w:pPr><w:rPr><w:ins{A}/><w:ins{B}/></w:rPr></w:pPr></w:p>",
+            "redline: package: rule 5\n",
+        ),
+        ("<w:p><w:r/><w:pPr/></w:p>", "redline: package: rule 6\n"),
+        (
+            "<w:p><w:moveFromRangeStart w:id=\"1\"><w:r/></w:moveFromRangeStart></w:p>",
+            "redline: package: rule 7\n",
+        ),
+        (
+            "<w:p><w:pPr><w:pPrChange{A}><w:pPr><w:rPr><w:rPrChange{B}/></w:rPr></w:pPr></w:pPrChange></w:pPr></w:p>",
+            "redline: package: rule 8\n",
+        ),
+        ("<w:p xmlns:q=\"u\"/>", "redline: package: rule 9\n"),
+    ] {
+        let text = package(alloc, body)?;
+        expect_fault(&rt, alloc, &text, lines)?;
     }
     Ok(())
+}
+
+// Revisions are numbered through the stories, in the order of the parts; a part that is none is passed on.
+#[test]
+fn every_story_is_decided(rt: HostRuntime) -> Result<(), Fail> {
+    let alloc = rt.alloc();
+    let package = stories(
+        alloc,
+        "<w:p><w:ins w:id=\"5\"><w:r><w:t>a</w:t></w:r></w:ins></w:p>",
+        "<w:p><w:moveFrom w:id=\"5\"><w:r><w:t>b</w:t></w:r></w:moveFrom></w:p>",
+    )?;
+    let accepted = stories(alloc, "<w:p><w:r><w:t>a</w:t></w:r></w:p>", "<w:p></w:p>")?;
+    let rejected = stories(alloc, "<w:p></w:p>", "<w:p><w:r><w:t>b</w:t></w:r></w:p>")?;
+    let one_of_two = stories(
+        alloc,
+        "<w:p><w:ins w:id=\"5\"><w:r><w:t>a</w:t></w:r></w:ins></w:p>",
+        "<w:p></w:p>",
+    )?;
+    let digest = digest_of(alloc, package.as_bytes())?;
+    let text = journal(alloc, &digest, "2", "1\t2\taccept\tAnn\n")?;
+    for (line, bytes) in [
+        ("settle accept P", accepted.as_str()),
+        ("settle reject P", rejected.as_str()),
+        ("write P J", one_of_two.as_str()),
+        ("write P", package.as_str()),
+        ("check P", "sound 2 revisions\n"),
+    ] {
+        let mut files = Vec::new(alloc);
+        add_file(alloc, &mut files, "P", package.as_bytes())?;
+        add_file(alloc, &mut files, "J", &text)?;
+        let mut shelf = MemShelf::new(files, Vec::new(alloc));
+        let want = Want {
+            status: Status::Done,
+            bytes: bytes.as_bytes(),
+            lines: "",
+        };
+        expect_call(&rt, alloc, line, &mut shelf, &[], want)?;
+    }
+    Ok(())
+}
+
+// A package as a word processor saves one: a paragraph's mark, an insertion and a deletion, in the second of three parts.
+const TERMS: &str =
+    "<?xml version=\"1.0\" encoding=\"UTF-8\" standalone=\"yes\"?>\n<?mso-application progid=\"Word.Document\"?>\n<pkg:package xmlns:pkg=\"http://schemas.microsoft.com/office/2006/xmlPackage\"><pkg:part pkg:name=\"/_rels/.rels\" pkg:contentType=\"application/vnd.openxmlformats-package.relationships+xml\" pkg:padding=\"512\"><pkg:xmlData><Relationships xmlns=\"http://schemas.openxmlformats.org/package/2006/relationships\"><Relationship Id=\"rId1\" Type=\"http://schemas.openxmlformats.org/officeDocument/2006/relationships/officeDocument\" Target=\"word/document.xml\"/></Relationships></pkg:xmlData></pkg:part><pkg:part pkg:name=\"/word/document.xml\" pkg:contentType=\"application/vnd.openxmlformats-officedocument.wordprocessingml.document.main+xml\"><pkg:xmlData><w:document xmlns:w=\"http://schemas.openxmlformats.org/wordprocessingml/2006/main\"><w:body><w:p><w:pPr><w:pStyle w:val=\"Heading1\"/><w:rPr><w:ins w:id=\"7\" w:author=\"Ann Gray\" w:date=\"2024-05-06T07:08:00Z\"/></w:rPr></w:pPr><w:r><w:t xml:space=\"preserve\">Terms </w:t></w:r><w:ins w:id=\"8\" w:author=\"Ann Gray\" w:date=\"2024-05-06T07:08:00Z\"><w:r><w:t>of sale</w:t></w:r></w:ins></w:p><w:p><w:r><w:t xml:space=\"preserve\">Payment is due in </w:t></w:r><w:del w:id=\"9\" w:author=\"Bob Hay\" w:date=\"2024-05-07T10:00:00Z\"><w:r><w:delText>thirty</w:delText></w:r></w:del><w:r><w:t xml:space=\"preserve\"> days.</w:t></w:r></w:p><w:sectPr><w:pgSz w:w=\"11906\" w:h=\"16838\"/></w:sectPr></w:body></w:document></pkg:xmlData></pkg:part><pkg:part pkg:name=\"/word/media/image1.png\" pkg:contentType=\"image/png\" pkg:compression=\"store\"><pkg:binaryData>iVBORw0KGgo=</pkg:binaryData></pkg:part></pkg:package>";
+
+#[test]
+fn a_realistic_package_is_checked(rt: HostRuntime) -> Result<(), Fail> {
+    let alloc = rt.alloc();
+    let mut files = Vec::new(alloc);
+    add_file(alloc, &mut files, "P", TERMS.as_bytes())?;
+    let mut shelf = MemShelf::new(files, Vec::new(alloc));
+    let want = Want {
+        status: Status::Done,
+        bytes: b"sound 3 revisions\n",
+        lines: "",
+    };
+    expect_call(&rt, alloc, "check P", &mut shelf, &[], want)?;
+    Ok(())
+}
+
+// A package with a header before its document, and with styles between them.
+fn stories(alloc: Global, header: &str, body: &str) -> Result<String, AllocError> {
+    format!(in alloc;
+        "<p:package xmlns:p=\"http://schemas.microsoft.com/office/2006/xmlPackage\" xmlns:w='http://schemas.openxmlformats.org/wordprocessingml/2006/main'><p:part p:name='/h' p:contentType='c'><p:xmlData><w:hdr>{header}</w:hdr></p:xmlData></p:part>\n<p:part p:name='/s' p:contentType='c'><p:xmlData><w:styles><w:ins/></w:styles></p:xmlData></p:part><p:part p:name='/d' p:contentType='c'><p:xmlData><w:document><w:body>{body}</w:body></w:document></p:xmlData></p:part></p:package>"
+    )
 }
 
 // Text, comments, instructions and white space may stand anywhere, and each byte is passed on.
@@ -402,11 +517,14 @@ fn what_is_no_revision_is_passed_on(rt: HostRuntime) -> Result<(), Fail> {
     let alloc = rt.alloc();
     for body in [
         "a",
+        "<w:tbl/>",
+        "<w:p><w:p/></w:p><w:t/>",
+        "<w:p><r xmlns=\"u\"/></w:p>",
         "\r\n\t<w:p>a</w:p >",
         "<!-- <w:ins> --><w:p/><?q <w:del>?>",
         "<w:p><w:r><w:tab>a</w:tab></w:r></w:p>",
         "<w:p><w:r><w:t xml:space = 'preserve' >a&amp;b&#x41;&lt;w:ins></w:t></w:r></w:p>",
-        "<x:p xmlns:x='http://purl.oclc.org/ooxml/wordprocessingml/main' ></x:p>",
+        "<w:p><x:r xmlns:x='http://purl.oclc.org/ooxml/wordprocessingml/main' ></x:r></w:p>",
     ] {
         let bytes = package(alloc, body)?;
         let mut shelf = MemShelf::new(files_of(alloc, body, "0", ["", "", ""])?, Vec::new(alloc));
@@ -434,7 +552,7 @@ fn expect_fault(
     text: &[u8],
     lines: &str,
 ) -> Result<(), AllocError> {
-    for line in ["settle accept P", "write P Q"] {
+    for line in ["settle accept P", "write P Q", "check P"] {
         let mut files = Vec::new(alloc);
         add_file(alloc, &mut files, "P", text)?;
         let mut shelf = MemShelf::new(files, Vec::new(alloc));
@@ -543,7 +661,7 @@ fn a_fault_of_the_lines_changes_no_status(rt: HostRuntime) -> Result<(), Fail> {
     let alloc = rt.alloc();
     for (line, status) in [
         ("settle accept Q", Status::ReadFault),
-        ("check P", Status::Unbuilt),
+        ("join J K", Status::Unbuilt),
         ("write P J", Status::Refused),
     ] {
         let files = files_of(alloc, INSERTED, "1", ["1\t2\taccept\tAnn\n", "", ""])?;
@@ -622,6 +740,7 @@ fn limits_are_kept_to_the_byte(rt: HostRuntime) -> Result<(), Fail> {
     let over = "redline: limit journal bytes 67108864\n";
     for (line, status, lines) in [
         ("settle accept M", Status::Done, ""),
+        ("check M", Status::Done, ""),
         (
             "settle accept N",
             Status::Limit,
@@ -664,12 +783,7 @@ fn depth_and_nodes_are_kept_to_one(rt: HostRuntime) -> Result<(), Fail> {
     let many = "redline: limit nodes 2097152\n";
     let unreadable = "redline: package: not readable\n";
     for (times, back, status, lines) in [
-        (
-            ("<w:p>", 507),
-            ("</w:p>", 507),
-            Status::Unbuilt,
-            UNBUILT.lines,
-        ),
+        (("<w:p>", 507), ("</w:p>", 507), Status::Done, ""),
         (("<w:p>", 508), ("</w:p>", 508), Status::Limit, deep),
         (("<w:p>", 508), ("</w:p>", 507), Status::Package, unreadable),
         (("<w:p/>", 2_097_146), ("", 0), Status::Done, ""),

@@ -11,7 +11,7 @@ ghost use Rattle.redl_io.specs.MemShelf.{file_named};
 use crate::Status;
 use crate::end::End;
 use crate::lines::tell;
-use crate::output::write_package;
+use crate::output::write_output;
 use crate::prepare::prepare;
 use crate::prepared::Prepared;
 use crate::refusal::Refusal;
@@ -64,7 +64,7 @@ fn finish<'a, O: Sink>(prepared: Result<Prepared, Refusal<'a>>, out: &mut O) -> 
     ensures { Finishes (O.told out.old) (O.told out.new) (O.faults out.old) (O.faults out.new) (made_of writing_view prepared.entry) (end_view result) }
 {
     match prepared {
-        Ok(Prepared { nodes, unknown }) => match write_package(&nodes, out) {
+        Ok(Prepared { output, unknown }) => match write_output(&output, out) {
             Ok(()) => End::Written(unknown),
             Err(_) => End::Unwritten(unknown),
         },

@@ -1,7 +1,7 @@
 ghost use Rattle.std.specs.Prelude.{◌≡◌, ◌++◌, ◌∷◌, [], All, IsUtf8, OnOk, OnErr, IfSome, option_map};
 ghost use Rattle.std.specs.List.{list_all};
 ghost use Rattle.redl_app.specs.Prepared.{command_view, HasUtf8};
-ghost use Rattle.redl_app.specs.Words.{is_name, say_named, settle_of, write_of, command_of};
+ghost use Rattle.redl_app.specs.Words.{is_name, say_named, settle_of, write_of, check_of, command_of};
 
 use redl_io::Text;
 use redl_tree::Say;
@@ -30,6 +30,10 @@ pub(crate) enum Command<'a> {
         package: &'a str,
         journals: &'a [Text],
     },
+    /// Whether the package of this name is sound.
+    Check {
+        package: &'a str,
+    },
 }
 
 /// The command of the words, where they are one.
@@ -45,6 +49,8 @@ pub(crate) fn read_command(words: &[Text]) -> Option<Command<'_>>
         read_settle(rest)
     } else if verb.as_bytes() == b"write".as_slice() {
         read_write(rest)
+    } else if verb.as_bytes() == b"check".as_slice() {
+        read_check(rest)
     } else {
         None
     }
@@ -84,6 +90,23 @@ fn read_write(words: &[Text]) -> Option<Command<'_>>
     Some(Command::Write {
         package: str::from_utf8(package.as_bytes()).unwrap(),
         journals,
+    })
+}
+
+// The words after `check`.
+fn read_check(words: &[Text]) -> Option<Command<'_>>
+    requires { All IsUtf8 words.now }
+    ensures command { option_map command_view result ≡ check_of words.now }
+    ensures utf8 { IfSome result HasUtf8 }
+{
+    let [name] = words else {
+        return None;
+    };
+    if !names_file(name.as_bytes()) {
+        return None;
+    }
+    Some(Command::Check {
+        package: str::from_utf8(name.as_bytes()).unwrap(),
     })
 }
 

@@ -73,6 +73,13 @@ impl Index {
         self.revisions.len() as u32
     }
 
+    /// The revisions in the order of their numbers.
+    pub fn revisions(&self) -> &[Revision]
+        ensures { result.now ≡ self.now }
+    {
+        &self.revisions
+    }
+
     /// The revision with this number. Numbers count from 1.
     ///
     /// `None` exactly where no revision has the number, as 0. Its kind has a name, its author is UTF-8, and its moment lies in

@@ -1,6 +1,6 @@
 use Rattle.std.proofs.Common.{◌≡◌, Some, sym, ◌∙◌}
 use Rattle.redl_app.proofs.NameLaws.{some_none}
-use Rattle.redl_app.specs.Words.{settle, write, command_of}
+use Rattle.redl_app.specs.Words.{settle, write, check, command_of}
 use Rattle.redl_app.proofs.prepare.prepare.Goals as goal
 
 pub prepare_written-requires : goal.prepare_written-requires
@@ -28,4 +28,16 @@ pub returns-in-Some-Settle-clause-unbuilt : goal.returns-in-Some-Settle-clause-u
 returns-in-Some-Settle-clause-unbuilt g c = λ none.
     let is : command_of c.args.words.now ≡ Some (settle c.in-Some-Settle.say c.in-Some-Settle.«package».now) =
     sym (rw c.in-Some-Settle.field-0-is at c.in-Some-Settle.ensures.command) in
+    absurd (some_none (sym is ∙ none))
+
+pub returns-in-Some-Check-clause-read : goal.returns-in-Some-Check-clause-read
+returns-in-Some-Check-clause-read g c =
+    let is : command_of c.args.words.now ≡ Some (check c.in-Some-Check.«package».now) =
+    sym (rw c.in-Some-Check.field-0-is at c.in-Some-Check.ensures.command) in
+    rw is c.prepare_checked.ensures
+
+pub returns-in-Some-Check-clause-unbuilt : goal.returns-in-Some-Check-clause-unbuilt
+returns-in-Some-Check-clause-unbuilt g c = λ none.
+    let is : command_of c.args.words.now ≡ Some (check c.in-Some-Check.«package».now) =
+    sym (rw c.in-Some-Check.field-0-is at c.in-Some-Check.ensures.command) in
     absurd (some_none (sym is ∙ none))
