@@ -39,6 +39,7 @@ fn packaged(alloc: Global, local: &str, kids: Vec<Node>) -> Result<Node, AllocEr
     member(alloc, Space::Pkg, local, (Kind::Plain, 0), kids)
 }
 
+// Run content of the revision with this number, which holds one node.
 fn content(
     alloc: Global,
     local: &str,
@@ -63,27 +64,54 @@ fn part(alloc: Global, root: &str, kids: Vec<Node>) -> Result<Node, AllocError> 
     packaged(alloc, "part", vec![in alloc; data]?)
 }
 
-// A package of a document and of a part that is no story, of two revisions.
+fn inserted(alloc: Global, text: &str) -> Result<Node, AllocError> {
+    let kid = words(alloc, "t", text)?;
+    content(alloc, "ins", Trace::Ins, 1, kid)
+}
+
+fn deleted(alloc: Global, text: &str) -> Result<Node, AllocError> {
+    let kid = words(alloc, "delText", text)?;
+    content(alloc, "del", Trace::Del, 2, kid)
+}
+
+fn moved(alloc: Global, text: &str) -> Result<Node, AllocError> {
+    let kid = deleted(alloc, text)?;
+    content(alloc, "moveFrom", Trace::From, 1, kid)
+}
+
+fn mark(alloc: Global) -> Result<Node, AllocError> {
+    member(
+        alloc,
+        Space::W,
+        "rPr",
+        (Kind::Mark(Trace::Ins), 1),
+        Vec::new(alloc),
+    )
+}
+
+// The content of a document with two revisions.
+fn body(alloc: Global) -> Result<Vec<Node>, AllocError> {
+    let mut body = Vec::with_capacity(alloc, 4)?;
+    body.push(inserted(alloc, "a")?)?;
+    body.push(mark(alloc)?)?;
+    body.push(deleted(alloc, "b")?)?;
+    body.push(moved(alloc, "c")?)?;
+    Ok(body)
+}
+
+// A part that is no story, and holds an insertion.
+fn styles(alloc: Global) -> Result<Node, AllocError> {
+    let kid = inserted(alloc, "d")?;
+    part(alloc, "styles", vec![in alloc; kid]?)
+}
+
+// A package of a document and of a part that is no story.
 fn package(alloc: Global) -> Result<Vec<Node>, AllocError> {
-    let inner = content(alloc, "del", Trace::Del, 2, words(alloc, "delText", "c")?)?;
-    let body = vec![in alloc;
-        content(alloc, "ins", Trace::Ins, 1, words(alloc, "t", "a")?)?,
-        member(
-            alloc,
-            Space::W,
-            "rPr",
-            (Kind::Mark(Trace::Ins), 1),
-            Vec::new(alloc)
-        )?,
-        content(alloc, "del", Trace::Del, 2, words(alloc, "delText", "b")?)?,
-        content(alloc, "moveFrom", Trace::From, 1, inner)?,
-    ]?;
-    let styles = content(alloc, "ins", Trace::Ins, 1, words(alloc, "t", "d")?)?;
-    let parts = vec![in alloc;
-        part(alloc, "document", body)?,
-        part(alloc, "styles", vec![in alloc; styles]?)?,
-    ]?;
-    Ok(vec![in alloc; packaged(alloc, "package", parts)?]?)
+    let mut parts = Vec::with_capacity(alloc, 2)?;
+    parts.push(part(alloc, "document", body(alloc)?)?)?;
+    parts.push(styles(alloc)?)?;
+    let root = packaged(alloc, "package", parts)?;
+    Ok(vec![in alloc; root]?)
 }
 
 const HEAD: &str = "<package><part><xmlData><document>";
