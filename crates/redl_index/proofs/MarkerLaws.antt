@@ -1,5 +1,5 @@
 -- Markers, by what code keeps of the ancestors.
-use Rattle.std.proofs.Common.{◌≡◌, List, [], ◌∷◌, ◌||◌, Bool, true, false, cond, refl, ap}
+use Rattle.std.proofs.Common.{◌≡◌, List, [], ◌∷◌, ◌||◌, Bool, true, false, cond, refl}
 use Rattle.std.specs.List.{list_any}
 use Rattle.redl_tree.specs.Nodes.{Tag, Nodes, no_nodes, bytes, element, Item, bytes_item, element_item, in_front}
 use Rattle.redl_tree.specs.Packages.{is_root, level_of}

@@ -1,5 +1,5 @@
 -- Laws of the revisions that are found.
-use Rattle.std.proofs.Common.{◌≡◌, ℕ, ◌+◌, ◌<◌, ◌≤◌, List, [], ◌∷◌, ◌++◌, length, Option, Some, None, Bool, true, false, cond, refl, arith, ap, sym, ◌∙◌, append_assoc, length-append}
+use Rattle.std.proofs.Common.{◌≡◌, ℕ, ◌+◌, List, [], ◌∷◌, ◌++◌, length, Option, Some, None, Bool, true, false, cond, refl, arith, ap, sym, ◌∙◌, append_assoc, length-append}
 use Rattle.std.specs.Prelude.{IfSome, IsTrue, not}
 use Rattle.std.specs.Option.{option_map}
 use Rattle.redl_tree.specs.Arounds.{role_in, holds_change, change_in}
@@ -17,7 +17,7 @@ use Rattle.redl_opc.specs.Tree.{HasUtf8Tails}
 use Rattle.redl_index.specs.Numbers.{one_for, members, element_members, item_members, revisions_in, package_revisions}
 use Rattle.redl_index.specs.Labels.{kids_revisions_in, item_revisions_in}
 use Rattle.redl_index.specs.declared.revision.Revision.{Revision}
-use Rattle.redl_index.specs.Revisions.{kind_of, is_named, own_revision, revisions_at, element_revisions, item_revisions, item_part_behind, part_behind, revisions_from, kids_revisions_from, item_revisions_from, revisions_of}
+use Rattle.redl_index.specs.Revisions.{kind_of, is_named, own_revision, revisions_at, item_revisions, item_part_behind, part_behind, revisions_from, kids_revisions_from, item_revisions_from, revisions_of}
 
 -- ---- how many there are
 

@@ -1,6 +1,5 @@
 -- The markers of moves: the open starts and ends of ranges that have an `id` (ECMA-376 Part 1, 17.13.5.23 to 17.13.5.28).
-use Rattle.std.specs.Prelude.{ℕ, List, [], ◌∷◌, Bool, false, ◌&&◌, ◌||◌, not, codes, is_some, if◌then◌else◌}
-use Rattle.std.specs.List.{list_any}
+use Rattle.std.specs.Prelude.{List, [], ◌∷◌, Bool, false, ◌&&◌, ◌||◌, not, codes, is_some, if◌then◌else◌}
 use Rattle.redl_tree.specs.Nodes.{Tag, Nodes, no_nodes, bytes, element, Item, bytes_item, element_item}
 use Rattle.redl_tree.specs.Packages.{is_root, level_below, is_data_level, is_story_root}
 use Rattle.redl_tree.specs.Places.{is_open, is_quiet, is_range_edge}

@@ -1,4 +1,4 @@
-use Rattle.std.proofs.Common.{◌∷◌, [], Ok}
+use Rattle.std.proofs.Common.{◌∷◌, []}
 use Rattle.std.proofs.lemmas.Result.{err_from_is_err_and}
 use Rattle.redl_app.proofs.ReadLaws.{reads_stops, reads_next}
 use Rattle.redl_app.specs.Outcome.{settled_of}

@@ -1,9 +1,9 @@
-use Rattle.std.proofs.Common.{◌≡◌, ◌∷◌, List, Contains, Result, ap, sym, ◌∙◌, Ok, Err, subst}
+use Rattle.std.proofs.Common.{◌∷◌, Contains, ap, sym, ◌∙◌, Ok, Err, subst}
 use Rattle.std.proofs.lemmas.Result.{err_from_is_err_and}
 use Rattle.redl_app.proofs.GatherLaws.{view_decided, when_decidable}
 use Rattle.redl_app.proofs.NameLaws.{only_one, among_more, the_first}
 use Rattle.redl_app.proofs.ReadLaws.{reads_then, reads_stops, reads_after, reads_next, reads_when, refused_bind}
-use Rattle.redl_app.specs.Outcome.{Subject, decidable, decided, written_of, subject_of, ◌>>=◌}
+use Rattle.redl_app.specs.Outcome.{Subject, decidable, decided, written_of, ◌>>=◌}
 use Rattle.redl_app.specs.Prepared.{refusal_view, writing_view}
 use Rattle.redl_app.proofs.prepare.prepare_written.Goals as goal
 

@@ -1,4 +1,4 @@
-use Rattle.std.proofs.Common.{◌≡◌, ◌+◌, ◌++◌, ◌∷◌, List, length, drop, ap, sym, ◌∙◌, arith, subst}
+use Rattle.std.proofs.Common.{◌+◌, ◌++◌, ◌∷◌, List, length, drop, ap, sym, ◌∙◌, arith, subst}
 use Rattle.std.proofs.lemmas.Result.{on_ok_weaker}
 use Rattle.redl_tree.specs.Arounds.{inside_of}
 use Rattle.redl_tree.specs.Count.{count}

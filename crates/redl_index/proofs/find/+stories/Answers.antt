@@ -1,4 +1,4 @@
-use Rattle.std.proofs.Common.{◌≡◌, ◌+◌, ◌++◌, length, drop, ap, sym, ◌∙◌, arith}
+use Rattle.std.proofs.Common.{◌+◌, ◌++◌, length, drop, ap, sym, ◌∙◌, arith}
 use Rattle.redl_tree.specs.Count.{count}
 use Rattle.redl_tree.specs.View.{item_of, nodes_of}
 use Rattle.redl_tree.proofs.Laws.{nodes_here, count-in_front}
