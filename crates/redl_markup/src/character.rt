@@ -2,8 +2,6 @@
 
 ghost use Rattle.std.specs.Prelude.{◌≡◌, IsTrue, ◌↔◌};
 ghost use Rattle.redl_markup.specs.Characters.{is_character, is_name_start, is_name_character, IsText};
-ghost use Rattle.redl_markup.specs.Reading.{Gives};
-ghost use Rattle.redl_markup.specs.ScanNames.{char_at};
 
 #[tactic(auto, unfolding(crate::specs::Characters::is_character))]
 pub(crate) fn is_character(c: char) -> bool
@@ -30,37 +28,12 @@ pub(crate) fn is_name_character(c: char) -> bool
         || matches!(c, '-' | '.' | '0'..='9' | '\u{B7}' | '\u{300}'..='\u{36F}' | '\u{203F}'..='\u{2040}')
 }
 
-#[tactic(auto, unfolding(crate::specs::ScanNames::char_at))]
-fn decoded_char(bytes: &[u8]) -> Option<(char, &[u8])>
-    ensures { Gives (λ x. (x.0, x.1.now)) result (char_at bytes.now) }
-{
-    let (c, size) = bstr::decode_utf8(bytes);
-    let c = c?;
-    let (_, rest) = bytes.split_at(size);
-    Some((c, rest))
-}
-
-/// The first character. An ASCII byte is one, so that few are decoded.
-#[tactic(auto, using(crate::proofs::Names::ascii_again))]
-pub(crate) fn first_char(bytes: &[u8]) -> Option<(char, &[u8])>
-    ensures { Gives (λ x. (x.0, x.1.now)) result (char_at bytes.now) }
-{
-    match bytes.split_first() {
-        Some((first, rest)) if first.is_ascii() => Some((char::from(*first), rest)),
-        _ => decoded_char(bytes),
-    }
-}
-
 /// Whether the bytes are UTF-8 and each character is one that an XML text may have (XML 1.0, production 2).
 pub fn is_text(bytes: &[u8]) -> bool
     ensures { IsTrue result ↔ IsText bytes.now }
 {
-    let mut left = bytes;
-    while let Some((c, rest)) = first_char(left) {
-        if !is_character(c) {
-            return false;
-        }
-        left = rest;
+    match str::from_utf8(bytes) {
+        Ok(text) => text.chars().all(is_character),
+        Err(_) => false,
     }
-    left.is_empty()
 }

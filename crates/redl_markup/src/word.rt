@@ -4,10 +4,10 @@ ghost use Rattle.std.specs.Prelude.{◌≡◌, Some, codes};
 ghost use Rattle.redl_markup.specs.Lists.{behind};
 ghost use Rattle.redl_markup.specs.Names.{may_start, may_follow};
 ghost use Rattle.redl_markup.specs.Reading.{Gives};
-ghost use Rattle.redl_markup.specs.ScanNames.{name_end, word_at, name_at};
+ghost use Rattle.redl_markup.specs.ScanNames.{char_at, name_end, word_at, name_at};
 ghost use Rattle.redl_markup.specs.Views.{name_view};
 
-use crate::character::{first_char, is_name_character, is_name_start};
+use crate::character::{is_name_character, is_name_start};
 use crate::name::Name;
 use crate::scan::{before, skip};
 
@@ -23,6 +23,27 @@ fn may_follow(c: char, colons: bool) -> bool
     ensures { result ≡ may_follow colons c }
 {
     is_name_character(c) && (colons || c != ':')
+}
+
+#[tactic(auto, unfolding(crate::specs::ScanNames::char_at))]
+fn decoded_char(bytes: &[u8]) -> Option<(char, &[u8])>
+    ensures { Gives (λ x. (x.0, x.1.now)) result (char_at bytes.now) }
+{
+    let (c, size) = bstr::decode_utf8(bytes);
+    let c = c?;
+    let (_, rest) = bytes.split_at(size);
+    Some((c, rest))
+}
+
+/// The first character. An ASCII byte is one, so that few are decoded.
+#[tactic(auto, using(crate::proofs::Names::ascii_again))]
+fn first_char(bytes: &[u8]) -> Option<(char, &[u8])>
+    ensures { Gives (λ x. (x.0, x.1.now)) result (char_at bytes.now) }
+{
+    match bytes.split_first() {
+        Some((first, rest)) if first.is_ascii() => Some((char::from(*first), rest)),
+        _ => decoded_char(bytes),
+    }
 }
 
 /// What stands behind name characters.
