@@ -1,9 +1,10 @@
 -- A name that is read stands there, and a name that stands there is read.
-use Rattle.std.proofs.Common.{◌≡◌, ℕ, zero, suc, ◌<◌, ◌≤◌, ◌+◌, ◌/◌, ◌%◌, Bool, true, false, cond, ltb, eqb, List, [], ◌∷◌, ◌++◌, length, drop, Option, Some, None, refl, sym, ap, subst, ◌∙◌, append_assoc, length-append, arith, inl, inr, ◌⊎◌}
-use Rattle.std.specs.Prelude.{◌&&◌, ◌||◌, codes, encode_utf8}
+use Rattle.std.proofs.Common.{◌≡◌, ℕ, zero, suc, nat_le, slice_get, ◌<◌, ◌≤◌, ◌+◌, ◌/◌, ◌%◌, Bool, true, false, cond, ltb, eqb, List, [], ◌∷◌, ◌++◌, length, drop, Option, Some, None, refl, sym, ap, subst, ◌∙◌, append_assoc, length-append, arith, inl, inr, ◌⊎◌}
+use Rattle.std.specs.Prelude.{◌&&◌, ◌||◌, not, codes, encode_utf8}
 use Rattle.std.specs.List.{list_all}
 use Rattle.std.specs.Str.{encode_utf8_all, all_scalars}
-use Rattle.std.specs.Char.{IsScalar}
+use Rattle.std.specs.Char.{IsScalar, is_ascii, is_ascii_alphabetic}
+use Rattle.std.proofs.lemmas.Bool.{leb-true, le-leb, ltb-true}
 use Rattle.std.proofs.lemmas.Bool.Decides.{nat_tests}
 use Rattle.std.proofs.lemmas.Option.{same_Some, cond_some}
 use Rattle.std.proofs.lemmas.List.{drop_at}
@@ -13,11 +14,11 @@ use Rattle.bstr.specs.Utf8.{decoded}
 use Rattle.bstr.proofs.lemmas.SoundLemmas.{SpellsChar-decoded}
 use Rattle.bstr.proofs.lemmas.EncodeLemmas.{decoded-encode}
 use Rattle.redl_markup.specs.Characters.{is_space, is_name_start, is_name_character}
-use Rattle.redl_markup.specs.Lists.{behind, before}
+use Rattle.redl_markup.specs.Lists.{behind, after, before}
 use Rattle.redl_markup.specs.Reading.{◌>>=◌, done, next, turn, turns}
 use Rattle.redl_markup.specs.Names.{may_start, may_follow, IsWord, Name, name_text, IsName}
-use Rattle.redl_markup.specs.ScanNames.{taken, char_at, name_step, name_end, word_at, local_at, name_at}
-use Rattle.redl_markup.proofs.Runs.{and-true, and-both, either}
+use Rattle.redl_markup.specs.ScanNames.{taken, char_at, is_name_byte, name_step, name_end, start_at, word_at, local_at, name_at}
+use Rattle.redl_markup.proofs.Runs.{stops, after_stops, not-true, and-true, and-both, either}
 use Rattle.redl_markup.proofs.Words.{behind_takes, before-append}
 use Rattle.redl_markup.proofs.Turns.{Going, begins, goes_on, ends}
 
@@ -293,3 +294,77 @@ loop_ends colons rest bs x g e p = ends (name_step colons) length rest (Some res
 
 pub loop_stops : (colons : Bool) (rest bs : List ℕ) → Loop colons rest bs → char_at rest ≡ None → name_end colons bs ≡ Some rest
 loop_stops colons rest bs g e = ends (name_step colons) length rest (Some rest) (name_end colons bs) g (step_stops colons rest e)
+
+-- ---- the ASCII characters of a name
+
+name_byte_goes : (colons : Bool) (b : ℕ) (bs : List ℕ) → is_name_byte colons b ≡ true → name_end colons (b ∷ bs) ≡ name_end colons bs
+unfolding name_end is_name_byte
+name_byte_goes colons b bs h =
+    let both = and-true (nat_le b 127) (may_follow colons b) h in
+    rw (step_goes colons (b ∷ bs) (b, bs) (ascii_again b bs (omega (arith, leb-true b 127 both.0))) both.1) refl
+
+-- a name ends where it does behind its ASCII characters
+end_behind_bytes : (colons : Bool) (bs : List ℕ) → name_end colons bs ≡ name_end colons (after (is_name_byte colons) bs)
+end_behind_bytes colons [] = refl
+end_behind_bytes colons (b ∷ bs) =
+    elim (either (is_name_byte colons b)) [
+      | inl goes ↦ rw goes (name_byte_goes colons b bs goes ∙ end_behind_bytes colons bs)
+      | inr stays ↦ rw stays refl
+    ]
+
+-- an ASCII byte that is no character of a name ends it
+ends_at_byte : (colons : Bool) (b : ℕ) (bs : List ℕ) → b < 128 → is_name_byte colons b ≡ false → name_end colons (b ∷ bs) ≡ Some (b ∷ bs)
+unfolding name_end is_name_byte
+ends_at_byte colons b bs low h =
+    let follows : may_follow colons b ≡ false = rw (le-leb b 127 (omega (arith, low))) at h in
+    rw (step_ends colons (b ∷ bs) (b, bs) (ascii_again b bs low) follows) refl
+
+pub bytes_go : (colons : Bool) (bs rest : List ℕ) (o : Option (List ℕ)) → rest ≡ after (is_name_byte colons) bs → name_end colons rest ≡ o → name_end colons bs ≡ o
+bytes_go colons bs rest o e h = end_behind_bytes colons bs ∙ ap (name_end colons) (sym e) ∙ h
+
+pub bytes_end : (colons : Bool) (bs rest : List ℕ) → rest ≡ after (is_name_byte colons) bs → None ≡ slice_get rest 0 → name_end colons bs ≡ Some rest
+unfolding name_end char_at name_step
+bytes_end colons bs [] e h = bytes_go colons bs [] (Some []) e refl
+bytes_end colons bs (b ∷ rest) e h = absurd cc
+
+pub bytes_stop : (colons : Bool) (bs rest : List ℕ) (b : ℕ) → rest ≡ after (is_name_byte colons) bs → Some b ≡ slice_get rest 0 → is_ascii b ≡ true → name_end colons bs ≡ Some rest
+bytes_stop colons bs [] b e h low = absurd cc
+bytes_stop colons bs (c ∷ rest) b e h low =
+    let stop : not (is_name_byte colons c) ≡ true = ap (stops (is_name_byte colons)) e ∙ after_stops (is_name_byte colons) bs in
+    let same : is_ascii c ≡ true = ap is_ascii (same_Some c b (sym h)) ∙ low in
+    bytes_go colons bs (c ∷ rest) (Some (c ∷ rest)) e (ends_at_byte colons c rest (ltb-true c 128 same) (not-true (is_name_byte colons c) stop))
+
+-- ---- the first character of a name
+
+letter_low : (b : ℕ) → is_ascii_alphabetic b ≡ true → b < 128
+letter_low b h = grind (arith, nat_tests)
+
+letter_may_start : (colons : Bool) (b : ℕ) → is_ascii_alphabetic b ≡ true → may_start colons b ≡ true
+unfolding may_start is_name_start
+letter_may_start colons b h = grind (arith, nat_tests)
+
+pub letter_starts : (colons : Bool) (b : ℕ) (rest : List ℕ) → is_ascii_alphabetic b ≡ true → start_at colons (b ∷ rest) ≡ Some rest
+unfolding start_at
+letter_starts colons b rest h = rw (ascii_again b rest (letter_low b h), letter_may_start colons b h) refl
+
+pub word_fails : (colons : Bool) (bs : List ℕ) → start_at colons bs ≡ None → word_at colons bs ≡ None
+unfolding start_at word_at
+word_fails colons bs e = by_char (char_at bs) e where
+  nothing : (o : Option (List ℕ)) (f : List ℕ → Option (List ℕ × List ℕ)) → ((rest : List ℕ) → f rest ≡ None) → (o >>= f) ≡ None
+  nothing None f h = refl
+  nothing (Some rest) f h = h rest
+
+  by_char : (o : Option (ℕ × List ℕ)) → (o >>= λ x. cond (may_start colons x.0) (Some x.1) None) ≡ None → ◌>>=◌ {B = List ℕ × List ℕ} o (λ x. name_end colons x.1 >>= λ rest. cond (may_start colons x.0) (Some (before bs rest, rest)) None) ≡ None
+  by_char None e = refl
+  by_char (Some x) e =
+      elim (either (may_start colons x.0)) [
+        | inl starts ↦ absurd (let k : Some x.1 ≡ None = rw starts at e in cc)
+        | inr other ↦ nothing (name_end colons x.1) (λ rest. cond (may_start colons x.0) (Some (before bs rest, rest)) None) (λ rest. rw other refl)
+      ]
+
+pub word_reads : (colons : Bool) (bs more rest : List ℕ) → start_at colons bs ≡ Some more → name_end colons more ≡ Some rest → word_at colons bs ≡ Some (before bs rest, rest)
+unfolding start_at word_at
+word_reads colons bs more rest e end =
+    let f = bind_some (char_at bs) (λ x. cond (may_start colons x.0) (Some x.1) None) more e in
+    let c = cond_some (may_start colons f.0.0) f.0.1 more f.2 in
+    rw (f.1, c.0, c.1, end) refl

@@ -1,5 +1,5 @@
 -- Reading a name from the left.
-use Rattle.std.specs.Prelude.{ℕ, suc, Bool, false, List, [], length, drop, Option, Some, None, if◌then◌else◌, codes}
+use Rattle.std.specs.Prelude.{ℕ, suc, Bool, false, ◌&&◌, nat_le, List, [], length, drop, Option, Some, None, if◌then◌else◌, codes}
 use Rattle.bstr.specs.Utf8.{decoded}
 use Rattle.redl_markup.specs.Lists.{behind, before}
 use Rattle.redl_markup.specs.Reading.{◌>>=◌, Turn, done, next, turns}
@@ -20,9 +20,19 @@ after_char colons bs (Some x) = if may_follow colons x.0 then next x.1 else done
 unfoldable pub name_step : Bool → List ℕ → Turn (List ℕ) (List ℕ)
 name_step colons bs = after_char colons bs (char_at bs)
 
+-- an ASCII character that may stand behind the first one of a name
+unfoldable pub is_name_byte : Bool → ℕ → Bool
+is_name_byte colons b = nat_le b 127 && may_follow colons b
+
 -- what stands behind name characters
 unfoldable pub name_end : Bool → List ℕ → Option (List ℕ)
 name_end colons bs = turns (name_step colons) (suc (length bs)) bs
+
+-- what stands behind the first character of a name
+unfoldable pub start_at : Bool → List ℕ → Option (List ℕ)
+start_at colons bs = do
+  x ← char_at bs
+  if may_start colons x.0 then Some x.1 else None
 
 -- a name of one part
 unfoldable pub word_at : Bool → List ℕ → Option (List ℕ × List ℕ)

@@ -1,10 +1,10 @@
 //! Reading names.
 
 ghost use Rattle.std.specs.Prelude.{◌≡◌, Some, codes};
-ghost use Rattle.redl_markup.specs.Lists.{behind};
+ghost use Rattle.redl_markup.specs.Lists.{behind, after};
 ghost use Rattle.redl_markup.specs.Names.{may_start, may_follow};
 ghost use Rattle.redl_markup.specs.Reading.{Gives};
-ghost use Rattle.redl_markup.specs.ScanNames.{char_at, name_end, word_at, name_at};
+ghost use Rattle.redl_markup.specs.ScanNames.{char_at, is_name_byte, name_end, start_at, word_at, name_at};
 ghost use Rattle.redl_markup.specs.Views.{name_view};
 
 use crate::character::{is_name_character, is_name_start};
@@ -46,8 +46,60 @@ fn first_char(bytes: &[u8]) -> Option<(char, &[u8])>
     }
 }
 
-/// What stands behind name characters.
+#[tactic(auto, unfolding(crate::specs::ScanNames::start_at))]
+fn behind_start_char(bytes: &[u8], colons: bool) -> Option<&[u8]>
+    ensures { Gives (λ rest. rest.now) result (start_at colons bytes.now) }
+{
+    let (first, rest) = first_char(bytes)?;
+    if may_start(first, colons) { Some(rest) } else { None }
+}
+
+/// What stands behind the first character of a name. Most are letters of ASCII, so that few are decoded.
+#[tactic(auto, using(crate::proofs::Names::letter_starts))]
+fn behind_start(bytes: &[u8], colons: bool) -> Option<&[u8]>
+    ensures { Gives (λ rest. rest.now) result (start_at colons bytes.now) }
+{
+    match bytes.split_first() {
+        Some((first, rest)) if first.is_ascii_alphabetic() => Some(rest),
+        _ => behind_start_char(bytes, colons),
+    }
+}
+
+#[tactic(auto, unfolding(crate::specs::ScanNames::is_name_byte, crate::specs::Names::may_follow, crate::specs::Characters::is_name_character, crate::specs::Characters::is_name_start))]
+fn is_name_byte(b: u8, colons: bool) -> bool
+    ensures { result ≡ is_name_byte colons b }
+{
+    matches!(b, b'a'..=b'z' | b'A'..=b'Z' | b'0'..=b'9' | b'-' | b'.' | b'_') || (colons && b == b':')
+}
+
+/// What stands behind ASCII characters of a name.
+#[tactic(auto, using(crate::proofs::Runs::after_at))]
+fn after_name_bytes(bytes: &[u8], colons: bool) -> &[u8]
+    ensures { result.now ≡ after (is_name_byte colons) bytes.now }
+{
+    let mut n = 0;
+    while n < bytes.len() && is_name_byte(bytes[n], colons) {
+        n += 1;
+    }
+    bytes.split_at(n).1
+}
+
+/// What stands behind name characters. Most are ASCII, so that few are decoded.
 fn end_of_name(bytes: &[u8], colons: bool) -> &[u8]
+    ensures { name_end colons bytes.now ≡ Some result.now }
+{
+    let rest = after_name_bytes(bytes, colons);
+    let Some(first) = rest.first() else {
+        return rest;
+    };
+    if first.is_ascii() {
+        return rest;
+    }
+    end_of_characters(rest, colons)
+}
+
+/// The same, of characters that are decoded one by one.
+fn end_of_characters(bytes: &[u8], colons: bool) -> &[u8]
     ensures { name_end colons bytes.now ≡ Some result.now }
 {
     let mut rest = bytes;
@@ -61,17 +113,13 @@ fn end_of_name(bytes: &[u8], colons: bool) -> &[u8]
 }
 
 /// A name of one part, and what stands behind it.
-#[tactic(auto, unfolding(crate::specs::ScanNames::word_at))]
+#[tactic(auto, using(crate::proofs::Names::word_fails, crate::proofs::Names::word_reads))]
 pub(crate) fn word(bytes: &[u8], colons: bool) -> Option<(&[u8], &[u8])>
     ensures { Gives (λ x. (x.0.now, x.1.now)) result (word_at colons bytes.now) }
 {
-    let (first, more) = first_char(bytes)?;
+    let more = behind_start(bytes, colons)?;
     let rest = end_of_name(more, colons);
-    if may_start(first, colons) {
-        Some((before(bytes, rest), rest))
-    } else {
-        None
-    }
+    Some((before(bytes, rest), rest))
 }
 
 /// A name with a prefix or without, and what stands behind it.
