@@ -7,7 +7,9 @@ ghost use Rattle.redl_markup.specs.Characters.{is_character, is_name_start, is_n
 pub(crate) fn is_character(c: char) -> bool
     ensures { result ≡ is_character c }
 {
-    matches!(c, '\t' | '\n' | '\r' | '\u{20}'..='\u{D7FF}' | '\u{E000}'..='\u{FFFD}' | '\u{10000}'..='\u{10FFFF}')
+    // nearly all are in this range, so that it is tried first
+    matches!(c, '\u{20}'..='\u{D7FF}')
+        || matches!(c, '\t' | '\n' | '\r' | '\u{E000}'..='\u{FFFD}' | '\u{10000}'..='\u{10FFFF}')
 }
 
 #[tactic(auto, unfolding(crate::specs::Characters::is_name_start))]

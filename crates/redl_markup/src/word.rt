@@ -46,6 +46,7 @@ fn first_char(bytes: &[u8]) -> Option<(char, &[u8])>
     }
 }
 
+#[cold]
 #[tactic(auto, unfolding(crate::specs::ScanNames::start_at))]
 fn behind_start_char(bytes: &[u8], colons: bool) -> Option<&[u8]>
     ensures { Gives (λ rest. rest.now) result (start_at colons bytes.now) }
@@ -69,7 +70,7 @@ fn behind_start(bytes: &[u8], colons: bool) -> Option<&[u8]>
 fn is_name_byte(b: u8, colons: bool) -> bool
     ensures { result ≡ is_name_byte colons b }
 {
-    matches!(b, b'a'..=b'z' | b'A'..=b'Z' | b'0'..=b'9' | b'-' | b'.' | b'_') || (colons && b == b':')
+    b.is_ascii_alphabetic() || matches!(b, b'0'..=b'9' | b'-' | b'.' | b'_') || (colons && b == b':')
 }
 
 /// What stands behind ASCII characters of a name.
@@ -99,6 +100,7 @@ fn end_of_name(bytes: &[u8], colons: bool) -> &[u8]
 }
 
 /// The same, of characters that are decoded one by one.
+#[cold]
 fn end_of_characters(bytes: &[u8], colons: bool) -> &[u8]
     ensures { name_end colons bytes.now ≡ Some result.now }
 {
