@@ -1,8 +1,10 @@
 -- The longest front that passes a test, and what stands behind it.
 use Rattle.std.proofs.Common.{◌≡◌, ℕ, zero, suc, ◌<◌, ◌≤◌, Bool, true, false, cond, List, [], ◌∷◌, ◌++◌, length, get_or, take, drop, refl, ap, ◌⊎◌, inl, inr, arith}
-use Rattle.std.specs.Prelude.{not, ◌&&◌}
+use Rattle.std.specs.Prelude.{not, ◌&&◌, ◌==◌, Option, Some, None}
+use Rattle.std.specs.Option.{unwrap_or}
 use Rattle.std.specs.List.{list_all}
-use Rattle.redl_markup.specs.Lists.{front, after}
+use Rattle.bstr.specs.Find.{IsFirstByte, is_byte}
+use Rattle.redl_markup.specs.Lists.{front, after, is_other}
 
 -- the rest is empty or begins with an element that fails
 abbrev pub stops : (ℕ → Bool) → List ℕ → Bool
@@ -77,3 +79,33 @@ after_at p [] (suc n) le all stop = absurd (omega arith)
 after_at p (b ∷ bs) zero le all stop = rw (stop (omega arith)) refl
 after_at p (b ∷ bs) (suc n) le all stop =
     rw (all 0 (omega arith)) (after_at p bs n (omega arith) (λ k h. all (suc k) (omega arith)) (λ h. stop (omega arith)))
+
+-- ---- the front before the first byte of one kind
+
+-- where a search ends, and what stands before it and there
+record IsFound (byte : ℕ) (bs : List ℕ) (n : ℕ) : Type 0 where
+  within : n ≤ length bs
+  before : (k : ℕ) → k < n → is_other byte (get_or bs k 0) ≡ true
+  there : n < length bs → is_other byte (get_or bs n 0) ≡ false
+
+not-false : (t : Bool) → ¬ (t ≡ true) → not t ≡ true
+not-false true h = absurd (h refl)
+not-false false h = refl
+
+found : (byte : ℕ) (bs : List ℕ) (r : Option ℕ) → IsFirstByte (is_byte byte) bs r → IsFound byte bs (unwrap_or r (length bs))
+found byte bs None h = record {
+  within = omega arith;
+  before = λ k lt. not-false (get_or bs k 0 == byte) (h k (omega arith) lt);
+  there = λ lt. absurd (omega (arith, lt));
+}
+found byte bs (Some n) h = record {
+  within = omega (arith, h.0.high);
+  before = λ k lt. not-false (get_or bs k 0 == byte) (h.0.before k (omega arith) lt);
+  there = λ lt. ap not h.1;
+}
+
+pub front_found : (byte : ℕ) (bs : List ℕ) (r : Option ℕ) → IsFirstByte (is_byte byte) bs r → take (unwrap_or r (length bs)) bs ≡ front (is_other byte) bs
+front_found byte bs r h = let f = found byte bs r h in front_at (is_other byte) bs _ f.within f.before f.there
+
+pub after_found : (byte : ℕ) (bs : List ℕ) (r : Option ℕ) → IsFirstByte (is_byte byte) bs r → drop (unwrap_or r (length bs)) bs ≡ after (is_other byte) bs
+after_found byte bs r h = let f = found byte bs r h in after_at (is_other byte) bs _ f.within f.before f.there

@@ -7,7 +7,7 @@ ghost use Rattle.redl_markup.specs.Reading.{Gives};
 ghost use Rattle.redl_markup.specs.References.{named_at, is_digit_in, number_of, number_at, reference_at, has_references};
 
 use crate::character::is_character;
-use crate::scan::{skip, until};
+use crate::scan::{far_until, skip};
 
 /// One more than the greatest number of a character.
 const BEYOND: u32 = 0x11_0000;
@@ -107,7 +107,7 @@ pub(crate) fn are_references(bytes: &[u8]) -> bool
     ensures { result ≡ has_references bytes.now }
 {
     let mut left = bytes;
-    while let Some(rest) = skip(until(left, b'&').1, b"&") {
+    while let Some(rest) = skip(far_until(left, b'&').1, b"&") {
         if reference(rest).is_none() {
             return false;
         }

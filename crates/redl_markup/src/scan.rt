@@ -5,6 +5,8 @@ ghost use Rattle.redl_markup.specs.Characters.{is_space};
 ghost use Rattle.redl_markup.specs.Lists.{behind, past, front, after, before, is_other};
 ghost use Rattle.redl_markup.specs.Reading.{Gives};
 
+use bstr::ByteSlice;
+
 #[tactic(auto, unfolding(crate::specs::Characters::is_space))]
 pub(crate) fn is_space(b: u8) -> bool
     ensures { result ≡ is_space b }
@@ -35,6 +37,15 @@ pub(crate) fn until(bytes: &[u8], byte: u8) -> (&[u8], &[u8])
     while n < bytes.len() && bytes[n] != byte {
         n += 1;
     }
+    bytes.split_at(n)
+}
+
+/// The same by a search that takes many bytes at a time, for a byte that stands far.
+pub(crate) fn far_until(bytes: &[u8], byte: u8) -> (&[u8], &[u8])
+    ensures front { result.0.now ≡ front (is_other byte) bytes.now }
+    ensures rest { result.1.now ≡ after (is_other byte) bytes.now }
+{
+    let n = bytes.find_byte(byte).unwrap_or(bytes.len());
     bytes.split_at(n)
 }
 

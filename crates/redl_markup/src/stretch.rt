@@ -14,18 +14,18 @@ use crate::item::{begins_item, item};
 use crate::piece::Piece;
 use crate::place::Place;
 use crate::reference::are_references;
-use crate::scan::{before, is_space, until};
+use crate::scan::{before, far_until, is_space};
 
 #[tactic(auto, using(crate::proofs::Places::lacks_after, crate::proofs::Places::after_fits))]
 fn has_no_close(bytes: &[u8]) -> bool
     ensures { result ≡ lacks (codes "]]>") bytes.now }
 {
-    let (_, mut left) = until(bytes, b']');
+    let (_, mut left) = far_until(bytes, b']');
     while let Some((_, rest)) = left.split_first() {
         if left.starts_with(b"]]>") {
             return false;
         }
-        left = until(rest, b']').1;
+        left = far_until(rest, b']').1;
     }
     true
 }
@@ -51,7 +51,7 @@ fn end_of_items(bytes: &[u8], place: Place) -> Option<&[u8]>
 {
     let mut left = bytes;
     loop {
-        let (run, rest) = until(left, b'<');
+        let (run, rest) = far_until(left, b'<');
         if !is_run(run, place) {
             return None;
         }

@@ -7,4 +7,4 @@ use Rattle.redl_markup.proofs.stretch.has_no_close.Goals as goal
 pub loop-rest-preserved : goal.loop-rest-preserved
 loop-rest-preserved c =
     let next : lacks (codes "]]>") c.in-Some.rest.now ≡ lacks (codes "]]>") c.loop-rest.left.now = search (rules, tests) in
-    rw c.until-in-Some.ensures.rest (lacks_after 93 (93 ∷ 62 ∷ []) c.in-Some.rest.now ∙ next ∙ c.loop-rest.invariant)
+    rw c.far_until-in-Some.ensures.rest (lacks_after 93 (93 ∷ 62 ∷ []) c.in-Some.rest.now ∙ next ∙ c.loop-rest.invariant)
