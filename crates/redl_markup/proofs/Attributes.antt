@@ -13,7 +13,7 @@ use Rattle.redl_markup.specs.Names.{Name, name_text, IsName}
 use Rattle.redl_markup.specs.References.{has_references}
 use Rattle.redl_markup.specs.Tails.{IsSpace, Attribute, attribute_then, attributes_then, IsQuote, IsAttribute, named_value}
 use Rattle.redl_markup.specs.ScanNames.{name_at}
-use Rattle.redl_markup.specs.ScanTags.{quote_at, quoted_at, equated_at, is_value, attribute_at, attribute_in, ends_tag, Tail, tail_step, attributes_at}
+use Rattle.redl_markup.specs.ScanTags.{quote_at, quoted_at, equated_at, is_plain, is_value, attribute_at, attribute_in, ends_tag, Tail, tail_step, attributes_at}
 use Rattle.redl_markup.proofs.Runs.{stops, and-true, either, front-after, front_passes, front_again, after_again}
 use Rattle.redl_markup.proofs.Turns.{Going, begins, goes_on, ends}
 use Rattle.redl_markup.proofs.Words.{behind_takes, behind_again, eqb_same}
@@ -309,3 +309,17 @@ loop_fails s more bs g e other fails =
 pub loop_goes : (s : Tail) (more bs : List ℕ) (a : (Name × List ℕ) × List ℕ) → Loop s bs → more ≡ after is_space s.1 → ends_tag more ≡ false → attribute_in s.1 ≡ Some a → Loop (s.0 ++ a.0.0 ∷ [], a.1) bs
 loop_goes s more bs a g e other found =
     goes_on tail_step (λ t. length t.1) s (s.0 ++ a.0.0 ∷ [], a.1) (attributes_at bs) g (step_goes s a (rw (← e) other) found) (first_shorter s.1 a found)
+
+-- ---- a value without references
+
+plain_parts : (bs : List ℕ) → list_all is_plain bs ≡ true → (list_all (is_other 60) bs ≡ true) × (has_references bs ≡ true)
+plain_parts [] h = (refl, refl)
+plain_parts (b ∷ bs) h =
+    let both = and-true (is_plain b) (list_all is_plain bs) h in
+    let here = and-true (is_other 60 b) (is_other 38 b) both.0 in
+    let more = plain_parts bs both.1 in
+    (rw here.0 more.0, rw here.1 more.1)
+
+pub plain_value : (bs : List ℕ) → list_all is_plain bs ≡ true → is_value bs ≡ true
+unfolding is_value
+plain_value bs h = let parts = plain_parts bs h in rw parts.0 parts.1

@@ -26,6 +26,10 @@ equated_at bs = do
   more ← behind (codes "=") (after is_space bs)
   quoted_at (after is_space more)
 
+-- neither `<` nor `&`
+abbrev pub is_plain : ℕ → Bool
+is_plain b = is_other 60 b && is_other 38 b
+
 unfoldable pub is_value : List ℕ → Bool
 is_value bs = list_all (is_other 60) bs && has_references bs
 

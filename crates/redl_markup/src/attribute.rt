@@ -6,7 +6,7 @@ ghost use Rattle.std.specs.Str.{IsUtf8};
 ghost use Rattle.redl_markup.specs.Attributes.{attributes_of};
 ghost use Rattle.redl_markup.specs.Lists.{is_other};
 ghost use Rattle.redl_markup.specs.Reading.{Gives};
-ghost use Rattle.redl_markup.specs.ScanTags.{quote_at, quoted_at, equated_at, is_value, attribute_at, attribute_in};
+ghost use Rattle.redl_markup.specs.ScanTags.{quote_at, quoted_at, equated_at, is_plain, is_value, attribute_at, attribute_in};
 ghost use Rattle.redl_markup.specs.Views.{attribute_view};
 
 use crate::name::Name;
@@ -53,17 +53,24 @@ pub(crate) fn equated(bytes: &[u8]) -> Option<(&[u8], &[u8])>
     quoted(more)
 }
 
+/// Whether a value has neither `<` nor `&`, so that it needs no closer look.
+fn is_plain(bytes: &[u8]) -> bool
+    ensures { result ≡ list_all is_plain bytes.now }
+{
+    bytes.iter().all(|b| *b != b'<' && *b != b'&')
+}
+
 fn has_no_tag(bytes: &[u8]) -> bool
     ensures { result ≡ list_all (is_other 60) bytes.now }
 {
     bytes.iter().all(|b| *b != b'<')
 }
 
-#[tactic(auto, unfolding(crate::specs::ScanTags::is_value))]
+#[tactic(auto, unfolding(crate::specs::ScanTags::is_value), using(crate::proofs::Attributes::plain_value))]
 fn is_value(bytes: &[u8]) -> bool
     ensures { result ≡ is_value bytes.now }
 {
-    has_no_tag(bytes) && are_references(bytes)
+    is_plain(bytes) || has_no_tag(bytes) && are_references(bytes)
 }
 
 #[tactic(auto, unfolding(crate::specs::ScanTags::attribute_at))]
