@@ -27,32 +27,23 @@ use Rattle.redl_xml.specs.Shapes.{depth_of}
 use Rattle.redl_xml.specs.Scopes.{Scope, scope_in}
 use Rattle.redl_xml.specs.Readings.{name_of, IsTag, ClosesBy, AreLegal, IsReading, HasReading, HasNoReading, HaveLegalTails}
 use Rattle.redl_xml.specs.Errors.{error_of}
-use Rattle.redl_xml.specs.Documents.{Outline, outline_at, bytes_or_none, nodes_at}
+use Rattle.redl_xml.specs.Documents.{bytes_or_none, document_at}
 use Rattle.redl_xml.proofs.TreeTexts.{close_then, tree_then}
 use Rattle.redl_xml.proofs.Complete.{nodes_end_stretch}
-use Rattle.redl_xml.proofs.Documents.{HasOutline, has_bytes, whole_then, outline_read, no_outline}
+use Rattle.redl_xml.proofs.Documents.{HasSizes, has_bytes, whole_then, reading_of_document, document_of_reading, no_document}
 
 -- ---- limits
 
-pub too_deep : (limit bound : ℕ) (bs : List ℕ) (o : Outline) → HasOutline limit bs o → bound < o.deepest → HasReading bs (λ nodes. bound < depth_of nodes)
-too_deep limit bound bs o h lt = record { nodes = h.read; reading = h.reading; fits = omega (arith, h.deepest) }
+pub too_deep : (limit bound : ℕ) (bs : List ℕ) (x : ℕ × ℕ) → HasSizes limit bs x → bound < x.0 → HasReading bs (λ nodes. bound < depth_of nodes)
+too_deep limit bound bs x h lt = record { nodes = h.read; reading = h.reading; fits = omega (arith, h.deepest) }
 
-pub too_many : (limit bound : ℕ) (bs : List ℕ) (o : Outline) → HasOutline limit bs o → o.deepest ≤ bound → limit < o.nodes → HasReading bs (λ nodes. (depth_of nodes ≤ bound) × (limit < count nodes))
-too_many limit bound bs o h le lt = record { nodes = h.read; reading = h.reading; fits = (omega (arith, h.deepest), omega (arith, h.nodes)) }
+pub too_many : (limit bound : ℕ) (bs : List ℕ) (x : ℕ × ℕ) → HasSizes limit bs x → x.0 ≤ bound → limit < x.1 → HasReading bs (λ nodes. (depth_of nodes ≤ bound) × (limit < count nodes))
+too_many limit bound bs x h le lt = record { nodes = h.read; reading = h.reading; fits = (omega (arith, h.deepest), omega (arith, h.nodes)) }
 
-pub is_found : (limit : ℕ) (bs : List ℕ) (o : Outline) (u : Nodes) → HasOutline limit bs o → nodes_at o.before o.root o.after ≡ Some u → IsReading bs u
-is_found limit bs o u h e = let P : Nodes → Type 0 = IsReading bs in subst P (same_Some h.read u (sym h.made ∙ e)) h.reading
-
-pub is_within : (limit bound : ℕ) (bs : List ℕ) (o : Outline) (u : Nodes) → HasOutline limit bs o → o.deepest ≤ bound → o.nodes ≤ limit → nodes_at o.before o.root o.after ≡ Some u → (depth_of u ≤ bound) × (count u ≤ limit)
-is_within limit bound bs o u h le few e =
-    let same = same_Some h.read u (sym h.made ∙ e) in
+pub is_within : (limit bound : ℕ) (bs : List ℕ) (x : ℕ × ℕ) (u : Nodes) → HasSizes limit bs x → x.0 ≤ bound → x.1 ≤ limit → document_at bs ≡ Some u → (depth_of u ≤ bound) × (count u ≤ limit)
+is_within limit bound bs x u h le few e =
+    let same = same_Some h.read u (sym (document_of_reading bs h.read h.reading) ∙ e) in
     (omega (arith, h.deepest, ap depth_of same), omega (arith, h.nodes, ap count same))
-
-none_some : {A : Type 0} (x : A) → None ≡ Some x → ⊥
-none_some x e = cc
-
-pub is_made : (limit : ℕ) (bs : List ℕ) (o : Outline) → HasOutline limit bs o → nodes_at o.before o.root o.after ≡ None → ⊥
-is_made limit bs o h e = none_some h.read (sym e ∙ h.made)
 
 pub no_text : (bs : List ℕ) → (IsText bs → ⊥) → HasNoReading bs
 no_text bs h u reading = h reading.characters
@@ -77,15 +68,15 @@ text_or_none bs =
       by_characters u (inl all) = inl ((tests_text bs true u (sym all)).0 refl)
       by_characters u (inr other) = inr (λ t. let e = (tests_text bs false u (sym other)).1 t in absurd cc)
 
-tree_by : (bs : List ℕ) → IsText bs → (o : Option Outline) → outline_at 0 bs ≡ o → ((u : Nodes) × IsReading bs u) ⊎ HasNoReading bs
-tree_by bs t (Some o) e = let h = outline_read 0 bs o t e in inl (h.read, h.reading)
-tree_by bs t None e = inr (no_outline 0 bs e)
+tree_by : (bs : List ℕ) → IsText bs → (o : Option Nodes) → document_at bs ≡ o → ((u : Nodes) × IsReading bs u) ⊎ HasNoReading bs
+tree_by bs t (Some u) e = inl (u, reading_of_document bs u t e)
+tree_by bs t None e = inr (no_document bs e)
 
 -- Either some nodes are the reading of the bytes, or none are.
 pub tree_or_none : (bs : List ℕ) → ((u : Nodes) × IsReading bs u) ⊎ HasNoReading bs
 tree_or_none bs = of (text_or_none bs) where
   of : IsText bs ⊎ (IsText bs → ⊥) → ((u : Nodes) × IsReading bs u) ⊎ HasNoReading bs
-  of (inl t) = tree_by bs t (outline_at 0 bs) refl
+  of (inl t) = tree_by bs t (document_at bs) refl
   of (inr h) = inr (no_text bs h)
 
 -- ---- tails

@@ -2,6 +2,7 @@
 use Rattle.std.proofs.Common.{◌≡◌, ◌≢◌, ℕ, Bool, true, false, List, [], ◌∷◌, ◌++◌, length, map, reverse, Some, None, refl, sym, ap, ◌∙◌}
 use Rattle.std.specs.Prelude.{not}
 use Rattle.std.proofs.lemmas.List.{map_push, reverse-append, length-map, length-reverse}
+use Rattle.std.proofs.lemmas.Simd.{map-map}
 use Rattle.redl_tree.specs.declared.kinds.Space.{Space}
 use Rattle.redl_tree.specs.declared.node.Close.TheVariants.{Empty, End}
 use Rattle.redl_tree.specs.Nodes.{Nodes, no_nodes, bytes, Item, in_front, ◌⊕◌}
@@ -14,7 +15,9 @@ use Rattle.redl_xml.specs.declared.building.OpenElement.{OpenElement}
 use Rattle.redl_xml.specs.declared.building.Building.{Building}
 use Rattle.redl_xml.specs.Scopes.{Scope}
 use Rattle.redl_xml.specs.Elements.{Frame, State, one_element, entered, left, closed, stretched, placed, finished_by, finished}
+use Rattle.redl_xml.specs.Surveys.{tag_of}
 use Rattle.redl_xml.specs.Buildings.{frame_view, building_view}
+use Rattle.redl_xml.specs.OpenTags.{tag_view}
 use Rattle.redl_xml.proofs.Scoping.{left_entered}
 
 pub pushed : (old now : List Node) (n : Node) (i : Item) → now ≡ old ++ n ∷ [] → item_of n ≡ i → nodes_of now ≡ nodes_of old ⊕ in_front i no_nodes
@@ -47,7 +50,7 @@ empty_at s name tail x kids scope e k l =
     rw e (ap (λ (n : Nodes). Some (state s.open_elements n s.scope)) (sym k) ∙ ap (λ (sc : Scope). Some (state s.open_elements kids sc)) same)
 
 pub closed_at : (fs rest : List OpenElement) (f : OpenElement) (kids : Nodes) (scope : Scope) (name : Name) (space : List ℕ) → fs ≡ rest ++ f ∷ [] → name_eq (frame_view f).name name ≡ true
-    → closed (frames fs) kids scope name space ≡ Some (state (frames rest) (nodes_of f.before.items ⊕ one_element (frame_view f).name f.space f.tail.now (End space) kids) (left f.tail.now scope))
+    → closed (frames fs) kids scope name space ≡ Some (state (frames rest) (nodes_of f.before.items ⊕ one_element (frame_view f).name f.space f.tag.tail.now (End space) kids) (left f.tag.tail.now scope))
 closed_at fs rest f kids scope name space e same =
     ap (λ (x : List Frame). closed x kids scope name space) (ap frames e ∙ frames-push rest f) ∙ rw same refl
 
@@ -64,3 +67,11 @@ finished_at b e = finished_none (frames b.open.items) (nodes_of b.kids.items) (l
 
 pub unfinished_at : (b : Building) → (length b.open.items ≢ 0) → finished (building_view b) ≡ None
 unfinished_at b e = finished_some (frames b.open.items) (nodes_of b.kids.items) (λ h. e (sym (length-frames b.open.items) ∙ h))
+
+map-reverse : {X Y : Type 0} (f : X → Y) (xs : List X) → map f (reverse xs) ≡ reverse (map f xs)
+map-reverse f [] = refl
+map-reverse f (x ∷ xs) = ap (map f) (reverse-append (x ∷ []) xs) ∙ map_push f (reverse xs) x ∙ ap (λ l. l ++ f x ∷ []) (map-reverse f xs) ∙ sym (reverse-append (f x ∷ []) (map f xs))
+
+-- the tags of the open elements are those of the frames
+pub tags-frames : (fs : List OpenElement) → reverse (map tag_view (map (λ f. f.tag) fs)) ≡ map tag_of (frames fs)
+tags-frames fs = ap reverse (map-map tag_view (λ f. f.tag) fs) ∙ ap reverse (sym (map-map tag_of frame_view fs)) ∙ sym (map-reverse tag_of (map frame_view fs))

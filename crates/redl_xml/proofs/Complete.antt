@@ -1,5 +1,5 @@
 -- A legal element that stands at the front is read.
-use Rattle.std.proofs.Common.{◌≡◌, ℕ, suc, ◌<◌, true, false, List, [], ◌∷◌, ◌++◌, length, Option, Some, None, refl, sym, ap, subst, ◌∙◌, arith}
+use Rattle.std.proofs.Common.{◌≡◌, ℕ, suc, true, false, List, [], ◌∷◌, ◌++◌, length, Some, None, refl, sym, ap, subst, ◌∙◌, arith}
 use Rattle.redl_tree.specs.Nodes.{Tag, Nodes, no_nodes, bytes, element, ◌⊕◌}
 use Rattle.redl_tree.specs.declared.kinds.Space.{Space}
 use Rattle.redl_tree.specs.declared.kinds.Kind.{Kind}
@@ -8,21 +8,20 @@ use Rattle.redl_tree.specs.declared.node.Close.{Close}
 use Rattle.redl_tree.specs.declared.node.Close.TheVariants.{Empty, End}
 use Rattle.redl_tree.proofs.Laws.{⊕-no_nodes, ⊕_assoc}
 use Rattle.redl_markup.specs.declared.place.Place.TheVariants.{InElement}
-use Rattle.redl_markup.specs.Reading.{next, turns}
+use Rattle.redl_markup.specs.Reading.{turns}
 use Rattle.redl_markup.specs.Names.{Name, name_text, name_eq}
 use Rattle.redl_markup.specs.Stretches.{ends_stretch}
 use Rattle.redl_markup.specs.Pieces.{Piece, start_tag, empty_tag, end_tag, stretch, piece_then, IsPiece, Follows}
-use Rattle.redl_markup.specs.ScanPieces.{piece_at}
 use Rattle.redl_markup.proofs.Runs.{and-both}
 use Rattle.redl_markup.proofs.Turns.{enough}
-use Rattle.redl_markup.proofs.Pieces.{piece_again, piece_shorter, start_ends_stretch, end_ends_stretch}
+use Rattle.redl_markup.proofs.Pieces.{piece_again, start_ends_stretch, end_ends_stretch}
 use Rattle.redl_xml.specs.Shapes.{begins_with_bytes}
 use Rattle.redl_xml.specs.Scopes.{Scope, scope_in, space_of}
 use Rattle.redl_xml.specs.Readings.{name_of, IsTag, ClosesBy, AreLegal}
-use Rattle.redl_xml.specs.Elements.{left, Frame, State, plain_tag, placed, finished, nothing_yet, Point, from_result, from_state, from_piece, element_step, element_by, element_at}
+use Rattle.redl_xml.specs.Elements.{left, Frame, State, plain_tag, placed, finished, nothing_yet, Point, element_step, element_by, element_at}
 use Rattle.redl_xml.proofs.Scoping.{MayEnter, entered_again, left_again}
 use Rattle.redl_xml.proofs.Buildings.{state}
-use Rattle.redl_xml.proofs.Loops.{size, step_of, step_goes, step_ends}
+use Rattle.redl_xml.proofs.Loops.{size, shrinks, step_goes, step_ends}
 use Rattle.redl_xml.proofs.TreeTexts.{close_then, tree_then}
 use Rattle.redl_xml.proofs.Words.{bytes_same}
 
@@ -135,24 +134,9 @@ root_gets tag kids y (End space) e h fits k =
     let kids_got = nodes_get inner kids behind frame [] no_nodes u y k (end_ends_stretch (name_text (name_of tag) ++ (space ++ (62 ∷ y)))) ended in
     one_piece (start_tag (name_of tag) tag.tail) (tree_then kids behind) nothing_yet (state (frame ∷ []) no_nodes inner) u y (h.name, h.tail) tt (start_placed [] tag [] no_nodes h) refl kids_got
 
--- each turn leaves less
-shrinks : (p p' : Point State) → element_step placed finished p ≡ next p' → size p' < size p
-shrinks p p' e = by_piece p.0 p.1 (piece_at InElement p.0) p' refl (sym (step_of placed finished p.0 p.1 (piece_at InElement p.0) refl) ∙ e) where
-  by_result : (bs rest : List ℕ) (s : State) (o : Option Nodes) (p' : Point State) → from_result rest s o ≡ next p' → length rest < length bs → size p' < length bs
-  by_result bs rest s (Some u) p' e lt = absurd cc
-  by_result bs rest s None p' e lt = let same : (rest, s) ≡ p' = cc in omega (arith, ap (λ (q : Point State). length q.0) same)
-
-  by_state : (bs rest : List ℕ) (o : Option State) (p' : Point State) → from_state finished rest o ≡ next p' → length rest < length bs → size p' < length bs
-  by_state bs rest None p' e lt = absurd cc
-  by_state bs rest (Some s) p' e lt = by_result bs rest s (finished s) p' e lt
-
-  by_piece : (bs : List ℕ) (s : State) (o : Option (Piece × List ℕ)) (p' : Point State) → piece_at InElement bs ≡ o → from_piece placed finished s o ≡ next p' → size p' < length bs
-  by_piece bs s None p' g e = absurd cc
-  by_piece bs s (Some x) p' g e = by_state bs x.1 (placed x.0 s) p' e (piece_shorter InElement bs x g)
-
 -- An element that stands at the front is read, and all of what stands behind it is left.
 pub element_again : (tag : Tag) (kids : Nodes) (y : List ℕ) → AreLegal [] (element tag kids no_nodes) → element_at (tree_then (element tag kids no_nodes) y) ≡ Some (element tag kids no_nodes, y)
 unfolding element_by
 element_again tag kids y h =
     let g = root_gets tag kids y tag.close refl h.0 h.1 h.2 in
-    enough (element_step placed finished) size shrinks g.turns_taken (suc (length (tree_then (element tag kids no_nodes) y))) (tree_then (element tag kids no_nodes) y, nothing_yet) (element tag kids no_nodes, y) g.gets (omega arith)
+    enough (element_step placed finished) size (shrinks placed finished) g.turns_taken (suc (length (tree_then (element tag kids no_nodes) y))) (tree_then (element tag kids no_nodes) y, nothing_yet) (element tag kids no_nodes, y) g.gets (omega arith)

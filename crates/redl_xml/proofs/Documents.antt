@@ -14,6 +14,7 @@ use Rattle.redl_markup.specs.Lists.{is_filled}
 use Rattle.redl_markup.specs.Characters.{IsText}
 use Rattle.redl_markup.specs.Names.{name_text}
 use Rattle.redl_markup.specs.Stretches.{IsStretch, ends_stretch}
+use Rattle.redl_markup.specs.Reading.{◌>>=◌}
 use Rattle.redl_markup.specs.Pieces.{Piece, start_tag, empty_tag, end_tag, stretch}
 use Rattle.redl_markup.specs.ScanPieces.{piece_at}
 use Rattle.redl_markup.proofs.Names.{bind_some}
@@ -21,13 +22,12 @@ use Rattle.redl_markup.proofs.Pieces.{piece_takes, piece_again, piece_shorter, s
 use Rattle.redl_xml.specs.Shapes.{depth_of}
 use Rattle.redl_xml.specs.Readings.{name_of, AreLegal, IsStretchOrNone, IsReading}
 use Rattle.redl_xml.specs.Elements.{element_at}
-use Rattle.redl_xml.specs.Surveys.{survey_at}
-use Rattle.redl_xml.specs.Documents.{stretch_or_none, stretch_in, Outline, counted, outlined, outline_at, bytes_or_none, nodes_at}
+use Rattle.redl_xml.specs.Documents.{stretch_or_none, stretch_in, outline_with, outlined, outline_by, bytes_or_none, whole_nodes, document_at, counted, whole_sizes, sizes_at}
 use Rattle.redl_xml.proofs.TreeTexts.{close_then, tree_then, tree-then, tree_then-⊕}
 use Rattle.redl_xml.proofs.Sound.{element_sound}
 use Rattle.redl_xml.proofs.Complete.{element_again}
-use Rattle.redl_xml.proofs.Measures.{depth-⊕, count-⊕, capped, one_more-capped, found_sizes, survey_measures}
-use Rattle.redl_xml.proofs.Parts.{outline, outline_is}
+use Rattle.redl_xml.proofs.Measures.{depth-⊕, count-⊕, capped, one_more-capped, sizes, found_sizes, survey_measures}
+use Rattle.redl_xml.proofs.Parts.{outline, document_is}
 
 none_some : {A : Type 0} (x : A) → None ≡ Some x → ⊥
 none_some x e = cc
@@ -126,14 +126,6 @@ whole_count limit b a u =
 
 -- ---- what is read is a reading
 
--- the outline is that of a reading
-pub record HasOutline (limit : ℕ) (bs : List ℕ) (o : Outline) : Type 0 where
-  pub read : Nodes
-  pub reading : IsReading bs read
-  pub made : nodes_at o.before o.root o.after ≡ Some read
-  pub deepest : o.deepest ≡ depth_of read
-  pub nodes : o.nodes ≡ capped limit (count read)
-
 unfilled : (bs : List ℕ) → is_filled bs ≡ false → bs ≡ []
 unfilled [] e = refl
 unfilled (b ∷ bs) e = absurd cc
@@ -142,97 +134,110 @@ cond_none : {A : Type 0} (t : Bool) (x y : A) → cond t None (Some x) ≡ Some 
 cond_none true x y e = absurd (none_some y e)
 cond_none false x y e = (refl, same_Some x y e)
 
-map_some : {A B : Type 0} (f : A → B) (o : Option A) (y : B) → option_map f o ≡ Some y → (x : A) × (o ≡ Some x) × (f x ≡ y)
-map_some f None y e = absurd (none_some y e)
-map_some f (Some x) y e = (x, refl, same_Some (f x) y e)
-
-made_at : (before root after : List ℕ) (x : Nodes × List ℕ) → element_at root ≡ Some x → nodes_at before root after ≡ Some (bytes_or_none before ⊕ (x.0 ⊕ bytes_or_none after))
-unfolding nodes_at
-made_at before root after x e = rw e refl
-
-parts_read : (limit : ℕ) (bs : List ℕ) (u : Nodes) (rest : List ℕ) (b a : List ℕ × List ℕ) → IsText bs → TakesStretch BeforeRoot bs b → element_at b.1 ≡ Some (u, rest) → TakesStretch AfterRoot rest a → a.1 ≡ []
-    → HasOutline limit bs (outline b.0 b.1 a.0 (depth_of u) (counted limit a.0 (counted limit b.0 (capped limit (count u)))))
-parts_read limit bs u rest b a t tb e ta none =
+document_sound : (bs : List ℕ) (u : Nodes) (rest : List ℕ) (b a : List ℕ × List ℕ) → IsText bs → TakesStretch BeforeRoot bs b → element_at b.1 ≡ Some (u, rest) → TakesStretch AfterRoot rest a → a.1 ≡ [] → IsReading bs (whole_nodes (outline b.0 u a.0))
+document_sound bs u rest b a t tb e ta none =
     let s = element_sound b.1 u rest e in
     let behind : rest ≡ a.0 = ta.whole ∙ ap (λ (z : List ℕ). a.0 ++ z) none ∙ append-nil a.0 in
     let whole : text (bytes_or_none b.0 ⊕ (u ⊕ bytes_or_none a.0)) ≡ bs = whole_then b.0 a.0 u ∙ ap (λ (z : List ℕ). b.0 ++ tree_then u z) (sym behind) ∙ ap (λ (z : List ℕ). b.0 ++ z) s.whole ∙ sym tb.whole in
     let P : Nodes → Type 0 = λ x. AreLegal [] x in
     record {
-      read = bytes_or_none b.0 ⊕ (u ⊕ bytes_or_none a.0);
-      reading = record {
-        text = whole;
-        characters = t;
-        document = record {
-          before = bytes_or_none b.0;
-          root = s.one.tag;
-          kids = s.one.kids;
-          after = bytes_or_none a.0;
-          whole = ap (λ (x : Nodes). bytes_or_none b.0 ⊕ (x ⊕ bytes_or_none a.0)) s.one.whole;
-          is_before = tb.legal;
-          is_root = subst P s.one.whole s.legal;
-          is_after = ta.legal;
-        };
+      text = whole;
+      characters = t;
+      document = record {
+        before = bytes_or_none b.0;
+        root = s.one.tag;
+        kids = s.one.kids;
+        after = bytes_or_none a.0;
+        whole = ap (λ (x : Nodes). bytes_or_none b.0 ⊕ (x ⊕ bytes_or_none a.0)) s.one.whole;
+        is_before = tb.legal;
+        is_root = subst P s.one.whole s.legal;
+        is_after = ta.legal;
       };
-      made = made_at b.0 b.1 a.0 (u, rest) e;
-      deepest = sym (whole_depth b.0 a.0 u);
-      nodes = whole_count limit b.0 a.0 u;
     }
 
-pub outline_read : (limit : ℕ) (bs : List ℕ) (o : Outline) → IsText bs → outline_at limit bs ≡ Some o → HasOutline limit bs o
-unfolding outline_at
-outline_read limit bs o t e =
+pub reading_of_document : (bs : List ℕ) (u : Nodes) → IsText bs → document_at bs ≡ Some u → IsReading bs u
+unfolding document_at
+reading_of_document bs u t e =
     let b = stretch_in BeforeRoot bs in
-    let r = bind_some (survey_at limit b.1) (outlined limit b) o e in
-    let m = map_some (found_sizes limit) (element_at b.1) r.0 (sym (survey_measures limit b.1) ∙ r.1) in
-    let F : (ℕ × ℕ) × List ℕ → Type 0 = λ x. outlined limit b x ≡ Some o in
-    let out = subst F (sym m.2) r.2 in
+    let r = bind_some (outline_by element_at bs) (λ o. Some (whole_nodes o)) u e in
+    let m = bind_some (element_at b.1) (outlined b.0) r.0 r.1 in
     let a = stretch_in AfterRoot m.0.1 in
-    let made : Outline = outline b.0 b.1 a.0 (depth_of m.0.0) (counted limit a.0 (counted limit b.0 (capped limit (count m.0.0)))) in
-    let c = cond_none (is_filled a.1) made o out in
-    let P : Outline → Type 0 = HasOutline limit bs in
-    subst P c.1 (parts_read limit bs m.0.0 m.0.1 b a t (stretch_takes BeforeRoot bs) m.1 (stretch_takes AfterRoot m.0.1) (unfilled a.1 c.0))
+    let c = cond_none (is_filled a.1) (outline b.0 m.0.0 a.0) r.0 m.2 in
+    let P : Nodes → Type 0 = IsReading bs in
+    subst P (ap whole_nodes c.1 ∙ same_Some (whole_nodes r.0) u r.2) (document_sound bs m.0.0 m.0.1 b a t (stretch_takes BeforeRoot bs) m.1 (stretch_takes AfterRoot m.0.1) (unfilled a.1 c.0))
 
 -- ---- each reading is read
 
-pub record IsOutlined (limit : ℕ) (bs : List ℕ) (u : Nodes) : Type 0 where
-  pub parts : Outline
-  pub is : outline_at limit bs ≡ Some parts
-  pub made : nodes_at parts.before parts.root parts.after ≡ Some u
-
-parts_again : (limit : ℕ) (tag : Tag) (kids : Nodes) (b a : List ℕ) → AreLegal [] (element tag kids no_nodes) → ((b ≡ []) ⊎ IsStretch BeforeRoot b) → ((a ≡ []) ⊎ IsStretch AfterRoot a)
-    → IsOutlined limit (b ++ tree_then (element tag kids no_nodes) a) (bytes_or_none b ⊕ (element tag kids no_nodes ⊕ bytes_or_none a))
-parts_again limit tag kids b a h hb ha =
+document_again : (tag : Tag) (kids : Nodes) (b a : List ℕ) → AreLegal [] (element tag kids no_nodes) → ((b ≡ []) ⊎ IsStretch BeforeRoot b) → ((a ≡ []) ⊎ IsStretch AfterRoot a)
+    → document_at (b ++ tree_then (element tag kids no_nodes) a) ≡ Some (bytes_or_none b ⊕ (element tag kids no_nodes ⊕ bytes_or_none a))
+document_again tag kids b a h hb ha =
     let r : Nodes = element tag kids no_nodes in
     let root : List ℕ = tree_then r a in
-    let read = element_again tag kids a h in
     let before : Some (stretch_in BeforeRoot (b ++ root)) ≡ Some (b, root) = ap (λ (x : List ℕ × List ℕ). Some x) (stretch_again BeforeRoot b root hb (start_ends_stretch (name_of tag) (tag.tail ++ close_then tag tag.close (tree_then kids) a) h.0.name) (root_is_no_stretch BeforeRoot tag kids a h)) in
     let after : Some (stretch_in AfterRoot a) ≡ Some (a, []) = ap (λ (x : List ℕ). Some (stretch_in AfterRoot x)) (sym (append-nil a)) ∙ ap (λ (x : List ℕ × List ℕ). Some x) (stretch_again AfterRoot a [] ha refl (stretch_in_nothing AfterRoot)) in
-    let survey : survey_at limit root ≡ Some ((depth_of r, capped limit (count r)), a) = survey_measures limit root ∙ ap (option_map (found_sizes limit)) read in
-    record {
-      parts = outline b root a (depth_of r) (counted limit a (counted limit b (capped limit (count r))));
-      is = outline_is limit (b ++ root) b root (depth_of r) (capped limit (count r)) a a [] before survey after refl;
-      made = made_at b root a (r, a) read;
-    }
+    document_is (b ++ root) b root r a a [] before (element_again tag kids a h) after refl
 
-pub reading_outlined : (limit : ℕ) (bs : List ℕ) (u : Nodes) → IsReading bs u → IsOutlined limit bs u
-reading_outlined limit bs u h =
+pub document_of_reading : (bs : List ℕ) (u : Nodes) → IsReading bs u → document_at bs ≡ Some u
+document_of_reading bs u h =
     let d = h.document in
     let b = has_bytes BeforeRoot d.before d.is_before in
     let a = has_bytes AfterRoot d.after d.is_after in
     let r : Nodes = element d.root d.kids no_nodes in
     let parts : u ≡ bytes_or_none b.bytes_of ⊕ (r ⊕ bytes_or_none a.bytes_of) = d.whole ∙ ap (λ (x : Nodes). x ⊕ element d.root d.kids d.after) b.is ∙ ap (λ (x : Nodes). bytes_or_none b.bytes_of ⊕ element d.root d.kids x) a.is in
     let whole : b.bytes_of ++ tree_then r a.bytes_of ≡ bs = sym (whole_then b.bytes_of a.bytes_of r) ∙ ap text (sym parts) ∙ h.text in
-    let P : List ℕ → Type 0 = λ z. IsOutlined limit z (bytes_or_none b.bytes_of ⊕ (r ⊕ bytes_or_none a.bytes_of)) in
-    let Q : Nodes → Type 0 = λ x. IsOutlined limit bs x in
-    subst Q (sym parts) (subst P whole (parts_again limit d.root d.kids b.bytes_of a.bytes_of d.is_root b.legal a.legal))
+    ap document_at (sym whole) ∙ document_again d.root d.kids b.bytes_of a.bytes_of d.is_root b.legal a.legal ∙ ap (λ (x : Nodes). Some x) (sym parts)
 
 -- One text has at most one tree.
 pub one_tree : (bs : List ℕ) (u v : Nodes) → IsReading bs u → IsReading bs v → u ≡ v
-one_tree bs u v hu hv =
-    let m = reading_outlined 0 bs u hu in
-    let n = reading_outlined 0 bs v hv in
-    let same = same_Some m.parts n.parts (sym m.is ∙ n.is) in
-    same_Some u v (sym m.made ∙ ap (λ (o : Outline). nodes_at o.before o.root o.after) same ∙ n.made)
+one_tree bs u v hu hv = same_Some u v (sym (document_of_reading bs u hu) ∙ document_of_reading bs v hv)
 
-pub no_outline : (limit : ℕ) (bs : List ℕ) → outline_at limit bs ≡ None → (u : Nodes) → IsReading bs u → ⊥
-no_outline limit bs e u h = let m = reading_outlined limit bs u h in none_some m.parts (sym e ∙ m.is)
+pub no_document : (bs : List ℕ) → document_at bs ≡ None → (u : Nodes) → IsReading bs u → ⊥
+no_document bs e u h = none_some u (sym e ∙ document_of_reading bs u h)
+
+-- ---- sizes
+
+sizes_of_end : (limit : ℕ) (b : List ℕ) (u : Nodes) (a : List ℕ × List ℕ) (t : Bool) → is_filled a.1 ≡ t → (outline_with b (sizes limit u) a >>= λ o. Some (whole_sizes limit o)) ≡ option_map (sizes limit) (outline_with b u a >>= λ o. Some (whole_nodes o))
+sizes_of_end limit b u a true e = rw e refl
+sizes_of_end limit b u a false e =
+    let deep : depth_of u ≡ depth_of (whole_nodes (outline b u a.0)) = sym (whole_depth b a.0 u) in
+    let same : Some (whole_sizes limit (outline b (sizes limit u) a.0)) ≡ Some (sizes limit (whole_nodes (outline b u a.0))) =
+    ap (λ (d : ℕ). Some (d, counted limit a.0 (counted limit b (capped limit (count u))))) deep ∙ ap (λ (n : ℕ). Some (depth_of (whole_nodes (outline b u a.0)), n)) (whole_count limit b a.0 u) in
+    rw e same
+
+sizes_of_root : (limit : ℕ) (b : List ℕ) (o : Option (Nodes × List ℕ)) → ((option_map (found_sizes limit) o >>= outlined b) >>= λ o. Some (whole_sizes limit o)) ≡ option_map (sizes limit) ((o >>= outlined b) >>= λ o. Some (whole_nodes o))
+sizes_of_root limit b None = refl
+sizes_of_root limit b (Some x) = sizes_of_end limit b x.0 (stretch_in AfterRoot x.1) (is_filled (stretch_in AfterRoot x.1).1) refl
+
+-- The sizes are those of the nodes.
+sizes_of_document : (limit : ℕ) (bs : List ℕ) → sizes_at limit bs ≡ option_map (sizes limit) (document_at bs)
+unfolding sizes_at document_at
+sizes_of_document limit bs =
+    let b = stretch_in BeforeRoot bs in
+    ap (λ (o : Option ((ℕ × ℕ) × List ℕ)). (o >>= outlined b.0) >>= λ o. Some (whole_sizes limit o)) (survey_measures limit b.1) ∙ sizes_of_root limit b.0 (element_at b.1)
+
+pub no_sizes : (limit : ℕ) (bs : List ℕ) → sizes_at limit bs ≡ None → document_at bs ≡ None
+no_sizes limit bs e = of (document_at bs) (sym (sizes_of_document limit bs) ∙ e) where
+  of : (o : Option Nodes) → option_map (sizes limit) o ≡ None → o ≡ None
+  of None h = refl
+  of (Some u) h = absurd cc
+
+-- the sizes are those of a reading
+pub record HasSizes (limit : ℕ) (bs : List ℕ) (x : ℕ × ℕ) : Type 0 where
+  pub read : Nodes
+  pub reading : IsReading bs read
+  pub deepest : x.0 ≡ depth_of read
+  pub nodes : x.1 ≡ capped limit (count read)
+
+map_some : {A B : Type 0} (f : A → B) (o : Option A) (y : B) → option_map f o ≡ Some y → (x : A) × (o ≡ Some x) × (f x ≡ y)
+map_some f None y e = absurd (none_some y e)
+map_some f (Some x) y e = (x, refl, same_Some (f x) y e)
+
+pub has_sizes : (limit : ℕ) (bs : List ℕ) (x : ℕ × ℕ) → IsText bs → sizes_at limit bs ≡ Some x → HasSizes limit bs x
+has_sizes limit bs x t e =
+    let m = map_some (sizes limit) (document_at bs) x (sym (sizes_of_document limit bs) ∙ e) in
+    record {
+      read = m.0;
+      reading = reading_of_document bs m.0 t m.1;
+      deepest = ap (λ (y : ℕ × ℕ). y.0) (sym m.2);
+      nodes = ap (λ (y : ℕ × ℕ). y.1) (sym m.2);
+    }

@@ -5,6 +5,7 @@ pub mod Scoping
 pub mod Buildings
 pub mod OpenTags
 pub mod Loops
+pub mod Surveys
 pub mod Parts
 pub mod TreeTexts
 pub mod Sound

@@ -17,7 +17,7 @@ use Rattle.redl_markup.proofs.Runs.{either}
 use Rattle.redl_xml.specs.Shapes.{depth_of}
 use Rattle.redl_xml.specs.Scopes.{Scope}
 use Rattle.redl_xml.specs.Elements.{entered, left, Frame, State, one_element, added, opened, closed, stretched, placed, finished_by, finished, nothing_yet, Point, from_result, from_state, from_piece, element_step, element_by, element_at}
-use Rattle.redl_xml.specs.Surveys.{Survey, one_more, survey_closed, survey_stretched, surveyed, survey_finished_by, survey_finished, survey_at}
+use Rattle.redl_xml.specs.Surveys.{Survey, one_more, survey_closed, survey_stretched, surveyed, survey_finished_by, survey_finished, tag_of, survey_at}
 use Rattle.redl_xml.proofs.OpenTags.{survey}
 use Rattle.redl_xml.proofs.Loops.{step_of}
 
@@ -61,48 +61,45 @@ one_more-capped limit n =
 
 -- ---- what a survey says of a state
 
-abbrev frame_tag : Frame → Name × List ℕ
-frame_tag f = (f.name, f.tail)
-
 abbrev measure : ℕ → State → Survey
-measure limit s = survey (map frame_tag s.open_elements) (state_depth s) (capped limit (state_count s)) s.scope
+measure limit s = survey (map tag_of s.open_elements) (state_depth s) (capped limit (state_count s)) s.scope
 
 same_survey : (limit : ℕ) (tags : List (Name × List ℕ)) (d d' n n' : ℕ) (scope : Scope) → d ≡ d' → n ≡ n' → survey tags d n scope ≡ survey tags d' n' scope
 same_survey limit tags d d' n n' scope e f = ap (λ (x : ℕ). survey tags x n scope) e ∙ ap (λ (x : ℕ). survey tags d' x scope) f
 
-length-tags : (fs : List Frame) → length (map frame_tag fs) ≡ length fs
-length-tags fs = length-map fs frame_tag
+length-tags : (fs : List Frame) → length (map tag_of fs) ≡ length fs
+length-tags fs = length-map fs tag_of
 
 opened_measure : (limit : ℕ) (s : State) (name : Name) (tail : List ℕ) (x : Space × Scope)
-    → survey ((name, tail) ∷ map frame_tag s.open_elements) (max (state_depth s) (length (map frame_tag s.open_elements) + 1)) (one_more limit (capped limit (state_count s))) x.1 ≡ measure limit (opened name tail s x)
+    → survey ((name, tail) ∷ map tag_of s.open_elements) (max (state_depth s) (length (map tag_of s.open_elements) + 1)) (one_more limit (capped limit (state_count s))) x.1 ≡ measure limit (opened name tail s x)
 opened_measure limit s name tail x =
-    let deep : max (state_depth s) (length (map frame_tag s.open_elements) + 1) ≡ state_depth (opened name tail s x) = omega (arith, length-tags s.open_elements) in
+    let deep : max (state_depth s) (length (map tag_of s.open_elements) + 1) ≡ state_depth (opened name tail s x) = omega (arith, length-tags s.open_elements) in
     let many : state_count s + 1 ≡ state_count (opened name tail s x) = omega arith in
     same_survey limit _ _ _ _ _ x.1 deep (one_more-capped limit (state_count s) ∙ ap (capped limit) many)
 
 empty_measure : (limit : ℕ) (s : State) (name : Name) (tail : List ℕ) (x : Space × Scope)
-    → survey (map frame_tag s.open_elements) (max (state_depth s) (length (map frame_tag s.open_elements) + 1)) (one_more limit (capped limit (state_count s))) s.scope ≡ measure limit (added s (one_element name x.0 tail Empty no_nodes))
+    → survey (map tag_of s.open_elements) (max (state_depth s) (length (map tag_of s.open_elements) + 1)) (one_more limit (capped limit (state_count s))) s.scope ≡ measure limit (added s (one_element name x.0 tail Empty no_nodes))
 empty_measure limit s name tail x =
     let one : Nodes = one_element name x.0 tail Empty no_nodes in
-    let deep : max (state_depth s) (length (map frame_tag s.open_elements) + 1) ≡ state_depth (added s one) = omega (arith, length-tags s.open_elements, depth-⊕ s.kids one) in
+    let deep : max (state_depth s) (length (map tag_of s.open_elements) + 1) ≡ state_depth (added s one) = omega (arith, length-tags s.open_elements, depth-⊕ s.kids one) in
     let many : state_count s + 1 ≡ state_count (added s one) = omega (arith, count-⊕ s.kids one) in
     same_survey limit _ _ _ _ _ s.scope deep (one_more-capped limit (state_count s) ∙ ap (capped limit) many)
 
-stretched_measure : (limit : ℕ) (s : State) (b : List ℕ) → survey (map frame_tag s.open_elements) (state_depth s) (one_more limit (capped limit (state_count s))) s.scope ≡ measure limit (added s (bytes b no_nodes))
+stretched_measure : (limit : ℕ) (s : State) (b : List ℕ) → survey (map tag_of s.open_elements) (state_depth s) (one_more limit (capped limit (state_count s))) s.scope ≡ measure limit (added s (bytes b no_nodes))
 stretched_measure limit s b =
     let deep : state_depth s ≡ state_depth (added s (bytes b no_nodes)) = omega (arith, depth-⊕ s.kids (bytes b no_nodes)) in
     let many : state_count s + 1 ≡ state_count (added s (bytes b no_nodes)) = omega (arith, count-⊕ s.kids (bytes b no_nodes)) in
     same_survey limit _ _ _ _ _ s.scope deep (one_more-capped limit (state_count s) ∙ ap (capped limit) many)
 
 closed_measure : (limit : ℕ) (f : Frame) (fs : List Frame) (kids : Nodes) (scope : Scope) (space : List ℕ) (s s' : State) → s ≡ record { open_elements = f ∷ fs; kids = kids; scope = scope } → s' ≡ record { open_elements = fs; kids = f.before ⊕ one_element f.name f.space f.tail (End space) kids; scope = left f.tail scope }
-    → survey (map frame_tag fs) (state_depth s) (capped limit (state_count s)) (left f.tail scope) ≡ measure limit s'
+    → survey (map tag_of fs) (state_depth s) (capped limit (state_count s)) (left f.tail scope) ≡ measure limit s'
 closed_measure limit f fs kids scope space s s' e e' =
     let old : State = record { open_elements = f ∷ fs; kids = kids; scope = scope } in
     let one : Nodes = one_element f.name f.space f.tail (End space) kids in
     let now : State = record { open_elements = fs; kids = f.before ⊕ one; scope = left f.tail scope } in
     let deep : state_depth old ≡ state_depth now = omega (arith, depth-⊕ f.before one) in
     let many : state_count old ≡ state_count now = omega (arith, count-⊕ f.before one) in
-    ap (λ (t : State). survey (map frame_tag fs) (state_depth t) (capped limit (state_count t)) (left f.tail scope)) e ∙ same_survey limit _ _ _ _ _ (left f.tail scope) deep (ap (capped limit) many) ∙ ap (measure limit) (sym e')
+    ap (λ (t : State). survey (map tag_of fs) (state_depth t) (capped limit (state_count t)) (left f.tail scope)) e ∙ same_survey limit _ _ _ _ _ (left f.tail scope) deep (ap (capped limit) many) ∙ ap (measure limit) (sym e')
 
 -- ---- one piece
 
@@ -110,18 +107,18 @@ map_some : {A B C : Type 0} (f : B → C) (o : Option A) (g : A → B) (h : A �
 map_some f None g h e = refl
 map_some f (Some x) g h e = ap (λ y. Some y) (e x)
 
-surveyed_stretch : (limit : ℕ) (fs : List Frame) (s : State) (b : List ℕ) → survey_stretched limit (map frame_tag fs) (measure limit s) ≡ option_map (measure limit) (stretched fs s b)
+surveyed_stretch : (limit : ℕ) (fs : List Frame) (s : State) (b : List ℕ) → survey_stretched limit (map tag_of fs) (measure limit s) ≡ option_map (measure limit) (stretched fs s b)
 surveyed_stretch limit [] s b = refl
 surveyed_stretch limit (f ∷ fs) s b = ap (λ (v : Survey). Some v) (stretched_measure limit s b)
 
-surveyed_end : (limit : ℕ) (fs : List Frame) (kids : Nodes) (scope : Scope) (name : Name) (space : List ℕ) (s : State) → s ≡ record { open_elements = fs; kids = kids; scope = scope } → survey_closed (map frame_tag fs) (measure limit s) name ≡ option_map (measure limit) (closed fs kids scope name space)
+surveyed_end : (limit : ℕ) (fs : List Frame) (kids : Nodes) (scope : Scope) (name : Name) (space : List ℕ) (s : State) → s ≡ record { open_elements = fs; kids = kids; scope = scope } → survey_closed (map tag_of fs) (measure limit s) name ≡ option_map (measure limit) (closed fs kids scope name space)
 surveyed_end limit [] kids scope name space s e = refl
 surveyed_end limit (f ∷ fs) kids scope name space s e = of (name_eq f.name name) where
   now : State
   now = record { open_elements = fs; kids = f.before ⊕ one_element f.name f.space f.tail (End space) kids; scope = left f.tail scope }
 
-  of : (t : Bool) → cond t (Some (survey (map frame_tag fs) (state_depth s) (capped limit (state_count s)) (left f.tail s.scope))) None ≡ option_map (measure limit) (cond t (Some now) None)
-  of true = ap (λ (v : Survey). Some v) (ap (λ (t : State). survey (map frame_tag fs) (state_depth s) (capped limit (state_count s)) (left f.tail t.scope)) e ∙ closed_measure limit f fs kids scope space s now e refl)
+  of : (t : Bool) → cond t (Some (survey (map tag_of fs) (state_depth s) (capped limit (state_count s)) (left f.tail s.scope))) None ≡ option_map (measure limit) (cond t (Some now) None)
+  of true = ap (λ (v : Survey). Some v) (ap (λ (t : State). survey (map tag_of fs) (state_depth s) (capped limit (state_count s)) (left f.tail t.scope)) e ∙ closed_measure limit f fs kids scope space s now e refl)
   of false = refl
 
 surveyed_placed : (limit : ℕ) (p : Piece) (s : State) → surveyed limit p (measure limit s) ≡ option_map (measure limit) (placed p s)
@@ -137,7 +134,7 @@ sizes limit u = (depth_of u, capped limit (count u))
 
 surveyed_finish : (limit : ℕ) (s : State) → survey_finished (measure limit s) ≡ option_map (sizes limit) (finished s)
 surveyed_finish limit s = of s.open_elements s.kids where
-  of : (fs : List Frame) (kids : Nodes) → survey_finished_by (map frame_tag fs) (max (open_depth fs) (length fs + depth_of kids)) (capped limit (open_count fs + count kids)) ≡ option_map (sizes limit) (finished_by fs kids)
+  of : (fs : List Frame) (kids : Nodes) → survey_finished_by (map tag_of fs) (max (open_depth fs) (length fs + depth_of kids)) (capped limit (open_count fs + count kids)) ≡ option_map (sizes limit) (finished_by fs kids)
   of [] kids =
       let deep : max 0 (0 + depth_of kids) ≡ depth_of kids = omega arith in
       let many : 0 + count kids ≡ count kids = omega arith in

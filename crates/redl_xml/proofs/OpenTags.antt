@@ -38,8 +38,8 @@ finished_some : (ts : List (Name × List ℕ)) (deepest nodes : ℕ) → (length
 finished_some [] deepest nodes e = absurd (e refl)
 finished_some (t ∷ ts) deepest nodes e = refl
 
-pub finished_at : (v : code.Survey) → length v.open.items ≡ 0 → survey_finished (survey_view v) ≡ Some (v.deepest, v.nodes)
-finished_at v e = finished_none (tags v.open.items) v.deepest v.nodes (length-tags v.open.items ∙ e)
+pub finished_at : (v : code.Survey) → length v.open.items ≡ 0 → survey_finished (survey_view v) ≡ Some (v.sizes.deepest, v.sizes.nodes)
+finished_at v e = finished_none (tags v.open.items) v.sizes.deepest v.sizes.nodes (length-tags v.open.items ∙ e)
 
 pub unfinished_at : (v : code.Survey) → (length v.open.items ≢ 0) → survey_finished (survey_view v) ≡ None
-unfinished_at v e = finished_some (tags v.open.items) v.deepest v.nodes (λ h. e (sym (length-tags v.open.items) ∙ h))
+unfinished_at v e = finished_some (tags v.open.items) v.sizes.deepest v.sizes.nodes (λ h. e (sym (length-tags v.open.items) ∙ h))

@@ -23,40 +23,41 @@ stretch_or_none bs (Some x) = by_piece x.0 where
 unfoldable pub stretch_in : Place → List ℕ → List ℕ × List ℕ
 stretch_in place bs = stretch_or_none bs (piece_at place bs)
 
--- what stands before the root, from the root on, and behind it
-pub record Outline : Type 0 where
+-- what stands before the root, what was made of the root, and what stands behind it
+pub record Outline (R : Type 0) : Type 0 where
   pub before : List ℕ
-  pub root : List ℕ
+  pub root : R
   pub after : List ℕ
-  pub deepest : ℕ
-  pub nodes : ℕ
 
-abbrev pub counted : ℕ → List ℕ → ℕ → ℕ
-counted limit b n = if is_filled b then one_more limit n else n
+abbrev pub outline_with : {R : Type 0} → List ℕ → R → List ℕ × List ℕ → Option (Outline R)
+outline_with before root after = if is_filled after.1 then None else Some (record { before = before; root = root; after = after.0 })
 
--- with a surveyed root, and what stands behind that
-abbrev pub outlined : ℕ → List ℕ × List ℕ → (ℕ × ℕ) × List ℕ → Option Outline
-outlined limit before found = at_end (stretch_in AfterRoot found.1) where
-  at_end : List ℕ × List ℕ → Option Outline
-  at_end after =
-      if is_filled after.1 then None
-      else Some (record {
-        before = before.0;
-        root = before.1;
-        after = after.0;
-        deepest = found.0.0;
-        nodes = counted limit after.0 (counted limit before.0 found.0.1);
-      })
+-- with what was made of the root, and what stands behind that
+abbrev pub outlined : {R : Type 0} → List ℕ → R × List ℕ → Option (Outline R)
+outlined before found = outline_with before found.0 (stretch_in AfterRoot found.1)
 
--- the parts of a document, its depth, and its nodes up to one above a limit
-unfoldable pub outline_at : ℕ → List ℕ → Option Outline
-outline_at limit bs = survey_at limit (stretch_in BeforeRoot bs).1 >>= outlined limit (stretch_in BeforeRoot bs)
+-- the parts of a document whose root is read so
+abbrev pub outline_by : {R : Type 0} → (List ℕ → Option (R × List ℕ)) → List ℕ → Option (Outline R)
+outline_by read bs = read (stretch_in BeforeRoot bs).1 >>= outlined (stretch_in BeforeRoot bs).0
 
 -- the bytes as a bytes node, where there are any
 abbrev pub bytes_or_none : List ℕ → Nodes
 bytes_or_none [] = no_nodes
 bytes_or_none (b ∷ bs) = bytes (b ∷ bs) no_nodes
 
--- the nodes of a document with these parts
-unfoldable pub nodes_at : List ℕ → List ℕ → List ℕ → Option Nodes
-nodes_at before root after = element_at root >>= λ x. Some (bytes_or_none before ⊕ (x.0 ⊕ bytes_or_none after))
+abbrev pub whole_nodes : Outline Nodes → Nodes
+whole_nodes o = bytes_or_none o.before ⊕ (o.root ⊕ bytes_or_none o.after)
+
+-- the nodes of a document
+unfoldable pub document_at : List ℕ → Option Nodes
+document_at bs = outline_by element_at bs >>= λ o. Some (whole_nodes o)
+
+abbrev pub counted : ℕ → List ℕ → ℕ → ℕ
+counted limit b n = if is_filled b then one_more limit n else n
+
+abbrev pub whole_sizes : ℕ → Outline (ℕ × ℕ) → ℕ × ℕ
+whole_sizes limit o = (o.root.0, counted limit o.after (counted limit o.before o.root.1))
+
+-- how deep a document goes, and its nodes up to one above a limit
+unfoldable pub sizes_at : ℕ → List ℕ → Option (ℕ × ℕ)
+sizes_at limit bs = outline_by (survey_at limit) bs >>= λ o. Some (whole_sizes limit o)

@@ -7,5 +7,4 @@ pub mod Stacks
 pub mod Buildings
 pub mod OpenTags
 pub mod Documents
-pub mod OutlineViews
 pub mod Errors

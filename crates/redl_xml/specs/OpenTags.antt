@@ -10,4 +10,4 @@ abbrev pub tag_view : OpenTag → Name × List ℕ
 tag_view t = (name_view t.name, t.tail.now)
 
 abbrev pub survey_view : code.Survey → Survey
-survey_view v = record { open_tags = reverse (map tag_view v.open.items); deepest = v.deepest; nodes = v.nodes; scope = v.scopes }
+survey_view v = record { open_tags = reverse (map tag_view v.open.items); deepest = v.sizes.deepest; nodes = v.sizes.nodes; scope = v.scopes }

@@ -1,10 +1,10 @@
 -- How deep an element goes and how many nodes it has, by the tags of the open elements alone.
-use Rattle.std.specs.Prelude.{ℕ, ◌+◌, max, nat_le, List, [], ◌∷◌, length, Option, Some, None, if◌then◌else◌}
+use Rattle.std.specs.Prelude.{ℕ, ◌+◌, max, nat_le, List, [], ◌∷◌, length, map, Option, Some, None, if◌then◌else◌}
 use Rattle.redl_markup.specs.Reading.{◌>>=◌}
 use Rattle.redl_markup.specs.Names.{Name, name_eq}
 use Rattle.redl_markup.specs.Pieces.{Piece, start_tag, empty_tag, end_tag, stretch}
 use Rattle.redl_xml.specs.Scopes.{Scope}
-use Rattle.redl_xml.specs.Elements.{entered, left, element_by}
+use Rattle.redl_xml.specs.Elements.{entered, left, Frame, State, element_by}
 
 -- The names and tails of the open elements, the innermost first, the greatest depth so far, the nodes so far, up to
 -- one above a limit, and the scope in the innermost.
@@ -52,9 +52,38 @@ survey_finished_by (t ∷ ts) deepest nodes = None
 abbrev pub survey_finished : Survey → Option (ℕ × ℕ)
 survey_finished s = survey_finished_by s.open_tags s.deepest s.nodes
 
+-- ---- the sizes beside what is built
+
+-- the greatest depth with one more piece, where an element that begins there stands at this depth
+abbrev pub deepest_with : Piece → ℕ → ℕ → ℕ
+deepest_with (start_tag name tail) depth deepest = max deepest depth
+deepest_with (empty_tag name tail) depth deepest = max deepest depth
+deepest_with (stretch b) depth deepest = deepest
+deepest_with (end_tag name space) depth deepest = deepest
+
+-- the nodes with one more piece
+abbrev pub nodes_with : ℕ → Piece → ℕ → ℕ
+nodes_with limit (start_tag name tail) n = one_more limit n
+nodes_with limit (empty_tag name tail) n = one_more limit n
+nodes_with limit (stretch b) n = one_more limit n
+nodes_with limit (end_tag name space) n = n
+
+abbrev pub tag_of : Frame → Name × List ℕ
+tag_of f = (f.name, f.tail)
+
+-- what a survey keeps of what is built, with its sizes
+abbrev pub survey_of : ℕ → ℕ → State → Survey
+survey_of deepest nodes s = record { open_tags = map tag_of s.open_elements; deepest = deepest; nodes = nodes; scope = s.scope }
+
+-- ---- the turns
+
+-- depth and nodes of an element with these open tags, and what stands behind it
+abbrev pub survey_from : ℕ → Survey → List ℕ → Option ((ℕ × ℕ) × List ℕ)
+survey_from limit s bs = element_by (surveyed limit) survey_finished s bs
+
 abbrev pub survey_begun : Survey
 survey_begun = record { open_tags = []; deepest = 0; nodes = 0; scope = [] }
 
 -- depth and nodes of the element at the front, and what stands behind it
 abbrev pub survey_at : ℕ → List ℕ → Option ((ℕ × ℕ) × List ℕ)
-survey_at limit bs = element_by (surveyed limit) survey_finished survey_begun bs
+survey_at limit bs = survey_from limit survey_begun bs

@@ -1,14 +1,18 @@
 //! The elements that are open, and the nodes in them so far.
 
-ghost use Rattle.std.specs.Prelude.{◌≡◌, IfOk, OnOk, IsErrOf, Some, None};
+ghost use Rattle.std.specs.Prelude.{◌≡◌, IfOk, OnOk, IsErrOf, Some, None, map};
 ghost use Rattle.redl_tree.specs.Nodes.{element_item, bytes_item};
 ghost use Rattle.redl_tree.specs.View.{item_of, nodes_of};
 ghost use Rattle.redl_markup.specs.Views.{name_view, piece_view};
 ghost use Rattle.redl_markup.specs.Pieces.{start_tag, empty_tag, end_tag, stretch};
 ghost use Rattle.redl_xml.specs.Elements.{plain_tag, placed, nothing_yet};
+ghost use Rattle.redl_xml.specs.Surveys.{survey_of};
 ghost use Rattle.redl_xml.specs.Buildings.{building_view};
+ghost use Rattle.redl_xml.specs.OpenTags.{survey_view};
 
 use crate::scope::Scopes;
+use crate::sizes::Sizes;
+use crate::survey::{OpenTag, Survey};
 use crate::tail::{enter, leave};
 use redl_io::Text;
 use redl_markup::{MarkupError, Name, Piece};
@@ -19,8 +23,7 @@ use std::mem;
 /// An open element, and its siblings before it.
 #[derive(Drop)]
 pub(crate) struct OpenElement<'a> {
-    pub(crate) name: Name<'a>,
-    pub(crate) tail: &'a [u8],
+    pub(crate) tag: OpenTag<'a>,
     pub(crate) space: Space,
     pub(crate) before: Vec<Node>,
 }
@@ -62,6 +65,17 @@ pub(crate) fn bytes_node(alloc: Global, bytes: &[u8]) -> Result<Node, AllocError
     Ok(Node::Bytes(Text::copy_of(alloc, bytes)?))
 }
 
+/// The tags of open elements.
+fn tags_of<'a>(alloc: Global, elements: &[OpenElement<'a>]) -> Result<Vec<OpenTag<'a>>, AllocError>
+    ensures { IfOk result (λ tags. tags.items ≡ map (λ opened. opened.tag) elements.now) }
+{
+    let mut tags = Vec::new(alloc);
+    for opened in elements {
+        tags.push(opened.tag)?;
+    }
+    Ok(tags)
+}
+
 impl<'a> Building<'a> {
     pub(crate) fn new(alloc: Global) -> Building<'a>
         ensures { building_view result ≡ nothing_yet }
@@ -80,8 +94,7 @@ impl<'a> Building<'a> {
         let space = enter(&mut self.scopes, alloc, name, tail)?;
         let before = mem::replace(&mut self.kids, Vec::new(alloc));
         self.open.push(OpenElement {
-            name,
-            tail,
+            tag: OpenTag { name, tail },
             space,
             before,
         })?;
@@ -118,14 +131,21 @@ impl<'a> Building<'a> {
         let Some(opened) = self.open.pop() else {
             return Err(MarkupError::Unreadable);
         };
-        if opened.name != name {
+        if opened.tag.name != name {
             return Err(MarkupError::Unreadable);
         }
-        leave(&mut self.scopes, opened.tail);
+        leave(&mut self.scopes, opened.tag.tail);
         let close = Close::End(Text::copy_of(alloc, space)?);
         let mut kids = mem::replace(&mut self.kids, opened.before);
         kids.shrink_to_fit();
-        let node = element(alloc, opened.name, opened.space, opened.tail, kids, close)?;
+        let node = element(
+            alloc,
+            opened.tag.name,
+            opened.space,
+            opened.tag.tail,
+            kids,
+            close,
+        )?;
         self.kids.push(node)?;
         Ok(())
     }
@@ -141,5 +161,18 @@ impl<'a> Building<'a> {
             Piece::Stretch(bytes) => self.stretch(alloc, bytes),
             Piece::End(name, space) => self.end(alloc, name, space),
         }
+    }
+
+    /// The survey of what is open, with what was counted. The nodes go.
+    pub(crate) fn into_survey(self, alloc: Global, sizes: Sizes) -> Result<Survey<'a>, AllocError>
+        ensures { IfOk result (λ survey. survey_view survey ≡ survey_of sizes.deepest sizes.nodes (building_view self.entry)) }
+    {
+        let Building { open, scopes, .. } = self;
+        let open = tags_of(alloc, &open)?;
+        Ok(Survey {
+            open,
+            sizes,
+            scopes,
+        })
     }
 }

@@ -1,37 +1,39 @@
 //! A whole text read as nodes.
 
-ghost use Rattle.std.specs.Prelude.{◌≡◌, ◌<◌, ◌≤◌, IfOk, OnOk, IsErrOf};
+ghost use Rattle.std.specs.Prelude.{◌≡◌, ◌<◌, ◌≤◌, IfOk, OnOk, IsErrOf, Some};
 ghost use Rattle.redl_tree.specs.Nodes.{Nodes, ◌⊕◌};
 ghost use Rattle.redl_tree.specs.Count.{count};
 ghost use Rattle.redl_tree.specs.View.{nodes_of};
 ghost use Rattle.redl_markup.specs.Reading.{Finds};
 ghost use Rattle.redl_xml.specs.Shapes.{depth_of};
-ghost use Rattle.redl_xml.specs.Elements.{element_at};
-ghost use Rattle.redl_xml.specs.Documents.{nodes_at, bytes_or_none};
+ghost use Rattle.redl_xml.specs.Documents.{stretch_in, bytes_or_none, document_at, counted, sizes_at};
 ghost use Rattle.redl_xml.specs.Readings.{IsReading, HasReading, HasNoReading};
 
-use crate::building::{Building, bytes_node};
-use crate::outline::outline_of;
+use crate::building::bytes_node;
+use crate::element::read_element;
+use crate::sizes::{Limits, Sizes};
 use crate::xml_error::XmlError;
 use crate::{DEPTH_LIMIT, NODE_LIMIT};
-use redl_markup::{MarkupError, Place, is_text, next_piece};
+use redl_markup::{MarkupError, Piece, Place, is_text, next_piece};
 use redl_tree::Node;
 use std::alloc::{AllocError, Global};
 
-/// The element at the front, as a list of one node, and what stands behind it.
-fn element(alloc: Global, bytes: &[u8]) -> Result<(Vec<Node>, &[u8]), MarkupError>
-    ensures { Finds (λ x. (nodes_of x.0.items, x.1.now)) result (element_at bytes.now) }
+/// The nodes of a document, how deep they go, and how many they are, up to one above a limit.
+#[derive(Drop)]
+struct Document {
+    nodes: Vec<Node>,
+    sizes: Sizes,
+}
+
+/// The stretch of this place at the front, or nothing, and what stands behind it.
+#[tactic(auto, unfolding(crate::specs::Documents::stretch_in))]
+fn stretch(alloc: Global, bytes: &[u8], place: Place) -> Result<(&[u8], &[u8]), MarkupError>
+    ensures { Finds (λ x. (x.0.now, x.1.now)) result (Some (stretch_in place bytes.now)) }
 {
-    let mut building = Building::new(alloc);
-    let mut rest = bytes;
-    loop {
-        let (piece, behind) = next_piece(alloc, rest, Place::InElement)?;
-        building.place(alloc, piece)?;
-        rest = behind;
-        if building.open.is_empty() {
-            let Building { kids, .. } = building;
-            return Ok((kids, rest));
-        }
+    match next_piece(alloc, bytes, place) {
+        Ok((Piece::Stretch(stretch), rest)) => Ok((stretch, rest)),
+        Err(MarkupError::NoMemory) => Err(MarkupError::NoMemory),
+        _ => Ok((b"", bytes)),
     }
 }
 
@@ -47,12 +49,16 @@ fn push_bytes(nodes: &mut Vec<Node>, alloc: Global, bytes: &[u8]) -> Result<(), 
     Ok(())
 }
 
-/// The nodes of a document, from what stands before its root, from the root on, and behind it.
-#[tactic(auto, unfolding(crate::specs::Documents::nodes_at))]
-fn nodes(alloc: Global, before: &[u8], root: &[u8], after: &[u8]) -> Result<Vec<Node>, MarkupError>
-    ensures { Finds (λ v. nodes_of v.items) result (nodes_at before.now root.now after.now) }
+/// The nodes at the top: what stands before the root, the root, and what stands behind it.
+fn top_nodes(
+    alloc: Global,
+    before: &[u8],
+    root: Vec<Node>,
+    after: &[u8],
+) -> Result<Vec<Node>, AllocError>
+    ensures { IfOk result (λ v. nodes_of v.items ≡ bytes_or_none before.now ⊕ (nodes_of root.items ⊕ bytes_or_none after.now)) }
 {
-    let (mut root, _) = element(alloc, root)?;
+    let mut root = root;
     let mut nodes = Vec::new(alloc);
     push_bytes(&mut nodes, alloc, before)?;
     nodes.append(&mut root)?;
@@ -60,30 +66,53 @@ fn nodes(alloc: Global, before: &[u8], root: &[u8], after: &[u8]) -> Result<Vec<
     Ok(nodes)
 }
 
-/// The nodes of a text that go no deeper than one limit and are no more than another one.
-fn read_within(
-    alloc: Global,
-    bytes: &[u8],
-    depth_limit: usize,
-    node_limit: u32,
-) -> Result<Vec<Node>, XmlError>
+/// Counts the bytes as a node, where there are any.
+fn count_bytes(sizes: &mut Sizes, limit: u32, bytes: &[u8])
+    ensures deepest { sizes.new.deepest ≡ sizes.old.deepest }
+    ensures nodes { sizes.new.nodes ≡ counted limit bytes.now sizes.old.nodes }
+{
+    if !bytes.is_empty() {
+        sizes.add_bytes(limit);
+    }
+}
+
+/// The document that the bytes are. `Unreadable` exactly where they aren't one. Past a limit its nodes are of no use.
+fn read_document(alloc: Global, limits: Limits, bytes: &[u8]) -> Result<Document, MarkupError>
+    ensures sizes { Finds (λ d. (d.sizes.deepest, d.sizes.nodes)) result (sizes_at limits.nodes bytes.now) }
+    ensures nodes { IfOk result (λ d. d.sizes.deepest ≤ limits.depth → d.sizes.nodes ≤ limits.nodes → document_at bytes.now ≡ Some (nodes_of d.nodes.items)) }
+{
+    let (before, root) = stretch(alloc, bytes, Place::BeforeRoot)?;
+    let element = read_element(alloc, limits, root)?;
+    let (after, end) = stretch(alloc, element.rest, Place::AfterRoot)?;
+    if !end.is_empty() {
+        return Err(MarkupError::Unreadable);
+    }
+    let mut sizes = element.sizes;
+    count_bytes(&mut sizes, limits.nodes, before);
+    count_bytes(&mut sizes, limits.nodes, after);
+    let nodes = top_nodes(alloc, before, element.nodes, after)?;
+    Ok(Document { nodes, sizes })
+}
+
+/// The nodes of a text that is within the limits.
+fn read_within(alloc: Global, bytes: &[u8], limits: Limits) -> Result<Vec<Node>, XmlError>
     ensures found { IfOk result (λ nodes. IsReading bytes.now (nodes_of nodes.items)) }
-    ensures within { IfOk result (λ nodes. (depth_of (nodes_of nodes.items) ≤ depth_limit) × (count (nodes_of nodes.items) ≤ node_limit)) }
+    ensures within { IfOk result (λ nodes. (depth_of (nodes_of nodes.items) ≤ limits.depth) × (count (nodes_of nodes.items) ≤ limits.nodes)) }
     ensures unreadable { IsErrOf result XmlError.Unreadable → HasNoReading bytes.now }
-    ensures too_deep { IsErrOf result XmlError.Depth → HasReading bytes.now (λ nodes. depth_limit < depth_of nodes) }
-    ensures too_many { IsErrOf result XmlError.Nodes → HasReading bytes.now (λ nodes. (depth_of nodes ≤ depth_limit) × (node_limit < count nodes)) }
+    ensures too_deep { IsErrOf result XmlError.Depth → HasReading bytes.now (λ nodes. limits.depth < depth_of nodes) }
+    ensures too_many { IsErrOf result XmlError.Nodes → HasReading bytes.now (λ nodes. (depth_of nodes ≤ limits.depth) × (limits.nodes < count nodes)) }
 {
     if !is_text(bytes) {
         return Err(XmlError::Unreadable);
     }
-    let outline = outline_of(alloc, node_limit, bytes)?;
-    if outline.deepest > depth_limit {
+    let document = read_document(alloc, limits, bytes)?;
+    if document.sizes.deepest > limits.depth {
         return Err(XmlError::Depth);
     }
-    if outline.nodes > u64::from(node_limit) {
+    if document.sizes.nodes > u64::from(limits.nodes) {
         return Err(XmlError::Nodes);
     }
-    Ok(nodes(alloc, outline.before, outline.root, outline.after)?)
+    Ok(document.nodes)
 }
 
 /// The nodes whose text these bytes are, byte for byte.
@@ -106,5 +135,9 @@ pub fn read(alloc: Global, bytes: &[u8]) -> Result<Vec<Node>, XmlError>
     ensures too_deep { IsErrOf result XmlError.Depth → HasReading bytes.now (λ nodes. DEPTH_LIMIT < depth_of nodes) }
     ensures too_many { IsErrOf result XmlError.Nodes → HasReading bytes.now (λ nodes. (depth_of nodes ≤ DEPTH_LIMIT) × (NODE_LIMIT < count nodes)) }
 {
-    read_within(alloc, bytes, DEPTH_LIMIT, NODE_LIMIT)
+    let limits = Limits {
+        depth: DEPTH_LIMIT,
+        nodes: NODE_LIMIT,
+    };
+    read_within(alloc, bytes, limits)
 }

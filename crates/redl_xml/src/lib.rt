@@ -8,9 +8,10 @@
 mod building;
 mod declaration;
 mod document;
+mod element;
 mod laws;
-mod outline;
 mod scope;
+mod sizes;
 mod survey;
 mod tail;
 mod xml_error;

@@ -1,12 +1,13 @@
-//! How deep an element goes and how many nodes it has, by the tags of the open elements alone.
+//! The rest of an element, by the tags of the open elements alone.
 
 ghost use Rattle.std.specs.Prelude.{◌≡◌, OnOk, IsErrOf, Some, None};
 ghost use Rattle.redl_markup.specs.Views.{name_view, piece_view};
 ghost use Rattle.redl_markup.specs.Pieces.{start_tag, empty_tag};
-ghost use Rattle.redl_xml.specs.Surveys.{one_more, surveyed, survey_stretched, survey_closed, survey_begun};
+ghost use Rattle.redl_xml.specs.Surveys.{surveyed, survey_stretched, survey_closed};
 ghost use Rattle.redl_xml.specs.OpenTags.{survey_view};
 
 use crate::scope::Scopes;
+use crate::sizes::Sizes;
 use crate::tail::{enter, leave};
 use redl_markup::{MarkupError, Name, Piece};
 use std::alloc::Global;
@@ -18,39 +19,15 @@ pub(crate) struct OpenTag<'a> {
     pub(crate) tail: &'a [u8],
 }
 
-/// The tags of the open elements, the innermost last, the greatest depth so far, the nodes so far, up to one above a
-/// limit, and the declarations in scope.
+/// The tags of the open elements, the innermost last, what has been counted, and the declarations in scope.
 #[derive(Drop)]
 pub(crate) struct Survey<'a> {
     pub(crate) open: Vec<OpenTag<'a>>,
-    pub(crate) deepest: usize,
-    pub(crate) nodes: u64,
+    pub(crate) sizes: Sizes,
     pub(crate) scopes: Scopes<'a>,
 }
 
-/// A count and one more, up to one above the limit.
-pub(crate) fn one_more(limit: u32, nodes: u64) -> u64
-    ensures { result ≡ one_more limit nodes }
-{
-    if nodes <= u64::from(limit) {
-        nodes + 1
-    } else {
-        nodes
-    }
-}
-
 impl<'a> Survey<'a> {
-    pub(crate) fn new(alloc: Global) -> Survey<'a>
-        ensures { survey_view result ≡ survey_begun }
-    {
-        Survey {
-            open: Vec::new(alloc),
-            deepest: 0,
-            nodes: 0,
-            scopes: Scopes::new(alloc),
-        }
-    }
-
     fn start(
         &mut self,
         alloc: Global,
@@ -63,8 +40,7 @@ impl<'a> Survey<'a> {
     {
         enter(&mut self.scopes, alloc, name, tail)?;
         self.open.push(OpenTag { name, tail })?;
-        self.deepest = self.deepest.max(self.open.len());
-        self.nodes = one_more(limit, self.nodes);
+        self.sizes.add_element(limit, self.open.len());
         Ok(())
     }
 
@@ -80,8 +56,7 @@ impl<'a> Survey<'a> {
     {
         enter(&mut self.scopes, alloc, name, tail)?;
         leave(&mut self.scopes, tail);
-        self.deepest = self.deepest.max(self.open.len() + 1);
-        self.nodes = one_more(limit, self.nodes);
+        self.sizes.add_element(limit, self.open.len() + 1);
         Ok(())
     }
 
@@ -92,7 +67,7 @@ impl<'a> Survey<'a> {
         if self.open.is_empty() {
             return Err(MarkupError::Unreadable);
         }
-        self.nodes = one_more(limit, self.nodes);
+        self.sizes.add_bytes(limit);
         Ok(())
     }
 

@@ -8,5 +8,5 @@ pub returns-clause-ok : goal.returns-clause-ok
 returns-clause-ok c =
     let old = c.args.self.now in
     let len : c.len.result + 1 ≡ length (tags old.open.items) + 1 = omega (arith, c.len.ensures, old.open.ok.0, length-tags old.open.items) in
-    let deepest = c.max-self.ensures ∙ ap (max old.deepest) len in
-    empty_at c.args.limit (survey_view old) (name_view c.args.name) c.args.tail.now (c.in_ok-enter.field-0, c.enter.new.scopes) _ _ c.leave.new.scopes c.in_ok-enter.ensures deepest c.one_more-self.ensures c.leave.ensures
+    let deepest = c.add_element.ensures.deepest ∙ ap (max old.sizes.deepest) len in
+    empty_at c.args.limit (survey_view old) (name_view c.args.name) c.args.tail.now (c.in_ok-enter.field-0, c.enter.new.scopes) _ _ c.leave.new.scopes c.in_ok-enter.ensures deepest c.add_element.ensures.nodes c.leave.ensures
