@@ -93,7 +93,7 @@ fn pass_in_node<L: Ledger>(
     }
 }
 
-// The step of the element itself is counted already. Its kids are their pass where it is the root of a story.
+// The step of the element itself is counted already.
 #[cycle(stories)]
 fn pass_in_elem<L: Ledger>(
     alloc: Global,
@@ -109,10 +109,27 @@ fn pass_in_elem<L: Ledger>(
 {
     let mut elem = elem;
     let kids = mem::replace(&mut elem.kids, Vec::new(alloc));
-    elem.kids = if level.is_root(&elem) {
-        pass_kids(alloc, kids, says, in_root(says, &elem), steps)?
-    } else {
-        pass_stories(alloc, kids, says, level.below(&elem), steps)?
-    };
+    elem.kids = pass_in_kids(alloc, kids, &elem, says, level, steps)?;
     Ok(Node::Elem(elem))
+}
+
+// The kids of an element, which are their pass where it is the root of a story.
+#[cycle(stories)]
+fn pass_in_kids<L: Ledger>(
+    alloc: Global,
+    kids: Vec<Node>,
+    parent: &Elem,
+    says: &[Say],
+    level: Level,
+    steps: &mut Steps<L>,
+) -> Result<Vec<Node>, AllocError>
+    ensures passed { IfOk result (λ passed. (around : List Tag) → level ≡ level_of around
+        → nodes_of passed.items ≡ kids_pass_in says.now around (tag_of parent.now) (nodes_of kids.items)) }
+    ensures entered { steps.new ≤ steps.old + count (nodes_of kids.items) }
+    ensures made { IfOk result (λ passed. steps.old + count (nodes_of passed.items) ≤ steps.new) }
+{
+    if level.is_root(parent) {
+        return pass_kids(alloc, kids, says, in_root(says, parent), steps);
+    }
+    pass_stories(alloc, kids, says, level.below(parent), steps)
 }

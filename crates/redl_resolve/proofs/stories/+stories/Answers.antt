@@ -1,4 +1,4 @@
-use Rattle.std.proofs.Common.{◌≡◌, ◌≤◌, ◌+◌, ◌&&◌, [], ◌∷◌, refl, sym, ap, ◌∙◌, arith, rules}
+use Rattle.std.proofs.Common.{◌≡◌, [], ◌∷◌, refl, sym, ap, ◌∙◌, arith, rules}
 use Rattle.std.proofs.lemmas.List.{nil_from_length}
 use Rattle.std.specs.Vec.Iter.{into_iter_items}
 use Rattle.redl_resolve.proofs.PassLaws.{count-push, pass_in-in_front}
@@ -6,11 +6,9 @@ use Rattle.redl_resolve.specs.Rounds.{kids_pass_in}
 use Rattle.redl_tree.proofs.Laws.{item_of-Elem, ⊕-no_nodes, built_more, nodes_of-push, count-in_front}
 use Rattle.redl_tree.specs.Count.{count}
 use Rattle.redl_tree.specs.Nodes.{no_nodes, element_item, in_front, ◌⊕◌}
-use Rattle.redl_tree.specs.Packages.{is_data_level, is_story_root, is_root, level_below, pass_in}
-use Rattle.redl_tree.specs.Pass.{pass}
-use Rattle.redl_tree.specs.View.{nodes_of, item_of, tag_of, kids_of}
+use Rattle.redl_tree.specs.Packages.{pass_in}
+use Rattle.redl_tree.specs.View.{nodes_of, item_of, tag_of}
 use Rattle.redl_resolve.proofs.stories.+stories.Goals as goal
-use Rattle.redl_resolve.proofs.stories.+stories.Goals.{pass_in_elem-then-is_root+in_ok-pass_kids, pass_in_elem-else-is_root+in_ok-elem}
 
 pub pass_stories-loop-node-init : goal.pass_stories-loop-node-init
 pass_stories-loop-node-init g t c =
@@ -47,27 +45,9 @@ pass_stories-returns-clause-passed g t c = λ around level_is.
 
 pub pass_in_elem-returns-clause-passed : goal.pass_in_elem-returns-clause-passed
 pass_in_elem-returns-clause-passed g t c = λ around level_is.
-    let says = c.args.says.now in
     let tag = tag_of c.args.elem in
-    let root_is : is_root around tag ≡ c.is_root.result =
-    ap (λ level. is_data_level level && is_story_root tag) (sym level_is) ∙ sym c.is_root.ensures in
-    let kids_are : nodes_of c.if-is_root.drop.items ≡ kids_pass_in says around tag (kids_of c.args.elem) =
-    elim c.if-is_root.branch [
-      | pass_in_elem-then-is_root+in_ok-pass_kids w ↦
-          rw (root_is, w.if-is_root.true) (ap (λ v. nodes_of v.items) w.drop-is ∙ w.in_ok-pass_kids.ensures.passed (tag ∷ []) w.in_root.ensures
-          ∙ ap (λ v. pass says (tag ∷ []) (nodes_of v.items)) c.replace-kids.ensures.value)
-      | pass_in_elem-else-is_root+in_ok-elem w ↦
-          rw (root_is, w.if-is_root.false) (ap (λ v. nodes_of v.items) w.drop-is
-          ∙ w.in_ok-elem.ensures.passed (tag ∷ around) (w.below.ensures ∙ ap (λ level. level_below level tag) level_is)
-          ∙ ap (λ v. pass_in says (tag ∷ around) (nodes_of v.items)) c.replace-kids.ensures.value)
-    ] in
-    item_of-Elem _ ∙ ap (element_item tag) kids_are
+    item_of-Elem _ ∙ ap (element_item tag) (c.in_ok-elem.ensures.passed around level_is
+    ∙ ap (λ v. kids_pass_in c.args.says.now around tag (nodes_of v.items)) c.replace-kids.ensures.value)
 
 pub pass_in_elem-returns-clause-made : goal.pass_in_elem-returns-clause-made
-pass_in_elem-returns-clause-made g t c =
-    let made : c.args.steps.now + count (nodes_of c.if-is_root.drop.items) ≤ c.if-is_root.steps =
-    elim c.if-is_root.branch [
-      | pass_in_elem-then-is_root+in_ok-pass_kids w ↦ rw (w.drop-is, w.steps-is) w.in_ok-pass_kids.ensures.made
-      | pass_in_elem-else-is_root+in_ok-elem w ↦ rw (w.drop-is, w.steps-is) w.in_ok-elem.ensures.made
-    ] in
-    rw (item_of-Elem _) (omega (arith, made))
+pass_in_elem-returns-clause-made g t c = rw (item_of-Elem _) (omega (arith, c.in_ok-elem.ensures.made))
