@@ -25,7 +25,7 @@ use redl_io::{Shelf, Text};
 use redl_join::Book;
 use redl_journal::Entry;
 use redl_opc::Package;
-use redl_resolve::{Steps, pass};
+use redl_resolve::{Steps, into_passed};
 use redl_tree::{Node, Say};
 use sha2::{Digest, Sha256};
 use std::alloc::{AllocError, Global};
@@ -118,7 +118,7 @@ fn is_run_content(revision: &Revision) -> bool
     matches!(revision.kind, RevKind::Content(_))
 }
 
-// What is left of a numbered package. Its own nodes go right after.
+// What is left of a numbered package. Its own nodes go while it is made.
 fn pass_package(alloc: Global, package: Package, says: &[Say]) -> Result<Output, AllocError>
     ensures { IfOk result (λ output. output_text output ≡ text (pass_package_by says.now «package»)) }
 {
@@ -129,22 +129,22 @@ fn pass_package(alloc: Global, package: Package, says: &[Say]) -> Result<Output,
 fn pass_nodes(alloc: Global, package: Package, says: &[Say]) -> Result<Vec<Node>, AllocError>
     ensures { IfOk result (λ passed. nodes_of passed.items ≡ pass_package_by says.now «package») }
 {
-    pass_counted::<Brand>(alloc, package.nodes(), says, Blank::new(1))
+    pass_counted::<Brand>(alloc, package.into_nodes(), says, Blank::new(1))
 }
 
 // The pass with a counter of its own, which nobody reads.
 fn pass_counted<L: Ledger>(
     alloc: Global,
-    nodes: &[Node],
+    nodes: Vec<Node>,
     says: &[Say],
     blank: Blank,
 ) -> Result<Vec<Node>, AllocError>
     requires name { blank.name ≡ L.name }
     requires parts { blank.parts ≡ L.parts }
     requires some { 0 < L.parts }
-    ensures { IfOk result (λ passed. nodes_of passed.items ≡ pass_package_by says.now (nodes_of nodes.now)) }
+    ensures { IfOk result (λ passed. nodes_of passed.items ≡ pass_package_by says.now (nodes_of nodes.items)) }
 {
-    pass(alloc, nodes, says, &mut Steps::<L>::new(blank))
+    into_passed(alloc, nodes, says, &mut Steps::<L>::new(blank))
 }
 
 // Whether the package of this name is sound.

@@ -7,18 +7,19 @@ ghost use Rattle.redl_tree.specs.Nodes.{Tag};
 ghost use Rattle.redl_tree.specs.Packages.{level_of, pass_in, pass_package};
 ghost use Rattle.redl_tree.specs.View.{nodes_of, item_of, tag_of, kids_of};
 
-use crate::copies::with_kids;
 use crate::rounds::in_root;
 use crate::steps::Steps;
 use crate::story::pass_kids;
-use redl_tree::{Elem, Level, Node, Say};
+use redl_tree::{Elem, Level, Node, Say, copy_nodes};
 use std::alloc::{AllocError, Global};
+use std::mem;
 use std::sync::ledger::Ledger;
 
 /// What the nodes of a package become under a say for each revision. `says[v - 1]` belongs to revision v, and a revision
 /// that has none is left.
 ///
-/// A step is one node that is looked at; what goes with all that it holds is one. `Err` is want of memory.
+/// A step is one node that is looked at; what goes with all that it holds is one. The nodes that stay are copied; see
+/// `into_passed` where they aren't needed any more. `Err` is want of memory.
 pub fn pass<L: Ledger>(
     alloc: Global,
     nodes: &[Node],
@@ -31,6 +32,22 @@ pub fn pass<L: Ledger>(
     ensures entered { steps.new ≤ steps.old + count (nodes_of nodes.now) }
     ensures made { IfOk result (λ passed. steps.old + count (nodes_of passed.items) ≤ steps.new) }
 {
+    let copies = copy_nodes(alloc, nodes)?;
+    into_passed(alloc, copies, says, steps)
+}
+
+/// The pass of nodes that are given away, as `pass` has it. What stays is moved, nothing is copied, and what goes is freed
+/// on the way.
+pub fn into_passed<L: Ledger>(
+    alloc: Global,
+    nodes: Vec<Node>,
+    says: &[Say],
+    steps: &mut Steps<L>,
+) -> Result<Vec<Node>, AllocError>
+    ensures passed { IfOk result (λ passed. nodes_of passed.items ≡ pass_package says.now (nodes_of nodes.items)) }
+    ensures entered { steps.new ≤ steps.old + count (nodes_of nodes.items) }
+    ensures made { IfOk result (λ passed. steps.old + count (nodes_of passed.items) ≤ steps.new) }
+{
     pass_stories(alloc, nodes, says, Level::Top, steps)
 }
 
@@ -38,14 +55,14 @@ pub fn pass<L: Ledger>(
 #[cycle(stories)]
 fn pass_stories<L: Ledger>(
     alloc: Global,
-    nodes: &[Node],
+    nodes: Vec<Node>,
     says: &[Say],
     level: Level,
     steps: &mut Steps<L>,
 ) -> Result<Vec<Node>, AllocError>
     ensures passed { IfOk result (λ passed. (around : List Tag) → level ≡ level_of around
-        → nodes_of passed.items ≡ pass_in says.now around (nodes_of nodes.now)) }
-    ensures entered { steps.new ≤ steps.old + count (nodes_of nodes.now) }
+        → nodes_of passed.items ≡ pass_in says.now around (nodes_of nodes.items)) }
+    ensures entered { steps.new ≤ steps.old + count (nodes_of nodes.items) }
     ensures made { IfOk result (λ passed. steps.old + count (nodes_of passed.items) ≤ steps.new) }
 {
     let mut passed = Vec::with_capacity(alloc, nodes.len())?;
@@ -59,20 +76,20 @@ fn pass_stories<L: Ledger>(
 #[cycle(stories)]
 fn pass_in_node<L: Ledger>(
     alloc: Global,
-    node: &Node,
+    node: Node,
     says: &[Say],
     level: Level,
     steps: &mut Steps<L>,
 ) -> Result<Node, AllocError>
     ensures passed { IfOk result (λ passed. (around : List Tag) → level ≡ level_of around
-        → item_of passed ≡ item_pass_in says.now around (item_of node.now)) }
-    ensures entered { steps.new ≤ steps.old + item_count (item_of node.now) }
+        → item_of passed ≡ item_pass_in says.now around (item_of node)) }
+    ensures entered { steps.new ≤ steps.old + item_count (item_of node) }
     ensures made { IfOk result (λ passed. steps.old + item_count (item_of passed) ≤ steps.new) }
 {
     steps.tick();
     match node {
         Node::Elem(elem) => pass_in_elem(alloc, elem, says, level, steps),
-        Node::Bytes(text) => Ok(Node::Bytes(text.copy(alloc)?)),
+        Node::Bytes(text) => Ok(Node::Bytes(text)),
     }
 }
 
@@ -80,36 +97,39 @@ fn pass_in_node<L: Ledger>(
 #[cycle(stories)]
 fn pass_in_elem<L: Ledger>(
     alloc: Global,
-    elem: &Elem,
+    elem: Elem,
     says: &[Say],
     level: Level,
     steps: &mut Steps<L>,
 ) -> Result<Node, AllocError>
     ensures passed { IfOk result (λ passed. (around : List Tag) → level ≡ level_of around
-        → item_of passed ≡ element_pass_in says.now around (tag_of elem.now) (kids_of elem.now)) }
-    ensures entered { steps.new ≤ steps.old + count (kids_of elem.now) }
+        → item_of passed ≡ element_pass_in says.now around (tag_of elem) (kids_of elem)) }
+    ensures entered { steps.new ≤ steps.old + count (kids_of elem) }
     ensures made { IfOk result (λ passed. steps.old + item_count (item_of passed) ≤ steps.new + 1) }
 {
-    let kids = pass_in_kids(alloc, elem, says, level, steps)?;
-    Ok(Node::Elem(with_kids(alloc, elem, kids)?))
+    let mut elem = elem;
+    let kids = mem::replace(&mut elem.kids, Vec::new(alloc));
+    elem.kids = pass_in_kids(alloc, kids, &elem, says, level, steps)?;
+    Ok(Node::Elem(elem))
 }
 
-// The kids of an element, which are the pass of its kids where it is the root of a story.
+// The kids of an element, which are their pass where it is the root of a story.
 #[cycle(stories)]
 fn pass_in_kids<L: Ledger>(
     alloc: Global,
-    elem: &Elem,
+    kids: Vec<Node>,
+    parent: &Elem,
     says: &[Say],
     level: Level,
     steps: &mut Steps<L>,
 ) -> Result<Vec<Node>, AllocError>
     ensures passed { IfOk result (λ passed. (around : List Tag) → level ≡ level_of around
-        → nodes_of passed.items ≡ kids_pass_in says.now around (tag_of elem.now) (kids_of elem.now)) }
-    ensures entered { steps.new ≤ steps.old + count (kids_of elem.now) }
+        → nodes_of passed.items ≡ kids_pass_in says.now around (tag_of parent.now) (nodes_of kids.items)) }
+    ensures entered { steps.new ≤ steps.old + count (nodes_of kids.items) }
     ensures made { IfOk result (λ passed. steps.old + count (nodes_of passed.items) ≤ steps.new) }
 {
-    if level.is_root(elem) {
-        return pass_kids(alloc, &elem.kids, says, in_root(says, elem), steps);
+    if level.is_root(parent) {
+        return pass_kids(alloc, kids, says, in_root(says, parent), steps);
     }
-    pass_stories(alloc, &elem.kids, says, level.below(elem), steps)
+    pass_stories(alloc, kids, says, level.below(parent), steps)
 }

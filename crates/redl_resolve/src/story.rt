@@ -7,26 +7,27 @@ ghost use Rattle.redl_tree.specs.Nodes.{Tag, ◌⊕◌};
 ghost use Rattle.redl_tree.specs.Pass.{pass, item_pass, element_pass};
 ghost use Rattle.redl_tree.specs.View.{nodes_of, item_of, tag_of, kids_of};
 
-use crate::copies::renamed;
 use crate::fates::fate_of;
+use crate::renaming::rename;
 use crate::rounds::{Round, inside};
 use crate::steps::Steps;
 use redl_tree::{Elem, Fate, Node, Say};
 use std::alloc::{AllocError, Global};
+use std::mem;
 use std::sync::ledger::Ledger;
 
 /// The pass of the kids of an element, by what is to be known of their ancestors.
 #[cycle(pass)]
 pub(crate) fn pass_kids<L: Ledger>(
     alloc: Global,
-    kids: &[Node],
+    kids: Vec<Node>,
     says: &[Say],
     round: Round,
     steps: &mut Steps<L>,
 ) -> Result<Vec<Node>, AllocError>
     ensures passed { IfOk result (λ passed. (around : List Tag) → round ≡ round_of says.now around
-        → nodes_of passed.items ≡ pass says.now around (nodes_of kids.now)) }
-    ensures entered { steps.new ≤ steps.old + count (nodes_of kids.now) }
+        → nodes_of passed.items ≡ pass says.now around (nodes_of kids.items)) }
+    ensures entered { steps.new ≤ steps.old + count (nodes_of kids.items) }
     ensures made { IfOk result (λ passed. steps.old + count (nodes_of passed.items) ≤ steps.new) }
 {
     let mut passed = Vec::with_capacity(alloc, kids.len())?;
@@ -38,15 +39,15 @@ pub(crate) fn pass_kids<L: Ledger>(
 #[cycle(pass)]
 fn pass_nodes<L: Ledger>(
     alloc: Global,
-    nodes: &[Node],
+    nodes: Vec<Node>,
     says: &[Say],
     round: Round,
     passed: &mut Vec<Node>,
     steps: &mut Steps<L>,
 ) -> Result<(), AllocError>
     ensures passed { OnOk result ((around : List Tag) → round ≡ round_of says.now around
-        → nodes_of passed.new.items ≡ nodes_of passed.old.items ⊕ pass says.now around (nodes_of nodes.now)) }
-    ensures entered { steps.new ≤ steps.old + count (nodes_of nodes.now) }
+        → nodes_of passed.new.items ≡ nodes_of passed.old.items ⊕ pass says.now around (nodes_of nodes.items)) }
+    ensures entered { steps.new ≤ steps.old + count (nodes_of nodes.items) }
     ensures made { OnOk result (steps.old + count (nodes_of passed.new.items)
         ≤ steps.new + count (nodes_of passed.old.items)) }
 {
@@ -59,15 +60,15 @@ fn pass_nodes<L: Ledger>(
 #[cycle(pass)]
 fn pass_node<L: Ledger>(
     alloc: Global,
-    node: &Node,
+    node: Node,
     says: &[Say],
     round: Round,
     passed: &mut Vec<Node>,
     steps: &mut Steps<L>,
 ) -> Result<(), AllocError>
     ensures passed { OnOk result ((around : List Tag) → round ≡ round_of says.now around
-        → nodes_of passed.new.items ≡ nodes_of passed.old.items ⊕ item_pass says.now around (item_of node.now)) }
-    ensures entered { steps.new ≤ steps.old + item_count (item_of node.now) }
+        → nodes_of passed.new.items ≡ nodes_of passed.old.items ⊕ item_pass says.now around (item_of node)) }
+    ensures entered { steps.new ≤ steps.old + item_count (item_of node) }
     ensures made { OnOk result (steps.old + count (nodes_of passed.new.items)
         ≤ steps.new + count (nodes_of passed.old.items)) }
 {
@@ -75,7 +76,7 @@ fn pass_node<L: Ledger>(
     match node {
         Node::Elem(elem) => pass_elem(alloc, elem, says, round, passed, steps),
         Node::Bytes(text) => {
-            passed.push(Node::Bytes(text.copy(alloc)?))?;
+            passed.push(Node::Bytes(text))?;
             Ok(())
         }
     }
@@ -85,7 +86,7 @@ fn pass_node<L: Ledger>(
 #[cycle(pass)]
 fn pass_elem<L: Ledger>(
     alloc: Global,
-    elem: &Elem,
+    elem: Elem,
     says: &[Say],
     round: Round,
     passed: &mut Vec<Node>,
@@ -93,22 +94,25 @@ fn pass_elem<L: Ledger>(
 ) -> Result<(), AllocError>
     ensures passed { OnOk result ((around : List Tag) → round ≡ round_of says.now around
         → nodes_of passed.new.items ≡ nodes_of passed.old.items
-        ⊕ element_pass says.now around (tag_of elem.now) (pass says.now (tag_of elem.now ∷ around) (kids_of elem.now))) }
-    ensures entered { steps.new ≤ steps.old + count (kids_of elem.now) }
+        ⊕ element_pass says.now around (tag_of elem) (pass says.now (tag_of elem ∷ around) (kids_of elem))) }
+    ensures entered { steps.new ≤ steps.old + count (kids_of elem) }
     ensures made { OnOk result (steps.old + count (nodes_of passed.new.items)
         ≤ steps.new + (1 + count (nodes_of passed.old.items))) }
 {
-    let fate = fate_of(says, elem);
-    let inner = inside(round, elem, fate);
+    let fate = fate_of(says, &elem);
+    let inner = inside(round, &elem, fate);
     match fate {
         Fate::Leave => {
-            let kids = pass_kids(alloc, &elem.kids, says, inner, steps)?;
-            passed.push(Node::Elem(renamed(alloc, elem, round, kids)?))?;
+            let mut elem = elem;
+            let kids = mem::replace(&mut elem.kids, Vec::new(alloc));
+            elem.kids = pass_kids(alloc, kids, says, inner, steps)?;
+            rename(alloc, &mut elem, round)?;
+            passed.push(Node::Elem(elem))?;
             Ok(())
         }
         Fate::Free => {
             if elem.kind.is_content() {
-                return pass_nodes(alloc, &elem.kids, says, inner, passed, steps);
+                return pass_nodes(alloc, elem.kids, says, inner, passed, steps);
             }
             Ok(())
         }

@@ -119,6 +119,24 @@ const HEAD: &str = "<package><part><xmlData><document>";
 const TAIL: &str =
     "</document></xmlData></part><part><xmlData><styles><ins><t>d</t></ins></styles></xmlData></part></package>";
 
+fn into_passed_counted<L: Ledger>(
+    alloc: Global,
+    nodes: Vec<Node>,
+    says: &[Say],
+    blank: Blank,
+) -> Result<Vec<Node>, AllocError>
+    requires name { blank.name ≡ L.name }
+    requires parts { blank.parts ≡ L.parts }
+    requires some { 0 < L.parts }
+{
+    into_passed(alloc, nodes, says, &mut Steps::<L>::new(blank))
+}
+
+// The pass with a counter that nobody reads.
+fn passed(alloc: Global, nodes: Vec<Node>, says: &[Say]) -> Result<Vec<Node>, AllocError> {
+    into_passed_counted::<Brand>(alloc, nodes, says, Blank::new(1))
+}
+
 fn pass_counted<L: Ledger>(
     alloc: Global,
     nodes: &[Node],
@@ -132,18 +150,20 @@ fn pass_counted<L: Ledger>(
     pass(alloc, nodes, says, &mut Steps::<L>::new(blank))
 }
 
-// The pass with a counter that nobody reads.
-fn passed(alloc: Global, nodes: &[Node], says: &[Say]) -> Result<Vec<Node>, AllocError> {
+// The same of nodes that are kept.
+fn passed_copy(alloc: Global, nodes: &[Node], says: &[Say]) -> Result<Vec<Node>, AllocError> {
     pass_counted::<Brand>(alloc, nodes, says, Blank::new(1))
 }
 
-fn check_document(rt: &impl Abort, alloc: Global, says: &[Say], want: &str) -> Result<(), Fail> {
+// The text of nodes.
+fn written(rt: &impl Abort, alloc: Global, nodes: &[Node]) -> Result<MemSink, Fail> {
     let mut out = MemSink::new(alloc, 300, Vec::new(alloc))?;
-    assert_eq!(rt;
-        write_nodes(&passed(alloc, &package(alloc)?, says)?, &mut out),
-        Ok(()),
-        "{want}"
-    );
+    assert_eq!(rt; write_nodes(nodes, &mut out), Ok(()));
+    Ok(out)
+}
+
+fn check_document(rt: &impl Abort, alloc: Global, says: &[Say], want: &str) -> Result<(), Fail> {
+    let out = written(rt, alloc, &passed(alloc, package(alloc)?, says)?)?;
     let mut wanted = MemSink::new(alloc, 300, Vec::new(alloc))?;
     assert_eq!(rt; wanted.put(HEAD.as_bytes()), Ok(()));
     assert_eq!(rt; wanted.put(want.as_bytes()), Ok(()));
@@ -196,6 +216,18 @@ fn a_revision_of_which_nothing_is_said_is_left(rt: HostRuntime) -> Result<(), Fa
 #[test]
 fn no_nodes_are_no_nodes(rt: HostRuntime) -> Result<(), Fail> {
     let alloc = rt.alloc();
-    assert!(rt; passed(alloc, &[], &[Say::Accept])?.is_empty());
+    assert!(rt; passed(alloc, Vec::new(alloc), &[Say::Accept])?.is_empty());
+    Ok(())
+}
+
+#[test]
+fn a_copy_passes_as_its_original_does(rt: HostRuntime) -> Result<(), Fail> {
+    let alloc = rt.alloc();
+    for say in [Say::Keep, Say::Accept, Say::Reject] {
+        let original = package(alloc)?;
+        let copy = written(&rt, alloc, &passed_copy(alloc, &original, &[say, say])?)?;
+        let moved = written(&rt, alloc, &passed(alloc, original, &[say, say])?)?;
+        assert_eq!(rt; copy.bytes(), moved.bytes(), "{say:?}");
+    }
     Ok(())
 }

@@ -1,4 +1,5 @@
-use Rattle.std.proofs.Common.{◌≡◌, ◌≤◌, ◌+◌, List, drop}
+use Rattle.std.proofs.Common.{◌≡◌, ◌≤◌, ◌+◌, List}
+use Rattle.std.specs.Vec.Iter.{into_iter_items}
 use Rattle.redl_resolve.specs.Rounds.{round_of}
 use Rattle.redl_tree.specs.Count.{count}
 use Rattle.redl_tree.specs.Nodes.{Tag, ◌⊕◌}
@@ -10,8 +11,8 @@ use Rattle.redl_resolve.proofs.story.+pass.Given as goal
 abbrev pub invariant-pass_nodes-loop-node : goal.invariant-pass_nodes-loop-node
 invariant-pass_nodes-loop-node g l = record {
   passed : (around : List Tag) → l.round ≡ round_of l.says around
-      → nodes_of l.passed.items ⊕ pass l.says around (nodes_of (drop l.node-index l.nodes))
-      ≡ nodes_of l.initial.passed.items ⊕ pass l.says around (nodes_of l.nodes);
-  entered : l.steps + count (nodes_of (drop l.node-index l.nodes)) ≤ l.initial.steps + count (nodes_of l.nodes);
+      → nodes_of l.passed.items ⊕ pass l.says around (nodes_of (into_iter_items l.node-iterator))
+      ≡ nodes_of l.initial.passed.items ⊕ pass l.says around (nodes_of l.fn.nodes.items);
+  entered : l.steps + count (nodes_of (into_iter_items l.node-iterator)) ≤ l.initial.steps + count (nodes_of l.fn.nodes.items);
   made : l.initial.steps + count (nodes_of l.passed.items) ≤ l.steps + count (nodes_of l.initial.passed.items);
 }
