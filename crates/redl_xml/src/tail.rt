@@ -1,6 +1,6 @@
 //! What the attributes of a start tag declare, and whether their prefixes may be used.
 
-ghost use Rattle.std.specs.Prelude.{◌≡◌, ◌||◌, ◌&&◌, not, [], codes};
+ghost use Rattle.std.specs.Prelude.{◌≡◌, ◌||◌, ◌&&◌, not, [], codes, IfOk};
 ghost use Rattle.std.specs.List.{list_all};
 ghost use Rattle.redl_markup.specs.Reading.{Gives, Finds};
 ghost use Rattle.redl_markup.specs.References.{is_there};
@@ -8,7 +8,7 @@ ghost use Rattle.redl_markup.specs.Decoding.{decoded_value};
 ghost use Rattle.redl_markup.specs.Attributes.{attributes_of};
 ghost use Rattle.redl_markup.specs.Views.{name_view, attribute_view};
 ghost use Rattle.redl_xml.specs.Scopes.{space_named, is_xml_namespace, is_xml_prefix, is_xmlns, declared_prefix, may_declare, is_known, is_known_attribute, is_element_prefix};
-ghost use Rattle.redl_xml.specs.Elements.{with_attribute, with_attributes, known, entered, left};
+ghost use Rattle.redl_xml.specs.Elements.{with_attribute, with_attributes, known, entered, declared_in};
 
 use crate::scope::Scopes;
 use redl_markup::{Attribute, MarkupError, Name, decode_value, next_attribute};
@@ -185,6 +185,13 @@ fn known_space<'a>(scopes: &Scopes<'a>, name: Name<'a>, tail: &'a [u8]) -> Optio
     }
 }
 
+/// What is known of an element that was entered: its space, and how many declarations it has.
+#[derive(Clone, Copy)]
+pub(crate) struct Entered {
+    pub(crate) space: Space,
+    pub(crate) declared: usize,
+}
+
 /// Goes into an element: declares what it declares, and gives its space.
 ///
 /// `Unreadable` exactly where a declaration may not stand, or a prefix of the tag may not be used.
@@ -194,26 +201,19 @@ pub(crate) fn enter<'a>(
     alloc: Global,
     name: Name<'a>,
     tail: &'a [u8],
-) -> Result<Space, MarkupError>
-    ensures { Finds (λ space. (space, scopes.new)) result (entered scopes.old (name_view name.entry) tail.entry.now) }
+) -> Result<Entered, MarkupError>
+    ensures read { Finds (λ x. (x.space, scopes.new)) result (entered scopes.old (name_view name.entry) tail.entry.now) }
+    ensures declared { IfOk result (λ x. x.declared ≡ declared_in tail.entry.now) }
 {
     if are_plain(scopes, tail) {
-        return element_space(scopes, name).ok_or(MarkupError::Unreadable);
+        let space = element_space(scopes, name).ok_or(MarkupError::Unreadable)?;
+        return Ok(Entered { space, declared: 0 });
     }
+    let around = scopes.len();
     declare_attributes(scopes, alloc, tail)?;
-    known_space(scopes, name, tail).ok_or(MarkupError::Unreadable)
-}
-
-/// Goes out of an element with this tail.
-#[tactic(auto, unfolding(crate::specs::Elements::left))]
-pub(crate) fn leave<'a>(scopes: &mut Scopes<'a>, tail: &'a [u8])
-    ensures { scopes.new ≡ left tail.entry.now scopes.old }
-{
-    let mut more = tail;
-    while let Some((attribute, rest)) = next_attribute(more) {
-        if declared_prefix(attribute.name).is_some() {
-            scopes.forget();
-        }
-        more = rest;
-    }
+    let space = known_space(scopes, name, tail).ok_or(MarkupError::Unreadable)?;
+    Ok(Entered {
+        space,
+        declared: scopes.len() - around,
+    })
 }
