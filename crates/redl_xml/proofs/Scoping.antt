@@ -11,7 +11,9 @@ use Rattle.redl_markup.specs.Decoding.{decoded_value}
 use Rattle.redl_markup.specs.Attributes.{attributes_of}
 use Rattle.redl_markup.proofs.Names.{bind_some}
 use Rattle.redl_markup.proofs.Runs.{and-true, and-both}
-use Rattle.redl_xml.specs.Scopes.{Scope, space_named, declared_prefix, declared_by, is_allowed, with_declarations, scope_in, space_of, is_known, is_element_prefix, is_known_attribute}
+use Rattle.std.specs.Str.{bytes_eq}
+use Rattle.redl_xml.specs.Scopes.{Scope, is_xmlns, space_named, declared_prefix, declared_by, is_allowed, with_declarations, scope_in, space_of, is_known, is_element_prefix, is_known_attribute}
+use Rattle.redl_xml.proofs.Words.{same_bytes}
 use Rattle.redl_xml.specs.Elements.{with_attribute, with_attributes, known, entered, declarations, declared_in}
 
 -- ---- the scope grows by the declarations
@@ -143,3 +145,14 @@ declared_long scope s tail e =
     let t = with_takes (attributes_of tail) scope s e in
     let g = grown (attributes_of tail) scope in
     omega (arith, ap length t.1, ap length g.whole, length-append g.front scope, g.long)
+
+pub same_is_known : (scope : Scope) (own prefix : List ℕ) → bytes_eq prefix own ≡ true → is_known scope own ≡ true → is_known scope prefix ≡ true
+same_is_known scope own prefix e h = let P : List ℕ → Type 0 = λ p. is_known scope p ≡ true in subst P (sym (same_bytes prefix own e)) h
+
+-- the prefix of an element that may be entered may be used
+pub own_is_known : (scope : Scope) (name : Name) (x : Space × Scope) → known name [] scope ≡ Some x → is_known scope name.prefix ≡ true
+unfolding known
+own_is_known scope name x e =
+    let c = cond_some (is_element_prefix scope name.prefix && true) (space_of scope name.prefix, scope) x e in
+    let both = and-true (is_element_prefix scope name.prefix) true c.0 in
+    (and-true (not (is_xmlns name.prefix)) (is_known scope name.prefix) both.0).1

@@ -1,6 +1,6 @@
 //! What the attributes of a start tag declare, and whether their prefixes may be used.
 
-ghost use Rattle.std.specs.Prelude.{◌≡◌, ◌||◌, ◌&&◌, not, [], codes, IfOk};
+ghost use Rattle.std.specs.Prelude.{◌≡◌, ◌||◌, ◌&&◌, not, true, [], codes, IfOk};
 ghost use Rattle.std.specs.List.{list_all};
 ghost use Rattle.redl_markup.specs.Reading.{Gives, Finds};
 ghost use Rattle.redl_markup.specs.References.{is_there};
@@ -144,13 +144,29 @@ fn are_known<'a>(scopes: &Scopes<'a>, tail: &'a [u8]) -> bool
     true
 }
 
-/// Whether no attribute of a tail is a declaration, and all their prefixes may be used.
-fn are_plain<'a>(scopes: &Scopes<'a>, tail: &'a [u8]) -> bool
+/// Whether a prefix may be used, where the one of its element may.
+#[tactic(auto, using(crate::proofs::Scoping::same_is_known))]
+fn is_known_beside<'a>(scopes: &Scopes<'a>, own: &'a [u8], prefix: &'a [u8]) -> bool
+    requires { is_known scopes.now own.now ≡ true }
+    ensures { result ≡ is_known scopes.now prefix.now }
+{
+    // Most attributes have the prefix of their element, which is cheaper to compare than to look up.
+    if prefix == own {
+        return true;
+    }
+    is_known(scopes, prefix)
+}
+
+/// Whether no attribute of a tail is a declaration, and all their prefixes may be used, as that of their element may.
+fn are_plain<'a>(scopes: &Scopes<'a>, own: &'a [u8], tail: &'a [u8]) -> bool
+    requires { is_known scopes.now own.now ≡ true }
     ensures { result ≡ list_all (λ a. not (is_there (declared_prefix a.0)) && is_known scopes.now a.0.prefix) (attributes_of tail.now) }
 {
     let mut more = tail;
     while let Some((attribute, rest)) = next_attribute(more) {
-        if declared_prefix(attribute.name).is_some() || !is_known(scopes, attribute.name.prefix) {
+        if declared_prefix(attribute.name).is_some()
+            || !is_known_beside(scopes, own, attribute.name.prefix)
+        {
             return false;
         }
         more = rest;
@@ -205,9 +221,10 @@ pub(crate) fn enter<'a>(
     ensures read { Finds (λ x. (x.space, scopes.new)) result (entered scopes.old (name_view name.entry) tail.entry.now) }
     ensures declared { IfOk result (λ x. x.declared ≡ declared_in tail.entry.now) }
 {
-    if are_plain(scopes, tail) {
-        let space = element_space(scopes, name).ok_or(MarkupError::Unreadable)?;
-        return Ok(Entered { space, declared: 0 });
+    if let Some(space) = element_space(scopes, name) {
+        if are_plain(scopes, name.prefix, tail) {
+            return Ok(Entered { space, declared: 0 });
+        }
     }
     let around = scopes.len();
     declare_attributes(scopes, alloc, tail)?;
