@@ -1,5 +1,5 @@
 -- What a push or a pop on nodes and on the open elements is, as plain data.
-use Rattle.std.proofs.Common.{◌≡◌, ◌≢◌, ℕ, Bool, true, false, List, [], ◌∷◌, ◌++◌, length, map, reverse, Some, None, refl, sym, ap, ◌∙◌}
+use Rattle.std.proofs.Common.{◌≡◌, ◌≢◌, ℕ, Bool, true, false, List, [], ◌∷◌, ◌++◌, length, drop, map, reverse, Some, None, refl, sym, ap, ◌∙◌}
 use Rattle.std.specs.Prelude.{not}
 use Rattle.std.proofs.lemmas.List.{map_push, reverse-append, length-map, length-reverse}
 use Rattle.std.proofs.lemmas.Simd.{map-map}
@@ -14,7 +14,7 @@ use Rattle.redl_markup.specs.Pieces.{empty_tag}
 use Rattle.redl_xml.specs.declared.building.OpenElement.{OpenElement}
 use Rattle.redl_xml.specs.declared.building.Building.{Building}
 use Rattle.redl_xml.specs.Scopes.{Scope}
-use Rattle.redl_xml.specs.Elements.{Frame, State, one_element, entered, left, closed, stretched, placed, finished_by, finished}
+use Rattle.redl_xml.specs.Elements.{Frame, State, one_element, entered, declared_in, closed, stretched, placed, finished_by, finished}
 use Rattle.redl_xml.specs.Surveys.{tag_of}
 use Rattle.redl_xml.specs.Buildings.{frame_view, building_view}
 use Rattle.redl_xml.specs.OpenTags.{tag_view}
@@ -44,13 +44,13 @@ pub stretched_at : (fs : List Frame) (s : State) (b : List ℕ) (kids : Nodes) �
 stretched_at [] s b kids some e = absurd (some refl)
 stretched_at (f ∷ fs) s b kids some e = ap (λ (k : Nodes). Some (state s.open_elements k s.scope)) (sym e)
 
-pub empty_at : (s : State) (name : Name) (tail : List ℕ) (x : Space × Scope) (kids : Nodes) (scope : Scope) → entered s.scope name tail ≡ Some x → kids ≡ s.kids ⊕ one_element name x.0 tail Empty no_nodes → scope ≡ left tail x.1 → placed (empty_tag name tail) s ≡ Some (state s.open_elements kids scope)
+pub empty_at : (s : State) (name : Name) (tail : List ℕ) (x : Space × Scope) (kids : Nodes) (scope : Scope) → entered s.scope name tail ≡ Some x → kids ≡ s.kids ⊕ one_element name x.0 tail Empty no_nodes → scope ≡ drop (declared_in tail) x.1 → placed (empty_tag name tail) s ≡ Some (state s.open_elements kids scope)
 empty_at s name tail x kids scope e k l =
     let same : s.scope ≡ scope = sym (l ∙ left_entered s.scope name tail x e) in
     rw e (ap (λ (n : Nodes). Some (state s.open_elements n s.scope)) (sym k) ∙ ap (λ (sc : Scope). Some (state s.open_elements kids sc)) same)
 
 pub closed_at : (fs rest : List OpenElement) (f : OpenElement) (kids : Nodes) (scope : Scope) (name : Name) (space : List ℕ) → fs ≡ rest ++ f ∷ [] → name_eq (frame_view f).name name ≡ true
-    → closed (frames fs) kids scope name space ≡ Some (state (frames rest) (nodes_of f.before.items ⊕ one_element (frame_view f).name f.space f.tag.tail.now (End space) kids) (left f.tag.tail.now scope))
+    → closed (frames fs) kids scope name space ≡ Some (state (frames rest) (nodes_of f.before.items ⊕ one_element (frame_view f).name f.space f.tail.now (End space) kids) (drop f.tag.declared scope))
 closed_at fs rest f kids scope name space e same =
     ap (λ (x : List Frame). closed x kids scope name space) (ap frames e ∙ frames-push rest f) ∙ rw same refl
 

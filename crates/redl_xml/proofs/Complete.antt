@@ -1,5 +1,5 @@
 -- A legal element that stands at the front is read.
-use Rattle.std.proofs.Common.{◌≡◌, ℕ, suc, true, false, List, [], ◌∷◌, ◌++◌, length, Some, None, refl, sym, ap, subst, ◌∙◌, arith}
+use Rattle.std.proofs.Common.{◌≡◌, ℕ, suc, true, false, List, [], ◌∷◌, ◌++◌, length, drop, Some, None, refl, sym, ap, subst, ◌∙◌, arith}
 use Rattle.redl_tree.specs.Nodes.{Tag, Nodes, no_nodes, bytes, element, ◌⊕◌}
 use Rattle.redl_tree.specs.declared.kinds.Space.{Space}
 use Rattle.redl_tree.specs.declared.kinds.Kind.{Kind}
@@ -18,7 +18,7 @@ use Rattle.redl_markup.proofs.Pieces.{piece_again, start_ends_stretch, end_ends_
 use Rattle.redl_xml.specs.Shapes.{begins_with_bytes}
 use Rattle.redl_xml.specs.Scopes.{Scope, scope_in, space_of}
 use Rattle.redl_xml.specs.Readings.{name_of, IsTag, ClosesBy, AreLegal}
-use Rattle.redl_xml.specs.Elements.{left, Frame, State, plain_tag, placed, finished, nothing_yet, Point, element_step, element_by, element_at}
+use Rattle.redl_xml.specs.Elements.{declared_in, Frame, State, plain_tag, placed, finished, nothing_yet, Point, element_step, element_by, element_at}
 use Rattle.redl_xml.proofs.Scoping.{MayEnter, entered_again, left_again}
 use Rattle.redl_xml.proofs.Buildings.{state}
 use Rattle.redl_xml.proofs.Loops.{size, shrinks, step_goes, step_ends}
@@ -73,7 +73,7 @@ tag_is scope tag close h e =
     ap (λ (s : Space). tag_with tag s tag.kind tag.rev tag.close) h.space ∙ ap (λ (k : Kind). tag_with tag space k tag.rev tag.close) h.kind ∙ ap (λ (r : ℕ). tag_with tag space Plain r tag.close) h.rev ∙ ap (tag_with tag space Plain 0) e
 
 abbrev opens : Tag → Scope → Nodes → Frame
-opens tag scope before = record { name = name_of tag; tail = tag.tail; space = space_of (scope_in tag.tail scope) tag.prefix; before = before }
+opens tag scope before = record { name = name_of tag; tail = tag.tail; declared = declared_in tag.tail; space = space_of (scope_in tag.tail scope) tag.prefix; before = before }
 
 start_placed : (scope : Scope) (tag : Tag) (fs : List Frame) (before : Nodes) → IsTag scope tag → placed (start_tag (name_of tag) tag.tail) (state fs before scope) ≡ Some (state (opens tag scope before ∷ fs) no_nodes (scope_in tag.tail scope))
 start_placed scope tag fs before h = rw (entered_again scope (name_of tag) tag.tail (may_enter scope tag h)) refl
@@ -86,7 +86,7 @@ empty_placed scope tag kids fs before h e none =
 end_placed : (scope : Scope) (tag : Tag) (kids : Nodes) (space : List ℕ) (fs : List Frame) (before : Nodes) → IsTag scope tag → tag.close ≡ End space → placed (end_tag (name_of tag) space) (state (opens tag scope before ∷ fs) kids (scope_in tag.tail scope)) ≡ Some (state fs (before ⊕ element tag kids no_nodes) scope)
 end_placed scope tag kids space fs before h e =
     let same : element tag kids no_nodes ≡ element (tag_in scope tag (End space)) kids no_nodes = ap (λ (t : Tag). element t kids no_nodes) (tag_is scope tag (End space) h e) in
-    rw (name_same (name_of tag)) (ap (λ (x : Nodes). Some (state fs (before ⊕ x) (left tag.tail (scope_in tag.tail scope)))) (sym same) ∙ ap (λ (sc : Scope). Some (state fs (before ⊕ element tag kids no_nodes) sc)) (left_again tag.tail scope))
+    rw (name_same (name_of tag)) (ap (λ (x : Nodes). Some (state fs (before ⊕ x) (drop (declared_in tag.tail) (scope_in tag.tail scope)))) (sym same) ∙ ap (λ (sc : Scope). Some (state fs (before ⊕ element tag kids no_nodes) sc)) (left_again tag.tail scope))
 
 pub nodes_end_stretch : (scope : Scope) (x : Nodes) (y : List ℕ) → AreLegal scope x → begins_with_bytes x ≡ false → ends_stretch y ≡ true → ends_stretch (tree_then x y) ≡ true
 nodes_end_stretch scope no_nodes y h first end = end

@@ -1,5 +1,5 @@
 -- The survey of a text says of what is built how deep it goes and how many nodes it has.
-use Rattle.std.proofs.Common.{◌≡◌, ℕ, zero, suc, ◌<◌, ◌≤◌, ◌+◌, max, min, Bool, true, false, cond, List, [], ◌∷◌, length, map, Option, Some, None, refl, sym, ap, ◌∙◌, arith, inl, inr}
+use Rattle.std.proofs.Common.{◌≡◌, ℕ, zero, suc, ◌<◌, ◌≤◌, ◌+◌, max, min, Bool, true, false, cond, List, [], ◌∷◌, length, drop, map, Option, Some, None, refl, sym, ap, ◌∙◌, arith, inl, inr}
 use Rattle.std.specs.Prelude.{nat_le}
 use Rattle.std.specs.Option.{option_map}
 use Rattle.std.proofs.lemmas.Bool.Decides.{nat_tests}
@@ -16,7 +16,7 @@ use Rattle.redl_markup.specs.ScanPieces.{piece_at}
 use Rattle.redl_markup.proofs.Runs.{either}
 use Rattle.redl_xml.specs.Shapes.{depth_of}
 use Rattle.redl_xml.specs.Scopes.{Scope}
-use Rattle.redl_xml.specs.Elements.{entered, left, Frame, State, one_element, added, opened, closed, stretched, placed, finished_by, finished, nothing_yet, Point, from_result, from_state, from_piece, element_step, element_by, element_at}
+use Rattle.redl_xml.specs.Elements.{entered, declared_in, Frame, State, one_element, added, opened, closed, stretched, placed, finished_by, finished, nothing_yet, Point, from_result, from_state, from_piece, element_step, element_by, element_at}
 use Rattle.redl_xml.specs.Surveys.{Survey, one_more, survey_closed, survey_stretched, surveyed, survey_finished_by, survey_finished, tag_of, survey_at}
 use Rattle.redl_xml.proofs.OpenTags.{survey}
 use Rattle.redl_xml.proofs.Loops.{step_of}
@@ -64,14 +64,14 @@ one_more-capped limit n =
 abbrev measure : ℕ → State → Survey
 measure limit s = survey (map tag_of s.open_elements) (state_depth s) (capped limit (state_count s)) s.scope
 
-same_survey : (limit : ℕ) (tags : List (Name × List ℕ)) (d d' n n' : ℕ) (scope : Scope) → d ≡ d' → n ≡ n' → survey tags d n scope ≡ survey tags d' n' scope
+same_survey : (limit : ℕ) (tags : List (Name × ℕ)) (d d' n n' : ℕ) (scope : Scope) → d ≡ d' → n ≡ n' → survey tags d n scope ≡ survey tags d' n' scope
 same_survey limit tags d d' n n' scope e f = ap (λ (x : ℕ). survey tags x n scope) e ∙ ap (λ (x : ℕ). survey tags d' x scope) f
 
 length-tags : (fs : List Frame) → length (map tag_of fs) ≡ length fs
 length-tags fs = length-map fs tag_of
 
 opened_measure : (limit : ℕ) (s : State) (name : Name) (tail : List ℕ) (x : Space × Scope)
-    → survey ((name, tail) ∷ map tag_of s.open_elements) (max (state_depth s) (length (map tag_of s.open_elements) + 1)) (one_more limit (capped limit (state_count s))) x.1 ≡ measure limit (opened name tail s x)
+    → survey ((name, declared_in tail) ∷ map tag_of s.open_elements) (max (state_depth s) (length (map tag_of s.open_elements) + 1)) (one_more limit (capped limit (state_count s))) x.1 ≡ measure limit (opened name tail s x)
 opened_measure limit s name tail x =
     let deep : max (state_depth s) (length (map tag_of s.open_elements) + 1) ≡ state_depth (opened name tail s x) = omega (arith, length-tags s.open_elements) in
     let many : state_count s + 1 ≡ state_count (opened name tail s x) = omega arith in
@@ -91,15 +91,15 @@ stretched_measure limit s b =
     let many : state_count s + 1 ≡ state_count (added s (bytes b no_nodes)) = omega (arith, count-⊕ s.kids (bytes b no_nodes)) in
     same_survey limit _ _ _ _ _ s.scope deep (one_more-capped limit (state_count s) ∙ ap (capped limit) many)
 
-closed_measure : (limit : ℕ) (f : Frame) (fs : List Frame) (kids : Nodes) (scope : Scope) (space : List ℕ) (s s' : State) → s ≡ record { open_elements = f ∷ fs; kids = kids; scope = scope } → s' ≡ record { open_elements = fs; kids = f.before ⊕ one_element f.name f.space f.tail (End space) kids; scope = left f.tail scope }
-    → survey (map tag_of fs) (state_depth s) (capped limit (state_count s)) (left f.tail scope) ≡ measure limit s'
+closed_measure : (limit : ℕ) (f : Frame) (fs : List Frame) (kids : Nodes) (scope : Scope) (space : List ℕ) (s s' : State) → s ≡ record { open_elements = f ∷ fs; kids = kids; scope = scope } → s' ≡ record { open_elements = fs; kids = f.before ⊕ one_element f.name f.space f.tail (End space) kids; scope = drop f.declared scope }
+    → survey (map tag_of fs) (state_depth s) (capped limit (state_count s)) (drop f.declared scope) ≡ measure limit s'
 closed_measure limit f fs kids scope space s s' e e' =
     let old : State = record { open_elements = f ∷ fs; kids = kids; scope = scope } in
     let one : Nodes = one_element f.name f.space f.tail (End space) kids in
-    let now : State = record { open_elements = fs; kids = f.before ⊕ one; scope = left f.tail scope } in
+    let now : State = record { open_elements = fs; kids = f.before ⊕ one; scope = drop f.declared scope } in
     let deep : state_depth old ≡ state_depth now = omega (arith, depth-⊕ f.before one) in
     let many : state_count old ≡ state_count now = omega (arith, count-⊕ f.before one) in
-    ap (λ (t : State). survey (map tag_of fs) (state_depth t) (capped limit (state_count t)) (left f.tail scope)) e ∙ same_survey limit _ _ _ _ _ (left f.tail scope) deep (ap (capped limit) many) ∙ ap (measure limit) (sym e')
+    ap (λ (t : State). survey (map tag_of fs) (state_depth t) (capped limit (state_count t)) (drop f.declared scope)) e ∙ same_survey limit _ _ _ _ _ (drop f.declared scope) deep (ap (capped limit) many) ∙ ap (measure limit) (sym e')
 
 -- ---- one piece
 
@@ -115,10 +115,10 @@ surveyed_end : (limit : ℕ) (fs : List Frame) (kids : Nodes) (scope : Scope) (n
 surveyed_end limit [] kids scope name space s e = refl
 surveyed_end limit (f ∷ fs) kids scope name space s e = of (name_eq f.name name) where
   now : State
-  now = record { open_elements = fs; kids = f.before ⊕ one_element f.name f.space f.tail (End space) kids; scope = left f.tail scope }
+  now = record { open_elements = fs; kids = f.before ⊕ one_element f.name f.space f.tail (End space) kids; scope = drop f.declared scope }
 
-  of : (t : Bool) → cond t (Some (survey (map tag_of fs) (state_depth s) (capped limit (state_count s)) (left f.tail s.scope))) None ≡ option_map (measure limit) (cond t (Some now) None)
-  of true = ap (λ (v : Survey). Some v) (ap (λ (t : State). survey (map tag_of fs) (state_depth s) (capped limit (state_count s)) (left f.tail t.scope)) e ∙ closed_measure limit f fs kids scope space s now e refl)
+  of : (t : Bool) → cond t (Some (survey (map tag_of fs) (state_depth s) (capped limit (state_count s)) (drop f.declared s.scope))) None ≡ option_map (measure limit) (cond t (Some now) None)
+  of true = ap (λ (v : Survey). Some v) (ap (λ (t : State). survey (map tag_of fs) (state_depth s) (capped limit (state_count s)) (drop f.declared t.scope)) e ∙ closed_measure limit f fs kids scope space s now e refl)
   of false = refl
 
 surveyed_placed : (limit : ℕ) (p : Piece) (s : State) → surveyed limit p (measure limit s) ≡ option_map (measure limit) (placed p s)

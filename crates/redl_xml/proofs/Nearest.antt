@@ -1,11 +1,11 @@
 -- The map of the nearest declarations agrees with the declarations after each change.
-use Rattle.std.proofs.Common.{◌≡◌, ℕ, Bool, true, false, cond, List, [], ◌∷◌, ◌++◌, reverse, Option, Some, None, refl, sym, ap, subst, ◌∙◌}
+use Rattle.std.proofs.Common.{◌≡◌, ℕ, suc, Bool, true, false, cond, List, [], ◌∷◌, ◌++◌, length, reverse, Option, Some, None, refl, sym, ap, subst, ◌∙◌}
 use Rattle.std.specs.Borrow.{Bor}
 use Rattle.std.specs.BTreeMap.{BTreeMap, get_by, UpdatesBy}
 use Rattle.std.specs.Cmp.Lexicographic.{slice_cmp}
 use Rattle.std.specs.Ordering.{nat_cmp}
 use Rattle.std.specs.Str.{bytes_eq}
-use Rattle.std.proofs.lemmas.List.{reverse-append}
+use Rattle.std.proofs.lemmas.List.{reverse-append, length-reverse}
 use Rattle.std.proofs.lemmas.Map.Text.{btree_map_updates_str}
 use Rattle.redl_tree.specs.declared.kinds.Space.{Space}
 use Rattle.redl_xml.specs.declared.declaration.Declaration.{Declaration}
@@ -59,3 +59,10 @@ pub declared_is_found : (m : BTreeMap (Bor (List ℕ)) (Option Space)) (ds : Lis
 declared_is_found m ds d a none =
     let e : None ≡ nearest d.prefix.now ((d.prefix.now, d.space) ∷ scope_view ds) = ap flat (sym none) ∙ a.finds d.prefix.now ∙ ap (nearest d.prefix.now) (scope_view-push ds d) in
     none_some d.space (rw (bytes_same d.prefix.now) at e)
+
+length-scope_by : (ds : List Declaration) → length (scope_by ds) ≡ length ds
+length-scope_by [] = refl
+length-scope_by (d ∷ more) = ap suc (length-scope_by more)
+
+pub length-scope_view : (ds : List Declaration) → length (scope_view ds) ≡ length ds
+length-scope_view ds = length-scope_by (reverse ds) ∙ length-reverse ds

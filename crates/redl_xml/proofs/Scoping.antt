@@ -1,5 +1,5 @@
 -- Into an element and out of it again: the scope is what it was.
-use Rattle.std.proofs.Common.{◌≡◌, ℕ, suc, Bool, true, cond, List, [], ◌∷◌, ◌++◌, length, drop, Option, Some, None, refl, sym, ap, subst, ◌∙◌, append_assoc, arith, length-append}
+use Rattle.std.proofs.Common.{◌≡◌, ℕ, suc, ◌+◌, Bool, true, cond, List, [], ◌∷◌, ◌++◌, length, drop, Option, Some, None, refl, sym, ap, subst, ◌∙◌, append_assoc, arith, length-append}
 use Rattle.std.specs.Prelude.{◌&&◌, not}
 use Rattle.std.specs.List.{list_all}
 use Rattle.std.proofs.Math.Seq.{drop-append_seam}
@@ -11,8 +11,10 @@ use Rattle.redl_markup.specs.Decoding.{decoded_value}
 use Rattle.redl_markup.specs.Attributes.{attributes_of}
 use Rattle.redl_markup.proofs.Names.{bind_some}
 use Rattle.redl_markup.proofs.Runs.{and-true, and-both}
-use Rattle.redl_xml.specs.Scopes.{Scope, space_named, declared_prefix, declared_by, is_allowed, with_declarations, scope_in, space_of, is_known, is_element_prefix, is_known_attribute}
-use Rattle.redl_xml.specs.Elements.{with_attribute, with_attributes, known, entered, declarations, left}
+use Rattle.std.specs.Str.{bytes_eq}
+use Rattle.redl_xml.specs.Scopes.{Scope, is_xmlns, space_named, declared_prefix, declared_by, is_allowed, with_declarations, scope_in, space_of, is_known, is_element_prefix, is_known_attribute}
+use Rattle.redl_xml.proofs.Words.{same_bytes}
+use Rattle.redl_xml.specs.Elements.{with_attribute, with_attributes, known, entered, declarations, declared_in}
 
 -- ---- the scope grows by the declarations
 
@@ -42,8 +44,8 @@ grown : (attributes : List (Name × List ℕ)) (scope : Scope) → Grown attribu
 grown [] scope = record { front = []; whole = refl; long = refl }
 grown (a ∷ more) scope = grown_more a more scope (declared_prefix a.0) refl (grown more)
 
-pub left_again : (tail : List ℕ) (scope : Scope) → left tail (scope_in tail scope) ≡ scope
-unfolding left
+pub left_again : (tail : List ℕ) (scope : Scope) → drop (declared_in tail) (scope_in tail scope) ≡ scope
+unfolding declared_in
 left_again tail scope =
     let g = grown (attributes_of tail) scope in
     ap (drop (declarations (attributes_of tail))) g.whole ∙ ap (λ (n : ℕ). drop n (g.front ++ scope)) (sym g.long) ∙ drop-append_seam g.front scope
@@ -93,10 +95,10 @@ entered_again scope name tail h =
     rw (with_again (attributes_of tail) scope h.declarations, h.prefix, h.prefixes) refl
 
 -- the scope behind an element that was entered
-pub left_entered : (scope : Scope) (name : Name) (tail : List ℕ) (x : Space × Scope) → entered scope name tail ≡ Some x → left tail x.1 ≡ scope
+pub left_entered : (scope : Scope) (name : Name) (tail : List ℕ) (x : Space × Scope) → entered scope name tail ≡ Some x → drop (declared_in tail) x.1 ≡ scope
 left_entered scope name tail x e =
     let t = entered_takes scope name tail x e in
-    ap (λ (y : Space × Scope). left tail y.1) (sym t.1) ∙ left_again tail scope
+    ap (λ (y : Space × Scope). drop (declared_in tail) y.1) (sym t.1) ∙ left_again tail scope
 
 -- ---- an element that declares nothing
 
@@ -124,3 +126,33 @@ unfolding entered known
 plain_entered scope name tail h =
     let p = plain_attributes scope (attributes_of tail) h in
     rw (p.0, p.1) refl
+
+nothing_declared : (scope : Scope) (attributes : List (Name × List ℕ)) → list_all (is_plain scope) attributes ≡ true → declarations attributes ≡ 0
+nothing_declared scope [] h = refl
+nothing_declared scope (a ∷ more) h =
+    let both = and-true (is_plain scope a) (list_all (is_plain scope) more) h in
+    let plain = and-true (not (is_there (declared_prefix a.0))) (is_known scope a.0.prefix) both.0 in
+    rw (declares_nothing (declared_prefix a.0) plain.0) (nothing_declared scope more both.1)
+
+pub plain_declares_nothing : (scope : Scope) (tail : List ℕ) → list_all (is_plain scope) (attributes_of tail) ≡ true → 0 ≡ declared_in tail
+unfolding declared_in
+plain_declares_nothing scope tail h = sym (nothing_declared scope (attributes_of tail) h)
+
+-- the scope has grown by the declarations
+pub declared_long : (scope s : Scope) (tail : List ℕ) → with_attributes (attributes_of tail) scope ≡ Some s → length s ≡ declared_in tail + length scope
+unfolding declared_in
+declared_long scope s tail e =
+    let t = with_takes (attributes_of tail) scope s e in
+    let g = grown (attributes_of tail) scope in
+    omega (arith, ap length t.1, ap length g.whole, length-append g.front scope, g.long)
+
+pub same_is_known : (scope : Scope) (own prefix : List ℕ) → bytes_eq prefix own ≡ true → is_known scope own ≡ true → is_known scope prefix ≡ true
+same_is_known scope own prefix e h = let P : List ℕ → Type 0 = λ p. is_known scope p ≡ true in subst P (sym (same_bytes prefix own e)) h
+
+-- the prefix of an element that may be entered may be used
+pub own_is_known : (scope : Scope) (name : Name) (x : Space × Scope) → known name [] scope ≡ Some x → is_known scope name.prefix ≡ true
+unfolding known
+own_is_known scope name x e =
+    let c = cond_some (is_element_prefix scope name.prefix && true) (space_of scope name.prefix, scope) x e in
+    let both = and-true (is_element_prefix scope name.prefix) true c.0 in
+    (and-true (not (is_xmlns name.prefix)) (is_known scope name.prefix) both.0).1

@@ -1,5 +1,5 @@
 -- An element that is read is legal, and the bytes are its text.
-use Rattle.std.proofs.Common.{◌≡◌, ◌≢◌, ℕ, zero, suc, Bool, true, false, eqb, List, [], ◌∷◌, ◌++◌, length, Option, Some, None, refl, sym, ap, subst, ◌∙◌}
+use Rattle.std.proofs.Common.{◌≡◌, ◌≢◌, ℕ, zero, suc, Bool, true, false, eqb, List, [], ◌∷◌, ◌++◌, length, drop, Option, Some, None, refl, sym, ap, subst, ◌∙◌}
 use Rattle.std.specs.Prelude.{◌&&◌}
 use Rattle.std.specs.List.{list_all}
 use Rattle.std.proofs.lemmas.Option.{same_Some, cond_some, some_pair_parts}
@@ -23,7 +23,7 @@ use Rattle.redl_markup.proofs.Pieces.{piece_takes}
 use Rattle.redl_xml.specs.Shapes.{begins_with_bytes}
 use Rattle.redl_xml.specs.Scopes.{Scope}
 use Rattle.redl_xml.specs.Readings.{IsTag, ClosesBy, AreLegal}
-use Rattle.redl_xml.specs.Elements.{entered, left, Frame, State, plain_tag, one_element, added, opened, closed, stretched, placed, finished_by, finished, nothing_yet, element_step, element_by, element_at}
+use Rattle.redl_xml.specs.Elements.{entered, declared_in, Frame, State, plain_tag, one_element, added, opened, closed, stretched, placed, finished_by, finished, nothing_yet, element_step, element_by, element_at}
 use Rattle.redl_xml.proofs.Scoping.{MayEnter, inside, entered_takes, left_entered}
 use Rattle.redl_xml.proofs.Buildings.{state}
 use Rattle.redl_xml.proofs.Loops.{step_goes, step_ends, step_fails, step_refuses}
@@ -55,9 +55,9 @@ frames_then (f ∷ fs) y = frames_then fs (tree_then f.before (60 ∷ (name_text
 abbrev pub so_far_then : State → List ℕ → List ℕ
 so_far_then s y = frames_then s.open_elements (tree_then s.kids y)
 
-pub closed_some : (f : Frame) (fs : List Frame) (kids : Nodes) (scope : Scope) (name : Name) (space : List ℕ) (s' : State) → closed (f ∷ fs) kids scope name space ≡ Some s' → (f.name ≡ name) × (state fs (f.before ⊕ one_element f.name f.space f.tail (End space) kids) (left f.tail scope) ≡ s')
+pub closed_some : (f : Frame) (fs : List Frame) (kids : Nodes) (scope : Scope) (name : Name) (space : List ℕ) (s' : State) → closed (f ∷ fs) kids scope name space ≡ Some s' → (f.name ≡ name) × (state fs (f.before ⊕ one_element f.name f.space f.tail (End space) kids) (drop f.declared scope) ≡ s')
 closed_some f fs kids scope name space s' e =
-    let c = cond_some (name_eq f.name name) (state fs (f.before ⊕ one_element f.name f.space f.tail (End space) kids) (left f.tail scope)) s' e in
+    let c = cond_some (name_eq f.name name) (state fs (f.before ⊕ one_element f.name f.space f.tail (End space) kids) (drop f.declared scope)) s' e in
     (same_name f.name name c.0, c.1)
 
 closed_text : (fs : List Frame) (kids : Nodes) (scope : Scope) (name : Name) (space : List ℕ) (s' : State) (rest : List ℕ) → closed fs kids scope name space ≡ Some s' → so_far_then s' rest ≡ frames_then fs (tree_then kids (piece_then (end_tag name space) rest))
@@ -117,7 +117,7 @@ record OpensIn (outer : Scope) (f : Frame) (inner : Scope) : Type 0 where
 
 abbrev AreLegalFrames : List Frame → Scope → Type 0
 AreLegalFrames [] scope = scope ≡ []
-AreLegalFrames (f ∷ fs) scope = OpensIn (left f.tail scope) f scope × AreLegal (left f.tail scope) f.before × AreLegalFrames fs (left f.tail scope)
+AreLegalFrames (f ∷ fs) scope = OpensIn (drop f.declared scope) f scope × AreLegal (drop f.declared scope) f.before × AreLegalFrames fs (drop f.declared scope)
 
 -- the state is legal, and a stretch at its end is as long as it can be
 record IsLegalAt (s : State) (rest : List ℕ) : Type 0 where
@@ -174,13 +174,13 @@ closed_legal (f ∷ fs) kids scope name space s' rest e hf hk c =
     let r = closed_some f fs kids scope name space s' e in
     let P : State → Type 0 = λ s. IsLegalAt s rest in
     let o = hf.0 in
-    subst P r.1 (add_element fs (left f.tail scope) f.before f.name f.tail (End space) kids (f.space, scope) rest hf.2 hf.1 o.name o.tail o.may o.is c hk)
+    subst P r.1 (add_element fs (drop f.declared scope) f.before f.name f.tail (End space) kids (f.space, scope) rest hf.2 hf.1 o.name o.tail o.may o.is c hk)
 
 placed_legal : (p : Piece) (s s' : State) (rest : List ℕ) → placed p s ≡ Some s' → IsPiece InElement p → Follows p rest → IsLegalAt s (piece_then p rest) → IsLegalAt s' rest
 placed_legal (start_tag name tail) s s' rest e h f legal =
     let r = bind_some (entered s.scope name tail) (λ x. Some (opened name tail s x)) s' e in
     let t = entered_takes s.scope name tail r.0 r.1 in
-    let frame : Frame = record { name = name; tail = tail; space = r.0.0; before = s.kids } in
+    let frame : Frame = record { name = name; tail = tail; declared = declared_in tail; space = r.0.0; before = s.kids } in
     let Q : Scope → Type 0 = λ sc. OpensIn sc frame r.0.1 × AreLegal sc s.kids × AreLegalFrames s.open_elements sc in
     let P : State → Type 0 = λ t. IsLegalAt t rest in
     subst P (same_Some (opened name tail s r.0) s' r.2) (record {
@@ -237,7 +237,7 @@ closed_holds [] kids scope name space s' e t = absurd (none_some s' e)
 closed_holds (f ∷ fs) kids scope name space s' e t =
     let r = closed_some f fs kids scope name space s' e in
     let P : State → Type 0 = Holds in
-    subst P r.1 (added_holds fs f.before (plain_tag f.name f.space f.tail (End space)) kids (left f.tail scope) t)
+    subst P r.1 (added_holds fs f.before (plain_tag f.name f.space f.tail (End space)) kids (drop f.declared scope) t)
 
 stretched_holds : (fs : List Frame) (kids : Nodes) (scope : Scope) (s' : State) (b : List ℕ) → stretched fs (state fs kids scope) b ≡ Some s' → top fs kids ≡ no_nodes → Holds s'
 stretched_holds [] kids scope s' b e t = absurd (none_some s' e)

@@ -1,5 +1,5 @@
 -- A survey beside what is built, and how its sizes grow.
-use Rattle.std.proofs.Common.{◌≡◌, ℕ, zero, suc, ◌≤◌, ◌+◌, max, true, false, List, [], ◌∷◌, length, map, Bool, cond, Option, Some, None, refl, sym, ap, subst, ◌∙◌, arith}
+use Rattle.std.proofs.Common.{◌≡◌, ℕ, zero, suc, ◌≤◌, ◌+◌, max, true, false, List, [], ◌∷◌, length, drop, map, Bool, cond, Option, Some, None, refl, sym, ap, subst, ◌∙◌, arith}
 use Rattle.std.specs.Prelude.{nat_le}
 use Rattle.std.specs.Option.{option_map}
 use Rattle.std.proofs.lemmas.List.{length-map}
@@ -13,7 +13,7 @@ use Rattle.redl_markup.specs.Pieces.{Piece, start_tag, empty_tag, end_tag, stret
 use Rattle.redl_markup.specs.ScanPieces.{piece_at}
 use Rattle.redl_markup.proofs.Names.{bind_some}
 use Rattle.redl_xml.specs.Scopes.{Scope}
-use Rattle.redl_xml.specs.Elements.{entered, left, Frame, State, one_element, added, opened, closed, stretched, placed, finished, nothing_yet, Point, from_result, from_state, from_piece, element_step, element_by, element_at}
+use Rattle.redl_xml.specs.Elements.{entered, declared_in, Frame, State, one_element, added, opened, closed, stretched, placed, finished, nothing_yet, Point, from_result, from_state, from_piece, element_step, element_by, element_at}
 use Rattle.redl_xml.specs.Surveys.{Survey, one_more, survey_closed, survey_stretched, surveyed, survey_finished_by, survey_finished, deepest_with, nodes_with, tag_of, survey_of, survey_begun, survey_from, survey_at}
 use Rattle.redl_xml.proofs.OpenTags.{survey}
 use Rattle.redl_xml.proofs.Loops.{Loop, loop_begins, loop_goes, loop_ends, loop_rest, step_of}
@@ -25,7 +25,7 @@ map_some f None g h e = refl
 map_some f (Some x) g h e = ap (λ y. Some y) (e x)
 
 -- an element that begins there stands one below the open ones
-begun : (limit : ℕ) (s : State) (d n : ℕ) (tags : List (Name × List ℕ)) (scope : Scope)
+begun : (limit : ℕ) (s : State) (d n : ℕ) (tags : List (Name × ℕ)) (scope : Scope)
     → survey tags (max d (length (map tag_of s.open_elements) + 1)) (one_more limit n) scope ≡ survey tags (max d (length s.open_elements + 1)) (one_more limit n) scope
 begun limit s d n tags scope = ap (λ (k : ℕ). survey tags (max d (k + 1)) (one_more limit n) scope) (length-map s.open_elements tag_of)
 
@@ -36,13 +36,13 @@ beside_stretch limit (f ∷ fs) s b d n = refl
 beside_end : (fs : List Frame) (kids : Nodes) (scope : Scope) (name : Name) (space : List ℕ) (s : State) (d n : ℕ) → s.scope ≡ scope → survey_closed (map tag_of fs) (survey_of d n s) name ≡ option_map (survey_of d n) (closed fs kids scope name space)
 beside_end [] kids scope name space s d n e = refl
 beside_end (f ∷ fs) kids scope name space s d n e = of (name_eq f.name name) where
-  of : (t : Bool) → cond t (Some (survey (map tag_of fs) d n (left f.tail s.scope))) None ≡ option_map (survey_of d n) (cond t (Some (record { open_elements = fs; kids = f.before ⊕ one_element f.name f.space f.tail (End space) kids; scope = left f.tail scope })) None)
-  of true = ap (λ (sc : Scope). Some (survey (map tag_of fs) d n (left f.tail sc))) e
+  of : (t : Bool) → cond t (Some (survey (map tag_of fs) d n (drop f.declared s.scope))) None ≡ option_map (survey_of d n) (cond t (Some (record { open_elements = fs; kids = f.before ⊕ one_element f.name f.space f.tail (End space) kids; scope = drop f.declared scope })) None)
+  of true = ap (λ (sc : Scope). Some (survey (map tag_of fs) d n (drop f.declared sc))) e
   of false = refl
 
 -- One more piece does to a survey what it does to what is built.
 pub surveyed_beside : (limit : ℕ) (p : Piece) (s : State) (d n : ℕ) → surveyed limit p (survey_of d n s) ≡ option_map (survey_of (deepest_with p (length s.open_elements + 1) d) (nodes_with limit p n)) (placed p s)
-surveyed_beside limit (start_tag name tail) s d n = map_some _ (entered s.scope name tail) (opened name tail s) _ (λ x. begun limit s d n ((name, tail) ∷ map tag_of s.open_elements) x.1)
+surveyed_beside limit (start_tag name tail) s d n = map_some _ (entered s.scope name tail) (opened name tail s) _ (λ x. begun limit s d n ((name, declared_in tail) ∷ map tag_of s.open_elements) x.1)
 surveyed_beside limit (empty_tag name tail) s d n = map_some _ (entered s.scope name tail) (λ x. added s (one_element name x.0 tail Empty no_nodes)) _ (λ x. begun limit s d n (map tag_of s.open_elements) s.scope)
 surveyed_beside limit (stretch b) s d n = beside_stretch limit s.open_elements s b d n
 surveyed_beside limit (end_tag name space) s d n = beside_end s.open_elements s.kids s.scope name space s d n refl
@@ -62,21 +62,21 @@ surveyed_grows : (limit : ℕ) (p : Piece) (s s' : Survey) → surveyed limit p 
 surveyed_grows limit (start_tag name tail) s s' e =
     let r = bind_some (entered s.scope name tail) _ s' e in
     let P : Survey → Type 0 = λ t. Grows s (t.deepest, t.nodes) in
-    subst P (same_Some (survey ((name, tail) ∷ s.open_tags) (max s.deepest (length s.open_tags + 1)) (one_more limit s.nodes) r.0.1) s' r.2) (omega arith, one_more_grows limit s.nodes)
+    subst P (same_Some (survey ((name, declared_in tail) ∷ s.open_tags) (max s.deepest (length s.open_tags + 1)) (one_more limit s.nodes) r.0.1) s' r.2) (omega arith, one_more_grows limit s.nodes)
 surveyed_grows limit (empty_tag name tail) s s' e =
     let r = bind_some (entered s.scope name tail) _ s' e in
     let P : Survey → Type 0 = λ t. Grows s (t.deepest, t.nodes) in
     subst P (same_Some (survey s.open_tags (max s.deepest (length s.open_tags + 1)) (one_more limit s.nodes) s.scope) s' r.2) (omega arith, one_more_grows limit s.nodes)
 surveyed_grows limit (stretch b) s s' e = of s.open_tags e where
-  of : (ts : List (Name × List ℕ)) → survey_stretched limit ts s ≡ Some s' → Grows s (s'.deepest, s'.nodes)
+  of : (ts : List (Name × ℕ)) → survey_stretched limit ts s ≡ Some s' → Grows s (s'.deepest, s'.nodes)
   of [] h = absurd cc
   of (t ∷ ts) h = let P : Survey → Type 0 = λ t. Grows s (t.deepest, t.nodes) in subst P (same_Some _ s' h) (omega arith, one_more_grows limit s.nodes)
 surveyed_grows limit (end_tag name space) s s' e = of s.open_tags e where
-  of : (ts : List (Name × List ℕ)) → survey_closed ts s name ≡ Some s' → Grows s (s'.deepest, s'.nodes)
+  of : (ts : List (Name × ℕ)) → survey_closed ts s name ≡ Some s' → Grows s (s'.deepest, s'.nodes)
   of [] h = absurd cc
   of (t ∷ ts) h =
       let P : Survey → Type 0 = λ t. Grows s (t.deepest, t.nodes) in
-      let c = cond_some (name_eq t.0 name) (survey ts s.deepest s.nodes (left t.1 s.scope)) s' h in
+      let c = cond_some (name_eq t.0 name) (survey ts s.deepest s.nodes (drop t.1 s.scope)) s' h in
       subst P c.1 (omega arith, omega arith)
 
 abbrev TurnGrows : Survey → Turn (Point Survey) ((ℕ × ℕ) × List ℕ) → Type 0
@@ -84,7 +84,7 @@ TurnGrows s (done None) = Unit {0}
 TurnGrows s (done (Some x)) = Grows s x.0
 TurnGrows s (next p) = Grows s (p.1.deepest, p.1.nodes)
 
-finished_is : (ts : List (Name × List ℕ)) (d n : ℕ) (r : ℕ × ℕ) → survey_finished_by ts d n ≡ Some r → (d, n) ≡ r
+finished_is : (ts : List (Name × ℕ)) (d n : ℕ) (r : ℕ × ℕ) → survey_finished_by ts d n ≡ Some r → (d, n) ≡ r
 finished_is [] d n r e = same_Some (d, n) r e
 finished_is (t ∷ ts) d n r e = absurd cc
 

@@ -7,7 +7,7 @@ use Rattle.redl_xml.specs.declared.building.Building.{Building}
 use Rattle.redl_xml.specs.Elements.{Frame, State}
 
 abbrev pub frame_view : OpenElement → Frame
-frame_view f = record { name = name_view f.tag.name; tail = f.tag.tail.now; space = f.space; before = nodes_of f.before.items }
+frame_view f = record { name = name_view f.tag.name; tail = f.tail.now; declared = f.tag.declared; space = f.space; before = nodes_of f.before.items }
 
 abbrev pub building_view : Building → State
 building_view b = record { open_elements = reverse (map frame_view b.open.items); kids = nodes_of b.kids.items; scope = b.scopes }

@@ -38,16 +38,17 @@ abbrev pub declarations : List (Name × List ℕ) → ℕ
 declarations [] = 0
 declarations (a ∷ more) = if is_there (declared_prefix a.0) then suc (declarations more) else declarations more
 
--- the scope behind the end tag of an element with this tail
-unfoldable pub left : List ℕ → Scope → Scope
-left tail scope = drop (declarations (attributes_of tail)) scope
+-- how many declarations a tag with this tail has
+unfoldable pub declared_in : List ℕ → ℕ
+declared_in tail = declarations (attributes_of tail)
 
 -- ---- the open elements
 
--- an open element, and its siblings before it
+-- an open element, with the number of its declarations, and its siblings before it
 pub record Frame : Type 0 where
   pub name : Name
   pub tail : List ℕ
+  pub declared : ℕ
   pub space : Space
   pub before : Nodes
 
@@ -77,7 +78,7 @@ added s more = record { open_elements = s.open_elements; kids = s.kids ⊕ more;
 
 abbrev pub opened : Name → List ℕ → State → Space × Scope → State
 opened name tail s x = record {
-  open_elements = record { name = name; tail = tail; space = x.0; before = s.kids } ∷ s.open_elements;
+  open_elements = record { name = name; tail = tail; declared = declared_in tail; space = x.0; before = s.kids } ∷ s.open_elements;
   kids = no_nodes;
   scope = x.1;
 }
@@ -85,7 +86,7 @@ opened name tail s x = record {
 abbrev pub closed : List Frame → Nodes → Scope → Name → List ℕ → Option State
 closed [] kids scope name space = None
 closed (f ∷ fs) kids scope name space =
-    if name_eq f.name name then Some (record { open_elements = fs; kids = f.before ⊕ one_element f.name f.space f.tail (End space) kids; scope = left f.tail scope }) else None
+    if name_eq f.name name then Some (record { open_elements = fs; kids = f.before ⊕ one_element f.name f.space f.tail (End space) kids; scope = drop f.declared scope }) else None
 
 -- a stretch stands in an element
 abbrev pub stretched : List Frame → State → List ℕ → Option State

@@ -1,15 +1,15 @@
 -- How deep an element goes and how many nodes it has, by the tags of the open elements alone.
-use Rattle.std.specs.Prelude.{ℕ, ◌+◌, max, nat_le, List, [], ◌∷◌, length, map, Option, Some, None, if◌then◌else◌}
+use Rattle.std.specs.Prelude.{ℕ, ◌+◌, max, nat_le, List, [], ◌∷◌, length, drop, map, Option, Some, None, if◌then◌else◌}
 use Rattle.redl_markup.specs.Reading.{◌>>=◌}
 use Rattle.redl_markup.specs.Names.{Name, name_eq}
 use Rattle.redl_markup.specs.Pieces.{Piece, start_tag, empty_tag, end_tag, stretch}
 use Rattle.redl_xml.specs.Scopes.{Scope}
-use Rattle.redl_xml.specs.Elements.{entered, left, Frame, State, element_by}
+use Rattle.redl_xml.specs.Elements.{entered, declared_in, Frame, State, element_by}
 
--- The names and tails of the open elements, the innermost first, the greatest depth so far, the nodes so far, up to
+-- The names of the open elements with the numbers of their declarations, the innermost first, the greatest depth so far, the nodes so far, up to
 -- one above a limit, and the scope in the innermost.
 pub record Survey : Type 0 where
-  pub open_tags : List (Name × List ℕ)
+  pub open_tags : List (Name × ℕ)
   pub deepest : ℕ
   pub nodes : ℕ
   pub scope : Scope
@@ -18,19 +18,19 @@ pub record Survey : Type 0 where
 abbrev pub one_more : ℕ → ℕ → ℕ
 one_more limit n = if nat_le n limit then n + 1 else n
 
-abbrev pub survey_closed : List (Name × List ℕ) → Survey → Name → Option Survey
+abbrev pub survey_closed : List (Name × ℕ) → Survey → Name → Option Survey
 survey_closed [] s name = None
 survey_closed (t ∷ ts) s name =
-    if name_eq t.0 name then Some (record { open_tags = ts; deepest = s.deepest; nodes = s.nodes; scope = left t.1 s.scope }) else None
+    if name_eq t.0 name then Some (record { open_tags = ts; deepest = s.deepest; nodes = s.nodes; scope = drop t.1 s.scope }) else None
 
-abbrev pub survey_stretched : ℕ → List (Name × List ℕ) → Survey → Option Survey
+abbrev pub survey_stretched : ℕ → List (Name × ℕ) → Survey → Option Survey
 survey_stretched limit [] s = None
 survey_stretched limit (t ∷ ts) s = Some (record { open_tags = s.open_tags; deepest = s.deepest; nodes = one_more limit s.nodes; scope = s.scope })
 
 -- one more piece
 abbrev pub surveyed : ℕ → Piece → Survey → Option Survey
 surveyed limit (start_tag name tail) s = entered s.scope name tail >>= λ x. Some (record {
-  open_tags = (name, tail) ∷ s.open_tags;
+  open_tags = (name, declared_in tail) ∷ s.open_tags;
   deepest = max s.deepest (length s.open_tags + 1);
   nodes = one_more limit s.nodes;
   scope = x.1;
@@ -44,7 +44,7 @@ surveyed limit (empty_tag name tail) s = entered s.scope name tail >>= λ x. Som
 surveyed limit (stretch b) s = survey_stretched limit s.open_tags s
 surveyed limit (end_tag name space) s = survey_closed s.open_tags s name
 
-abbrev pub survey_finished_by : List (Name × List ℕ) → ℕ → ℕ → Option (ℕ × ℕ)
+abbrev pub survey_finished_by : List (Name × ℕ) → ℕ → ℕ → Option (ℕ × ℕ)
 survey_finished_by [] deepest nodes = Some (deepest, nodes)
 survey_finished_by (t ∷ ts) deepest nodes = None
 
@@ -68,8 +68,8 @@ nodes_with limit (empty_tag name tail) n = one_more limit n
 nodes_with limit (stretch b) n = one_more limit n
 nodes_with limit (end_tag name space) n = n
 
-abbrev pub tag_of : Frame → Name × List ℕ
-tag_of f = (f.name, f.tail)
+abbrev pub tag_of : Frame → Name × ℕ
+tag_of f = (f.name, f.declared)
 
 -- what a survey keeps of what is built, with its sizes
 abbrev pub survey_of : ℕ → ℕ → State → Survey

@@ -13,7 +13,7 @@ ghost use Rattle.redl_xml.specs.OpenTags.{survey_view};
 use crate::scope::Scopes;
 use crate::sizes::Sizes;
 use crate::survey::{OpenTag, Survey};
-use crate::tail::{enter, leave};
+use crate::tail::enter;
 use redl_io::Text;
 use redl_markup::{MarkupError, Name, Piece};
 use redl_tree::{Close, Elem, Kind, Node, Space};
@@ -24,6 +24,7 @@ use std::mem;
 #[derive(Drop)]
 pub(crate) struct OpenElement<'a> {
     pub(crate) tag: OpenTag<'a>,
+    pub(crate) tail: &'a [u8],
     pub(crate) space: Space,
     pub(crate) before: Vec<Node>,
 }
@@ -91,11 +92,15 @@ impl<'a> Building<'a> {
         ensures ok { OnOk result (placed (start_tag (name_view name.entry) tail.entry.now) (building_view self.old) ≡ Some (building_view self.new)) }
         ensures unreadable { IsErrOf result MarkupError.Unreadable → placed (start_tag (name_view name.entry) tail.entry.now) (building_view self.old) ≡ None }
     {
-        let space = enter(&mut self.scopes, alloc, name, tail)?;
+        let entered = enter(&mut self.scopes, alloc, name, tail)?;
         let before = mem::replace(&mut self.kids, Vec::new(alloc));
         self.open.push(OpenElement {
-            tag: OpenTag { name, tail },
-            space,
+            tag: OpenTag {
+                name,
+                declared: entered.declared,
+            },
+            tail,
+            space: entered.space,
             before,
         })?;
         Ok(())
@@ -105,9 +110,16 @@ impl<'a> Building<'a> {
         ensures ok { OnOk result (placed (empty_tag (name_view name.entry) tail.entry.now) (building_view self.old) ≡ Some (building_view self.new)) }
         ensures unreadable { IsErrOf result MarkupError.Unreadable → placed (empty_tag (name_view name.entry) tail.entry.now) (building_view self.old) ≡ None }
     {
-        let space = enter(&mut self.scopes, alloc, name, tail)?;
-        leave(&mut self.scopes, tail);
-        let node = element(alloc, name, space, tail, Vec::new(alloc), Close::Empty)?;
+        let entered = enter(&mut self.scopes, alloc, name, tail)?;
+        self.scopes.forget(entered.declared);
+        let node = element(
+            alloc,
+            name,
+            entered.space,
+            tail,
+            Vec::new(alloc),
+            Close::Empty,
+        )?;
         self.kids.push(node)?;
         Ok(())
     }
@@ -134,7 +146,7 @@ impl<'a> Building<'a> {
         if opened.tag.name != name {
             return Err(MarkupError::Unreadable);
         }
-        leave(&mut self.scopes, opened.tag.tail);
+        self.scopes.forget(opened.tag.declared);
         let close = Close::End(Text::copy_of(alloc, space)?);
         let mut kids = mem::replace(&mut self.kids, opened.before);
         kids.shrink_to_fit();
@@ -142,7 +154,7 @@ impl<'a> Building<'a> {
             alloc,
             opened.tag.name,
             opened.space,
-            opened.tag.tail,
+            opened.tail,
             kids,
             close,
         )?;

@@ -1,6 +1,6 @@
 //! The namespace declarations in scope.
 
-ghost use Rattle.std.specs.Prelude.{◌≡◌, [], ◌∷◌, drop, OnOk};
+ghost use Rattle.std.specs.Prelude.{◌≡◌, [], ◌∷◌, length, drop, OnOk};
 ghost use Rattle.redl_xml.specs.Scopes.{Scope, nearest};
 ghost use Rattle.redl_xml.specs.Stacks.{scope_view, Agrees};
 
@@ -64,8 +64,26 @@ impl<'a> Scopes<'a> {
         }
     }
 
+    /// How many declarations there are.
+    pub(crate) fn len(&self) -> usize
+        ensures { result ≡ length self.now }
+    {
+        self.declarations.len()
+    }
+
+    /// So many of the nearest declarations go.
+    pub(crate) fn forget(&mut self, count: usize)
+        ensures { self.new ≡ drop count self.old }
+    {
+        let mut left = count;
+        while left > 0 {
+            self.forget_one();
+            left -= 1;
+        }
+    }
+
     /// The nearest declaration goes.
-    pub(crate) fn forget(&mut self)
+    fn forget_one(&mut self)
         ensures { self.new ≡ drop 1 self.old }
     {
         if let Some(nearest) = self.declarations.pop() {

@@ -8,15 +8,15 @@ ghost use Rattle.redl_xml.specs.OpenTags.{survey_view};
 
 use crate::scope::Scopes;
 use crate::sizes::Sizes;
-use crate::tail::{enter, leave};
+use crate::tail::enter;
 use redl_markup::{MarkupError, Name, Piece};
 use std::alloc::Global;
 
-/// The name and the tail of an open element.
+/// The name of an open element, and how many declarations it has.
 #[derive(Clone, Copy)]
 pub(crate) struct OpenTag<'a> {
     pub(crate) name: Name<'a>,
-    pub(crate) tail: &'a [u8],
+    pub(crate) declared: usize,
 }
 
 /// The tags of the open elements, the innermost last, what has been counted, and the declarations in scope.
@@ -38,8 +38,11 @@ impl<'a> Survey<'a> {
         ensures ok { OnOk result (surveyed limit (start_tag (name_view name.entry) tail.entry.now) (survey_view self.old) ≡ Some (survey_view self.new)) }
         ensures unreadable { IsErrOf result MarkupError.Unreadable → surveyed limit (start_tag (name_view name.entry) tail.entry.now) (survey_view self.old) ≡ None }
     {
-        enter(&mut self.scopes, alloc, name, tail)?;
-        self.open.push(OpenTag { name, tail })?;
+        let entered = enter(&mut self.scopes, alloc, name, tail)?;
+        self.open.push(OpenTag {
+            name,
+            declared: entered.declared,
+        })?;
         self.sizes.add_element(limit, self.open.len());
         Ok(())
     }
@@ -54,8 +57,8 @@ impl<'a> Survey<'a> {
         ensures ok { OnOk result (surveyed limit (empty_tag (name_view name.entry) tail.entry.now) (survey_view self.old) ≡ Some (survey_view self.new)) }
         ensures unreadable { IsErrOf result MarkupError.Unreadable → surveyed limit (empty_tag (name_view name.entry) tail.entry.now) (survey_view self.old) ≡ None }
     {
-        enter(&mut self.scopes, alloc, name, tail)?;
-        leave(&mut self.scopes, tail);
+        let entered = enter(&mut self.scopes, alloc, name, tail)?;
+        self.scopes.forget(entered.declared);
         self.sizes.add_element(limit, self.open.len() + 1);
         Ok(())
     }
@@ -81,7 +84,7 @@ impl<'a> Survey<'a> {
         if opened.name != name {
             return Err(MarkupError::Unreadable);
         }
-        leave(&mut self.scopes, opened.tail);
+        self.scopes.forget(opened.declared);
         Ok(())
     }
 

@@ -1,6 +1,6 @@
 //! What the attributes of a start tag declare, and whether their prefixes may be used.
 
-ghost use Rattle.std.specs.Prelude.{◌≡◌, ◌||◌, ◌&&◌, not, [], codes};
+ghost use Rattle.std.specs.Prelude.{◌≡◌, ◌||◌, ◌&&◌, not, true, [], codes, IfOk};
 ghost use Rattle.std.specs.List.{list_all};
 ghost use Rattle.redl_markup.specs.Reading.{Gives, Finds};
 ghost use Rattle.redl_markup.specs.References.{is_there};
@@ -8,7 +8,7 @@ ghost use Rattle.redl_markup.specs.Decoding.{decoded_value};
 ghost use Rattle.redl_markup.specs.Attributes.{attributes_of};
 ghost use Rattle.redl_markup.specs.Views.{name_view, attribute_view};
 ghost use Rattle.redl_xml.specs.Scopes.{space_named, is_xml_namespace, is_xml_prefix, is_xmlns, declared_prefix, may_declare, is_known, is_known_attribute, is_element_prefix};
-ghost use Rattle.redl_xml.specs.Elements.{with_attribute, with_attributes, known, entered, left};
+ghost use Rattle.redl_xml.specs.Elements.{with_attribute, with_attributes, known, entered, declared_in};
 
 use crate::scope::Scopes;
 use redl_markup::{Attribute, MarkupError, Name, decode_value, next_attribute};
@@ -144,13 +144,29 @@ fn are_known<'a>(scopes: &Scopes<'a>, tail: &'a [u8]) -> bool
     true
 }
 
-/// Whether no attribute of a tail is a declaration, and all their prefixes may be used.
-fn are_plain<'a>(scopes: &Scopes<'a>, tail: &'a [u8]) -> bool
+/// Whether a prefix may be used, where the one of its element may.
+#[tactic(auto, using(crate::proofs::Scoping::same_is_known))]
+fn is_known_beside<'a>(scopes: &Scopes<'a>, own: &'a [u8], prefix: &'a [u8]) -> bool
+    requires { is_known scopes.now own.now ≡ true }
+    ensures { result ≡ is_known scopes.now prefix.now }
+{
+    // Most attributes have the prefix of their element, which is cheaper to compare than to look up.
+    if prefix == own {
+        return true;
+    }
+    is_known(scopes, prefix)
+}
+
+/// Whether no attribute of a tail is a declaration, and all their prefixes may be used, as that of their element may.
+fn are_plain<'a>(scopes: &Scopes<'a>, own: &'a [u8], tail: &'a [u8]) -> bool
+    requires { is_known scopes.now own.now ≡ true }
     ensures { result ≡ list_all (λ a. not (is_there (declared_prefix a.0)) && is_known scopes.now a.0.prefix) (attributes_of tail.now) }
 {
     let mut more = tail;
     while let Some((attribute, rest)) = next_attribute(more) {
-        if declared_prefix(attribute.name).is_some() || !is_known(scopes, attribute.name.prefix) {
+        if declared_prefix(attribute.name).is_some()
+            || !is_known_beside(scopes, own, attribute.name.prefix)
+        {
             return false;
         }
         more = rest;
@@ -185,6 +201,13 @@ fn known_space<'a>(scopes: &Scopes<'a>, name: Name<'a>, tail: &'a [u8]) -> Optio
     }
 }
 
+/// What is known of an element that was entered: its space, and how many declarations it has.
+#[derive(Clone, Copy)]
+pub(crate) struct Entered {
+    pub(crate) space: Space,
+    pub(crate) declared: usize,
+}
+
 /// Goes into an element: declares what it declares, and gives its space.
 ///
 /// `Unreadable` exactly where a declaration may not stand, or a prefix of the tag may not be used.
@@ -194,26 +217,20 @@ pub(crate) fn enter<'a>(
     alloc: Global,
     name: Name<'a>,
     tail: &'a [u8],
-) -> Result<Space, MarkupError>
-    ensures { Finds (λ space. (space, scopes.new)) result (entered scopes.old (name_view name.entry) tail.entry.now) }
+) -> Result<Entered, MarkupError>
+    ensures read { Finds (λ x. (x.space, scopes.new)) result (entered scopes.old (name_view name.entry) tail.entry.now) }
+    ensures declared { IfOk result (λ x. x.declared ≡ declared_in tail.entry.now) }
 {
-    if are_plain(scopes, tail) {
-        return element_space(scopes, name).ok_or(MarkupError::Unreadable);
-    }
-    declare_attributes(scopes, alloc, tail)?;
-    known_space(scopes, name, tail).ok_or(MarkupError::Unreadable)
-}
-
-/// Goes out of an element with this tail.
-#[tactic(auto, unfolding(crate::specs::Elements::left))]
-pub(crate) fn leave<'a>(scopes: &mut Scopes<'a>, tail: &'a [u8])
-    ensures { scopes.new ≡ left tail.entry.now scopes.old }
-{
-    let mut more = tail;
-    while let Some((attribute, rest)) = next_attribute(more) {
-        if declared_prefix(attribute.name).is_some() {
-            scopes.forget();
+    if let Some(space) = element_space(scopes, name) {
+        if are_plain(scopes, name.prefix, tail) {
+            return Ok(Entered { space, declared: 0 });
         }
-        more = rest;
     }
+    let around = scopes.len();
+    declare_attributes(scopes, alloc, tail)?;
+    let space = known_space(scopes, name, tail).ok_or(MarkupError::Unreadable)?;
+    Ok(Entered {
+        space,
+        declared: scopes.len() - around,
+    })
 }

@@ -11,4 +11,4 @@ pub returns : goal.returns
 returns c =
     let old = c.args.self in
     let tags = c.in_ok-open.ensures ∙ ap (λ (fs : List OpenElement). map (λ f. f.tag) fs) c.deref.ensures.value in
-    ap (λ (ts : List (Name × List ℕ)). survey ts c.args.sizes.deepest c.args.sizes.nodes old.scopes) (ap (λ (ts : List OpenTag). reverse (map tag_view ts)) tags ∙ tags-frames old.open.items)
+    ap (λ (ts : List (Name × ℕ)). survey ts c.args.sizes.deepest c.args.sizes.nodes old.scopes) (ap (λ (ts : List OpenTag). reverse (map tag_view ts)) tags ∙ tags-frames old.open.items)
