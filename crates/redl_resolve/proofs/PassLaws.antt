@@ -1,6 +1,7 @@
 -- The pass, a node at a time, and the number of its nodes.
 use Rattle.std.proofs.Common.{◌≡◌, ◌≢◌, ◌+◌, ℕ, List, [], ◌∷◌, ◌++◌, Bool, false, refl, ap, arith}
 use Rattle.redl_resolve.specs.Rounds.{round_of, inside_of, item_pass_in}
+use Rattle.redl_resolve.specs.Visits.{goes_into, visited, item_visited, visited_in, item_visited_in}
 use Rattle.redl_tree.proofs.Laws.{nodes_of-push, nodes_of-push_elem, nodes_of-push_bytes, count-in_front}
 use Rattle.redl_tree.specs.Count.{count, item_count}
 use Rattle.redl_tree.specs.Packages.{pass_in}
@@ -62,3 +63,23 @@ pub pass_in-in_front : (says : List Say) (around : List Tag) (x : Item) (ys : No
     → pass_in says around (in_front x ys) ≡ in_front (item_pass_in says around x) no_nodes ⊕ pass_in says around ys
 pass_in-in_front says around (bytes_item b) ys = refl
 pass_in-in_front says around (element_item tag kids) ys = refl
+
+-- ---- the nodes that are looked at
+
+pub visited-in_front : (says : List Say) (x : Item) (ys : Nodes) → visited says (in_front x ys) ≡ item_visited says x + visited says ys
+visited-in_front says (bytes_item b) ys = refl
+visited-in_front says (element_item tag kids) ys = refl
+
+pub visited_in-in_front : (says : List Say) (around : List Tag) (x : Item) (ys : Nodes)
+    → visited_in says around (in_front x ys) ≡ item_visited_in says around x + visited_in says around ys
+visited_in-in_front says around (bytes_item b) ys = refl
+visited_in-in_front says around (element_item tag kids) ys = refl
+
+-- the pass goes into nothing that is decided and not freed
+pub goes_into-gone : (fate : Fate) (content : Bool) → fate ≢ Leave → fate ≢ Free → goes_into fate content ≡ false
+goes_into-gone Leave content not_left not_freed = absurd (not_left refl)
+goes_into-gone Free content not_left not_freed = absurd (not_freed refl)
+goes_into-gone Cut content not_left not_freed = refl
+goes_into-gone Clear content not_left not_freed = refl
+goes_into-gone Restore content not_left not_freed = refl
+goes_into-gone Drop content not_left not_freed = refl

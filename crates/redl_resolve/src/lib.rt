@@ -1,7 +1,8 @@
 //! The pass: the nodes of a package and a say for each revision go in, the nodes that are left come out.
 //!
-//! Read `pass` first, and `into_passed`, which moves the nodes that stay. Their clauses say that the result is the pass of `specs/Packages.antt` of `redl_tree`, and that at most
-//! one step is counted for each node that is given, and at least one for each node of the result.
+//! Read `pass` first, then `into_passed`, which moves the nodes that stay. Their clauses say that the result is the pass
+//! of `specs/Packages.antt` of `redl_tree`, and that at most one step is counted for each node that is given, at least one
+//! for each node of the result, and exactly one for each that `specs/Visits.antt` counts.
 //! Which elements are members of which revision, and what is said of a revision, is left to the crates above.
 #![tactic(auto)]
 

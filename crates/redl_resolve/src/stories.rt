@@ -2,6 +2,7 @@
 
 ghost use Rattle.std.specs.Prelude.{◌≡◌, ◌≤◌, ◌+◌, List, IfOk};
 ghost use Rattle.redl_resolve.specs.Rounds.{kids_pass_in, item_pass_in, element_pass_in};
+ghost use Rattle.redl_resolve.specs.Visits.{visited_package, visited_in, item_visited_in, kids_visited_in};
 ghost use Rattle.redl_tree.specs.Count.{count, item_count};
 ghost use Rattle.redl_tree.specs.Nodes.{Tag};
 ghost use Rattle.redl_tree.specs.Packages.{level_of, pass_in, pass_package};
@@ -18,8 +19,8 @@ use std::sync::ledger::Ledger;
 /// What the nodes of a package become under a say for each revision. `says[v - 1]` belongs to revision v, and a revision
 /// that has none is left.
 ///
-/// A step is one node that is looked at; what goes with all that it holds is one. The nodes that stay are copied; see
-/// `into_passed` where they aren't needed any more. `Err` is want of memory.
+/// A step is one node that is looked at; what goes with all that it holds is one. The nodes are copied first: where they
+/// are needed no more, `into_passed` copies nothing. `Err` is want of memory.
 pub fn pass<L: Ledger>(
     alloc: Global,
     nodes: &[Node],
@@ -31,13 +32,16 @@ pub fn pass<L: Ledger>(
     // At most one step for each node that is given, whatever comes, and at least one for each node of the result.
     ensures entered { steps.new ≤ steps.old + count (nodes_of nodes.now) }
     ensures made { IfOk result (λ passed. steps.old + count (nodes_of passed.items) ≤ steps.new) }
+
+    // In the end one for each node that is looked at.
+    ensures exactly { IfOk result (λ _. steps.new ≡ steps.old + visited_package says.now (nodes_of nodes.now)) }
 {
     let copies = copy_nodes(alloc, nodes)?;
     into_passed(alloc, copies, says, steps)
 }
 
-/// The pass of nodes that are given away, as `pass` has it. What stays is moved, nothing is copied, and what goes is freed
-/// on the way.
+/// The pass of nodes that are given away, as `pass` has it. What stays is moved and nothing is copied, so that the nodes
+/// given go while the result is made.
 pub fn into_passed<L: Ledger>(
     alloc: Global,
     nodes: Vec<Node>,
@@ -47,6 +51,7 @@ pub fn into_passed<L: Ledger>(
     ensures passed { IfOk result (λ passed. nodes_of passed.items ≡ pass_package says.now (nodes_of nodes.items)) }
     ensures entered { steps.new ≤ steps.old + count (nodes_of nodes.items) }
     ensures made { IfOk result (λ passed. steps.old + count (nodes_of passed.items) ≤ steps.new) }
+    ensures exactly { IfOk result (λ _. steps.new ≡ steps.old + visited_package says.now (nodes_of nodes.items)) }
 {
     pass_stories(alloc, nodes, says, Level::Top, steps)
 }
@@ -64,6 +69,8 @@ fn pass_stories<L: Ledger>(
         → nodes_of passed.items ≡ pass_in says.now around (nodes_of nodes.items)) }
     ensures entered { steps.new ≤ steps.old + count (nodes_of nodes.items) }
     ensures made { IfOk result (λ passed. steps.old + count (nodes_of passed.items) ≤ steps.new) }
+    ensures exactly { IfOk result (λ _. (around : List Tag) → level ≡ level_of around
+        → steps.new ≡ steps.old + visited_in says.now around (nodes_of nodes.items)) }
 {
     let mut passed = Vec::with_capacity(alloc, nodes.len())?;
     for node in nodes {
@@ -85,6 +92,8 @@ fn pass_in_node<L: Ledger>(
         → item_of passed ≡ item_pass_in says.now around (item_of node)) }
     ensures entered { steps.new ≤ steps.old + item_count (item_of node) }
     ensures made { IfOk result (λ passed. steps.old + item_count (item_of passed) ≤ steps.new) }
+    ensures exactly { IfOk result (λ _. (around : List Tag) → level ≡ level_of around
+        → steps.new ≡ steps.old + item_visited_in says.now around (item_of node)) }
 {
     steps.tick();
     match node {
@@ -106,6 +115,8 @@ fn pass_in_elem<L: Ledger>(
         → item_of passed ≡ element_pass_in says.now around (tag_of elem) (kids_of elem)) }
     ensures entered { steps.new ≤ steps.old + count (kids_of elem) }
     ensures made { IfOk result (λ passed. steps.old + item_count (item_of passed) ≤ steps.new + 1) }
+    ensures exactly { IfOk result (λ _. (around : List Tag) → level ≡ level_of around
+        → steps.new ≡ steps.old + kids_visited_in says.now around (tag_of elem) (kids_of elem)) }
 {
     let mut elem = elem;
     let kids = mem::replace(&mut elem.kids, Vec::new(alloc));
@@ -127,6 +138,8 @@ fn pass_in_kids<L: Ledger>(
         → nodes_of passed.items ≡ kids_pass_in says.now around (tag_of parent.now) (nodes_of kids.items)) }
     ensures entered { steps.new ≤ steps.old + count (nodes_of kids.items) }
     ensures made { IfOk result (λ passed. steps.old + count (nodes_of passed.items) ≤ steps.new) }
+    ensures exactly { IfOk result (λ _. (around : List Tag) → level ≡ level_of around
+        → steps.new ≡ steps.old + kids_visited_in says.now around (tag_of parent.now) (nodes_of kids.items)) }
 {
     if level.is_root(parent) {
         return pass_kids(alloc, kids, says, in_root(says, parent), steps);

@@ -2,6 +2,7 @@
 
 ghost use Rattle.std.specs.Prelude.{◌≡◌, ◌∷◌, ◌≤◌, ◌+◌, List, IfOk, OnOk};
 ghost use Rattle.redl_resolve.specs.Rounds.{round_of};
+ghost use Rattle.redl_resolve.specs.Visits.{visited, item_visited, visited_inside};
 ghost use Rattle.redl_tree.specs.Count.{count, item_count};
 ghost use Rattle.redl_tree.specs.Nodes.{Tag, ◌⊕◌};
 ghost use Rattle.redl_tree.specs.Pass.{pass, item_pass, element_pass};
@@ -29,6 +30,7 @@ pub(crate) fn pass_kids<L: Ledger>(
         → nodes_of passed.items ≡ pass says.now around (nodes_of kids.items)) }
     ensures entered { steps.new ≤ steps.old + count (nodes_of kids.items) }
     ensures made { IfOk result (λ passed. steps.old + count (nodes_of passed.items) ≤ steps.new) }
+    ensures exactly { IfOk result (λ _. steps.new ≡ steps.old + visited says.now (nodes_of kids.items)) }
 {
     let mut passed = Vec::with_capacity(alloc, kids.len())?;
     pass_nodes(alloc, kids, says, round, &mut passed, steps)?;
@@ -50,6 +52,7 @@ fn pass_nodes<L: Ledger>(
     ensures entered { steps.new ≤ steps.old + count (nodes_of nodes.items) }
     ensures made { OnOk result (steps.old + count (nodes_of passed.new.items)
         ≤ steps.new + count (nodes_of passed.old.items)) }
+    ensures exactly { OnOk result (steps.new ≡ steps.old + visited says.now (nodes_of nodes.items)) }
 {
     for node in nodes {
         pass_node(alloc, node, says, round, passed, steps)?;
@@ -71,6 +74,7 @@ fn pass_node<L: Ledger>(
     ensures entered { steps.new ≤ steps.old + item_count (item_of node) }
     ensures made { OnOk result (steps.old + count (nodes_of passed.new.items)
         ≤ steps.new + count (nodes_of passed.old.items)) }
+    ensures exactly { OnOk result (steps.new ≡ steps.old + item_visited says.now (item_of node)) }
 {
     steps.tick();
     match node {
@@ -98,6 +102,7 @@ fn pass_elem<L: Ledger>(
     ensures entered { steps.new ≤ steps.old + count (kids_of elem) }
     ensures made { OnOk result (steps.old + count (nodes_of passed.new.items)
         ≤ steps.new + (1 + count (nodes_of passed.old.items))) }
+    ensures exactly { OnOk result (steps.new ≡ steps.old + visited_inside says.now (tag_of elem) (visited says.now (kids_of elem))) }
 {
     let fate = fate_of(says, &elem);
     let inner = inside(round, &elem, fate);

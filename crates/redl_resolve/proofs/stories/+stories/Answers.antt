@@ -1,8 +1,9 @@
 use Rattle.std.proofs.Common.{◌≡◌, [], ◌∷◌, refl, sym, ap, ◌∙◌, arith, rules}
 use Rattle.std.proofs.lemmas.List.{nil_from_length}
 use Rattle.std.specs.Vec.Iter.{into_iter_items}
-use Rattle.redl_resolve.proofs.PassLaws.{count-push, pass_in-in_front}
+use Rattle.redl_resolve.proofs.PassLaws.{count-push, pass_in-in_front, visited_in-in_front}
 use Rattle.redl_resolve.specs.Rounds.{kids_pass_in}
+use Rattle.redl_resolve.specs.Visits.{visited_in}
 use Rattle.redl_tree.proofs.Laws.{item_of-Elem, ⊕-no_nodes, built_more, nodes_of-push, count-in_front}
 use Rattle.redl_tree.specs.Count.{count}
 use Rattle.redl_tree.specs.Nodes.{no_nodes, element_item, in_front, ◌⊕◌}
@@ -16,6 +17,7 @@ pass_stories-loop-node-init g t c =
     record {
       passed = λ around level_is. rw (items, c.in_ok-passed.ensures.items) refl;
       entered = omega (arith, ap (λ xs. count (nodes_of xs)) items);
+      exactly = λ around level_is. rw items refl;
       made = rw c.in_ok-passed.ensures.items (omega arith);
     }
 
@@ -33,6 +35,7 @@ pass_stories-loop-node-preserved g t c =
           (ap (λ xs. pass_in says around (nodes_of xs)) here ∙ pass_in-in_front says around (item_of node) (nodes_of rest))
           (c.loop-node.invariant.passed around level_is);
       entered = omega (arith, ap (λ xs. count (nodes_of xs)) here, count-in_front (item_of node) (nodes_of rest), c.in_ok-node.ensures.entered, c.loop-node.invariant.entered);
+      exactly = λ around level_is. omega (arith, ap (λ xs. visited_in says around (nodes_of xs)) here, visited_in-in_front says around (item_of node) (nodes_of rest), c.in_ok-node.ensures.exactly around level_is, c.loop-node.invariant.exactly around level_is);
       made = omega (arith, pushed, c.in_ok-node.ensures.made, c.loop-node.invariant.made);
     }
 
@@ -51,3 +54,9 @@ pass_in_elem-returns-clause-passed g t c = λ around level_is.
 
 pub pass_in_elem-returns-clause-made : goal.pass_in_elem-returns-clause-made
 pass_in_elem-returns-clause-made g t c = rw (item_of-Elem _) (omega (arith, c.in_ok-elem.ensures.made))
+
+pub pass_stories-returns-clause-exactly : goal.pass_stories-returns-clause-exactly
+pass_stories-returns-clause-exactly g t c = λ around level_is.
+    let none : into_iter_items c.loop-node.node-iterator ≡ [] =
+    nil_from_length _ (sym c.loop-node.node-iterator.rest.ok.0 ∙ c.in-None.ensures.steps.0) in
+    omega (arith, ap (λ xs. visited_in c.args.says.now around (nodes_of xs)) none, c.loop-node.invariant.exactly around level_is)

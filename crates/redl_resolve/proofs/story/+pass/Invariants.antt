@@ -1,6 +1,7 @@
 use Rattle.std.proofs.Common.{◌≡◌, ◌≤◌, ◌+◌, List}
 use Rattle.std.specs.Vec.Iter.{into_iter_items}
 use Rattle.redl_resolve.specs.Rounds.{round_of}
+use Rattle.redl_resolve.specs.Visits.{visited}
 use Rattle.redl_tree.specs.Count.{count}
 use Rattle.redl_tree.specs.Nodes.{Tag, ◌⊕◌}
 use Rattle.redl_tree.specs.Pass.{pass}
@@ -14,5 +15,6 @@ invariant-pass_nodes-loop-node g l = record {
       → nodes_of l.passed.items ⊕ pass l.says around (nodes_of (into_iter_items l.node-iterator))
       ≡ nodes_of l.initial.passed.items ⊕ pass l.says around (nodes_of l.fn.nodes.items);
   entered : l.steps + count (nodes_of (into_iter_items l.node-iterator)) ≤ l.initial.steps + count (nodes_of l.fn.nodes.items);
+  exactly : l.steps + visited l.says (nodes_of (into_iter_items l.node-iterator)) ≡ l.initial.steps + visited l.says (nodes_of l.fn.nodes.items);
   made : l.initial.steps + count (nodes_of l.passed.items) ≤ l.steps + count (nodes_of l.initial.passed.items);
 }
