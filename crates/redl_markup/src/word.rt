@@ -52,7 +52,11 @@ fn behind_start_char(bytes: &[u8], colons: bool) -> Option<&[u8]>
     ensures { Gives (λ rest. rest.now) result (behind_start colons bytes.now) }
 {
     let (first, rest) = first_char(bytes)?;
-    if may_start(first, colons) { Some(rest) } else { None }
+    if may_start(first, colons) {
+        Some(rest)
+    } else {
+        None
+    }
 }
 
 /// What stands behind the first character of a name. Most are letters of ASCII, so that few are decoded.
@@ -70,7 +74,9 @@ fn behind_start(bytes: &[u8], colons: bool) -> Option<&[u8]>
 fn is_name_byte(b: u8, colons: bool) -> bool
     ensures { result ≡ is_name_byte colons b }
 {
-    b.is_ascii_alphabetic() || matches!(b, b'0'..=b'9' | b'-' | b'.' | b'_') || (colons && b == b':')
+    b.is_ascii_alphabetic()
+        || matches!(b, b'0'..=b'9' | b'-' | b'.' | b'_')
+        || (colons && b == b':')
 }
 
 /// What stands behind ASCII characters of a name.
