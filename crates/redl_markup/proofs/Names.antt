@@ -17,7 +17,7 @@ use Rattle.redl_markup.specs.Characters.{is_space, is_name_start, is_name_charac
 use Rattle.redl_markup.specs.Lists.{behind, after, before}
 use Rattle.redl_markup.specs.Reading.{◌>>=◌, done, next, turn, turns}
 use Rattle.redl_markup.specs.Names.{may_start, may_follow, IsWord, Name, name_text, IsName}
-use Rattle.redl_markup.specs.ScanNames.{taken, char_at, is_name_byte, name_step, name_end, start_at, word_at, local_at, name_at}
+use Rattle.redl_markup.specs.ScanNames.{taken, char_at, is_name_byte, name_step, name_end, behind_start, word_at, local_at, name_at}
 use Rattle.redl_markup.proofs.Runs.{stops, after_stops, not-true, and-true, and-both, either}
 use Rattle.redl_markup.proofs.Words.{behind_takes, before-append}
 use Rattle.redl_markup.proofs.Turns.{Going, begins, goes_on, ends}
@@ -343,12 +343,12 @@ letter_may_start : (colons : Bool) (b : ℕ) → is_ascii_alphabetic b ≡ true 
 unfolding may_start is_name_start
 letter_may_start colons b h = grind (arith, nat_tests)
 
-pub letter_starts : (colons : Bool) (b : ℕ) (rest : List ℕ) → is_ascii_alphabetic b ≡ true → start_at colons (b ∷ rest) ≡ Some rest
-unfolding start_at
+pub letter_starts : (colons : Bool) (b : ℕ) (rest : List ℕ) → is_ascii_alphabetic b ≡ true → behind_start colons (b ∷ rest) ≡ Some rest
+unfolding behind_start
 letter_starts colons b rest h = rw (ascii_again b rest (letter_low b h), letter_may_start colons b h) refl
 
-pub word_fails : (colons : Bool) (bs : List ℕ) → start_at colons bs ≡ None → word_at colons bs ≡ None
-unfolding start_at word_at
+pub word_fails : (colons : Bool) (bs : List ℕ) → behind_start colons bs ≡ None → word_at colons bs ≡ None
+unfolding behind_start word_at
 word_fails colons bs e = by_char (char_at bs) e where
   nothing : (o : Option (List ℕ)) (f : List ℕ → Option (List ℕ × List ℕ)) → ((rest : List ℕ) → f rest ≡ None) → (o >>= f) ≡ None
   nothing None f h = refl
@@ -362,8 +362,8 @@ word_fails colons bs e = by_char (char_at bs) e where
         | inr other ↦ nothing (name_end colons x.1) (λ rest. cond (may_start colons x.0) (Some (before bs rest, rest)) None) (λ rest. rw other refl)
       ]
 
-pub word_reads : (colons : Bool) (bs more rest : List ℕ) → start_at colons bs ≡ Some more → name_end colons more ≡ Some rest → word_at colons bs ≡ Some (before bs rest, rest)
-unfolding start_at word_at
+pub word_reads : (colons : Bool) (bs more rest : List ℕ) → behind_start colons bs ≡ Some more → name_end colons more ≡ Some rest → word_at colons bs ≡ Some (before bs rest, rest)
+unfolding behind_start word_at
 word_reads colons bs more rest e end =
     let f = bind_some (char_at bs) (λ x. cond (may_start colons x.0) (Some x.1) None) more e in
     let c = cond_some (may_start colons f.0.0) f.0.1 more f.2 in

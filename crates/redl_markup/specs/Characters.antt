@@ -1,5 +1,5 @@
 -- The characters of a text, and the classes of characters (XML 1.0, fifth edition, productions 2 to 4a).
-use Rattle.std.specs.Prelude.{◌≡◌, ℕ, Bool, true, ◌==◌, ◌&&◌, ◌||◌, nat_le, List}
+use Rattle.std.specs.Prelude.{◌≡◌, ℕ, Bool, true, ◌==◌, ◌&&◌, ◌||◌, not, nat_le, List}
 use Rattle.std.specs.List.{list_all}
 use Rattle.std.specs.Str.{encode_utf8_all}
 
@@ -9,6 +9,10 @@ between low high c = nat_le low c && nat_le c high
 -- Char, production 2
 unfoldable pub is_character : ℕ → Bool
 is_character c = c == 0x9 || c == 0xA || c == 0xD || between 0x20 0xD7FF c || between 0xE000 0xFFFD c || between 0x1_0000 0x10_FFFF c
+
+-- a byte that no forbidden character begins with: neither a control character's, nor that of U+FFFE and U+FFFF
+unfoldable pub is_plain_byte : ℕ → Bool
+is_plain_byte b = nat_le 0x20 b && not (b == 0xEF) || b == 0x9 || b == 0xA || b == 0xD
 
 -- a character of S, production 3
 unfoldable pub is_space : ℕ → Bool

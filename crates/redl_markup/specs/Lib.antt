@@ -13,3 +13,4 @@ pub mod Attributes
 pub mod ScanStretches
 pub mod ScanPieces
 pub mod Views
+pub mod Terms

@@ -29,8 +29,8 @@ unfoldable pub name_end : Bool → List ℕ → Option (List ℕ)
 name_end colons bs = turns (name_step colons) (suc (length bs)) bs
 
 -- what stands behind the first character of a name
-unfoldable pub start_at : Bool → List ℕ → Option (List ℕ)
-start_at colons bs = do
+unfoldable pub behind_start : Bool → List ℕ → Option (List ℕ)
+behind_start colons bs = do
   x ← char_at bs
   if may_start colons x.0 then Some x.1 else None
 

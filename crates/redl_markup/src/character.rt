@@ -1,7 +1,8 @@
 //! The characters of a text.
 
 ghost use Rattle.std.specs.Prelude.{◌≡◌, IsTrue, ◌↔◌};
-ghost use Rattle.redl_markup.specs.Characters.{is_character, is_name_start, is_name_character, IsText};
+ghost use Rattle.std.specs.List.{list_all};
+ghost use Rattle.redl_markup.specs.Characters.{is_character, is_plain_byte, is_name_start, is_name_character, IsText};
 
 #[tactic(auto, unfolding(crate::specs::Characters::is_character))]
 pub(crate) fn is_character(c: char) -> bool
@@ -30,12 +31,27 @@ pub(crate) fn is_name_character(c: char) -> bool
         || matches!(c, '-' | '.' | '0'..='9' | '\u{B7}' | '\u{300}'..='\u{36F}' | '\u{203F}'..='\u{2040}')
 }
 
+#[tactic(auto, unfolding(crate::specs::Characters::is_plain_byte))]
+fn is_plain_byte(b: u8) -> bool
+    ensures { result ≡ is_plain_byte b }
+{
+    b >= 0x20 && b != 0xEF || matches!(b, b'\t' | b'\n' | b'\r')
+}
+
+/// Whether no byte is one that a forbidden character has: a control character, or the first of U+FFFE and U+FFFF.
+fn has_plain_bytes(bytes: &[u8]) -> bool
+    ensures { result ≡ list_all is_plain_byte bytes.now }
+{
+    bytes.iter().all(|b| is_plain_byte(*b))
+}
+
 /// Whether the bytes are UTF-8 and each character is one that an XML text may have (XML 1.0, production 2).
 pub fn is_text(bytes: &[u8]) -> bool
     ensures { IsTrue result ↔ IsText bytes.now }
 {
     match str::from_utf8(bytes) {
-        Ok(text) => text.chars().all(is_character),
+        // few texts need the second test, which takes longer
+        Ok(text) => has_plain_bytes(bytes) || text.chars().all(is_character),
         Err(_) => false,
     }
 }

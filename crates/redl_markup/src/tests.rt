@@ -44,6 +44,8 @@ fn tags_are_read_with_what_is_left(rt: HostRuntime) {
             "",
         ),
         ("<\u{C0}\u{B7}.-_9>", start("", "\u{C0}\u{B7}.-_9", ""), ""),
+        ("<_p:Az09.-_>", start("_p", "Az09.-_", ""), ""),
+        ("<a\u{E9}b:c\u{F8}d>", start("a\u{E9}b", "c\u{F8}d", ""), ""),
         (
             "<\u{10000}:\u{3001}/>",
             empty("\u{10000}", "\u{3001}", ""),

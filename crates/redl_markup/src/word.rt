@@ -4,7 +4,7 @@ ghost use Rattle.std.specs.Prelude.{◌≡◌, Some, codes};
 ghost use Rattle.redl_markup.specs.Lists.{behind, after};
 ghost use Rattle.redl_markup.specs.Names.{may_start, may_follow};
 ghost use Rattle.redl_markup.specs.Reading.{Gives};
-ghost use Rattle.redl_markup.specs.ScanNames.{char_at, is_name_byte, name_end, start_at, word_at, name_at};
+ghost use Rattle.redl_markup.specs.ScanNames.{char_at, is_name_byte, name_end, behind_start, word_at, name_at};
 ghost use Rattle.redl_markup.specs.Views.{name_view};
 
 use crate::character::{is_name_character, is_name_start};
@@ -47,18 +47,22 @@ fn first_char(bytes: &[u8]) -> Option<(char, &[u8])>
 }
 
 #[cold]
-#[tactic(auto, unfolding(crate::specs::ScanNames::start_at))]
+#[tactic(auto, unfolding(crate::specs::ScanNames::behind_start))]
 fn behind_start_char(bytes: &[u8], colons: bool) -> Option<&[u8]>
-    ensures { Gives (λ rest. rest.now) result (start_at colons bytes.now) }
+    ensures { Gives (λ rest. rest.now) result (behind_start colons bytes.now) }
 {
     let (first, rest) = first_char(bytes)?;
-    if may_start(first, colons) { Some(rest) } else { None }
+    if may_start(first, colons) {
+        Some(rest)
+    } else {
+        None
+    }
 }
 
 /// What stands behind the first character of a name. Most are letters of ASCII, so that few are decoded.
 #[tactic(auto, using(crate::proofs::Names::letter_starts))]
 fn behind_start(bytes: &[u8], colons: bool) -> Option<&[u8]>
-    ensures { Gives (λ rest. rest.now) result (start_at colons bytes.now) }
+    ensures { Gives (λ rest. rest.now) result (behind_start colons bytes.now) }
 {
     match bytes.split_first() {
         Some((first, rest)) if first.is_ascii_alphabetic() => Some(rest),
@@ -70,7 +74,9 @@ fn behind_start(bytes: &[u8], colons: bool) -> Option<&[u8]>
 fn is_name_byte(b: u8, colons: bool) -> bool
     ensures { result ≡ is_name_byte colons b }
 {
-    b.is_ascii_alphabetic() || matches!(b, b'0'..=b'9' | b'-' | b'.' | b'_') || (colons && b == b':')
+    b.is_ascii_alphabetic()
+        || matches!(b, b'0'..=b'9' | b'-' | b'.' | b'_')
+        || (colons && b == b':')
 }
 
 /// What stands behind ASCII characters of a name.

@@ -13,3 +13,4 @@ pub mod Tables
 pub mod Pass
 pub mod Packages
 pub mod Sound
+pub mod Terms
