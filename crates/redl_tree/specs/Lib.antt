@@ -10,6 +10,7 @@ pub mod Kids
 pub mod Kinds
 pub mod Fates
 pub mod Tables
+pub mod Restored
 pub mod Pass
 pub mod Packages
 pub mod Sound

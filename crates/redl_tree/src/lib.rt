@@ -17,7 +17,7 @@ mod node;
 mod write;
 
 pub use around::Around;
-pub use copy::copy_nodes;
+pub use copy::{copy_node, copy_nodes};
 pub use count::count_nodes;
 pub use kinds::{Fate, Kind, Prop, Say, Space, Trace};
 pub use level::{Level, is_named_pkg, is_story_root};
