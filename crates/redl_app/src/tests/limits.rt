@@ -1,9 +1,9 @@
 //! Limits, and texts of unusual size within them.
 use super::calls::{
-    BACK, FRONT, INSERTED, add_file, call_surely, digest_of, files_of, journal, package,
+    BACK, FRONT, INSERTED, add_file, call, call_surely, digest_of, files_of, journal, package,
 };
 use crate::Status;
-use redl_io::{MemSink, SureShelf, Text};
+use redl_io::{MemShelf, MemSink, SureShelf, Text};
 use std::alloc::{AllocError, Global};
 use std::test::Fail;
 
@@ -125,6 +125,59 @@ fn depth_and_nodes_are_kept_to_one(rt: HostRuntime) -> Result<(), Fail> {
         let answer = call_surely(alloc, "settle accept P", &mut shelf, &mut err)?;
         assert_eq!(rt; answer, status, "{times:?} {back:?}");
         assert_eq!(rt; err.bytes(), lines.as_bytes(), "{times:?} {back:?}");
+    }
+    Ok(())
+}
+
+// A package of one element of this name, with so many attributes, named by this word and a number each, and a last one.
+fn wide_package(
+    alloc: Global,
+    element: &str,
+    attribute: &str,
+    count: u32,
+    last: &str,
+) -> Result<Vec<u8>, AllocError> {
+    let mut text = Vec::from_slice(alloc, FRONT)?;
+    text.extend_from_slice(format!(in alloc; "<{element}")?.as_bytes())?;
+    for number in 0..count {
+        text.extend_from_slice(format!(in alloc; " {attribute}{number}=\"u\"")?.as_bytes())?;
+    }
+    text.extend_from_slice(format!(in alloc; "{last}/>")?.as_bytes())?;
+    text.extend_from_slice(BACK)?;
+    Ok(text)
+}
+
+// A tag has any number of attributes and declarations; a name that comes twice is found among as many.
+#[test]
+fn a_tag_has_any_number_of_attributes(rt: HostRuntime) -> Result<(), Fail> {
+    let alloc = rt.alloc();
+    let unreadable = "redline: package: not readable\n";
+    let declared = "redline: package: rule 9\n";
+    for (element, attribute, count, last, status, lines) in [
+        ("a", "a", 200_000, "", Status::Done, ""),
+        ("a", "a", 199_999, " a0=\"u\"", Status::Package, unreadable),
+        ("a", "xmlns:p", 100_000, "", Status::Done, ""),
+        ("w:p", "xmlns:p", 100_000, "", Status::Package, declared),
+    ] {
+        let text = wide_package(alloc, element, attribute, count, last)?;
+        let mut files = Vec::new(alloc);
+        add_file(alloc, &mut files, "P", &text)?;
+        let mut shelf = MemShelf::new(files, Vec::new(alloc));
+        let mut out = MemSink::new(alloc, 4_000_000, Vec::new(alloc))?;
+        let mut err = MemSink::new(alloc, 100, Vec::new(alloc))?;
+        let answer = call(alloc, "settle accept P", &mut shelf, &mut out, &mut err)?;
+        let bytes = if status == Status::Done {
+            text.as_slice()
+        } else {
+            b""
+        };
+        assert_eq!(rt; answer, status, "{count} {attribute} of {element}");
+        assert!(rt; out.bytes() == bytes, "{count} {attribute} of {element}");
+        assert_eq!(rt;
+            err.bytes(),
+            lines.as_bytes(),
+            "{count} {attribute} of {element}"
+        );
     }
     Ok(())
 }
