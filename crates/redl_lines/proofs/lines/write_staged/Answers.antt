@@ -1,7 +1,7 @@
 use Rattle.std.proofs.Common.{rules}
 use Rattle.redl_io.proofs.Front.{dropped_front, finished_front, on_err}
-use Rattle.redl_app.specs.Ends.{end_lines, end_view}
-use Rattle.redl_app.proofs.lines.write_staged.Goals as goal
+use Rattle.redl_lines.specs.Ends.{end_lines, end_view}
+use Rattle.redl_lines.proofs.lines.write_staged.Goals as goal
 
 pub returns-in_err-write_lines-clause-front : goal.returns-in_err-write_lines-clause-front
 returns-in_err-write_lines-clause-front g c =

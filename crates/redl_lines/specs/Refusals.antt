@@ -3,12 +3,14 @@ use Rattle.std.specs.Prelude.{ℕ, List, [], ◌∷◌, ◌++◌, codes, decimal
 use Rattle.hex.specs.Hex.{encode_lower}
 use Rattle.redl_journal.specs.declared.entry.Entry.{Entry}
 use Rattle.redl_journal.specs.Journals.{word_text}
-use Rattle.redl_app.specs.declared.refusal.Limit.{Limit}
-use Rattle.redl_app.specs.declared.refusal.Limit.TheVariants.{PackageBytes, JournalBytes, Depth, Nodes}
-use Rattle.redl_app.specs.declared.refusal.PackageFault.{PackageFault}
-use Rattle.redl_app.specs.declared.refusal.PackageFault.TheVariants.{NotReadable, NotPackage, PartShape, NoDocument, Rule}
-use Rattle.redl_app.specs.declared.status.Status.{Status}
-use Rattle.redl_app.specs.declared.status.Status.TheVariants as status
+use Rattle.redl_lines.specs.declared.refusal.Limit.{Limit}
+use Rattle.redl_lines.specs.declared.refusal.Limit.TheVariants.{PackageBytes, JournalBytes, Depth, Nodes}
+use Rattle.redl_lines.specs.declared.refusal.PackageFault.{PackageFault}
+use Rattle.redl_lines.specs.declared.refusal.PackageFault.TheVariants.{NotReadable, NotPackage, PartShape, NoDocument, Rule}
+use Rattle.redl_lines.specs.declared.refusal.Refusal.{Refusal as Declared}
+use Rattle.redl_lines.specs.declared.refusal.Refusal.TheVariants as declared
+use Rattle.redl_lines.specs.declared.status.Status.{Status}
+use Rattle.redl_lines.specs.declared.status.Status.TheVariants as status
 
 pub data Refusal : Type 0 where
   -- the words, or a kind of revision of the package
@@ -26,6 +28,17 @@ pub data Refusal : Type 0 where
   -- a quantity is over its limit
   over : Limit → Refusal
   no_memory : Refusal
+
+-- what a clause sees of the code's refusals
+abbrev pub refusal_view : Declared → Refusal
+refusal_view declared.Unbuilt = unbuilt
+refusal_view (declared.Package fault) = no_package fault
+refusal_view (declared.Unread name) = unread name.now
+refusal_view (declared.Malformed name) = malformed name.now
+refusal_view (declared.OtherDocument journal found expected) = other_document journal.now found expected
+refusal_view (declared.OtherCount journal found expected) = other_count journal.now found expected
+refusal_view (declared.Limit limit) = over limit
+refusal_view declared.NoMemory = no_memory
 
 abbrev pub status_of : Refusal → Status
 status_of unbuilt = status.Unbuilt

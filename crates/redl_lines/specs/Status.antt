@@ -1,7 +1,7 @@
 -- The numbers of the statuses.
 use Rattle.std.specs.Prelude.{ℕ}
-use Rattle.redl_app.specs.declared.status.Status.{Status}
-use Rattle.redl_app.specs.declared.status.Status.TheVariants as status
+use Rattle.redl_lines.specs.declared.status.Status.{Status}
+use Rattle.redl_lines.specs.declared.status.Status.TheVariants as status
 
 -- the exit status
 abbrev pub code_of : Status → ℕ

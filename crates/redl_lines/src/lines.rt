@@ -2,10 +2,8 @@ ghost use Rattle.std.specs.Prelude.{◌≡◌, ◌≤◌, ◌++◌, List, ℕ, O
 ghost use Rattle.std.specs.Io.KnownBytes.{append_known};
 ghost use Rattle.std.specs.List.{flat_map};
 ghost use Rattle.hex.specs.Hex.{encode_lower};
-ghost use Rattle.redl_app.specs.Answers.{Tells};
-ghost use Rattle.redl_app.specs.Ends.{end_lines, end_view};
-ghost use Rattle.redl_app.specs.Prepared.{refusal_view};
-ghost use Rattle.redl_app.specs.Refusals.{refusal_line, fault_line, limit_line as limit_line_of, unread_line, malformed_line, other_document_line, other_count_line, difference_line, refused_line, unknown_line};
+ghost use Rattle.redl_lines.specs.Ends.{Tells, end_lines, end_view};
+ghost use Rattle.redl_lines.specs.Refusals.{refusal_view, refusal_line, fault_line, limit_line as limit_line_of, unread_line, malformed_line, other_document_line, other_count_line, difference_line, refused_line, unknown_line};
 ghost use Rattle.redl_io.specs.Faults.{Rose};
 ghost use Rattle.redl_io.specs.Sink.{Puts, GrowsByFront, CountsPut};
 ghost use Rattle.redl_journal.specs.Journals.{word_text};
@@ -18,7 +16,7 @@ use redl_join::Book;
 use redl_journal::{Entry, Word};
 
 /// Writes the lines of a call that ends so. A fault of `err` only shortens them.
-pub(crate) fn tell<E: Sink>(end: &End<'_>, err: &mut E)
+pub fn tell<E: Sink>(end: &End<'_>, err: &mut E)
     ensures { Tells (E.told err.old) (E.told err.new) (E.faults err.old) (E.faults err.new) (end_lines (end_view end.now)) }
 {
     let _ = write_staged(end, err);

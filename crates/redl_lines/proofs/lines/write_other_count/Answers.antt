@@ -1,4 +1,4 @@
-use Rattle.redl_app.proofs.lines.write_other_count.Goals as goal
+use Rattle.redl_lines.proofs.lines.write_other_count.Goals as goal
 
 pub returns : goal.returns
 returns g c =

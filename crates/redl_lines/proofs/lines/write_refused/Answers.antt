@@ -1,8 +1,8 @@
 use Rattle.std.proofs.Common.{ap}
 use Rattle.std.specs.List.{flat_map}
-use Rattle.redl_app.specs.Refusals.{refused_line}
+use Rattle.redl_lines.specs.Refusals.{refused_line}
 use Rattle.redl_io.proofs.Puts.{so_far_begins, so_far_goes_on, so_far_stops, so_far_ends}
-use Rattle.redl_app.proofs.lines.write_refused.Goals as goal
+use Rattle.redl_lines.proofs.lines.write_refused.Goals as goal
 
 pub loop-entry-init : goal.loop-entry-init
 loop-entry-init g c =

@@ -8,7 +8,7 @@ use std::alloc::AllocError;
 
 /// Why a file is no package.
 #[derive(Clone, Copy, Debug, PartialEq, Eq)]
-pub(crate) enum PackageFault {
+pub enum PackageFault {
     /// It is the text of no tree.
     NotReadable,
     /// Its root isn't `package`.
@@ -23,7 +23,7 @@ pub(crate) enum PackageFault {
 
 /// What is over its limit.
 #[derive(Clone, Copy, Debug, PartialEq, Eq)]
-pub(crate) enum Limit {
+pub enum Limit {
     /// The bytes of the package.
     PackageBytes,
     /// The bytes of all journals.
@@ -36,7 +36,7 @@ pub(crate) enum Limit {
 
 /// Why a call ends without its output.
 #[derive(Clone, Copy)]
-pub(crate) enum Refusal<'a> {
+pub enum Refusal<'a> {
     /// The words, or a kind of revision of the package, are not built yet.
     Unbuilt,
     /// The file is no package.
@@ -64,11 +64,10 @@ pub(crate) enum Refusal<'a> {
 }
 
 impl Refusal<'_> {
-    ghost use Rattle.redl_app.specs.Prepared.{refusal_view};
-    ghost use Rattle.redl_app.specs.Refusals.{status_of};
+    ghost use Rattle.redl_lines.specs.Refusals.{refusal_view, status_of};
 
     /// The status of a call that ends so.
-    pub(crate) fn status(&self) -> Status
+    pub fn status(&self) -> Status
         ensures { result ≡ status_of (refusal_view self.now) }
     {
         match self {
@@ -84,7 +83,7 @@ impl Refusal<'_> {
 }
 
 impl From<AllocError> for Refusal<'_> {
-    ghost use Rattle.redl_app.specs.declared.refusal.Refusal.TheVariants.{NoMemory};
+    ghost use Rattle.redl_lines.specs.declared.refusal.Refusal.TheVariants.{NoMemory};
 
     ghost from_gives = { λ _ refusal. refusal ≡ NoMemory };
 
@@ -94,7 +93,8 @@ impl From<AllocError> for Refusal<'_> {
 }
 
 impl From<XmlError> for Refusal<'_> {
-    ghost use Rattle.redl_app.specs.Prepared.{refusal_view, xml_refusal};
+    ghost use Rattle.redl_lines.specs.Causes.{xml_refusal};
+    ghost use Rattle.redl_lines.specs.Refusals.{refusal_view};
 
     ghost from_gives = { λ error refusal. refusal_view refusal ≡ xml_refusal error };
 
@@ -109,8 +109,8 @@ impl From<XmlError> for Refusal<'_> {
 }
 
 impl From<OpcError> for Refusal<'_> {
-    ghost use Rattle.redl_app.specs.Outcome.{shape_refusal};
-    ghost use Rattle.redl_app.specs.Prepared.{refusal_view};
+    ghost use Rattle.redl_lines.specs.Causes.{shape_refusal};
+    ghost use Rattle.redl_lines.specs.Refusals.{refusal_view};
 
     ghost from_gives = { λ error refusal. refusal_view refusal ≡ shape_refusal error };
 
@@ -125,7 +125,8 @@ impl From<OpcError> for Refusal<'_> {
 }
 
 impl From<RuleError> for Refusal<'_> {
-    ghost use Rattle.redl_app.specs.Prepared.{refusal_view, rule_refusal};
+    ghost use Rattle.redl_lines.specs.Causes.{rule_refusal};
+    ghost use Rattle.redl_lines.specs.Refusals.{refusal_view};
 
     ghost from_gives = { λ error refusal. refusal_view refusal ≡ rule_refusal error };
 

@@ -28,7 +28,7 @@ pub enum Status {
 }
 
 impl Status {
-    ghost use Rattle.redl_app.specs.Status.{code_of};
+    ghost use Rattle.redl_lines.specs.Status.{code_of};
 
     /// The exit status of the program.
     pub fn code(self) -> u8

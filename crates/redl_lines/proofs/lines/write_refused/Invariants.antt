@@ -1,7 +1,7 @@
 use Rattle.std.specs.List.{flat_map}
-use Rattle.redl_app.specs.Refusals.{refused_line}
+use Rattle.redl_lines.specs.Refusals.{refused_line}
 use Rattle.redl_io.proofs.Puts.{PutsSoFar}
-use Rattle.redl_app.proofs.lines.write_refused.Given as goal
+use Rattle.redl_lines.proofs.lines.write_refused.Given as goal
 
 abbrev pub invariant-loop-entry : goal.invariant-loop-entry
 invariant-loop-entry g l =

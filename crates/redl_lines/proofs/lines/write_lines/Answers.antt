@@ -1,6 +1,6 @@
 use Rattle.std.proofs.Common.{refl}
 use Rattle.redl_io.proofs.Puts.{puts_then}
-use Rattle.redl_app.proofs.lines.write_lines.Goals as goal
+use Rattle.redl_lines.proofs.lines.write_lines.Goals as goal
 
 pub returns-in_ok-write_refused-in-Unwritten : goal.returns-in_ok-write_refused-in-Unwritten
 returns-in_ok-write_refused-in-Unwritten g c =

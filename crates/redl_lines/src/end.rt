@@ -6,7 +6,7 @@ use redl_join::Book;
 
 /// How a call ends, with what its lines tell.
 #[derive(Drop)]
-pub(crate) enum End<'a> {
+pub enum End<'a> {
     /// All was written; these entries were refused.
     Written(Book),
     /// The output failed; these entries were refused.
@@ -18,9 +18,10 @@ pub(crate) enum End<'a> {
 }
 
 impl End<'_> {
-    ghost use Rattle.redl_app.specs.Ends.{end_status, end_view};
+    ghost use Rattle.redl_lines.specs.Ends.{end_status, end_view};
 
-    pub(crate) fn status(&self) -> Status
+    /// The status of a call that ends so.
+    pub fn status(&self) -> Status
         ensures { result ≡ end_status (end_view self.now) }
     {
         match self {
