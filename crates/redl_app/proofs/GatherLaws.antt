@@ -3,7 +3,7 @@ use Rattle.std.proofs.Common.{◌≡◌, ◌-◌, ℕ, List, [], ◌∷◌, ◌+
 use Rattle.redl_app.proofs.ReadLaws.{reads_stops, reads_when, reads_from, both}
 use Rattle.redl_app.specs.Outcome.{Reader, IsReader, Subject, journal_at, gathered, decidable, decided, written_of, says_of, known_entries, unknown_entries, ◌>>=◌}
 use Rattle.redl_app.specs.Reading.{ReadsFiles}
-use Rattle.redl_app.specs.Refusals.{Refusal}
+use Rattle.redl_lines.specs.Refusals.{Refusal}
 use Rattle.redl_app.specs.Prepared.{output_text, writing_view}
 use Rattle.redl_app.specs.declared.prepared.Prepared.{Prepared}
 use Rattle.redl_index.specs.Numbers.{numbered_package, package_revisions}

@@ -5,8 +5,8 @@ use Rattle.std.proofs.lemmas.Bool.{cases_lt, lt-ltb, le-ltb, false_from_ne_true,
 use Rattle.std.specs.List.{range_with_len}
 use Rattle.std.specs.Str.{bytes_eq}
 use Rattle.redl_app.specs.Outcome.{Reader, IsReader, IsJournalOf, Subject, entries_of, entries_in}
-use Rattle.redl_app.specs.Refusals.{other_document, other_count, over}
-use Rattle.redl_app.specs.declared.refusal.Limit.TheVariants.{JournalBytes}
+use Rattle.redl_lines.specs.Refusals.{other_document, other_count, over}
+use Rattle.redl_lines.specs.declared.refusal.Limit.TheVariants.{JournalBytes}
 use Rattle.redl_join.specs.Books.{union, with_entry}
 use Rattle.redl_journal.specs.declared.entry.Entry.{Entry}
 use Rattle.redl_journal.specs.Journals.{Journal, IsJournal, HasNoJournal}

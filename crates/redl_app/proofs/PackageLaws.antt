@@ -4,12 +4,14 @@ use Rattle.std.proofs.lemmas.List.{take_all}
 use Rattle.std.proofs.lemmas.Bool.{cases_lt, lt-ltb, le-ltb}
 use Rattle.redl_app.proofs.JournalLaws.{if_true, if_false}
 use Rattle.redl_app.specs.Outcome.{Reader, IsReader, IsTreeOf, limited, limited_tree, tree_in, package_in, shaped, sound, built, ◌>>=◌}
-use Rattle.redl_app.specs.Prepared.{made_of, refusal_view, xml_refusal}
+use Rattle.redl_app.specs.Prepared.{made_of}
+use Rattle.redl_lines.specs.Refusals.{refusal_view}
+use Rattle.redl_lines.specs.Causes.{xml_refusal}
 use Rattle.redl_app.specs.Reading.{IsMade}
-use Rattle.redl_app.specs.Refusals.{Refusal, over, no_package}
-use Rattle.redl_app.specs.declared.refusal.Refusal.{Refusal as Declared}
-use Rattle.redl_app.specs.declared.refusal.Limit.TheVariants.{PackageBytes, Depth, Nodes as TooManyNodes}
-use Rattle.redl_app.specs.declared.refusal.PackageFault.TheVariants.{NotReadable}
+use Rattle.redl_lines.specs.Refusals.{Refusal, over, no_package}
+use Rattle.redl_lines.specs.declared.refusal.Refusal.{Refusal as Declared}
+use Rattle.redl_lines.specs.declared.refusal.Limit.TheVariants.{PackageBytes, Depth, Nodes as TooManyNodes}
+use Rattle.redl_lines.specs.declared.refusal.PackageFault.TheVariants.{NotReadable}
 use Rattle.redl_tree.specs.Count.{count}
 use Rattle.redl_opc.specs.Tree.{HasUtf8Tails}
 use Rattle.redl_tree.specs.Nodes.{Nodes, no_nodes, bytes, element}

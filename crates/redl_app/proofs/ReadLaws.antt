@@ -3,7 +3,7 @@ use Rattle.std.proofs.lemmas.List.{take_all}
 use Rattle.std.proofs.Common.{◌≡◌, ◌≤◌, ◌+◌, arith, length, take, length-take, inl, inr, ℕ, List, Option, None, Some, IfSome, Result, Ok, Err, Contains, sym, ap, ◌∙◌, subst}
 use Rattle.redl_app.specs.Outcome.{Reader, IsReader, ◌>>=◌}
 use Rattle.redl_app.specs.Reading.{IsMade, IsUnread, UnlessUnread, NeverUnread, ReadsFiles, front_of}
-use Rattle.redl_app.specs.Refusals.{Refusal, unbuilt, no_package, unread, malformed, other_document, other_count, over, no_memory}
+use Rattle.redl_lines.specs.Refusals.{Refusal, unbuilt, no_package, unread, malformed, other_document, other_count, over, no_memory}
 use Rattle.redl_io.specs.Faults.{Rose}
 use Rattle.redl_io.specs.Shelf.{Files}
 

@@ -4,13 +4,14 @@ use Rattle.std.specs.List.{flat_map}
 use Rattle.std.specs.Io.KnownBytes.{append_known}
 use Rattle.redl_app.proofs.ReadLaws.{if_some}
 use Rattle.redl_app.specs.Answers.{OfOutcome, IsAnswer, IsWritten, Writes, AreLines, MayFault}
-use Rattle.redl_app.specs.Ends.{End, end_status, end_lines}
+use Rattle.redl_lines.specs.Ends.{End, end_status, end_lines}
 use Rattle.redl_app.specs.Finishing.{Finishes}
-use Rattle.redl_app.specs.Outcome.{Outcome, Writing, outcome_of, written_status, writing_of}
+use Rattle.redl_app.specs.Outcome.{Outcome, Writing, outcome_of, writing_of}
+use Rattle.redl_lines.specs.Ends.{written_status}
 use Rattle.redl_app.specs.Reading.{IsMade, IsUnread, UnlessUnread, ReadsFiles}
-use Rattle.redl_app.specs.Refusals.{Refusal, unbuilt, no_package, unread, malformed, other_document, other_count, over, no_memory, status_of, refusal_line, refused_line, unwritten_line}
+use Rattle.redl_lines.specs.Refusals.{Refusal, unbuilt, no_package, unread, malformed, other_document, other_count, over, no_memory, status_of, refusal_line, refused_line, unwritten_line}
 use Rattle.redl_app.specs.Words.{Command, command_of, files_of}
-use Rattle.redl_app.specs.declared.status.Status.TheVariants as status
+use Rattle.redl_lines.specs.declared.status.Status.TheVariants as status
 use Rattle.redl_io.specs.Faults.{Rose}
 use Rattle.redl_io.specs.Shelf.{Files}
 use Rattle.redl_io.specs.Sink.{GrowsByFront}

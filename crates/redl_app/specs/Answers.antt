@@ -1,14 +1,14 @@
 -- What a call answers and leaves behind, by its outcome.
 use Rattle.std.specs.Prelude.{◌≡◌, ◌⊎◌, ℕ, List, ◌++◌, Option, None, Some, IfSome, Contains}
 use Rattle.std.specs.Io.KnownBytes.{append_known}
-use Rattle.redl_io.specs.Faults.{Rose}
 use Rattle.redl_io.specs.Shelf.{Files, Lacks}
 use Rattle.redl_io.specs.Sink.{GrowsByFront}
 use Rattle.redl_app.specs.Outcome.{Reader, IsReader, Outcome, outcome}
-use Rattle.redl_app.specs.Refusals.{no_memory_line, unwritten_line, unread_line}
+use Rattle.redl_lines.specs.Ends.{Tells}
+use Rattle.redl_lines.specs.Refusals.{no_memory_line, unwritten_line, unread_line}
 use Rattle.redl_app.specs.Words.{Command, files_of}
-use Rattle.redl_app.specs.declared.status.Status.{Status}
-use Rattle.redl_app.specs.declared.status.Status.TheVariants as status
+use Rattle.redl_lines.specs.declared.status.Status.{Status}
+use Rattle.redl_lines.specs.declared.status.Status.TheVariants as status
 
 -- Where the shelf tells what it holds, this holds of the call's outcome.
 abbrev pub OfOutcome : Option Files → List (List ℕ) → (Outcome → Type 0) → Type 0
@@ -45,11 +45,6 @@ AreLines status.NoMemory outcome command read_failed lines = lines ≡ no_memory
 AreLines status.ReadFault outcome command read_failed lines = IsUnreadLine outcome command read_failed lines
 AreLines status.WriteFault outcome command read_failed lines = lines ≡ outcome.lines ++ unwritten_line
 AreLines _ outcome command read_failed lines = lines ≡ outcome.lines
-
--- The lines went out, or a front of them where the count of faults rose.
-pub record Tells (old new : Option (List ℕ)) (before now : ℕ) (lines : List ℕ) : Type 0 where
-  pub front : GrowsByFront old new lines
-  pub whole : ¬ Rose before now → new ≡ append_known old lines
 
 -- some lines went out of which this holds
 abbrev pub TellsSome : Option (List ℕ) → Option (List ℕ) → ℕ → ℕ → (List ℕ → Type 0) → Type 0

@@ -3,11 +3,11 @@ use Rattle.std.specs.Prelude.{◌≡◌, ◌⊎◌, ℕ, List, Option, Result, O
 use Rattle.std.specs.Io.KnownBytes.{append_known}
 use Rattle.redl_io.specs.Faults.{Rose}
 use Rattle.redl_io.specs.Sink.{GrowsByFront}
-use Rattle.redl_app.specs.Ends.{End, written, unwritten, refused}
+use Rattle.redl_lines.specs.Ends.{End, written, unwritten, refused}
 use Rattle.redl_app.specs.Outcome.{Writing}
-use Rattle.redl_app.specs.Refusals.{Refusal, usage_line, no_memory_line}
-use Rattle.redl_app.specs.declared.status.Status.{Status}
-use Rattle.redl_app.specs.declared.status.Status.TheVariants as status
+use Rattle.redl_lines.specs.Refusals.{Refusal, usage_line, no_memory_line}
+use Rattle.redl_lines.specs.declared.status.Status.{Status}
+use Rattle.redl_lines.specs.declared.status.Status.TheVariants as status
 use Rattle.redl_app.specs.declared.words.WordsError.{WordsError}
 use Rattle.redl_app.specs.declared.words.WordsError.TheVariants as error
 

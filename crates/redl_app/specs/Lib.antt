@@ -1,10 +1,7 @@
-pub mod Status
 pub mod Words
 pub mod Built
-pub mod Refusals
 pub mod Outcome
 pub mod Answers
 pub mod Reading
 pub mod Prepared
-pub mod Ends
 pub mod Finishing

@@ -22,18 +22,18 @@ use Rattle.redl_tree.specs.declared.kinds.Say.{Say}
 use Rattle.redl_tree.specs.declared.kinds.Say.TheVariants as say
 use Rattle.redl_opc.specs.Shape.{refusal}
 use Rattle.redl_opc.specs.declared.error.OpcError.{OpcError}
-use Rattle.redl_opc.specs.declared.error.OpcError.TheVariants as opc
 use Rattle.redl_xml.specs.Shapes.{depth_of}
 use Rattle.redl_xml.specs.Readings.{IsReading, HasNoReading}
 use Rattle.redl_xml.specs.declared.TheConstants.{DEPTH_LIMIT, NODE_LIMIT}
 use Rattle.redl_app.specs.Built.{are_run_content}
-use Rattle.redl_app.specs.Refusals.{Refusal, unbuilt, no_package, unread, malformed, other_document, other_count, over, no_memory, newline, status_of, refusal_line, refused_line}
-use Rattle.redl_app.specs.declared.refusal.Limit.TheVariants.{PackageBytes, JournalBytes, Depth, Nodes as TooManyNodes}
-use Rattle.redl_app.specs.declared.refusal.PackageFault.TheVariants.{NotReadable, NotPackage, PartShape, NoDocument, Rule}
+use Rattle.redl_lines.specs.Causes.{shape_refusal}
+use Rattle.redl_lines.specs.Ends.{written_status}
+use Rattle.redl_lines.specs.Refusals.{Refusal, unbuilt, no_package, unread, malformed, other_document, other_count, over, newline, status_of, refusal_line, refused_line}
+use Rattle.redl_lines.specs.declared.refusal.Limit.TheVariants.{PackageBytes, JournalBytes, Depth, Nodes as TooManyNodes}
+use Rattle.redl_lines.specs.declared.refusal.PackageFault.TheVariants.{NotReadable, Rule}
 use Rattle.redl_app.specs.Words.{Command, settle, write, check, command_of}
 use Rattle.redl_app.specs.declared.TheConstants.{PACKAGE_LIMIT, JOURNALS_LIMIT}
-use Rattle.redl_app.specs.declared.status.Status.{Status}
-use Rattle.redl_app.specs.declared.status.Status.TheVariants as status
+use Rattle.redl_lines.specs.declared.status.Status.{Status}
 
 -- ---- how texts are read
 
@@ -67,11 +67,6 @@ pub record Outcome : Type 0 where
 pub record Writing : Type 0 where
   pub bytes : List ℕ
   pub unknown : List Entry
-
--- the status of a call that wrote all, where these entries were refused
-abbrev pub written_status : List Entry → Status
-written_status [] = status.Done
-written_status (entry ∷ entries) = status.Refused
 
 abbrev pub outcome_of : Result Writing Refusal → Outcome
 outcome_of (Err refusal) = record { status = status_of refusal; bytes = []; lines = refusal_line refusal }
@@ -125,12 +120,6 @@ limited_tree (Some nodes) = limited nodes
 -- the tree of a text that is no longer than a limit
 abbrev pub tree_in : Reader → ℕ → List ℕ → Result Nodes Refusal
 tree_in reader limit whole = if nat_lt limit (length whole) then Err (over PackageBytes) else limited_tree (reader.tree whole)
-
-abbrev pub shape_refusal : OpcError → Refusal
-shape_refusal opc.NotPackage = no_package NotPackage
-shape_refusal opc.PartShape = no_package PartShape
-shape_refusal opc.NoDocument = no_package NoDocument
-shape_refusal opc.NoMemory = no_memory
 
 abbrev pub shaped_unless : Option OpcError → Nodes → Result Nodes Refusal
 shaped_unless None nodes = Ok nodes

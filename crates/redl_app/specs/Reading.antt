@@ -3,7 +3,7 @@ use Rattle.std.specs.Prelude.{◌≡◌, ◌⊎◌, ℕ, List, Option, IfSome, R
 use Rattle.redl_io.specs.Faults.{Rose}
 use Rattle.redl_io.specs.Shelf.{Files, Lacks}
 use Rattle.redl_app.specs.Outcome.{Reader, IsReader}
-use Rattle.redl_app.specs.Refusals.{Refusal, unread, no_memory}
+use Rattle.redl_lines.specs.Refusals.{Refusal, unread, no_memory}
 
 -- What was made is what was due, but for what the outside forces: a failed fetch, and want of memory.
 abbrev pub IsMade : {Y : Type 0} → Result Y Refusal → Result Y Refusal → Type 0 → Type 0

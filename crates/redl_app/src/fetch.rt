@@ -3,8 +3,8 @@ ghost use Rattle.redl_app.specs.Outcome.{file};
 ghost use Rattle.redl_app.specs.Prepared.{made_of};
 ghost use Rattle.redl_app.specs.Reading.{ReadsFiles, front_of};
 
-use crate::refusal::Refusal;
 use redl_io::{Shelf, ShelfError};
+use redl_lines::Refusal;
 use std::alloc::Global;
 
 /// The first bytes of the file of this name, at most `cap` of them.

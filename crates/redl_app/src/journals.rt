@@ -5,10 +5,10 @@ ghost use Rattle.redl_app.specs.Reading.{ReadsFiles, Reads, NeverUnread};
 ghost use Rattle.redl_journal.specs.Journals.{IsAllowed};
 
 use crate::fetch::fetch_file;
-use crate::refusal::{Limit, Refusal};
 use crate::subject::Subject;
 use redl_io::{Shelf, Text};
 use redl_journal::{Entry, JournalError, read};
+use redl_lines::{Limit, Refusal};
 use std::alloc::Global;
 use std::str;
 

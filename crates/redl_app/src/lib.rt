@@ -6,17 +6,13 @@
 #![tactic(auto)]
 
 mod decisions;
-mod end;
 mod fetch;
 mod journals;
 mod laws;
-mod lines;
 mod output;
 mod package;
 mod prepare;
 mod prepared;
-mod refusal;
-mod status;
 mod subject;
 mod top;
 mod words;
@@ -28,7 +24,7 @@ pub const PACKAGE_LIMIT: usize = 67_108_864;
 pub const JOURNALS_LIMIT: usize = 67_108_864;
 
 pub use laws::{a_reader, one_outcome};
-pub use status::Status;
+pub use redl_lines::Status;
 pub use top::{refuse_words, run, run_surely};
 pub use words::{WordsError, add_word};
 

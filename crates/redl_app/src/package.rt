@@ -7,9 +7,9 @@ ghost use Rattle.redl_tree.specs.View.{nodes_of};
 
 use crate::PACKAGE_LIMIT;
 use crate::fetch::fetch_file;
-use crate::refusal::{Limit, Refusal};
 use redl_index::has_markers;
 use redl_io::Shelf;
+use redl_lines::{Limit, Refusal};
 use redl_opc::Package;
 use redl_rules::check;
 use redl_tree::Node;

@@ -1,22 +1,19 @@
 ghost use Rattle.std.specs.Prelude.{◌≡◌, ◌≢◌, ◌⊎◌, List, ℕ, None, All, IsUtf8, IfSome, Result};
-ghost use Rattle.redl_app.specs.Answers.{OfOutcome, IsAnswer, Writes, AreLines, Tells, TellsSome, MayFault};
-ghost use Rattle.redl_app.specs.Ends.{end_view};
+ghost use Rattle.redl_app.specs.Answers.{OfOutcome, IsAnswer, Writes, AreLines, TellsSome, MayFault};
 ghost use Rattle.redl_app.specs.Finishing.{Finishes, words_status, words_line};
 ghost use Rattle.redl_app.specs.Outcome.{Reader, IsReader, outcome};
 ghost use Rattle.redl_app.specs.Prepared.{made_of, writing_view};
 ghost use Rattle.redl_app.specs.Words.{command_of};
 ghost use Rattle.redl_io.specs.Faults.{Rose};
 ghost use Rattle.redl_io.specs.MemShelf.{file_named};
+ghost use Rattle.redl_lines.specs.Ends.{Tells, end_view};
 
-use crate::Status;
-use crate::end::End;
-use crate::lines::tell;
 use crate::output::write_output;
 use crate::prepare::prepare;
 use crate::prepared::Prepared;
-use crate::refusal::Refusal;
 use crate::words::WordsError;
 use redl_io::{NullSink, Shelf, Sink, SureShelf, Text};
+use redl_lines::{End, Refusal, Status, tell};
 use std::alloc::Global;
 
 /// Does what the words ask: takes files from the shelf, puts bytes on `out` and lines on `err`.

@@ -3,7 +3,8 @@ use Rattle.std.proofs.lemmas.Result.{err_from_is_err_and}
 use Rattle.redl_app.proofs.JournalLaws.{same_entries}
 use Rattle.redl_app.proofs.ReadLaws.{reads_stops, reads_after, fetch_stops, capped_ok, capped_err}
 use Rattle.redl_app.specs.Outcome.{file, entries_in, journal_at, ◌>>=◌}
-use Rattle.redl_app.specs.Prepared.{refusal_view, subject_view}
+use Rattle.redl_app.specs.Prepared.{subject_view}
+use Rattle.redl_lines.specs.Refusals.{refusal_view}
 use Rattle.redl_app.proofs.journals.read_file.Goals as goal
 
 pub returns-in_err-bytes-clause-read : goal.returns-in_err-bytes-clause-read

@@ -3,7 +3,7 @@ use Rattle.std.proofs.lemmas.Result.{err_from_is_err_and}
 use Rattle.redl_app.proofs.PackageLaws.{same_package}
 use Rattle.redl_app.proofs.ReadLaws.{reads_after, capped_ok, capped_err}
 use Rattle.redl_app.specs.Outcome.{file, package_at, package_in}
-use Rattle.redl_app.specs.Prepared.{refusal_view}
+use Rattle.redl_lines.specs.Refusals.{refusal_view}
 use Rattle.redl_app.specs.declared.TheConstants.{PACKAGE_LIMIT}
 use Rattle.redl_app.proofs.package.read_package.Goals as goal
 

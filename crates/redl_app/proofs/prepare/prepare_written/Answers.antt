@@ -4,7 +4,8 @@ use Rattle.redl_app.proofs.GatherLaws.{view_decided, when_decidable}
 use Rattle.redl_app.proofs.NameLaws.{only_one, among_more, the_first}
 use Rattle.redl_app.proofs.ReadLaws.{reads_then, reads_stops, reads_after, reads_next, reads_when, refused_bind}
 use Rattle.redl_app.specs.Outcome.{Subject, decidable, decided, written_of, ◌>>=◌}
-use Rattle.redl_app.specs.Prepared.{refusal_view, writing_view}
+use Rattle.redl_app.specs.Prepared.{writing_view}
+use Rattle.redl_lines.specs.Refusals.{refusal_view}
 use Rattle.redl_app.proofs.prepare.prepare_written.Goals as goal
 
 pub returns-in_err-file : goal.returns-in_err-file

@@ -1,7 +1,7 @@
 use Rattle.std.proofs.Common.{◌≡◌, ◌∙◌, sym, List, ℕ}
 use Rattle.redl_app.proofs.TopLaws.{answers, writes, tells, read_cause, write_cause, out_stands, untouched, shelf_stands, is_unbuilt}
-use Rattle.redl_app.specs.Answers.{Tells}
-use Rattle.redl_app.specs.Ends.{end_view}
+use Rattle.redl_lines.specs.Ends.{Tells}
+use Rattle.redl_lines.specs.Ends.{end_view}
 use Rattle.redl_app.specs.Prepared.{made_of, writing_view}
 use Rattle.redl_app.specs.Words.{command_of}
 use Rattle.redl_io.specs.Faults.{Rose}

@@ -1,0 +1,221 @@
+//! Calls that come to a refusal: words that are no command, what is not built, files that are no package, and no journal.
+use super::calls::{
+    BACK, FRONT, INSERTED, SOUND_WITH_ONE, UNBUILT, Want, add_file, digest_of, expect_call,
+    files_of, journal, package,
+};
+use crate::Status;
+use redl_io::{MemShelf, Text};
+use std::alloc::{AllocError, Global};
+use std::process::Abort;
+use std::test::Fail;
+
+// The shelf fails at once, so nothing was fetched.
+#[test]
+fn words_of_no_command_fetch_nothing(rt: HostRuntime) -> Result<(), Fail> {
+    let alloc = rt.alloc();
+    for line in [
+        "",
+        "settle",
+        "settle accept",
+        "settle accept ",
+        "settle accept -P",
+        "settle accept P Q",
+        "settle keep P",
+        "settle Accept P",
+        "Settle accept P",
+        "write",
+        "write ",
+        "write -P",
+        "write P -J",
+        "write P J ",
+        "write P --lock Ann J",
+        "join J K",
+        "list P --format tab",
+        "check",
+        "check ",
+        "check -P",
+        "check P Q",
+    ] {
+        let mut shelf = MemShelf::new(Vec::new(alloc), vec![in alloc; 1]?);
+        expect_call(&rt, alloc, line, &mut shelf, &[], UNBUILT)?;
+    }
+    Ok(())
+}
+
+#[test]
+fn what_is_no_run_content_is_not_decided(rt: HostRuntime) -> Result<(), Fail> {
+    let alloc = rt.alloc();
+    for body in [
+        "<w:p><w:pPr><w:rPr><w:del{A}/></w:rPr></w:pPr><w:r><w:t>e</w:t></w:r></w:p><w:p/>",
+        "<w:tbl><w:tr><w:trPr><w:ins{A}/></w:trPr><w:tc><w:p/></w:tc></w:tr></w:tbl>",
+        "<w:tbl><w:tr><w:tc><w:tcPr><w:cellDel{A}/></w:tcPr><w:p/></w:tc></w:tr></w:tbl>",
+        "<w:p><w:r><w:rPr><w:rPrChange{A}><w:rPr/></w:rPrChange></w:rPr></w:r></w:p>",
+        "<w:p><w:pPr><w:pPrChange{A}/></w:pPr></w:p>",
+        "<w:sectPr><w:sectPrChange{A}/></w:sectPr>",
+        "<w:tbl><w:tblPr><w:tblPrChange{A}/></w:tblPr></w:tbl>",
+    ] {
+        let files = files_of(alloc, body, "1", ["", "", ""])?;
+        let mut shelf = MemShelf::new(files, Vec::new(alloc));
+        expect_call(&rt, alloc, "settle accept P", &mut shelf, &[], UNBUILT)?;
+        expect_call(&rt, alloc, "write P J", &mut shelf, &[], UNBUILT)?;
+        expect_call(&rt, alloc, "check P", &mut shelf, &[], SOUND_WITH_ONE)?;
+    }
+    let marked = "<w:p><w:moveFromRangeStart w:id=\"1\"/></w:p>";
+    let mut shelf = MemShelf::new(files_of(alloc, marked, "0", ["", "", ""])?, Vec::new(alloc));
+    expect_call(&rt, alloc, "settle accept P", &mut shelf, &[], UNBUILT)?;
+    expect_call(&rt, alloc, "check P", &mut shelf, &[], UNBUILT)?;
+    Ok(())
+}
+
+// A part with this tail and these kids, in a package.
+fn part(alloc: Global, tail: &str, kids: &str) -> Result<String, AllocError> {
+    format!(in alloc;
+        "<pkg:package xmlns:pkg=\"http://schemas.microsoft.com/office/2006/xmlPackage\"><pkg:part{tail}>{kids}</pkg:part></pkg:package>"
+    )
+}
+
+// Calls over a file `P` that is no package.
+fn expect_fault(
+    rt: &impl Abort,
+    alloc: Global,
+    text: &[u8],
+    lines: &str,
+) -> Result<(), AllocError> {
+    for line in ["settle accept P", "write P Q", "check P"] {
+        let mut files = Vec::new(alloc);
+        add_file(alloc, &mut files, "P", text)?;
+        let mut shelf = MemShelf::new(files, Vec::new(alloc));
+        let want = Want {
+            status: Status::Package,
+            bytes: b"",
+            lines,
+        };
+        expect_call(rt, alloc, line, &mut shelf, &[], want)?;
+    }
+    Ok(())
+}
+
+#[test]
+fn a_file_that_is_no_package_is_refused(rt: HostRuntime) -> Result<(), Fail> {
+    let alloc = rt.alloc();
+    let unreadable = "redline: package: not readable\n";
+    let inserted = package(alloc, INSERTED)?;
+    let open = package(alloc, "<w:p>")?;
+    let beside = package(alloc, "</w:p>")?;
+    let crossed = package(alloc, "<w:p><w:r></w:p></w:r>")?;
+    for text in [
+        b"".as_slice(),
+        FRONT,
+        BACK,
+        b"<?xml version=\"1.0\"?>",
+        b"<!DOCTYPE a><a/>",
+        b"<a>\xff</a>",
+        b"<a>\xc0\x80</a>",
+        b"<a>\xed\xa0\x80</a>",
+        inserted.get(..100).unwrap_or(b""),
+        &open,
+        &beside,
+        &crossed,
+    ] {
+        expect_fault(&rt, alloc, text, unreadable)?;
+    }
+    let named = part(alloc, " pkg:name=\"/a\"", "<pkg:binaryData/>")?;
+    let typed = part(
+        alloc,
+        " pkg:name=\"/a\" pkg:contentType=\"x/y\"",
+        "<pkg:binaryData/>",
+    )?;
+    for (text, lines) in [
+        ("<a/>", "redline: package: not a package\n"),
+        (named.as_str(), "redline: package: part shape\n"),
+        (typed.as_str(), "redline: package: no document\n"),
+    ] {
+        expect_fault(&rt, alloc, text.as_bytes(), lines)?;
+    }
+    Ok(())
+}
+
+// Each command that reads a package refuses one that isn't sound, with the least rule that it breaks.
+#[test]
+fn a_package_that_breaks_a_rule_is_refused(rt: HostRuntime) -> Result<(), Fail> {
+    let alloc = rt.alloc();
+    for (body, lines) in [
+        (
+            "<w:tbl><w:tr><w:tc><w:p/><w:tbl><w:tr><w:tc><w:p/></w:tc></w:tr></w:tbl></w:tc></w:tr></w:tbl>",
+            "redline: package: rule 1\n",
+        ),
+        ("<w:tbl><w:tr></w:tr></w:tbl>", "redline: package: rule 2\n"),
+        (
+            "<w:p><w:ins{A}><w:p/></w:ins></w:p>",
+            "redline: package: rule 3\n",
+        ),
+        (
+            "<w:p><w:r><w:rPr><w:rPrChange{A}><w:rPr/></w:rPrChange><w:b/></w:rPr></w:r></w:p>",
+            "redline: package: rule 4\n",
+        ),
+        (
+            "<w:p><w:pPr><w:rPr><w:ins{A}/><w:ins{B}/></w:rPr></w:pPr></w:p>",
+            "redline: package: rule 5\n",
+        ),
+        ("<w:p><w:r/><w:pPr/></w:p>", "redline: package: rule 6\n"),
+        (
+            "<w:p><w:moveFromRangeStart w:id=\"1\"><w:r/></w:moveFromRangeStart></w:p>",
+            "redline: package: rule 7\n",
+        ),
+        (
+            "<w:p><w:pPr><w:pPrChange{A}><w:pPr><w:rPr><w:rPrChange{B}/></w:rPr></w:pPr></w:pPrChange></w:pPr></w:p>",
+            "redline: package: rule 8\n",
+        ),
+        ("<w:p xmlns:q=\"u\"/>", "redline: package: rule 9\n"),
+    ] {
+        let text = package(alloc, body)?;
+        expect_fault(&rt, alloc, &text, lines)?;
+    }
+    Ok(())
+}
+
+const ZEROS: &str = "0000000000000000000000000000000000000000000000000000000000000000";
+
+// A package `P` of one revision, a journal `G` of it, and four that are none: `C` of another count, `D` of another
+// document and count, `M` with no last newline, and `E` of no bytes.
+fn mixed_files(alloc: Global) -> Result<Vec<(Text, Vec<u8>)>, AllocError> {
+    let package = package(alloc, INSERTED)?;
+    let digest = digest_of(alloc, &package)?;
+    let good = journal(alloc, &digest, "1", "1\t1\taccept\tAnn\n")?;
+    let cut = good.split_last().map_or(b"".as_slice(), |parts| parts.1);
+    let mut files = Vec::new(alloc);
+    add_file(alloc, &mut files, "P", &package)?;
+    add_file(alloc, &mut files, "G", &good)?;
+    add_file(alloc, &mut files, "M", cut)?;
+    add_file(alloc, &mut files, "E", b"")?;
+    add_file(alloc, &mut files, "C", &journal(alloc, &digest, "2", "")?)?;
+    add_file(alloc, &mut files, "D", &journal(alloc, ZEROS, "2", "")?)?;
+    Ok(files)
+}
+
+#[test]
+fn a_journal_that_is_none_of_the_package_is_refused(rt: HostRuntime) -> Result<(), Fail> {
+    let alloc = rt.alloc();
+    let digest = digest_of(alloc, &package(alloc, INSERTED)?)?;
+    let document = format!(in alloc; "redline: journal D: document {ZEROS}, expected {digest}\n")?;
+    let count = "redline: journal C: revisions 2, expected 1\n";
+    let malformed = "redline: journal M: malformed\n";
+    for (line, lines) in [
+        ("write P M", malformed),
+        ("write P E", "redline: journal E: malformed\n"),
+        ("write P C", count),
+        ("write P D", document.as_str()),
+        ("write P G C M", count),
+        ("write P G M C", malformed),
+        ("write P M Q", malformed),
+    ] {
+        let mut shelf = MemShelf::new(mixed_files(alloc)?, Vec::new(alloc));
+        let want = Want {
+            status: Status::Journal,
+            bytes: b"",
+            lines,
+        };
+        expect_call(&rt, alloc, line, &mut shelf, &[], want)?;
+    }
+    Ok(())
+}

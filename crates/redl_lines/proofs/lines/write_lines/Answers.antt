@@ -1,0 +1,10 @@
+use Rattle.std.proofs.Common.{refl}
+use Rattle.redl_io.proofs.Puts.{puts_then}
+use Rattle.redl_lines.proofs.lines.write_lines.Goals as goal
+
+pub returns-in_ok-write_refused-in-Unwritten : goal.returns-in_ok-write_refused-in-Unwritten
+returns-in_ok-write_refused-in-Unwritten g c =
+    rw c.in-Unwritten.is (puts_then refl c.in_ok-write_refused-in-Unwritten.ensures c.put_piece.ensures)
+
+pub returns-in-Usage : goal.returns-in-Usage
+returns-in-Usage g c = rw c.in-Usage.is c.put_piece-in-Usage.ensures

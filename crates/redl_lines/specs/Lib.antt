@@ -1,0 +1,4 @@
+pub mod Status
+pub mod Refusals
+pub mod Causes
+pub mod Ends
