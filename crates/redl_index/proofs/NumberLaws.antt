@@ -1,5 +1,5 @@
 -- Laws of numbers and labels.
-use Rattle.std.proofs.Common.{◌≡◌, ℕ, ◌+◌, ◌<◌, ◌≤◌, List, [], ◌∷◌, ◌++◌, length, get_or, drop, slice_get, Some, Bool, true, false, cond, refl, arith, ap, sym, ◌∙◌, append_assoc, length-append}
+use Rattle.std.proofs.Common.{◌≡◌, ℕ, ◌+◌, ◌<◌, ◌≤◌, List, [], ◌∷◌, ◌++◌, length, get_or, drop, slice_get, Some, None, Bool, true, false, cond, refl, arith, ap, sym, ◌∙◌, append_assoc, length-append}
 use Rattle.std.proofs.lemmas.List.{drop_more}
 use Rattle.redl_tree.specs.declared.kinds.Kind.{Kind}
 use Rattle.redl_tree.specs.declared.kinds.Kind.TheVariants.{Plain, Content, Mark, Row, Cell, Change, Marker}
@@ -12,51 +12,36 @@ use Rattle.redl_tree.specs.View.{item_of, nodes_of}
 use Rattle.redl_tree.proofs.Laws.{count-in_front}
 use Rattle.redl_opc.specs.declared.label.Label.{Label}
 use Rattle.redl_opc.specs.Labels.{elements, relabelled, story_elements, kids_story_elements, labelled_in}
-use Rattle.redl_index.specs.Numbers.{one_for, members, item_members, element_members, labelled, revisions_in, numbered_in, package_revisions}
+use Rattle.redl_index.specs.Numbers.{one_for, number_for, item_members, element_members, labelled, numbered_in}
+use Rattle.redl_index.specs.Revisions.{kind_of}
+use Rattle.redl_index.specs.declared.revision.RevKind.{RevKind}
 use Rattle.redl_index.specs.Labels.{label_for, labels_of, item_labels, kids_revisions_in, item_revisions_in, labels_in, kids_labels_in, item_labels_in}
 
--- ---- how many revisions there are
-
-pub members-in_front : (around : List Tag) (x : Item) (ys : Nodes) → members around (in_front x ys) ≡ item_members around x + members around ys
-members-in_front around (bytes_item b) ys = omega arith
-members-in_front around (element_item tag kids) ys = refl
+-- ---- how many nodes there are, and which have a number
 
 -- a node has no more nodes in it than the nodes from it on
 pub count_here : (xs : List Node) (i : ℕ) (d : Node) → i < length xs → item_count (item_of (get_or xs i d)) ≤ count (nodes_of (drop i xs))
 count_here xs i d within =
     omega (arith, ap (λ ns. count (nodes_of ns)) (drop_more xs i d within), count-in_front (item_of (get_or xs i d)) (nodes_of (drop (i + 1) xs)))
 
-pub at_most_one : (kind : Kind) → one_for kind ≤ 1
-at_most_one Plain = omega arith
-at_most_one (Content trace) = omega arith
-at_most_one (Mark trace) = omega arith
-at_most_one (Row trace) = omega arith
-at_most_one (Cell trace) = omega arith
-at_most_one (Change prop) = omega arith
-at_most_one Marker = omega arith
+-- an element has a number exactly where it is a member
+pub number_of_none : (kind : Kind) (next : ℕ) → kind_of kind ≡ None → number_for kind next ≡ 0
+number_of_none Plain next is = refl
+number_of_none (Content trace) next is = cc
+number_of_none (Mark trace) next is = cc
+number_of_none (Row trace) next is = cc
+number_of_none (Cell trace) next is = cc
+number_of_none (Change prop) next is = cc
+number_of_none Marker next is = cc
 
--- no more members than nodes
-pub members_within_count : (around : List Tag) (nodes : Nodes) → members around nodes ≤ count nodes
-members_within_count around no_nodes = omega arith
-members_within_count around (bytes b rest) = omega (arith, members_within_count around rest)
-members_within_count around (element tag kids rest) =
-    omega (arith, at_most_one (role around tag), members_within_count (tag ∷ around) kids, members_within_count around rest)
-
-either_within : (is_root : Bool) (xs ys most : ℕ) → xs ≤ most → ys ≤ most → cond is_root xs ys ≤ most
-either_within true xs ys most h k = h
-either_within false xs ys most h k = k
-
--- the same in the stories of nodes, and in a package
-pub revisions_in_within_count : (around : List Tag) (nodes : Nodes) → revisions_in around nodes ≤ count nodes
-revisions_in_within_count around no_nodes = omega arith
-revisions_in_within_count around (bytes b rest) = omega (arith, revisions_in_within_count around rest)
-revisions_in_within_count around (element tag kids rest) =
-    let below = either_within (is_root around tag) (members (tag ∷ []) kids) (revisions_in (tag ∷ around) kids) (count kids)
-    (members_within_count (tag ∷ []) kids) (revisions_in_within_count (tag ∷ around) kids) in
-    omega (arith, below, revisions_in_within_count around rest)
-
-pub package_revisions_within_count : (nodes : Nodes) → package_revisions nodes ≤ count nodes
-package_revisions_within_count nodes = revisions_in_within_count [] nodes
+pub number_of_some : (kind : Kind) (next : ℕ) (named : RevKind) → kind_of kind ≡ Some named → number_for kind next ≡ next
+number_of_some Plain next named is = cc
+number_of_some (Content trace) next named is = refl
+number_of_some (Mark trace) next named is = refl
+number_of_some (Row trace) next named is = refl
+number_of_some (Cell trace) next named is = refl
+number_of_some (Change prop) next named is = refl
+number_of_some Marker next named is = refl
 
 -- ---- labels in one story
 
@@ -153,11 +138,6 @@ labels_of-in_front around next (bytes_item b) ys =
     let same : next ≡ next + 0 = omega arith in
     ap (λ m. labels_of around m ys) same
 labels_of-in_front around next (element_item tag kids) ys = refl
-
-pub revisions_in-in_front : (around : List Tag) (x : Item) (ys : Nodes)
-    → revisions_in around (in_front x ys) ≡ item_revisions_in around x + revisions_in around ys
-revisions_in-in_front around (bytes_item b) ys = omega arith
-revisions_in-in_front around (element_item tag kids) ys = refl
 
 pub labels_in-in_front : (around : List Tag) (next : ℕ) (x : Item) (ys : Nodes)
     → labels_in around next (in_front x ys) ≡ item_labels_in around next x ++ labels_in around (next + item_revisions_in around x) ys

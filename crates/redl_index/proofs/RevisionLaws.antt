@@ -15,7 +15,9 @@ use Rattle.redl_tree.specs.declared.kinds.Trace.{Trace}
 use Rattle.redl_tree.specs.declared.kinds.Trace.TheVariants.{Ins, Del}
 use Rattle.redl_opc.specs.Tree.{HasUtf8Tails}
 use Rattle.redl_index.specs.Numbers.{one_for, members, element_members, item_members, revisions_in, package_revisions}
-use Rattle.redl_index.specs.Labels.{kids_revisions_in, item_revisions_in}
+use Rattle.redl_opc.specs.declared.label.Label.{Label}
+use Rattle.redl_index.specs.Labels.{label_for, labels_of, item_labels, kids_revisions_in, item_revisions_in, labels_in, item_labels_in}
+use Rattle.redl_index.proofs.NumberLaws.{labels_of-in_front, labels_in-in_front}
 use Rattle.redl_index.specs.declared.revision.Revision.{Revision}
 use Rattle.redl_index.specs.Revisions.{kind_of, is_named, own_revision, revisions_at, item_revisions, item_part_behind, part_behind, revisions_from, kids_revisions_from, item_revisions_from, revisions_of}
 
@@ -96,6 +98,25 @@ revisions_from-in_front around part next (bytes_item b) ys =
     ap (λ m. revisions_from around part m ys) same
 revisions_from-in_front around part next (element_item tag kids) ys = refl
 
+-- the next number behind an element's own revision, behind a node, and behind the stories in a node
+next-own : (part : ℕ) (old mid : List Revision) (kind : Kind) (tag : Tag)
+    → mid ≡ old ++ own_revision (kind_of kind) part (1 + length old) tag → 1 + length mid ≡ (1 + length old) + one_for kind
+next-own part old mid kind tag is =
+    let own = own_revision (kind_of kind) part (1 + length old) tag in
+    omega (arith, ap length is, length-append old own, length-own kind part (1 + length old) tag)
+
+next-item : (around : List Tag) (part : ℕ) (old mid : List Revision) (x : Item)
+    → mid ≡ old ++ item_revisions around part (1 + length old) x → 1 + length mid ≡ (1 + length old) + item_members around x
+next-item around part old mid x is =
+    let here = item_revisions around part (1 + length old) x in
+    omega (arith, ap length is, length-append old here, length-item_revisions around part (1 + length old) x)
+
+next-item_from : (around : List Tag) (part : ℕ) (old mid : List Revision) (x : Item)
+    → mid ≡ old ++ item_revisions_from around part (1 + length old) x → 1 + length mid ≡ (1 + length old) + item_revisions_in around x
+next-item_from around part old mid x is =
+    let here = item_revisions_from around part (1 + length old) x in
+    omega (arith, ap length is, length-append old here, length-item_revisions_from around part (1 + length old) x)
+
 -- an element's own revision stands in front of those of its kids
 pub found-own : (around : List Tag) (part : ℕ) (old mid : List Revision) (kind : Kind) (tag : Tag) (kids : Nodes)
     → mid ≡ old ++ own_revision (kind_of kind) part (1 + length old) tag
@@ -103,9 +124,7 @@ pub found-own : (around : List Tag) (part : ℕ) (old mid : List Revision) (kind
     ≡ old ++ (own_revision (kind_of kind) part (1 + length old) tag ++ revisions_at (tag ∷ around) part ((1 + length old) + one_for kind) kids)
 found-own around part old mid kind tag kids is =
     let own = own_revision (kind_of kind) part (1 + length old) tag in
-    let longer : 1 + length mid ≡ (1 + length old) + one_for kind =
-    omega (arith, ap length is, length-append old own, length-own kind part (1 + length old) tag) in
-    ap (λ m. mid ++ revisions_at (tag ∷ around) part m kids) longer
+    ap (λ m. mid ++ revisions_at (tag ∷ around) part m kids) (next-own part old mid kind tag is)
     ∙ ap (λ (rs : List Revision). rs ++ revisions_at (tag ∷ around) part ((1 + length old) + one_for kind) kids) is
     ∙ append_assoc old own (revisions_at (tag ∷ around) part ((1 + length old) + one_for kind) kids)
 
@@ -115,9 +134,7 @@ pub found-item : (around : List Tag) (part : ℕ) (old mid : List Revision) (x :
     → mid ++ revisions_at around part (1 + length mid) rest ≡ old ++ revisions_at around part (1 + length old) (in_front x rest)
 found-item around part old mid x rest is =
     let here = item_revisions around part (1 + length old) x in
-    let longer : 1 + length mid ≡ (1 + length old) + item_members around x =
-    omega (arith, ap length is, length-append old here, length-item_revisions around part (1 + length old) x) in
-    ap (λ m. mid ++ revisions_at around part m rest) longer
+    ap (λ m. mid ++ revisions_at around part m rest) (next-item around part old mid x is)
     ∙ ap (λ (rs : List Revision). rs ++ revisions_at around part ((1 + length old) + item_members around x) rest) is
     ∙ append_assoc old here (revisions_at around part ((1 + length old) + item_members around x) rest)
     ∙ ap (λ (rs : List Revision). old ++ rs) (sym (revisions_at-in_front around part (1 + length old) x rest))
@@ -130,12 +147,41 @@ pub found-item_from : (around : List Tag) (part : ℕ) (old mid : List Revision)
 found-item_from around part old mid x rest is =
     let here = item_revisions_from around part (1 + length old) x in
     let behind = item_part_behind (level_of around) part x in
-    let longer : 1 + length mid ≡ (1 + length old) + item_revisions_in around x =
-    omega (arith, ap length is, length-append old here, length-item_revisions_from around part (1 + length old) x) in
-    ap (λ m. mid ++ revisions_from around behind m rest) longer
+    ap (λ m. mid ++ revisions_from around behind m rest) (next-item_from around part old mid x is)
     ∙ ap (λ (rs : List Revision). rs ++ revisions_from around behind ((1 + length old) + item_revisions_in around x) rest) is
     ∙ append_assoc old here (revisions_from around behind ((1 + length old) + item_revisions_in around x) rest)
     ∙ ap (λ (rs : List Revision). old ++ rs) (sym (revisions_from-in_front around part (1 + length old) x rest))
+
+-- an element's own label stands in front of those of its kids
+pub labelled-own : (around : List Tag) (part : ℕ) (old mid : List Revision) (had : List Label) (kind : Kind) (tag : Tag) (kids : Nodes)
+    → mid ≡ old ++ own_revision (kind_of kind) part (1 + length old) tag
+    → (had ++ label_for kind (1 + length old) ∷ []) ++ labels_of (tag ∷ around) (1 + length mid) kids
+    ≡ had ++ (label_for kind (1 + length old) ∷ labels_of (tag ∷ around) ((1 + length old) + one_for kind) kids)
+labelled-own around part old mid had kind tag kids is =
+    ap (λ m. (had ++ label_for kind (1 + length old) ∷ []) ++ labels_of (tag ∷ around) m kids) (next-own part old mid kind tag is)
+    ∙ append_assoc had (label_for kind (1 + length old) ∷ []) (labels_of (tag ∷ around) ((1 + length old) + one_for kind) kids)
+
+-- the labels of a node stand in front of those of the nodes behind it
+pub labelled-item : (around : List Tag) (part : ℕ) (old mid : List Revision) (had now : List Label) (x : Item) (rest : Nodes)
+    → mid ≡ old ++ item_revisions around part (1 + length old) x → now ≡ had ++ item_labels around (1 + length old) x
+    → now ++ labels_of around (1 + length mid) rest ≡ had ++ labels_of around (1 + length old) (in_front x rest)
+labelled-item around part old mid had now x rest is labels =
+    let after = labels_of around ((1 + length old) + item_members around x) rest in
+    ap (λ m. now ++ labels_of around m rest) (next-item around part old mid x is)
+    ∙ ap (λ (xs : List Label). xs ++ after) labels
+    ∙ append_assoc had (item_labels around (1 + length old) x) after
+    ∙ ap (λ (xs : List Label). had ++ xs) (sym (labels_of-in_front around (1 + length old) x rest))
+
+-- the same in the stories of a package
+pub labelled-item_in : (around : List Tag) (part : ℕ) (old mid : List Revision) (had now : List Label) (x : Item) (rest : Nodes)
+    → mid ≡ old ++ item_revisions_from around part (1 + length old) x → now ≡ had ++ item_labels_in around (1 + length old) x
+    → now ++ labels_in around (1 + length mid) rest ≡ had ++ labels_in around (1 + length old) (in_front x rest)
+labelled-item_in around part old mid had now x rest is labels =
+    let after = labels_in around ((1 + length old) + item_revisions_in around x) rest in
+    ap (λ m. now ++ labels_in around m rest) (next-item_from around part old mid x is)
+    ∙ ap (λ (xs : List Label). xs ++ after) labels
+    ∙ append_assoc had (item_labels_in around (1 + length old) x) after
+    ∙ ap (λ (xs : List Label). had ++ xs) (sym (labels_in-in_front around (1 + length old) x rest))
 
 -- tails of a node, and of those behind it
 pub tails-first : (x : Item) (ys : Nodes) → HasUtf8Tails (in_front x ys) → HasUtf8Tails (in_front x no_nodes)

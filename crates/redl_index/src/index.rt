@@ -5,7 +5,7 @@ ghost use Rattle.redl_index.specs.Numbers.{numbered_package};
 ghost use Rattle.redl_index.specs.Revisions.{IsTold, revisions_of};
 
 use crate::find::find_in_stories;
-use crate::package::number_package;
+use crate::found::Found;
 use crate::revision::Revision;
 use redl_opc::Package;
 use redl_tree::Level;
@@ -32,7 +32,7 @@ impl Model for Index {
 
 impl Index {
     /// The index without revisions. It takes no memory.
-    fn empty(alloc: Global) -> Index
+    pub(crate) fn empty(alloc: Global) -> Index
         ensures { result ≡ [] }
     {
         Index {
@@ -54,16 +54,16 @@ impl Index {
     ///
     /// Each member is a revision of its own. Numbers count from 1 through the stories, in the order of the parts and of the
     /// start tags (ECMA-376 Part 1, 17.13.5). All else in the package stays. `Err` is want of memory, and then the package is
-    /// as before. It goes three times through the package.
+    /// as before. It goes twice through the package.
     pub fn build(alloc: Global, pkg: &mut Package) -> Result<Index, AllocError>
         ensures index { IfOk result (λ index. index ≡ revisions_of pkg.old) }
         ensures nodes { OnOk result (pkg.new ≡ numbered_package pkg.old) }
         ensures unchanged { OnErr result (pkg.new ≡ pkg.old) }
     {
-        let mut index = Index::empty(alloc);
-        find_in_stories(alloc, pkg.nodes(), Level::Top, 0, &mut index)?;
-        number_package(alloc, pkg)?;
-        Ok(index)
+        let mut found = Found::nothing(alloc);
+        find_in_stories(alloc, pkg.nodes(), Level::Top, 0, &mut found)?;
+        pkg.label_stories(&found.labels);
+        Ok(found.index)
     }
 
     /// How many revisions there are.

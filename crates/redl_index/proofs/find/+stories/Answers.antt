@@ -3,15 +3,18 @@ use Rattle.redl_tree.specs.Count.{count}
 use Rattle.redl_tree.specs.View.{item_of, nodes_of}
 use Rattle.redl_tree.proofs.Laws.{nodes_here, count-in_front}
 use Rattle.redl_opc.proofs.PartLaws.{tails-more}
+use Rattle.redl_index.specs.Labels.{labels_in}
 use Rattle.redl_index.specs.Revisions.{item_part_behind, revisions_from}
-use Rattle.redl_index.proofs.RevisionLaws.{found-item_from}
+use Rattle.redl_index.proofs.RevisionLaws.{found-item_from, labelled-item_in}
 use Rattle.redl_index.proofs.find.+stories.Goals as goal
 
 pub find_in_stories-loop-node-preserved : goal.find_in_stories-loop-node-preserved
 find_in_stories-loop-node-preserved t c =
     let nodes = c.args.nodes.now in
-    let old = c.loop-node.index in
-    let mid = c.find_in_package_node.new.index in
+    let old = c.loop-node.found.index in
+    let had = c.loop-node.found.labels.items in
+    let found = c.find_in_package_node.new.found in
+    let mid = found.index in
     let part = c.loop-node.part in
     let i = c.loop-node.node-index in
     let x = c.node-item.result in
@@ -26,4 +29,9 @@ find_in_stories-loop-node-preserved t c =
           ∙ found-item_from around part old mid (item_of x) rest (c.in_ok-find_in_package_node.ensures.index around is)
           ∙ ap (λ ns. old ++ revisions_from around part (1 + length old) ns) (sym here)
           ∙ c.loop-node.invariant.index around is;
+      labels = λ around is.
+          labelled-item_in around part old mid had found.labels.items (item_of x) rest (c.in_ok-find_in_package_node.ensures.index around is)
+          (c.in_ok-find_in_package_node.ensures.labels around is)
+          ∙ ap (λ ns. had ++ labels_in around (1 + length old) ns) (sym here)
+          ∙ c.loop-node.invariant.labels around is;
     }
