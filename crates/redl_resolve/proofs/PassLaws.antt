@@ -1,9 +1,13 @@
 -- The pass, a node at a time, and the number of its nodes.
-use Rattle.std.proofs.Common.{◌≡◌, ◌≢◌, ◌+◌, ℕ, List, [], ◌∷◌, ◌++◌, Bool, false, refl, ap, arith}
+use Rattle.std.proofs.Common.{◌≡◌, ◌≢◌, ◌+◌, ◌&&◌, ℕ, List, [], ◌∷◌, ◌++◌, Bool, true, false, refl, sym, ap, ◌∙◌, arith}
+use Rattle.std.proofs.lemmas.Bool.{and_parts}
 use Rattle.redl_resolve.specs.Rounds.{round_of, inside_of, item_pass_in}
+use Rattle.redl_resolve.specs.Stays.{item_stays, all_stay, passed_each, item_passed_each, visited_each, item_visited_each}
 use Rattle.redl_resolve.specs.Visits.{goes_into, visited, item_visited, visited_in, item_visited_in}
 use Rattle.redl_tree.proofs.Laws.{nodes_of-push, nodes_of-push_elem, nodes_of-push_bytes, count-in_front}
 use Rattle.redl_tree.specs.Count.{count, item_count}
+use Rattle.redl_tree.specs.Fates.{fate_of, renamed}
+use Rattle.redl_tree.specs.Kinds.{is_content, is_leave}
 use Rattle.redl_tree.specs.Packages.{pass_in}
 use Rattle.redl_tree.specs.declared.kinds.Say.{Say}
 use Rattle.redl_tree.specs.declared.kinds.Fate.{Fate}
@@ -83,3 +87,54 @@ goes_into-gone Cut content not_left not_freed = refl
 goes_into-gone Clear content not_left not_freed = refl
 goes_into-gone Restore content not_left not_freed = refl
 goes_into-gone Drop content not_left not_freed = refl
+
+-- ---- nodes that all stay
+
+pub all_stay-in_front : (says : List Say) (x : Item) (ys : Nodes) → all_stay says (in_front x ys) ≡ item_stays says x && all_stay says ys
+all_stay-in_front says (bytes_item b) ys = refl
+all_stay-in_front says (element_item tag kids) ys = refl
+
+pub passed_each-in_front : (says : List Say) (around : List Tag) (x : Item) (ys : Nodes)
+    → passed_each says around (in_front x ys) ≡ in_front (item_passed_each says around x) no_nodes ⊕ passed_each says around ys
+passed_each-in_front says around (bytes_item b) ys = refl
+passed_each-in_front says around (element_item tag kids) ys = refl
+
+pub visited_each-in_front : (says : List Say) (x : Item) (ys : Nodes)
+    → visited_each says (in_front x ys) ≡ item_visited_each says x + visited_each says ys
+visited_each-in_front says (bytes_item b) ys = refl
+visited_each-in_front says (element_item tag kids) ys = refl
+
+-- what is left gives what stays, and nothing else does
+by_fate-left : (fate : Fate) (content : Bool) (passed stays : Nodes) → is_leave fate ≡ true → by_fate fate content passed stays ≡ stays
+by_fate-left Leave content passed stays left = refl
+by_fate-left Free content passed stays left = absurd (cc)
+by_fate-left Cut content passed stays left = absurd (cc)
+by_fate-left Clear content passed stays left = absurd (cc)
+by_fate-left Restore content passed stays left = absurd (cc)
+by_fate-left Drop content passed stays left = absurd (cc)
+
+goes_into-left : (fate : Fate) (content : Bool) → is_leave fate ≡ true → goes_into fate content ≡ true
+goes_into-left Leave content left = refl
+goes_into-left Free content left = absurd (cc)
+goes_into-left Cut content left = absurd (cc)
+goes_into-left Clear content left = absurd (cc)
+goes_into-left Restore content left = absurd (cc)
+goes_into-left Drop content left = absurd (cc)
+
+-- where all stay, passing each is the pass
+pub passed_each-pass : (says : List Say) (around : List Tag) (nodes : Nodes) → all_stay says nodes ≡ true
+    → passed_each says around nodes ≡ pass says around nodes
+passed_each-pass says around no_nodes stay = refl
+passed_each-pass says around (bytes b rest) stay = ap (bytes b) (passed_each-pass says around rest stay)
+passed_each-pass says around (element tag kids rest) stay =
+    let here = and_parts (is_leave (fate_of says tag)) (all_stay says rest) stay in
+    let kept = element (renamed says around tag) (pass says (tag ∷ around) kids) no_nodes in
+    ap (λ more. kept ⊕ more) (passed_each-pass says around rest here.1)
+    ∙ ap (λ first. first ⊕ pass says around rest) (sym (by_fate-left (fate_of says tag) (is_content tag.kind) (pass says (tag ∷ around) kids) kept here.0))
+
+pub visited_each-visited : (says : List Say) (nodes : Nodes) → all_stay says nodes ≡ true → visited_each says nodes ≡ visited says nodes
+visited_each-visited says no_nodes stay = refl
+visited_each-visited says (bytes b rest) stay = omega (arith, visited_each-visited says rest stay)
+visited_each-visited says (element tag kids rest) stay =
+    let here = and_parts (is_leave (fate_of says tag)) (all_stay says rest) stay in
+    rw (goes_into-left (fate_of says tag) (is_content tag.kind) here.0) (omega (arith, visited_each-visited says rest here.1))

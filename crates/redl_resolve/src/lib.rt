@@ -9,6 +9,7 @@
 mod fates;
 mod renaming;
 mod rounds;
+mod stays;
 mod steps;
 mod stories;
 mod story;

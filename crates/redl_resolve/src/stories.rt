@@ -40,8 +40,8 @@ pub fn pass<L: Ledger>(
     into_passed(alloc, copies, says, steps)
 }
 
-/// The pass of nodes that are given away, as `pass` has it. What stays is moved and nothing is copied, so that the nodes
-/// given go while the result is made.
+/// The pass of nodes that are given away, as `pass` has it. What stays is moved, or keeps its place where all round it
+/// stays, and nothing is copied, so that the nodes given go while the result is made.
 pub fn into_passed<L: Ledger>(
     alloc: Global,
     nodes: Vec<Node>,

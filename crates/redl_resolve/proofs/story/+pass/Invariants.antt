@@ -1,6 +1,7 @@
-use Rattle.std.proofs.Common.{◌≡◌, ◌≤◌, ◌+◌, List}
+use Rattle.std.proofs.Common.{◌≡◌, ◌≤◌, ◌+◌, List, take, drop}
 use Rattle.std.specs.Vec.Iter.{into_iter_items}
 use Rattle.redl_resolve.specs.Rounds.{round_of}
+use Rattle.redl_resolve.specs.Stays.{passed_each, visited_each}
 use Rattle.redl_resolve.specs.Visits.{visited}
 use Rattle.redl_tree.specs.Count.{count}
 use Rattle.redl_tree.specs.Nodes.{Tag, ◌⊕◌}
@@ -17,4 +18,16 @@ invariant-pass_nodes-loop-node g l = record {
   entered : l.steps + count (nodes_of (into_iter_items l.node-iterator)) ≤ l.initial.steps + count (nodes_of l.fn.nodes.items);
   exactly : l.steps + visited l.says (nodes_of (into_iter_items l.node-iterator)) ≡ l.initial.steps + visited l.says (nodes_of l.fn.nodes.items);
   made : l.initial.steps + count (nodes_of l.passed.items) ≤ l.steps + count (nodes_of l.initial.passed.items);
+}
+
+-- what was passed stands in front, and the rest is as it was
+abbrev pub invariant-pass_each-loop-i : goal.invariant-pass_each-loop-i
+invariant-pass_each-loop-i g l = record {
+  unvisited : goal.unvisited-pass_each-loop-i g l;
+  passed : (around : List Tag) → l.round ≡ round_of l.says around
+      → nodes_of (take l.i l.nodes) ⊕ passed_each l.says around (nodes_of (drop l.i l.nodes))
+      ≡ passed_each l.says around (nodes_of l.initial.nodes);
+  entered : l.steps + count (nodes_of (drop l.i l.nodes)) ≤ l.initial.steps + count (nodes_of l.initial.nodes);
+  exactly : l.steps + visited_each l.says (nodes_of (drop l.i l.nodes)) ≡ l.initial.steps + visited_each l.says (nodes_of l.initial.nodes);
+  made : l.initial.steps + count (nodes_of (take l.i l.nodes)) ≤ l.steps;
 }
