@@ -8,7 +8,8 @@ use Rattle.redl_tree.specs.Lists.{nowhere, inside, place, is_block_list}
 use Rattle.redl_tree.specs.Kinds.{is_change}
 use Rattle.redl_tree.specs.Sound.{in_content, below_content, among_blocks, below_change}
 use Rattle.redl_tree.specs.declared.lists.Place.{Place}
-use Rattle.redl_tree.specs.Arounds.{around_of, inside_of, role_in}
+use Rattle.redl_tree.specs.Arounds.{around_of, inside_of}
+use Rattle.redl_tree.specs.declared.kinds.Kind.{Kind}
 use Rattle.redl_tree.specs.declared.around.Around.{Around}
 use Rattle.redl_rules.specs.declared.round.Round.{Round}
 
@@ -27,13 +28,13 @@ round_of around = record {
 abbrev pub place_inside : Tag → Around → Place → Place
 place_inside tag around here = if not (is_quiet tag || around.quiet) then inside tag here else nowhere
 
--- the same with this one as the nearest ancestor
-abbrev pub round_inside : Tag → Round → Round
-round_inside tag round = record {
+-- the same with this one, which has this role, as the nearest ancestor
+abbrev pub round_inside : Tag → Kind → Round → Round
+round_inside tag kind round = record {
   around = inside_of tag round.around;
   here = place_inside tag round.around round.here;
   in_content = is_some (trace_of tag);
   below_content = not (is "txbxContent" tag) && (is_some (trace_of tag) || round.below_content);
   among_blocks = if is_some (trace_of tag) then round.among_blocks else is_block_list (place_inside tag round.around round.here);
-  below_change = is_change (role_in round.around tag) || round.below_change;
+  below_change = is_change kind || round.below_change;
 }

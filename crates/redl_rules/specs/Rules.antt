@@ -8,7 +8,6 @@ use Rattle.redl_tree.specs.Kinds.{is_content, is_change}
 use Rattle.redl_tree.specs.Lists.{is_thick}
 use Rattle.redl_tree.specs.Sound.{implies, is_banned, once, each_once, only_first, only_last, change_declares}
 use Rattle.redl_tree.specs.declared.kinds.Kind.{Kind}
-use Rattle.redl_tree.specs.Arounds.{role_in}
 use Rattle.redl_tree.specs.declared.around.Around.{Around}
 use Rattle.redl_rules.specs.declared.round.Round.{Round}
 use Rattle.redl_rules.specs.Attributes.{declares}
@@ -17,12 +16,12 @@ use Rattle.redl_rules.specs.Attributes.{declares}
 abbrev pub open_in : List String → Around → Tag → Bool
 open_in names around tag = is_any names tag && not around.quiet
 
--- what content revisions hold
-abbrev pub by_round_3 : Round → Tag → Nodes → Bool
-by_round_3 round tag kids =
+-- what content revisions hold, by the role of the element
+abbrev pub by_round_3 : Round → Kind → Tag → Nodes → Bool
+by_round_3 round kind tag kids =
     implies (is_banned tag && not round.around.quiet) (not round.below_content)
     && implies (open_in ("rPr" ∷ "sdtContent" ∷ []) round.around tag) (not round.in_content)
-    && implies (is_content (role_in round.around tag) && round.among_blocks) (not (some_element is_thick kids))
+    && implies (is_content kind && round.among_blocks) (not (some_element is_thick kids))
 
 -- marks that stand once, by what is round the kids
 abbrev pub by_round_5 : Around → Nodes → Bool
@@ -45,8 +44,7 @@ by_round_6 around tag kids =
 abbrev pub loses_tags : Around → Kind → Tag → Bool
 loses_tags around kind tag = is "p" tag && not around.quiet || is_content kind || is_change kind
 
--- declarations of namespaces
-abbrev pub by_round_9 : Around → Tag → Nodes → Bool
-by_round_9 around tag kids =
-    implies (loses_tags around (role_in around tag) tag) (not (declares tag.tail))
-    && not (change_declares declares (role_in around tag) kids)
+-- declarations of namespaces, by the role of the element
+abbrev pub by_round_9 : Around → Kind → Tag → Nodes → Bool
+by_round_9 around kind tag kids =
+    implies (loses_tags around kind tag) (not (declares tag.tail)) && not (change_declares declares kind kids)

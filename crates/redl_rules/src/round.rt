@@ -1,12 +1,15 @@
 //! What the ancestors of an element are to the rules.
 
-ghost use Rattle.std.specs.Prelude.{◌≡◌, ◌∷◌, [], List, is_some};
+ghost use Rattle.std.specs.Prelude.{◌≡◌, ◌∷◌, ◌&&◌, ◌||◌, not, [], List, if◌then◌else◌};
 ghost use Rattle.redl_tree.specs.Nodes.{Tag};
 ghost use Rattle.redl_tree.specs.View.{tag_of};
-ghost use Rattle.redl_tree.specs.Places.{trace_of as trace_of_tag};
-ghost use Rattle.redl_rules.specs.Rounds.{round_of, round_inside, place_inside};
+ghost use Rattle.redl_tree.specs.Kinds.{is_change};
+ghost use Rattle.redl_tree.specs.Lists.{nowhere, inside, is_block_list};
+ghost use Rattle.redl_tree.specs.Names.{is};
+ghost use Rattle.redl_tree.specs.Places.{role};
+ghost use Rattle.redl_rules.specs.Rounds.{round_of, round_inside};
 
-use redl_tree::{Around, Elem, Place, is_named, is_quiet, trace_of};
+use redl_tree::{Around, Elem, Kind, Place, is_named, trace_of};
 
 /// What the ancestors of an element are to the rules, in its story.
 #[derive(Clone, Copy)]
@@ -39,64 +42,60 @@ impl Round {
         }
     }
 
-    /// What is round the kids of an element that stands here.
-    pub fn inside(self, elem: &Elem) -> Round
-        ensures { (above : List Tag) → self ≡ round_of above → result ≡ round_of (tag_of elem.now ∷ above) }
+    /// What is round the kids of an element that stands here and has this role.
+    pub fn inside(self, elem: &Elem, kind: Kind) -> Round
+        ensures { (above : List Tag) → self ≡ round_of above
+            → kind ≡ role above (tag_of elem.now)
+            → result ≡ round_of (tag_of elem.now ∷ above) }
     {
-        self.step(elem)
+        self.step(elem, kind)
     }
 
-    fn step(self, elem: &Elem) -> Round
-        ensures { result ≡ round_inside (tag_of elem.now) self }
+    fn step(self, elem: &Elem, kind: Kind) -> Round
+        ensures { result ≡ round_inside (tag_of elem.now) kind self }
     {
-        let here = self.place_inside(elem);
+        let around = self.around.inside(elem);
+        let here = self.place_inside(elem, around.quiet);
+        let in_content = trace_of(elem).is_some();
         Round {
-            around: self.around.inside(elem),
+            around,
             here,
-            in_content: has_content_name(elem),
-            below_content: self.is_below_content(elem),
-            among_blocks: self.is_among_blocks(elem, here),
-            below_change: self.is_below_change(elem),
+            in_content,
+            below_content: self.is_below_content(elem, in_content),
+            among_blocks: self.is_among_blocks(here, in_content),
+            below_change: self.is_below_change(kind),
         }
     }
 
-    fn place_inside(self, elem: &Elem) -> Place
-        ensures { result ≡ place_inside (tag_of elem.now) self.around self.here }
+    fn place_inside(self, elem: &Elem, quiet: bool) -> Place
+        ensures { result ≡ (if not quiet then inside (tag_of elem.now) self.here else nowhere) }
     {
-        if self.around.quiet || is_quiet(elem) {
+        if quiet {
             Place::nowhere()
         } else {
             self.here.inside(elem)
         }
     }
 
-    fn is_below_content(self, elem: &Elem) -> bool
-        ensures { result ≡ (round_inside (tag_of elem.now) self).below_content }
+    fn is_below_content(self, elem: &Elem, in_content: bool) -> bool
+        ensures { result ≡ (not (is "txbxContent" (tag_of elem.now)) && (in_content || self.below_content)) }
     {
-        (self.below_content || has_content_name(elem)) && !is_named(elem, b"txbxContent")
+        (self.below_content || in_content) && !is_named(elem, b"txbxContent")
     }
 
-    fn is_among_blocks(self, elem: &Elem, inner: Place) -> bool
-        requires { inner ≡ place_inside (tag_of elem.now) self.around self.here }
-        ensures { result ≡ (round_inside (tag_of elem.now) self).among_blocks }
+    fn is_among_blocks(self, inner: Place, in_content: bool) -> bool
+        ensures { result ≡ (if in_content then self.among_blocks else is_block_list inner) }
     {
-        if has_content_name(elem) {
+        if in_content {
             self.among_blocks
         } else {
             inner.is_block_list()
         }
     }
 
-    fn is_below_change(self, elem: &Elem) -> bool
-        ensures { result ≡ (round_inside (tag_of elem.now) self).below_change }
+    fn is_below_change(self, kind: Kind) -> bool
+        ensures { result ≡ (is_change kind || self.below_change) }
     {
-        self.below_change || self.around.role(elem).is_change()
+        self.below_change || kind.is_change()
     }
-}
-
-/// Whether an element has the name of a content revision.
-fn has_content_name(elem: &Elem) -> bool
-    ensures { result ≡ is_some (trace_of_tag (tag_of elem.now)) }
-{
-    trace_of(elem).is_some()
 }

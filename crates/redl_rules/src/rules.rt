@@ -8,7 +8,7 @@ ghost use Rattle.redl_tree.specs.Kinds.{is_content};
 ghost use Rattle.redl_tree.specs.Lists.{is_thick};
 ghost use Rattle.redl_tree.specs.Sound.{implies, is_banned as is_banned_tag, is_banned_below_change as is_banned_below_change_tag, test_1, test_2, test_4, test_7, test_8, former_declares, change_declares as change_declares_by, once, each_once, only_first, only_last, props_name as props_name_of};
 ghost use Rattle.redl_tree.specs.View.{tag_of, kids_of, nodes_of};
-ghost use Rattle.redl_tree.specs.Arounds.{role_in, around_of};
+ghost use Rattle.redl_tree.specs.Arounds.{around_of};
 ghost use Rattle.redl_rules.specs.Attributes.{has_id as has_id_tail, declares};
 ghost use Rattle.redl_rules.specs.Rounds.{round_of};
 ghost use Rattle.redl_rules.specs.Rules.{open_in, loses_tags as loses_tags_of, by_round_3, by_round_5, by_round_6, by_round_9};
@@ -43,13 +43,13 @@ pub fn keeps_2(elem: &Elem, round: Round) -> bool
     }
 }
 
-/// A content revision holds no block (rule 3).
-pub fn keeps_3(elem: &Elem, round: Round) -> bool
-    ensures { result ≡ by_round_3 round (tag_of elem.now) (kids_of elem.now) }
+/// A content revision holds no block (rule 3). `kind` is the element's role.
+pub fn keeps_3(elem: &Elem, kind: Kind, round: Round) -> bool
+    ensures { result ≡ by_round_3 round kind (tag_of elem.now) (kids_of elem.now) }
 {
     is_no_block_below(elem, round)
         && is_no_props_in(elem, round)
-        && is_thin_among_blocks(elem, round)
+        && is_thin_among_blocks(elem, kind, round)
 }
 
 fn is_no_block_below(elem: &Elem, round: Round) -> bool
@@ -64,17 +64,17 @@ fn is_no_props_in(elem: &Elem, round: Round) -> bool
     !round.in_content || round.around.quiet || !is_run_props_or_control(elem)
 }
 
-fn is_thin_among_blocks(elem: &Elem, round: Round) -> bool
-    ensures { result ≡ implies (is_content (role_in round.around (tag_of elem.now)) && round.among_blocks)
+fn is_thin_among_blocks(elem: &Elem, kind: Kind, round: Round) -> bool
+    ensures { result ≡ implies (is_content kind && round.among_blocks)
         (not (some_element is_thick (kids_of elem.now))) }
 {
-    !is_content_among_blocks(elem, round) || !has_thick(&elem.kids)
+    !is_content_among_blocks(kind, round) || !has_thick(&elem.kids)
 }
 
-fn is_content_among_blocks(elem: &Elem, round: Round) -> bool
-    ensures { result ≡ (is_content (role_in round.around (tag_of elem.now)) && round.among_blocks) }
+fn is_content_among_blocks(kind: Kind, round: Round) -> bool
+    ensures { result ≡ (is_content kind && round.among_blocks) }
 {
-    round.among_blocks && round.around.role(elem).is_content()
+    round.among_blocks && kind.is_content()
 }
 
 fn is_banned(elem: &Elem) -> bool
@@ -234,11 +234,10 @@ fn is_banned_below_change(elem: &Elem) -> bool
         || is_named(elem, b"txbxContent")
 }
 
-/// What a decision can take the tags of declares no namespace (rule 9).
-pub fn keeps_9(elem: &Elem, round: Round) -> bool
-    ensures { result ≡ by_round_9 round.around (tag_of elem.now) (kids_of elem.now) }
+/// What a decision can take the tags of declares no namespace (rule 9). `kind` is the element's role.
+pub fn keeps_9(elem: &Elem, kind: Kind, round: Round) -> bool
+    ensures { result ≡ by_round_9 round.around kind (tag_of elem.now) (kids_of elem.now) }
 {
-    let kind = round.around.role(elem);
     keeps_own_tag(elem, round, kind) && !change_declares(kind, &elem.kids)
 }
 

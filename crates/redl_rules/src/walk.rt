@@ -2,6 +2,7 @@
 
 ghost use Rattle.std.specs.Prelude.{◌≡◌, ◌∷◌, [], List};
 ghost use Rattle.redl_tree.specs.Nodes.{Tag};
+ghost use Rattle.redl_tree.specs.Places.{role};
 ghost use Rattle.redl_tree.specs.View.{nodes_of, item_of, tag_of, kids_of};
 ghost use Rattle.redl_rules.specs.Rounds.{round_of};
 ghost use Rattle.redl_rules.specs.Keeping.{kept_here as kept_of, kept_in, element_kept, item_kept};
@@ -11,7 +12,7 @@ use crate::round::Round;
 use crate::rules::{
     keeps_1, keeps_2, keeps_3, keeps_4, keeps_5, keeps_6, keeps_7, keeps_8, keeps_9,
 };
-use redl_tree::{Elem, Node};
+use redl_tree::{Elem, Kind, Node};
 
 /// Which rules hold in the story with this root.
 pub fn kept_by_story(root: &Elem) -> Kept
@@ -46,26 +47,28 @@ fn kept_by_elem(elem: &Elem, round: Round) -> Kept
     ensures { (above : List Tag) → round ≡ round_of above
         → result ≡ element_kept above (tag_of elem.now) (kids_of elem.now) }
 {
-    let inner = round.inside(elem);
-    let here = kept_here(elem, round, inner);
+    let kind = round.around.role(elem);
+    let inner = round.inside(elem, kind);
+    let here = kept_here(elem, kind, round, inner);
     here.and(kept_by_nodes(&elem.kids, inner))
 }
 
-/// Which rules hold of an element by itself. `inner` is round its kids.
-fn kept_here(elem: &Elem, round: Round, inner: Round) -> Kept
+/// Which rules hold of an element with this role by itself. `inner` is round its kids.
+fn kept_here(elem: &Elem, kind: Kind, round: Round, inner: Round) -> Kept
     ensures { (above : List Tag) → round ≡ round_of above
+        → kind ≡ role above (tag_of elem.now)
         → inner ≡ round_of (tag_of elem.now ∷ above)
         → result ≡ kept_of above (tag_of elem.now) (kids_of elem.now) }
 {
     Kept {
         rule_1: keeps_1(elem, round),
         rule_2: keeps_2(elem, round),
-        rule_3: keeps_3(elem, round),
+        rule_3: keeps_3(elem, kind, round),
         rule_4: keeps_4(elem, inner.around),
         rule_5: keeps_5(elem, inner.around),
         rule_6: keeps_6(elem, round),
         rule_7: keeps_7(elem, round),
         rule_8: keeps_8(elem, round),
-        rule_9: keeps_9(elem, round),
+        rule_9: keeps_9(elem, kind, round),
     }
 }

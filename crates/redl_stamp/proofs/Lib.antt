@@ -1,3 +1,4 @@
 pub mod Quotients
 mod AttributeLaws
+pub mod WrittenLaws
 mod MomentRows

@@ -9,6 +9,7 @@ mod laws;
 mod moment;
 mod stamp;
 mod value;
+mod written;
 
 pub use laws::value_of_the_first;
 pub use moment::read_moment;

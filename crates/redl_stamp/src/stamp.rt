@@ -1,12 +1,15 @@
 //! Stamps.
 
-ghost use Rattle.std.specs.Prelude.{◌≡◌, IfOk, IfSome};
+ghost use Rattle.std.specs.Prelude.{◌≡◌, [], IfOk, IfSome, unwrap_or, option_and_then};
+ghost use Rattle.std.specs.Option.{option_map};
 ghost use Rattle.std.specs.Str.{IsUtf8};
-ghost use Rattle.redl_stamp.specs.Moment.{IsMoment};
-ghost use Rattle.redl_stamp.specs.Stamp.{author_of, seconds_of, stamp_of};
+ghost use Rattle.redl_markup.specs.Decoding.{decoded_value};
+ghost use Rattle.redl_stamp.specs.Moment.{IsMoment, moment_of};
+ghost use Rattle.redl_stamp.specs.Stamp.{stamp_of};
 
 use crate::moment::moment;
-use crate::value::attribute;
+use crate::value::decoded;
+use crate::written::Written;
 use redl_io::Text;
 use std::alloc::{AllocError, Global};
 
@@ -19,21 +22,22 @@ pub struct Stamp {
     pub id: Option<Text>,
 }
 
-fn author(alloc: Global, tail: &[u8]) -> Result<Text, AllocError>
-    ensures value { IfOk result (λ author. author ≡ author_of tail.now) }
-    ensures utf8 { IsUtf8 tail.now → IfOk result IsUtf8 }
+fn author(alloc: Global, written: Option<&[u8]>) -> Result<Text, AllocError>
+    ensures value { IfOk result (λ author. author ≡ unwrap_or (option_map decoded_value (option_map (λ value. value.now) written.entry)) []) }
+    ensures utf8 { IfSome written.entry (λ value. IsUtf8 value.now) → IfOk result IsUtf8 }
 {
-    match attribute(alloc, tail, b"author")? {
+    match decoded(alloc, written)? {
         Some(author) => Ok(author),
         None => Text::copy_of(alloc, b""),
     }
 }
 
-fn seconds(alloc: Global, tail: &[u8]) -> Result<Option<i64>, AllocError>
-    ensures value { IfOk result (λ seconds. seconds ≡ seconds_of tail.now) }
+fn seconds(alloc: Global, written: Option<&[u8]>) -> Result<Option<i64>, AllocError>
+    ensures value { IfOk result (λ seconds. seconds
+        ≡ option_and_then moment_of (option_map decoded_value (option_map (λ value. value.now) written.entry))) }
     ensures range { IfOk result (λ seconds. IfSome seconds IsMoment) }
 {
-    match attribute(alloc, tail, b"date")? {
+    match decoded(alloc, written)? {
         Some(date) => Ok(moment(date.as_bytes())),
         None => Ok(None),
     }
@@ -48,10 +52,11 @@ pub fn read_stamp(alloc: Global, tail: &[u8]) -> Result<Stamp, AllocError>
     ensures utf8 { IsUtf8 tail.now → IfOk result (λ stamp. IsUtf8 stamp.author) }
     ensures range { IfOk result (λ stamp. IfSome stamp.seconds IsMoment) }
 {
-    let author = author(alloc, tail)?;
-    let seconds = seconds(alloc, tail)?;
-    let name = attribute(alloc, tail, b"name")?;
-    let id = attribute(alloc, tail, b"id")?;
+    let written = Written::read(tail);
+    let author = author(alloc, written.author)?;
+    let seconds = seconds(alloc, written.date)?;
+    let name = decoded(alloc, written.name)?;
+    let id = decoded(alloc, written.id)?;
     Ok(Stamp {
         author,
         seconds,

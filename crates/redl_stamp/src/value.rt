@@ -1,7 +1,9 @@
 //! Attributes by their local name.
 
 ghost use Rattle.std.specs.Prelude.{◌≡◌, is_some, IfOk, IfSome};
+ghost use Rattle.std.specs.Option.{option_map};
 ghost use Rattle.std.specs.Str.{IsUtf8};
+ghost use Rattle.redl_markup.specs.Decoding.{decoded_value};
 ghost use Rattle.redl_markup.specs.Reading.{Gives};
 ghost use Rattle.redl_markup.specs.Views.{attribute_view};
 ghost use Rattle.redl_stamp.specs.Attribute.{has_local_name, written_value, attribute_value};
@@ -11,7 +13,7 @@ use redl_markup::{Attribute, decode_value, next_attribute};
 use std::alloc::{AllocError, Global};
 
 /// Whether an attribute has this local name, and not the prefix of declarations.
-fn has_local_name(attribute: &Attribute<'_>, local: &[u8]) -> bool
+pub(crate) fn has_local_name(attribute: &Attribute<'_>, local: &[u8]) -> bool
     ensures { result ≡ has_local_name local.now (attribute_view attribute.now) }
 {
     attribute.name.local == local && attribute.name.prefix != b"xmlns".as_slice()
@@ -47,7 +49,15 @@ pub fn attribute(alloc: Global, tail: &[u8], local: &[u8]) -> Result<Option<Text
     ensures value { IfOk result (λ found. found ≡ attribute_value tail.now local.now) }
     ensures utf8 { IsUtf8 tail.now → IfOk result (λ found. IfSome found IsUtf8) }
 {
-    let Some(written) = written_value(tail, local) else {
+    decoded(alloc, written_value(tail, local))
+}
+
+/// What a value says that is written so, if one is. `Err` is want of memory.
+pub(crate) fn decoded(alloc: Global, written: Option<&[u8]>) -> Result<Option<Text>, AllocError>
+    ensures value { IfOk result (λ found. found ≡ option_map decoded_value (option_map (λ value. value.now) written.entry)) }
+    ensures utf8 { IfSome written.entry (λ value. IsUtf8 value.now) → IfOk result (λ found. IfSome found IsUtf8) }
+{
+    let Some(written) = written else {
         return Ok(None);
     };
     let value = decode_value(alloc, written)?;
