@@ -1,18 +1,20 @@
 -- The list of a tail's attributes.
-use Rattle.std.proofs.Common.{◌≡◌, ℕ, inl, inr, zero, suc, ◌<◌, List, [], ◌∷◌, length, map, Option, Some, None, refl, sym, ap, ◌∙◌, arith}
-use Rattle.std.specs.Prelude.{IfSome, IsNone}
-use Rattle.std.specs.List.{AllByRecursion}
+use Rattle.std.proofs.Common.{◌≡◌, ℕ, inl, inr, zero, suc, ◌<◌, Bool, List, [], ◌∷◌, ◌++◌, length, map, Option, Some, None, refl, sym, ap, ◌∙◌, arith}
+use Rattle.std.specs.Prelude.{IfSome, IsNone, ◌&&◌}
+use Rattle.std.specs.List.{list_all, AllByRecursion}
 use Rattle.redl_markup.specs.Reading.{Gives}
 use Rattle.std.proofs.lemmas.List.{append-nil}
 use Rattle.redl_markup.specs.Characters.{is_space}
-use Rattle.redl_markup.specs.Lists.{front, after, is_filled}
+use Rattle.redl_markup.specs.Lists.{front, after, before, is_filled}
 use Rattle.redl_markup.specs.Names.{Name}
 use Rattle.redl_markup.specs.Tails.{IsSpace, Attribute, attribute_then, attributes_then, IsAttribute, IsTail, named_value}
 use Rattle.redl_markup.specs.ScanNames.{name_at, char_at, word_at}
-use Rattle.redl_markup.specs.ScanTags.{attribute_at, attribute_in}
+use Rattle.redl_markup.specs.ScanTags.{attribute_at, attribute_in, Tail, attributes_at}
 use Rattle.redl_markup.specs.Attributes.{attributes_by, attributes_from, attributes_of}
 use Rattle.redl_markup.proofs.Runs.{after_again, either}
-use Rattle.redl_markup.proofs.Attributes.{first_again, first_shorter}
+use Rattle.redl_markup.proofs.Words.{before-append}
+use Rattle.redl_markup.proofs.Attributes.{first_again, first_shorter, tail_takes_turns}
+use Rattle.redl_markup.proofs.Tags.{attributes_then-append}
 
 -- any count above what is left gives the same list
 counts_alike : (n m : ℕ) (tail : List ℕ) → length tail < n → length tail < m → attributes_from n tail ≡ attributes_from m tail
@@ -55,6 +57,23 @@ lists_all (a ∷ attrs) space each h =
 -- The list of a legal tail is that of its attributes.
 pub tail_lists : (tail : List ℕ) (h : IsTail tail) → attributes_of tail ≡ map named_value h.attributes
 tail_lists tail h = ap attributes_of h.whole ∙ lists_all h.attributes h.space h.each h.is_space
+
+-- ---- the names that were collected
+
+names_pass : (p : Name → Bool) (attrs : List Attribute) → list_all p (map (λ (a : Attribute). a.name) attrs) ≡ list_all (λ a. p a.0) (map named_value attrs)
+names_pass p [] = refl
+names_pass p (a ∷ attrs) = ap (λ (b : Bool). p a.name && b) (names_pass p attrs)
+
+-- A test that all names of a tail pass is one that all of its attributes pass.
+pub names_listed : (p : Name → Bool) (bs : List ℕ) (x : Tail) → attributes_at bs ≡ Some x → list_all p x.0 ≡ list_all (λ a. p a.0) (attributes_of (before bs x.1))
+unfolding attributes_at
+names_listed p bs x e =
+    let t = tail_takes_turns (suc (length bs)) ([], bs) x e in
+    let tail : List ℕ = attributes_then t.attributes t.space in
+    let whole : bs ≡ tail ++ x.1 = t.whole ∙ sym (attributes_then-append t.attributes t.space x.1) in
+    let cut : before bs x.1 ≡ tail = ap (λ (z : List ℕ). before z x.1) whole ∙ before-append tail x.1 in
+    let listed = ap attributes_of cut ∙ lists_all t.attributes t.space t.each t.is_space in
+    ap (list_all p) t.names ∙ names_pass p t.attributes ∙ sym (ap (list_all (λ (a : Name × List ℕ). p a.0)) listed)
 
 -- ---- what the code answers
 

@@ -1,5 +1,7 @@
 -- The attributes of a tail, one after the other, as names and values.
-use Rattle.std.specs.Prelude.{ℕ, zero, suc, List, [], ◌∷◌, length, Option, Some, None}
+use Rattle.std.specs.Prelude.{ℕ, zero, suc, Bool, ◌||◌, not, List, [], ◌∷◌, length, Option, Some, None, if◌then◌else◌, codes}
+use Rattle.std.specs.Str.{bytes_eq}
+use Rattle.redl_markup.specs.Lists.{is_filled}
 use Rattle.redl_markup.specs.Names.{Name}
 use Rattle.redl_markup.specs.ScanTags.{attribute_in}
 
@@ -15,3 +17,8 @@ attributes_from (suc n) tail = attributes_by (attributes_from n) (attribute_in t
 -- each attribute takes at least a byte
 unfoldable pub attributes_of : List ℕ → List (Name × List ℕ)
 attributes_of tail = attributes_from (suc (length tail)) tail
+
+-- An attribute with this name has no prefix and isn't `xmlns`, or has the prefix of its element or one other prefix.
+unfoldable pub is_plain_beside : List ℕ → List ℕ → Name → Bool
+is_plain_beside own other name =
+    if is_filled name.prefix then bytes_eq name.prefix own || bytes_eq name.prefix other else not (bytes_eq name.local (codes "xmlns"))

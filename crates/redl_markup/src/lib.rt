@@ -28,7 +28,7 @@ pub use decode::decode_value;
 pub use error::MarkupError;
 pub use laws::{attributes_are_listed, one_piece};
 pub use name::Name;
-pub use piece::Piece;
+pub use piece::{Piece, Tail};
 pub use place::Place;
 pub use read::next_piece;
 

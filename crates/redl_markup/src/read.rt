@@ -4,7 +4,7 @@ ghost use Rattle.std.specs.Prelude.{◌≡◌, codes, IfOk, IsErrOf};
 ghost use Rattle.redl_markup.specs.Pieces.{Stands, HasNoPiece};
 ghost use Rattle.redl_markup.specs.Reading.{Finds};
 ghost use Rattle.redl_markup.specs.ScanPieces.{piece_at};
-ghost use Rattle.redl_markup.specs.Views.{piece_view};
+ghost use Rattle.redl_markup.specs.Views.{piece_view, TailTells};
 
 use crate::error::MarkupError;
 use crate::item::begins_item;
@@ -17,7 +17,8 @@ use std::alloc::Global;
 
 #[tactic(auto, unfolding(crate::specs::ScanPieces::piece_at))]
 fn read_piece(alloc: Global, bytes: &[u8], place: Place) -> Result<(Piece<'_>, &[u8]), MarkupError>
-    ensures { Finds (λ x. (piece_view x.0, x.1.now)) result (piece_at place bytes.now) }
+    ensures read { Finds (λ x. (piece_view x.0, x.1.now)) result (piece_at place bytes.now) }
+    ensures plain { IfOk result (λ x. TailTells x.0) }
 {
     if let Some(rest) = skip(bytes, b"</") {
         return end_tag(rest).ok_or(MarkupError::Unreadable);
@@ -41,6 +42,9 @@ pub fn next_piece(
 
     // The same as a function on lists, for those who read a list of pieces.
     ensures read { Finds (λ x. (piece_view x.0, x.1.now)) result (piece_at place bytes.now) }
+
+    // Whether the attributes of a tag are plain, which is found as its tail is read.
+    ensures plain { IfOk result (λ x. TailTells x.0) }
 {
     read_piece(alloc, bytes, place)
 }

@@ -9,12 +9,21 @@ fn name<'a>(prefix: &'a str, local: &'a str) -> Name<'a> {
     }
 }
 
+/// A tail whose attributes have the prefix of their element or none.
+fn plain<'a>(tail: &'a str) -> Tail<'a> {
+    Tail {
+        bytes: tail.as_bytes(),
+        other_prefix: b"",
+        is_plain: true,
+    }
+}
+
 fn start<'a>(prefix: &'a str, local: &'a str, tail: &'a str) -> Piece<'a> {
-    Piece::Start(name(prefix, local), tail.as_bytes())
+    Piece::Start(name(prefix, local), plain(tail))
 }
 
 fn empty<'a>(prefix: &'a str, local: &'a str, tail: &'a str) -> Piece<'a> {
-    Piece::Empty(name(prefix, local), tail.as_bytes())
+    Piece::Empty(name(prefix, local), plain(tail))
 }
 
 fn end<'a>(prefix: &'a str, local: &'a str, space: &'a str) -> Piece<'a> {
@@ -51,14 +60,39 @@ fn tags_are_read_with_what_is_left(rt: HostRuntime) {
             empty("\u{10000}", "\u{3001}", ""),
             "",
         ),
-        (
-            "<a x='1' p:x='2' X='3'/>",
-            empty("", "a", " x='1' p:x='2' X='3'"),
-            "",
-        ),
+        ("<a x='1' X='3'/>", empty("", "a", " x='1' X='3'"), ""),
     ] {
         let piece = next_piece(rt.alloc(), text.as_bytes(), Place::InElement);
         assert_eq!(rt; piece, Ok((want, left.as_bytes())), "{text}");
+    }
+}
+
+#[test]
+fn tails_tell_which_prefixes_stand_in_them(rt: HostRuntime) {
+    for (tail, other_prefix, is_plain) in [
+        (" w:x='1' y='2' w:z='3'", "", true),
+        (" x='1' p:x='2' X='3' p:y='4' w:x='5'", "p", true),
+        (" xml:space='preserve'", "xml", true),
+        (" p:x='1' q:x='2'", "p", false),
+        (" xmlns='a'", "", false),
+        (" xmlns:w='a'", "xmlns", true),
+        (" w:xmlns='1'", "", true),
+    ] {
+        let want = Tail {
+            bytes: tail.as_bytes(),
+            other_prefix: other_prefix.as_bytes(),
+            is_plain,
+        };
+        let mut text = b"<w:p".to_vec(rt.alloc()).expect(&rt, tail);
+        text.extend_from_slice(tail.as_bytes()).expect(&rt, tail);
+        text.push(b'>').expect(&rt, tail);
+        let piece = next_piece(rt.alloc(), &text, Place::InElement);
+        let rest = b"".as_slice();
+        assert_eq!(rt;
+            piece,
+            Ok((Piece::Start(name("w", "p"), want), rest)),
+            "{tail}"
+        );
     }
 }
 

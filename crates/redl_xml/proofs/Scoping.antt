@@ -1,6 +1,6 @@
 -- Into an element and out of it again: the scope is what it was.
-use Rattle.std.proofs.Common.{◌≡◌, ℕ, suc, ◌+◌, Bool, true, cond, List, [], ◌∷◌, ◌++◌, length, drop, Option, Some, None, refl, sym, ap, subst, ◌∙◌, append_assoc, arith, length-append}
-use Rattle.std.specs.Prelude.{◌&&◌, not}
+use Rattle.std.proofs.Common.{◌≡◌, ℕ, suc, ◌+◌, Bool, true, cond, List, [], ◌∷◌, ◌++◌, length, drop, Option, Some, None, refl, sym, ap, subst, ◌∙◌, append_assoc, arith, length-append, inl, inr}
+use Rattle.std.specs.Prelude.{◌&&◌, ◌||◌, not, codes}
 use Rattle.std.specs.List.{list_all}
 use Rattle.std.proofs.Math.Seq.{drop-append_seam}
 use Rattle.std.proofs.lemmas.Option.{same_Some, cond_some}
@@ -8,9 +8,10 @@ use Rattle.redl_tree.specs.declared.kinds.Space.{Space}
 use Rattle.redl_markup.specs.References.{is_there}
 use Rattle.redl_markup.specs.Names.{Name}
 use Rattle.redl_markup.specs.Decoding.{decoded_value}
-use Rattle.redl_markup.specs.Attributes.{attributes_of}
+use Rattle.redl_markup.specs.Lists.{is_filled}
+use Rattle.redl_markup.specs.Attributes.{attributes_of, is_plain_beside}
 use Rattle.redl_markup.proofs.Names.{bind_some}
-use Rattle.redl_markup.proofs.Runs.{and-true, and-both}
+use Rattle.redl_markup.proofs.Runs.{and-true, and-both, either, not-true}
 use Rattle.std.specs.Str.{bytes_eq}
 use Rattle.redl_xml.specs.Scopes.{Scope, is_xmlns, space_named, declared_prefix, declared_by, is_allowed, with_declarations, scope_in, space_of, is_known, is_element_prefix, is_known_attribute}
 use Rattle.redl_xml.proofs.Words.{same_bytes}
@@ -146,13 +147,45 @@ declared_long scope s tail e =
     let g = grown (attributes_of tail) scope in
     omega (arith, ap length t.1, ap length g.whole, length-append g.front scope, g.long)
 
-pub same_is_known : (scope : Scope) (own prefix : List ℕ) → bytes_eq prefix own ≡ true → is_known scope own ≡ true → is_known scope prefix ≡ true
-same_is_known scope own prefix e h = let P : List ℕ → Type 0 = λ p. is_known scope p ≡ true in subst P (sym (same_bytes prefix own e)) h
-
--- the prefix of an element that may be entered may be used
-pub own_is_known : (scope : Scope) (name : Name) (x : Space × Scope) → known name [] scope ≡ Some x → is_known scope name.prefix ≡ true
+-- an element that may be entered without its attributes may have its prefix
+pub own_is_known : (scope : Scope) (name : Name) (x : Space × Scope) → known name [] scope ≡ Some x → is_element_prefix scope name.prefix ≡ true
 unfolding known
 own_is_known scope name x e =
     let c = cond_some (is_element_prefix scope name.prefix && true) (space_of scope name.prefix, scope) x e in
-    let both = and-true (is_element_prefix scope name.prefix) true c.0 in
-    (and-true (not (is_xmlns name.prefix)) (is_known scope name.prefix) both.0).1
+    (and-true (is_element_prefix scope name.prefix) true c.0).0
+
+-- ---- attributes with the prefix of their element, or one other
+
+same_may_stand : (scope : Scope) (own prefix : List ℕ) → bytes_eq prefix own ≡ true → is_element_prefix scope own ≡ true → is_element_prefix scope prefix ≡ true
+same_may_stand scope own prefix e h = let P : List ℕ → Type 0 = λ p. is_element_prefix scope p ≡ true in subst P (sym (same_bytes prefix own e)) h
+
+one_may_stand : (scope : Scope) (own other prefix : List ℕ) → (bytes_eq prefix own || bytes_eq prefix other) ≡ true → is_element_prefix scope own ≡ true → is_element_prefix scope other ≡ true → is_element_prefix scope prefix ≡ true
+one_may_stand scope own other prefix h o p =
+    elim (either (bytes_eq prefix own)) [
+      | inl y ↦ same_may_stand scope own prefix y o
+      | inr n ↦ same_may_stand scope other prefix (rw n at h) p
+    ]
+
+-- a prefix and a local name as those of an attribute that is plain
+abbrev pub is_plain_name : Scope → List ℕ → List ℕ → Bool
+is_plain_name scope prefix local = is_plain scope (record { prefix = prefix; local = local }, [])
+
+prefixed_is_plain : (scope : Scope) (prefix local : List ℕ) → is_filled prefix ≡ true → is_element_prefix scope prefix ≡ true → is_plain_name scope prefix local ≡ true
+prefixed_is_plain scope prefix local filled h =
+    let both = and-true (not (is_xmlns prefix)) (is_known scope prefix) h in
+    rw (not-true (is_xmlns prefix) both.0, both.1, filled) refl
+
+bare_is_plain : (scope : Scope) (local : List ℕ) → not (bytes_eq local (codes "xmlns")) ≡ true → is_plain_name scope [] local ≡ true
+unfolding is_xmlns is_known
+bare_is_plain scope local h = rw (not-true (bytes_eq local (codes "xmlns")) h) refl
+
+name_is_plain : (scope : Scope) (own other prefix local : List ℕ) → is_plain_beside own other (record { prefix = prefix; local = local }) ≡ true → is_element_prefix scope own ≡ true → is_element_prefix scope other ≡ true → is_plain_name scope prefix local ≡ true
+unfolding is_plain_beside
+name_is_plain scope own other [] local h o p = bare_is_plain scope local h
+name_is_plain scope own other (b ∷ bs) local h o p = prefixed_is_plain scope (b ∷ bs) local refl (one_may_stand scope own other (b ∷ bs) h o p)
+
+pub beside_is_plain : (scope : Scope) (own other : List ℕ) (attributes : List (Name × List ℕ)) → list_all (λ a. is_plain_beside own other a.0) attributes ≡ true → is_element_prefix scope own ≡ true → is_element_prefix scope other ≡ true → list_all (is_plain scope) attributes ≡ true
+beside_is_plain scope own other [] h o p = refl
+beside_is_plain scope own other (a ∷ more) h o p =
+    let both = and-true (is_plain_beside own other a.0) (list_all (λ (b : Name × List ℕ). is_plain_beside own other b.0) more) h in
+    and-both (is_plain scope a) (list_all (is_plain scope) more) (name_is_plain scope own other a.0.prefix a.0.local both.0 o p) (beside_is_plain scope own other more both.1 o p)

@@ -3,7 +3,7 @@
 ghost use Rattle.std.specs.Prelude.{◌≡◌, IfOk, OnOk, IsErrOf, Some, None, map};
 ghost use Rattle.redl_tree.specs.Nodes.{element_item, bytes_item};
 ghost use Rattle.redl_tree.specs.View.{item_of, nodes_of};
-ghost use Rattle.redl_markup.specs.Views.{name_view, piece_view};
+ghost use Rattle.redl_markup.specs.Views.{name_view, piece_view, TellsPlain, TailTells};
 ghost use Rattle.redl_markup.specs.Pieces.{start_tag, empty_tag, end_tag, stretch};
 ghost use Rattle.redl_xml.specs.Elements.{plain_tag, placed, nothing_yet};
 ghost use Rattle.redl_xml.specs.Surveys.{survey_of};
@@ -15,7 +15,7 @@ use crate::sizes::Sizes;
 use crate::survey::{OpenTag, Survey};
 use crate::tail::enter;
 use redl_io::Text;
-use redl_markup::{MarkupError, Name, Piece};
+use redl_markup::{MarkupError, Name, Piece, Tail};
 use redl_tree::{Close, Elem, Kind, Node, Space};
 use std::alloc::{AllocError, Global};
 use std::mem;
@@ -88,9 +88,10 @@ impl<'a> Building<'a> {
         }
     }
 
-    fn start(&mut self, alloc: Global, name: Name<'a>, tail: &'a [u8]) -> Result<(), MarkupError>
-        ensures ok { OnOk result (placed (start_tag (name_view name.entry) tail.entry.now) (building_view self.old) ≡ Some (building_view self.new)) }
-        ensures unreadable { IsErrOf result MarkupError.Unreadable → placed (start_tag (name_view name.entry) tail.entry.now) (building_view self.old) ≡ None }
+    fn start(&mut self, alloc: Global, name: Name<'a>, tail: Tail<'a>) -> Result<(), MarkupError>
+        requires { TellsPlain name.prefix.now tail }
+        ensures ok { OnOk result (placed (start_tag (name_view name.entry) tail.entry.bytes.now) (building_view self.old) ≡ Some (building_view self.new)) }
+        ensures unreadable { IsErrOf result MarkupError.Unreadable → placed (start_tag (name_view name.entry) tail.entry.bytes.now) (building_view self.old) ≡ None }
     {
         let entered = enter(&mut self.scopes, alloc, name, tail)?;
         let before = mem::replace(&mut self.kids, Vec::new(alloc));
@@ -99,16 +100,17 @@ impl<'a> Building<'a> {
                 name,
                 declared: entered.declared,
             },
-            tail,
+            tail: tail.bytes,
             space: entered.space,
             before,
         })?;
         Ok(())
     }
 
-    fn empty(&mut self, alloc: Global, name: Name<'a>, tail: &'a [u8]) -> Result<(), MarkupError>
-        ensures ok { OnOk result (placed (empty_tag (name_view name.entry) tail.entry.now) (building_view self.old) ≡ Some (building_view self.new)) }
-        ensures unreadable { IsErrOf result MarkupError.Unreadable → placed (empty_tag (name_view name.entry) tail.entry.now) (building_view self.old) ≡ None }
+    fn empty(&mut self, alloc: Global, name: Name<'a>, tail: Tail<'a>) -> Result<(), MarkupError>
+        requires { TellsPlain name.prefix.now tail }
+        ensures ok { OnOk result (placed (empty_tag (name_view name.entry) tail.entry.bytes.now) (building_view self.old) ≡ Some (building_view self.new)) }
+        ensures unreadable { IsErrOf result MarkupError.Unreadable → placed (empty_tag (name_view name.entry) tail.entry.bytes.now) (building_view self.old) ≡ None }
     {
         let entered = enter(&mut self.scopes, alloc, name, tail)?;
         self.scopes.forget(entered.declared);
@@ -116,7 +118,7 @@ impl<'a> Building<'a> {
             alloc,
             name,
             entered.space,
-            tail,
+            tail.bytes,
             Vec::new(alloc),
             Close::Empty,
         )?;
@@ -164,6 +166,7 @@ impl<'a> Building<'a> {
 
     /// One more piece. `Unreadable` where it can't stand there.
     pub(crate) fn place(&mut self, alloc: Global, piece: Piece<'a>) -> Result<(), MarkupError>
+        requires { TailTells piece }
         ensures ok { OnOk result (placed (piece_view piece.entry) (building_view self.old) ≡ Some (building_view self.new)) }
         ensures unreadable { IsErrOf result MarkupError.Unreadable → placed (piece_view piece.entry) (building_view self.old) ≡ None }
     {

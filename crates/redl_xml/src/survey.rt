@@ -1,7 +1,7 @@
 //! The rest of an element, by the tags of the open elements alone.
 
 ghost use Rattle.std.specs.Prelude.{◌≡◌, OnOk, IsErrOf, Some, None};
-ghost use Rattle.redl_markup.specs.Views.{name_view, piece_view};
+ghost use Rattle.redl_markup.specs.Views.{name_view, piece_view, TellsPlain, TailTells};
 ghost use Rattle.redl_markup.specs.Pieces.{start_tag, empty_tag};
 ghost use Rattle.redl_xml.specs.Surveys.{surveyed, survey_stretched, survey_closed};
 ghost use Rattle.redl_xml.specs.OpenTags.{survey_view};
@@ -9,7 +9,7 @@ ghost use Rattle.redl_xml.specs.OpenTags.{survey_view};
 use crate::scope::Scopes;
 use crate::sizes::Sizes;
 use crate::tail::enter;
-use redl_markup::{MarkupError, Name, Piece};
+use redl_markup::{MarkupError, Name, Piece, Tail};
 use std::alloc::Global;
 
 /// The name of an open element, and how many declarations it has.
@@ -33,10 +33,11 @@ impl<'a> Survey<'a> {
         alloc: Global,
         limit: u32,
         name: Name<'a>,
-        tail: &'a [u8],
+        tail: Tail<'a>,
     ) -> Result<(), MarkupError>
-        ensures ok { OnOk result (surveyed limit (start_tag (name_view name.entry) tail.entry.now) (survey_view self.old) ≡ Some (survey_view self.new)) }
-        ensures unreadable { IsErrOf result MarkupError.Unreadable → surveyed limit (start_tag (name_view name.entry) tail.entry.now) (survey_view self.old) ≡ None }
+        requires { TellsPlain name.prefix.now tail }
+        ensures ok { OnOk result (surveyed limit (start_tag (name_view name.entry) tail.entry.bytes.now) (survey_view self.old) ≡ Some (survey_view self.new)) }
+        ensures unreadable { IsErrOf result MarkupError.Unreadable → surveyed limit (start_tag (name_view name.entry) tail.entry.bytes.now) (survey_view self.old) ≡ None }
     {
         let entered = enter(&mut self.scopes, alloc, name, tail)?;
         self.open.push(OpenTag {
@@ -52,10 +53,11 @@ impl<'a> Survey<'a> {
         alloc: Global,
         limit: u32,
         name: Name<'a>,
-        tail: &'a [u8],
+        tail: Tail<'a>,
     ) -> Result<(), MarkupError>
-        ensures ok { OnOk result (surveyed limit (empty_tag (name_view name.entry) tail.entry.now) (survey_view self.old) ≡ Some (survey_view self.new)) }
-        ensures unreadable { IsErrOf result MarkupError.Unreadable → surveyed limit (empty_tag (name_view name.entry) tail.entry.now) (survey_view self.old) ≡ None }
+        requires { TellsPlain name.prefix.now tail }
+        ensures ok { OnOk result (surveyed limit (empty_tag (name_view name.entry) tail.entry.bytes.now) (survey_view self.old) ≡ Some (survey_view self.new)) }
+        ensures unreadable { IsErrOf result MarkupError.Unreadable → surveyed limit (empty_tag (name_view name.entry) tail.entry.bytes.now) (survey_view self.old) ≡ None }
     {
         let entered = enter(&mut self.scopes, alloc, name, tail)?;
         self.scopes.forget(entered.declared);
@@ -95,6 +97,7 @@ impl<'a> Survey<'a> {
         limit: u32,
         piece: Piece<'a>,
     ) -> Result<(), MarkupError>
+        requires { TailTells piece }
         ensures ok { OnOk result (surveyed limit (piece_view piece.entry) (survey_view self.old) ≡ Some (survey_view self.new)) }
         ensures unreadable { IsErrOf result MarkupError.Unreadable → surveyed limit (piece_view piece.entry) (survey_view self.old) ≡ None }
     {

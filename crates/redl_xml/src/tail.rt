@@ -1,17 +1,17 @@
 //! What the attributes of a start tag declare, and whether their prefixes may be used.
 
-ghost use Rattle.std.specs.Prelude.{◌≡◌, ◌||◌, ◌&&◌, not, true, [], codes, IfOk};
+ghost use Rattle.std.specs.Prelude.{◌≡◌, ◌||◌, [], codes, IfOk};
 ghost use Rattle.std.specs.List.{list_all};
 ghost use Rattle.redl_markup.specs.Reading.{Gives, Finds};
 ghost use Rattle.redl_markup.specs.References.{is_there};
 ghost use Rattle.redl_markup.specs.Decoding.{decoded_value};
 ghost use Rattle.redl_markup.specs.Attributes.{attributes_of};
-ghost use Rattle.redl_markup.specs.Views.{name_view, attribute_view};
+ghost use Rattle.redl_markup.specs.Views.{name_view, attribute_view, TellsPlain};
 ghost use Rattle.redl_xml.specs.Scopes.{space_named, is_xml_namespace, is_xml_prefix, is_xmlns, declared_prefix, may_declare, is_known, is_known_attribute, is_element_prefix};
 ghost use Rattle.redl_xml.specs.Elements.{with_attribute, with_attributes, known, entered, declared_in};
 
 use crate::scope::Scopes;
-use redl_markup::{Attribute, MarkupError, Name, decode_value, next_attribute};
+use redl_markup::{Attribute, MarkupError, Name, Tail, decode_value, next_attribute};
 use redl_tree::Space;
 use std::alloc::{AllocError, Global};
 
@@ -87,6 +87,13 @@ fn is_known<'a>(scopes: &Scopes<'a>, prefix: &'a [u8]) -> bool
     prefix.is_empty() || is_xml_prefix(prefix) || scopes.space(prefix).is_some()
 }
 
+/// Whether an element may have a prefix, so that none of its attributes with that prefix is a declaration.
+fn is_element_prefix<'a>(scopes: &Scopes<'a>, prefix: &'a [u8]) -> bool
+    ensures { result ≡ is_element_prefix scopes.now prefix.now }
+{
+    !is_xmlns(prefix) && is_known(scopes, prefix)
+}
+
 /// Whether an attribute with this name is a declaration, or has a prefix that may be used.
 fn is_known_attribute<'a>(scopes: &Scopes<'a>, name: Name<'a>) -> bool
     ensures { result ≡ (is_there (declared_prefix (name_view name.entry)) || is_known scopes.now (name_view name.entry).prefix) }
@@ -144,36 +151,6 @@ fn are_known<'a>(scopes: &Scopes<'a>, tail: &'a [u8]) -> bool
     true
 }
 
-/// Whether a prefix may be used, where the one of its element may.
-#[tactic(auto, using(crate::proofs::Scoping::same_is_known))]
-fn is_known_beside<'a>(scopes: &Scopes<'a>, own: &'a [u8], prefix: &'a [u8]) -> bool
-    requires { is_known scopes.now own.now ≡ true }
-    ensures { result ≡ is_known scopes.now prefix.now }
-{
-    // Most attributes have the prefix of their element, which is cheaper to compare than to look up.
-    if prefix == own {
-        return true;
-    }
-    is_known(scopes, prefix)
-}
-
-/// Whether no attribute of a tail is a declaration, and all their prefixes may be used, as that of their element may.
-fn are_plain<'a>(scopes: &Scopes<'a>, own: &'a [u8], tail: &'a [u8]) -> bool
-    requires { is_known scopes.now own.now ≡ true }
-    ensures { result ≡ list_all (λ a. not (is_there (declared_prefix a.0)) && is_known scopes.now a.0.prefix) (attributes_of tail.now) }
-{
-    let mut more = tail;
-    while let Some((attribute, rest)) = next_attribute(more) {
-        if declared_prefix(attribute.name).is_some()
-            || !is_known_beside(scopes, own, attribute.name.prefix)
-        {
-            return false;
-        }
-        more = rest;
-    }
-    true
-}
-
 /// The space of an element, whose prefix may be used.
 #[tactic(auto, unfolding(crate::specs::Scopes::is_known, crate::specs::Elements::known))]
 fn element_space<'a>(scopes: &Scopes<'a>, name: Name<'a>) -> Option<Space>
@@ -211,24 +188,26 @@ pub(crate) struct Entered {
 /// Goes into an element: declares what it declares, and gives its space.
 ///
 /// `Unreadable` exactly where a declaration may not stand, or a prefix of the tag may not be used.
-#[tactic(auto, unfolding(crate::specs::Elements::entered), using(crate::proofs::Scoping::plain_entered))]
+#[tactic(auto, unfolding(crate::specs::Elements::entered))]
 pub(crate) fn enter<'a>(
     scopes: &mut Scopes<'a>,
     alloc: Global,
     name: Name<'a>,
-    tail: &'a [u8],
+    tail: Tail<'a>,
 ) -> Result<Entered, MarkupError>
-    ensures read { Finds (λ x. (x.space, scopes.new)) result (entered scopes.old (name_view name.entry) tail.entry.now) }
-    ensures declared { IfOk result (λ x. x.declared ≡ declared_in tail.entry.now) }
+    requires { TellsPlain name.prefix.now tail }
+    ensures read { Finds (λ x. (x.space, scopes.new)) result (entered scopes.old (name_view name.entry) tail.entry.bytes.now) }
+    ensures declared { IfOk result (λ x. x.declared ≡ declared_in tail.entry.bytes.now) }
 {
     if let Some(space) = element_space(scopes, name) {
-        if are_plain(scopes, name.prefix, tail) {
+        // The attributes of most tags declare nothing, which was found when the tag was read.
+        if tail.is_plain && is_element_prefix(scopes, tail.other_prefix) {
             return Ok(Entered { space, declared: 0 });
         }
     }
     let around = scopes.len();
-    declare_attributes(scopes, alloc, tail)?;
-    let space = known_space(scopes, name, tail).ok_or(MarkupError::Unreadable)?;
+    declare_attributes(scopes, alloc, tail.bytes)?;
+    let space = known_space(scopes, name, tail.bytes).ok_or(MarkupError::Unreadable)?;
     Ok(Entered {
         space,
         declared: scopes.len() - around,

@@ -13,5 +13,5 @@ pub returns-clause-ok : goal.returns-clause-ok
 returns-clause-ok c =
     let old = c.args.self.now in
     let name = name_view c.args.name in
-    let made = c.in_ok-node.ensures ∙ ap (λ (items : List Node). element_item (plain_tag name c.in_ok-entered.entered.space c.args.tail.now Empty) (nodes_of items)) c.new.ensures.items in
-    empty_at (building_view old) name c.args.tail.now (c.in_ok-entered.entered.space, c.enter.new.scopes) _ c.forget.new.self c.in_ok-entered.ensures.read (pushed _ _ _ _ c.in_ok-push.ensures.items made) (c.forget.ensures ∙ ap (λ (n : ℕ). drop n c.enter.new.scopes) c.in_ok-entered.ensures.declared)
+    let made = c.in_ok-node.ensures ∙ ap (λ (items : List Node). element_item (plain_tag name c.in_ok-entered.entered.space c.args.tail.bytes.now Empty) (nodes_of items)) c.new.ensures.items in
+    empty_at (building_view old) name c.args.tail.bytes.now (c.in_ok-entered.entered.space, c.enter.new.scopes) _ c.forget.new.self c.in_ok-entered.ensures.read (pushed _ _ _ _ c.in_ok-push.ensures.items made) (c.forget.ensures ∙ ap (λ (n : ℕ). drop n c.enter.new.scopes) c.in_ok-entered.ensures.declared)

@@ -9,4 +9,4 @@ returns-clause-ok c =
     let old = c.args.self.now in
     let len : c.len.result + 1 ≡ length (tags old.open.items) + 1 = omega (arith, c.len.ensures, old.open.ok.0, length-tags old.open.items) in
     let deepest = c.add_element.ensures.deepest ∙ ap (max old.sizes.deepest) len in
-    empty_at c.args.limit (survey_view old) (name_view c.args.name) c.args.tail.now (c.in_ok-entered.entered.space, c.enter.new.scopes) _ _ c.forget.new.self c.in_ok-entered.ensures.read deepest c.add_element.ensures.nodes (c.forget.ensures ∙ ap (λ (n : ℕ). drop n c.enter.new.scopes) c.in_ok-entered.ensures.declared)
+    empty_at c.args.limit (survey_view old) (name_view c.args.name) c.args.tail.bytes.now (c.in_ok-entered.entered.space, c.enter.new.scopes) _ _ c.forget.new.self c.in_ok-entered.ensures.read deepest c.add_element.ensures.nodes (c.forget.ensures ∙ ap (λ (n : ℕ). drop n c.enter.new.scopes) c.in_ok-entered.ensures.declared)
