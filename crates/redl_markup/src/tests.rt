@@ -9,13 +9,17 @@ fn name<'a>(prefix: &'a str, local: &'a str) -> Name<'a> {
     }
 }
 
-/// A tail whose attributes have the prefix of their element or none.
-fn plain<'a>(tail: &'a str) -> Tail<'a> {
+fn told<'a>(tail: &'a str, other_prefix: &'a str, is_plain: bool) -> Tail<'a> {
     Tail {
         bytes: tail.as_bytes(),
-        other_prefix: b"",
-        is_plain: true,
+        other_prefix: other_prefix.as_bytes(),
+        is_plain,
     }
+}
+
+/// A tail whose attributes have the prefix of their element or none.
+fn plain(tail: &str) -> Tail<'_> {
+    told(tail, "", true)
 }
 
 fn start<'a>(prefix: &'a str, local: &'a str, tail: &'a str) -> Piece<'a> {
@@ -60,7 +64,11 @@ fn tags_are_read_with_what_is_left(rt: HostRuntime) {
             empty("\u{10000}", "\u{3001}", ""),
             "",
         ),
-        ("<a x='1' X='3'/>", empty("", "a", " x='1' X='3'"), ""),
+        (
+            "<a x='1' p:x='2' X='3'/>",
+            Piece::Empty(name("", "a"), told(" x='1' p:x='2' X='3'", "p", true)),
+            "",
+        ),
     ] {
         let piece = next_piece(rt.alloc(), text.as_bytes(), Place::InElement);
         assert_eq!(rt; piece, Ok((want, left.as_bytes())), "{text}");
@@ -69,30 +77,23 @@ fn tags_are_read_with_what_is_left(rt: HostRuntime) {
 
 #[test]
 fn tails_tell_which_prefixes_stand_in_them(rt: HostRuntime) {
-    for (tail, other_prefix, is_plain) in [
-        (" w:x='1' y='2' w:z='3'", "", true),
-        (" x='1' p:x='2' X='3' p:y='4' w:x='5'", "p", true),
-        (" xml:space='preserve'", "xml", true),
-        (" p:x='1' q:x='2'", "p", false),
-        (" xmlns='a'", "", false),
-        (" xmlns:w='a'", "xmlns", true),
-        (" w:xmlns='1'", "", true),
+    for (text, tail, other_prefix, is_plain) in [
+        ("<w:p w:x='1' y='2'>", " w:x='1' y='2'", "", true),
+        (
+            "<w:p x='' p:x='' p:y='' w:x=''>",
+            " x='' p:x='' p:y='' w:x=''",
+            "p",
+            true,
+        ),
+        ("<w:p xml:space='x'>", " xml:space='x'", "xml", true),
+        ("<w:p p:x='1' q:x='2'>", " p:x='1' q:x='2'", "p", false),
+        ("<w:p xmlns='a'>", " xmlns='a'", "", false),
+        ("<w:p xmlns:w='a'>", " xmlns:w='a'", "xmlns", true),
+        ("<w:p w:xmlns='1'>", " w:xmlns='1'", "", true),
     ] {
-        let want = Tail {
-            bytes: tail.as_bytes(),
-            other_prefix: other_prefix.as_bytes(),
-            is_plain,
-        };
-        let mut text = b"<w:p".to_vec(rt.alloc()).expect(&rt, tail);
-        text.extend_from_slice(tail.as_bytes()).expect(&rt, tail);
-        text.push(b'>').expect(&rt, tail);
-        let piece = next_piece(rt.alloc(), &text, Place::InElement);
-        let rest = b"".as_slice();
-        assert_eq!(rt;
-            piece,
-            Ok((Piece::Start(name("w", "p"), want), rest)),
-            "{tail}"
-        );
+        let piece = next_piece(rt.alloc(), text.as_bytes(), Place::InElement);
+        let want = Piece::Start(name("w", "p"), told(tail, other_prefix, is_plain));
+        assert_eq!(rt; piece, Ok((want, b"".as_slice())), "{text}");
     }
 }
 
