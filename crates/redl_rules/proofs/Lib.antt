@@ -3,4 +3,5 @@ pub mod EndLaws
 pub mod KeptLaws
 pub mod RuleLaws
 pub mod StoryLaws
+pub mod DeclarationLaws
 mod Rows
