@@ -4,4 +4,5 @@ pub mod KeptLaws
 pub mod RuleLaws
 pub mod StoryLaws
 pub mod DeclarationLaws
+pub mod ChangeLaws
 mod Rows
