@@ -1,8 +1,9 @@
 -- The longest front that passes a test, and what stands behind it.
 use Rattle.std.proofs.Common.{◌≡◌, ℕ, zero, suc, ◌<◌, ◌≤◌, Bool, true, false, cond, List, [], ◌∷◌, ◌++◌, length, get_or, take, drop, refl, ap, ◌⊎◌, inl, inr, arith}
-use Rattle.std.specs.Prelude.{not, ◌&&◌, ◌==◌, Option, Some, None}
+use Rattle.std.specs.Prelude.{not, ◌&&◌, ◌==◌, Option, Some, None, is_some}
 use Rattle.std.specs.Option.{unwrap_or}
 use Rattle.std.specs.List.{list_all}
+use Rattle.std.proofs.lemmas.List.Folds.{list_all_at}
 use Rattle.bstr.specs.Find.{IsFirstByte, is_byte}
 use Rattle.redl_markup.specs.Lists.{front, after, is_other}
 
@@ -109,3 +110,16 @@ front_found byte bs r h = let f = found byte bs r h in front_at (is_other byte) 
 
 pub after_found : (byte : ℕ) (bs : List ℕ) (r : Option ℕ) → IsFirstByte (is_byte byte) bs r → drop (unwrap_or r (length bs)) bs ≡ after (is_other byte) bs
 after_found byte bs r h = let f = found byte bs r h in after_at (is_other byte) bs _ f.within f.before f.there
+
+-- a list whose elements pass, each by its index
+each_passes : (p : ℕ → Bool) (bs : List ℕ) → ((k : ℕ) → k < length bs → p (get_or bs k 0) ≡ true) → list_all p bs ≡ true
+each_passes p [] all = refl
+each_passes p (b ∷ bs) all = and-both (p b) (list_all p bs) (all 0 (omega arith)) (each_passes p bs (λ k lt. all (suc k) (omega arith)))
+
+-- a search finds the byte where it stands
+pub finds : (byte : ℕ) (bs : List ℕ) (r : Option ℕ) → IsFirstByte (is_byte byte) bs r → is_some r ≡ not (list_all (is_other byte) bs)
+finds byte bs None h = let f = found byte bs None h in rw (each_passes (is_other byte) bs f.before) refl
+finds byte bs (Some n) h =
+    let f = found byte bs (Some n) h in
+    let within : n < length bs = omega (arith, h.0.high) in
+    rw (list_all_at (is_other byte) bs n 0 within (f.there within)) refl

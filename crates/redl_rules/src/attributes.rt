@@ -1,9 +1,12 @@
 //! What the rules ask of a tag's attributes.
 
-ghost use Rattle.std.specs.Prelude.{◌≡◌};
+ghost use Rattle.std.specs.Prelude.{◌≡◌, not};
+ghost use Rattle.std.specs.List.{list_all};
+ghost use Rattle.redl_markup.specs.Lists.{is_other};
 ghost use Rattle.redl_markup.specs.Views.{attribute_view};
 ghost use Rattle.redl_rules.specs.Attributes.{has_id as has_id_tail, is_declaration, declares};
 
+use bstr::ByteSlice;
 use redl_io::Text;
 use redl_markup::{Attribute, next_attribute};
 use redl_stamp::has_attribute;
@@ -16,10 +19,19 @@ pub fn has_id(tail: &Text) -> bool
 }
 
 /// Whether a tag declares a namespace.
+#[tactic(auto, using(crate::proofs::DeclarationLaws::no_declaration))]
 pub fn declares_names(tail: &Text) -> bool
     ensures { result ≡ declares tail.now }
 {
-    has_declaration(tail.as_bytes())
+    let bytes = tail.as_bytes();
+    has_x(bytes) && has_declaration(bytes)
+}
+
+/// Whether there is an `x` in a tail. Most have none, and so no `xmlns`: their attributes aren't read.
+fn has_x(tail: &[u8]) -> bool
+    ensures { result ≡ not (list_all (is_other 120) tail.now) }
+{
+    tail.find_byte(b'x').is_some()
 }
 
 fn has_declaration(tail: &[u8]) -> bool

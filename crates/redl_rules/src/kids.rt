@@ -100,7 +100,17 @@ pub fn is_only_last(nodes: &[Node], name: &[u8]) -> bool
 }
 
 /// Whether no element comes after a change of properties. `around` is what is round these nodes.
+#[tactic(auto, using(crate::proofs::ChangeLaws::no_change_in_content))]
 pub fn changes_are_last(nodes: &[Node], around: Around) -> bool
+    ensures { (above : List Tag) → around ≡ around_of above
+        → result ≡ only_last (λ kid. is_change (role above kid)) (nodes_of nodes.now) }
+{
+    // A change stands in properties alone.
+    !around.quiet || changes_end_properties(nodes, around)
+}
+
+/// The same, by the role of each element.
+fn changes_end_properties(nodes: &[Node], around: Around) -> bool
     ensures { (above : List Tag) → around ≡ around_of above
         → result ≡ only_last (λ kid. is_change (role above kid)) (nodes_of nodes.now) }
 {

@@ -6,7 +6,7 @@ use Rattle.redl_tree.specs.Kinds.{is_change}
 use Rattle.redl_tree.specs.Places.{role}
 use Rattle.redl_tree.specs.Sound.{implies, only_last}
 use Rattle.redl_tree.specs.Arounds.{around_of}
-use Rattle.redl_rules.proofs.kids.changes_are_last.Given as goal
+use Rattle.redl_rules.proofs.kids.changes_end_properties.Given as goal
 
 abbrev pub invariant-loop-node : goal.invariant-loop-node
 invariant-loop-node l =
