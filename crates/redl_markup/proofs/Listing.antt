@@ -61,9 +61,9 @@ tail_lists tail h = ap attributes_of h.whole ∙ lists_all h.attributes h.space 
 
 -- ---- the names that were collected
 
-names_pass : (p : Name → Bool) (attrs : List Attribute) → list_all p (map (λ (a : Attribute). a.name) attrs) ≡ list_all (λ a. p a.0) (map named_value attrs)
-names_pass p [] = refl
-names_pass p (a ∷ attrs) = ap (λ (b : Bool). p a.name && b) (names_pass p attrs)
+attributes_pass : (p : Name → Bool) (attrs : List Attribute) → list_all p (map (λ (a : Attribute). a.name) attrs) ≡ list_all (λ a. p a.0) (map named_value attrs)
+attributes_pass p [] = refl
+attributes_pass p (a ∷ attrs) = ap (λ (b : Bool). p a.name && b) (attributes_pass p attrs)
 
 -- A test that all names of a tail pass is one that all of its attributes pass.
 pub names_listed : (p : Name → Bool) (bs : List ℕ) (x : Tail) → attributes_at bs ≡ Some x → list_all p x.0 ≡ list_all (λ a. p a.0) (attributes_of (before bs x.1))
@@ -74,7 +74,7 @@ names_listed p bs x e =
     let whole : bs ≡ tail ++ x.1 = t.whole ∙ sym (attributes_then-append t.attributes t.space x.1) in
     let cut : before bs x.1 ≡ tail = ap (λ (z : List ℕ). before z x.1) whole ∙ before-append tail x.1 in
     let listed = ap attributes_of cut ∙ lists_all t.attributes t.space t.each t.is_space in
-    ap (list_all p) t.names ∙ names_pass p t.attributes ∙ sym (ap (list_all (λ (a : Name × List ℕ). p a.0)) listed)
+    ap (list_all p) t.names ∙ attributes_pass p t.attributes ∙ sym (ap (list_all (λ (a : Name × List ℕ). p a.0)) listed)
 
 -- ---- the bytes of names
 
