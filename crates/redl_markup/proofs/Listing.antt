@@ -1,21 +1,23 @@
 -- The list of a tail's attributes.
-use Rattle.std.proofs.Common.{◌≡◌, ℕ, inl, inr, zero, suc, ◌<◌, Bool, List, [], ◌∷◌, ◌++◌, length, map, Option, Some, None, refl, sym, ap, ◌∙◌, arith, true}
+use Rattle.std.proofs.Common.{◌≡◌, ℕ, inl, inr, zero, suc, ◌<◌, Bool, cond, List, [], ◌∷◌, ◌++◌, length, map, Option, Some, None, refl, sym, ap, ◌∙◌, arith, true}
 use Rattle.std.specs.Prelude.{IfSome, IsNone, ◌&&◌}
-use Rattle.std.specs.List.{list_all, AllByRecursion}
+use Rattle.std.specs.List.{AllByRecursion, list_all}
 use Rattle.redl_markup.specs.Reading.{Gives}
 use Rattle.std.proofs.lemmas.List.{append-nil}
 use Rattle.redl_markup.specs.Characters.{is_space}
 use Rattle.redl_markup.specs.Lists.{front, after, before, is_filled}
 use Rattle.redl_markup.specs.Names.{Name, name_text}
-use Rattle.std.proofs.lemmas.List.Folds.{list_all-append}
 use Rattle.redl_markup.specs.Tails.{IsSpace, Attribute, attribute_then, attributes_then, IsAttribute, IsTail, named_value}
 use Rattle.redl_markup.specs.ScanNames.{name_at, char_at, word_at}
 use Rattle.redl_markup.specs.ScanTags.{attribute_at, attribute_in, Tail, attributes_at}
-use Rattle.redl_markup.specs.Attributes.{attributes_by, attributes_from, attributes_of}
+use Rattle.redl_markup.specs.Attributes.{attributes_by, attributes_from, attributes_of, is_other_prefix, other_prefix}
+use Rattle.redl_markup.specs.Views.{name_view}
+use Rattle.redl_markup.specs.declared.name.Name as code
 use Rattle.redl_markup.proofs.Runs.{after_again, either, and-true, and-both}
 use Rattle.redl_markup.proofs.Words.{before-append}
 use Rattle.redl_markup.proofs.Attributes.{first_again, first_shorter, tail_takes_turns, first_takes}
 use Rattle.redl_markup.proofs.Tags.{attributes_then-append}
+use Rattle.std.proofs.lemmas.List.Folds.{list_all-append}
 
 -- any count above what is left gives the same list
 counts_alike : (n m : ℕ) (tail : List ℕ) → length tail < n → length tail < m → attributes_from n tail ≡ attributes_from m tail
@@ -61,20 +63,38 @@ tail_lists tail h = ap attributes_of h.whole ∙ lists_all h.attributes h.space 
 
 -- ---- the names that were collected
 
-attributes_pass : (p : Name → Bool) (attrs : List Attribute) → list_all p (map (λ (a : Attribute). a.name) attrs) ≡ list_all (λ a. p a.0) (map named_value attrs)
-attributes_pass p [] = refl
-attributes_pass p (a ∷ attrs) = ap (λ (b : Bool). p a.name && b) (attributes_pass p attrs)
+names_of : (attrs : List Attribute) → map (λ (a : Attribute). a.name) attrs ≡ map (λ (a : Name × List ℕ). a.0) (map named_value attrs)
+names_of [] = refl
+names_of (a ∷ attrs) = ap (λ (ns : List Name). a.name ∷ ns) (names_of attrs)
 
--- A test that all names of a tail pass is one that all of its attributes pass.
-pub names_listed : (p : Name → Bool) (bs : List ℕ) (x : Tail) → attributes_at bs ≡ Some x → list_all p x.0 ≡ list_all (λ a. p a.0) (attributes_of (before bs x.1))
+-- They are those of the tail's attributes.
+pub names_listed : (bs : List ℕ) (x : Tail) → attributes_at bs ≡ Some x → x.0 ≡ map (λ (a : Name × List ℕ). a.0) (attributes_of (before bs x.1))
 unfolding attributes_at
-names_listed p bs x e =
+names_listed bs x e =
     let t = tail_takes_turns (suc (length bs)) ([], bs) x e in
     let tail : List ℕ = attributes_then t.attributes t.space in
     let whole : bs ≡ tail ++ x.1 = t.whole ∙ sym (attributes_then-append t.attributes t.space x.1) in
     let cut : before bs x.1 ≡ tail = ap (λ (z : List ℕ). before z x.1) whole ∙ before-append tail x.1 in
     let listed = ap attributes_of cut ∙ lists_all t.attributes t.space t.each t.is_space in
-    ap (list_all p) t.names ∙ attributes_pass p t.attributes ∙ sym (ap (list_all (λ (a : Name × List ℕ). p a.0)) listed)
+    t.names ∙ names_of t.attributes ∙ sym (ap (map (λ (a : Name × List ℕ). a.0)) listed)
+
+-- the first other prefix is the first name's, or that of the rest
+pub other_step : (own : List ℕ) (n : code.Name) (rest left : List code.Name) (t : Bool) → left ≡ n ∷ rest → is_other_prefix own n.prefix.now ≡ t → other_prefix own (map name_view left) ≡ cond t n.prefix.now (other_prefix own (map name_view rest))
+other_step own n rest left t e h = rw (e, h) refl
+
+-- ---- what the code answers
+
+pub is_first : {X : Type 0} (view : X → (Name × List ℕ) × List ℕ) (tail : List ℕ) (r : Option X) → Gives view r (attribute_in tail) → IfSome r (λ x. attributes_of tail ≡ (view x).0 ∷ attributes_of (view x).1)
+is_first view tail None e = tt
+is_first view tail (Some x) e = lists_more tail (view x) e
+
+pub is_last : {X : Type 0} (view : X → (Name × List ℕ) × List ℕ) (tail : List ℕ) (r : Option X) → Gives view r (attribute_in tail) → IsNone r → attributes_of tail ≡ []
+is_last view tail None e h = lists_none tail e
+is_last view tail (Some x) e h = absurd cc
+
+pub is_shorter : {X : Type 0} (view : X → (Name × List ℕ) × List ℕ) (tail : List ℕ) (r : Option X) → Gives view r (attribute_in tail) → IfSome r (λ x. length (view x).1 < length tail)
+is_shorter view tail None e = tt
+is_shorter view tail (Some x) e = first_shorter tail (view x) e
 
 -- ---- the bytes of names
 

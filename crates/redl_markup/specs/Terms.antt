@@ -4,7 +4,7 @@ pub use Rattle.redl_markup.specs.Names.{may_start, may_follow, IsWord, Name, nam
 pub use Rattle.redl_markup.specs.References.{named_at, number_at, reference_at, has_references}
 pub use Rattle.redl_markup.specs.Tails.{IsSpace, Attribute, attribute_then, IsQuote, IsAttribute}
 pub use Rattle.redl_markup.specs.Tails.{attributes_then, IsTail, named_value}
-pub use Rattle.redl_markup.specs.Attributes.{attributes_of, is_plain_beside}
+pub use Rattle.redl_markup.specs.Attributes.{attributes_of, is_other_prefix, other_prefix, is_plain_beside}
 pub use Rattle.redl_markup.specs.Decoding.{decoded_value}
 pub use Rattle.redl_markup.specs.Stretches.{is_run, IsRun, is_comment, is_xml, is_apart, IsInstruction}
 pub use Rattle.redl_markup.specs.Stretches.{Item, comment, instruction, cdata, item_then, IsItem, items_then}

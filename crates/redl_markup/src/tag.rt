@@ -2,7 +2,7 @@
 
 ghost use Rattle.std.specs.Prelude.{◌≡◌, codes, map, IfOk, IfSome};
 ghost use Rattle.std.specs.List.{list_all};
-ghost use Rattle.redl_markup.specs.Attributes.{is_plain_beside};
+ghost use Rattle.redl_markup.specs.Attributes.{is_other_prefix, other_prefix, is_plain_beside};
 ghost use Rattle.redl_markup.specs.Reading.{Gives, Finds};
 ghost use Rattle.redl_markup.specs.ScanTags.{ends_tag, attributes_at, tail_at, tag_at, end_tag_at};
 ghost use Rattle.redl_markup.specs.Views.{name_view, piece_view, TellsPlain, TailTells};
@@ -42,11 +42,21 @@ fn attributes(alloc: Global, bytes: &[u8]) -> Result<(Vec<Name<'_>>, &[u8]), Mar
     }
 }
 
+#[tactic(auto, unfolding(crate::specs::Attributes::is_other_prefix))]
+fn is_other_prefix(own: &[u8], prefix: &[u8]) -> bool
+    ensures { result ≡ is_other_prefix own.now prefix.now }
+{
+    !prefix.is_empty() && prefix != own
+}
+
 /// The first prefix that isn't the one of the element. Empty where there is none.
-fn other_prefix<'a>(own: &[u8], names: &[Name<'a>]) -> &'a [u8] {
-    for name in names {
-        if !name.prefix.is_empty() && name.prefix != own {
-            return name.prefix;
+fn other_prefix<'a>(own: &[u8], names: &[Name<'a>]) -> &'a [u8]
+    ensures { result.now ≡ other_prefix own.now (map name_view names.now) }
+{
+    let mut left = names.iter();
+    while let Some(first) = left.next() {
+        if is_other_prefix(own, first.prefix) {
+            return first.prefix;
         }
     }
     b""

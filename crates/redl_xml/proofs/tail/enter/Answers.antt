@@ -10,7 +10,7 @@ returns-then-is_element_prefix-clause-read c =
     let tail = c.args.tail.bytes.now in
     let own = own_is_known scope (name_view c.args.name) (c.in-Some.space, scope) c.in-Some.ensures in
     let other = sym c.is_element_prefix.ensures ∙ c.if-is_element_prefix.true in
-    let plain = beside_is_plain scope c.args.name.prefix.now c.args.tail.other_prefix.now (attributes_of tail) (sym c.requires ∙ c.if-tail.true) own other in
+    let plain = beside_is_plain scope c.args.name.prefix.now c.args.tail.other_prefix.now (attributes_of tail) (sym c.requires.plain ∙ c.if-tail.true) own other in
     plain_entered scope (name_view c.args.name) tail plain ∙ c.in-Some.ensures
 
 pub returns-then-is_element_prefix-clause-declared : goal.returns-then-is_element_prefix-clause-declared
@@ -19,7 +19,7 @@ returns-then-is_element_prefix-clause-declared c =
     let tail = c.args.tail.bytes.now in
     let own = own_is_known scope (name_view c.args.name) (c.in-Some.space, scope) c.in-Some.ensures in
     let other = sym c.is_element_prefix.ensures ∙ c.if-is_element_prefix.true in
-    plain_declares_nothing scope tail (beside_is_plain scope c.args.name.prefix.now c.args.tail.other_prefix.now (attributes_of tail) (sym c.requires ∙ c.if-tail.true) own other)
+    plain_declares_nothing scope tail (beside_is_plain scope c.args.name.prefix.now c.args.tail.other_prefix.now (attributes_of tail) (sym c.requires.plain ∙ c.if-tail.true) own other)
 
 pub overflow_sub-result : goal.overflow_sub-result
 overflow_sub-result c =
