@@ -82,20 +82,6 @@ names_listed bs x e =
 pub other_step : (own : List ℕ) (n : code.Name) (rest left : List code.Name) (t : Bool) → left ≡ n ∷ rest → is_other_prefix own n.prefix.now ≡ t → other_prefix own (map name_view left) ≡ cond t n.prefix.now (other_prefix own (map name_view rest))
 other_step own n rest left t e h = rw (e, h) refl
 
--- ---- what the code answers
-
-pub is_first : {X : Type 0} (view : X → (Name × List ℕ) × List ℕ) (tail : List ℕ) (r : Option X) → Gives view r (attribute_in tail) → IfSome r (λ x. attributes_of tail ≡ (view x).0 ∷ attributes_of (view x).1)
-is_first view tail None e = tt
-is_first view tail (Some x) e = lists_more tail (view x) e
-
-pub is_last : {X : Type 0} (view : X → (Name × List ℕ) × List ℕ) (tail : List ℕ) (r : Option X) → Gives view r (attribute_in tail) → IsNone r → attributes_of tail ≡ []
-is_last view tail None e h = lists_none tail e
-is_last view tail (Some x) e h = absurd cc
-
-pub is_shorter : {X : Type 0} (view : X → (Name × List ℕ) × List ℕ) (tail : List ℕ) (r : Option X) → Gives view r (attribute_in tail) → IfSome r (λ x. length (view x).1 < length tail)
-is_shorter view tail None e = tt
-is_shorter view tail (Some x) e = first_shorter tail (view x) e
-
 -- ---- the bytes of names
 
 parts_pass : (p : ℕ → Bool) (xs ys : List ℕ) → list_all p (xs ++ ys) ≡ true → (list_all p xs ≡ true) × (list_all p ys ≡ true)
