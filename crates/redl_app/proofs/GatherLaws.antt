@@ -1,7 +1,7 @@
 -- The entries of journals, gathered one journal after the other.
 use Rattle.std.proofs.Common.{◌≡◌, ◌-◌, ℕ, List, [], ◌∷◌, ◌++◌, Option, None, Some, IfSome, Result, Ok, Err, Contains, refl, sym, ap, ◌∙◌, append_assoc, append-nil, subst}
 use Rattle.redl_app.proofs.ReadLaws.{reads_stops, reads_when, reads_from, both}
-use Rattle.redl_app.specs.Outcome.{Reader, IsReader, Subject, journal_at, gathered, decidable, decided, written_of, says_of, known_entries, unknown_entries, ◌>>=◌}
+use Rattle.redl_app.specs.Outcome.{Reader, IsReader, Subject, journal_at, gathered, decided, says_of, known_entries, unknown_entries, ◌>>=◌}
 use Rattle.redl_app.specs.Reading.{ReadsFiles}
 use Rattle.redl_lines.specs.Refusals.{Refusal}
 use Rattle.redl_app.specs.Prepared.{output_text, writing_view}
@@ -74,10 +74,3 @@ pub view_decided : (prepared : Prepared) (nodes labelled : Nodes) (count : ℕ) 
     → output_text prepared.output ≡ text (pass_package (says_of (known_entries count entries) count) labelled) → prepared.unknown ≡ unknown_entries count entries
     → labelled ≡ numbered_package nodes → count ≡ package_revisions nodes → writing_view prepared ≡ decided entries nodes
 view_decided prepared nodes labelled count entries passed unknown of_nodes counted = rw (passed, unknown, of_nodes, counted) refl
-
--- what is written of a package whose revisions can be decided
-pub when_decidable : (told : Option Files) (journals : List (List ℕ)) (whole : List ℕ) (nodes : Nodes)
-    → ((reader : Reader) → IsReader reader → decidable nodes ≡ Ok nodes)
-    → IfSome told (λ files. (reader : Reader) → IsReader reader → decidable nodes >>= written_of reader files journals whole ≡ written_of reader files journals whole nodes)
-when_decidable None journals whole nodes is = tt
-when_decidable (Some files) journals whole nodes is = λ reader is_reader. ap (λ made. made >>= written_of reader files journals whole) (is reader is_reader)

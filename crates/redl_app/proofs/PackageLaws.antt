@@ -3,7 +3,7 @@ use Rattle.std.proofs.Common.{◌≡◌, inl, inr, take, length-take, ◌<◌, �
 use Rattle.std.proofs.lemmas.List.{take_all}
 use Rattle.std.proofs.lemmas.Bool.{cases_lt, lt-ltb, le-ltb}
 use Rattle.redl_app.proofs.JournalLaws.{if_true, if_false}
-use Rattle.redl_app.specs.Outcome.{Reader, IsReader, IsTreeOf, limited, limited_tree, tree_in, package_in, shaped, sound, built, ◌>>=◌}
+use Rattle.redl_app.specs.Outcome.{Reader, IsReader, IsTreeOf, limited, limited_tree, tree_in, package_in, shaped, sound, ◌>>=◌}
 use Rattle.redl_app.specs.Prepared.{made_of}
 use Rattle.redl_lines.specs.Refusals.{refusal_view}
 use Rattle.redl_lines.specs.Causes.{xml_refusal}
@@ -20,7 +20,7 @@ use Rattle.redl_xml.specs.Shapes.{depth_of}
 use Rattle.redl_xml.specs.Readings.{IsReading, HasReading, HasNoReading, HaveLegalTails}
 use Rattle.redl_xml.specs.declared.xml_error.XmlError.{XmlError}
 use Rattle.redl_xml.specs.declared.xml_error.XmlError.TheVariants as xml
-use Rattle.redl_xml.specs.declared.TheConstants.{DEPTH_LIMIT, NODE_LIMIT}
+use Rattle.redl_io.specs.Limits.{depth as depth_limit, nodes as node_limit}
 
 -- ---- what a reader reads
 
@@ -40,18 +40,18 @@ reads_no_tree reader text is none = no_tree_by text (reader.tree text) (is.trees
 
 -- ---- the tree of a text within the limits
 
-limited_ok : (nodes : Nodes) → depth_of nodes ≤ DEPTH_LIMIT → count nodes ≤ NODE_LIMIT → limited nodes ≡ Ok nodes
+limited_ok : (nodes : Nodes) → depth_of nodes ≤ depth_limit → count nodes ≤ node_limit → limited nodes ≡ Ok nodes
 limited_ok nodes shallow few =
-    if_false (nat_lt DEPTH_LIMIT (depth_of nodes)) _ _ (le-ltb DEPTH_LIMIT (depth_of nodes) shallow)
-    ∙ if_false (nat_lt NODE_LIMIT (count nodes)) _ _ (le-ltb NODE_LIMIT (count nodes) few)
+    if_false (nat_lt depth_limit (depth_of nodes)) _ _ (le-ltb depth_limit (depth_of nodes) shallow)
+    ∙ if_false (nat_lt node_limit (count nodes)) _ _ (le-ltb node_limit (count nodes) few)
 
-limited_depth : (nodes : Nodes) → DEPTH_LIMIT < depth_of nodes → limited nodes ≡ Err (over Depth)
-limited_depth nodes deep = if_true (nat_lt DEPTH_LIMIT (depth_of nodes)) _ _ (lt-ltb DEPTH_LIMIT (depth_of nodes) deep)
+limited_depth : (nodes : Nodes) → depth_limit < depth_of nodes → limited nodes ≡ Err (over Depth)
+limited_depth nodes deep = if_true (nat_lt depth_limit (depth_of nodes)) _ _ (lt-ltb depth_limit (depth_of nodes) deep)
 
-limited_nodes : (nodes : Nodes) → depth_of nodes ≤ DEPTH_LIMIT → NODE_LIMIT < count nodes → limited nodes ≡ Err (over TooManyNodes)
+limited_nodes : (nodes : Nodes) → depth_of nodes ≤ depth_limit → node_limit < count nodes → limited nodes ≡ Err (over TooManyNodes)
 limited_nodes nodes shallow many =
-    if_false (nat_lt DEPTH_LIMIT (depth_of nodes)) _ _ (le-ltb DEPTH_LIMIT (depth_of nodes) shallow)
-    ∙ if_true (nat_lt NODE_LIMIT (count nodes)) _ _ (lt-ltb NODE_LIMIT (count nodes) many)
+    if_false (nat_lt depth_limit (depth_of nodes)) _ _ (le-ltb depth_limit (depth_of nodes) shallow)
+    ∙ if_true (nat_lt node_limit (count nodes)) _ _ (lt-ltb node_limit (count nodes) many)
 
 pub tree_too_long : (reader : Reader) (limit : ℕ) (text : List ℕ) → limit < length text → tree_in reader limit text ≡ Err (over PackageBytes)
 tree_too_long reader limit text longer = if_true (nat_lt limit (length text)) _ _ (lt-ltb limit (length text) longer)
@@ -62,7 +62,7 @@ tree_within reader limit text read within is =
     if_false (nat_lt limit (length text)) _ _ (le-ltb limit (length text) within) ∙ ap limited_tree is
 
 pub tree_read : (reader : Reader) (limit : ℕ) (text : List ℕ) (nodes : Nodes) → IsReader reader → length text ≤ limit → IsReading text nodes
-    → depth_of nodes ≤ DEPTH_LIMIT → count nodes ≤ NODE_LIMIT → tree_in reader limit text ≡ Ok nodes
+    → depth_of nodes ≤ depth_limit → count nodes ≤ node_limit → tree_in reader limit text ≡ Ok nodes
 tree_read reader limit text nodes is within found shallow few =
     tree_within reader limit text (Some nodes) within (reads_tree reader text nodes is found) ∙ limited_ok nodes shallow few
 
@@ -71,20 +71,20 @@ pub tree_unreadable : (reader : Reader) (limit : ℕ) (text : List ℕ) → IsRe
 tree_unreadable reader limit text is within none = tree_within reader limit text None within (reads_no_tree reader text is none)
 
 pub tree_too_deep : (reader : Reader) (limit : ℕ) (text : List ℕ) → IsReader reader → length text ≤ limit
-    → HasReading text (λ nodes. DEPTH_LIMIT < depth_of nodes) → tree_in reader limit text ≡ Err (over Depth)
+    → HasReading text (λ nodes. depth_limit < depth_of nodes) → tree_in reader limit text ≡ Err (over Depth)
 tree_too_deep reader limit text is within found =
     tree_within reader limit text (Some found.nodes) within (reads_tree reader text found.nodes is found.reading) ∙ limited_depth found.nodes found.fits
 
 pub tree_too_large : (reader : Reader) (limit : ℕ) (text : List ℕ) → IsReader reader → length text ≤ limit
-    → HasReading text (λ nodes. (depth_of nodes ≤ DEPTH_LIMIT) × (NODE_LIMIT < count nodes)) → tree_in reader limit text ≡ Err (over TooManyNodes)
+    → HasReading text (λ nodes. (depth_of nodes ≤ depth_limit) × (node_limit < count nodes)) → tree_in reader limit text ≡ Err (over TooManyNodes)
 tree_too_large reader limit text is within found =
     tree_within reader limit text (Some found.nodes) within (reads_tree reader text found.nodes is found.reading) ∙ limited_nodes found.nodes found.fits.0 found.fits.1
 
 -- why a text was not read is why it has no tree within the limits
 pub tree_refused : {X : Type 0} (reader : Reader) (limit : ℕ) (text : List ℕ) (error : XmlError) → IsReader reader → length text ≤ limit
     → (IsErrOf {T = X} (Err error) xml.Unreadable → HasNoReading text)
-    → (IsErrOf {T = X} (Err error) xml.Depth → HasReading text (λ nodes. DEPTH_LIMIT < depth_of nodes))
-    → (IsErrOf {T = X} (Err error) xml.Nodes → HasReading text (λ nodes. (depth_of nodes ≤ DEPTH_LIMIT) × (NODE_LIMIT < count nodes)))
+    → (IsErrOf {T = X} (Err error) xml.Depth → HasReading text (λ nodes. depth_limit < depth_of nodes))
+    → (IsErrOf {T = X} (Err error) xml.Nodes → HasReading text (λ nodes. (depth_of nodes ≤ depth_limit) × (node_limit < count nodes)))
     → IsMade {Y = Nodes} (Err (xml_refusal error)) (tree_in reader limit text) ⊥
 tree_refused reader limit text xml.Unreadable is within unreadable deep many = tree_unreadable reader limit text is within (unreadable refl)
 tree_refused reader limit text xml.Depth is within unreadable deep many = tree_too_deep reader limit text is within (deep refl)
@@ -115,4 +115,4 @@ same_tree reader limit cut whole is =
     ]
 
 pub same_package : (reader : Reader) (limit : ℕ) (cut whole : List ℕ) → cut ≡ take (limit + 1) whole → package_in reader limit cut ≡ package_in reader limit whole
-same_package reader limit cut whole is = ap (λ tree. tree >>= (λ nodes. shaped nodes >>= (λ package_. sound package_ >>= built))) (same_tree reader limit cut whole is)
+same_package reader limit cut whole is = ap (λ tree. tree >>= (λ nodes. shaped nodes >>= sound)) (same_tree reader limit cut whole is)

@@ -155,25 +155,6 @@ surely (other_count name found expected) due failed h = h
 surely (over limit) due failed h = h
 surely (no_package fault) due failed h = h
 
-surely_made : {X : Type 0} (made : Result X Refusal) (due : Result X Refusal) (failed : Type 0) → IsMade made due ⊥ → IsMade made due failed
-surely_made (Ok x) due failed h = h
-surely_made (Err refusal) due failed h = surely refusal due failed h
-
--- what takes no file was made of what a step read, or refused
-pub reads_next : {X Y : Type 0} {old new : Option Files} {before now : ℕ} {names : List (List ℕ)} {x : X} {due : Reader → Files → Result X Refusal}
-    (whole : List (List ℕ)) (made : Result Y Refusal) (next : X → Reader → Files → Result Y Refusal)
-    → ReadsFiles old new before now names (Ok x) due → NeverUnread made
-    → ((reader : Reader) (files : Files) → IsReader reader → IsMade made (next x reader files) ⊥)
-    → ReadsFiles old new before now whole made (λ reader files. due reader files >>= (λ y. next y reader files))
-reads_next {X} {Y} {old} {new} {before} {now} {names} {x} {due} whole made next first never step = record {
-  as_due = if_some old
-      (λ files h reader is. made_bind x made (due reader files) (λ y. next y reader files) (Rose before now) (h reader is)
-      (surely_made made (next x reader files) (Rose before now) (step reader files is))) first.as_due;
-  unread = never_unread made whole old (Rose before now) never;
-  same_files = first.same_files;
-  stands = stands_of made (now ≡ before) first.stands;
-}
-
 -- ---- files that are fetched up to one byte more than a limit
 
 front_whole : (limit : ℕ) (whole bytes : List ℕ) → bytes ≡ take (limit + 1) whole → length bytes ≤ limit → bytes ≡ whole

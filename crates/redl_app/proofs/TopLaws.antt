@@ -81,7 +81,8 @@ lines_refused : (refusal : Refusal) (due : Result Writing Refusal) (command : Op
     → AreLines (status_of refusal) (outcome_of due) command failed (refusal_line refusal)
 lines_refused no_memory due command told failed h u = refl
 lines_refused (unread name) due command told failed (inl h) (among, cause) = inr (h, (name, among, refl))
-lines_refused (unread name) due command told failed (inr h) u = inl (sym (ap (λ d. (outcome_of d).lines) h))
+lines_refused (unread name) due command told failed (inr h) u =
+    inl (ap (λ d. (outcome_of d).status) h, sym (ap (λ d. (outcome_of d).lines) h))
 lines_refused unbuilt due command told failed h u = sym (ap (λ d. (outcome_of d).lines) h)
 lines_refused (malformed name) due command told failed h u = sym (ap (λ d. (outcome_of d).lines) h)
 lines_refused (other_document name found expected) due command told failed h u = sym (ap (λ d. (outcome_of d).lines) h)

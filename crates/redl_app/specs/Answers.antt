@@ -19,7 +19,7 @@ OfOutcome told words Holds =
 abbrev pub IsWritten : Status → Type 0
 IsWritten s = (s ≡ status.Done) ⊎ (s ≡ status.Refused)
 
--- The status is the outcome's, but for what the outside forces: a read fault, a write fault, and want of memory.
+-- The status is the outcome's, but for what the outside forces: a read fault, a write fault, and an allocation that failed.
 abbrev pub IsAnswer : Status → Outcome → Type 0 → Type 0 → Type 0
 IsAnswer status.NoMemory outcome read_failed write_failed = Unit {0}
 IsAnswer status.ReadFault outcome read_failed write_failed = read_failed ⊎ (outcome.status ≡ status.ReadFault)
@@ -33,10 +33,11 @@ Writes status.Refused old new bytes = new ≡ append_known old bytes
 Writes status.WriteFault old new bytes = GrowsByFront old new bytes
 Writes _ old new bytes = new ≡ old
 
--- a read fault's line: the outcome's, or that of some file of the command where a fetch failed
+-- a read fault's line: the outcome's, where that is a read fault itself, or that of some file of the command where a fetch
+-- failed
 abbrev pub IsUnreadLine : Outcome → Option Command → Type 0 → List ℕ → Type 0
 IsUnreadLine outcome command read_failed lines =
-    (lines ≡ outcome.lines)
+    ((outcome.status ≡ status.ReadFault) × (lines ≡ outcome.lines))
     ⊎ (read_failed × ((name : List ℕ) × Contains (files_of command) name × (lines ≡ unread_line name)))
 
 -- The lines are the outcome's, but for what the outside forces.

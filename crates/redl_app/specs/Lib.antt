@@ -1,7 +1,7 @@
 pub mod Words
-pub mod Built
 pub mod Outcome
 pub mod Answers
+pub mod Left
 pub mod Reading
 pub mod Prepared
 pub mod Finishing

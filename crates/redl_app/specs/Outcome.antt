@@ -3,9 +3,7 @@ use Rattle.std.specs.Prelude.{codes, decimal, ℕ, ◌-◌, List, [], ◌∷◌,
 use Rattle.std.specs.List.{flat_map, range_with_len}
 use Rattle.std.specs.Str.{bytes_eq}
 use Rattle.sha2.specs.Sha256.{sha256}
-use Rattle.redl_index.specs.Markers.{has_markers}
 use Rattle.redl_index.specs.Numbers.{package_revisions, numbered_package}
-use Rattle.redl_index.specs.Revisions.{revisions_of}
 use Rattle.redl_rules.specs.Attributes.{broken_rule}
 use Rattle.redl_io.specs.Shelf.{Files}
 use Rattle.redl_join.specs.Books.{union}
@@ -24,15 +22,14 @@ use Rattle.redl_opc.specs.Shape.{refusal}
 use Rattle.redl_opc.specs.declared.error.OpcError.{OpcError}
 use Rattle.redl_xml.specs.Shapes.{depth_of}
 use Rattle.redl_xml.specs.Readings.{IsReading, HasNoReading}
-use Rattle.redl_xml.specs.declared.TheConstants.{DEPTH_LIMIT, NODE_LIMIT}
-use Rattle.redl_app.specs.Built.{are_run_content}
+use Rattle.redl_io.specs.Limits.{depth as depth_limit, nodes as node_limit}
 use Rattle.redl_lines.specs.Causes.{shape_refusal}
 use Rattle.redl_lines.specs.Ends.{written_status}
 use Rattle.redl_lines.specs.Refusals.{Refusal, unbuilt, no_package, unread, malformed, other_document, other_count, over, newline, status_of, refusal_line, refused_line}
 use Rattle.redl_lines.specs.declared.refusal.Limit.TheVariants.{PackageBytes, JournalBytes, Depth, Nodes as TooManyNodes}
 use Rattle.redl_lines.specs.declared.refusal.PackageFault.TheVariants.{NotReadable, Rule}
 use Rattle.redl_app.specs.Words.{Command, settle, write, check, command_of}
-use Rattle.redl_app.specs.declared.TheConstants.{PACKAGE_LIMIT, JOURNALS_LIMIT}
+use Rattle.redl_io.specs.Limits.{package_bytes, journal_bytes}
 use Rattle.redl_lines.specs.declared.status.Status.{Status}
 
 -- ---- how texts are read
@@ -109,8 +106,8 @@ says_of book count = map (λ rev. say_of_verdict (verdict_at book rev)) (range_w
 -- a tree within the limits
 abbrev pub limited : Nodes → Result Nodes Refusal
 limited nodes =
-    if nat_lt DEPTH_LIMIT (depth_of nodes) then Err (over Depth)
-    else if nat_lt NODE_LIMIT (count nodes) then Err (over TooManyNodes)
+    if nat_lt depth_limit (depth_of nodes) then Err (over Depth)
+    else if nat_lt node_limit (count nodes) then Err (over TooManyNodes)
     else Ok nodes
 
 abbrev pub limited_tree : Option Nodes → Result Nodes Refusal
@@ -137,21 +134,12 @@ sound_unless (Some rule) nodes = Err (no_package (Rule rule))
 abbrev pub sound : Nodes → Result Nodes Refusal
 sound nodes = sound_unless (broken_rule nodes) nodes
 
--- a package without markers of moves
-abbrev pub built : Nodes → Result Nodes Refusal
-built nodes = if has_markers nodes then Err unbuilt else Ok nodes
-
--- a package whose revisions can be decided
-abbrev pub decidable : Nodes → Result Nodes Refusal
-decidable nodes = if are_run_content (revisions_of nodes) then Ok nodes else Err unbuilt
-
 -- the nodes of a package of this text, or the first cause why there are none
 abbrev pub package_in : Reader → ℕ → List ℕ → Result Nodes Refusal
 package_in reader limit whole = do
   tree ← tree_in reader limit whole
-  package_ ← shaped tree
-  nodes ← sound package_
-  built nodes
+  nodes ← shaped tree
+  sound nodes
 
 -- ---- the journals of a package
 
@@ -171,7 +159,7 @@ entries_of subject name (Some journal) =
     else if not (journal.count == subject.count) then Err (other_count name journal.count subject.count)
     else Ok journal.entries
 
--- the entries of a journal of this text, where so many bytes may still come
+-- the entries of a journal of this text, where at most `left` bytes may still come
 abbrev pub entries_in : Reader → Subject → ℕ → List ℕ → List ℕ → Result (List Entry) Refusal
 entries_in reader subject left name whole =
     if nat_lt left (length whole) then Err (over JournalBytes) else entries_of subject name (reader.journal whole)
@@ -216,18 +204,12 @@ unknown_entries count entries = union [] (filter (λ entry. not (is_known count 
 abbrev pub package_at : Reader → Files → List ℕ → Result (List ℕ × Nodes) Refusal
 package_at reader files name = do
   whole ← file files name
-  nodes ← package_in reader PACKAGE_LIMIT whole
+  nodes ← package_in reader package_bytes whole
   Ok (whole, nodes)
 
 -- a package under one say for all its revisions
 abbrev pub settled : Say → Nodes → Writing
 settled say nodes = record { bytes = passed_text (same_says say nodes) nodes; unknown = [] }
-
--- the same, where its revisions can be decided
-abbrev pub settled_of : Say → Nodes → Result Writing Refusal
-settled_of say nodes = do
-  undecided ← decidable nodes
-  Ok (settled say undecided)
 
 -- a package under the verdicts of these entries
 abbrev pub decided : List Entry → Nodes → Writing
@@ -239,7 +221,7 @@ decided entries nodes = record {
 -- a package of this text under the journals of these names
 abbrev pub written_of : Reader → Files → List (List ℕ) → List ℕ → Nodes → Result Writing Refusal
 written_of reader files journals whole nodes = do
-  entries ← gathered reader files (subject_of whole nodes) JOURNALS_LIMIT journals
+  entries ← gathered reader files (subject_of whole nodes) journal_bytes journals
   Ok (decided entries nodes)
 
 -- the line that tells of a sound package
@@ -254,11 +236,10 @@ abbrev pub writing_of : Reader → Files → Option Command → Result Writing R
 writing_of reader files None = Err unbuilt
 writing_of reader files (Some (settle say name)) = do
   package_ ← package_at reader files name
-  settled_of say package_.1
+  Ok (settled say package_.1)
 writing_of reader files (Some (write name journals)) = do
   package_ ← package_at reader files name
-  nodes ← decidable package_.1
-  written_of reader files journals package_.0 nodes
+  written_of reader files journals package_.0 package_.1
 writing_of reader files (Some (check name)) = do
   package_ ← package_at reader files name
   Ok (checked package_.1)

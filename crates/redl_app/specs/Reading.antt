@@ -5,7 +5,7 @@ use Rattle.redl_io.specs.Shelf.{Files, Lacks}
 use Rattle.redl_app.specs.Outcome.{Reader, IsReader}
 use Rattle.redl_lines.specs.Refusals.{Refusal, unread, no_memory}
 
--- What was made is what was due, but for what the outside forces: a failed fetch, and want of memory.
+-- What was made is what was due, but for what the outside forces: a failed fetch, and an allocation that failed.
 abbrev pub IsMade : {Y : Type 0} → Result Y Refusal → Result Y Refusal → Type 0 → Type 0
 IsMade (Ok y) due failed = due ≡ Ok y
 IsMade (Err no_memory) due failed = Unit {0}

@@ -1,3 +1,5 @@
+//! What the entries of journals decide: which of them are on revisions of the package, and the say of each revision.
+
 ghost use Rattle.std.specs.Prelude.{◌≡◌, All, IfOk};
 ghost use Rattle.redl_app.specs.Outcome.{is_known as is_known_to, known_entries, unknown_entries, says_of, say_of_verdict};
 ghost use Rattle.redl_journal.specs.Journals.{IsAllowed};
@@ -7,7 +9,7 @@ use redl_journal::Entry;
 use redl_tree::Say;
 use std::alloc::{AllocError, Global};
 
-/// The entries on the revisions of a package, and those on revisions that it hasn't.
+/// The entries on the revisions of a package, and those on revisions that it does not have.
 #[derive(Drop)]
 pub(crate) struct Decisions {
     pub known: Book,

@@ -1,3 +1,5 @@
+//! Files from the shelf.
+
 ghost use Rattle.std.specs.Prelude.{◌≡◌, ◌≤◌, ◌∷◌, [], IfOk, vec_len};
 ghost use Rattle.redl_app.specs.Outcome.{file};
 ghost use Rattle.redl_app.specs.Prepared.{made_of};

@@ -1,3 +1,5 @@
+//! The journals of a call: their entries, or why one of them is refused.
+
 ghost use Rattle.std.specs.Prelude.{◌≡◌, ◌<◌, ◌≤◌, ◌^◌, ◌∷◌, [], length, All, IsUtf8, IfOk};
 ghost use Rattle.redl_app.specs.Outcome.{entries_in, journal_at, gathered};
 ghost use Rattle.redl_app.specs.Prepared.{made_of, subject_view};
@@ -12,7 +14,8 @@ use redl_lines::{Limit, Refusal};
 use std::alloc::Global;
 use std::str;
 
-/// The entries of the journals of these names, in the order of the words. All journals together may have so many bytes.
+/// The entries of the journals of these names, in the order of the words. All journals together have at most
+/// `limit` bytes.
 pub(crate) fn gather<'a, F: Shelf>(
     alloc: Global,
     subject: Subject,
@@ -38,7 +41,7 @@ pub(crate) fn gather<'a, F: Shelf>(
     Ok(entries)
 }
 
-// The entries of the journal of this name, which may have so many bytes, and how many it has.
+// The entries of the journal of this name, of at most `left` bytes, and how many bytes it has.
 fn read_file<'a, F: Shelf>(
     alloc: Global,
     subject: Subject,
@@ -57,7 +60,7 @@ fn read_file<'a, F: Shelf>(
     Ok((entries, bytes.len()))
 }
 
-// The entries of a journal of this text, which may have so many bytes.
+// The entries of a journal of this text, of at most `left` bytes.
 fn read_journal<'a>(
     alloc: Global,
     subject: Subject,

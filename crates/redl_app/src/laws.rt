@@ -1,5 +1,7 @@
-//! What holds of the readers that the outcome of a call is told by.
+//! What holds of every outcome of a call, and of the readers that it is told by.
+
 ghost use Rattle.std.specs.Prelude.{◌≡◌, ℕ, List};
+ghost use Rattle.redl_app.specs.Left.{LeavesSound};
 ghost use Rattle.redl_app.specs.Outcome.{Reader, IsReader, outcome};
 ghost use Rattle.redl_io.specs.Shelf.{Files};
 
@@ -11,4 +13,13 @@ pub fn a_reader()
 /// A call comes to one outcome, by whichever reader it is told.
 pub fn one_outcome()
     ensures { (reader other : Reader) → IsReader reader → IsReader other → (words : List (List ℕ)) (files : Files) → outcome reader words files ≡ outcome other words files }
+{}
+
+/// What `settle` and `write` put out is the text of a sound package with exactly the text that survives.
+///
+/// Where such a call has the status 0 or 1, its bytes are the text of what is left of its package under its says: the text
+/// pieces of the stories are those of the original that survive, in their order, and all nine rules of structure hold
+/// again. Nothing says that the text reads again as XML: where an element between `]]` and `>` goes, it does not.
+pub fn what_is_left_is_sound()
+    ensures { (reader : Reader) (words : List (List ℕ)) (files : Files) → LeavesSound reader words files }
 {}

@@ -1,3 +1,5 @@
+//! What a call writes, put on the output.
+
 ghost use Rattle.std.specs.Prelude.{◌≡◌, OnOk, OnErr};
 ghost use Rattle.std.specs.Io.KnownBytes.{append_known};
 ghost use Rattle.redl_app.specs.Outcome.{sound_text};

@@ -1,3 +1,5 @@
+//! The package of a call: its text and its parts, or why it is refused.
+
 ghost use Rattle.std.specs.Prelude.{◌≡◌, ◌≤◌, ◌∷◌, [], Some, IfOk, length};
 ghost use Rattle.redl_app.specs.Outcome.{tree_in, shaped, sound, package_in, package_at};
 ghost use Rattle.redl_app.specs.Prepared.{made_of, package_view};
@@ -7,7 +9,6 @@ ghost use Rattle.redl_tree.specs.View.{nodes_of};
 
 use crate::PACKAGE_LIMIT;
 use crate::fetch::fetch_file;
-use redl_index::has_markers;
 use redl_io::Shelf;
 use redl_lines::{Limit, Refusal};
 use redl_opc::Package;
@@ -36,7 +37,7 @@ pub(crate) fn read_package<'a, F: Shelf>(
     Ok(PackageFile { bytes, package })
 }
 
-// The package of this text, which may have so many bytes.
+// The package with this text, of at most `limit` bytes.
 fn make_package<'a>(alloc: Global, bytes: &[u8], limit: usize) -> Result<Package, Refusal<'a>>
     ensures read { Reads (made_of (λ made. made) result) (λ reader. package_in reader limit bytes.now) }
     ensures never_unread { NeverUnread (made_of (λ made. made) result) }
@@ -45,13 +46,10 @@ fn make_package<'a>(alloc: Global, bytes: &[u8], limit: usize) -> Result<Package
     let nodes = read_nodes(alloc, bytes, limit)?;
     let package = shape(alloc, nodes)?;
     check_rules(alloc, &package)?;
-    if has_markers(&package) {
-        return Err(Refusal::Unbuilt);
-    }
     Ok(package)
 }
 
-// The tree of this text, which may have so many bytes.
+// The tree of this text, of at most `limit` bytes.
 fn read_nodes<'a>(alloc: Global, bytes: &[u8], limit: usize) -> Result<Vec<Node>, Refusal<'a>>
     ensures read { Reads (made_of (λ nodes. nodes_of nodes.items) result) (λ reader. tree_in reader limit bytes.now) }
     ensures never_unread { NeverUnread (made_of (λ nodes. nodes_of nodes.items) result) }

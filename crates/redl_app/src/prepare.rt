@@ -1,6 +1,7 @@
+//! What each command writes, or why it writes nothing.
+
 ghost use Rattle.std.specs.Prelude.{◌≡◌, ◌<◌, ◌^◌, ◌∷◌, [], None, Some, Err, All, IsUtf8, IfOk};
-ghost use Rattle.redl_app.specs.Built.{are_run_content as are_run_content_in, is_run_content as is_run_content_kind};
-ghost use Rattle.redl_app.specs.Outcome.{checked, decidable, settled_of, decided as decided_by, gathered, same_says, says_of, subject_of, known_entries, unknown_entries, package_at, writing_of};
+ghost use Rattle.redl_app.specs.Outcome.{checked, settled, decided as decided_by, gathered, same_says, says_of, subject_of, known_entries, unknown_entries, package_at, writing_of};
 ghost use Rattle.redl_app.specs.Prepared.{made_of, output_text, subject_view, writing_view};
 ghost use Rattle.redl_app.specs.Reading.{ReadsFiles, Reads, NeverUnread};
 ghost use Rattle.redl_app.specs.Words.{settle, write, check, command_of, files_of};
@@ -19,7 +20,7 @@ use crate::package::{PackageFile, read_package};
 use crate::prepared::{Output, Prepared};
 use crate::subject::Subject;
 use crate::words::{Command, read_command};
-use redl_index::{Index, RevKind, Revision};
+use redl_index::Index;
 use redl_io::{Shelf, Text};
 use redl_join::Book;
 use redl_journal::Entry;
@@ -65,12 +66,11 @@ fn prepare_settled<'a, F: Shelf>(
 {
     let PackageFile { bytes, package } = read_package(alloc, name, shelf)?;
     drop(bytes);
-    settle_package(alloc, say, package)
+    Ok(settle_package(alloc, say, package)?)
 }
 
-fn settle_package<'a>(alloc: Global, say: Say, read: Package) -> Result<Prepared, Refusal<'a>>
-    ensures read { Reads (made_of writing_view result) (λ _. settled_of say read) }
-    ensures never_unread { NeverUnread (made_of writing_view result) }
+fn settle_package(alloc: Global, say: Say, read: Package) -> Result<Prepared, AllocError>
+    ensures { IfOk result (λ prepared. writing_view prepared ≡ settled say read) }
 {
     let numbered = number_package(alloc, read)?;
     let says = vec![in alloc; say; numbered.count as usize]?;
@@ -87,35 +87,17 @@ struct Numbered {
     count: u32,
 }
 
-// The package with its numbers, where its revisions can be decided.
-fn number_package<'a>(alloc: Global, read: Package) -> Result<Numbered, Refusal<'a>>
-    ensures read { Reads (made_of (λ _. read) result) (λ _. decidable read) }
-    ensures never_unread { NeverUnread (made_of (λ _. read) result) }
+// The package with its numbers.
+fn number_package(alloc: Global, read: Package) -> Result<Numbered, AllocError>
     ensures numbered { IfOk result (λ made. made.«package» ≡ numbered_package read) }
     ensures count { IfOk result (λ made. made.count ≡ package_revisions read) }
 {
     let mut package = read;
     let index = Index::build(alloc, &mut package)?;
-    if !are_run_content(&index) {
-        return Err(Refusal::Unbuilt);
-    }
     Ok(Numbered {
         package,
         count: index.count(),
     })
-}
-
-// Whether all revisions are run content.
-fn are_run_content(index: &Index) -> bool
-    ensures { result ≡ are_run_content_in index.now }
-{
-    index.revisions().iter().all(is_run_content)
-}
-
-fn is_run_content(revision: &Revision) -> bool
-    ensures { result ≡ is_run_content_kind revision.now.kind }
-{
-    matches!(revision.kind, RevKind::Content(_))
 }
 
 // What is left of a numbered package. Its own nodes go while it is made.
@@ -197,9 +179,7 @@ struct Reviewed {
 }
 
 // The digest is taken of the package's text, which goes before the journals are read.
-fn review<'a>(alloc: Global, file: PackageFile) -> Result<Reviewed, Refusal<'a>>
-    ensures read { Reads (made_of (λ _. file.«package») result) (λ _. decidable file.«package») }
-    ensures never_unread { NeverUnread (made_of (λ _. file.«package») result) }
+fn review(alloc: Global, file: PackageFile) -> Result<Reviewed, AllocError>
     ensures numbered { IfOk result (λ reviewed. reviewed.«package» ≡ numbered_package file.«package») }
     ensures subject { IfOk result (λ reviewed. subject_view reviewed.subject ≡ subject_of file.bytes.items file.«package») }
 {

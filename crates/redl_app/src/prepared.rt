@@ -1,3 +1,5 @@
+//! What a call is about to write.
+
 use redl_join::Book;
 use redl_tree::Node;
 
@@ -14,6 +16,6 @@ pub(crate) enum Output {
 #[derive(Drop)]
 pub(crate) struct Prepared {
     pub output: Output,
-    /// The entries on revisions that the package hasn't.
+    /// The entries on revisions that the package does not have.
     pub unknown: Book,
 }

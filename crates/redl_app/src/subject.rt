@@ -1,3 +1,5 @@
+//! A package as its journals know it.
+
 /// A package as its journals know it.
 #[derive(Clone, Copy, Debug, PartialEq, Eq)]
 pub(crate) struct Subject {

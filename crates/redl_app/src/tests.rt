@@ -1,8 +1,7 @@
-// What no clause says: that calls succeed with ample memory, and calls with their bytes and lines, by hand.
+//! Tests of what no clause says: that calls succeed with ample memory, and their limits, faults and refusals, by hand.
+
 mod calls;
 mod faults;
 mod limits;
 mod refusals;
-mod settle;
-mod stories;
-mod write;
+mod sizes;

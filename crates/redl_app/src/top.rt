@@ -1,3 +1,5 @@
+//! The top call: from words and files to a status, bytes and lines.
+
 ghost use Rattle.std.specs.Prelude.{◌≡◌, ◌≢◌, ◌⊎◌, List, ℕ, None, All, IsUtf8, IfSome, Result};
 ghost use Rattle.redl_app.specs.Answers.{OfOutcome, IsAnswer, Writes, AreLines, TellsSome, MayFault};
 ghost use Rattle.redl_app.specs.Finishing.{Finishes, words_status, words_line};
@@ -19,7 +21,7 @@ use std::alloc::Global;
 /// Does what the words ask: takes files from the shelf, puts bytes on `out` and lines on `err`.
 ///
 /// `out` gains the bytes of the call's outcome with `Done` and `Refused`, a front of them with `WriteFault`, and nothing
-/// with any other status. A fault of `err` changes no status. Want of memory may come wherever memory is taken, and then
+/// with any other status. A fault of `err` changes no status. An allocation may fail wherever memory is taken, and then
 /// nothing was put on `out`.
 pub fn run<F: Shelf, O: Sink, E: Sink>(
     alloc: Global,
@@ -82,7 +84,7 @@ pub fn refuse_words<E: Sink>(error: WordsError, err: &mut E) -> Status
     end.status()
 }
 
-/// Over a shelf and a sink that never fail, the status is the outcome's, or memory is wanting.
+/// Over a shelf and a sink that never fail, the status is the outcome's, or an allocation failed.
 pub fn run_surely<E: Sink>(
     alloc: Global,
     words: &[Text],

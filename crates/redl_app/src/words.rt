@@ -1,3 +1,5 @@
+//! The words of a command line, and the command that they are.
+
 ghost use Rattle.std.specs.Prelude.{◌≡◌, ◌++◌, ◌∷◌, [], All, IsUtf8, OnOk, OnErr, IfSome, option_map};
 ghost use Rattle.std.specs.List.{list_all};
 ghost use Rattle.redl_app.specs.Prepared.{command_view, HasUtf8};
@@ -139,7 +141,7 @@ fn read_say(word: &[u8]) -> Option<Say>
     }
 }
 
-/// Adds a copy of a word. `Err` is want of memory.
+/// Adds a copy of a word. `Err` means out of memory.
 pub fn add_word(alloc: Global, words: &mut Vec<Text>, word: &str) -> Result<(), AllocError>
     requires { All IsUtf8 words.old.items }
     ensures added { OnOk result (words.new.items ≡ words.old.items ++ word.now ∷ []) }

@@ -1,5 +1,8 @@
-pub mod NumberLaws
+pub mod StoryLaws
+pub mod TallyLaws
+pub mod IndexLaws
+pub mod ContextLaws
+pub mod LabelLaws
 pub mod RevisionLaws
-pub mod MarkerLaws
 mod Rows
 mod RevisionRows

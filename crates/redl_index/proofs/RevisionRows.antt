@@ -1,17 +1,16 @@
--- Worked rows of revisions and of markers. What attributes say is worked out in redl_stamp.
+-- A worked row of revisions. What attributes say is worked out in redl_stamp, and moves in redl_tree.
 use Prim.Native.String.{String}
-use Rattle.std.proofs.Common.{◌≡◌, ℕ, List, [], ◌∷◌, map, false, refl}
+use Rattle.std.proofs.Common.{◌≡◌, ℕ, List, [], ◌∷◌, map, refl}
 use Rattle.redl_tree.specs.Nodes.{Nodes, no_nodes, ◌⊕◌}
 use Rattle.redl_tree.specs.declared.kinds.Prop.TheVariants.{Run}
 use Rattle.redl_tree.specs.declared.kinds.Space.TheVariants.{Pkg}
 use Rattle.redl_tree.specs.declared.kinds.Trace.TheVariants.{Ins, Del}
 use Rattle.redl_tree.specs.declared.node.Close.TheVariants.{End}
-use Rattle.redl_tree.proofs.Build.{tag_in, one, opened, opened_with, words}
+use Rattle.redl_tree.proofs.Build.{tag_in, one, opened, words}
 use Rattle.redl_index.specs.declared.revision.RevKind.{RevKind}
 use Rattle.redl_index.specs.declared.revision.RevKind.TheVariants.{Content, Mark, Change}
 use Rattle.redl_index.specs.declared.revision.Revision.{Revision}
 use Rattle.redl_index.specs.Revisions.{revisions_of}
-use Rattle.redl_index.specs.Markers.{has_markers}
 
 abbrev named : String → Nodes → Nodes
 named name kids = one (tag_in Pkg "pkg" name "" (End [])) kids
@@ -34,12 +33,3 @@ numbers_kinds_and_parts :
     ⊕ part "hdr" (opened "del" (opened "r" (opened "rPr" (opened "rPrChange" no_nodes))))))
     ≡ (1, Mark Ins, 1) ∷ (2, Content Del, 3) ∷ (3, Change Run, 3) ∷ []
 numbers_kinds_and_parts = refl
-
--- edges of ranges below properties, and in a part that is no story
-none_are_markers :
-    has_markers
-    (named "package"
-    (part "document" (opened "p" (opened "pPr" (opened_with "moveToRangeEnd" " w:id='1'" no_nodes)))
-    ⊕ part "styles" (opened_with "moveFromRangeStart" " w:id='1'" no_nodes)))
-    ≡ false
-none_are_markers = refl

@@ -1,7 +1,7 @@
 -- Worked rows of the numbers of revisions.
 use Prim.Native.String.{String}
 use Rattle.std.proofs.Common.{◌≡◌, ℕ, List, [], ◌∷◌, refl}
-use Rattle.redl_tree.specs.Nodes.{Tag, Nodes, no_nodes, ◌⊕◌}
+use Rattle.redl_tree.specs.Nodes.{Nodes, no_nodes, ◌⊕◌}
 use Rattle.redl_tree.specs.declared.kinds.Kind.{Kind}
 use Rattle.redl_tree.specs.declared.kinds.Kind.TheVariants.{Mark, Row, Cell, Change}
 use Rattle.redl_tree.specs.declared.kinds.Prop.TheVariants.{Run, Para, Sect, Table, Except, Row as RowProp, Cell as CellProp}
@@ -9,17 +9,21 @@ use Rattle.redl_tree.specs.declared.kinds.Space.TheVariants.{W, M, Pkg, Other}
 use Rattle.redl_tree.specs.declared.kinds.Trace.TheVariants.{Ins, Del, From, To}
 use Rattle.redl_tree.specs.declared.node.Close.TheVariants.{End}
 use Rattle.redl_tree.proofs.Build.{tag_in, one, opened, opened_with, content, member, words, run, deleted_run}
-use Rattle.redl_index.specs.Numbers.{members, labelled, package_revisions, numbered_package}
+use Rattle.redl_stamp.specs.Attribute.{attribute_value}
+use Rattle.redl_tree.specs.Numbers.{labelled, start_with, numbering_after}
+use Rattle.redl_tree.specs.Seen.{Spot, spot}
+use Rattle.redl_index.specs.Numbers.{package_revisions, numbered_package}
 
--- how many members nodes have that stand among a story's body, and the nodes with their labels, where this is the next number
-abbrev around : List Tag
-around = tag_in W "w" "body" "" (End []) ∷ tag_in W "w" "document" "" (End []) ∷ []
+-- how many revisions nodes have that stand among a story's body, and the nodes with their labels, where this is the next
+-- number and no move is paired
+abbrev around : List Spot
+around = spot 1 (tag_in W "w" "body" "" (End [])) no_nodes ∷ spot 0 (tag_in W "w" "document" "" (End [])) no_nodes ∷ []
 
 abbrev revisions : Nodes → ℕ
-revisions nodes = members around nodes
+revisions nodes = (numbering_after attribute_value [] around 2 (start_with 0) nodes).next
 
 abbrev numbered : ℕ → Nodes → Nodes
-numbered next nodes = labelled around next nodes
+numbered next nodes = labelled attribute_value [] around 2 (start_with next) nodes
 
 -- a document without revisions
 abbrev plain : Nodes

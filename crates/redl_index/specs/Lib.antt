@@ -1,4 +1,8 @@
 pub mod Numbers
-pub mod Labels
+pub mod Kinds
+pub mod Mentions
 pub mod Revisions
-pub mod Markers
+pub mod Labels
+pub mod Tallies
+pub mod Contexts
+pub mod Stories

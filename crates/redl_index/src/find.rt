@@ -1,25 +1,34 @@
 //! The walk that finds the revisions in the stories of a package, and the labels of the elements.
 
-ghost use Rattle.std.specs.Prelude.{◌≡◌, ◌+◌, ◌^◌, ◌<◌, ◌≤◌, ◌++◌, List, OnOk, length};
+ghost use Rattle.std.specs.Prelude.{◌≡◌, ◌+◌, ◌^◌, ◌<◌, ◌≤◌, ◌++◌, ℕ, IsTrue, List, OnOk, length, map};
 ghost use Rattle.std.specs.Str.{IsUtf8};
-ghost use Rattle.redl_tree.specs.Arounds.{around_of};
 ghost use Rattle.redl_tree.specs.Count.{count, item_count};
 ghost use Rattle.redl_tree.specs.Nodes.{Tag, no_nodes, in_front};
-ghost use Rattle.redl_tree.specs.Packages.{level_of};
+ghost use Rattle.redl_tree.specs.Packages.{level_of, is_story_root};
+ghost use Rattle.redl_tree.specs.Seen.{Spot, tags, seen_from};
 ghost use Rattle.redl_tree.specs.View.{nodes_of, item_of, tag_of, kids_of};
 ghost use Rattle.redl_opc.specs.Tree.{HasUtf8Tails};
-ghost use Rattle.redl_index.specs.Labels.{labels_of, item_labels, element_labels, labels_in, kids_labels_in, item_labels_in};
-ghost use Rattle.redl_index.specs.Revisions.{revisions_at, element_revisions, item_revisions, item_part_behind, revisions_from, kids_revisions_from, item_revisions_from};
+ghost use Rattle.redl_markers.specs.Ends.{ends_from};
+ghost use Rattle.redl_markers.specs.Free.{Every, IsFree};
+ghost use Rattle.redl_markers.specs.Walks.{item_tags, item_seen, item_ends, element_seen, element_ends};
+ghost use Rattle.redl_index.specs.Contexts.{context_of};
+ghost use Rattle.redl_index.specs.Labels.{story_labels, kids_labels_in, item_labels_in, labels_in};
+ghost use Rattle.redl_index.specs.Revisions.{numbered, story_revisions, revisions_from, kids_revisions_from, item_revisions_from, item_part_behind};
+ghost use Rattle.redl_index.specs.Stories.{tags_in, HaveUtf8Tails, sight_of};
+ghost use Rattle.redl_index.specs.Tallies.{Tally, noted_all, IsTally};
 
+use crate::context::{Context, Walk};
 use crate::found::Found;
+use crate::story::Story;
+use redl_markers::find_markers;
+use redl_moves::Moves;
 use redl_tree::{Around, Elem, Level, Node};
-use std::alloc::{AllocError, Global};
+use std::alloc::AllocError;
 
-/// Adds what is in the stories among nodes that stand at a level, in or from a part on. `Err` is want of memory.
+/// Adds what is in the stories among nodes that stand at a level, in or from a part on. `Err` means out of memory.
 #[cycle(stories)]
-#[tactic(auto, using(crate::proofs::NumberLaws::count_here))]
+#[tactic(auto, using(crate::proofs::IndexLaws::count_here))]
 pub(crate) fn find_in_stories(
-    alloc: Global,
     nodes: &[Node],
     level: Level,
     first: u32,
@@ -30,13 +39,13 @@ pub(crate) fn find_in_stories(
     requires tails { HasUtf8Tails (nodes_of nodes.now) }
     ensures at_most { OnOk result (length found.new.index ≤ length found.old.index + count (nodes_of nodes.now)) }
     ensures index { OnOk result ((around : List Tag) → level ≡ level_of around
-        → found.new.index ≡ found.old.index ++ revisions_from around first (1 + length found.old.index) (nodes_of nodes.now)) }
+        → found.new.index ≡ found.old.index ++ numbered (1 + length found.old.index) (revisions_from around first (nodes_of nodes.now))) }
     ensures labels { OnOk result ((around : List Tag) → level ≡ level_of around
         → found.new.labels.items ≡ found.old.labels.items ++ labels_in around (1 + length found.old.index) (nodes_of nodes.now)) }
 {
     let mut part = first;
     for node in nodes {
-        find_in_package_node(alloc, node, level, part, found)?;
+        find_in_package_node(node, level, part, found)?;
         part = part_behind(level, part, node);
     }
     Ok(())
@@ -44,7 +53,6 @@ pub(crate) fn find_in_stories(
 
 #[cycle(stories)]
 fn find_in_package_node(
-    alloc: Global,
     node: &Node,
     level: Level,
     part: u32,
@@ -55,19 +63,18 @@ fn find_in_package_node(
     requires tails { HasUtf8Tails (in_front (item_of node.now) no_nodes) }
     ensures at_most { OnOk result (length found.new.index ≤ length found.old.index + item_count (item_of node.now)) }
     ensures index { OnOk result ((around : List Tag) → level ≡ level_of around
-        → found.new.index ≡ found.old.index ++ item_revisions_from around part (1 + length found.old.index) (item_of node.now)) }
+        → found.new.index ≡ found.old.index ++ numbered (1 + length found.old.index) (item_revisions_from around part (item_of node.now))) }
     ensures labels { OnOk result ((around : List Tag) → level ≡ level_of around
         → found.new.labels.items ≡ found.old.labels.items ++ item_labels_in around (1 + length found.old.index) (item_of node.now)) }
 {
     match node {
-        Node::Elem(elem) => find_in_package_elem(alloc, elem, level, part, found),
+        Node::Elem(elem) => find_in_package_elem(elem, level, part, found),
         Node::Bytes(_) => Ok(()),
     }
 }
 
 #[cycle(stories)]
 fn find_in_package_elem(
-    alloc: Global,
     elem: &Elem,
     level: Level,
     part: u32,
@@ -78,17 +85,17 @@ fn find_in_package_elem(
     requires tails { HasUtf8Tails (kids_of elem.now) }
     ensures at_most { OnOk result (length found.new.index ≤ length found.old.index + (1 + count (kids_of elem.now))) }
     ensures index { OnOk result ((around : List Tag) → level ≡ level_of around
-        → found.new.index ≡ found.old.index ++ kids_revisions_from around part (1 + length found.old.index) (tag_of elem.now) (kids_of elem.now)) }
+        → found.new.index ≡ found.old.index ++ numbered (1 + length found.old.index) (kids_revisions_from around part (tag_of elem.now) (kids_of elem.now))) }
     ensures labels { OnOk result ((around : List Tag) → level ≡ level_of around
         → found.new.labels.items ≡ found.old.labels.items ++ kids_labels_in around (1 + length found.old.index) (tag_of elem.now) (kids_of elem.now)) }
 {
     if level.is_root(elem) {
-        return find_in_nodes(alloc, &elem.kids, Around::top().inside(elem), part, found);
+        return find_in_story(elem, part, found);
     }
-    find_in_stories(alloc, &elem.kids, level.below(elem), part, found)
+    find_in_stories(&elem.kids, level.below(elem), part, found)
 }
 
-/// The part that comes next behind a node at this level.
+/// The part that comes next after a node at this level.
 fn part_behind(level: Level, part: u32, node: &Node) -> u32
     requires parts { part + item_count (item_of node.now) < 2 ^ 32 }
     ensures at_most { result ≤ part + item_count (item_of node.now) }
@@ -100,69 +107,120 @@ fn part_behind(level: Level, part: u32, node: &Node) -> u32
     }
 }
 
-/// Adds what is among nodes of a story. `Err` is want of memory.
+/// Adds what is in the story with this root, in two walks: the first finds the markers of moves and the ends of paragraphs.
+/// `Err` means out of memory.
+fn find_in_story(root: &Elem, part: u32, found: &mut Found) -> Result<(), AllocError>
+    requires few { length found.old.index + count (kids_of root.now) < 2 ^ 32 }
+    requires tails { HasUtf8Tails (kids_of root.now) }
+    requires root { IsTrue (is_story_root (tag_of root.now)) }
+    ensures at_most { OnOk result (length found.new.index ≤ length found.old.index + count (kids_of root.now)) }
+    ensures index { OnOk result (found.new.index ≡ found.old.index
+        ++ numbered (1 + length found.old.index) (story_revisions part (tag_of root.now) (kids_of root.now))) }
+    ensures labels { OnOk result (found.new.labels.items ≡ found.old.labels.items
+        ++ story_labels (1 + length found.old.index) (tag_of root.now) (kids_of root.now)) }
+{
+    let markers = find_markers(found.alloc, root)?;
+    let moves = Moves::of(found.alloc, markers.marks)?;
+    let story = Story {
+        part,
+        moves,
+        elems: markers.elems,
+    };
+    let mut walk = Walk {
+        at: 1,
+        ends: &markers.ends,
+    };
+    let here = Context {
+        around: Around::top().inside(root),
+        para_end: 0,
+    };
+    found.begin_story();
+    find_in_nodes(&story, &root.kids, here, &mut walk, found)
+}
+
+/// Adds what is among nodes of a story. `Err` means out of memory.
 #[cycle(members)]
-#[tactic(auto, using(crate::proofs::NumberLaws::count_here))]
+#[tactic(auto, using(crate::proofs::IndexLaws::count_here))]
 fn find_in_nodes(
-    alloc: Global,
+    story: &Story<'_>,
     nodes: &[Node],
-    around: Around,
-    part: u32,
+    here: Context,
+    walk: &mut Walk<'_>,
     found: &mut Found,
 ) -> Result<(), AllocError>
     requires few { length found.old.index + count (nodes_of nodes.now) < 2 ^ 32 }
+    requires fits { walk.old.at + tags (nodes_of nodes.now) < 2 ^ 64 }
     requires tails { HasUtf8Tails (nodes_of nodes.now) }
+    requires marker_tails { HaveUtf8Tails (tags_in story.now) }
     ensures at_most { OnOk result (length found.new.index ≤ length found.old.index + count (nodes_of nodes.now)) }
-    ensures index { OnOk result ((above : List Tag) → around ≡ around_of above
-        → found.new.index ≡ found.old.index ++ revisions_at above part (1 + length found.old.index) (nodes_of nodes.now)) }
-    ensures labels { OnOk result ((above : List Tag) → around ≡ around_of above
-        → found.new.labels.items ≡ found.old.labels.items ++ labels_of above (1 + length found.old.index) (nodes_of nodes.now)) }
+    ensures at { OnOk result (walk.new.at ≡ walk.old.at + tags (nodes_of nodes.now)) }
+    ensures ends { OnOk result ((later : List ℕ) → walk.old.ends.now ≡ ends_from walk.old.at (nodes_of nodes.now) ++ later → walk.new.ends.now ≡ later) }
+    ensures found { OnOk result ((above : List Spot) (later : List ℕ) (tally : Tally) → here ≡ context_of above
+        → walk.old.ends.now ≡ ends_from walk.old.at (nodes_of nodes.now) ++ later
+        → Every (IsFree story.now.moves) (seen_from above walk.old.at (nodes_of nodes.now))
+        → IsTally found.old tally
+        → IsTally found.new (noted_all story.now.part tally (map (sight_of story.now) (seen_from above walk.old.at (nodes_of nodes.now))))) }
 {
     for node in nodes {
-        find_in_node(alloc, node, around, part, found)?;
+        find_in_node(story, node, here, walk, found)?;
     }
     Ok(())
 }
 
 #[cycle(members)]
 fn find_in_node(
-    alloc: Global,
+    story: &Story<'_>,
     node: &Node,
-    around: Around,
-    part: u32,
+    here: Context,
+    walk: &mut Walk<'_>,
     found: &mut Found,
 ) -> Result<(), AllocError>
     requires few { length found.old.index + item_count (item_of node.now) < 2 ^ 32 }
+    requires fits { walk.old.at + item_tags (item_of node.now) < 2 ^ 64 }
     requires tails { HasUtf8Tails (in_front (item_of node.now) no_nodes) }
+    requires marker_tails { HaveUtf8Tails (tags_in story.now) }
     ensures at_most { OnOk result (length found.new.index ≤ length found.old.index + item_count (item_of node.now)) }
-    ensures index { OnOk result ((above : List Tag) → around ≡ around_of above
-        → found.new.index ≡ found.old.index ++ item_revisions above part (1 + length found.old.index) (item_of node.now)) }
-    ensures labels { OnOk result ((above : List Tag) → around ≡ around_of above
-        → found.new.labels.items ≡ found.old.labels.items ++ item_labels above (1 + length found.old.index) (item_of node.now)) }
+    ensures at { OnOk result (walk.new.at ≡ walk.old.at + item_tags (item_of node.now)) }
+    ensures ends { OnOk result ((later : List ℕ) → walk.old.ends.now ≡ item_ends walk.old.at (item_of node.now) ++ later → walk.new.ends.now ≡ later) }
+    ensures found { OnOk result ((above : List Spot) (later : List ℕ) (tally : Tally) → here ≡ context_of above
+        → walk.old.ends.now ≡ item_ends walk.old.at (item_of node.now) ++ later
+        → Every (IsFree story.now.moves) (item_seen above walk.old.at (item_of node.now))
+        → IsTally found.old tally
+        → IsTally found.new (noted_all story.now.part tally (map (sight_of story.now) (item_seen above walk.old.at (item_of node.now))))) }
 {
     match node {
-        Node::Elem(elem) => find_in_elem(alloc, elem, around, part, found),
+        Node::Elem(elem) => find_in_elem(story, elem, here, walk, found),
         Node::Bytes(_) => Ok(()),
     }
 }
 
 #[cycle(members)]
 fn find_in_elem(
-    alloc: Global,
+    story: &Story<'_>,
     elem: &Elem,
-    around: Around,
-    part: u32,
+    here: Context,
+    walk: &mut Walk<'_>,
     found: &mut Found,
 ) -> Result<(), AllocError>
     requires few { length found.old.index + (1 + count (kids_of elem.now)) < 2 ^ 32 }
+    requires fits { walk.old.at + (2 + tags (kids_of elem.now)) < 2 ^ 64 }
     requires tail { IsUtf8 ((tag_of elem.now).tail) }
     requires tails { HasUtf8Tails (kids_of elem.now) }
+    requires marker_tails { HaveUtf8Tails (tags_in story.now) }
     ensures at_most { OnOk result (length found.new.index ≤ length found.old.index + (1 + count (kids_of elem.now))) }
-    ensures index { OnOk result ((above : List Tag) → around ≡ around_of above
-        → found.new.index ≡ found.old.index ++ element_revisions above part (1 + length found.old.index) (tag_of elem.now) (kids_of elem.now)) }
-    ensures labels { OnOk result ((above : List Tag) → around ≡ around_of above
-        → found.new.labels.items ≡ found.old.labels.items ++ element_labels above (1 + length found.old.index) (tag_of elem.now) (kids_of elem.now)) }
+    ensures at { OnOk result (walk.new.at ≡ walk.old.at + (2 + tags (kids_of elem.now))) }
+    ensures ends { OnOk result ((later : List ℕ) → walk.old.ends.now ≡ element_ends walk.old.at (tag_of elem.now) (kids_of elem.now) ++ later → walk.new.ends.now ≡ later) }
+    ensures found { OnOk result ((above : List Spot) (later : List ℕ) (tally : Tally) → here ≡ context_of above
+        → walk.old.ends.now ≡ element_ends walk.old.at (tag_of elem.now) (kids_of elem.now) ++ later
+        → Every (IsFree story.now.moves) (element_seen above walk.old.at (tag_of elem.now) (kids_of elem.now))
+        → IsTally found.old tally
+        → IsTally found.new (noted_all story.now.part tally (map (sight_of story.now) (element_seen above walk.old.at (tag_of elem.now) (kids_of elem.now))))) }
 {
-    found.add(alloc, elem, around.role(elem), part)?;
-    find_in_nodes(alloc, &elem.kids, around.inside(elem), part, found)
+    let sight = story.sight(elem, here, walk.at);
+    found.add(story, elem, sight)?;
+    let inside = walk.inside(elem, here);
+    walk.at += 1;
+    find_in_nodes(story, &elem.kids, inside, walk, found)?;
+    walk.at += 1;
+    Ok(())
 }

@@ -1,22 +1,32 @@
 //! What is found in the stories of a package.
 
-ghost use Rattle.std.specs.Prelude.{◌≡◌, ◌+◌, ◌^◌, ◌<◌, ◌++◌, ◌∷◌, [], length, IfSome, IsTrue, OnOk};
+ghost use Rattle.std.specs.Prelude.{◌≡◌, ◌+◌, ◌^◌, ◌<◌, ◌≤◌, ◌++◌, ◌∷◌, ◌==◌, ℕ, [], Some, None, nat_eq, length, if◌then◌else◌, IfOk, IfSome, IsTrue, OnOk};
 ghost use Rattle.std.specs.Str.{IsUtf8};
+ghost use Rattle.indexmap.specs.IndexMap.{get};
 ghost use Rattle.redl_tree.specs.View.{tag_of};
-ghost use Rattle.redl_index.specs.Labels.{label_for};
-ghost use Rattle.redl_index.specs.Revisions.{kind_of, is_named, own_revision};
+ghost use Rattle.redl_index.specs.Kinds.{kind_of, is_named};
+ghost use Rattle.redl_index.specs.Mentions.{mention_as, move_mention, sight_by};
+ghost use Rattle.redl_index.specs.Revisions.{revision_of, revision_with};
+ghost use Rattle.redl_index.specs.Stories.{tags_in, HaveUtf8Tails};
+ghost use Rattle.redl_index.specs.Tallies.{Tally, number_of, labelled, mentioned_by, noted, IsTally};
 
 use crate::index::Index;
 use crate::revision::{RevKind, Revision};
+use crate::story::{Sight, Story};
+use indexmap::IndexMap;
+use redl_moves::Start;
 use redl_opc::Label;
 use redl_tree::{Elem, Kind};
 use std::alloc::{AllocError, Global};
 
-/// The revisions in the stories, and a label for each element below the roots of the stories, in the order of the start tags.
+/// The revisions in the stories, a label for each element below the roots of the stories, in the order of the start tags, and
+/// the numbers of the moves of the present story, by the positions of their source starts.
 #[derive(Drop)]
 pub(crate) struct Found {
+    pub(crate) alloc: Global,
     pub(crate) index: Index,
     pub(crate) labels: Vec<Label>,
+    pub(crate) moves: IndexMap<u64, u32>,
 }
 
 impl Found {
@@ -26,34 +36,152 @@ impl Found {
         ensures labels { result.labels.items ≡ [] }
     {
         Found {
+            alloc,
             index: Index::empty(alloc),
             labels: Vec::new(alloc),
+            moves: IndexMap::new(alloc),
         }
     }
 
-    /// Adds the label of an element of this kind, and its revision where it is a member of one. `Err` is want of memory.
-    #[tactic(auto, using(crate::proofs::NumberLaws::number_of_none, crate::proofs::NumberLaws::number_of_some))]
+    /// Forgets the moves of the story before. It takes no memory.
+    pub(crate) fn begin_story(&mut self)
+        ensures index { self.new.index ≡ self.old.index }
+        ensures labels { self.new.labels.items ≡ self.old.labels.items }
+        ensures moves { (start : ℕ) → get nat_eq self.new.moves start ≡ None }
+    {
+        self.moves = IndexMap::new(self.alloc);
+    }
+
+    /// Adds an element of a story: its label, and its revision, of which it may be the first element. `Err` means out of memory.
     pub(crate) fn add(
         &mut self,
-        alloc: Global,
+        story: &Story<'_>,
         elem: &Elem,
-        kind: Kind,
-        part: u32,
+        sight: Sight,
     ) -> Result<(), AllocError>
         requires few { length self.old.index + 1 < 2 ^ 32 }
         requires tail { IsUtf8 ((tag_of elem.now).tail) }
-        requires named { IfSome (kind_of kind) (λ kind. IsTrue (is_named kind)) }
-        ensures index { OnOk result (self.new.index ≡ self.old.index ++ own_revision (kind_of kind) part (1 + length self.old.index) (tag_of elem.now)) }
-        ensures labels { OnOk result (self.new.labels.items ≡ self.old.labels.items ++ label_for kind (1 + length self.old.index) ∷ []) }
+        requires tails { HaveUtf8Tails (tags_in story.now) }
+        requires named { IfSome (kind_of sight.kind) (λ named. IsTrue (is_named named)) }
+        ensures at_most { OnOk result (length self.new.index ≤ length self.old.index + 1) }
+        ensures tally { OnOk result ((tally : Tally) → IsTally self.old tally
+            → IsTally self.new (noted story.now.part tally (sight_by (tags_in story.now) (tag_of elem.now).tail sight.kind sight.start))) }
     {
-        let Some(named) = RevKind::of(kind) else {
-            self.labels.push(Label { kind, rev: 0 })?;
-            return Ok(());
+        let Some(named) = RevKind::of(sight.kind) else {
+            return self.label(sight.kind, 0);
         };
-        let number = self.index.count() + 1;
-        let revision = Revision::with_member(alloc, named, part, number, elem)?;
-        self.index.add(revision)?;
-        self.labels.push(Label { kind, rev: number })?;
+        let number = self.mention(story, elem, named, sight)?;
+        self.label(sight.kind, number)
+    }
+
+    /// Adds the label of an element.
+    fn label(&mut self, kind: Kind, rev: u32) -> Result<(), AllocError>
+        ensures at_most { OnOk result (length self.new.index ≡ length self.old.index) }
+        ensures tally { OnOk result ((tally : Tally) → IsTally self.old tally → IsTally self.new (labelled kind rev tally)) }
+    {
+        self.labels.push(Label { kind, rev })?;
         Ok(())
+    }
+
+    /// The number of the revision of an element, which is added where the element is the first of it.
+    fn mention(
+        &mut self,
+        story: &Story<'_>,
+        elem: &Elem,
+        named: RevKind,
+        sight: Sight,
+    ) -> Result<u32, AllocError>
+        requires few { length self.old.index + 1 < 2 ^ 32 }
+        requires tail { IsUtf8 ((tag_of elem.now).tail) }
+        requires tails { HaveUtf8Tails (tags_in story.now) }
+        requires named { IsTrue (is_named named) }
+        ensures at_most { OnOk result (length self.new.index ≤ length self.old.index + 1) }
+        ensures number { IfOk result (λ number. (tally : Tally) → IsTally self.old tally
+            → number ≡ number_of tally (mention_as (tags_in story.now) (tag_of elem.now).tail sight.kind named sight.start)) }
+        ensures tally { OnOk result ((tally : Tally) → IsTally self.old tally
+            → IsTally self.new (mentioned_by story.now.part tally (mention_as (tags_in story.now) (tag_of elem.now).tail sight.kind named sight.start))) }
+    {
+        match sight.start {
+            Some(start) => self.mention_move(story, start, sight.kind != Kind::Marker),
+            None => self.first(story.part, named, elem.tail.as_bytes(), 1),
+        }
+    }
+
+    /// The number of a move that is mentioned, by a member of it or by a marker.
+    fn mention_move(
+        &mut self,
+        story: &Story<'_>,
+        start: Start,
+        counts: bool,
+    ) -> Result<u32, AllocError>
+        requires few { length self.old.index + 1 < 2 ^ 32 }
+        requires tails { HaveUtf8Tails (tags_in story.now) }
+        ensures at_most { OnOk result (length self.new.index ≤ length self.old.index + 1) }
+        ensures number { IfOk result (λ number. (tally : Tally) → IsTally self.old tally
+            → number ≡ number_of tally (move_mention (tags_in story.now) start counts)) }
+        ensures tally { OnOk result ((tally : Tally) → IsTally self.old tally
+            → IsTally self.new (mentioned_by story.now.part tally (move_mention (tags_in story.now) start counts))) }
+    {
+        match self.known_number(start.at) {
+            Some(number) => {
+                self.index.mention(number, counts);
+                Ok(number)
+            }
+            None => self.first_of_move(story, start, counts),
+        }
+    }
+
+    /// The number that the move has whose source starts at this position, if it has one yet.
+    fn known_number(&self, start: u64) -> Option<u32>
+        ensures { result ≡ get nat_eq self.now.moves start }
+    {
+        match self.moves.get(&start) {
+            Some(number) => Some(*number),
+            None => None,
+        }
+    }
+
+    /// The number of a move that is mentioned for the first time.
+    fn first_of_move(
+        &mut self,
+        story: &Story<'_>,
+        start: Start,
+        counts: bool,
+    ) -> Result<u32, AllocError>
+        requires few { length self.old.index + 1 < 2 ^ 32 }
+        requires tails { HaveUtf8Tails (tags_in story.now) }
+        ensures number { IfOk result (λ number. number ≡ 1 + length self.old.index) }
+        ensures index { OnOk result (self.new.index ≡ self.old.index ++ revision_of story.now.part
+            (move_mention (tags_in story.now) start counts ∷ [])
+            (move_mention (tags_in story.now) start counts) (1 + length self.old.index) ∷ []) }
+        ensures labels { OnOk result (self.new.labels.items ≡ self.old.labels.items) }
+        ensures moves { OnOk result ((other : ℕ) → get nat_eq self.new.moves other ≡ (if start.at == other then Some (1 + length self.old.index) else get nat_eq self.old.moves other)) }
+    {
+        let tail = story.tail(start.place);
+        let number = self.first(story.part, RevKind::Move, tail, u32::from(counts))?;
+        self.moves.insert(start.at, number)?;
+        Ok(number)
+    }
+
+    /// The number of a revision that is mentioned for the first time, and has these attributes and so many members so far.
+    fn first(
+        &mut self,
+        part: u32,
+        kind: RevKind,
+        tail: &[u8],
+        members: u32,
+    ) -> Result<u32, AllocError>
+        requires few { length self.old.index + 1 < 2 ^ 32 }
+        requires named { IsTrue (is_named kind) }
+        requires tail { IsUtf8 tail.now }
+        ensures number { IfOk result (λ number. number ≡ 1 + length self.old.index) }
+        ensures index { OnOk result (self.new.index ≡ self.old.index ++ revision_with part kind tail.now members (1 + length self.old.index) ∷ []) }
+        ensures labels { OnOk result (self.new.labels.items ≡ self.old.labels.items) }
+        ensures moves { OnOk result ((start : ℕ) → get nat_eq self.new.moves start ≡ get nat_eq self.old.moves start) }
+    {
+        let number = self.index.count() + 1;
+        let revision = Revision::read(self.alloc, kind, part, number, tail, members)?;
+        self.index.add(revision)?;
+        Ok(number)
     }
 }

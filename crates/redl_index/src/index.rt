@@ -1,8 +1,10 @@
 //! The index of a package.
 
 ghost use Rattle.std.specs.Prelude.{◌≡◌, ◌+◌, ◌-◌, ◌^◌, ◌<◌, ◌≤◌, ◌↔◌, ◌++◌, ◌∷◌, [], Some, length, slice_get, IfOk, IfSome, IsSome, IsTrue, OnOk, OnErr};
+ghost use Rattle.redl_tree.specs.Text.{text};
 ghost use Rattle.redl_index.specs.Numbers.{numbered_package};
 ghost use Rattle.redl_index.specs.Revisions.{IsTold, revisions_of};
+ghost use Rattle.redl_index.specs.Tallies.{mentioned_again, replaced};
 
 use crate::find::find_in_stories;
 use crate::found::Found;
@@ -40,7 +42,7 @@ impl Index {
         }
     }
 
-    /// Adds a revision behind the others. `Err` is want of memory.
+    /// Adds a revision after the others. `Err` means out of memory.
     pub(crate) fn add(&mut self, revision: Revision) -> Result<(), AllocError>
         requires told { IsTold revision }
         requires few { length self.old + 1 < 2 ^ 32 }
@@ -50,18 +52,29 @@ impl Index {
         Ok(())
     }
 
-    /// Finds the members of a package's stories, numbers them, and sets the kind and the number on each.
+    /// Counts a further mention of the revision with this number, if it counts as a member.
+    pub(crate) fn mention(&mut self, number: u32, counts: bool)
+        ensures { self.new ≡ mentioned_again counts number self.old }
+    {
+        if counts && number != 0 {
+            count_member(&mut self.revisions, number as usize - 1);
+        }
+    }
+
+    /// Finds the revisions in a package's stories, numbers them, and sets the kind and the number on each element that is in one.
     ///
-    /// Each member is a revision of its own. Numbers count from 1 through the stories, in the order of the parts and of the
-    /// start tags (ECMA-376 Part 1, 17.13.5). All else in the package stays. `Err` is want of memory, and then the package is
-    /// as before. It goes twice through the package.
+    /// A paired move is one revision, with its members and its four markers. Each other member is a revision of its own. Numbers
+    /// count from 1 through the stories, in the order of the parts and of the first start tags (ECMA-376 Part 1, 17.13.5; that
+    /// moves are paired by names, and the numbers, are our own rules). All else in the package stays. `Err` means out of memory,
+    /// and then the package is as before. It goes three times through each story.
     pub fn build(alloc: Global, pkg: &mut Package) -> Result<Index, AllocError>
         ensures index { IfOk result (λ index. index ≡ revisions_of pkg.old) }
         ensures nodes { OnOk result (pkg.new ≡ numbered_package pkg.old) }
+        ensures text { OnOk result (text pkg.new ≡ text pkg.old) }
         ensures unchanged { OnErr result (pkg.new ≡ pkg.old) }
     {
         let mut found = Found::nothing(alloc);
-        find_in_stories(alloc, pkg.nodes(), Level::Top, 0, &mut found)?;
+        find_in_stories(pkg.nodes(), Level::Top, 0, &mut found)?;
         pkg.label_stories(&found.labels);
         Ok(found.index)
     }
@@ -91,5 +104,14 @@ impl Index {
     {
         let place = number.checked_sub(1)?;
         self.revisions.get(place as usize)
+    }
+}
+
+/// Counts a member more of the revision at a place.
+fn count_member(revisions: &mut Vec<Revision>, place: usize)
+    ensures { revisions.new.items ≡ replaced revisions.old.items place (slice_get revisions.old.items place) }
+{
+    if let Some(revision) = revisions.get_mut(place) {
+        revision.count_member();
     }
 }

@@ -2,12 +2,13 @@
 
 ghost use Rattle.std.specs.Prelude.{◌≡◌, IfOk, IsTrue};
 ghost use Rattle.std.specs.Str.{IsUtf8};
-ghost use Rattle.redl_tree.specs.View.{tag_of};
-ghost use Rattle.redl_index.specs.Revisions.{kind_of, is_named, IsTold, revision_of};
+ghost use Rattle.redl_index.specs.Kinds.{kind_of, is_named};
+ghost use Rattle.redl_index.specs.Revisions.{IsTold, revision_with};
+ghost use Rattle.redl_index.specs.Tallies.{with_one_more};
 
 use redl_io::Text;
 use redl_stamp::read_stamp;
-use redl_tree::{Elem, Kind, Prop, Trace};
+use redl_tree::{Kind, Prop, Trace};
 use std::alloc::{AllocError, Global};
 
 /// What a revision is: content, a paragraph's mark, a row or a cell that is inserted, deleted or moved, a move with its
@@ -52,27 +53,37 @@ pub struct Revision {
 }
 
 impl Revision {
-    /// The revision with this one member. `Err` is want of memory.
-    pub(crate) fn with_member(
+    /// The revision that has these attributes, with so many members. `Err` means out of memory.
+    pub(crate) fn read(
         alloc: Global,
         kind: RevKind,
         part: u32,
         number: u32,
-        elem: &Elem,
+        tail: &[u8],
+        members: u32,
     ) -> Result<Revision, AllocError>
         requires named { IsTrue (is_named kind) }
-        requires tail { IsUtf8 ((tag_of elem.now).tail) }
-        ensures value { IfOk result (λ revision. revision ≡ revision_of kind part number (tag_of elem.now)) }
+        requires tail { IsUtf8 tail.now }
+        ensures value { IfOk result (λ revision. revision ≡ revision_with part kind tail.now members number) }
         ensures told { IfOk result IsTold }
     {
-        let stamp = read_stamp(alloc, elem.tail.as_bytes())?;
+        let stamp = read_stamp(alloc, tail)?;
         Ok(Revision {
             number,
             kind,
             author: stamp.author,
             seconds: stamp.seconds,
             part,
-            members: 1,
+            members,
         })
+    }
+
+    /// Counts a member more. Its count stays at the greatest number of 32 bits, which a package is too small to reach.
+    pub(crate) fn count_member(&mut self)
+        ensures { self.new ≡ with_one_more self.old }
+    {
+        if self.members < u32::MAX {
+            self.members += 1;
+        }
     }
 }

@@ -1,5 +1,5 @@
-// What no clause says: that calls succeed with ample memory, and tell the revisions of whole packages: tables of bodies, each an
-// outline of names.
+//! Tables of whole packages, each an outline of names: their labels and their revisions, where there is ample memory.
+
 ghost use Rattle.std.specs.Prelude.{◌≡◌, IsTrue};
 ghost use Rattle.redl_tree.specs.Nodes.{no_nodes, in_front};
 ghost use Rattle.redl_tree.specs.View.{nodes_of, item_of};
@@ -62,9 +62,13 @@ fn tail_of(word: &str) -> &'static str {
         "ann" => " w:id='1' w:author='Ann' w:date='1970-01-02T00:00:01Z'",
         "both" => " w:date='2024-05-06T07:08:09+02:00' w:author=\"Q &amp; &#x41;\"",
         "early" => " w:author='B' w:date='1969-12-31T23:59:59'",
-        "undated" => " w:author='' w:date='2024-02-30T00:00:00Z'",
-        "id" => " w:id='1'",
-        "name" => " w:name='m' xmlns:id='u'",
+        "unread" => " w:author='' w:date='2024-02-30T00:00:00Z'",
+        "from" => " w:id='1' w:name='m' w:author='Ann' w:date='1970-01-02T00:00:01Z'",
+        "again" => " w:id='3' w:name='m'",
+        "1" => " w:id='1'",
+        "to" => " w:id='2' w:name='m' w:author='Cid' w:date='2024-05-06T07:08:09Z'",
+        "2" => " w:id='2'",
+        "undated" => " w:id='1' w:name='m' w:author='Ann'",
         _ => "",
     }
 }
@@ -156,9 +160,22 @@ fn add_label(node: &Node, labels: &mut Vec<(Kind, u32)>) -> Result<(), Fail> {
     add_labels(&elem.kids, labels)
 }
 
-const INS: Trace = Trace::Ins;
+/// The kinds and numbers of the elements of a package that are in a revision.
+fn labelled(rt: &impl Abort, alloc: Global, parts: &[&str]) -> Result<Vec<(Kind, u32)>, Fail> {
+    let mut made = package(rt, alloc, parts)?;
+    let _index = Index::build(alloc, &mut made)?;
+    let mut labels = Vec::new(alloc);
+    add_labels(made.nodes(), &mut labels)?;
+    Ok(labels)
+}
 
-const DEL: Trace = Trace::Del;
+const INS: Kind = Kind::Content(Trace::Ins);
+
+const DEL: Kind = Kind::Content(Trace::Del);
+
+const FROM: Kind = Kind::Content(Trace::From);
+
+const TO: Kind = Kind::Content(Trace::To);
 
 #[test]
 fn members_are_labelled(rt: HostRuntime) -> Result<(), Fail> {
@@ -170,17 +187,7 @@ fn members_are_labelled(rt: HostRuntime) -> Result<(), Fail> {
         ),
         (
             ["document .p ..ins ...del ..del", "hdr .ins"],
-            [
-                (Kind::Content(INS), 1),
-                (Kind::Content(DEL), 2),
-                (Kind::Content(DEL), 3),
-                (Kind::Content(INS), 4),
-            ]
-            .as_slice(),
-        ),
-        (
-            ["styles .ins", "document .p ..pPr ...rPr ....del ..moveFrom"],
-            [(Kind::Mark(DEL), 1), (Kind::Content(Trace::From), 2)].as_slice(),
+            [(INS, 1), (DEL, 2), (DEL, 3), (INS, 4)].as_slice(),
         ),
         (
             [
@@ -188,8 +195,8 @@ fn members_are_labelled(rt: HostRuntime) -> Result<(), Fail> {
                 "ftr .tbl ..tblPr ...tblPrChange ..tr ...tblPrEx ....tblPrExChange ...trPr ....trPrChange",
             ],
             [
-                (Kind::Row(INS), 1),
-                (Kind::Cell(DEL), 2),
+                (Kind::Row(Trace::Ins), 1),
+                (Kind::Cell(Trace::Del), 2),
                 (Kind::Change(Prop::Table), 3),
                 (Kind::Change(Prop::Except), 4),
                 (Kind::Change(Prop::Row), 5),
@@ -210,14 +217,106 @@ fn members_are_labelled(rt: HostRuntime) -> Result<(), Fail> {
             .as_slice(),
         ),
     ] {
-        let mut made = package(&rt, alloc, &parts)?;
-        let index = Index::build(alloc, &mut made)?;
-        assert_eq!(rt; index.count() as usize, want.len(), "{parts:?}");
-        let mut labels = Vec::new(alloc);
-        add_labels(made.nodes(), &mut labels)?;
-        assert_eq!(rt; labels.as_slice(), want, "{parts:?}");
+        let got = labelled(&rt, alloc, &parts)?;
+        assert!(rt; got.as_slice() == want, "{parts:?}: {got:?}");
     }
     Ok(())
+}
+
+#[test]
+fn moves_are_labelled(rt: HostRuntime) -> Result<(), Fail> {
+    let alloc = rt.alloc();
+    let mark = Kind::Mark(Trace::From);
+    let edge = Kind::Marker;
+    for (parts, want) in [
+        // over two paragraphs, with the mark of the first
+        (
+            [
+                "document .p ..pPr ...rPr ....moveFrom ..moveFromRangeStart/from ..moveFrom .p ..moveFrom ..moveFromRangeEnd/1 .p ..moveToRangeStart/to ..moveTo ..moveToRangeEnd/2",
+                "styles",
+                "hdr .ins",
+            ],
+            [
+                (mark, 1),
+                (edge, 1),
+                (FROM, 1),
+                (FROM, 1),
+                (edge, 1),
+                (edge, 1),
+                (TO, 1),
+                (edge, 1),
+                (INS, 2),
+            ]
+            .as_slice(),
+        ),
+        // the range ends in the paragraph of the mark
+        (
+            [
+                "document .p ..pPr ...rPr ....moveFrom ..moveFromRangeStart/from ..moveFrom ..moveFromRangeEnd/1 .p ..moveToRangeStart/to ..moveTo ..moveToRangeEnd/2",
+                "styles",
+                "hdr",
+            ],
+            [
+                (mark, 1),
+                (edge, 2),
+                (FROM, 2),
+                (edge, 2),
+                (edge, 2),
+                (TO, 2),
+                (edge, 2),
+            ]
+            .as_slice(),
+        ),
+        // over rows, the target first, and a move in another story with the same name and ids, without members
+        (
+            [
+                "document .moveToRangeStart/to .tbl ..tr ...tc ....p .....moveTo .moveToRangeEnd/2 .ins .moveFromRangeStart/from .tbl ..tr ...tc ....p .....moveFrom ..tr ...tc ....p .....moveFrom .moveFromRangeEnd/1",
+                "footnotes .moveFromRangeStart/from .moveFromRangeEnd/1 .moveToRangeStart/to .moveToRangeEnd/2",
+                "hdr .moveTo",
+            ],
+            [
+                (edge, 1),
+                (TO, 1),
+                (edge, 1),
+                (INS, 2),
+                (edge, 1),
+                (FROM, 1),
+                (FROM, 1),
+                (edge, 1),
+                (edge, 3),
+                (edge, 3),
+                (edge, 3),
+                (edge, 3),
+                (TO, 4),
+            ]
+            .as_slice(),
+        ),
+        // a name with two source starts
+        (
+            [
+                "document .p ..moveFromRangeStart/from ..moveFrom ..moveFromRangeEnd/1 ..moveFromRangeStart/again ..moveToRangeStart/to ..moveTo ..moveToRangeEnd/2",
+                "styles",
+                "hdr",
+            ],
+            [(FROM, 1), (TO, 2)].as_slice(),
+        ),
+    ] {
+        let got = labelled(&rt, alloc, &parts)?;
+        assert!(rt; got.as_slice() == want, "{parts:?}: {got:?}");
+    }
+    Ok(())
+}
+
+/// What a revision is, who made it and when, its part, and how many members it has.
+fn told(index: &Index, number: u32) -> Option<(RevKind, &[u8], Option<i64>, u32, u32)> {
+    let found = index.get(number)?;
+    Some((
+        found.kind,
+        found.author.as_bytes(),
+        found.seconds,
+        found.part,
+        found.members,
+    ))
 }
 
 #[test]
@@ -226,51 +325,42 @@ fn revisions_are_told(rt: HostRuntime) -> Result<(), Fail> {
     let parts = [
         "styles .ins/ann",
         "document .body ..p ...pPr ....rPr .....ins/ann ...del/both",
-        "theme",
-        "hdr .tbl ..tr ...trPr ....del/early ...tc ....tcPr .....cellIns/undated",
-        "footnotes .p ..r ...rPr ....rPrChange",
+        "hdr .tbl ..tr ...trPr ....del/early ...tc ....tcPr .....cellIns/unread",
+        "footnotes .moveToRangeStart/to .p ..moveTo/both .moveToRangeEnd/2 .moveFromRangeStart/from .p ..moveFrom .p ..moveFrom .moveFromRangeEnd/1",
+        "endnotes .moveFromRangeStart/undated .moveFromRangeEnd/1 .moveToRangeStart/to .moveToRangeEnd/2",
     ];
     let mut made = package(&rt, alloc, &parts)?;
     let index = Index::build(alloc, &mut made)?;
-    for (number, kind, author, seconds, part) in [
-        (1, RevKind::Mark(INS), "Ann", Some(86_401), 1),
-        (2, RevKind::Content(DEL), "Q & A", Some(1_714_972_089), 1),
-        (3, RevKind::Row(DEL), "B", Some(-1), 3),
-        (4, RevKind::Cell(INS), "", None, 3),
-        (5, RevKind::Change(Prop::Run), "", None, 4),
-    ] {
-        let Some(revision) = index.get(number) else {
-            return Err(Fail::from(AllocError));
-        };
-        assert_eq!(rt; revision.number, number);
-        assert_eq!(rt; revision.kind, kind, "{number}");
-        assert_eq!(rt; revision.author.as_bytes(), author.as_bytes(), "{number}");
-        assert_eq!(rt; revision.seconds, seconds, "{number}");
-        assert_eq!(rt; revision.part, part, "{number}");
-        assert_eq!(rt; revision.members, 1, "{number}");
-    }
-    assert_eq!(rt; index.count(), 5);
-    assert!(rt; index.get(0).is_none());
-    assert!(rt; index.get(6).is_none());
-    Ok(())
-}
-
-#[test]
-fn markers_are_found(rt: HostRuntime) -> Result<(), Fail> {
-    let alloc = rt.alloc();
-    for (parts, want) in [
-        (["document .p", "hdr .moveToRangeEnd/id"], true),
-        (["document .p ..ins ...moveFromRangeStart/id", "hdr"], true),
-        (["document .p ..moveFromRangeStart/name", "hdr"], false),
-        (["document .p ..pPr ...moveToRangeStart/id", "hdr"], false),
+    for (number, want) in [
+        (0, None),
         (
-            ["document .p ..o-moveToRangeStart/id", "hdr .moveTo/id"],
-            false,
+            1,
+            Some((
+                RevKind::Mark(Trace::Ins),
+                b"Ann".as_slice(),
+                Some(86_401),
+                1,
+                1,
+            )),
         ),
-        (["document .p", "styles .moveFromRangeEnd/id"], false),
+        (
+            2,
+            Some((
+                RevKind::Content(Trace::Del),
+                b"Q & A",
+                Some(1_714_972_089),
+                1,
+                1,
+            )),
+        ),
+        (3, Some((RevKind::Row(Trace::Del), b"B", Some(-1), 2, 1))),
+        (4, Some((RevKind::Cell(Trace::Ins), b"", None, 2, 1))),
+        (5, Some((RevKind::Move, b"Ann", Some(86_401), 3, 3))),
+        (6, Some((RevKind::Move, b"Ann", None, 4, 0))),
+        (7, None),
     ] {
-        let made = package(&rt, alloc, &parts)?;
-        assert_eq!(rt; has_markers(&made), want, "{parts:?}");
+        let got = told(&index, number);
+        assert!(rt; got == want, "{number}: {got:?}");
     }
     Ok(())
 }

@@ -1,4 +1,4 @@
--- Books by hand, with what they come to.
+-- Books by hand, with their verdicts.
 use Rattle.std.proofs.Common.{◌≡◌, ℕ, List, [], ◌∷◌, refl}
 use Rattle.std.specs.Prelude.{codes}
 use Rattle.redl_journal.specs.declared.entry.Entry.{Entry}

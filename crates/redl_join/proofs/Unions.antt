@@ -77,7 +77,7 @@ pub indexed-without : (book : List Entry) (old new : BTreeMap ℕ (BTreeSet Entr
 indexed-without book old new e indexed h rev =
     h rev ∙ rw (indexed rev, eqb_turned rev e.rev) (sym (filter_remove entry_order-total (is_on rev) (is_on-same rev) book e))
 
--- ---- what a book keeps
+-- ---- the invariant of a book
 
 pub kept-present : (book : List Entry) (e : Entry) → IsBook book → has_entry book e ≡ true → with_entry book e ≡ book
 kept-present book e sorted has = insert_present entry_order-total book e sorted has
@@ -100,7 +100,7 @@ kept-without book old new e kept ordered h = record {
   allowed = All-remove_key (is_same e) IsAllowed book kept.allowed;
 }
 
--- an entry that was listed and taken off again
+-- an entry that was listed and removed again
 pub kept-back : (book : List Entry) (old mid new : BTreeMap ℕ (BTreeSet Entry)) (e : Entry) → IsKept book old → has_entry book e ≡ false
     → ((rev : ℕ) → entries_at mid rev ≡ cond (eqb rev e.rev) (with_entry (entries_at old rev) e) (entries_at old rev))
     → ((rev : ℕ) → entries_at new rev ≡ cond (eqb rev e.rev) (without_entry (entries_at mid rev) e) (entries_at mid rev))
@@ -119,7 +119,7 @@ kept-as book same old new kept e h = rw e (record { ordered = kept.ordered; inde
 
 -- ---- texts
 
--- one more entry behind those that were put
+-- one more entry after those that were put
 pub lines_more : {E : Type 0} (shows : E → Entry) (before : List E) (e : E) → flat_map entry_text (map shows (before ++ e ∷ [])) ≡ flat_map entry_text (map shows before) ++ entry_text (shows e)
 lines_more shows before e =
     ap (flat_map entry_text) (map_push shows before e) ∙ flat_map-append entry_text (map shows before) (shows e ∷ [])

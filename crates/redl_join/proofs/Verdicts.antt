@@ -31,7 +31,7 @@ less_then Less s h = inl refl
 less_then Equal s h = inr (refl, h)
 less_then Greater s h = absurd cc
 
--- what stands before: another reviewer who is below, or the same with a seq that isn't greater
+-- an earlier entry: of a reviewer who is below, or of the same one with a seq that is not greater
 abbrev Before : Entry → Entry → Type 0
 Before a b = (slice_cmp nat_cmp a.reviewer b.reviewer ≡ Less) ⊎ ((a.reviewer ≡ b.reviewer) × (a.seq ≤ b.seq))
 
@@ -71,12 +71,12 @@ less_is_other a b less =
 
 -- ---- the latest of a list
 
--- no entry of a reviewer who is below all of these stands here
+-- no entry of a reviewer who is below all of these is here
 latest_alone : (zs : List Entry) (e : Entry) → AllByRecursion (λ z. slice_cmp nat_cmp e.reviewer z.reviewer ≡ Less) zs → is_latest zs e ≡ true
 latest_alone [] e h = refl
 latest_alone (z ∷ zs) e h = rw (less_is_other e z h.0) (latest_alone zs e h.1)
 
--- a reviewer below one of the entries is below those behind it
+-- a reviewer below one of the entries is below those after it
 below_reviewers : (e z : Entry) (zs : List Entry) → slice_cmp nat_cmp e.reviewer z.reviewer ≡ Less → AllByRecursion (λ y. entry_order z y ≡ Less) zs
     → AllByRecursion (λ y. slice_cmp nat_cmp e.reviewer y.reviewer ≡ Less) zs
 below_reviewers e z [] less h = tt
@@ -104,7 +104,7 @@ latest_grows (o ∷ os) e z same le h =
 abbrev AllBelow : Entry → List Entry → Type 0
 AllBelow e zs = AllByRecursion (λ z. entry_order e z ≡ Less) zs
 
--- an entry before these counts beside them just if it is the latest of them
+-- an entry before these counts with them exactly if it is the latest of them
 pub latest_counts : (zs : List Entry) (e : Entry) → IsBook zs → AllBelow e zs → is_latest zs e ≡ still_counts (tally_from zs no_tally).latest e
 unfolding IsStrictlySortedBy
 latest_counts [] e sorted less = refl
@@ -145,7 +145,7 @@ any_same : (p q : Entry → Bool) (ys : List Entry) → AllByRecursion (λ e. p 
 any_same p q [] h = refl
 any_same p q (y ∷ ys) h = rw (h.0, any_same p q ys h.1) refl
 
--- what stands before the others doesn't outdate them
+-- an earlier entry does not outdate the others
 first_is_old : (z e : Entry) → Before z e → (not (has_same_reviewer z e) || nat_le z.seq e.seq) ≡ true
 first_is_old z e (inl less) =
     let other : has_same_reviewer z e ≡ false =
@@ -245,7 +245,7 @@ pub no_entries_undecided : (rev : ℕ) (xs : List Entry) → [] ≡ filter (is_o
 unfolding IsStrictlySortedBy
 no_entries_undecided rev xs none = sym (tallied_verdict rev xs [] tt none)
 
--- ---- the loop, which goes through the entries from the last
+-- ---- the loop, from the last entry to the first
 
 pub tally_from-push : (xs : List Entry) (e : Entry) (t : Tally) → tally_from (xs ++ e ∷ []) t ≡ tally_from xs (tally_with e t)
 tally_from-push [] e t = refl

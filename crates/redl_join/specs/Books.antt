@@ -1,4 +1,4 @@
--- Books: sets of entries. A book is seen as the list of its entries in their order, each once.
+-- Books: sets of entries. Contracts see a book as the list of its entries in their order, each once.
 use Rattle.std.specs.Prelude.{◌≡◌, ◌==◌, ℕ, Bool, List, [], ◌∷◌, filter, Option, Some, None, All}
 use Rattle.std.specs.List.{list_any}
 use Rattle.std.specs.List.Sorted.{IsStrictlySortedBy}
@@ -10,7 +10,7 @@ use Rattle.redl_journal.specs.declared.entry.Entry.{Entry}
 use Rattle.redl_journal.specs.Journals.{IsAllowed}
 use Rattle.redl_journal.specs.Order.{entry_order}
 
--- The entries stand in their order, each once.
+-- The entries are in their order, each once.
 abbrev pub IsBook : List Entry → Type 0
 IsBook entries = IsStrictlySortedBy entry_order entries
 
@@ -22,36 +22,39 @@ is_same entry other = is_eq (entry_order entry other)
 abbrev pub has_entry : List Entry → Entry → Bool
 has_entry entries entry = list_any (is_same entry) entries
 
--- the union with one entry: it stands at its place in the order, once
+-- the union with one entry: it is at its place in the order, once
 abbrev pub with_entry : List Entry → Entry → List Entry
 with_entry entries entry = insert_key entry_order entries entry
 
+-- the entries but this one
 abbrev pub without_entry : List Entry → Entry → List Entry
 without_entry entries entry = remove_key (is_same entry) entries
 
--- the union with all entries of a list, in whatever order they stand there
+-- the union with all entries of a list, in any order
 abbrev pub union : List Entry → List Entry → List Entry
 union book [] = book
 union book (entry ∷ entries) = union (with_entry book entry) entries
 
 -- ---- the entries of one revision
 
+-- the entry is on the revision
 abbrev pub is_on : ℕ → Entry → Bool
 is_on rev entry = entry.rev == rev
 
+-- the entries of a list, if there is one
 abbrev pub listed : Option (BTreeSet Entry) → List Entry
 listed None = []
 listed (Some entries) = entries.keys
 
--- what is listed at a revision
+-- the entries that are listed at a revision
 abbrev pub entries_at : BTreeMap ℕ (BTreeSet Entry) → ℕ → List Entry
 entries_at by_revision rev = listed (get nat_cmp by_revision rev)
 
--- At each revision just its entries are listed.
+-- Each revision lists exactly its entries.
 abbrev pub IsIndexed : List Entry → BTreeMap ℕ (BTreeSet Entry) → Type 0
 IsIndexed entries by_revision = (rev : ℕ) → entries_at by_revision rev ≡ filter (is_on rev) entries
 
--- What a book keeps: its entries in order, the same listed at each revision, and each allowed in a journal.
+-- The invariant of a book: its entries are in order, each revision lists its own, and a journal may hold each.
 pub record IsKept (entries : List Entry) (by_revision : BTreeMap ℕ (BTreeSet Entry)) : Type 0 where
   pub ordered : IsBook entries
   pub indexed : IsIndexed entries by_revision

@@ -1,4 +1,4 @@
-//! A set of entries.
+//! Books: sets of entries.
 ghost use Rattle.std.specs.Prelude.{◌≡◌, ◌^◌, ◌-◌, min, All, List, [], ℕ, length, not, IfOk, OnOk, OnErr, flat_map};
 ghost use Rattle.redl_io.specs.Sink.{Puts};
 ghost use Rattle.redl_journal.specs.Journals.{IsAllowed, entry_text, journal_text};
@@ -18,8 +18,8 @@ use std::marker::Model;
 /// The entries of a book, in their order.
 pub type Entries<'a> = Iter<'a, Entry>;
 
-/// A set of entries, each allowed in a journal. A contract sees the list of them in their order:
-/// by the reviewer's bytes, then seq, then revision, then the word.
+/// A set of entries that a journal may hold. Contracts see a book as the list of its entries in their order: by the
+/// reviewer's bytes, then seq, then revision, then the word.
 #[derive(Drop)]
 pub struct Book {
     alloc: Global,
@@ -40,7 +40,7 @@ impl Model for Book {
 }
 
 impl Book {
-    /// The book without entries. It takes no memory.
+    /// The book without entries.
     pub fn new(alloc: Global) -> Book
         ensures { result ≡ [] }
     {
@@ -51,8 +51,7 @@ impl Book {
         }
     }
 
-    /// Makes the union with this entry, and says whether it is new. `Err` is want of memory: then the
-    /// book is as it was, and the entry is dropped.
+    /// Adds the entry, and says whether it is new. `Err` means out of memory: the book is as it was, and the entry is dropped.
     pub fn add(&mut self, entry: Entry) -> Result<bool, AllocError>
         requires { IsAllowed entry }
         ensures added { OnOk result (self.new ≡ with_entry self.old entry) }
@@ -72,7 +71,7 @@ impl Book {
         }
     }
 
-    /// Takes the entry out, and says whether it was there.
+    /// Removes the entry, and says whether it was there.
     pub fn remove(&mut self, entry: &Entry) -> bool
         ensures removed { self.new ≡ without_entry self.old entry.now }
         ensures was_there { result ≡ has_entry self.old entry.now }
@@ -81,8 +80,8 @@ impl Book {
         self.entries.remove(entry)
     }
 
-    /// What the book decides on the revision: of each reviewer the words with his greatest seq on it
-    /// count, withdrawals left out.
+    /// What the book decides on the revision. Of each reviewer the words with their greatest seq on it count, except
+    /// withdrawals.
     pub fn verdict(&self, rev: u32) -> Verdict
         ensures { result ≡ verdict_at self.now rev }
     {
@@ -92,7 +91,7 @@ impl Book {
         }
     }
 
-    /// The greatest seq of the reviewer's entries, 0 where he has none.
+    /// The greatest seq of the reviewer's entries, or 0 if there are none.
     pub fn greatest(&self, reviewer: &[u8]) -> u32
         ensures { result ≡ greatest_seq self.now reviewer.now }
     {
@@ -105,7 +104,7 @@ impl Book {
         greatest
     }
 
-    /// How many entries it has, or `u64::MAX` where there are more.
+    /// The number of its entries, or `u64::MAX` if there are more.
     pub fn len(&self) -> u64
         ensures { result ≡ min (length self.now) (2 ^ 64 - 1) }
     {
@@ -121,7 +120,8 @@ impl Book {
         self.entries.iter()
     }
 
-    /// Puts the text of the journal with the book's entries in their order.
+    /// Puts the text of the journal with this head and the book's entries in their order. `Failed` means that the sink failed
+    /// and has only a prefix of the text.
     pub fn write<K: Sink>(&self, digest: &[u8; 32], count: u32, out: &mut K) -> Result<(), Failed>
         ensures { Puts K.told K.faults K.settled K.lenders out.old out.new
             (journal_text (record { digest = digest.now; count = count; entries = self.now })) result }
@@ -131,6 +131,7 @@ impl Book {
     }
 }
 
+/// Puts the lines of the entries.
 fn put_entries<K: Sink>(entries: &BTreeSet<Entry>, out: &mut K) -> Result<(), Failed>
     requires { All IsAllowed entries.now.keys }
     ensures { Puts K.told K.faults K.settled K.lenders out.old out.new (flat_map entry_text entries.now.keys) result }

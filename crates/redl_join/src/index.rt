@@ -9,7 +9,7 @@ use std::collections::{BTreeMap, BTreeSet};
 /// The entries of each revision that has some.
 pub(crate) type ByRevision = BTreeMap<u32, BTreeSet<Entry>>;
 
-/// Lists the entry at its revision. `Err` is want of memory, and then nothing has changed.
+/// Lists the entry at its revision. `Err` means out of memory, and no list has changed.
 pub(crate) fn list(
     alloc: Global,
     by_revision: &mut ByRevision,
@@ -30,7 +30,7 @@ pub(crate) fn list(
     Ok(())
 }
 
-/// Takes the entry off the list of its revision.
+/// Removes the entry from the list of its revision.
 pub(crate) fn unlist(by_revision: &mut ByRevision, entry: &Entry)
     ensures { (rev : ℕ) → entries_at by_revision.new rev
         ≡ (if rev == entry.now.rev then without_entry (entries_at by_revision.old rev) entry.now else entries_at by_revision.old rev) }

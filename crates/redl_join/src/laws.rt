@@ -1,15 +1,15 @@
-//! What holds of every book.
+//! Laws of all books.
 ghost use Rattle.std.specs.Prelude.{◌≡◌, ◌↔◌, List, [], Contains};
 ghost use Rattle.redl_journal.specs.declared.entry.Entry.{Entry};
 ghost use Rattle.redl_join.specs.Books.{IsBook, has_entry, union};
 
-/// Books with the same entries are the same, so they answer equally, whatever calls made them.
+/// Books with the same entries are equal, so they give the same answers, whatever calls made them.
 pub fn same_book()
     ensures { (book other : List Entry) → IsBook book → IsBook other
         → ((entry : Entry) → has_entry book entry ≡ has_entry other entry) → book ≡ other }
 {}
 
-/// The union of journals doesn't depend on the order of their entries, nor on repeats.
+/// The union of journals does not depend on the order of their entries or on repeats.
 pub fn same_union()
     ensures { (entries others : List Entry) → ((entry : Entry) → Contains entries entry ↔ Contains others entry)
         → union [] entries ≡ union [] others }

@@ -9,8 +9,8 @@ use crate::verdict::Verdict;
 use redl_journal::{Entry, Word};
 use std::collections::BTreeSet;
 
-// Whether the entry counts, where this one was the last that did. The entries are gone through from
-// the last, so a reviewer's greatest seq comes first.
+/// Whether the entry counts, if `latest` is the entry that counted last. The tally starts with the last entry, so a reviewer's
+/// greatest seq comes first.
 fn counts(latest: Option<&Entry>, entry: &Entry) -> bool
     ensures { result ≡ still_counts (option_copied latest.entry) entry.now }
 {
@@ -22,6 +22,7 @@ fn counts(latest: Option<&Entry>, entry: &Entry) -> bool
     }
 }
 
+/// The verdict, given whether some word that counts accepts and whether one rejects.
 fn from_words(accepted: bool, rejected: bool) -> Verdict
     ensures { result ≡ verdict_of accepted rejected }
 {
@@ -45,7 +46,7 @@ fn rejects(word: Word) -> bool
     matches!(word, Word::Reject)
 }
 
-/// The last entry that counted, and the words that counted so far.
+/// The entry that counted last, and the words that counted so far.
 #[derive(Clone, Copy)]
 struct Tally<'a> {
     latest: Option<&'a Entry>,
@@ -54,7 +55,7 @@ struct Tally<'a> {
 }
 
 impl<'a> Tally<'a> {
-    /// The tally after this entry too.
+    /// The tally after one more entry.
     fn with(self, entry: &'a Entry) -> Tally<'a>
         ensures { tally_of result ≡ tally_with entry.now (tally_of self.entry) }
     {

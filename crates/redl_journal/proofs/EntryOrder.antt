@@ -1,4 +1,4 @@
--- The order of entries tells all entries apart.
+-- Two entries that the order calls equal are the same.
 use Rattle.std.proofs.Common.{◌≡◌, Ordering, Less, Equal, Greater, refl}
 use Rattle.std.specs.Cmp.{IsTotalOrder}
 use Rattle.std.specs.Cmp.Lexicographic.{slice_cmp}

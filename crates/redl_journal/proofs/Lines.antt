@@ -1,4 +1,4 @@
--- The lines of a journal: what is read stands there, and what stands there is read.
+-- The lines of a journal: what was read is what the bytes say, and what the bytes say is read.
 use Rattle.std.proofs.Common.{◌≡◌, ◌≢◌, ℕ, zero, suc, ◌^◌, ◌<◌, true, false, eqb, List, [], ◌∷◌, ◌++◌, length, Option, Some, None, refl, sym, ap, subst, ◌∙◌, ◌⊎◌, inl, inr, arith, append_assoc, append-nil, length-append, get_or, take, drop, take-append-drop, drop-cons}
 use Rattle.std.proofs.lemmas.List.Concat.{flat_map-append}
 use Rattle.std.specs.Prelude.{◌&&◌, codes, decimal, nat_le, Result, Ok, Err, IsErrAnd, IsErrOf, All}
@@ -308,7 +308,7 @@ loop_goes entries rest bs x g e = goes_on entries_step (λ s. length s.1) (entri
 
 -- ---- writing
 
--- the lines before an entry, its line, and those behind it
+-- the lines before an entry, its line, and those after it
 pub lines_around : (entries : List Entry) (i : ℕ) (e : Entry) → i < length entries → e ≡ get_or entries i e
     → flat_map entry_text entries ≡ flat_map entry_text (take i entries) ++ (entry_text e ++ flat_map entry_text (drop (suc i) entries))
 lines_around entries i e within is =

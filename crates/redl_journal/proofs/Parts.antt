@@ -1,4 +1,4 @@
--- The parts of a line: what is read stands there, and what stands there is read.
+-- The fields of a line: what was read is what the bytes say, and what the bytes say is read.
 use Rattle.std.proofs.Common.{◌≡◌, ℕ, ◌^◌, ◌<◌, Bool, true, false, eqb, List, [], ◌∷◌, ◌++◌, length, Option, Some, None, Result, Ok, Err, refl, sym, ap, subst, ◌∙◌, arith, inl, inr}
 use Rattle.std.specs.Prelude.{◌&&◌, decimal, nat_lt, nat_le, MatchResult, IsErr}
 use Rattle.std.specs.List.{list_all, AllPass}

@@ -1,4 +1,4 @@
--- The longest front that passes a test, what stands behind it, and a word at the front.
+-- The longest prefix that passes a test, the bytes after it, and a leading word.
 use Rattle.std.proofs.Common.{◌≡◌, ℕ, zero, suc, ◌<◌, ◌≤◌, Bool, true, false, cond, eqb, List, [], ◌∷◌, ◌++◌, length, get_or, take, drop, Some, None, refl, ap, ◌⊎◌, inl, inr, arith}
 use Rattle.std.specs.Prelude.{not, ◌&&◌}
 use Rattle.std.specs.List.{list_all}
@@ -50,7 +50,7 @@ pub after_stops : (p : ℕ → Bool) (bs : List ℕ) → stops p (after p bs) �
 after_stops p [] = refl
 after_stops p (b ∷ bs) = after_stops_step p (p b) b (after p bs) bs refl (after_stops p bs)
 
--- a list that passes, with a rest that doesn't go on, is the longest front
+-- a list that passes, before a rest that does not begin with more, is the longest prefix
 pub front_again : (p : ℕ → Bool) (a rest : List ℕ) → list_all p a ≡ true → stops p rest ≡ true → front p (a ++ rest) ≡ a
 front_again p [] [] all stop = refl
 front_again p [] (b ∷ bs) all stop = rw (not-true (p b) stop) refl

@@ -21,6 +21,7 @@ tab = 9 ∷ []
 abbrev pub newline : List ℕ
 newline = 10 ∷ []
 
+-- the word as a journal writes it
 abbrev pub word_text : Word → List ℕ
 word_text Accept = codes "accept"
 word_text Reject = codes "reject"
@@ -44,7 +45,7 @@ head_text digest count =
 abbrev pub journal_text : Journal → List ℕ
 journal_text journal = head_text journal.digest journal.count ++ flat_map entry_text journal.entries
 
--- ---- what may stand in a journal
+-- ---- what a journal may hold
 
 -- no control character of ASCII
 unfoldable pub is_visible : ℕ → Bool
@@ -57,7 +58,7 @@ pub record IsReviewer (name : List ℕ) : Type 0 where
   pub visible : list_all is_visible name ≡ true
   pub utf8 : IsUtf8 name
 
--- The entry may stand in a journal: its reviewer is a reviewer's name, and its seq is at least 1.
+-- A journal may hold the entry: its reviewer is a reviewer's name, and its seq is at least 1.
 pub record IsAllowed (entry : Entry) : Type 0 where
   pub reviewer : IsReviewer entry.reviewer
   pub seq : 1 ≤ entry.seq

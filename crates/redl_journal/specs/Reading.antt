@@ -19,51 +19,54 @@ abbrev pub ◌>>=◌ : {A B : Type 0} → Option A → (A → Option B) → Opti
 None >>= next = None
 (Some x) >>= next = next x
 
--- What a function returned, seen by view, is what reading gives.
+-- The code's answer, as plain data by `view`, is what reading gives.
 abbrev pub Gives : {X Y : Type 0} → (X → Y) → Option X → Option Y → Type 0
 Gives view None read = read ≡ None
 Gives view (Some x) read = read ≡ Some (view x)
 
+-- the cause is right: Malformed only if reading fails
 abbrev pub Fails : {Y : Type 0} → JournalError → Option Y → Type 0
 Fails Malformed read = read ≡ None
 Fails NoMemory read = Unit {0}
 
--- the same, unless memory ran out
+-- the answer is what reading gives, unless memory ran out
 abbrev pub Finds : {X Y : Type 0} → (X → Y) → Result X JournalError → Option Y → Type 0
 Finds view (Ok x) read = read ≡ Some (view x)
 Finds view (Err error) read = Fails error read
 
 -- ---- fields
 
--- the longest front of bytes that pass
+-- the longest prefix of bytes that pass
 abbrev pub front : (ℕ → Bool) → List ℕ → List ℕ
 front passes [] = []
 front passes (b ∷ bs) = if passes b then b ∷ front passes bs else []
 
--- what stands behind that front
+-- the bytes after that prefix
 abbrev pub after : (ℕ → Bool) → List ℕ → List ℕ
 after passes [] = []
 after passes (b ∷ bs) = if passes b then after passes bs else b ∷ bs
 
--- what stands behind a word at the front
+-- the bytes after a leading word
 unfoldable pub behind : List ℕ → List ℕ → Option (List ℕ)
 behind [] bs = Some bs
 behind (w ∷ ws) [] = None
 behind (w ∷ ws) (b ∷ bs) = if b == w then behind ws bs else None
 
+-- the byte is another one than `end`
 abbrev pub is_other : ℕ → ℕ → Bool
 is_other end b = not (b == end)
 
--- what stands before the first byte `end`, and what stands behind it
+-- the bytes before the first byte `end`, and those after it
 unfoldable pub field_at : ℕ → List ℕ → Option (List ℕ × List ℕ)
 field_at end bs = do
   rest ← behind (end ∷ []) (after (is_other end) bs)
   Some (front (is_other end) bs, rest)
 
--- the number that these bytes are the decimal digits of
+-- the number whose decimal digits the bytes are
 unfoldable pub number_in : List ℕ → Option ℕ
 number_in bs = if bytes_eq (decimal (digits_value 10 bs)) bs && nat_lt (digits_value 10 bs) (2 ^ 32) then Some (digits_value 10 bs) else None
 
+-- the decision that a word names
 unfoldable pub word_in : List ℕ → Option Word
 word_in bs =
     if bytes_eq bs (word_text Accept) then Some Accept
@@ -71,14 +74,16 @@ word_in bs =
     else if bytes_eq bs (word_text Withdraw) then Some Withdraw
     else None
 
+-- the decoded digest, if its lower-case digits are these bytes
 abbrev pub digest_of : List ℕ → Result (List ℕ) FromHexError → Option (List ℕ)
 digest_of bs (Err error) = None
 digest_of bs (Ok digest) = if bytes_eq (encode_lower digest) bs then Some digest else None
 
--- the digest that these bytes are the lower-case digits of
+-- the digest whose lower-case digits the bytes are
 unfoldable pub digest_in : List ℕ → Option (List ℕ)
 digest_in bs = digest_of bs (decode_sized bs 32)
 
+-- the bytes are a reviewer's name
 unfoldable pub is_reviewer : List ℕ → Bool
 is_reviewer name = nat_le 1 (length name) && nat_le (length name) 255 && list_all is_visible name && is_utf8 name
 
@@ -95,25 +100,28 @@ entry_in line = do
   w ← word_in word.0
   if nat_le 1 s && is_reviewer word.1 then Some (record { reviewer = word.1; seq = s; rev = r; word = w }) else None
 
+-- the entry of the code's line
 abbrev pub entry_of : Line → Entry
 entry_of line = record { reviewer = line.reviewer.now; seq = line.seq; rev = line.rev; word = line.word }
 
--- the entry of the first line, and what stands behind the line
+-- the entry of the first line, and the bytes after the line
 unfoldable pub entry_at : List ℕ → Option (Entry × List ℕ)
 entry_at bs = do
   line ← field_at 10 bs
   entry ← entry_in line.0
   Some (entry, line.1)
 
--- the head of a journal, and what stands behind it
+-- the head of a journal, and the bytes after it
 pub record Head : Type 0 where
   pub digest : List ℕ
   pub count : ℕ
   pub rest : List ℕ
 
+-- the same of the code's head
 abbrev pub head_of : code_head.Head → Head
 head_of head = record { digest = head.digest; count = head.count; rest = head.rest.now }
 
+-- the digest of a leading line `document`, and the bytes after the line
 unfoldable pub digest_at : List ℕ → Option (List ℕ × List ℕ)
 digest_at bs = do
   digits ← behind (codes "document ") bs
@@ -121,6 +129,7 @@ digest_at bs = do
   digest ← digest_in line.0
   Some (digest, line.1)
 
+-- the number of a leading line `revisions`, and the bytes after the line
 unfoldable pub count_at : List ℕ → Option (ℕ × List ℕ)
 count_at bs = do
   digits ← behind (codes "revisions ") bs
@@ -128,6 +137,7 @@ count_at bs = do
   count ← number_in line.0
   Some (count, line.1)
 
+-- the head of the journal with this text
 unfoldable pub head_at : List ℕ → Option Head
 head_at bs = do
   document ← behind title_text bs
@@ -142,22 +152,26 @@ pub data Turn (S R : Type 0) : Type 0 where
   done : Option R → Turn S R
   next : S → Turn S R
 
+-- the answer of this turn, or of those after it
 abbrev pub turn : {S R : Type 0} → Turn S R → (S → Option R) → Option R
 turn (done answer) go = answer
 turn (next state) go = go state
 
+-- the answer after at most this many turns
 abbrev pub turns : {S R : Type 0} → (S → Turn S R) → ℕ → S → Option R
 turns step zero state = None
 turns step (suc n) state = turn (step state) (turns step n)
 
--- the entries so far, and what is left
+-- the entries so far, and the bytes that are left
 abbrev pub Entries : Type 0
 Entries = List Entry × List ℕ
 
+-- a turn after one entry was read, or none
 abbrev pub after_entry : List Entry → Option (Entry × List ℕ) → Turn Entries (List Entry)
 after_entry entries None = done None
 after_entry entries (Some x) = next (entries ++ x.0 ∷ [], x.1)
 
+-- a turn: it ends if no byte is left
 abbrev pub entries_step_at : List Entry → List ℕ → Turn Entries (List Entry)
 entries_step_at entries [] = done (Some entries)
 entries_step_at entries (b ∷ bs) = after_entry entries (entry_at (b ∷ bs))
@@ -165,9 +179,11 @@ entries_step_at entries (b ∷ bs) = after_entry entries (entry_at (b ∷ bs))
 unfoldable pub entries_step : Entries → Turn Entries (List Entry)
 entries_step state = entries_step_at state.0 state.1
 
+-- the entries of these lines
 unfoldable pub entries_in : List ℕ → Option (List Entry)
 entries_in bs = turns entries_step (suc (length bs)) ([], bs)
 
+-- the journal with this text
 unfoldable pub journal_in : List ℕ → Option Journal
 journal_in bs = do
   head ← head_at bs

@@ -1,4 +1,4 @@
--- What the code's journals are, as plain data.
+-- The code's journals as plain data.
 use Rattle.redl_journal.specs.declared.journal.Journal as code
 use Rattle.redl_journal.specs.Journals.{Journal}
 

@@ -9,23 +9,25 @@ use std::alloc::{AllocError, Global};
 pub enum Word {
     Accept,
     Reject,
-    /// The reviewer takes back what he decided before.
+    /// The reviewer takes back what they decided before.
     Withdraw,
 }
 
-/// A reviewer's decision on the revision `rev`. Of his decisions on it the one with the greatest
-/// `seq` counts.
+/// A reviewer's decision on the revision `rev`. Of their decisions on it the ones with the greatest `seq` count.
 #[derive(Drop)]
 pub struct Entry {
+    /// The reviewer's name: in a journal 1 to 255 bytes of UTF-8 without control characters of ASCII.
     pub reviewer: Text,
-    /// At least 1.
+    /// The sequence number: in a journal at least 1.
     pub seq: u32,
+    /// The revision's number.
     pub rev: u32,
+    /// The decision.
     pub word: Word,
 }
 
 impl Entry {
-    /// An equal entry. `Err` is want of memory.
+    /// An equal entry. `Err` means out of memory.
     pub fn copy(&self, alloc: Global) -> Result<Entry, AllocError>
         ensures { IfOk result (λ entry. entry ≡ self.now) }
     {

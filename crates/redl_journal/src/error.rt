@@ -1,17 +1,17 @@
-//! Why a journal was refused.
+//! Why a journal is refused.
 ghost use Rattle.std.specs.Prelude.{◌≡◌};
 ghost use Rattle.redl_journal.specs.declared.error.JournalError.TheVariants.{NoMemory};
 
 use std::alloc::{AllocError, AllocFailed};
 use thiserror::Error;
 
-/// Why a journal was refused.
+/// Why a journal is refused.
 #[derive(Clone, Copy, Debug, PartialEq, Eq, Error)]
 pub enum JournalError {
     /// The bytes are the text of no journal.
     #[error("the bytes are the text of no journal")]
     Malformed,
-    /// An allocation failed; nothing is known of the bytes.
+    /// Out of memory; nothing is known of the bytes.
     #[error("no memory")]
     NoMemory,
 }

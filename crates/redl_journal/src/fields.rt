@@ -1,4 +1,4 @@
-//! The parts of a line.
+//! The fields of a line, and the tests of each.
 ghost use Rattle.std.specs.Prelude.{◌≡◌, length};
 ghost use Rattle.std.specs.List.{list_all};
 ghost use Rattle.std.specs.Str.{is_utf8};
@@ -9,7 +9,7 @@ use crate::entry::Word;
 use itoa::Buffer;
 use std::str;
 
-/// The bytes before the first `end`, and those from it on.
+/// The bytes before the first `end`, and those from it on. Without an `end` all bytes come before it.
 #[tactic(auto, using(crate::proofs::Runs::front_at, crate::proofs::Runs::after_at))]
 fn until(bytes: &[u8], end: u8) -> (&[u8], &[u8])
     ensures front { result.0.now ≡ front (is_other end) bytes.now }
@@ -22,7 +22,7 @@ fn until(bytes: &[u8], end: u8) -> (&[u8], &[u8])
     bytes.split_at(n)
 }
 
-/// What stands behind a word at the front.
+/// The bytes after a leading `word`.
 #[tactic(auto, using(crate::proofs::Runs::behind_pointwise, crate::proofs::Runs::behind_not_pointwise))]
 pub(crate) fn skip<'a>(bytes: &'a [u8], word: &[u8]) -> Option<&'a [u8]>
     ensures { Gives (λ rest. rest.now) result (behind word.now bytes.now) }
@@ -30,7 +30,7 @@ pub(crate) fn skip<'a>(bytes: &'a [u8], word: &[u8]) -> Option<&'a [u8]>
     bytes.strip_prefix(word)
 }
 
-/// What stands before the first `end`, and what stands behind it.
+/// The bytes before the first `end`, and those after it.
 #[tactic(auto, unfolding(crate::specs::Reading::field_at))]
 pub(crate) fn field(bytes: &[u8], end: u8) -> Option<(&[u8], &[u8])>
     ensures { Gives (λ x. (x.0.now, x.1.now)) result (field_at end bytes.now) }
@@ -40,7 +40,7 @@ pub(crate) fn field(bytes: &[u8], end: u8) -> Option<(&[u8], &[u8])>
     Some((field, rest))
 }
 
-/// The number of decimal digits as they are written: with no sign and no leading zero.
+/// The number that decimal digits write, without a sign or a leading zero.
 pub(crate) fn number(digits: &[u8]) -> Option<u32>
     ensures { number_in digits.now ≡ result }
 {
@@ -58,6 +58,7 @@ pub(crate) fn number(digits: &[u8]) -> Option<u32>
     }
 }
 
+/// The decision that a word names.
 #[tactic(auto, unfolding(crate::specs::Reading::word_in))]
 pub(crate) fn word(text: &[u8]) -> Option<Word>
     ensures { word_in text.now ≡ result }
@@ -73,7 +74,7 @@ pub(crate) fn word(text: &[u8]) -> Option<Word>
     }
 }
 
-/// The digest of 64 digits as they are written, in lower case.
+/// The digest that 64 lower-case hexadecimal digits write.
 pub(crate) fn digest(digits: &[u8]) -> Option<[u8; 32]>
     ensures { digest_in digits.now ≡ result }
 {
@@ -92,6 +93,7 @@ pub(crate) fn digest(digits: &[u8]) -> Option<[u8; 32]>
     }
 }
 
+/// Whether no byte is a control character of ASCII.
 #[tactic(auto, unfolding(crate::specs::Journals::is_visible))]
 fn are_visible(bytes: &[u8]) -> bool
     ensures { result ≡ list_all is_visible bytes.now }
@@ -99,13 +101,14 @@ fn are_visible(bytes: &[u8]) -> bool
     bytes.iter().all(|byte| *byte >= 32 && *byte != 127)
 }
 
+/// Whether the bytes are UTF-8.
 fn is_text(bytes: &[u8]) -> bool
     ensures { result ≡ is_utf8 bytes.now }
 {
     str::from_utf8(bytes).is_ok()
 }
 
-/// Whether the bytes may be a reviewer's name.
+/// Whether the bytes are a reviewer's name: 1 to 255 bytes of UTF-8 without control characters of ASCII.
 #[tactic(auto, unfolding(crate::specs::Reading::is_reviewer))]
 pub(crate) fn is_reviewer(name: &[u8]) -> bool
     ensures { result ≡ is_reviewer name.now }

@@ -1,4 +1,4 @@
-//! What holds of every journal and its text.
+//! A law of every journal and its text.
 ghost use Rattle.std.specs.Prelude.{◌≡◌, ℕ, List};
 ghost use Rattle.redl_journal.specs.Journals.{Journal, IsJournal};
 

@@ -1,7 +1,7 @@
 //! Journals: the decisions of reviewers on the revisions of one package, and their text.
-//! `read` takes bytes and gives the one journal whose text they are, or says that there is none.
-//! `write` puts exactly that text, so what was written is read as it was.
-//! What the decisions come to is left to `redl_join`.
+//! `read` takes bytes and gives the one journal with this text, or says that there is none.
+//! `write` puts exactly that text, so a journal that was written is read as it was.
+//! `redl_join` says what the decisions come to.
 #![tactic(auto)]
 
 mod entry;
@@ -20,6 +20,3 @@ pub use journal::Journal;
 pub use laws::one_journal;
 pub use reading::read;
 pub use writing::{write, write_entry, write_head};
-
-#[cfg(test)]
-mod tests;

@@ -1,11 +1,11 @@
-//! The lines of a journal: those of the head, and that of an entry.
+//! The lines of a journal: the three of its head, and one for each entry.
 ghost use Rattle.std.specs.Prelude.{◌≡◌};
 ghost use Rattle.redl_journal.specs.Reading.{Gives, entry_in, entry_at, entry_of, digest_at, count_at, head_at, head_of};
 
 use crate::entry::Word;
 use crate::fields::{digest, field, is_reviewer, number, skip, word};
 
-/// An entry, whose reviewer lies in the bytes that were read.
+/// An entry whose reviewer is borrowed from the bytes that were read.
 #[derive(Clone, Copy)]
 pub(crate) struct Line<'a> {
     pub reviewer: &'a [u8],
@@ -14,7 +14,7 @@ pub(crate) struct Line<'a> {
     pub word: Word,
 }
 
-/// The head of a journal, and the bytes behind it.
+/// The head of a journal, and the bytes after it.
 #[derive(Clone, Copy)]
 pub(crate) struct Head<'a> {
     pub digest: [u8; 32],
@@ -22,6 +22,7 @@ pub(crate) struct Head<'a> {
     pub rest: &'a [u8],
 }
 
+/// The entry of a line without its newline.
 #[tactic(auto, unfolding(crate::specs::Reading::entry_in))]
 fn entry(line: &[u8]) -> Option<Line<'_>>
     ensures { Gives entry_of result (entry_in line.now) }
@@ -43,7 +44,7 @@ fn entry(line: &[u8]) -> Option<Line<'_>>
     })
 }
 
-/// The entry of the first line, and the bytes behind that line.
+/// The entry of the first line, and the bytes after that line.
 #[tactic(auto, unfolding(crate::specs::Reading::entry_at))]
 pub(crate) fn first_entry(bytes: &[u8]) -> Option<(Line<'_>, &[u8])>
     ensures { Gives (λ x. (entry_of x.0, x.1.now)) result (entry_at bytes.now) }
@@ -53,7 +54,7 @@ pub(crate) fn first_entry(bytes: &[u8]) -> Option<(Line<'_>, &[u8])>
     Some((entry, rest))
 }
 
-/// The digest of the line `document`, and the bytes behind that line.
+/// The digest of a leading line `document`, and the bytes after that line.
 #[tactic(auto, unfolding(crate::specs::Reading::digest_at))]
 fn digest_line(bytes: &[u8]) -> Option<([u8; 32], &[u8])>
     ensures { Gives (λ x. (x.0, x.1.now)) result (digest_at bytes.now) }
@@ -64,7 +65,7 @@ fn digest_line(bytes: &[u8]) -> Option<([u8; 32], &[u8])>
     Some((digest, rest))
 }
 
-/// The number of the line `revisions`, and the bytes behind that line.
+/// The number of a leading line `revisions`, and the bytes after that line.
 #[tactic(auto, unfolding(crate::specs::Reading::count_at))]
 fn count_line(bytes: &[u8]) -> Option<(u32, &[u8])>
     ensures { Gives (λ x. (x.0, x.1.now)) result (count_at bytes.now) }
@@ -75,7 +76,7 @@ fn count_line(bytes: &[u8]) -> Option<(u32, &[u8])>
     Some((count, rest))
 }
 
-/// The head of a journal.
+/// The head of the journal with this text, and the bytes after the head.
 #[tactic(auto, unfolding(crate::specs::Reading::head_at))]
 pub(crate) fn read_head(bytes: &[u8]) -> Option<Head<'_>>
     ensures { Gives head_of result (head_at bytes.now) }

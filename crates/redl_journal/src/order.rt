@@ -9,6 +9,7 @@ ghost use Rattle.redl_journal.specs.Order.{entry_order, word_rank};
 use crate::entry::{Entry, Word};
 use std::cmp::Ordering;
 
+/// The rank of a word in the order of entries.
 fn rank(word: Word) -> u8
     ensures { result ≡ word_rank word }
 {

@@ -11,6 +11,7 @@ use crate::line::{Line, first_entry, read_head};
 use redl_io::Text;
 use std::alloc::{AllocError, Global};
 
+/// The entry with its own copy of the reviewer. `Err` means out of memory.
 fn owned(alloc: Global, line: Line<'_>) -> Result<Entry, AllocError>
     ensures { IfOk result (λ entry. entry ≡ entry_of line.entry) }
 {
@@ -40,10 +41,9 @@ fn read_entries(alloc: Global, bytes: &[u8]) -> Result<Vec<Entry>, JournalError>
     Ok(entries)
 }
 
-/// The journal whose text the bytes are. Its entries stand in the order of the text, repeats included,
-/// and each may be written again.
+/// The journal with this text. Its entries are in the order of the text, repeats included, and each may be written again.
 ///
-/// `Malformed` exactly where the bytes are the text of no journal. `NoMemory` says nothing of them.
+/// `Malformed` comes only if the bytes are the text of no journal. `NoMemory` means out of memory, and says nothing of them.
 pub fn read(alloc: Global, bytes: &[u8]) -> Result<Journal, JournalError>
     ensures found { IfOk result (λ journal. IsJournal bytes.now (journal_of journal)) }
     ensures allowed { IfOk result (λ journal. All IsAllowed journal.entries.items) }

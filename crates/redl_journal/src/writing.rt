@@ -11,6 +11,7 @@ use crate::journal::Journal;
 use itoa::Buffer;
 use redl_io::{Failed, Sink, put_piece, put_text};
 
+/// Puts the decimal digits of the number.
 fn put_number<K: Sink>(number: u32, out: &mut K) -> Result<(), Failed>
     ensures { Puts K.told K.faults K.settled K.lenders out.old out.new (decimal number) result }
 {
@@ -18,6 +19,7 @@ fn put_number<K: Sink>(number: u32, out: &mut K) -> Result<(), Failed>
     put_piece(buffer.format(number).as_bytes(), out)
 }
 
+/// Puts the word as a journal writes it.
 fn put_word<K: Sink>(word: Word, out: &mut K) -> Result<(), Failed>
     ensures { Puts K.told K.faults K.settled K.lenders out.old out.new (word_text word) result }
 {
@@ -28,6 +30,7 @@ fn put_word<K: Sink>(word: Word, out: &mut K) -> Result<(), Failed>
     }
 }
 
+/// Puts the digest in lower-case hexadecimal digits.
 fn put_digest<K: Sink>(digest: &[u8; 32], out: &mut K) -> Result<(), Failed>
     ensures { Puts K.told K.faults K.settled K.lenders out.old out.new (encode_lower digest.now) result }
 {
@@ -36,7 +39,7 @@ fn put_digest<K: Sink>(digest: &[u8; 32], out: &mut K) -> Result<(), Failed>
     put_piece(&digits, out)
 }
 
-/// Puts the three lines of a journal's head.
+/// Puts the three lines of a journal's head. `Failed` means that the sink failed and has only a prefix of them.
 pub fn write_head<K: Sink>(digest: &[u8; 32], count: u32, out: &mut K) -> Result<(), Failed>
     ensures { Puts K.told K.faults K.settled K.lenders out.old out.new (head_text digest.now count) result }
 {
@@ -49,7 +52,7 @@ pub fn write_head<K: Sink>(digest: &[u8; 32], count: u32, out: &mut K) -> Result
     put_piece(b"\n", out)
 }
 
-/// Puts the line of an entry.
+/// Puts the line of an entry. `Failed` means that the sink failed and has only a prefix of it.
 pub fn write_entry<K: Sink>(entry: &Entry, out: &mut K) -> Result<(), Failed>
     requires { IsAllowed entry.now }
     ensures { Puts K.told K.faults K.settled K.lenders out.old out.new (entry_text entry.now) result }
@@ -64,6 +67,7 @@ pub fn write_entry<K: Sink>(entry: &Entry, out: &mut K) -> Result<(), Failed>
     put_piece(b"\n", out)
 }
 
+/// Puts the lines of the entries.
 fn write_entries<K: Sink>(entries: &[Entry], out: &mut K) -> Result<(), Failed>
     requires { All IsAllowed entries.now }
     ensures { Puts K.told K.faults K.settled K.lenders out.old out.new (flat_map entry_text entries.now) result }
@@ -74,7 +78,8 @@ fn write_entries<K: Sink>(entries: &[Entry], out: &mut K) -> Result<(), Failed>
     Ok(())
 }
 
-/// Puts the text of a journal, with the entries in their order.
+/// Puts the text of a journal, with the entries in their order. `Failed` means that the sink failed and has only a prefix of
+/// it.
 pub fn write<K: Sink>(journal: &Journal, out: &mut K) -> Result<(), Failed>
     requires { All IsAllowed journal.now.entries.items }
     ensures { Puts K.told K.faults K.settled K.lenders out.old out.new (journal_text (journal_of journal.now)) result }

@@ -1,6 +1,7 @@
 -- Why a call ends without its output, and the status and the line of each cause.
 use Rattle.std.specs.Prelude.{ℕ, List, [], ◌∷◌, ◌++◌, codes, decimal}
 use Rattle.hex.specs.Hex.{encode_lower}
+use Rattle.redl_io.specs.Limits.{package_bytes, journal_bytes, depth, nodes}
 use Rattle.redl_journal.specs.declared.entry.Entry.{Entry}
 use Rattle.redl_journal.specs.Journals.{word_text}
 use Rattle.redl_lines.specs.declared.refusal.Limit.{Limit}
@@ -13,7 +14,7 @@ use Rattle.redl_lines.specs.declared.status.Status.{Status}
 use Rattle.redl_lines.specs.declared.status.Status.TheVariants as status
 
 pub data Refusal : Type 0 where
-  -- the words, or a kind of revision of the package
+  -- the words are no command that is built yet
   unbuilt : Refusal
   -- the file is no package
   no_package : PackageFault → Refusal
@@ -84,10 +85,10 @@ fault_line NoDocument = codes "redline: package: no document" ++ newline
 fault_line (Rule rule) = codes "redline: package: rule " ++ (decimal rule ++ newline)
 
 abbrev pub limit_line : Limit → List ℕ
-limit_line PackageBytes = codes "redline: limit package bytes 67108864" ++ newline
-limit_line JournalBytes = codes "redline: limit journal bytes 67108864" ++ newline
-limit_line Depth = codes "redline: limit depth 512" ++ newline
-limit_line Nodes = codes "redline: limit nodes 2097152" ++ newline
+limit_line PackageBytes = codes "redline: limit package bytes " ++ decimal package_bytes ++ newline
+limit_line JournalBytes = codes "redline: limit journal bytes " ++ decimal journal_bytes ++ newline
+limit_line Depth = codes "redline: limit depth " ++ decimal depth ++ newline
+limit_line Nodes = codes "redline: limit nodes " ++ decimal nodes ++ newline
 
 abbrev pub no_memory_line : List ℕ
 no_memory_line = codes "redline: no memory" ++ newline

@@ -1,3 +1,5 @@
+//! How a call ends, and the status of each end.
+
 ghost use Rattle.std.specs.Prelude.{◌≡◌};
 
 use crate::Status;

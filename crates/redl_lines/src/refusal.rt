@@ -1,3 +1,5 @@
+//! Why a call ends without its output.
+
 ghost use Rattle.std.specs.Prelude.{◌≡◌};
 
 use crate::Status;
@@ -37,7 +39,7 @@ pub enum Limit {
 /// Why a call ends without its output.
 #[derive(Clone, Copy)]
 pub enum Refusal<'a> {
-    /// The words, or a kind of revision of the package, are not built yet.
+    /// The words are no command that is built yet.
     Unbuilt,
     /// The file is no package.
     Package(PackageFault),

@@ -1,3 +1,5 @@
+//! The status that the program ends with.
+
 ghost use Rattle.std.specs.Prelude.{◌≡◌};
 
 /// How a call ended.
@@ -23,7 +25,7 @@ pub enum Status {
     NoMemory = 8,
     /// A reviewer has no sequence number left.
     Sequence = 9,
-    /// The words, or the form of the file, are not built yet.
+    /// The words are no command that is built yet.
     Unbuilt = 10,
 }
 

@@ -1,4 +1,5 @@
-// What no clause says: each end with its exit status and its lines, by hand.
+//! Tests of what no clause says: each end with its exit status and its lines, by hand.
+
 use super::*;
 use redl_io::MemSink;
 use redl_join::Book;

@@ -1,4 +1,4 @@
--- A set of names has as many keys as the list that it was made of exactly if no two are alike.
+-- A set made of a list of names has as many keys as the list exactly if no two are alike.
 use Rattle.std.proofs.Common.{◌≡◌, ℕ, Bool, true, false, List, [], ◌∷◌, Ordering, Less, Equal, Greater, refl, sym, ◌∙◌, eqb, length, map, arith}
 use Rattle.std.specs.Prelude.{not, ◌&&◌}
 use Rattle.std.specs.List.{list_all, AllByRecursion, IsDistinct}

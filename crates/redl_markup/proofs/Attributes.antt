@@ -1,4 +1,4 @@
--- An attribute that is read stands there, and one that stands there is read; and so with a tail of them.
+-- An attribute is read exactly if the bytes begin with it, and so is a tail of attributes.
 use Rattle.std.proofs.Common.{◌≡◌, ◌≢◌, ℕ, zero, suc, ◌<◌, ◌≤◌, true, false, cond, eqb, List, [], ◌∷◌, ◌++◌, length, map, Option, Some, None, refl, sym, ap, subst, ◌∙◌, append_assoc, length-append, arith, inl, inr}
 use Rattle.std.specs.Prelude.{◌||◌, codes}
 use Rattle.std.specs.List.{list_all, AllByRecursion}
@@ -19,7 +19,7 @@ use Rattle.redl_markup.proofs.Turns.{Going, begins, goes_on, ends}
 use Rattle.redl_markup.proofs.Words.{behind_takes, behind_again, eqb_same}
 use Rattle.redl_markup.proofs.Names.{bind_some, is_delimiter, ends_name, name_head, name_takes, name_again}
 
--- ---- what stands behind white space
+-- ---- what follows white space
 
 pub space_ends_name : (b : ℕ) → is_space b ≡ true → is_delimiter b ≡ true
 unfolding is_space is_delimiter
@@ -86,7 +86,7 @@ unfolding quote_at
 quote_again q rest (inl e) = rw e refl
 quote_again q rest (inr e) = rw e refl
 
--- the text of a `=` with a value, and what stands behind it
+-- the text of a `=` with a value, and what follows it
 abbrev pub equated_then : List ℕ → List ℕ → ℕ → List ℕ → List ℕ → List ℕ
 equated_then left right quote value rest = left ++ (61 ∷ (right ++ (quote ∷ (value ++ (quote ∷ rest)))))
 

@@ -32,7 +32,7 @@ of_text bs h = rw (ap chars h.whole ∙ chars-encodes h.characters (each_scalar 
 pub tests_text : (bs : List ℕ) (r : Bool) → IsUtf8 bs → r ≡ list_all is_character (chars bs) → (IsTrue r → IsText bs) × (IsText bs → IsTrue r)
 tests_text bs r u e = (λ t. text_of bs u (sym e ∙ t), λ h. e ∙ of_text bs h)
 
--- ---- bytes that no forbidden character has
+-- ---- bytes with which no forbidden character begins
 
 plain_low : (c : ℕ) → c < 128 → is_plain_byte c ≡ true → is_character c ≡ true
 unfolding is_plain_byte is_character

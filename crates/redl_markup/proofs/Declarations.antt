@@ -1,4 +1,4 @@
--- The head of a text that is read stands there, and one that stands there is read.
+-- The head of a text is read exactly if the bytes begin with it.
 use Rattle.std.proofs.Common.{◌≡◌, ℕ, Bool, true, false, cond, eqb, List, [], ◌∷◌, ◌++◌, Option, Some, None, refl, sym, ap, ◌∙◌, append_assoc, arith, inl, inr}
 use Rattle.std.specs.Prelude.{not, ◌||◌, codes}
 use Rattle.std.specs.List.{list_all, AllByRecursion}
@@ -61,7 +61,7 @@ setting_takes word bs x e =
                 };
           }
 
--- a setting's text from behind its gap
+-- a setting's text after its gap
 setting_text : (word : List ℕ) (fits : List ℕ → Bool) (a : Attribute) (rest : List ℕ) → IsSetting word fits a → attribute_then a rest ≡ a.gap ++ (word ++ equated_then a.left a.right a.quote a.value rest)
 setting_text word fits a rest h = ap (λ (n : Name). a.gap ++ (name_text n ++ equated_then a.left a.right a.quote a.value rest)) h.name
 
@@ -75,7 +75,7 @@ setting_again word fits a rest stop h =
     let value = equated_again a.left a.right a.quote a.value rest (record { on_left = h.left; on_right = h.right; is_quote = h.quote; no_quote = h.no_quote }) in
     rw (gap, here, filled-is a.gap h.gap.0, behind_again word equated) value
 
--- another word stands there
+-- another word is there
 setting_none : (word bs : List ℕ) → behind word (after is_space bs) ≡ None → setting_at word bs ≡ None
 unfolding setting_at
 setting_none word bs e = elim (either (is_filled (front is_space bs))) [ inl f ↦ rw (f, e) refl | inr f ↦ rw f refl ]
@@ -102,7 +102,7 @@ end_stops : (more : List ℕ) → stops is_space (codes "?>" ++ more) ≡ true
 unfolding is_space
 end_stops more = refl
 
--- ---- settings that may be left out
+-- ---- optional settings
 
 optional_takes : (word : List ℕ) (fits : List ℕ → Bool) (bs rest : List ℕ) → optional_after fits bs (setting_at word bs) ≡ Some rest → (o : Option Attribute) × (bs ≡ optional_then o rest) × IsOptional (IsSetting word fits) o
 optional_takes word fits bs rest e = of (setting_at word bs) refl e where
@@ -149,7 +149,7 @@ declaration_takes bs rest e =
       record { version = version.2; encoding = encoding.2; standalone = standalone.2; space = front_passes is_space s.0 },
     )
 
--- the end of a declaration is none of its settings
+-- the end of a declaration begins no setting
 end_after : (space rest : List ℕ) → IsSpace space → after is_space (space ++ (codes "?>" ++ rest)) ≡ codes "?>" ++ rest
 end_after space rest h = after_again is_space space (codes "?>" ++ rest) h (end_stops rest)
 

@@ -1,4 +1,4 @@
--- What decoding gives: a reference's character and then what is behind the reference; of UTF-8 it makes UTF-8.
+-- What decoding gives: a reference's character and then what follows the reference; from UTF-8 it makes UTF-8.
 use Rattle.std.proofs.Common.{◌≡◌, ℕ, ◌<◌, ◌≤◌, Bool, true, false, cond, eqb, ltb, List, [], ◌∷◌, ◌++◌, Option, Some, None, refl, sym, ap, subst, ◌∙◌, append_assoc, arith, inl, inr, ◌⊎◌}
 use Rattle.std.specs.Prelude.{not, ◌&&◌, codes, encode_utf8}
 use Rattle.std.specs.Char.{IsScalar}
@@ -123,7 +123,7 @@ past_end (b ∷ bs) rest h =
     let both = and-true (is_other 59 b) (list_all (is_other 59) bs) h in
     ap (λ (t : Bool). decoded_from t (bs ++ (59 ∷ rest))) both.0 ∙ past_end bs rest both.1
 
--- A reference becomes its character, and decoding goes on behind its `;`.
+-- A reference becomes its character, and decoding goes on after its `;`.
 pub decoded-reference : (bs : List ℕ) (c : ℕ) (rest : List ℕ) → reference_at bs ≡ Some (c, rest) → decoded_value (38 ∷ bs) ≡ encode_utf8 c ++ decoded_value rest
 decoded-reference bs c rest e =
     let r = reference_refers bs (c, rest) e in
@@ -198,7 +198,7 @@ all_decode (c ∷ cs) h s =
       | inr high ↦ high_decodes s c (encode_utf8_all cs) high are.0 (all_decode cs are.1)
     ]
 
--- Of UTF-8 decoding makes UTF-8.
+-- Decoding makes UTF-8 from UTF-8.
 pub decoded_is_utf8 : (value : List ℕ) → IsUtf8 value → IsUtf8 (decoded_value value)
 decoded_is_utf8 value u = let P : List ℕ → Type 0 = λ z. IsUtf8 (decoded_value z) in subst P u.1.1 (all_decode u.0 u.1.0 false)
 

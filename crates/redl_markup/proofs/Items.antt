@@ -1,4 +1,4 @@
--- A comment, an instruction or CDATA that is read stands there, and one that stands there is read.
+-- A comment, an instruction or CDATA is read exactly if the bytes begin with it.
 use Rattle.std.proofs.Common.{◌≡◌, ◌≢◌, ℕ, Bool, true, false, cond, eqb, List, [], ◌∷◌, ◌++◌, Option, Some, None, refl, sym, ap, subst, ◌∙◌, inl, inr}
 use Rattle.std.specs.Prelude.{not, ◌||◌, codes}
 use Rattle.redl_markup.specs.declared.place.Place.{Place}
@@ -31,7 +31,7 @@ other_behind (d ∷ ds) (x ∷ xs) r lacking e =
       | inr other ↦ rw other refl
     ]
 
--- a dash with another one behind it is refused, and so is one at the end
+-- a dash followed by another one is refused, and so is one at the end
 dash_behind : (b : ℕ) (c bs r : List ℕ) → begins (codes "--") (b ∷ bs) ≡ false → bs ≡ c ++ (45 ∷ 45 ∷ r) → (not (eqb b 45) || begins_other 45 c) ≡ true
 dash_behind b c bs r lacking e =
     elim (either (eqb b 45)) [

@@ -19,7 +19,7 @@ use Rattle.redl_markup.proofs.Attributes.{first_again, first_shorter, tail_takes
 use Rattle.redl_markup.proofs.Tags.{attributes_then-append}
 use Rattle.std.proofs.lemmas.List.Folds.{list_all-append}
 
--- any count above what is left gives the same list
+-- any count above the length of the rest gives the same list
 counts_alike : (n m : ℕ) (tail : List ℕ) → length tail < n → length tail < m → attributes_from n tail ≡ attributes_from m tail
 counts_alike zero m tail hn hm = absurd (omega arith)
 counts_alike (suc n) zero tail hn hm = absurd (omega arith)
@@ -115,7 +115,7 @@ names_pass_from p (suc n) tail h = of (attribute_in tail) refl (names_pass_from 
       let name : t.0.name ≡ x.0.0 = ap (λ (v : Name × List ℕ). v.0) t.3 in
       and-both (name_passes p x.0.0) (list_all (λ a. name_passes p a.0) (attributes_from n x.1)) (sym (ap (name_passes p) name) ∙ passed.0) (go x.1 passed.1)
 
--- Where all bytes of a tail pass, those of its attributes' names do.
+-- If all bytes of a tail pass, so do those of its attributes' names.
 pub names_pass : (p : ℕ → Bool) (tail : List ℕ) → list_all p tail ≡ true → list_all (λ a. name_passes p a.0) (attributes_of tail) ≡ true
 unfolding attributes_of
 names_pass p tail h = names_pass_from p (suc (length tail)) tail h

@@ -1,4 +1,4 @@
--- A name that is read stands there, and a name that stands there is read.
+-- A name is read exactly if the bytes begin with it.
 use Rattle.std.proofs.Common.{◌≡◌, ℕ, zero, suc, nat_le, slice_get, ◌<◌, ◌≤◌, ◌+◌, ◌/◌, ◌%◌, Bool, true, false, cond, ltb, eqb, List, [], ◌∷◌, ◌++◌, length, drop, Option, Some, None, refl, sym, ap, subst, ◌∙◌, append_assoc, length-append, arith, inl, inr, ◌⊎◌}
 use Rattle.std.specs.Prelude.{◌&&◌, ◌||◌, not, codes, encode_utf8}
 use Rattle.std.specs.List.{list_all}
@@ -83,7 +83,7 @@ scalar_is c h = h
 
 -- ---- what ends a name
 
--- no name character stands at the front
+-- the bytes begin with no name character
 abbrev pub Stops : Bool → List ℕ → Type 0
 Stops colons bs = (x : ℕ × List ℕ) → char_at bs ≡ Some x → may_follow colons x.0 ≡ false
 
@@ -232,7 +232,7 @@ word_head w h =
     let head = encode_head h.first (start_high h.first h.start) in
     (head.0, head.1 ++ encode_utf8_all h.more, head.2, h.whole ∙ ap (λ (z : List ℕ). z ++ encode_utf8_all h.more) head.3)
 
--- ---- names with a prefix or without
+-- ---- names with or without a prefix
 
 local_takes : (word r : List ℕ) (o : Option (List ℕ)) (x : Name × List ℕ) → IsWord false word → behind (codes ":") r ≡ o → local_at word r o ≡ Some x → (word ++ r ≡ name_text x.0 ++ x.1) × IsName x.0
 local_takes word r None x h b e =
@@ -303,7 +303,7 @@ name_byte_goes colons b bs h =
     let both = and-true (nat_le b 127) (may_follow colons b) h in
     rw (step_goes colons (b ∷ bs) (b, bs) (ascii_again b bs (omega (arith, leb-true b 127 both.0))) both.1) refl
 
--- a name ends where it does behind its ASCII characters
+-- a name ends where its rest after the ASCII characters ends
 end_behind_bytes : (colons : Bool) (bs : List ℕ) → name_end colons bs ≡ name_end colons (after (is_name_byte colons) bs)
 end_behind_bytes colons [] = refl
 end_behind_bytes colons (b ∷ bs) =
@@ -312,7 +312,7 @@ end_behind_bytes colons (b ∷ bs) =
       | inr stays ↦ rw stays refl
     ]
 
--- an ASCII byte that is no character of a name ends it
+-- an ASCII byte that is not a name character ends a name
 ends_at_byte : (colons : Bool) (b : ℕ) (bs : List ℕ) → b < 128 → is_name_byte colons b ≡ false → name_end colons (b ∷ bs) ≡ Some (b ∷ bs)
 unfolding name_end is_name_byte
 ends_at_byte colons b bs low h =

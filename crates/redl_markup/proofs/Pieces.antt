@@ -1,4 +1,4 @@
--- A piece that is read stands there, and a piece that stands there is read.
+-- A piece is read exactly if the bytes begin with it.
 use Rattle.std.proofs.Common.{◌≡◌, ◌≢◌, ℕ, ◌<◌, ◌≤◌, Bool, true, false, eqb, List, [], ◌∷◌, ◌++◌, length, Option, Some, None, Result, Ok, Err, refl, sym, ap, subst, ◌∙◌, length-append, arith, inl, inr, ◌⊎◌}
 use Rattle.std.specs.Prelude.{not, ◌&&◌, ◌||◌, codes, IfOk, IsErrOf}
 use Rattle.std.specs.List.{list_all}
@@ -23,7 +23,7 @@ use Rattle.redl_markup.proofs.Items.{item_begins}
 use Rattle.redl_markup.proofs.Tags.{IsTag, tag_takes, start_again, empty_again, end_takes, end_again}
 use Rattle.redl_markup.proofs.Stretches.{whole_then, stretch_takes, stretch_again}
 
--- ---- what is read stands there
+-- ---- the bytes begin with what is read
 
 tag_stands : (place : Place) (bs : List ℕ) (p : Piece) (rest : List ℕ) → bs ≡ piece_then p rest → IsTag p → Stands place bs p rest
 tag_stands place bs (stretch s) rest e h = absurd h
@@ -50,7 +50,7 @@ pub piece_takes : (place : Place) (bs : List ℕ) (x : Piece × List ℕ) → pi
 unfolding piece_at
 piece_takes place bs x e = cases_take place bs x (behind (codes "</") bs) (behind (codes "<") bs) refl refl e
 
--- ---- what stands there is read
+-- ---- what the bytes begin with is read
 
 high_is_other : (b : ℕ) → 65 ≤ b → (eqb b 47 ≡ false) × (eqb b 33 ≡ false) × (eqb b 63 ≡ false)
 high_is_other b h = (grind (arith, nat_tests), grind (arith, nat_tests), grind (arith, nat_tests))
@@ -72,7 +72,7 @@ tag_is_read : (place : Place) (name : Name) (rest : List ℕ) → IsName name �
 unfolding piece_at
 tag_is_read place name rest h = let apart = name_begins_tag name rest h in rw (apart.0, apart.1) refl
 
--- how a stretch begins: with a byte that is no `<`, or with an item
+-- a stretch begins with a byte other than `<`, or with an item
 abbrev Begins : List ℕ → Type 0
 Begins bs = (behind (codes "<") bs ≡ None) ⊎ (begins_item bs ≡ true)
 
@@ -130,7 +130,7 @@ piece_again place (stretch s) rest h f =
 pub stands_is_read : (place : Place) (bs : List ℕ) (p : Piece) (rest : List ℕ) → Stands place bs p rest → piece_at place bs ≡ Some (p, rest)
 stands_is_read place bs p rest h = ap (piece_at place) h.whole ∙ piece_again place p rest h.legal h.follows
 
--- two pieces that begin one text are one
+-- two pieces with which one text begins are equal
 pub one_piece : (place : Place) (bs : List ℕ) (p q : Piece) (x y : List ℕ) → Stands place bs p x → Stands place bs q y → (p ≡ q) × (x ≡ y)
 one_piece place bs p q x y hp hq = some_pair_parts p q x y (sym (stands_is_read place bs p x hp) ∙ stands_is_read place bs q y hq)
 

@@ -1,4 +1,4 @@
--- The places where a byte stands: what lies between them is passed over.
+-- The places where a byte occurs: what lies between them is skipped.
 use Rattle.std.proofs.Common.{◌≡◌, ℕ, ◌<◌, ◌≤◌, eqb, List, [], ◌∷◌, length, Option, Some, None, refl, sym, ap, ◌∙◌, inl, inr, arith}
 use Rattle.std.specs.Prelude.{◌&&◌, true}
 use Rattle.redl_markup.specs.Lists.{behind, lacks, after, is_other}
@@ -19,7 +19,7 @@ after_fits byte (b ∷ bs) =
 after_here : (byte b : ℕ) (bs : List ℕ) → eqb b byte ≡ true → after (is_other byte) (b ∷ bs) ≡ b ∷ bs
 after_here byte b bs same = rw same refl
 
--- A word stands nowhere before its first byte.
+-- A word occurs nowhere before its first byte.
 pub lacks_after : (w : ℕ) (ws bs : List ℕ) → lacks (w ∷ ws) (after (is_other w) bs) ≡ lacks (w ∷ ws) bs
 lacks_after w ws [] = refl
 lacks_after w ws (b ∷ bs) =
@@ -51,7 +51,7 @@ references_some bs rest e =
     let front : after (is_other 38) bs ≡ 38 ∷ rest = behind_takes (38 ∷ []) (after (is_other 38) bs) rest e in
     (sym (references_after bs) ∙ ap has_references front, omega (arith, after_fits 38 bs, ap length front))
 
--- what is read is there where the code found it
+-- what is read is where the code found it
 pub found_there : {X Y : Type 0} (view : X → Y) (r : Option X) (read : Option Y) → Gives view r read → is_there read ≡ is_some r
 found_there view None read e = rw e refl
 found_there view (Some x) read e = rw e refl

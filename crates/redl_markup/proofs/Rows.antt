@@ -1,4 +1,4 @@
--- Rows of the definitions, each by computing.
+-- Examples of the definitions, each by computing.
 use Rattle.std.proofs.Common.{◌≡◌, true, false, [], ◌∷◌, Some, None, refl}
 use Rattle.std.specs.Prelude.{codes}
 use lib.Utf8.{encode}

@@ -1,4 +1,4 @@
--- The longest front that passes a test, and what stands behind it.
+-- The longest leading run that passes a test, and what follows it.
 use Rattle.std.proofs.Common.{◌≡◌, ℕ, zero, suc, ◌<◌, ◌≤◌, Bool, true, false, cond, List, [], ◌∷◌, ◌++◌, length, get_or, take, drop, refl, ap, ◌⊎◌, inl, inr, arith}
 use Rattle.std.specs.Prelude.{not, ◌&&◌, ◌==◌, Option, Some, None, is_some}
 use Rattle.std.specs.Option.{unwrap_or}
@@ -51,7 +51,7 @@ pub after_stops : (p : ℕ → Bool) (bs : List ℕ) → stops p (after p bs) �
 after_stops p [] = refl
 after_stops p (b ∷ bs) = after_stops_step p (p b) b (after p bs) bs refl (after_stops p bs)
 
--- a list that passes, with a rest that doesn't go on, is the longest front
+-- a list that passes, followed by a rest that does not continue it, is the longest leading run
 pub front_again : (p : ℕ → Bool) (a rest : List ℕ) → list_all p a ≡ true → stops p rest ≡ true → front p (a ++ rest) ≡ a
 front_again p [] [] all stop = refl
 front_again p [] (b ∷ bs) all stop = rw (not-true (p b) stop) refl
@@ -81,9 +81,9 @@ after_at p (b ∷ bs) zero le all stop = rw (stop (omega arith)) refl
 after_at p (b ∷ bs) (suc n) le all stop =
     rw (all 0 (omega arith)) (after_at p bs n (omega arith) (λ k h. all (suc k) (omega arith)) (λ h. stop (omega arith)))
 
--- ---- the front before the first byte of one kind
+-- ---- the bytes before the first byte of one kind
 
--- where a search ends, and what stands before it and there
+-- where a search ends, and what comes before it and there
 record IsFound (byte : ℕ) (bs : List ℕ) (n : ℕ) : Type 0 where
   within : n ≤ length bs
   before : (k : ℕ) → k < n → is_other byte (get_or bs k 0) ≡ true
@@ -116,7 +116,7 @@ each_passes : (p : ℕ → Bool) (bs : List ℕ) → ((k : ℕ) → k < length b
 each_passes p [] all = refl
 each_passes p (b ∷ bs) all = and-both (p b) (list_all p bs) (all 0 (omega arith)) (each_passes p bs (λ k lt. all (suc k) (omega arith)))
 
--- a search finds the byte where it stands
+-- a search finds the byte where it is
 pub finds : (byte : ℕ) (bs : List ℕ) (r : Option ℕ) → IsFirstByte (is_byte byte) bs r → is_some r ≡ not (list_all (is_other byte) bs)
 finds byte bs None h = let f = found byte bs None h in rw (each_passes (is_other byte) bs f.before) refl
 finds byte bs (Some n) h =

@@ -1,4 +1,4 @@
--- A stretch that is read stands there, and one that stands there is read.
+-- A stretch is read exactly if the bytes begin with it.
 use Rattle.std.proofs.Common.{◌≡◌, ◌≢◌, ℕ, zero, suc, ◌<◌, ◌≤◌, Bool, true, false, cond, eqb, List, [], ◌∷◌, ◌++◌, length, Option, Some, None, refl, sym, ap, ◌∙◌, append_assoc, length-append, arith, inl, inr}
 use Rattle.std.specs.Prelude.{not}
 use Rattle.std.specs.List.{AllByRecursion}
@@ -140,7 +140,7 @@ items_then-append [] x y = refl
 items_then-append (i ∷ more) x y =
     item_then-append i.0 (i.1 ++ items_then more x) y ∙ ap (item_then i.0) (append_assoc i.1 (items_then more x) y ∙ ap (λ (z : List ℕ). i.1 ++ z) (items_then-append more x y))
 
--- a stretch's text with what stands behind it
+-- a stretch's text with what follows it
 pub whole_then : (head : Head) (first : List ℕ) (more : List (Item × List ℕ)) (rest : List ℕ) → head_then head (first ++ items_then more []) ++ rest ≡ head_then head (first ++ items_then more rest)
 whole_then head first more rest =
     head_then-append head (first ++ items_then more []) rest ∙ ap (head_then head) (append_assoc first (items_then more []) rest ∙ ap (λ (z : List ℕ). first ++ z) (items_then-append more [] rest))

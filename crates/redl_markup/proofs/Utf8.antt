@@ -1,4 +1,4 @@
--- Of UTF-8, the parts of pieces are UTF-8.
+-- The parts of pieces of UTF-8 are UTF-8.
 use Rattle.std.proofs.Common.{◌≡◌, ◌≢◌, ℕ, ◌<◌, ◌+◌, Bool, true, eqb, List, [], ◌∷◌, ◌++◌, length, get_or, drop, Option, Some, None, refl, sym, ap, subst, ◌∙◌, append_assoc, length-append, arith, inl, inr, ◌⊎◌}
 use Rattle.std.specs.Prelude.{not, IfSome}
 use Rattle.std.specs.List.{list_all, AllByRecursion}
@@ -18,7 +18,7 @@ use Rattle.redl_markup.specs.ScanTags.{attribute_in}
 use Rattle.redl_markup.proofs.Runs.{and-true}
 use Rattle.redl_markup.proofs.Attributes.{first_takes}
 
--- What stands on both sides of an ASCII byte is UTF-8.
+-- What is on either side of an ASCII byte is UTF-8.
 pub record CutsAt (xs : List ℕ) (b : ℕ) (ys : List ℕ) : Type 0 where
   pub left : IsUtf8 xs
   pub from : IsUtf8 (b ∷ ys)
@@ -65,7 +65,7 @@ attribute_is_utf8 a rest h u =
       regroup : (gap name left right more : List ℕ) → gap ++ (name ++ (left ++ (61 ∷ (right ++ more)))) ≡ (gap ++ (name ++ (left ++ (61 ∷ right)))) ++ more
       regroup gap name left right more = sym (append_assoc gap (name ++ (left ++ (61 ∷ right))) more ∙ ap (λ (z : List ℕ). gap ++ z) (append_assoc name (left ++ (61 ∷ right)) more ∙ ap (λ (z : List ℕ). name ++ z) (append_assoc left (61 ∷ right) more)))
 
--- the first attribute that is read of a tail in UTF-8, and what is left
+-- the first attribute that is read from a tail in UTF-8, and the rest
 pub first_is_utf8 : {X : Type 0} (view : X → (Name × List ℕ) × List ℕ) (tail : List ℕ) (r : Option X) → Gives view r (attribute_in tail) → IsUtf8 tail → IfSome r (λ x. IsUtf8 (view x).0.1 × IsUtf8 (view x).1)
 first_is_utf8 view tail None e u = tt
 first_is_utf8 view tail (Some x) e u =
@@ -95,7 +95,7 @@ tail_is_utf8 ahead tail h u =
       | inr e ↦ subst P (sym (h.whole ∙ e.3)) (cut_ascii ahead e.0 e.1 e.2 (subst Q (h.whole ∙ e.3) u)).from
     ]
 
--- the tail and what is left, behind a start tag's name and before its `>` or `/`
+-- the tail and the rest, after a start tag's name and before its `>` or `/`
 start_is_utf8 : (name tail : List ℕ) (b : ℕ) (more : List ℕ) → b < 128 → IsTail tail → IsUtf8 (60 ∷ (name ++ (tail ++ (b ∷ more)))) → IsUtf8 tail × IsUtf8 more
 start_is_utf8 name tail b more low h u =
     let P : List ℕ → Type 0 = λ z. IsUtf8 z in
@@ -115,7 +115,7 @@ TailIsUtf8 (empty_tag name tail) = IsUtf8 tail
 TailIsUtf8 (end_tag name space) = Unit {0}
 TailIsUtf8 (stretch bs) = Unit {0}
 
--- Of bytes in UTF-8, the tail of the tag at their front and what stands behind the piece are UTF-8.
+-- If the bytes are UTF-8, so are the tail of the tag with which they begin and what follows the piece.
 pub piece_is_utf8 : (place : Place) (bs : List ℕ) (p : Piece) (rest : List ℕ) → Stands place bs p rest → IsUtf8 bs → IsUtf8 rest × TailIsUtf8 p
 piece_is_utf8 place bs (start_tag name tail) rest h u =
     let P : List ℕ → Type 0 = λ z. IsUtf8 z in

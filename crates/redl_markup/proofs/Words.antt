@@ -1,4 +1,4 @@
--- A word at the front of a list.
+-- A leading word of a list.
 use Rattle.std.proofs.Common.{◌≡◌, ℕ, Bool, true, false, cond, eqb, List, [], ◌∷◌, ◌++◌, length, length-append, ◌-◌, take, drop, Option, Some, None, refl, sym, ap, ◌∙◌, MatchOption, arith, inl, inr}
 use Rattle.std.proofs.lemmas.Bool.{eqb-true}
 use lib.Pointwise.{pointwise}
@@ -63,7 +63,7 @@ none_begins (w ∷ ws) (b ∷ bs) e =
       | inr other ↦ rw other refl
     ]
 
--- what stands before a rest
+-- what comes before a rest
 pub before-append : (a rest : List ℕ) → before (a ++ rest) rest ≡ a
 before-append a rest = take_at a rest (length (a ++ rest) - length rest) (omega (arith, length-append a rest))
 
@@ -79,7 +79,7 @@ pub begins_again : (word rest : List ℕ) → begins word (word ++ rest) ≡ tru
 begins_again [] rest = refl
 begins_again (w ∷ ws) rest = rw (eqb_same w) (begins_again ws rest)
 
--- what begins with a word still does with more behind it
+-- what begins with a word still does with more after it
 begins_more : (word t more : List ℕ) → begins word t ≡ true → begins word (t ++ more) ≡ true
 begins_more [] t more e = refl
 begins_more (w ∷ ws) [] more e = absurd cc
@@ -103,7 +103,7 @@ past_here word (b ∷ bs) rest e filled = rw e refl
 pub past_later : (word : List ℕ) (b : ℕ) (bs : List ℕ) → begins word (b ∷ bs) ≡ false → past word (b ∷ bs) ≡ past word bs
 past_later word b bs e = rw (none_begins word (b ∷ bs) e) refl
 
--- No end of a list together with a front of the word behind it is the word.
+-- No end of a list, followed by a prefix of the word, is the word.
 abbrev pub NoBorder : List ℕ → Type 0
 NoBorder word = (b : ℕ) (t rest : List ℕ) → begins word (b ∷ t) ≡ false → begins word (b ∷ (t ++ (word ++ rest))) ≡ false
 

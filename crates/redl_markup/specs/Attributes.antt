@@ -5,7 +5,7 @@ use Rattle.redl_markup.specs.Lists.{is_filled}
 use Rattle.redl_markup.specs.Names.{Name}
 use Rattle.redl_markup.specs.ScanTags.{attribute_in}
 
--- The list of a tail's first attribute, and of what `rest_of` says of the rest.
+-- The list of a tail's first attribute, and then what `rest_of` gives for the rest.
 abbrev pub attributes_by : (List ℕ → List (Name × List ℕ)) → Option ((Name × List ℕ) × List ℕ) → List (Name × List ℕ)
 attributes_by rest_of None = []
 attributes_by rest_of (Some x) = x.0 ∷ rest_of x.1
@@ -18,7 +18,7 @@ attributes_from (suc n) tail = attributes_by (attributes_from n) (attribute_in t
 unfoldable pub attributes_of : List ℕ → List (Name × List ℕ)
 attributes_of tail = attributes_from (suc (length tail)) tail
 
--- An attribute with this name has no prefix and isn't `xmlns`, or has the prefix of its element or one other prefix.
+-- An attribute with this name has no prefix and is not `xmlns`, or has the prefix of its element or one other prefix.
 unfoldable pub is_plain_beside : List ℕ → List ℕ → Name → Bool
 is_plain_beside own other name =
     if is_filled name.prefix then bytes_eq name.prefix own || bytes_eq name.prefix other else not (bytes_eq name.local (codes "xmlns"))
@@ -26,7 +26,7 @@ is_plain_beside own other name =
 unfoldable pub is_other_prefix : List ℕ → List ℕ → Bool
 is_other_prefix own prefix = is_filled prefix && not (bytes_eq prefix own)
 
--- The first prefix of attributes with these names that isn't the one of their element, and nothing where there is none.
+-- The first prefix of attributes with these names that is not their element's, or empty if there is none.
 abbrev pub other_prefix : List ℕ → List Name → List ℕ
 other_prefix own [] = []
 other_prefix own (n ∷ ns) = if is_other_prefix own n.prefix then n.prefix else other_prefix own ns

@@ -10,7 +10,7 @@ between low high c = nat_le low c && nat_le c high
 unfoldable pub is_character : ℕ → Bool
 is_character c = c == 0x9 || c == 0xA || c == 0xD || between 0x20 0xD7FF c || between 0xE000 0xFFFD c || between 0x1_0000 0x10_FFFF c
 
--- a byte that no forbidden character begins with: neither a control character's, nor that of U+FFFE and U+FFFF
+-- a byte with which no forbidden character begins: no control character, and not the first byte of U+FFFE and U+FFFF
 unfoldable pub is_plain_byte : ℕ → Bool
 is_plain_byte b = nat_le 0x20 b && not (b == 0xEF) || b == 0x9 || b == 0xA || b == 0xD
 

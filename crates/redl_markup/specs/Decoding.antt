@@ -1,4 +1,4 @@
--- What an attribute's value says (XML 1.0, 2.11 and 3.3.3).
+-- The decoded value of an attribute (XML 1.0, 2.11 and 3.3.3).
 use Rattle.std.specs.Prelude.{ℕ, Bool, true, false, ◌==◌, ◌&&◌, List, [], ◌∷◌, ◌++◌, Option, Some, None, if◌then◌else◌, not, encode_utf8}
 use Rattle.redl_markup.specs.Characters.{is_space}
 use Rattle.redl_markup.specs.Lists.{begins}
@@ -9,8 +9,8 @@ abbrev pub character_text : Option (ℕ × List ℕ) → List ℕ
 character_text None = []
 character_text (Some x) = encode_utf8 x.0
 
--- A reference becomes its character, and what is left of it up to its `;` is passed over. White space that stands there as itself
--- becomes a space, and U+000D with U+000A behind it one space.
+-- A reference becomes its character, and the rest of it up to its `;` is skipped. A literal white space character
+-- becomes a space, and U+000D followed by U+000A becomes one space.
 abbrev pub decoded_from : Bool → List ℕ → List ℕ
 decoded_from in_reference [] = []
 decoded_from true (b ∷ bs) = decoded_from (not (b == 59)) bs

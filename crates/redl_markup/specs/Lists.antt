@@ -1,8 +1,8 @@
--- Words at the front of a list, and the longest front whose elements pass a test.
+-- Leading words of a list, and the longest leading run whose elements pass a test.
 use Rattle.std.specs.Prelude.{ℕ, ◌-◌, Bool, true, false, ◌==◌, ◌&&◌, List, [], ◌∷◌, length, take, Option, Some, None, if◌then◌else◌, not}
 use Rattle.redl_markup.specs.Reading.{or_else}
 
--- what stands behind a word at the front
+-- what follows a leading word
 abbrev pub behind : List ℕ → List ℕ → Option (List ℕ)
 behind [] bs = Some bs
 behind (w ∷ ws) [] = None
@@ -13,17 +13,17 @@ begins [] bs = true
 begins (w ∷ ws) [] = false
 begins (w ∷ ws) (b ∷ bs) = b == w && begins ws bs
 
--- nowhere stands the word
+-- the word occurs nowhere
 abbrev pub lacks : List ℕ → List ℕ → Bool
 lacks word [] = not (begins word [])
 lacks word (b ∷ bs) = not (begins word (b ∷ bs)) && lacks word bs
 
--- what stands behind the first place where the word stands
+-- what follows the first occurrence of the word
 abbrev pub past : List ℕ → List ℕ → Option (List ℕ)
 past word [] = None
 past word (b ∷ bs) = or_else (behind word (b ∷ bs)) (past word bs)
 
--- the longest front of elements that pass, and what stands behind it
+-- the longest leading run of elements that pass, and what follows it
 abbrev pub front : (ℕ → Bool) → List ℕ → List ℕ
 front p [] = []
 front p (b ∷ bs) = if p b then b ∷ front p bs else []
@@ -32,7 +32,7 @@ abbrev pub after : (ℕ → Bool) → List ℕ → List ℕ
 after p [] = []
 after p (b ∷ bs) = if p b then after p bs else b ∷ bs
 
--- what stands before a rest
+-- what comes before a rest
 abbrev pub before : List ℕ → List ℕ → List ℕ
 before bs rest = take (length bs - length rest) bs
 

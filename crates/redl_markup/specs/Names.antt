@@ -6,14 +6,14 @@ use Rattle.std.specs.List.{list_all}
 use Rattle.std.specs.Str.{encode_utf8_all, all_scalars}
 use Rattle.redl_markup.specs.Characters.{is_name_start, is_name_character}
 
--- a first and a further character of a name, with colons or without
+-- a first and a further character of a name, with or without colons
 unfoldable pub may_start : Bool → ℕ → Bool
 may_start colons c = is_name_start c && (colons || not (c == 58))
 
 unfoldable pub may_follow : Bool → ℕ → Bool
 may_follow colons c = is_name_character c && (colons || not (c == 58))
 
--- The bytes are a name of one part: Name where colons may stand in it, and else NCName.
+-- The bytes are a name of one part: Name if colons are allowed in it, otherwise NCName.
 pub record IsWord (colons : Bool) (word : List ℕ) : Type 0 where
   pub first : ℕ
   pub more : List ℕ
@@ -27,7 +27,7 @@ pub record Name : Type 0 where
   pub prefix : List ℕ
   pub local : List ℕ
 
--- the name as it stands in a tag
+-- the name as a tag has it
 abbrev pub name_text : Name → List ℕ
 name_text name = prefixed name.prefix name.local where
   prefixed : List ℕ → List ℕ → List ℕ

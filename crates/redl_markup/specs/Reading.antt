@@ -3,13 +3,13 @@ use Rattle.std.specs.Prelude.{◌≡◌, ℕ, zero, suc, Option, Some, None, Res
 use Rattle.redl_markup.specs.declared.error.MarkupError.{MarkupError}
 use Rattle.redl_markup.specs.declared.error.MarkupError.TheVariants.{Unreadable, NoMemory}
 
--- a step, and the next one where it didn't fail
+-- a step, and the next one if it succeeded
 infixl 10 ◌>>=◌
 abbrev pub ◌>>=◌ : {A B : Type 0} → Option A → (A → Option B) → Option B
 None >>= f = None
 (Some x) >>= f = f x
 
--- the first of two that is there
+-- the first of two that succeeded
 abbrev pub or_else : {A : Type 0} → Option A → Option A → Option A
 or_else None y = y
 or_else (Some x) y = Some x
@@ -18,7 +18,7 @@ abbrev pub or_same : {A : Type 0} → Option A → A → A
 or_same None x = x
 or_same (Some y) x = y
 
--- What a function returned, seen by `view`, is what reading gives.
+-- The result of a function, seen by `view`, is what reading gives.
 abbrev pub Gives : {X Y : Type 0} → (X → Y) → Option X → Option Y → Type 0
 Gives view None read = read ≡ None
 Gives view (Some x) read = read ≡ Some (view x)
@@ -45,7 +45,7 @@ abbrev pub turns : {S R : Type 0} → (S → Turn S R) → ℕ → S → Option 
 turns step zero s = None
 turns step (suc n) s = turn (step s) (turns step n)
 
--- a turn that goes on where a part of it was read
+-- a turn that goes on if a part was read
 abbrev pub go_on : {S R : Type 0} → Option S → Turn S R
 go_on None = done None
 go_on (Some s) = next s

@@ -10,7 +10,7 @@ abbrev pub valued : ℕ → Option (List ℕ) → Option (ℕ × List ℕ)
 valued c None = None
 valued c (Some rest) = Some (c, rest)
 
--- one of the five names with its `;`: its character, and what stands behind it
+-- one of the five names with its `;`: its character, and what follows it
 unfoldable pub named_at : List ℕ → Option (ℕ × List ℕ)
 named_at bs =
     or_else (valued 38 (behind (codes "amp;") bs)) (or_else (valued 60 (behind (codes "lt;") bs)) (or_else (valued 62 (behind (codes "gt;") bs)) (or_else (valued 34 (behind (codes "quot;") bs)) (valued 39 (behind (codes "apos;") bs)))))
@@ -22,7 +22,7 @@ is_digit_in base b = is_digit b base
 abbrev pub number_of : ℕ → List ℕ → ℕ
 number_of base digits = number_from_digits base (map digit_value digits)
 
--- digits and a `;`: the allowed character with that number, and what stands behind it
+-- digits and a `;`: the allowed character with that number, and what follows it
 abbrev pub numbered : ℕ → List ℕ → List ℕ → Option (ℕ × List ℕ)
 numbered base digits rest =
     if is_filled digits && is_character (number_of base digits) then valued (number_of base digits) (behind (codes ";") rest) else None
@@ -35,7 +35,7 @@ numbered_by (Some hexadecimal) decimal = number_at 16 hexadecimal
 numbered_by None (Some decimal) = number_at 10 decimal
 numbered_by None None = None
 
--- A reference, from behind its `&`: its character, and what stands behind its `;`.
+-- A reference, given what follows its `&`: its character, and what follows its `;`.
 unfoldable pub reference_at : List ℕ → Option (ℕ × List ℕ)
 reference_at bs = or_else (named_at bs) (numbered_by (behind (codes "#x") bs) (behind (codes "#") bs))
 

@@ -20,15 +20,15 @@ after_char colons bs (Some x) = if may_follow colons x.0 then next x.1 else done
 unfoldable pub name_step : Bool → List ℕ → Turn (List ℕ) (List ℕ)
 name_step colons bs = after_char colons bs (char_at bs)
 
--- an ASCII character that may stand behind the first one of a name
+-- an ASCII character that may follow the first one of a name
 unfoldable pub is_name_byte : Bool → ℕ → Bool
 is_name_byte colons b = nat_le b 127 && may_follow colons b
 
--- what stands behind name characters
+-- what follows name characters
 unfoldable pub name_end : Bool → List ℕ → Option (List ℕ)
 name_end colons bs = turns (name_step colons) (suc (length bs)) bs
 
--- what stands behind the first character of a name
+-- what follows the first character of a name
 unfoldable pub behind_start : Bool → List ℕ → Option (List ℕ)
 behind_start colons bs = do
   x ← char_at bs

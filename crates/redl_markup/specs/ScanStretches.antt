@@ -12,7 +12,7 @@ use Rattle.redl_markup.specs.ScanTags.{equated_at}
 
 -- ---- items
 
--- behind the `<!--`
+-- after the `<!--`
 unfoldable pub comment_at : List ℕ → Option (List ℕ)
 comment_at bs = do
   more ← past (codes "--") bs
@@ -22,17 +22,17 @@ abbrev pub begins_with_space : List ℕ → Bool
 begins_with_space [] = false
 begins_with_space (b ∷ bs) = is_space b
 
--- behind an instruction's name
+-- after an instruction's name
 unfoldable pub instruction_end : List ℕ → Option (List ℕ)
 instruction_end bs = if begins (codes "?>") bs || begins_with_space bs then past (codes "?>") bs else None
 
--- behind the `<?`
+-- after the `<?`
 unfoldable pub instruction_at : List ℕ → Option (List ℕ)
 instruction_at bs = do
   name ← word_at true bs
   if is_xml name.0 then None else instruction_end name.1
 
--- behind the `<![CDATA[`
+-- after the `<![CDATA[`
 abbrev pub cdata_at : Place → List ℕ → Option (List ℕ)
 cdata_at InElement bs = past (codes "]]>") bs
 cdata_at BeforeRoot bs = None
@@ -49,12 +49,12 @@ item_at place bs = opened_at place (behind (codes "<!--") bs) (behind (codes "<?
 
 -- ---- the head of a text
 
--- the value of a setting with this word, and what stands behind it
+-- the value of a setting with this word, and what follows it
 unfoldable pub setting_at : List ℕ → List ℕ → Option (List ℕ × List ℕ)
 setting_at word bs =
     if is_filled (front is_space bs) then behind word (after is_space bs) >>= equated_at else None
 
--- a setting that may be left out
+-- an optional setting
 abbrev pub optional_after : (List ℕ → Bool) → List ℕ → Option (List ℕ × List ℕ) → Option (List ℕ)
 optional_after fits bs None = Some bs
 optional_after fits bs (Some x) = if fits x.0 then Some x.1 else None
@@ -78,7 +78,7 @@ after_mark bs = or_same (behind byte_order_mark bs) bs
 unfoldable pub after_declaration : List ℕ → List ℕ
 after_declaration bs = or_same (declaration_at bs) bs
 
--- what stands behind the head
+-- what follows the head
 abbrev pub after_head : Place → List ℕ → List ℕ
 after_head BeforeRoot bs = after_declaration (after_mark bs)
 after_head InElement bs = bs
@@ -92,7 +92,7 @@ stretch_step place bs =
     (if begins_item (after (is_other 60) bs) then go_on (item_at place (after (is_other 60) bs)) else done (Some (after (is_other 60) bs)))
     else done None
 
--- what stands behind runs and items
+-- what follows runs and items
 unfoldable pub items_end : Place → List ℕ → Option (List ℕ)
 items_end place bs = turns (stretch_step place) (suc (length bs)) bs
 

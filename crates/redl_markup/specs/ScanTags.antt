@@ -20,7 +20,7 @@ quoted_at bs = do
   rest ← behind (quote.0 ∷ []) (after (is_other quote.0) quote.1)
   Some (front (is_other quote.0) quote.1, rest)
 
--- white space or none, `=`, white space or none, and a text between quotes
+-- optional white space, `=`, optional white space, and a text between quotes
 unfoldable pub equated_at : List ℕ → Option (List ℕ × List ℕ)
 equated_at bs = do
   more ← behind (codes "=") (after is_space bs)
@@ -33,14 +33,14 @@ is_plain b = is_other 60 b && is_other 38 b
 unfoldable pub is_value : List ℕ → Bool
 is_value bs = list_all (is_other 60) bs && has_references bs
 
--- an attribute's name and value, and what stands behind the attribute
+-- an attribute's name and value, and what follows the attribute
 unfoldable pub attribute_at : List ℕ → Option ((Name × List ℕ) × List ℕ)
 attribute_at bs = do
   name ← name_at bs
   value ← equated_at name.1
   if is_value value.0 then Some ((name.0, value.0), value.1) else None
 
--- the first attribute of a tail, and what is left of the tail
+-- the first attribute of a tail, and the rest of the tail
 unfoldable pub attribute_in : List ℕ → Option ((Name × List ℕ) × List ℕ)
 attribute_in tail = if is_filled (front is_space tail) then attribute_at (after is_space tail) else None
 
@@ -74,14 +74,14 @@ start_at name tail None end = do
   rest ← behind (codes "/>") end
   Some (empty_tag name tail, rest)
 
--- behind the `<`
+-- after the `<`
 unfoldable pub tag_at : List ℕ → Option (Piece × List ℕ)
 tag_at bs = do
   name ← name_at bs
   tail ← tail_at name.1
   start_at name.0 tail.0 (behind (codes ">") tail.1) tail.1
 
--- behind the `</`
+-- after the `</`
 unfoldable pub end_tag_at : List ℕ → Option (Piece × List ℕ)
 end_tag_at bs = do
   name ← name_at bs

@@ -29,7 +29,7 @@ abbrev pub begins_other : ℕ → List ℕ → Bool
 begins_other b [] = false
 begins_other b (c ∷ cs) = not (c == b)
 
--- a comment's text, production 15: each `-` in it has another character behind it, which is no `-`
+-- a comment's text, production 15: each `-` in it is followed by a character other than `-`
 abbrev pub is_comment : List ℕ → Bool
 is_comment [] = true
 is_comment (b ∷ bs) = (not (b == 45) || begins_other 45 bs) && is_comment bs
@@ -37,44 +37,44 @@ is_comment (b ∷ bs) = (not (b == 45) || begins_other 45 bs) && is_comment bs
 abbrev pub is_xml : List ℕ → Bool
 is_xml name = str_eq_ignore_ascii_case name (codes "xml")
 
--- an instruction's text behind its name, production 16: none, or white space and then anything
+-- an instruction's text after its name, production 16: empty, or white space and then anything
 abbrev pub is_apart : List ℕ → Bool
 is_apart [] = true
 is_apart (b ∷ bs) = is_space b
 
--- The name isn't `xml` in letters of any case (production 17), and the text has no `?>`.
+-- The name is not `xml` in letters of any case (production 17), and the text has no `?>`.
 pub record IsInstruction (target text : List ℕ) : Type 0 where
   pub name : IsWord true target
   pub not_xml : is_xml target ≡ false
   pub apart : is_apart text ≡ true
   pub no_end : lacks (codes "?>") text ≡ true
 
--- Comment, PI and CDSect, productions 15 to 21. An instruction has its name and the text behind it.
+-- Comment, PI and CDSect, productions 15 to 21. An instruction has a name and the text after it.
 pub data Item : Type 0 where
   comment : List ℕ → Item
   instruction : List ℕ → List ℕ → Item
   cdata : List ℕ → Item
 
--- the text of an item, and what stands behind it
+-- the text of an item, followed by the rest
 abbrev pub item_then : Item → List ℕ → List ℕ
 item_then (comment text) rest = codes "<!--" ++ (text ++ (codes "-->" ++ rest))
 item_then (instruction name text) rest = codes "<?" ++ (name ++ (text ++ (codes "?>" ++ rest)))
 item_then (cdata text) rest = codes "<![CDATA[" ++ (text ++ (codes "]]>" ++ rest))
 
--- CDATA stands in elements only.
+-- CDATA is allowed only in elements.
 abbrev pub IsItem : Place → Item → Type 0
 IsItem place (comment text) = is_comment text ≡ true
 IsItem place (instruction name text) = IsInstruction name text
 IsItem place (cdata text) = (place ≡ InElement) × (lacks (codes "]]>") text ≡ true)
 
--- the text of items, each with a run behind it, and what stands behind them
+-- the text of items, each followed by a run, and then the rest
 abbrev pub items_then : List (Item × List ℕ) → List ℕ → List ℕ
 items_then [] rest = rest
 items_then (i ∷ more) rest = item_then i.0 (i.1 ++ items_then more rest)
 
 -- ---- the XML declaration and the byte order mark
 
--- A setting of the declaration: a word with a value that fits it, and Eq between them, production 25.
+-- A setting of the declaration: a word and a value that fits it, with Eq between them, production 25.
 pub record IsSetting (word : List ℕ) (fits : List ℕ → Bool) (a : Attribute) : Type 0 where
   pub gap : (a.gap ≢ []) × IsSpace a.gap
   pub name : a.name ≡ record { prefix = []; local = word }
@@ -129,7 +129,7 @@ declaration_then d rest =
 abbrev pub byte_order_mark : List ℕ
 byte_order_mark = 0xEF ∷ 0xBB ∷ 0xBF ∷ []
 
--- the head of a text: a byte order mark or none, and a declaration or none
+-- the head of a text: an optional byte order mark and an optional declaration
 pub record Head : Type 0 where
   pub marked : Bool
   pub declaration : Option Declaration
@@ -160,7 +160,7 @@ IsHead AfterRoot h = h ≡ no_head
 
 -- ---- stretches
 
--- A stretch: a head, a run, and then items, each with a run behind it. Each of them may be empty, and the whole isn't.
+-- A stretch: a head, a run, and then items, each followed by a run. Each of them may be empty, but not the whole.
 pub record IsStretch (place : Place) (bs : List ℕ) : Type 0 where
   pub head : Head
   pub first : List ℕ
@@ -171,11 +171,11 @@ pub record IsStretch (place : Place) (bs : List ℕ) : Type 0 where
   pub whole : bs ≡ head_then head (first ++ items_then more [])
   pub filled : bs ≢ []
 
--- `<!` or `<?` stands there, so that no tag begins
+-- the bytes begin with `<!` or `<?`, and so with no tag
 abbrev pub begins_item : List ℕ → Bool
 begins_item bs = begins (codes "<!") bs || begins (codes "<?") bs
 
--- A stretch is as long as it can be: the end or a tag stands behind it.
+-- A stretch is as long as it can be: it is followed by the end or by a tag.
 abbrev pub ends_stretch : List ℕ → Bool
 ends_stretch [] = true
 ends_stretch (b ∷ bs) = b == 60 && not (begins_item (b ∷ bs))

@@ -6,11 +6,11 @@ use Rattle.redl_markup.specs.Lists.{is_other}
 use Rattle.redl_markup.specs.Names.{Name, name_text, IsName, are_distinct}
 use Rattle.redl_markup.specs.References.{has_references}
 
--- white space or none
+-- optional white space
 abbrev pub IsSpace : List ℕ → Type 0
 IsSpace s = list_all is_space s ≡ true
 
--- An attribute with the white space before it, and that on the left and the right of its `=`. The value is as it is written, without its quotes.
+-- An attribute with the white space before it and on both sides of its `=`. The value is as written, without its quotes.
 pub record Attribute : Type 0 where
   pub gap : List ℕ
   pub name : Name
@@ -19,7 +19,7 @@ pub record Attribute : Type 0 where
   pub quote : ℕ
   pub value : List ℕ
 
--- the text of an attribute, production 41 with Eq, production 25, and what stands behind it
+-- the text of an attribute (production 41, with Eq, production 25), followed by the rest
 abbrev pub attribute_then : Attribute → List ℕ → List ℕ
 attribute_then a rest =
     a.gap ++ (name_text a.name ++ (a.left ++ (61 ∷ (a.right ++ (a.quote ∷ (a.value ++ (a.quote ∷ rest)))))))
@@ -27,7 +27,7 @@ attribute_then a rest =
 abbrev pub IsQuote : ℕ → Type 0
 IsQuote q = (q ≡ 34) ⊎ (q ≡ 39)
 
--- AttValue, production 10: the value has no `<` and none of its own quotes, and each `&` in it begins a reference.
+-- AttValue, production 10: the value has no `<` and no quote of its own kind, and each `&` in it begins a reference.
 pub record IsAttribute (a : Attribute) : Type 0 where
   pub gap : (a.gap ≢ []) × IsSpace a.gap
   pub name : IsName a.name
@@ -42,7 +42,7 @@ abbrev pub attributes_then : List Attribute → List ℕ → List ℕ
 attributes_then [] rest = rest
 attributes_then (a ∷ more) rest = attribute_then a (attributes_then more rest)
 
--- Productions 40 and 44: attributes with distinct names as written, and white space or none.
+-- Productions 40 and 44: attributes with distinct names as written, and optional white space.
 pub record IsTail (tail : List ℕ) : Type 0 where
   pub attributes : List Attribute
   pub space : List ℕ

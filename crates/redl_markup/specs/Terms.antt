@@ -1,4 +1,4 @@
--- The words of the profile from one place, for those who read it: characters, names, tails and values, stretches, and pieces.
+-- The words of the XML profile in one place, for readers: characters, names, tails and values, stretches, and pieces.
 pub use Rattle.redl_markup.specs.Characters.{is_character, is_space, is_name_start, is_name_character, IsText}
 pub use Rattle.redl_markup.specs.Names.{may_start, may_follow, IsWord, Name, name_text, IsName, name_eq, are_distinct}
 pub use Rattle.redl_markup.specs.References.{named_at, number_at, reference_at, has_references}

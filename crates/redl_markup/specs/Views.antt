@@ -1,4 +1,4 @@
--- What the code's names, attributes and pieces are, as plain data, and whether what they say of attributes is so.
+-- The code's names, attributes and pieces as plain data, and whether what they say of attributes is right.
 use Rattle.std.specs.Prelude.{◌≡◌, ℕ, List, map}
 use Rattle.std.specs.List.{list_all}
 use Rattle.redl_markup.specs.declared.name.Name as code_name
@@ -22,7 +22,7 @@ piece_view (Empty name tail) = empty_tag (name_view name) tail.bytes.now
 piece_view (End name space) = end_tag (name_view name) space.now
 piece_view (Stretch bytes) = stretch bytes.now
 
--- A tail in a tag with this prefix tells which other prefix its attributes have, and whether they are plain.
+-- A tail in a tag with this prefix says which other prefix its attributes use, and whether they are plain.
 pub record TellsPlain (own : List ℕ) (tail : code_tail.Tail) : Type 0 where
   pub other : tail.other_prefix.now ≡ other_prefix own (map (λ a. a.0) (attributes_of tail.bytes.now))
   pub plain : tail.is_plain ≡ list_all (λ a. is_plain_beside own tail.other_prefix.now a.0) (attributes_of tail.bytes.now)

@@ -31,7 +31,7 @@ fn quote(bytes: &[u8]) -> Option<(u8, &[u8])>
     }
 }
 
-/// A text between quotes of one kind, and what stands behind it.
+/// A text between quotes of one kind, and the bytes after it.
 #[tactic(auto, unfolding(crate::specs::ScanTags::quoted_at))]
 fn quoted(bytes: &[u8]) -> Option<(&[u8], &[u8])>
     ensures { Gives (λ x. (x.0.now, x.1.now)) result (quoted_at bytes.now) }
@@ -53,7 +53,7 @@ pub(crate) fn equated(bytes: &[u8]) -> Option<(&[u8], &[u8])>
     quoted(more)
 }
 
-/// Whether a value has neither `<` nor `&`, so that it needs no closer look.
+/// Whether a value has neither `<` nor `&`, and so needs no further test.
 fn is_plain(bytes: &[u8]) -> bool
     ensures { result ≡ list_all is_plain bytes.now }
 {
@@ -98,7 +98,7 @@ pub(crate) fn first_attribute(tail: &[u8]) -> Option<(Attribute<'_>, &[u8])>
     attribute_behind_gap(more)
 }
 
-/// The first attribute of a tail, and what is left of the tail. `None` where no further attribute stands there.
+/// The first attribute of a tail, and the rest of the tail. `None` if the tail has no further attribute.
 pub fn next_attribute(tail: &[u8]) -> Option<(Attribute<'_>, &[u8])>
     ensures found { IfSome result (λ x. attributes_of tail.now ≡ attribute_view x.0 ∷ attributes_of x.1.now) }
     ensures none { IsNone result → attributes_of tail.now ≡ [] }

@@ -8,7 +8,7 @@ ghost use Rattle.redl_markup.specs.Characters.{is_character, is_plain_byte, is_n
 pub(crate) fn is_character(c: char) -> bool
     ensures { result ≡ is_character c }
 {
-    // nearly all are in this range, so that it is tried first
+    // nearly all characters are in this range, so it is tested first
     matches!(c, '\u{20}'..='\u{D7FF}')
         || matches!(c, '\t' | '\n' | '\r' | '\u{E000}'..='\u{FFFD}' | '\u{10000}'..='\u{10FFFF}')
 }
@@ -38,7 +38,7 @@ fn is_plain_byte(b: u8) -> bool
     b >= 0x20 && b != 0xEF || matches!(b, b'\t' | b'\n' | b'\r')
 }
 
-/// Whether no byte is one that a forbidden character has: a control character, or the first of U+FFFE and U+FFFF.
+/// Whether no byte begins a forbidden character: no control character, and not the first byte of U+FFFE and U+FFFF.
 fn has_plain_bytes(bytes: &[u8]) -> bool
     ensures { result ≡ list_all is_plain_byte bytes.now }
 {
@@ -50,7 +50,7 @@ pub fn is_text(bytes: &[u8]) -> bool
     ensures { IsTrue result ↔ IsText bytes.now }
 {
     match str::from_utf8(bytes) {
-        // few texts need the second test, which takes longer
+        // few texts need the second test, which is slower
         Ok(text) => has_plain_bytes(bytes) || text.chars().all(is_character),
         Err(_) => false,
     }

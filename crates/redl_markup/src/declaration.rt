@@ -11,7 +11,7 @@ use crate::attribute::equated;
 use crate::place::Place;
 use crate::scan::{skip, spaces};
 
-/// White space, a word, a `=` and a text between quotes: that text, and what stands behind it.
+/// White space, a word, a `=` and a text between quotes: that text, and the bytes after it.
 #[tactic(auto, unfolding(crate::specs::ScanStretches::setting_at))]
 fn setting<'a>(bytes: &'a [u8], word: &[u8]) -> Option<(&'a [u8], &'a [u8])>
     ensures { Gives (λ x. (x.0.now, x.1.now)) result (setting_at word.now bytes.now) }
@@ -60,7 +60,7 @@ fn version(bytes: &[u8]) -> Option<&[u8]>
     if is_version(value) { Some(rest) } else { None }
 }
 
-/// What stands behind the encoding, which may be left out.
+/// The bytes after the encoding, which is optional.
 fn encoding(bytes: &[u8]) -> Option<&[u8]>
     ensures { Gives (λ rest. rest.now) result (optional_after is_encoding bytes.now (setting_at (codes "encoding") bytes.now)) }
 {
@@ -71,7 +71,7 @@ fn encoding(bytes: &[u8]) -> Option<&[u8]>
     }
 }
 
-/// What stands behind the word on standing alone, which may be left out.
+/// The bytes after the `standalone` setting, which is optional.
 fn standalone(bytes: &[u8]) -> Option<&[u8]>
     ensures { Gives (λ rest. rest.now) result (optional_after is_standalone bytes.now (setting_at (codes "standalone") bytes.now)) }
 {
@@ -82,7 +82,7 @@ fn standalone(bytes: &[u8]) -> Option<&[u8]>
     }
 }
 
-/// What stands behind an XML declaration.
+/// The bytes after an XML declaration.
 #[tactic(auto, unfolding(crate::specs::ScanStretches::declaration_at))]
 fn declaration(bytes: &[u8]) -> Option<&[u8]>
     ensures { Gives (λ rest. rest.now) result (declaration_at bytes.now) }
@@ -109,7 +109,7 @@ fn after_declaration(bytes: &[u8]) -> &[u8]
     declaration(bytes).unwrap_or(bytes)
 }
 
-/// What stands behind the head, which only the stretch before the root has.
+/// The bytes after the head. Only the stretch before the root has one.
 pub(crate) fn after_head(bytes: &[u8], place: Place) -> &[u8]
     ensures { result.now ≡ after_head place bytes.now }
 {

@@ -1,4 +1,4 @@
-//! What a value says.
+//! The decoded value of an attribute.
 
 ghost use Rattle.std.specs.Prelude.{◌≡◌, IfOk};
 ghost use Rattle.std.specs.Str.{IsUtf8};
@@ -8,7 +8,8 @@ use crate::reference::reference;
 use crate::scan::is_space;
 use std::alloc::{AllocError, Global};
 
-/// An attribute's value with each reference replaced by its character, and white space by spaces.
+/// An attribute's value with each reference replaced by its character, and each white space character by a space
+/// (XML 1.0, 2.11 and 3.3.3). `Err` means out of memory.
 pub fn decode_value(alloc: Global, value: &[u8]) -> Result<Vec<u8>, AllocError>
     ensures decoded { IfOk result (λ text. text.items ≡ decoded_value value.now) }
     ensures utf8 { IsUtf8 value.now → IfOk result (λ text. IsUtf8 text.items) }
@@ -25,7 +26,7 @@ pub fn decode_value(alloc: Global, value: &[u8]) -> Result<Vec<u8>, AllocError>
             }
             in_reference = true;
         } else if *first == b'\r' && rest.starts_with(b"\n") {
-            // the line feed behind it becomes the one space
+            // the line feed that follows becomes the one space
         } else if is_space(*first) {
             text.push(b' ')?;
         } else {

@@ -1,4 +1,4 @@
-//! That no two names are written alike.
+//! Whether no two names are written alike.
 
 ghost use Rattle.std.specs.Prelude.{◌≡◌, IfOk, map, not};
 ghost use Rattle.std.specs.List.{list_all};
@@ -9,7 +9,7 @@ use crate::name::Name;
 use std::alloc::{AllocError, Global};
 use std::collections::BTreeSet;
 
-/// So many names are compared each with each, and no set is made of them.
+/// Up to this many names are compared pairwise, without making a set.
 const FEW: usize = 8;
 
 fn are_alike(a: Name<'_>, b: Name<'_>) -> bool
@@ -18,7 +18,7 @@ fn are_alike(a: Name<'_>, b: Name<'_>) -> bool
     a.prefix == b.prefix && a.local == b.local
 }
 
-/// Whether a name is written like none of the others.
+/// Whether a name is written differently from all the others.
 fn is_unlike<'a>(name: Name<'a>, others: &[Name<'a>]) -> bool
     ensures { result ≡ list_all (λ m. not (name_eq (name_view name.entry) m)) (map name_view others.now) }
 {

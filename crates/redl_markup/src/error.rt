@@ -8,7 +8,7 @@ use std::alloc::{AllocError, AllocFailed};
 /// Why a piece was not read.
 #[derive(Clone, Copy, Debug, PartialEq, Eq)]
 pub enum MarkupError {
-    /// No piece stands at the front of the bytes.
+    /// The bytes begin with no piece.
     Unreadable,
     /// An allocation failed; nothing is known of the bytes.
     NoMemory,

@@ -9,7 +9,7 @@ use crate::place::Place;
 use crate::scan::{is_space, past, skip};
 use crate::word::word;
 
-/// What stands behind a comment, from behind its `<!--`.
+/// The bytes after a comment, given those after its `<!--`.
 #[tactic(auto, unfolding(crate::specs::ScanStretches::comment_at))]
 fn comment(bytes: &[u8]) -> Option<&[u8]>
     ensures { Gives (λ rest. rest.now) result (comment_at bytes.now) }
@@ -33,7 +33,7 @@ fn begins_with_space(bytes: &[u8]) -> bool
     }
 }
 
-/// What stands behind an instruction, from behind its name.
+/// The bytes after an instruction, given those after its name.
 #[tactic(auto, unfolding(crate::specs::ScanStretches::instruction_end))]
 fn instruction_end(bytes: &[u8]) -> Option<&[u8]>
     ensures { Gives (λ rest. rest.now) result (instruction_end bytes.now) }
@@ -45,7 +45,7 @@ fn instruction_end(bytes: &[u8]) -> Option<&[u8]>
     }
 }
 
-/// What stands behind an instruction, from behind its `<?`.
+/// The bytes after an instruction, given those after its `<?`.
 #[tactic(auto, unfolding(crate::specs::ScanStretches::instruction_at))]
 fn instruction(bytes: &[u8]) -> Option<&[u8]>
     ensures { Gives (λ rest. rest.now) result (instruction_at bytes.now) }
@@ -57,7 +57,7 @@ fn instruction(bytes: &[u8]) -> Option<&[u8]>
     instruction_end(rest)
 }
 
-/// What stands behind a CDATA section, from behind its `<![CDATA[`.
+/// The bytes after a CDATA section, given those after its `<![CDATA[`.
 fn cdata(bytes: &[u8], place: Place) -> Option<&[u8]>
     ensures { Gives (λ rest. rest.now) result (cdata_at place bytes.now) }
 {
@@ -67,7 +67,7 @@ fn cdata(bytes: &[u8], place: Place) -> Option<&[u8]>
     }
 }
 
-/// What stands behind a comment, an instruction or a CDATA section.
+/// The bytes after a comment, an instruction or a CDATA section.
 #[tactic(auto, unfolding(crate::specs::ScanStretches::item_at))]
 pub(crate) fn item(bytes: &[u8], place: Place) -> Option<&[u8]>
     ensures { Gives (λ rest. rest.now) result (item_at place bytes.now) }
@@ -82,7 +82,7 @@ pub(crate) fn item(bytes: &[u8], place: Place) -> Option<&[u8]>
     cdata(text, place)
 }
 
-/// Whether `<!` or `<?` stands at the front, so that no tag begins there.
+/// Whether the bytes begin with `<!` or `<?`, and so with no tag.
 pub(crate) fn begins_item(bytes: &[u8]) -> bool
     ensures { result ≡ begins_item bytes.now }
 {

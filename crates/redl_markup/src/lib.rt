@@ -1,7 +1,8 @@
-//! The pieces of an XML text: its tags, and the stretches without a tag between them, by the place where they stand.
+//! The pieces of an XML text: its tags, and the stretches without a tag between them.
 //! `is_text` tests the characters of the whole input, and `next_piece` then reads one piece after the other.
-//! A piece is read exactly where the grammar has one at the front, and no text begins with two different pieces.
-//! Which tags belong together, the one root and namespaces are left to the crate above.
+//! `next_piece` reads a piece exactly where the grammar has one at the start, and no text begins with two different pieces.
+//! It says which prefixes the attributes of a tag use. What these are bound to, which tags match, and that there is one
+//! root are left to the crate above.
 #![tactic(auto)]
 
 mod attribute;
@@ -31,6 +32,3 @@ pub use name::Name;
 pub use piece::{Piece, Tail};
 pub use place::Place;
 pub use read::next_piece;
-
-#[cfg(test)]
-mod tests;

@@ -1,4 +1,4 @@
-//! One piece from the left.
+//! Reading the first piece of some bytes.
 
 ghost use Rattle.std.specs.Prelude.{◌≡◌, codes, IfOk, IsErrOf};
 ghost use Rattle.redl_markup.specs.Pieces.{Stands, HasNoPiece};
@@ -29,9 +29,9 @@ fn read_piece(alloc: Global, bytes: &[u8], place: Place) -> Result<(Piece<'_>, &
     }
 }
 
-/// The piece at the front of the bytes, as one of this place, and what stands behind it. A stretch is the longest one.
+/// The piece with which the bytes begin at this place, and the bytes after it. A stretch is as long as it can be.
 ///
-/// `Unreadable` exactly where no piece stands there, as at the end of the bytes. `NoMemory` comes of start tags alone.
+/// `Unreadable` exactly if the bytes begin with no piece, as when they are empty. `NoMemory` means out of memory.
 pub fn next_piece(
     alloc: Global,
     bytes: &[u8],
@@ -40,10 +40,10 @@ pub fn next_piece(
     ensures found { IfOk result (λ x. Stands place bytes.now (piece_view x.0) x.1.now) }
     ensures unreadable { IsErrOf result MarkupError.Unreadable → HasNoPiece place bytes.now }
 
-    // The same as a function on lists, for those who read a list of pieces.
+    // The same as a function on lists, for callers that read one piece after the other.
     ensures read { Finds (λ x. (piece_view x.0, x.1.now)) result (piece_at place bytes.now) }
 
-    // Whether the attributes of a tag are plain, which is found as its tail is read.
+    // Which other prefix the attributes of a tag use, and whether they are plain.
     ensures plain { IfOk result (λ x. TailTells x.0) }
 {
     read_piece(alloc, bytes, place)

@@ -40,7 +40,7 @@ fn digit(b: u8) -> u32
     char::from(b).to_digit(36).unwrap_or(36)
 }
 
-/// The digits at the front, and what stands behind them.
+/// The leading digits, and the bytes after them.
 #[tactic(auto, using(crate::proofs::Runs::front_at, crate::proofs::Runs::after_at))]
 fn digits(bytes: &[u8], base: u32) -> (&[u8], &[u8])
     ensures front { result.0.now ≡ front (is_digit_in base) bytes.now }
@@ -53,7 +53,7 @@ fn digits(bytes: &[u8], base: u32) -> (&[u8], &[u8])
     bytes.split_at(n)
 }
 
-/// The number that digits write, or `BEYOND` where it is greater.
+/// The number that digits write, or `BEYOND` if it is greater.
 fn number(digits: &[u8], base: u32) -> u32
     requires positive { 0 < base }
     requires fits { base ≤ 16 }
@@ -87,7 +87,7 @@ fn numbered(bytes: &[u8], base: u32) -> Option<(char, &[u8])>
     Some((c, rest))
 }
 
-/// The character of a reference and what stands behind its `;`, from behind its `&`.
+/// The character of a reference and the bytes after its `;`, given those after its `&`.
 #[tactic(auto, unfolding(crate::specs::References::reference_at))]
 pub(crate) fn reference(bytes: &[u8]) -> Option<(char, &[u8])>
     ensures { Gives (λ x. (x.0, x.1.now)) result (reference_at bytes.now) }

@@ -1,4 +1,4 @@
-//! Runs of bytes of one class, and words at the front of bytes.
+//! Runs of bytes of one class, and words with which bytes begin.
 
 ghost use Rattle.std.specs.Prelude.{◌≡◌, ◌≤◌, length, codes};
 ghost use Rattle.redl_markup.specs.Characters.{is_space};
@@ -14,7 +14,7 @@ pub(crate) fn is_space(b: u8) -> bool
     matches!(b, b' ' | b'\t' | b'\r' | b'\n')
 }
 
-/// The white space at the front, and what stands behind it.
+/// The leading white space, and the bytes after it.
 #[tactic(auto, using(crate::proofs::Runs::front_at, crate::proofs::Runs::after_at))]
 pub(crate) fn spaces(bytes: &[u8]) -> (&[u8], &[u8])
     ensures front { result.0.now ≡ front is_space bytes.now }
@@ -40,7 +40,7 @@ pub(crate) fn until(bytes: &[u8], byte: u8) -> (&[u8], &[u8])
     bytes.split_at(n)
 }
 
-/// The same by a search that takes many bytes at a time, for a byte that stands far.
+/// The same by a search of many bytes at a time, for a byte that is far away.
 pub(crate) fn far_until(bytes: &[u8], byte: u8) -> (&[u8], &[u8])
     ensures front { result.0.now ≡ front (is_other byte) bytes.now }
     ensures rest { result.1.now ≡ after (is_other byte) bytes.now }
@@ -49,7 +49,7 @@ pub(crate) fn far_until(bytes: &[u8], byte: u8) -> (&[u8], &[u8])
     bytes.split_at(n)
 }
 
-/// What stands behind a word at the front.
+/// The bytes after a leading word.
 #[tactic(auto, using(crate::proofs::Words::behind_pointwise, crate::proofs::Words::behind_not_pointwise))]
 pub(crate) fn skip<'a>(bytes: &'a [u8], word: &[u8]) -> Option<&'a [u8]>
     ensures { Gives (λ rest. rest.now) result (behind word.now bytes.now) }
@@ -57,7 +57,7 @@ pub(crate) fn skip<'a>(bytes: &'a [u8], word: &[u8]) -> Option<&'a [u8]>
     bytes.strip_prefix(word)
 }
 
-/// What stands behind the first place where a word stands.
+/// The bytes after the first occurrence of a word.
 pub(crate) fn past<'a>(bytes: &'a [u8], word: &[u8]) -> Option<&'a [u8]>
     ensures { Gives (λ rest. rest.now) result (past word.now bytes.now) }
 {

@@ -45,7 +45,7 @@ fn is_run(bytes: &[u8], place: Place) -> bool
     }
 }
 
-/// What stands behind runs and items.
+/// The bytes after runs and items.
 fn end_of_items(bytes: &[u8], place: Place) -> Option<&[u8]>
     ensures { Gives (λ rest. rest.now) result (items_end place bytes.now) }
 {
@@ -62,7 +62,7 @@ fn end_of_items(bytes: &[u8], place: Place) -> Option<&[u8]>
     }
 }
 
-/// The longest stretch without a tag, and what stands behind it.
+/// The longest stretch without a tag, and the bytes after it.
 #[tactic(auto, unfolding(crate::specs::ScanStretches::stretch_at))]
 pub(crate) fn stretch(bytes: &[u8], place: Place) -> Option<(Piece<'_>, &[u8])>
     ensures read { Gives (λ x. (piece_view x.0, x.1.now)) result (stretch_at place bytes.now) }

@@ -23,7 +23,7 @@ fn is_at_end(bytes: &[u8]) -> bool
     matches!(bytes, [b'>' | b'/', ..])
 }
 
-/// The names of a tag's attributes, and what stands behind these and their white space.
+/// The names of a tag's attributes, and the bytes after the attributes and their white space.
 fn attributes(alloc: Global, bytes: &[u8]) -> Result<(Vec<Name<'_>>, &[u8]), MarkupError>
     ensures { Finds (λ x. (map name_view x.0.items, x.1.now)) result (attributes_at bytes.now) }
 {
@@ -49,7 +49,7 @@ fn is_other_prefix(own: &[u8], prefix: &[u8]) -> bool
     !prefix.is_empty() && prefix != own
 }
 
-/// The first prefix that isn't the one of the element. Empty where there is none.
+/// The first prefix that is not the element's. Empty if there is none.
 fn other_prefix<'a>(own: &[u8], names: &[Name<'a>]) -> &'a [u8]
     ensures { result.now ≡ other_prefix own.now (map name_view names.now) }
 {
@@ -62,7 +62,7 @@ fn other_prefix<'a>(own: &[u8], names: &[Name<'a>]) -> &'a [u8]
     b""
 }
 
-/// Whether an attribute with this name has no prefix and isn't `xmlns`, or has the prefix of its element or the other one.
+/// Whether an attribute with this name has no prefix and is not `xmlns`, or has the prefix of its element or the other one.
 #[tactic(auto, unfolding(crate::specs::Attributes::is_plain_beside))]
 fn is_plain_beside(own: &[u8], other: &[u8], name: Name<'_>) -> bool
     ensures { result ≡ is_plain_beside own.now other.now (name_view name.entry) }
@@ -79,7 +79,7 @@ fn are_plain_beside(own: &[u8], other: &[u8], names: &[Name<'_>]) -> bool
     names.iter().all(|name| is_plain_beside(own, other, *name))
 }
 
-/// The tail of a tag with this prefix, and what stands behind it.
+/// The tail of a tag with this prefix, and the bytes after it.
 #[tactic(auto, unfolding(crate::specs::ScanTags::tail_at))]
 fn tail<'a>(alloc: Global, own: &[u8], bytes: &'a [u8]) -> Result<(Tail<'a>, &'a [u8]), MarkupError>
     ensures read { Finds (λ x. (x.0.bytes.now, x.1.now)) result (tail_at bytes.now) }
@@ -99,7 +99,7 @@ fn tail<'a>(alloc: Global, own: &[u8], bytes: &'a [u8]) -> Result<(Tail<'a>, &'a
     Ok((tail, rest))
 }
 
-/// A start tag or an empty element's tag, from behind its `<`.
+/// A start tag or an empty element's tag, given the bytes after its `<`.
 #[tactic(auto, unfolding(crate::specs::ScanTags::tag_at))]
 pub(crate) fn start_tag(alloc: Global, bytes: &[u8]) -> Result<(Piece<'_>, &[u8]), MarkupError>
     ensures read { Finds (λ x. (piece_view x.0, x.1.now)) result (tag_at bytes.now) }
@@ -118,7 +118,7 @@ pub(crate) fn start_tag(alloc: Global, bytes: &[u8]) -> Result<(Piece<'_>, &[u8]
     }
 }
 
-/// An end tag, from behind its `</`.
+/// An end tag, given the bytes after its `</`.
 #[tactic(auto, unfolding(crate::specs::ScanTags::end_tag_at))]
 pub(crate) fn end_tag(bytes: &[u8]) -> Option<(Piece<'_>, &[u8])>
     ensures read { Gives (λ x. (piece_view x.0, x.1.now)) result (end_tag_at bytes.now) }

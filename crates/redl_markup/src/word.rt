@@ -35,7 +35,7 @@ fn decoded_char(bytes: &[u8]) -> Option<(char, &[u8])>
     Some((c, rest))
 }
 
-/// The first character. An ASCII byte is one, so that few are decoded.
+/// The first character. An ASCII byte is a character, so few are decoded.
 #[tactic(auto, using(crate::proofs::Names::ascii_again))]
 fn first_char(bytes: &[u8]) -> Option<(char, &[u8])>
     ensures { Gives (λ x. (x.0, x.1.now)) result (char_at bytes.now) }
@@ -59,7 +59,7 @@ fn behind_start_char(bytes: &[u8], colons: bool) -> Option<&[u8]>
     }
 }
 
-/// What stands behind the first character of a name. Most are letters of ASCII, so that few are decoded.
+/// The bytes after the first character of a name. Most are ASCII letters, so few are decoded.
 #[tactic(auto, using(crate::proofs::Names::letter_starts))]
 fn behind_start(bytes: &[u8], colons: bool) -> Option<&[u8]>
     ensures { Gives (λ rest. rest.now) result (behind_start colons bytes.now) }
@@ -79,7 +79,7 @@ fn is_name_byte(b: u8, colons: bool) -> bool
         || (colons && b == b':')
 }
 
-/// What stands behind ASCII characters of a name.
+/// The bytes after the leading ASCII characters of a name.
 #[tactic(auto, using(crate::proofs::Runs::after_at))]
 fn after_name_bytes(bytes: &[u8], colons: bool) -> &[u8]
     ensures { result.now ≡ after (is_name_byte colons) bytes.now }
@@ -91,7 +91,7 @@ fn after_name_bytes(bytes: &[u8], colons: bool) -> &[u8]
     bytes.split_at(n).1
 }
 
-/// What stands behind name characters. Most are ASCII, so that few are decoded.
+/// The bytes after the leading name characters. Most are ASCII, so few are decoded.
 fn end_of_name(bytes: &[u8], colons: bool) -> &[u8]
     ensures { name_end colons bytes.now ≡ Some result.now }
 {
@@ -105,7 +105,7 @@ fn end_of_name(bytes: &[u8], colons: bool) -> &[u8]
     end_of_characters(rest, colons)
 }
 
-/// The same, of characters that are decoded one by one.
+/// The same, decoding one character at a time.
 #[cold]
 fn end_of_characters(bytes: &[u8], colons: bool) -> &[u8]
     ensures { name_end colons bytes.now ≡ Some result.now }
@@ -120,7 +120,7 @@ fn end_of_characters(bytes: &[u8], colons: bool) -> &[u8]
     rest
 }
 
-/// A name of one part, and what stands behind it.
+/// A name of one part, and the bytes after it.
 #[tactic(auto, using(crate::proofs::Names::word_fails, crate::proofs::Names::word_reads))]
 pub(crate) fn word(bytes: &[u8], colons: bool) -> Option<(&[u8], &[u8])>
     ensures { Gives (λ x. (x.0.now, x.1.now)) result (word_at colons bytes.now) }
@@ -130,7 +130,7 @@ pub(crate) fn word(bytes: &[u8], colons: bool) -> Option<(&[u8], &[u8])>
     Some((before(bytes, rest), rest))
 }
 
-/// A name with a prefix or without, and what stands behind it.
+/// A name with or without a prefix, and the bytes after it.
 #[tactic(auto, unfolding(crate::specs::ScanNames::name_at))]
 pub(crate) fn name(bytes: &[u8]) -> Option<(Name<'_>, &[u8])>
     ensures { Gives (λ x. (name_view x.0, x.1.now)) result (name_at bytes.now) }

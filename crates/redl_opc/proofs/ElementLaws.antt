@@ -8,7 +8,7 @@ use Rattle.redl_tree.specs.declared.node.Elem.{Elem}
 use Rattle.redl_tree.proofs.Laws.{item_of-Elem, item_of-Bytes}
 use Rattle.redl_opc.specs.Elements.{element_of, elements_of}
 
--- an element in front of nodes is the first of theirs, and bytes in front add none
+-- an element before nodes is their first one, and bytes before nodes add none
 pub elements_of-Elem : (e : Elem) (rest : List Node) → elements_of (nodes_of (node.Elem e ∷ rest)) ≡ element_of e ∷ elements_of (nodes_of rest)
 elements_of-Elem e rest = ap (λ x. elements_of (in_front x (nodes_of rest))) (item_of-Elem e)
 

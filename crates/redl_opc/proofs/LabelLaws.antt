@@ -1,4 +1,4 @@
--- Labels are no part of the shape of a package.
+-- Labels are not part of the shape of a package.
 use Rattle.std.proofs.Common.{◌≡◌, ◌+◌, ◌<◌, ◌≤◌, ◌&&◌, ◌||◌, ℕ, arith, zero, suc, length, get_or, drop, slice_get, List, [], ◌∷◌, map, Option, Some, None, Bool, true, false, cond, is_some, option_map, refl, sym, ap, ◌∙◌, codes, subst}
 use Rattle.std.specs.List.{list_all, list_any}
 use Rattle.std.proofs.lemmas.List.{drop_more}
@@ -6,13 +6,14 @@ use Rattle.redl_tree.specs.Nodes.{Tag, Nodes, no_nodes, bytes, element, Item, by
 use Rattle.redl_tree.specs.View.{item_of, nodes_of}
 use Rattle.redl_tree.specs.declared.node.Node.{Node}
 use Rattle.redl_tree.specs.Count.{count}
+use Rattle.redl_tree.specs.Labels.{unlabelled}
 use Rattle.redl_tree.specs.declared.kinds.Kind.{Kind}
 use Rattle.redl_opc.specs.Elements.{Element, elements_of, only, only_element}
 use Rattle.redl_tree.specs.Packages.{named_pkg, is_story_root, is_root}
 use Rattle.redl_opc.specs.Shape.{has_attribute, is_data, is_data_alone, is_part, root_in, story_root, story_of, is_document_root, is_document, package_in, package_of, parts_refusal, refusal_of, refusal}
 use Rattle.redl_opc.specs.Tree.{HasUtf8Tails}
 use Rattle.redl_opc.specs.Parts.{name_in, places_from, places_in, places_of, IsKept}
-use Rattle.redl_opc.specs.Labels.{changed_at, labelled, unlabelled, elements, item_elements, relabelled_tag, relabelled, relabelled_item, story_elements, kids_story_elements, item_story_elements, labelled_in, labelled_item}
+use Rattle.redl_opc.specs.Labels.{changed_at, labelled, elements, item_elements, relabelled_tag, relabelled, relabelled_item, story_elements, kids_story_elements, item_story_elements, labelled_in, labelled_item}
 use Rattle.redl_opc.specs.declared.label.Label.{Label}
 
 -- an element without its labels
@@ -97,7 +98,7 @@ refusal_of-plain : (o : Option Element) → refusal_of (option_map plain o) ≡ 
 refusal_of-plain None = refl
 refusal_of-plain (Some e) = ap parts_refusal (elements-unlabelled e.kids) ∙ parts_refusal-plain (elements_of e.kids)
 
-refusal-unlabelled : (ns : Nodes) → refusal (unlabelled ns) ≡ refusal ns
+pub refusal-unlabelled : (ns : Nodes) → refusal (unlabelled ns) ≡ refusal ns
 refusal-unlabelled ns = ap refusal_of (package_of-unlabelled ns) ∙ refusal_of-plain (package_of ns)
 
 places_from-unlabelled : (at : ℕ) (ns : Nodes) → places_from at (unlabelled ns) ≡ places_from at ns
@@ -109,7 +110,7 @@ places_in-plain : (o : Option Element) → places_in (option_map plain o) ≡ pl
 places_in-plain None = refl
 places_in-plain (Some e) = places_from-unlabelled 0 e.kids
 
-places_of-unlabelled : (ns : Nodes) → places_of (unlabelled ns) ≡ places_of ns
+pub places_of-unlabelled : (ns : Nodes) → places_of (unlabelled ns) ≡ places_of ns
 places_of-unlabelled ns = ap places_in (package_of-unlabelled ns) ∙ places_in-plain (package_of ns)
 
 count-unlabelled : (ns : Nodes) → count (unlabelled ns) ≡ count ns
@@ -127,7 +128,7 @@ tails-labelled no_nodes tails = tt
 tails-labelled (bytes b rest) tails = tails-labelled rest tails
 tails-labelled (element tag kids rest) tails = (tails.0, tails-labelled kids tails.1, tails-labelled rest tails.2)
 
--- ---- nodes that differ in labels alone
+-- ---- nodes that differ only in labels
 
 changed_at-unlabelled : (place : ℕ) (change : Element → Element) → ((e : Element) → plain (change e) ≡ plain e) → (ns : Nodes)
     → unlabelled (changed_at place change ns) ≡ unlabelled ns
@@ -145,7 +146,7 @@ labelled-plain kind rev (place ∷ path) e =
     ap (λ kids. record { tag = record e.tag { kind = Kind.Plain; rev = 0 }; kids = kids })
     (changed_at-unlabelled place (labelled kind rev path) (labelled-plain kind rev path) e.kids)
 
--- what a package keeps stays where labels alone change
+-- the invariant of a package holds if only labels change
 pub kept-labelled : (old new : Nodes) (listed : List (ℕ × List ℕ)) → unlabelled new ≡ unlabelled old → IsKept old listed → IsKept new listed
 kept-labelled old new listed same kept =
     record {
@@ -195,7 +196,7 @@ labelled_in-in_front labels at around (bytes_item b) ys =
     ap (λ m. bytes b (labelled_in labels m around ys)) same
 labelled_in-in_front labels at around (element_item tag kids) ys = refl
 
--- ---- labels of all stories change labels alone
+-- ---- labelling all stories changes only labels
 
 relabelled_tag-plain : (label : Option Label) (tag : Tag)
     → record (relabelled_tag label tag) { kind = Kind.Plain; rev = 0 } ≡ record tag { kind = Kind.Plain; rev = 0 }

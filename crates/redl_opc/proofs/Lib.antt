@@ -2,3 +2,5 @@ pub mod ElementLaws
 pub mod PartLaws
 pub mod LabelLaws
 pub mod PlaceLaws
+pub mod StoryLaws
+pub mod NumberLaws

@@ -205,7 +205,7 @@ pub story-part : (ns now : Nodes) (listed : List (ℕ × List ℕ)) (k : ℕ) (p
 story-part ns now listed k place root part same kept at_k is_root is_part =
     story-listed ns now listed k (Some place) same kept at_k ∙ rw (is_root, is_part) refl
 
--- tails of a node and of those behind it
+-- tails of a node and of those after it
 pub tails-in_front : (x : Item) (rest : Nodes) → HasUtf8Tails (in_front x no_nodes) → HasUtf8Tails rest → HasUtf8Tails (in_front x rest)
 tails-in_front (bytes_item b) rest here more = more
 tails-in_front (element_item tag kids) rest here more = (here.0, here.1, more)

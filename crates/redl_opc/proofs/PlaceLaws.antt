@@ -26,7 +26,7 @@ changed-item (z ∷ xs) zero x y change within at_i h =
 changed-item (z ∷ xs) (suc i) x y change within at_i h =
     ap (in_front (item_of z)) (changed-item xs i x y change (omega arith) at_i h) ∙ sym (changed-behind (item_of z) (nodes_of xs) i change)
 
--- nothing stands behind the last place
+-- nothing comes after the last place
 pub changed-past : (xs : List Node) (i : ℕ) (change : Element → Element) → length xs ≤ i → changed_at i change (nodes_of xs) ≡ nodes_of xs
 changed-past [] i change past = refl
 changed-past (y ∷ xs) zero change past = absurd (omega arith)

@@ -27,6 +27,6 @@ only [] = None
 only (x ∷ []) = Some x
 only (x ∷ y ∷ more) = None
 
--- the one element of a list of nodes; none where it has no element, or several
+-- the only element of a list of nodes; none if it has no element, or several
 abbrev pub only_element : Nodes → Option Element
 only_element nodes = only (elements_of nodes)

@@ -1,4 +1,4 @@
--- Labels: what an element is in a revision, and the number of the revision. A label isn't written in a text.
+-- Labels: the kind of an element in a revision, and the number of the revision. A label is not written in a text.
 use Rattle.std.specs.Prelude.{ℕ, zero, suc, ◌+◌, List, [], ◌∷◌, ◌++◌, Option, Some, None, slice_get, if◌then◌else◌}
 use Rattle.redl_markup.specs.Reading.{◌>>=◌}
 use Rattle.redl_tree.specs.Nodes.{Tag, Nodes, no_nodes, bytes, element, Item, bytes_item, element_item, items_of}
@@ -9,11 +9,11 @@ use Rattle.redl_opc.specs.Elements.{Element, element_in, only_element}
 use Rattle.redl_opc.specs.Parts.{places_of}
 use Rattle.redl_opc.specs.Shape.{package_of, story_of}
 
--- an element in front of nodes
+-- an element followed by nodes
 abbrev pub with_element : Element → Nodes → Nodes
 with_element e rest = element e.tag e.kids rest
 
--- The nodes with the element at a place changed. Where no element stands there, they stay.
+-- The nodes with the element at a place changed. If there is no element at it, they are unchanged.
 abbrev pub changed_at : ℕ → (Element → Element) → Nodes → Nodes
 changed_at place change no_nodes = no_nodes
 changed_at zero change (bytes b rest) = bytes b rest
@@ -24,7 +24,7 @@ changed_at (suc place) change (element tag kids rest) = element tag kids (change
 abbrev pub item_with : Element → Item
 item_with e = element_item e.tag e.kids
 
--- one node by itself, changed where it is an element
+-- one node by itself, changed if it is an element
 abbrev pub changed_item : (Element → Element) → Item → Item
 changed_item change (bytes_item b) = bytes_item b
 changed_item change (element_item tag kids) = item_with (change (record { tag = tag; kids = kids }))
@@ -54,8 +54,8 @@ abbrev pub labelled_on : Kind → ℕ → List ℕ → Nodes → Option (List �
 labelled_on kind rev path nodes None = nodes
 labelled_on kind rev path nodes (Some way) = changed_at (first_place nodes) (labelled kind rev (way ++ path)) nodes
 
--- A package with one element of a story labelled, which stands at the end of a path down from the story's root.
--- Where there is no such story or no such element, nothing is labelled.
+-- A package with one element of a story labelled, the one at the end of a path down from the story's root.
+-- If there is no such story or element, nothing is labelled.
 abbrev pub labelled_package : Kind → ℕ → ℕ → List ℕ → Nodes → Nodes
 labelled_package kind rev part path nodes = labelled_on kind rev path nodes (way_to_story nodes part)
 
@@ -73,7 +73,7 @@ abbrev pub relabelled_tag : Option Label → Tag → Tag
 relabelled_tag None tag = tag
 relabelled_tag (Some label) tag = record tag { kind = label.kind; rev = label.rev }
 
--- nodes with these labels on their elements, in the order of the start tags, where the first has the label at this place
+-- nodes with these labels on their elements, in the order of the start tags; the first element has the label at this place
 abbrev pub relabelled : List Label → ℕ → Nodes → Nodes
 relabelled labels at no_nodes = no_nodes
 relabelled labels at (bytes b rest) = bytes b (relabelled labels at rest)
@@ -86,7 +86,7 @@ relabelled_item labels at (bytes_item b) = bytes_item b
 relabelled_item labels at (element_item tag kids) =
     element_item (relabelled_tag (slice_get labels at) tag) (relabelled labels (at + 1) kids)
 
--- how many elements stand below the roots of stories, among nodes with these ancestors
+-- how many elements there are below the roots of stories, among nodes with these ancestors
 abbrev pub story_elements : List Tag → Nodes → ℕ
 story_elements around no_nodes = 0
 story_elements around (bytes b rest) = story_elements around rest
@@ -118,13 +118,7 @@ abbrev pub labelled_item : List Label → ℕ → List Tag → Item → Item
 labelled_item labels at around (bytes_item b) = bytes_item b
 labelled_item labels at around (element_item tag kids) = element_item tag (labelled_kids labels at around tag kids)
 
--- A package with these labels on the elements below the roots of its stories, in the order of their start tags. Where there are
--- fewer labels than elements, the others stay.
+-- A package with these labels on the elements below the roots of its stories, in the order of their start tags. If there are
+-- fewer labels than elements, the remaining elements are unchanged.
 abbrev pub labelled_stories : List Label → Nodes → Nodes
 labelled_stories labels nodes = labelled_in labels 0 [] nodes
-
--- nodes without their labels
-abbrev pub unlabelled : Nodes → Nodes
-unlabelled no_nodes = no_nodes
-unlabelled (bytes b rest) = bytes b (unlabelled rest)
-unlabelled (element tag kids rest) = element (record tag { kind = Kind.Plain; rev = 0 }) (unlabelled kids) (unlabelled rest)

@@ -5,3 +5,4 @@ pub mod Tree
 pub mod Parts
 pub mod Labels
 pub mod PartView
+pub mod Stories

@@ -1,4 +1,4 @@
--- What the code keeps of a part.
+-- The code's entry for a part.
 use Rattle.std.specs.Prelude.{ℕ, List}
 use Rattle.redl_opc.specs.declared.part.Part.{Part}
 

@@ -30,11 +30,11 @@ abbrev pub places_in : Option Element → List (ℕ × List ℕ)
 places_in None = []
 places_in (Some root) = places_from 0 root.kids
 
--- the same of the parts of a package
+-- the same for the parts of a package
 abbrev pub places_of : Nodes → List (ℕ × List ℕ)
 places_of nodes = places_in (package_of nodes)
 
--- what a package keeps: it has the shape, its parts are listed, its tails are UTF-8, and a number names each of its nodes
+-- the invariant of a package: it has the shape, its parts are listed, its tails are UTF-8, and there are fewer than 2^32 nodes
 pub record IsKept (nodes : Nodes) (listed : List (ℕ × List ℕ)) : Type 0 where
   pub shape : refusal nodes ≡ None
   pub parts : listed ≡ places_of nodes

@@ -36,7 +36,7 @@ abbrev pub story_root : Option Element → Option Element
 story_root None = None
 story_root (Some root) = if is_story_root root.tag then Some root else None
 
--- the root of a story; none where the part is no story
+-- the root of a story; none if the part is not a story
 abbrev pub story_of : Element → Option Element
 story_of part = story_root (root_in (only_element part.kids))
 
@@ -52,7 +52,7 @@ abbrev pub package_in : Option Element → Option Element
 package_in None = None
 package_in (Some root) = if named_pkg (codes "package") root.tag then Some root else None
 
--- the root, where it is `package`
+-- the root, if it is `package`
 abbrev pub package_of : Nodes → Option Element
 package_of nodes = package_in (only_element nodes)
 
@@ -60,7 +60,7 @@ abbrev pub elements_in : Option Element → List Element
 elements_in None = []
 elements_in (Some root) = elements_of root.kids
 
--- the parts of a package, in their order: the child elements of its root
+-- the parts of a package, in order: the child elements of its root
 abbrev pub parts_of : Nodes → List Element
 parts_of nodes = elements_in (package_of nodes)
 
@@ -68,7 +68,7 @@ abbrev pub parts_refusal : List Element → Option OpcError
 parts_refusal parts =
     if not (list_all is_part parts) then Some PartShape else if not (list_any is_document parts) then Some NoDocument else None
 
--- why nodes are no package: the first cause that holds, and none where they are a package
+-- why nodes are not a package: the first cause that holds, and none if they are a package
 abbrev pub refusal_of : Option Element → Option OpcError
 refusal_of None = Some NotPackage
 refusal_of (Some root) = parts_refusal (elements_of root.kids)
@@ -76,7 +76,7 @@ refusal_of (Some root) = parts_refusal (elements_of root.kids)
 abbrev pub refusal : Nodes → Option OpcError
 refusal nodes = refusal_of (package_of nodes)
 
--- An answer tells the first cause. Want of memory tells nothing.
+-- An error is the first cause, or out of memory, which says nothing of the nodes.
 abbrev pub IsCause : OpcError → Nodes → Type 0
 IsCause NotPackage nodes = refusal nodes ≡ Some NotPackage
 IsCause PartShape nodes = refusal nodes ≡ Some PartShape

@@ -1,4 +1,4 @@
--- What is asked of nodes that may be a package. Those that were read from a text of at most 2,097,152 nodes have it.
+-- What is required of nodes that may be a package. Nodes that were read from a text of at most 2,097,152 nodes have it.
 use Rattle.std.specs.Prelude.{◌<◌, ◌^◌}
 use Rattle.std.specs.Str.{IsUtf8}
 use Rattle.redl_tree.specs.Nodes.{Nodes, no_nodes, bytes, element}

@@ -8,7 +8,7 @@ ghost use Rattle.redl_opc.specs.Elements.{element_of, elements_of, only_element,
 
 use redl_tree::{Elem, Node};
 
-/// The first element of nodes, and the nodes behind it.
+/// The first element of nodes, and the nodes after it.
 pub(crate) fn first_element(nodes: &[Node]) -> Option<(&Elem, &[Node])>
     ensures found { IfSome result (λ x. elements_of (nodes_of nodes.now) ≡ element_of x.0.now ∷ elements_of (nodes_of x.1.now)) }
     ensures none { IsNone result → elements_of (nodes_of nodes.now) ≡ [] }
@@ -24,7 +24,7 @@ pub(crate) fn first_element(nodes: &[Node]) -> Option<(&Elem, &[Node])>
     None
 }
 
-/// The one element of nodes. `None` where they have no element, or several.
+/// The only element of nodes. `None` if they have no element, or several.
 pub fn only_element(nodes: &[Node]) -> Option<&Elem>
     ensures { Gives (λ elem. element_of elem.now) result (only_element (nodes_of nodes.now)) }
 {
@@ -41,7 +41,7 @@ fn node_at(nodes: &[Node], place: usize) -> Option<&Node>
     nodes.get(place)
 }
 
-/// The element at a place among nodes. `None` where no element stands there.
+/// The element at a place among nodes. `None` if there is no element at it.
 pub(crate) fn element_at(nodes: &[Node], place: usize) -> Option<&Elem>
     ensures { Gives (λ elem. element_of elem.now) result (element_in (slice_get (items_of (nodes_of nodes.now)) place)) }
 {

@@ -1,16 +1,19 @@
+//! Why nodes are not a package.
+
 ghost use Rattle.std.specs.Prelude.{◌≡◌};
 ghost use Rattle.redl_opc.specs.declared.error.OpcError.TheVariants.{NoMemory};
 
 use std::alloc::{AllocError, AllocFailed};
 use thiserror::Error;
 
-/// Why nodes are no package, in the order in which the causes are looked for.
+/// Why nodes are not a package, in the order in which the causes are tested.
 #[derive(Clone, Copy, Debug, PartialEq, Eq, Error)]
 pub enum OpcError {
-    /// The root isn't `package` of the package's namespace.
+    /// The root is not `package` in the package's namespace.
     #[error("not a package")]
     NotPackage,
-    /// A child element of the root isn't a part with a name, a content type and one `xmlData` or `binaryData`.
+    /// A child element of the root is not a part with a name, a content type, and one `binaryData` or one `xmlData` with one
+    /// element.
     #[error("part shape")]
     PartShape,
     /// No part has the root `document`.

@@ -7,14 +7,14 @@ ghost use Rattle.redl_opc.specs.Labels.{changed_at, changed_item, labelled, firs
 
 use redl_tree::{Elem, Kind, Node};
 
-/// What an element is labelled with: its kind and the number of its revision.
+/// The label of an element: its kind and the number of its revision.
 #[derive(Clone, Copy, Debug, PartialEq, Eq)]
 pub struct Label {
     pub kind: Kind,
     pub rev: u32,
 }
 
-/// Labels the element at the end of a way and then a path down from an element. It goes one level deeper for each item.
+/// Labels the element at the end of a way, followed by a path, down from an element. Each item is one level deeper.
 #[cycle(label)]
 pub(crate) fn label_below(elem: &mut Elem, way: &[usize], path: &[u32], kind: Kind, rev: u32)
     ensures { element_of elem.new ≡ labelled kind rev (way.now ++ path.now) (element_of elem.old) }
@@ -29,7 +29,7 @@ pub(crate) fn label_below(elem: &mut Elem, way: &[usize], path: &[u32], kind: Ki
     }
 }
 
-/// The same from the element at a place among nodes. Where no element stands there, nothing is labelled.
+/// The same from the element at a place among nodes. If there is no element at it, nothing is labelled.
 #[cycle(label)]
 pub(crate) fn label_at(
     nodes: &mut Vec<Node>,

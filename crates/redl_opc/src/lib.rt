@@ -1,12 +1,13 @@
 //! The shape of a package: nodes go in, and a package comes out whose parts and stories can be asked for by number.
-//! Read `Package::make` first: it takes the nodes exactly where they have the shape, and else tells the first cause.
-//! A package keeps that it has the shape, that each part has a name in UTF-8, and that its text is that of its nodes.
-//! Which elements of a story are revisions is left to the crates above; `label_stories` and `label` let them write it down.
+//! Read `Package::make` first: it takes the nodes exactly if they have the shape, and otherwise gives the first cause.
+//! A package always has the shape, each of its parts has a name in UTF-8, and its text is that of its nodes.
+//! The crates above decide which elements of a story are revisions, and note it with `label_stories` and `label`.
 #![tactic(auto)]
 
 mod elements;
 mod error;
 mod label;
+mod laws;
 mod listing;
 mod package;
 mod part;
@@ -16,6 +17,7 @@ mod stories;
 pub use elements::only_element;
 pub use error::OpcError;
 pub use label::Label;
+pub use laws::{each_story_has_a_part, numbering_keeps_parts, stories_are_of_parts};
 pub use package::Package;
 
 #[cfg(test)]

@@ -13,7 +13,7 @@ use redl_stamp::attribute;
 use redl_tree::{Elem, Node};
 use std::alloc::{AllocError, Global};
 
-/// The decoded name in a part's tag. Without one it is the empty text.
+/// The decoded name in a part's tag. Without a name it is the empty text.
 fn name_of(alloc: Global, elem: &Elem) -> Result<Text, AllocError>
     ensures value { IfOk result (λ name. name ≡ name_in (tag_of elem.now)) }
     ensures utf8 { IsUtf8 elem.now.tail → IfOk result IsUtf8 }
@@ -24,7 +24,7 @@ fn name_of(alloc: Global, elem: &Elem) -> Result<Text, AllocError>
     }
 }
 
-/// The elements of nodes, each with its place and its name. `Err` is want of memory.
+/// The elements of nodes, each with its place and its name. `Err` means out of memory.
 pub(crate) fn list_parts(alloc: Global, nodes: &[Node]) -> Result<Vec<Part>, AllocError>
     requires { HasUtf8Tails (nodes_of nodes.now) }
     ensures parts { IfOk result (λ parts. map part_view parts.items ≡ places_from 0 (nodes_of nodes.now)) }

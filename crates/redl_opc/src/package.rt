@@ -23,7 +23,7 @@ use redl_tree::{Elem, Kind, Level, Node};
 use std::alloc::Global;
 use std::marker::Model;
 
-/// A package, which a contract sees as its nodes. Its parts are numbered from 0, in their order.
+/// A package, which contracts see as its nodes. Its parts are numbered from 0, in order.
 #[derive(Drop)]
 pub struct Package {
     nodes: Vec<Node>,
@@ -74,12 +74,13 @@ fn part_at(parts: &[Part], number: u32) -> Option<&Part>
 }
 
 impl Package {
-    /// The package that nodes are.
+    /// The package with these nodes.
     ///
     /// The nodes are those of a text that was read: the tail of each element is UTF-8, and there are fewer than 2^32 nodes.
-    /// `NotPackage` exactly where the root isn't `package` of the package's namespace. Else `PartShape` exactly where a child
-    /// element of the root isn't a part with a name, a content type, and one `binaryData` or one `xmlData` with one element.
-    /// Else `NoDocument` exactly where no part has the root `document`. `NoMemory` is want of memory. A refusal drops the nodes.
+    /// `NotPackage` exactly if the root is not `package` in the package's namespace. Otherwise `PartShape` exactly if a child
+    /// element of the root is not a part with a name, a content type, and one `binaryData` or one `xmlData` with one element.
+    /// Otherwise `NoDocument` exactly if no part has the root `document`. `NoMemory` means out of memory. A refusal drops the
+    /// nodes.
     pub fn make(alloc: Global, nodes: Vec<Node>) -> Result<Package, OpcError>
         requires { IsTree (nodes_of nodes.items) }
         ensures nodes { IfOk result (λ pkg. pkg ≡ nodes_of nodes.items) }
@@ -90,7 +91,7 @@ impl Package {
         Ok(Package { nodes, parts })
     }
 
-    /// All nodes, with what stands before and behind the root.
+    /// All nodes, with the text before and after the root.
     pub fn nodes(&self) -> &[Node]
         ensures nodes { nodes_of result.now ≡ self.now }
         ensures shape { refusal self.now ≡ None }
@@ -110,14 +111,14 @@ impl Package {
         self.nodes
     }
 
-    /// How many parts there are.
+    /// The number of parts.
     pub fn parts(&self) -> u32
         ensures { result ≡ length (parts_of self.now) }
     {
         self.parts.len() as u32
     }
 
-    /// The decoded name of a part. `None` exactly where there is no part with this number.
+    /// The decoded name of a part. `None` exactly if no part has this number.
     pub fn part_name(&self, part: u32) -> Option<&[u8]>
         ensures value { Gives (λ name. name.now) result (part_name self.now part) }
         ensures utf8 { IfSome result (λ name. IsUtf8 name.now) }
@@ -126,7 +127,7 @@ impl Package {
         Some(part.name())
     }
 
-    /// The root of a story. `None` exactly where there is no part with this number, or where it isn't a story.
+    /// The root of a story. `None` exactly if no part has this number, or the part is not a story.
     pub fn story(&self, part: u32) -> Option<&Elem>
         ensures { Gives (λ root. element_of root.now) result (story self.now part) }
     {
@@ -149,10 +150,10 @@ impl Package {
         Some([place, first_place(&part.kids), first_place(&held.kids)])
     }
 
-    /// Labels one element of a story: sets its kind and the number of its revision. All else stays.
+    /// Labels one element of a story: sets its kind and the number of its revision. All else is unchanged.
     ///
-    /// The path leads down from the root of the story: the empty one names the root, and each item is a place among kids.
-    /// Where there is no such story or no such element, nothing is labelled. The call goes one level deeper for each item.
+    /// The path leads down from the root of the story: the empty path names the root, and each item is a place among kids.
+    /// If there is no such story or element, nothing is labelled. Each item of the path takes one more level of calls.
     pub fn label(&mut self, part: u32, path: &[u32], kind: Kind, rev: u32)
         ensures { self.new ≡ labelled_package kind rev part path.now self.old }
     {
@@ -163,9 +164,9 @@ impl Package {
         label_at(&mut self.nodes, place, &way, path, kind, rev);
     }
 
-    /// Labels the elements below the roots of all stories, in the order of their start tags, with these labels.
+    /// Labels the elements below the roots of all stories with these labels, in the order of their start tags.
     ///
-    /// Where there are fewer labels than elements, the others stay. All else stays. It takes no memory.
+    /// If there are fewer labels than elements, the remaining elements are unchanged. All else is unchanged.
     pub fn label_stories(&mut self, labels: &[Label])
         ensures { self.new ≡ labelled_stories labels.now self.old }
     {

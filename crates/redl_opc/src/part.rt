@@ -1,4 +1,4 @@
-//! What is kept of a part.
+//! An entry in the list of parts.
 
 ghost use Rattle.std.specs.Prelude.{◌≡◌};
 ghost use Rattle.std.specs.Str.{IsUtf8};

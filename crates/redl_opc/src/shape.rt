@@ -29,7 +29,7 @@ fn is_part(elem: &Elem) -> bool
         && only_element(&elem.kids).is_some_and(|data| is_data(data))
 }
 
-/// The root of a part that is a story.
+/// The root of a part, if it is a story.
 pub(crate) fn story_of(part: &Elem) -> Option<&Elem>
     ensures { Gives (λ root. element_of root.now) result (story_of (element_of part.now)) }
 {
@@ -54,7 +54,7 @@ fn is_document(part: &Elem) -> bool
     }
 }
 
-/// The root, where it is `package`.
+/// The root, if it is `package`.
 pub(crate) fn package_of(nodes: &[Node]) -> Option<&Elem>
     ensures { Gives (λ root. element_of root.now) result (package_of (nodes_of nodes.now)) }
 {

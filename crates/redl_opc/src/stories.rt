@@ -9,7 +9,7 @@ ghost use Rattle.redl_opc.specs.Labels.{elements, item_elements, relabelled_tag,
 use crate::label::Label;
 use redl_tree::{Elem, Level, Node};
 
-/// Labels the elements below the roots of stories among nodes that stand at a level, from the label at `at` on.
+/// Labels the elements below the roots of stories among nodes at a level, from the label at `at` on.
 #[cycle(stories)]
 #[tactic(auto, using(crate::proofs::LabelLaws::elements_here))]
 pub(crate) fn label_nodes(nodes: &mut [Node], level: Level, labels: &[Label], at: &mut usize)

@@ -1,13 +1,14 @@
-//! Former properties: the present kids of a property element and the kids of a change of it go in, the kids that it has once
-//! the change is rejected come out.
+//! Former properties: the present kids of a property element and those of its former properties go in, the kids that it has
+//! once the change is rejected come out.
 //!
 //! Read `restore` first. Its clause cites the table of `specs/Restored.antt` of `redl_tree`.
-//! Which change is rejected, and where its former kids stand, is left to the crates above.
+//! Which change is rejected, and where its former kids are, is left to the crates above.
 #![tactic(auto)]
 
 mod outlasting;
 mod properties;
 
+pub use outlasting::without_marks;
 pub use properties::restore;
 
 #[cfg(test)]

@@ -1,2 +1,4 @@
+pub mod ChainLaws
 pub mod PassLaws
+pub mod KeepsLaws
 mod PackageRows

@@ -1,7 +1,5 @@
 -- Worked rows of the pass of a package, and of the number of its nodes.
-use Rattle.std.proofs.Common.{◌≡◌, List, [], ◌∷◌, ℕ, true, false, codes, refl}
-use Rattle.redl_resolve.specs.Stays.{all_stay}
-use Rattle.redl_resolve.specs.Visits.{visited_package}
+use Rattle.std.proofs.Common.{◌≡◌, List, [], ◌∷◌, ℕ, codes, refl}
 use Rattle.redl_tree.specs.Count.{count}
 use Rattle.redl_tree.specs.Nodes.{Nodes, ◌⊕◌}
 use Rattle.redl_tree.specs.Packages.{pass_package}
@@ -78,29 +76,3 @@ steps_at_most = refl
 
 steps_at_least : count (pass_package (Reject ∷ []) (package_of inserted)) ≡ 5
 steps_at_least = refl
-
--- The insertion is looked at, and where it is cut nothing in it.
-
-steps_where_all_is_left : visited_package (Keep ∷ []) (package_of inserted) ≡ 9
-steps_where_all_is_left = refl
-
-steps_where_it_is_freed : visited_package (Accept ∷ []) (package_of inserted) ≡ 9
-steps_where_it_is_freed = refl
-
-steps_where_it_is_cut : visited_package (Reject ∷ []) (package_of inserted) ≡ 6
-steps_where_it_is_cut = refl
-
--- a part that is no story is looked at whole
-steps_in_other_parts : visited_package (Reject ∷ []) three_parts ≡ 16
-steps_in_other_parts = refl
-
--- All nodes of a list stay, or some doesn't. What stands below them doesn't matter.
-
-all_stay_undecided : all_stay (Keep ∷ []) inserted ≡ true
-all_stay_undecided = refl
-
-freed_content_does_not_stay : all_stay (Accept ∷ []) inserted ≡ false
-freed_content_does_not_stay = refl
-
-kids_are_not_asked : all_stay (Accept ∷ []) (package_of inserted) ≡ true
-kids_are_not_asked = refl

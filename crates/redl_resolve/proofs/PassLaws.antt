@@ -1,50 +1,156 @@
--- The pass, a node at a time, and the number of its nodes.
-use Rattle.std.proofs.Common.{◌≡◌, ◌≢◌, ◌+◌, ◌&&◌, ℕ, List, [], ◌∷◌, ◌++◌, Bool, true, false, refl, sym, ap, ◌∙◌, arith}
+-- The pass, a node at a time.
+use Rattle.std.proofs.Common.{◌≡◌, ◌≢◌, ◌≤◌, ◌+◌, ℕ, List, ◌∷◌, Bool, true, false, true≢false, Option, Some, None, ◌&&◌, not, refl, sym, ap, ◌∙◌, arith, if◌then◌else◌}
+use Rattle.redl_resolve.proofs.ChainLaws.{count-⊕, parted-count}
+use Rattle.redl_resolve.specs.Chains.{item_piece}
+use Rattle.redl_resolve.specs.Changes.{item_rejected, item_former, present_in, after_in}
+use Rattle.redl_resolve.specs.Counts.{item_skipped, skipped, former_count}
+use Rattle.redl_resolve.specs.Rounds.{round_of, item_pass_in}
+use Rattle.redl_resolve.specs.declared.rounds.Round.{Round}
+use Rattle.redl_tree.specs.Count.{count}
+use Rattle.redl_tree.specs.Fates.{fate_of}
+use Rattle.redl_tree.specs.Kids.{only, without}
+use Rattle.redl_tree.specs.Kinds.{is_content, is_leave, is_restore}
+use Rattle.redl_tree.specs.Tables.{goes_at, goes, para_is_cut}
+use Rattle.redl_tree.specs.Lists.{in_cells}
 use Rattle.std.proofs.lemmas.Bool.{and_parts}
-use Rattle.redl_resolve.specs.Rounds.{round_of, inside_of, item_pass_in}
-use Rattle.redl_resolve.specs.Stays.{item_stays, all_stay, passed_each, item_passed_each, visited_each, item_visited_each}
-use Rattle.redl_resolve.specs.Visits.{goes_into, visited, item_visited, visited_in, item_visited_in}
-use Rattle.redl_tree.proofs.Laws.{nodes_of-push, nodes_of-push_elem, nodes_of-push_bytes, count-in_front}
-use Rattle.redl_tree.specs.Count.{count, item_count}
-use Rattle.redl_tree.specs.Fates.{fate_of, renamed}
-use Rattle.redl_tree.specs.Kinds.{is_content, is_leave}
+use Rattle.redl_resolve.specs.Stays.{may_go, elem_stays, item_stays, all_stay, passed_each, item_passed_each}
+use Rattle.redl_tree.proofs.PassLaws.{leave_of, if_true, if_false, pass-apart}
+use Rattle.redl_tree.specs.Fates.{renamed}
+use Rattle.redl_tree.specs.Names.{named, is}
 use Rattle.redl_tree.specs.Packages.{pass_in}
+use Rattle.redl_tree.specs.Pass.{by_fate, pieces, pass, element_pass, kept_kids, is_block_para}
+use Rattle.redl_tree.specs.Places.{props_name}
+use Rattle.redl_tree.specs.Restored.{Rejected, rejected, rejected_as, former_kids, restored, outlasts, after_change}
+use Rattle.redl_tree.specs.Nodes.{Tag, Nodes, no_nodes, bytes, element, Item, bytes_item, element_item, in_front, ◌⊕◌}
+use Rattle.redl_tree.specs.declared.kinds.Kind.{Kind}
+use Rattle.redl_tree.specs.declared.kinds.Kind.TheVariants.{Plain, Content, Mark, Row, Cell, Change, Marker}
+use Rattle.redl_tree.specs.declared.kinds.Prop.{Prop}
+use Rattle.redl_tree.specs.declared.kinds.Prop.TheVariants.{Run, Para, Sect, Table, Except, Row as RowProp, Cell as CellProp}
 use Rattle.redl_tree.specs.declared.kinds.Say.{Say}
 use Rattle.redl_tree.specs.declared.kinds.Fate.{Fate}
 use Rattle.redl_tree.specs.declared.kinds.Fate.TheVariants.{Leave, Free, Cut, Clear, Restore, Drop}
-use Rattle.redl_tree.specs.declared.node.Node.{Node}
-use Rattle.redl_tree.specs.declared.node.Node as node
-use Rattle.redl_tree.specs.declared.node.Elem.{Elem}
-use Rattle.redl_tree.specs.Nodes.{Tag, Nodes, no_nodes, bytes, element, Item, bytes_item, element_item, in_front, ◌⊕◌}
-use Rattle.redl_tree.specs.Pass.{pass, item_pass, by_fate}
-use Rattle.redl_tree.specs.View.{nodes_of, item_of, tag_of, kids_of}
 
--- ---- lists of nodes
+pub pieces-in_front : (says : List Say) (around : List Tag) (x : Item) (ys : Nodes) → pieces says around (in_front x ys) ≡ item_piece says around x ∷ pieces says around ys
+pieces-in_front says around (bytes_item b) ys = refl
+pieces-in_front says around (element_item tag kids) ys = refl
 
-pub count-⊕ : (xs ys : Nodes) → count (xs ⊕ ys) ≡ count xs + count ys
-count-⊕ no_nodes ys = omega arith
-count-⊕ (bytes b rest) ys = omega (arith, count-⊕ rest ys)
-count-⊕ (element tag kids rest) ys = omega (arith, count-⊕ rest ys)
+pub skipped-in_front : (says : List Say) (x : Item) (ys : Nodes) → skipped says (in_front x ys) ≡ item_skipped says x + skipped says ys
+skipped-in_front says (bytes_item b) ys = omega arith
+skipped-in_front says (element_item tag kids) ys = refl
 
-pub count-push : (xs : List Node) (x : Node) → count (nodes_of (xs ++ x ∷ [])) ≡ count (nodes_of xs) + item_count (item_of x)
-count-push xs x =
-    omega (arith, ap count (nodes_of-push xs x), count-⊕ (nodes_of xs) (in_front (item_of x) no_nodes), count-in_front (item_of x) no_nodes)
+pub skipped-few : (says : List Say) (nodes : Nodes) → skipped says nodes ≤ count nodes
+skipped-few says no_nodes = omega arith
+skipped-few says (bytes b rest) = omega (arith, skipped-few says rest)
+skipped-few says (element tag kids rest) = at (is_restore (fate_of says tag)) (skipped-few says rest)
+  where
+    at : (b : Bool) → skipped says rest ≤ count rest → (if b then count kids else 0) + skipped says rest ≤ 1 + count kids + count rest
+    at true ih = omega (arith, ih)
+    at false ih = omega (arith, ih)
 
-pub count-push_elem : (xs : List Node) (e : Elem) → count (nodes_of (xs ++ node.Elem e ∷ [])) ≡ count (nodes_of xs) + (1 + count (kids_of e))
-count-push_elem xs e =
-    omega (arith, ap count (nodes_of-push_elem xs e (tag_of e) (kids_of e) refl refl), count-⊕ (nodes_of xs) (element (tag_of e) (kids_of e) no_nodes))
+former-few : (name : List ℕ) (kids : Nodes) → count (former_kids name kids) ≤ count kids
+former-few name no_nodes = omega arith
+former-few name (bytes b rest) = omega (arith, former-few name rest)
+former-few name (element tag kids rest) = at (named name tag) (former-few name rest)
+  where
+    at : (b : Bool) → count (former_kids name rest) ≤ count rest → count (if b then kids else former_kids name rest) ≤ 1 + count kids + count rest
+    at true ih = omega arith
+    at false ih = omega (arith, ih)
 
-pub count-push_bytes : (xs : List Node) (b : List ℕ) → count (nodes_of (xs ++ node.Bytes b ∷ [])) ≡ count (nodes_of xs) + 1
-count-push_bytes xs b = omega (arith, ap count (nodes_of-push_bytes xs b), count-⊕ (nodes_of xs) (bytes b no_nodes))
+-- the former kids stand in a change that is skipped
+pub rejected-skipped : (says : List Say) (nodes : Nodes) → former_count (rejected says nodes) ≤ skipped says nodes
+rejected-skipped says no_nodes = omega arith
+rejected-skipped says (bytes b rest) = rejected-skipped says rest
+rejected-skipped says (element tag kids rest) = at (is_restore (fate_of says tag)) tag.kind (rejected-skipped says rest)
+  where
+    at : (b : Bool) (kind : Kind) → former_count (rejected says rest) ≤ skipped says rest
+        → former_count (rejected_as b kind kids (rejected says rest)) ≤ (if b then count kids else 0) + skipped says rest
+    at true (Change prop) ih = omega (arith, former-few (props_name prop) kids)
+    at true Plain ih = omega (arith, ih)
+    at true (Content t) ih = omega (arith, ih)
+    at true (Mark t) ih = omega (arith, ih)
+    at true (Row t) ih = omega (arith, ih)
+    at true (Cell t) ih = omega (arith, ih)
+    at true Marker ih = omega (arith, ih)
+    at false kind ih = omega (arith, ih)
 
--- ---- the nodes of a story
+present-count : (b : Bool) (kids : Nodes) → count (if b then without (outlasts Run) kids else kids) ≤ count kids
+present-count true kids = omega (arith, parted-count (outlasts Run) kids)
+present-count false kids = omega arith
 
-pub pass-in_front : (says : List Say) (around : List Tag) (x : Item) (ys : Nodes) → pass says around (in_front x ys) ≡ item_pass says around x ⊕ pass says around ys
-pass-in_front says around (bytes_item b) ys = refl
-pass-in_front says around (element_item tag kids) ys = refl
+restored-count : (prop : Prop) (current former : Nodes) → count (restored prop current former) ≤ count current + count former
+restored-count Run current former = omega (arith, count-⊕ (only (outlasts Run) current) (without (outlasts Run) former), parted-count (outlasts Run) current, parted-count (outlasts Run) former)
+restored-count Para current former = omega (arith, count-⊕ (without (outlasts Para) former) (only (outlasts Para) current), parted-count (outlasts Para) current, parted-count (outlasts Para) former)
+restored-count Sect current former = omega (arith, count-⊕ (only (outlasts Sect) current) (without (outlasts Sect) former), parted-count (outlasts Sect) current, parted-count (outlasts Sect) former)
+restored-count Table current former = omega arith
+restored-count Except current former = omega arith
+restored-count RowProp current former = omega (arith, count-⊕ (without (outlasts RowProp) former) (only (outlasts RowProp) current), parted-count (outlasts RowProp) current, parted-count (outlasts RowProp) former)
+restored-count CellProp current former = omega (arith, count-⊕ (without (outlasts CellProp) former) (only (outlasts CellProp) current), parted-count (outlasts CellProp) current, parted-count (outlasts CellProp) former)
 
-pub round_of-inside : (says : List Say) (tag : Tag) (around : List Tag) → round_of says (tag ∷ around) ≡ inside_of says tag (round_of says around)
-round_of-inside says tag around = refl
+pub after-count : (round : Round) (tag : Tag) (change : Option Rejected) (passed : Nodes)
+    → count (after_in round tag change passed) ≤ count passed + former_count change
+after-count round tag None passed = omega arith
+after-count round tag (Some change) passed =
+    omega (arith, restored-count change.prop (present_in round tag passed) change.former, present-count (is "rPr" tag && not round.para_props) passed)
+
+pub after-is : (says : List Say) (around : List Tag) (tag : Tag) (change : Option Rejected) (passed : Nodes)
+    → after_in (round_of says around) tag change passed ≡ after_change around tag change passed
+after-is says around tag None passed = refl
+after-is says around tag (Some change) passed = refl
+
+-- what is found at the first node, or later
+pub first_of : Option Rejected → Option Rejected → Option Rejected
+first_of None later = later
+first_of (Some change) later = Some change
+
+-- the first change of a list is that of its first node, or a later one
+pub rejected-here : (says : List Say) (x : Item) (ys : Nodes) (change : Rejected) → item_rejected says x ≡ Some change → rejected says (in_front x ys) ≡ Some change
+rejected-here says (bytes_item b) ys change e = absurd (cc)
+rejected-here says (element_item tag kids) ys change e = at (is_restore (fate_of says tag)) tag.kind e
+  where
+    at : (b : Bool) (kind : Kind) → rejected_as b kind kids None ≡ Some change → rejected_as b kind kids (rejected says ys) ≡ Some change
+    at true (Change prop) e = e
+    at true Plain e = absurd (cc)
+    at true (Content t) e = absurd (cc)
+    at true (Mark t) e = absurd (cc)
+    at true (Row t) e = absurd (cc)
+    at true (Cell t) e = absurd (cc)
+    at true Marker e = absurd (cc)
+    at false kind e = absurd (cc)
+
+pub rejected-later : (says : List Say) (x : Item) (ys : Nodes) → item_rejected says x ≡ None → rejected says (in_front x ys) ≡ rejected says ys
+rejected-later says (bytes_item b) ys e = refl
+rejected-later says (element_item tag kids) ys e = at (is_restore (fate_of says tag)) tag.kind e
+  where
+    at : (b : Bool) (kind : Kind) → rejected_as b kind kids None ≡ None → rejected_as b kind kids (rejected says ys) ≡ rejected says ys
+    at true (Change prop) e = absurd (cc)
+    at true Plain e = refl
+    at true (Content t) e = refl
+    at true (Mark t) e = refl
+    at true (Row t) e = refl
+    at true (Cell t) e = refl
+    at true Marker e = refl
+    at false kind e = refl
+
+pub former-here : (name : List ℕ) (x : Item) (ys kids : Nodes) → item_former name x ≡ Some kids → former_kids name (in_front x ys) ≡ kids
+former-here name (bytes_item b) ys kids e = absurd (cc)
+former-here name (element_item tag own) ys kids e = at (named name tag) e
+  where
+    inner : (a b : Nodes) → Some a ≡ Some b → a ≡ b
+    inner a b e = cc
+
+    at : (b : Bool) → (if b then Some own else None) ≡ Some kids → (if b then own else former_kids name ys) ≡ kids
+    at true e = inner own kids e
+    at false e = absurd (cc)
+
+pub former-later : (name : List ℕ) (x : Item) (ys : Nodes) → item_former name x ≡ None → former_kids name (in_front x ys) ≡ former_kids name ys
+former-later name (bytes_item b) ys e = refl
+former-later name (element_item tag own) ys e = at (named name tag) e
+  where
+    at : (b : Bool) → (if b then Some own else None) ≡ None → (if b then own else former_kids name ys) ≡ former_kids name ys
+    at true e = absurd (cc)
+    at false e = refl
+
+-- ---- fates
 
 -- what is decided and not freed gives nothing
 pub by_fate-gone : (fate : Fate) (content : Bool) (passed stays : Nodes) → fate ≢ Leave → fate ≢ Free
@@ -68,73 +174,63 @@ pub pass_in-in_front : (says : List Say) (around : List Tag) (x : Item) (ys : No
 pass_in-in_front says around (bytes_item b) ys = refl
 pass_in-in_front says around (element_item tag kids) ys = refl
 
--- ---- the nodes that are looked at
+-- what goes gives nothing
+pub element-goes : (says : List Say) (around : List Tag) (tag : Tag) (kids passed : Nodes) → fate_of says tag ≡ Leave → goes_at says around tag kids ≡ true
+    → element_pass says around tag kids passed ≡ no_nodes
+element-goes says around tag kids passed left goes =
+    let stays = element (renamed says around tag) (kept_kids says around tag kids passed) no_nodes in
+    leave_of (fate_of says tag) (is_content tag.kind) passed (if goes_at says around tag kids then no_nodes else stays) (ap is_leave left)
+    ∙ if_true (goes_at says around tag kids) no_nodes stays goes
 
-pub visited-in_front : (says : List Say) (x : Item) (ys : Nodes) → visited says (in_front x ys) ≡ item_visited says x + visited says ys
-visited-in_front says (bytes_item b) ys = refl
-visited-in_front says (element_item tag kids) ys = refl
+pub no_restore : (fate : Fate) → is_leave fate ≡ true → is_restore fate ≡ false
+no_restore Leave e = refl
+no_restore Free e = refl
+no_restore Cut e = refl
+no_restore Clear e = refl
+no_restore Restore e = absurd (cc)
+no_restore Drop e = refl
 
-pub visited_in-in_front : (says : List Say) (around : List Tag) (x : Item) (ys : Nodes)
-    → visited_in says around (in_front x ys) ≡ item_visited_in says around x + visited_in says around ys
-visited_in-in_front says around (bytes_item b) ys = refl
-visited_in-in_front says around (element_item tag kids) ys = refl
+pub skipped-one : (b : Bool) (kids : Nodes) → (if b then count kids else 0) ≤ count kids
+skipped-one true kids = omega arith
+skipped-one false kids = omega arith
 
--- the pass goes into nothing that is decided and not freed
-pub goes_into-gone : (fate : Fate) (content : Bool) → fate ≢ Leave → fate ≢ Free → goes_into fate content ≡ false
-goes_into-gone Leave content not_left not_freed = absurd (not_left refl)
-goes_into-gone Free content not_left not_freed = absurd (not_freed refl)
-goes_into-gone Cut content not_left not_freed = refl
-goes_into-gone Clear content not_left not_freed = refl
-goes_into-gone Restore content not_left not_freed = refl
-goes_into-gone Drop content not_left not_freed = refl
+pub skipped-none : (b : Bool) (kids : Nodes) → b ≡ false → (if b then count kids else 0) ≡ 0
+skipped-none true kids e = absurd (true≢false e)
+skipped-none false kids e = refl
 
 -- ---- nodes that all stay
 
-pub all_stay-in_front : (says : List Say) (x : Item) (ys : Nodes) → all_stay says (in_front x ys) ≡ item_stays says x && all_stay says ys
-all_stay-in_front says (bytes_item b) ys = refl
-all_stay-in_front says (element_item tag kids) ys = refl
+pub all_stay-in_front : (says : List Say) (around : List Tag) (x : Item) (ys : Nodes) → all_stay says around (in_front x ys) ≡ item_stays says around x && all_stay says around ys
+all_stay-in_front says around (bytes_item b) ys = refl
+all_stay-in_front says around (element_item tag kids) ys = refl
 
 pub passed_each-in_front : (says : List Say) (around : List Tag) (x : Item) (ys : Nodes)
     → passed_each says around (in_front x ys) ≡ in_front (item_passed_each says around x) no_nodes ⊕ passed_each says around ys
 passed_each-in_front says around (bytes_item b) ys = refl
 passed_each-in_front says around (element_item tag kids) ys = refl
 
-pub visited_each-in_front : (says : List Say) (x : Item) (ys : Nodes)
-    → visited_each says (in_front x ys) ≡ item_visited_each says x + visited_each says ys
-visited_each-in_front says (bytes_item b) ys = refl
-visited_each-in_front says (element_item tag kids) ys = refl
+not_true : (b : Bool) → not b ≡ true → b ≡ false
+not_true true e = absurd (true≢false (sym e))
+not_true false e = refl
 
--- what is left gives what stays, and nothing else does
-by_fate-left : (fate : Fate) (content : Bool) (passed stays : Nodes) → is_leave fate ≡ true → by_fate fate content passed stays ≡ stays
-by_fate-left Leave content passed stays left = refl
-by_fate-left Free content passed stays left = absurd (cc)
-by_fate-left Cut content passed stays left = absurd (cc)
-by_fate-left Clear content passed stays left = absurd (cc)
-by_fate-left Restore content passed stays left = absurd (cc)
-by_fate-left Drop content passed stays left = absurd (cc)
-
-goes_into-left : (fate : Fate) (content : Bool) → is_leave fate ≡ true → goes_into fate content ≡ true
-goes_into-left Leave content left = refl
-goes_into-left Free content left = absurd (cc)
-goes_into-left Cut content left = absurd (cc)
-goes_into-left Clear content left = absurd (cc)
-goes_into-left Restore content left = absurd (cc)
-goes_into-left Drop content left = absurd (cc)
+and_false : (a b : Bool) → a ≡ false → (a && b) ≡ false
+and_false true b e = absurd (true≢false e)
+and_false false b e = refl
 
 -- where all stay, passing each is the pass
-pub passed_each-pass : (says : List Say) (around : List Tag) (nodes : Nodes) → all_stay says nodes ≡ true
-    → passed_each says around nodes ≡ pass says around nodes
+pub passed_each-pass : (says : List Say) (around : List Tag) (nodes : Nodes) → all_stay says around nodes ≡ true → passed_each says around nodes ≡ pass says around nodes
 passed_each-pass says around no_nodes stay = refl
 passed_each-pass says around (bytes b rest) stay = ap (bytes b) (passed_each-pass says around rest stay)
 passed_each-pass says around (element tag kids rest) stay =
-    let here = and_parts (is_leave (fate_of says tag)) (all_stay says rest) stay in
-    let kept = element (renamed says around tag) (pass says (tag ∷ around) kids) no_nodes in
-    ap (λ more. kept ⊕ more) (passed_each-pass says around rest here.1)
-    ∙ ap (λ first. first ⊕ pass says around rest) (sym (by_fate-left (fate_of says tag) (is_content tag.kind) (pass says (tag ∷ around) kids) kept here.0))
-
-pub visited_each-visited : (says : List Say) (nodes : Nodes) → all_stay says nodes ≡ true → visited_each says nodes ≡ visited says nodes
-visited_each-visited says no_nodes stay = refl
-visited_each-visited says (bytes b rest) stay = omega (arith, visited_each-visited says rest stay)
-visited_each-visited says (element tag kids rest) stay =
-    let here = and_parts (is_leave (fate_of says tag)) (all_stay says rest) stay in
-    rw (goes_into-left (fate_of says tag) (is_content tag.kind) here.0) (omega (arith, visited_each-visited says rest here.1))
+    let cut = is_block_para says around tag && para_is_cut says kids in
+    let here = and_parts (elem_stays says around tag kids) (all_stay says around rest) stay in
+    let left = and_parts (is_leave (fate_of says tag)) (not (may_go around tag) && not cut) here.0 in
+    let apart = and_parts (not (may_go around tag)) (not cut) left.1 in
+    let passed = pass says (tag ∷ around) kids in
+    let stays = element (renamed says around tag) (kept_kids says around tag kids passed) no_nodes in
+    let goes = and_false (may_go around tag) (goes says (in_cells around) tag kids) (not_true (may_go around tag) apart.0) in
+    ap (λ more. stays ⊕ more) (passed_each-pass says around rest here.1)
+    ∙ ap (λ first. first ⊕ pass says around rest)
+    (sym (leave_of (fate_of says tag) (is_content tag.kind) passed (if goes_at says around tag kids then no_nodes else stays) left.0
+    ∙ if_false (goes_at says around tag kids) no_nodes stays goes))
+    ∙ sym (pass-apart says around tag kids rest (not_true cut apart.1))

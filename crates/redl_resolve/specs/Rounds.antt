@@ -1,4 +1,4 @@
--- What the pass has to know of the ancestors of a node.
+-- The summary of a node's ancestors that the pass carries down. `around` is the list of their tags, the nearest first.
 use Rattle.std.specs.Prelude.{List, [], ◌∷◌, Bool, ◌&&◌, ◌||◌, not, if◌then◌else◌}
 use Rattle.std.specs.List.{list_any}
 use Rattle.redl_tree.specs.Fates.{fate_of}
@@ -6,7 +6,11 @@ use Rattle.redl_tree.specs.Kinds.{is_old_content, is_free, is_leave}
 use Rattle.redl_tree.specs.Nodes.{Tag, Nodes, Item, bytes_item, element_item}
 use Rattle.redl_tree.specs.Packages.{is_root, pass_in}
 use Rattle.redl_tree.specs.Pass.{pass}
-use Rattle.redl_tree.specs.Places.{is_quiet}
+use Rattle.redl_tree.specs.Places.{is_quiet, within, in_para_props}
+use Rattle.redl_tree.specs.Lists.{place, inside, nowhere}
+use Rattle.redl_tree.specs.Names.{is}
+use Rattle.redl_tables.specs.Asked.{asked, asked_inside}
+use Rattle.redl_tree.specs.declared.lists.Place.{Place}
 use Rattle.redl_tree.specs.declared.kinds.Say.{Say}
 use Rattle.redl_resolve.specs.declared.rounds.Round.{Round}
 
@@ -23,7 +27,15 @@ round_of says around = record {
   quiet = list_any is_quiet around;
   freed = list_any (frees says) around;
   left = list_any (leaves says) around;
+  place = place around;
+  para = within ("p" ∷ []) around;
+  para_props = in_para_props around;
+  asked = asked around;
 }
+
+-- the place of an element's kids
+abbrev pub place_inside : Tag → Round → Place
+place_inside tag round = if not (is_quiet tag || round.quiet) then inside tag round.place else nowhere
 
 -- the same for the kids of an element
 abbrev pub inside_of : List Say → Tag → Round → Round
@@ -31,6 +43,10 @@ inside_of says tag round = record {
   quiet = is_quiet tag || round.quiet;
   freed = frees says tag || round.freed;
   left = leaves says tag || round.left;
+  place = place_inside tag round;
+  para = is "p" tag && not round.quiet;
+  para_props = is "pPr" tag && round.para;
+  asked = asked_inside tag round.asked;
 }
 
 -- deleted text is live again there

@@ -1,29 +1,44 @@
-//! Whether nodes stay.
+//! Lists in which all nodes stay, so that the list can be passed in its place.
 
-ghost use Rattle.std.specs.Prelude.{◌≡◌};
-ghost use Rattle.redl_resolve.specs.Stays.{item_stays, all_stay as all_stay_by};
-ghost use Rattle.redl_tree.specs.View.{nodes_of, item_of};
+ghost use Rattle.std.specs.Prelude.{◌≡◌, true, List};
+ghost use Rattle.redl_resolve.specs.Counts.{skipped, item_skipped};
+ghost use Rattle.redl_resolve.specs.Rounds.{round_of};
+ghost use Rattle.redl_resolve.specs.Stays.{item_stays, elem_stays as elem_stays_by, all_stay as all_stay_by};
+ghost use Rattle.redl_tree.specs.Nodes.{Tag, element_item};
+ghost use Rattle.redl_tree.specs.View.{nodes_of, item_of, tag_of, kids_of};
 
-use crate::fates::fate_of;
-use redl_tree::{Fate, Node, Say};
+use crate::rounds::{Round, is_block_para, may_go};
+use redl_tables::{fate_of, para_is_cut};
+use redl_tree::{Elem, Fate, Node, Say};
 
-/// Whether no element of the list goes, whatever becomes of its kids.
-pub(crate) fn all_stay(nodes: &[Node], says: &[Say]) -> bool
-    ensures { result ≡ all_stay_by says.now (nodes_of nodes.now) }
+/// Whether each node of the list stays, whatever becomes of its kids.
+pub(crate) fn all_stay(nodes: &[Node], says: &[Say], round: Round) -> bool
+    ensures left { result ≡ true → skipped says.now (nodes_of nodes.now) ≡ 0 }
+    ensures stay { (around : List Tag) → round ≡ round_of says.now around → result ≡ all_stay_by says.now around (nodes_of nodes.now) }
 {
     for node in nodes {
-        if !stays(node, says) {
+        if !stays(node, says, round) {
             return false;
         }
     }
     true
 }
 
-fn stays(node: &Node, says: &[Say]) -> bool
-    ensures { result ≡ item_stays says.now (item_of node.now) }
+fn stays(node: &Node, says: &[Say], round: Round) -> bool
+    ensures left { result ≡ true → item_skipped says.now (item_of node.now) ≡ 0 }
+    ensures stay { (around : List Tag) → round ≡ round_of says.now around → result ≡ item_stays says.now around (item_of node.now) }
 {
     match node {
-        Node::Elem(elem) => fate_of(says, elem) == Fate::Leave,
+        Node::Elem(elem) => elem_stays(elem, says, round),
         Node::Bytes(_) => true,
     }
+}
+
+fn elem_stays(elem: &Elem, says: &[Say], round: Round) -> bool
+    ensures left { result ≡ true → item_skipped says.now (element_item (tag_of elem.now) (kids_of elem.now)) ≡ 0 }
+    ensures stay { (around : List Tag) → round ≡ round_of says.now around → result ≡ elem_stays_by says.now around (tag_of elem.now) (kids_of elem.now) }
+{
+    fate_of(says, elem) == Fate::Leave
+        && !may_go(elem, round)
+        && !(is_block_para(elem, says, round) && para_is_cut(&elem.kids, says))
 }

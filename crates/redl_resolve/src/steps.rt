@@ -1,7 +1,10 @@
+//! A counter of steps that is there for the contracts alone.
+
+use redl_tree::Node;
 use std::marker::Model;
 use std::sync::ledger::{Blank, Book, Ledger, Share};
 
-/// How many steps were taken. It takes no bytes and no time, and only `tick` changes it.
+/// How many steps were taken. It takes no bytes and no time.
 #[derive(Drop)]
 pub struct Steps<L: Ledger> {
     book: Book<L>,
@@ -20,6 +23,8 @@ impl<L: Ledger> Model for Steps<L> {
 
 impl<L: Ledger> Steps<L> {
     ghost use Rattle.std.specs.Prelude.{◌≡◌, ◌+◌, ◌<◌};
+    ghost use Rattle.redl_tree.specs.Count.{count, item_count};
+    ghost use Rattle.redl_tree.specs.View.{nodes_of, item_of};
 
     /// A counter of no steps, by the ledger that this blank is for.
     pub fn new(blank: Blank) -> Steps<L>
@@ -37,5 +42,26 @@ impl<L: Ledger> Steps<L> {
         ensures { self.new ≡ self.old + 1 }
     {
         self.book.add(&mut self.share, 1);
+    }
+
+    /// Counts one step for each of these nodes, at every depth.
+    #[cycle(tick)]
+    pub(crate) fn tick_each(&mut self, nodes: &[Node])
+        ensures { self.new ≡ self.old + count (nodes_of nodes.now) }
+    {
+        for node in nodes {
+            self.tick_node(node);
+        }
+    }
+
+    #[cycle(tick)]
+    fn tick_node(&mut self, node: &Node)
+        ensures { self.new ≡ self.old + item_count (item_of node.now) }
+    {
+        self.tick();
+        match node {
+            Node::Elem(elem) => self.tick_each(&elem.kids),
+            Node::Bytes(_) => {}
+        }
     }
 }

@@ -1,8 +1,8 @@
 //! The stories among the nodes of a package.
 
 ghost use Rattle.std.specs.Prelude.{◌≡◌, ◌≤◌, ◌+◌, List, IfOk};
+ghost use Rattle.redl_resolve.specs.Keeps.{KeepsText, KeepsRules};
 ghost use Rattle.redl_resolve.specs.Rounds.{kids_pass_in, item_pass_in, element_pass_in};
-ghost use Rattle.redl_resolve.specs.Visits.{visited_package, visited_in, item_visited_in, kids_visited_in};
 ghost use Rattle.redl_tree.specs.Count.{count, item_count};
 ghost use Rattle.redl_tree.specs.Nodes.{Tag};
 ghost use Rattle.redl_tree.specs.Packages.{level_of, pass_in, pass_package};
@@ -16,11 +16,12 @@ use std::alloc::{AllocError, Global};
 use std::mem;
 use std::sync::ledger::Ledger;
 
-/// What the nodes of a package become under a say for each revision. `says[v - 1]` belongs to revision v, and a revision
-/// that has none is left.
+/// The nodes of a package, resolved under a say for each revision. `says[v - 1]` belongs to revision v, and a revision
+/// without a say is left (ECMA-376 Part 1, 17.13.5).
 ///
-/// A step is one node that is looked at; what goes with all that it holds is one. The nodes are copied first: where they
-/// are needed no more, `into_passed` copies nothing. `Err` is want of memory.
+/// One step is counted for each node that is looked at, and one for an element that goes, with all that it holds. The
+/// nodes are copied first; a caller that needs them no more takes `into_passed`, which copies only former properties.
+/// `Err` means out of memory.
 pub fn pass<L: Ledger>(
     alloc: Global,
     nodes: &[Node],
@@ -29,19 +30,22 @@ pub fn pass<L: Ledger>(
 ) -> Result<Vec<Node>, AllocError>
     ensures passed { IfOk result (λ passed. nodes_of passed.items ≡ pass_package says.now (nodes_of nodes.now)) }
 
-    // At most one step for each node that is given, whatever comes, and at least one for each node of the result.
+    // The text of the stories is what survives, and a sound package stays sound.
+    ensures survival { IfOk result (λ passed. KeepsText says.now (nodes_of nodes.now) (nodes_of passed.items)) }
+    ensures soundness { IfOk result (λ passed. KeepsRules (nodes_of nodes.now) (nodes_of passed.items)) }
+
+    // At most one step for each node that is given, also with an error, and at least one for each node of the result.
     ensures entered { steps.new ≤ steps.old + count (nodes_of nodes.now) }
     ensures made { IfOk result (λ passed. steps.old + count (nodes_of passed.items) ≤ steps.new) }
-
-    // In the end one for each node that is looked at.
-    ensures exactly { IfOk result (λ _. steps.new ≡ steps.old + visited_package says.now (nodes_of nodes.now)) }
 {
     let copies = copy_nodes(alloc, nodes)?;
     into_passed(alloc, copies, says, steps)
 }
 
-/// The pass of nodes that are given away, as `pass` has it. What stays is moved, or keeps its place where all round it
-/// stays, and nothing is copied, so that the nodes given go while the result is made.
+/// The same as `pass`, for nodes that are given away. What stays is moved, and a list in which all stay keeps its place,
+/// so the original goes while the result is made.
+///
+/// `Err` means out of memory.
 pub fn into_passed<L: Ledger>(
     alloc: Global,
     nodes: Vec<Node>,
@@ -49,14 +53,19 @@ pub fn into_passed<L: Ledger>(
     steps: &mut Steps<L>,
 ) -> Result<Vec<Node>, AllocError>
     ensures passed { IfOk result (λ passed. nodes_of passed.items ≡ pass_package says.now (nodes_of nodes.items)) }
+
+    // The text of the stories is what survives, and a sound package stays sound.
+    ensures survival { IfOk result (λ passed. KeepsText says.now (nodes_of nodes.items) (nodes_of passed.items)) }
+    ensures soundness { IfOk result (λ passed. KeepsRules (nodes_of nodes.items) (nodes_of passed.items)) }
+
+    // At most one step for each node that is given, also with an error, and at least one for each node of the result.
     ensures entered { steps.new ≤ steps.old + count (nodes_of nodes.items) }
     ensures made { IfOk result (λ passed. steps.old + count (nodes_of passed.items) ≤ steps.new) }
-    ensures exactly { IfOk result (λ _. steps.new ≡ steps.old + visited_package says.now (nodes_of nodes.items)) }
 {
     pass_stories(alloc, nodes, says, Level::Top, steps)
 }
 
-// The nodes with the stories among them passed.
+// The nodes with the stories among them passed. `level` says where in the package the nodes are.
 #[cycle(stories)]
 fn pass_stories<L: Ledger>(
     alloc: Global,
@@ -69,8 +78,6 @@ fn pass_stories<L: Ledger>(
         → nodes_of passed.items ≡ pass_in says.now around (nodes_of nodes.items)) }
     ensures entered { steps.new ≤ steps.old + count (nodes_of nodes.items) }
     ensures made { IfOk result (λ passed. steps.old + count (nodes_of passed.items) ≤ steps.new) }
-    ensures exactly { IfOk result (λ _. (around : List Tag) → level ≡ level_of around
-        → steps.new ≡ steps.old + visited_in says.now around (nodes_of nodes.items)) }
 {
     let mut passed = Vec::with_capacity(alloc, nodes.len())?;
     for node in nodes {
@@ -92,8 +99,6 @@ fn pass_in_node<L: Ledger>(
         → item_of passed ≡ item_pass_in says.now around (item_of node)) }
     ensures entered { steps.new ≤ steps.old + item_count (item_of node) }
     ensures made { IfOk result (λ passed. steps.old + item_count (item_of passed) ≤ steps.new) }
-    ensures exactly { IfOk result (λ _. (around : List Tag) → level ≡ level_of around
-        → steps.new ≡ steps.old + item_visited_in says.now around (item_of node)) }
 {
     steps.tick();
     match node {
@@ -102,7 +107,7 @@ fn pass_in_node<L: Ledger>(
     }
 }
 
-// The step of the element itself is counted already.
+// The step of the element itself was counted by the caller.
 #[cycle(stories)]
 fn pass_in_elem<L: Ledger>(
     alloc: Global,
@@ -115,8 +120,6 @@ fn pass_in_elem<L: Ledger>(
         → item_of passed ≡ element_pass_in says.now around (tag_of elem) (kids_of elem)) }
     ensures entered { steps.new ≤ steps.old + count (kids_of elem) }
     ensures made { IfOk result (λ passed. steps.old + item_count (item_of passed) ≤ steps.new + 1) }
-    ensures exactly { IfOk result (λ _. (around : List Tag) → level ≡ level_of around
-        → steps.new ≡ steps.old + kids_visited_in says.now around (tag_of elem) (kids_of elem)) }
 {
     let mut elem = elem;
     let kids = mem::replace(&mut elem.kids, Vec::new(alloc));
@@ -124,7 +127,7 @@ fn pass_in_elem<L: Ledger>(
     Ok(Node::Elem(elem))
 }
 
-// The kids of an element, which are their pass where it is the root of a story.
+// The kids of an element: their pass where it is the root of a story, and else themselves with the stories in them passed.
 #[cycle(stories)]
 fn pass_in_kids<L: Ledger>(
     alloc: Global,
@@ -138,11 +141,10 @@ fn pass_in_kids<L: Ledger>(
         → nodes_of passed.items ≡ kids_pass_in says.now around (tag_of parent.now) (nodes_of kids.items)) }
     ensures entered { steps.new ≤ steps.old + count (nodes_of kids.items) }
     ensures made { IfOk result (λ passed. steps.old + count (nodes_of passed.items) ≤ steps.new) }
-    ensures exactly { IfOk result (λ _. (around : List Tag) → level ≡ level_of around
-        → steps.new ≡ steps.old + kids_visited_in says.now around (tag_of parent.now) (nodes_of kids.items)) }
 {
     if level.is_root(parent) {
-        return pass_kids(alloc, kids, says, in_root(says, parent), steps);
+        let (passed, _) = pass_kids(alloc, kids, says, in_root(says, parent), steps)?;
+        return Ok(passed);
     }
     pass_stories(alloc, kids, says, level.below(parent), steps)
 }

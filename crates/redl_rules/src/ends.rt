@@ -3,21 +3,22 @@
 ghost use Rattle.std.specs.Prelude.{◌≡◌, ◌&&◌};
 ghost use Rattle.redl_tree.specs.Names.{is};
 ghost use Rattle.redl_tree.specs.Lists.{into, is_direct};
-ghost use Rattle.redl_tree.specs.Sound.{end_of, end_of_one, or_before, is_so};
+ghost use Rattle.redl_tree.specs.Sound.{end_of, end_of_one, end_of_two as end_of_two_of, or_before, is_so};
 ghost use Rattle.redl_tree.specs.Tables.{has_own};
 ghost use Rattle.redl_tree.specs.View.{nodes_of, item_of, tag_of, kids_of};
 ghost use Rattle.redl_rules.specs.Ends.{item_end, item_has_own, element_has_own};
 
 use redl_tree::{Elem, Node, Reach, is_named, is_thick, is_wrapper};
 
-/// Whether the last block of these ends in a paragraph, if there is a block.
+/// Whether the last block of these ends in a paragraph, if there is a block. Of the contents of a control one that ends so
+/// is enough.
 #[cycle(ends)]
 pub fn end_of_nodes(nodes: &[Node], reach: Reach) -> Option<bool>
     ensures { result ≡ end_of reach (nodes_of nodes.now) }
 {
     let mut end = None;
     for node in nodes {
-        end = later_end(end, end_of_node(node, reach));
+        end = end_of_two(reach, end, end_of_node(node, reach));
     }
     end
 }
@@ -56,6 +57,16 @@ fn end_of_elem(elem: &Elem, reach: Reach) -> Option<bool>
             }
         }
         Reach::Beyond => None,
+    }
+}
+
+/// What two neighbours that are reached so say together.
+fn end_of_two(reach: Reach, before: Option<bool>, last: Option<bool>) -> Option<bool>
+    ensures { result ≡ end_of_two_of reach before last }
+{
+    match (reach, before) {
+        (Reach::Control, Some(true)) => Some(true),
+        _ => later_end(before, last),
     }
 }
 

@@ -14,6 +14,3 @@ mod rules;
 mod walk;
 
 pub use package::{RuleError, check};
-
-#[cfg(test)]
-mod tests;

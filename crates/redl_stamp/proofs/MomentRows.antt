@@ -1,4 +1,4 @@
--- Moments of dates, worked out by the definition.
+-- Dates and their moments, computed by the definition.
 use Rattle.std.proofs.Common.{◌≡◌, Some, None, ℤ, pos, ◌-ℤ◌, codes, refl}
 use Prim.Native.String.{String}
 use Rattle.std.specs.Prelude.{Option}

@@ -22,7 +22,7 @@ found_here local (Some value) left rest a is = refl
 found_here local None left rest a is =
     by_test (has_local_name local a) a (find (has_local_name local) (attributes_of rest)) ∙ sym (ap (first_in local) is)
 
--- what was found or else stands from this attribute on is, with what this one says, what is found or else stands behind it
+-- the value found so far or from this attribute on is the value found with this attribute or after it
 pub found_on : (local : List ℕ) (before found : Option (List ℕ)) (left rest : List ℕ) (a : Name × List ℕ) (whole : Option (List ℕ))
     → attributes_of left ≡ a ∷ attributes_of rest → found ≡ option_or before (own_value local a)
     → option_or before (written_value left local) ≡ whole → option_or found (written_value rest local) ≡ whole

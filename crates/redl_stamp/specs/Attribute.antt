@@ -5,15 +5,15 @@ use Rattle.redl_markup.specs.Names.{Name}
 use Rattle.redl_markup.specs.Attributes.{attributes_of}
 use Rattle.redl_markup.specs.Decoding.{decoded_value}
 
--- the prefix isn't that of declarations
+-- the prefix is not that of declarations
 abbrev pub is_prefix_of_attributes : List ℕ → Bool
 is_prefix_of_attributes prefix = not (bytes_eq prefix (codes "xmlns"))
 
--- an attribute with this local name, and with any prefix or none, but not that of declarations
+-- the attribute has this local name, and any prefix or none but that of declarations
 abbrev pub has_local_name : List ℕ → Name × List ℕ → Bool
 has_local_name local attribute = bytes_eq attribute.0.local local && is_prefix_of_attributes attribute.0.prefix
 
--- its value, as it is written, where an attribute is such a one
+-- its value, as it is written, if the attribute has this local name
 abbrev pub own_value : List ℕ → Name × List ℕ → Option (List ℕ)
 own_value local attribute = if has_local_name local attribute then Some attribute.1 else None
 
@@ -21,6 +21,6 @@ own_value local attribute = if has_local_name local attribute then Some attribut
 abbrev pub written_value : List ℕ → List ℕ → Option (List ℕ)
 written_value tail local = option_map (λ attribute. attribute.1) (find (has_local_name local) (attributes_of tail))
 
--- what that value says
+-- the same value, decoded
 abbrev pub attribute_value : List ℕ → List ℕ → Option (List ℕ)
 attribute_value tail local = option_map decoded_value (written_value tail local)

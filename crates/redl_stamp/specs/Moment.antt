@@ -10,25 +10,26 @@ use Rattle.redl_markup.specs.Reading.{◌>>=◌}
 abbrev pub is_decimal : ℕ → Bool
 is_decimal b = between 48 57 b
 
--- one digit at the front, and what stands behind it
+-- the value of a leading digit, and the bytes after it
 abbrev pub digit_at : List ℕ → Option (ℕ × List ℕ)
 digit_at [] = None
 digit_at (b ∷ bs) = if is_decimal b then Some (b - 48, bs) else None
 
--- the number that two digits write, and what stands behind them
+-- the number that two leading digits write, and the bytes after them
 abbrev pub two_digits_at : List ℕ → Option (ℕ × List ℕ)
 two_digits_at bs = do
   tens ← digit_at bs
   ones ← digit_at tens.1
   Some (tens.0 * 10 + ones.0, ones.1)
 
+-- the number that four leading digits write, and the bytes after them
 abbrev pub four_digits_at : List ℕ → Option (ℕ × List ℕ)
 four_digits_at bs = do
   high ← two_digits_at bs
   low ← two_digits_at high.1
   Some (high.0 * 100 + low.0, low.1)
 
--- two digits behind a mark
+-- the number that two digits after a leading mark write, and the bytes after them
 abbrev pub marked_digits_at : List ℕ → List ℕ → Option (ℕ × List ℕ)
 marked_digits_at mark bs = do
   rest ← behind mark bs
@@ -38,11 +39,11 @@ marked_digits_at mark bs = do
 abbrev pub is_date : ℕ → ℕ → ℕ → Bool
 is_date year month day = between 1 12 month && between 1 (days_in_month (pos year) month) day
 
--- the seconds from 1970-01-01T00:00:00 to the midnight with which a day begins, negative before it
+-- the seconds from 1970-01-01T00:00:00 to the start of a day, negative before it
 abbrev pub seconds_to : ℤ → ℤ
 seconds_to days = days *ℤ pos 86_400
 
--- `YYYY-MM-DD`: the seconds to the midnight with which this day begins, and what stands behind the day
+-- `YYYY-MM-DD`: the seconds to the start of this day, and the bytes after the day
 unfoldable pub date_at : List ℕ → Option (ℤ × List ℕ)
 date_at bs = do
   year ← four_digits_at bs
@@ -54,7 +55,7 @@ date_at bs = do
 abbrev pub is_time : ℕ → ℕ → ℕ → Bool
 is_time hour minute second = nat_le hour 23 && nat_le minute 59 && nat_le second 59
 
--- `hh:mm:ss`: the seconds from midnight, and what stands behind them
+-- `hh:mm:ss`: the seconds from midnight, and the bytes after the time
 unfoldable pub time_at : List ℕ → Option (ℕ × List ℕ)
 time_at bs = do
   hour ← two_digits_at bs
@@ -62,34 +63,38 @@ time_at bs = do
   second ← marked_digits_at (codes ":") minute.1
   if is_time hour.0 minute.0 second.0 then Some (hour.0 * 3600 + minute.0 * 60 + second.0, second.1) else None
 
+-- the bytes after the 1 to 9 digits that follow a dot, or all bytes without a dot
 abbrev pub behind_digits : List ℕ → Option (List ℕ) → Option (List ℕ)
 behind_digits bs None = Some bs
 behind_digits bs (Some digits) = if between 1 9 (length (front is_decimal digits)) then Some (after is_decimal digits) else None
 
--- what stands behind a fraction of a second: behind a dot and 1 to 9 digits, or behind nothing
+-- the bytes after a leading fraction of a second, a dot and 1 to 9 digits, or all bytes without one
 unfoldable pub behind_fraction : List ℕ → Option (List ℕ)
 behind_fraction bs = behind_digits bs (behind (codes ".") bs)
 
+-- no byte is left
 abbrev pub is_at_end : List ℕ → Bool
 is_at_end [] = true
 is_at_end (b ∷ bs) = false
 
--- `hh:mm` to the end, of a zone: seconds
+-- a zone's `hh:mm` to the end, in seconds
 unfoldable pub offset_in : List ℕ → Option ℕ
 offset_in bs = do
   hours ← two_digits_at bs
   minutes ← marked_digits_at (codes ":") hours.1
   if nat_le hours.0 14 && nat_le minutes.0 59 && is_at_end minutes.1 then Some (hours.0 * 3600 + minutes.0 * 60) else None
 
+-- seconds ahead of UTC
 abbrev pub ahead : Option ℕ → Option ℤ
 ahead None = None
 ahead (Some seconds) = Some (pos seconds)
 
+-- seconds behind UTC, as a negative number
 abbrev pub back : Option ℕ → Option ℤ
 back None = None
 back (Some seconds) = Some (neg_ℤ (pos seconds))
 
--- a zone to the end: by how many seconds its clocks are ahead of UTC; without a zone the time is UTC
+-- a zone to the end: the seconds by which its clocks are ahead of UTC; without a zone the time is UTC
 unfoldable pub zone_in : List ℕ → Option ℤ
 zone_in [] = Some (pos 0)
 zone_in (b ∷ bs) =
@@ -109,9 +114,11 @@ last_moment = pos 253_402_300_799
 abbrev pub IsMoment : ℤ → Type 0
 IsMoment seconds = IsBetween first_moment last_moment seconds
 
+-- the same as a test
 abbrev pub is_moment : ℤ → Bool
 is_moment seconds = int_le first_moment seconds && int_le seconds last_moment
 
+-- the seconds, if they are in these years
 abbrev pub within_years : ℤ → Option ℤ
 within_years seconds = if is_moment seconds then Some seconds else None
 

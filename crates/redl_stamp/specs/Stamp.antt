@@ -8,10 +8,11 @@ use Rattle.redl_stamp.specs.Moment.{moment_of}
 abbrev pub author_of : List ℕ → List ℕ
 author_of tail = unwrap_or (attribute_value tail (codes "author")) []
 
--- a missing date, and one that can't be read, is none
+-- the seconds of the date; none if it is missing or cannot be read
 abbrev pub seconds_of : List ℕ → Option ℤ
 seconds_of tail = option_and_then moment_of (attribute_value tail (codes "date"))
 
+-- the stamp in a tag's tail
 abbrev pub stamp_of : List ℕ → Stamp
 stamp_of tail = record {
   author = author_of tail;

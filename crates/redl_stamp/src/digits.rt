@@ -5,6 +5,7 @@ ghost use Rattle.redl_markup.specs.Lists.{behind, front, after};
 ghost use Rattle.redl_markup.specs.Reading.{Gives};
 ghost use Rattle.redl_stamp.specs.Moment.{is_decimal, digit_at, two_digits_at, four_digits_at, marked_digits_at};
 
+/// The value of a leading digit, and the bytes after it.
 fn digit(bytes: &[u8]) -> Option<(u8, &[u8])>
     ensures value { Gives (λ x. (x.0, x.1.now)) result (digit_at bytes.now) }
     ensures range { IfSome result (λ x. x.0 < 10) }
@@ -15,7 +16,7 @@ fn digit(bytes: &[u8]) -> Option<(u8, &[u8])>
     }
 }
 
-/// The number that two digits at the front write, and what stands behind them.
+/// The number that two leading digits write, and the bytes after them.
 pub(crate) fn two_digits(bytes: &[u8]) -> Option<(u8, &[u8])>
     ensures value { Gives (λ x. (x.0, x.1.now)) result (two_digits_at bytes.now) }
     ensures range { IfSome result (λ x. x.0 < 100) }
@@ -25,7 +26,7 @@ pub(crate) fn two_digits(bytes: &[u8]) -> Option<(u8, &[u8])>
     Some((tens * 10 + ones, rest))
 }
 
-/// The number that four digits at the front write, and what stands behind them.
+/// The number that four leading digits write, and the bytes after them.
 pub(crate) fn four_digits(bytes: &[u8]) -> Option<(u16, &[u8])>
     ensures value { Gives (λ x. (x.0, x.1.now)) result (four_digits_at bytes.now) }
     ensures range { IfSome result (λ x. x.0 < 10_000) }
@@ -35,7 +36,7 @@ pub(crate) fn four_digits(bytes: &[u8]) -> Option<(u16, &[u8])>
     Some((high as u16 * 100 + low as u16, rest))
 }
 
-/// What stands behind a mark at the front.
+/// The bytes after a leading `mark`.
 #[tactic(auto, using(redl_markup::proofs::Words::behind_pointwise, redl_markup::proofs::Words::behind_not_pointwise))]
 pub(crate) fn skip<'a>(bytes: &'a [u8], mark: &[u8]) -> Option<&'a [u8]>
     ensures { Gives (λ rest. rest.now) result (behind mark.now bytes.now) }
@@ -43,7 +44,7 @@ pub(crate) fn skip<'a>(bytes: &'a [u8], mark: &[u8]) -> Option<&'a [u8]>
     bytes.strip_prefix(mark)
 }
 
-/// The number that two digits behind a mark write, and what stands behind them.
+/// The number that two digits after a leading `mark` write, and the bytes after them.
 pub(crate) fn marked_digits<'a>(bytes: &'a [u8], mark: &[u8]) -> Option<(u8, &'a [u8])>
     ensures value { Gives (λ x. (x.0, x.1.now)) result (marked_digits_at mark.now bytes.now) }
     ensures range { IfSome result (λ x. x.0 < 100) }
@@ -52,7 +53,7 @@ pub(crate) fn marked_digits<'a>(bytes: &'a [u8], mark: &[u8]) -> Option<(u8, &'a
     two_digits(rest)
 }
 
-/// The digits at the front, and what stands behind them.
+/// The leading digits, and the bytes after them.
 #[tactic(auto, using(redl_markup::proofs::Runs::front_at, redl_markup::proofs::Runs::after_at))]
 pub(crate) fn digits(bytes: &[u8]) -> (&[u8], &[u8])
     ensures front { result.0.now ≡ front is_decimal bytes.now }

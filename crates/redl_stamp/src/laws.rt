@@ -1,4 +1,4 @@
-//! What holds of all tails, whatever was read.
+//! A law of every legal tail of a tag.
 
 ghost use Rattle.std.specs.Prelude.{◌≡◌, ℕ, List, find};
 ghost use Rattle.std.specs.Option.{option_map};
@@ -6,7 +6,7 @@ ghost use Rattle.redl_markup.specs.Decoding.{decoded_value};
 ghost use Rattle.redl_markup.specs.Tails.{IsTail, named_value};
 ghost use Rattle.redl_stamp.specs.Attribute.{has_local_name, attribute_value};
 
-/// In a legal tail, the value is that of the first of its attributes that has the local name and isn't a declaration's.
+/// The value that a legal tail has under a local name is that of its first attribute with this name that is no declaration.
 pub fn value_of_the_first()
     ensures { (tail local : List ℕ) (legal : IsTail tail)
         → attribute_value tail local

@@ -15,7 +15,7 @@ const FIRST_MOMENT: i64 = -62_167_219_200;
 /// 9999-12-31T23:59:59Z.
 const LAST_MOMENT: i64 = 253_402_300_799;
 
-/// The seconds from 1970-01-01T00:00:00 to the midnight with which a day begins.
+/// The seconds from 1970-01-01T00:00:00 to the start of a day.
 fn seconds_to(date: Date) -> i64
     ensures seconds { result ≡ seconds_to (epoch_day date) }
     ensures range { IsBetween (neg_ℤ (pos 377_705_116_800)) (pos 253_402_214_400) result }
@@ -24,7 +24,7 @@ fn seconds_to(date: Date) -> i64
     date.duration_since(epoch).as_secs()
 }
 
-/// A day of the calendar, `YYYY-MM-DD`, as the seconds to its midnight, and what stands behind it.
+/// The seconds to the start of a leading day `YYYY-MM-DD` of the calendar, and the bytes after it.
 #[tactic(auto, unfolding(crate::specs::Moment::date_at))]
 fn date(bytes: &[u8]) -> Option<(i64, &[u8])>
     ensures value { Gives (λ x. (x.0, x.1.now)) result (date_at bytes.now) }
@@ -39,7 +39,7 @@ fn date(bytes: &[u8]) -> Option<(i64, &[u8])>
     }
 }
 
-/// A time of day, `hh:mm:ss`, in seconds from midnight, and what stands behind it.
+/// The seconds from midnight of a leading time `hh:mm:ss`, and the bytes after it.
 #[tactic(auto, unfolding(crate::specs::Moment::time_at))]
 fn time(bytes: &[u8]) -> Option<(u32, &[u8])>
     ensures value { Gives (λ x. (x.0, x.1.now)) result (time_at bytes.now) }
@@ -57,7 +57,7 @@ fn time(bytes: &[u8]) -> Option<(u32, &[u8])>
     }
 }
 
-/// What stands behind a fraction of a second, or behind nothing.
+/// The bytes after a leading fraction of a second, if there is one, or else all of them.
 #[tactic(auto, unfolding(crate::specs::Moment::behind_fraction))]
 fn skip_fraction(bytes: &[u8]) -> Option<&[u8]>
     ensures { Gives (λ rest. rest.now) result (behind_fraction bytes.now) }
@@ -73,7 +73,7 @@ fn skip_fraction(bytes: &[u8]) -> Option<&[u8]>
     }
 }
 
-/// The hours and minutes of a zone, `hh:mm`, in seconds.
+/// The hours and minutes of a zone, `hh:mm` to the end, in seconds.
 #[tactic(auto, unfolding(crate::specs::Moment::offset_in))]
 fn offset(bytes: &[u8]) -> Option<u32>
     ensures value { result ≡ offset_in bytes.now }
@@ -88,7 +88,7 @@ fn offset(bytes: &[u8]) -> Option<u32>
     }
 }
 
-/// By how many seconds the clocks of a zone are ahead of UTC. Without a zone the time is UTC.
+/// The seconds by which the clocks of a zone are ahead of UTC. Without a zone the time is UTC.
 #[tactic(auto, unfolding(crate::specs::Moment::zone_in))]
 fn zone(bytes: &[u8]) -> Option<i64>
     ensures value { result ≡ zone_in bytes.now }
@@ -105,6 +105,7 @@ fn zone(bytes: &[u8]) -> Option<i64>
     }
 }
 
+/// The seconds, if their year in UTC is 0000 to 9999.
 fn within_years(seconds: i64) -> Option<i64>
     ensures value { result ≡ within_years seconds }
     ensures range { IfSome result IsMoment }
@@ -116,7 +117,7 @@ fn within_years(seconds: i64) -> Option<i64>
     }
 }
 
-/// The moment that bytes name. Bytes that are no text name none.
+/// The moment that the bytes name. Bytes that are not UTF-8 name none.
 #[tactic(auto, unfolding(crate::specs::Moment::moment_of))]
 pub(crate) fn moment(bytes: &[u8]) -> Option<i64>
     ensures value { result ≡ moment_of bytes.now }
@@ -133,8 +134,8 @@ pub(crate) fn moment(bytes: &[u8]) -> Option<i64>
 /// The moment that a date and time name, in seconds from 1970-01-01T00:00:00Z. A fraction of a second is ignored.
 ///
 /// The text is `YYYY-MM-DDThh:mm:ss`, then a dot and 1 to 9 digits or nothing, then `Z`, `+hh:mm`, `-hh:mm` or nothing, which
-/// is read as UTC. `None` exactly where the text has another form, the calendar or a clock doesn't have the day or the time,
-/// an offset is above 14 hours and 59 minutes, or the moment's year in UTC isn't 0000 to 9999.
+/// is read as UTC (XML Schema Part 2, 3.2.7). `None` exactly if the text has another form, the day is not in the calendar, the
+/// time is not on a clock, the offset is above 14 hours and 59 minutes, or the moment's year in UTC is not 0000 to 9999.
 pub fn read_moment(text: &str) -> Option<i64>
     ensures value { result ≡ moment_of text.now }
     ensures range { IfSome result IsMoment }

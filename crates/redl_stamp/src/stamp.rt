@@ -1,4 +1,4 @@
-//! Stamps.
+//! Stamps: who made a revision and when.
 
 ghost use Rattle.std.specs.Prelude.{◌≡◌, [], IfOk, IfSome, unwrap_or, option_and_then};
 ghost use Rattle.std.specs.Option.{option_map};
@@ -13,15 +13,18 @@ use crate::written::Written;
 use redl_io::Text;
 use std::alloc::{AllocError, Global};
 
-/// Who made a revision and when, in seconds from 1970-01-01T00:00:00Z, and the name and id of it or of a marker.
+/// Who made a revision and when, and the name and id of the revision or of a move's marker (ECMA-376 Part 1, 17.13.5).
 #[derive(Drop)]
 pub struct Stamp {
+    /// The empty text if the tag names no author.
     pub author: Text,
+    /// The seconds from 1970-01-01T00:00:00Z to the date, if it can be read.
     pub seconds: Option<i64>,
     pub name: Option<Text>,
     pub id: Option<Text>,
 }
 
+/// The author that a value names, or the empty text without a value. `Err` means out of memory.
 fn author(alloc: Global, written: Option<&[u8]>) -> Result<Text, AllocError>
     ensures value { IfOk result (λ author. author ≡ unwrap_or (option_map decoded_value (option_map (λ value. value.now) written.entry)) []) }
     ensures utf8 { IfSome written.entry (λ value. IsUtf8 value.now) → IfOk result IsUtf8 }
@@ -32,6 +35,7 @@ fn author(alloc: Global, written: Option<&[u8]>) -> Result<Text, AllocError>
     }
 }
 
+/// The seconds to the date that a value names. `Err` means out of memory.
 fn seconds(alloc: Global, written: Option<&[u8]>) -> Result<Option<i64>, AllocError>
     ensures value { IfOk result (λ seconds. seconds
         ≡ option_and_then moment_of (option_map decoded_value (option_map (λ value. value.now) written.entry))) }
@@ -45,11 +49,13 @@ fn seconds(alloc: Global, written: Option<&[u8]>) -> Result<Option<i64>, AllocEr
 
 /// The stamp in a tag's tail.
 ///
-/// Without an author it is the empty text. Without a date, and where the date can't be read, there are no seconds. `Err` is
-/// want of memory.
+/// Without an author it has the empty text as author. Without a date that can be read it has no seconds. `Err` means out of
+/// memory.
 pub fn read_stamp(alloc: Global, tail: &[u8]) -> Result<Stamp, AllocError>
     ensures value { IfOk result (λ stamp. stamp ≡ stamp_of tail.now) }
     ensures utf8 { IsUtf8 tail.now → IfOk result (λ stamp. IsUtf8 stamp.author) }
+    ensures utf8_name { IsUtf8 tail.now → IfOk result (λ stamp. IfSome stamp.name IsUtf8) }
+    ensures utf8_id { IsUtf8 tail.now → IfOk result (λ stamp. IfSome stamp.id IsUtf8) }
     ensures range { IfOk result (λ stamp. IfSome stamp.seconds IsMoment) }
 {
     let written = Written::read(tail);

@@ -1,4 +1,4 @@
-//! Attributes by their local name.
+//! Values of attributes, found by their local name.
 
 ghost use Rattle.std.specs.Prelude.{◌≡◌, is_some, IfOk, IfSome};
 ghost use Rattle.std.specs.Option.{option_map};
@@ -12,7 +12,7 @@ use redl_io::Text;
 use redl_markup::{Attribute, decode_value, next_attribute};
 use std::alloc::{AllocError, Global};
 
-/// Whether an attribute has this local name, and not the prefix of declarations.
+/// Whether an attribute has this local name and is no declaration of a namespace.
 pub(crate) fn has_local_name(attribute: &Attribute<'_>, local: &[u8]) -> bool
     ensures { result ≡ has_local_name local.now (attribute_view attribute.now) }
 {
@@ -43,8 +43,8 @@ pub fn has_attribute(tail: &[u8], local: &[u8]) -> bool
 
 /// The decoded value of the first attribute of a tag's tail with this local name and a prefix other than `xmlns`, or none.
 ///
-/// A tail is all that stands between a tag's name and its `>` or `/>`. `None` exactly where the tail has no such attribute.
-/// `Err` is want of memory.
+/// A tail is all between a tag's name and its `>` or `/>`. `None` exactly if the tail has no such attribute. `Err` means out
+/// of memory.
 pub fn attribute(alloc: Global, tail: &[u8], local: &[u8]) -> Result<Option<Text>, AllocError>
     ensures value { IfOk result (λ found. found ≡ attribute_value tail.now local.now) }
     ensures utf8 { IsUtf8 tail.now → IfOk result (λ found. IfSome found IsUtf8) }
@@ -52,7 +52,7 @@ pub fn attribute(alloc: Global, tail: &[u8], local: &[u8]) -> Result<Option<Text
     decoded(alloc, written_value(tail, local))
 }
 
-/// What a value says that is written so, if one is. `Err` is want of memory.
+/// The decoded value, if there is a written one. `Err` means out of memory.
 pub(crate) fn decoded(alloc: Global, written: Option<&[u8]>) -> Result<Option<Text>, AllocError>
     ensures value { IfOk result (λ found. found ≡ option_map decoded_value (option_map (λ value. value.now) written.entry)) }
     ensures utf8 { IfSome written.entry (λ value. IsUtf8 value.now) → IfOk result (λ found. IfSome found IsUtf8) }

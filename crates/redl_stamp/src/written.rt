@@ -9,7 +9,7 @@ ghost use Rattle.redl_stamp.specs.Attribute.{written_value, own_value};
 use crate::value::has_local_name;
 use redl_markup::{Attribute, next_attribute};
 
-/// The values of a stamp, as they are written, each of the first attribute with its name.
+/// The values of a stamp, as they are written. Each is that of the first attribute with its name.
 #[derive(Clone, Copy)]
 pub(crate) struct Written<'a> {
     pub(crate) author: Option<&'a [u8]>,
@@ -19,13 +19,15 @@ pub(crate) struct Written<'a> {
 }
 
 impl<'a> Written<'a> {
-    /// The values in a tag's tail, whose attributes are read once.
+    /// The values in a tag's tail. It reads the attributes once.
     pub(crate) fn read(tail: &'a [u8]) -> Written<'a>
         ensures author { option_map (λ value. value.now) result.author ≡ written_value tail.now (codes "author") }
         ensures date { option_map (λ value. value.now) result.date ≡ written_value tail.now (codes "date") }
         ensures name { option_map (λ value. value.now) result.name ≡ written_value tail.now (codes "name") }
         ensures id { option_map (λ value. value.now) result.id ≡ written_value tail.now (codes "id") }
         ensures utf8 { IsUtf8 tail.now → IfSome result.author (λ value. IsUtf8 value.now) }
+        ensures utf8_name { IsUtf8 tail.now → IfSome result.name (λ value. IsUtf8 value.now) }
+        ensures utf8_id { IsUtf8 tail.now → IfSome result.id (λ value. IsUtf8 value.now) }
     {
         let mut written = Written {
             author: None,
@@ -41,7 +43,7 @@ impl<'a> Written<'a> {
         written
     }
 
-    /// The same, or what this attribute says where no earlier one says it.
+    /// These values, and this attribute's value if no earlier attribute had its name.
     fn with(self, attribute: &Attribute<'a>) -> Written<'a>
         ensures author { option_map (λ value. value.now) result.author
             ≡ option_or (option_map (λ value. value.now) self.entry.author) (own_value (codes "author") (attribute_view attribute.now)) }
@@ -53,6 +55,10 @@ impl<'a> Written<'a> {
             ≡ option_or (option_map (λ value. value.now) self.entry.id) (own_value (codes "id") (attribute_view attribute.now)) }
         ensures utf8 { IfSome self.entry.author (λ value. IsUtf8 value.now) → IsUtf8 attribute.now.value.now
             → IfSome result.author (λ value. IsUtf8 value.now) }
+        ensures utf8_name { IfSome self.entry.name (λ value. IsUtf8 value.now) → IsUtf8 attribute.now.value.now
+            → IfSome result.name (λ value. IsUtf8 value.now) }
+        ensures utf8_id { IfSome self.entry.id (λ value. IsUtf8 value.now) → IsUtf8 attribute.now.value.now
+            → IfSome result.id (λ value. IsUtf8 value.now) }
     {
         Written {
             author: first_value(self.author, attribute, b"author"),
@@ -63,7 +69,7 @@ impl<'a> Written<'a> {
     }
 }
 
-/// The value found so far, or that of an attribute with this local name.
+/// The value found so far, or else that of the attribute if it has this local name.
 fn first_value<'a>(
     found: Option<&'a [u8]>,
     attribute: &Attribute<'a>,

@@ -7,11 +7,14 @@ use Rattle.redl_tree.specs.Names.{is_any}
 use Rattle.redl_tree.specs.Pass.{pass}
 use Rattle.redl_tree.specs.View.{Parts}
 use Rattle.redl_tree.specs.declared.kinds.Say.{Say}
+use Rattle.redl_tree.specs.declared.kinds.Kind.{Kind}
+use Rattle.redl_tree.specs.declared.kinds.Kind.TheVariants.{Plain}
 use Rattle.redl_tree.specs.declared.kinds.Space.{Space}
 use Rattle.redl_tree.specs.declared.kinds.Space.TheVariants.{Pkg}
 use Rattle.redl_tree.specs.declared.level.Level.{Level}
 use Rattle.redl_tree.specs.declared.level.Level.TheVariants.{Top, Package, Part, Data, Below}
 
+-- the namespace of packages
 abbrev pub is_pkg : Space → Bool
 is_pkg Pkg = true
 is_pkg _ = false
@@ -33,6 +36,7 @@ abbrev pub level_of : List Tag → Level
 level_of [] = Top
 level_of (tag ∷ around) = level_below (level_of around) tag
 
+-- in the XML data of a part
 abbrev pub is_data_level : Level → Bool
 is_data_level Data = true
 is_data_level _ = false
@@ -41,7 +45,7 @@ is_data_level _ = false
 abbrev pub is_story_root : Tag → Bool
 is_story_root tag = is_any ("document" ∷ "hdr" ∷ "ftr" ∷ "footnotes" ∷ "endnotes" ∷ "comments" ∷ []) tag
 
--- an element with these ancestors is the root of a story: it stands in the data of a part, and has one of the six names
+-- an element with these ancestors is the root of a story: it is in the data of a part, and has one of the six names
 abbrev pub is_root : List Tag → Tag → Bool
 is_root around tag = is_data_level (level_of around) && is_story_root tag
 
@@ -65,5 +69,18 @@ pass_in says around (element tag kids rest) =
     element tag (if is_root around tag then pass says (tag ∷ []) kids else pass_in says (tag ∷ around) kids)
     (pass_in says around rest)
 
+-- the pass of a whole package
 abbrev pub pass_package : List Say → Nodes → Nodes
 pass_package says nodes = pass_in says [] nodes
+
+-- the kind of an element without a role
+abbrev pub is_plain : Kind → Bool
+is_plain Plain = true
+is_plain _ = false
+
+-- the roots of the stories among nodes with these ancestors have no role
+abbrev pub roots_are_plain : List Tag → Nodes → Bool
+roots_are_plain around no_nodes = true
+roots_are_plain around (bytes b rest) = roots_are_plain around rest
+roots_are_plain around (element tag kids rest) =
+    (if is_root around tag then is_plain tag.kind else roots_are_plain (tag ∷ around) kids) && roots_are_plain around rest

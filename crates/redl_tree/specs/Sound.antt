@@ -3,12 +3,12 @@
 -- by names and ancestors; rule 8 speaks of every element. What two of them ask of a tag's attributes is a parameter, as a
 -- test of its tail, since attributes are read by a crate above.
 use Prim.Native.String.{String}
-use Rattle.std.specs.Prelude.{ℕ, ◌+◌, List, [], ◌∷◌, ◌&&◌, ◌||◌, not, Bool, true, false, Option, Some, None, is_some, codes, if◌then◌else◌}
+use Rattle.std.specs.Prelude.{ℕ, ◌+◌, List, [], ◌∷◌, ◌&&◌, ◌||◌, not, Bool, true, false, Option, Some, None, is_some, if◌then◌else◌}
 use Rattle.std.specs.List.{list_all}
 use Rattle.redl_tree.specs.Nodes.{Tag, Nodes, no_nodes, bytes, element}
 use Rattle.redl_tree.specs.Names.{named, is, is_any}
 use Rattle.redl_tree.specs.Kids.{some_element, has_element}
-use Rattle.redl_tree.specs.Places.{is_open, in_mark_props, in_para_props, in_row_props, in_cell_props, is_range_edge, role, trace_of, prop_of}
+use Rattle.redl_tree.specs.Places.{is_open, in_mark_props, in_para_props, in_row_props, in_cell_props, is_range_edge, role, trace_of, prop_of, props_name}
 use Rattle.redl_tree.specs.Lists.{into, in_blocks, is_thick, is_wrapper}
 use Rattle.redl_tree.specs.declared.lists.Reach.{Reach}
 use Rattle.redl_tree.specs.declared.lists.Reach.TheVariants.{Direct, Control, Beyond}
@@ -16,8 +16,6 @@ use Rattle.redl_tree.specs.Tables.{has_own}
 use Rattle.redl_tree.specs.Kinds.{is_content, is_change}
 use Rattle.redl_tree.specs.Packages.{stories}
 use Rattle.redl_tree.specs.View.{Parts}
-use Rattle.redl_tree.specs.declared.kinds.Prop.{Prop}
-use Rattle.redl_tree.specs.declared.kinds.Prop.TheVariants.{Run, Para, Sect, Table, Except, Row as RowProp, Cell as CellProp}
 use Rattle.redl_tree.specs.declared.kinds.Kind.{Kind}
 use Rattle.redl_tree.specs.declared.kinds.Kind.TheVariants.{Change}
 
@@ -94,13 +92,20 @@ abbrev pub or_before : Option Bool → Option Bool → Option Bool
 or_before before (Some last) = Some last
 or_before before None = before
 
--- whether the last thick one of these ends so, if there is one
+-- What two neighbours say together: the later one if it has a block, else the one before. Of the contents of a control
+-- one that ends so is enough.
+abbrev pub end_of_two : Reach → Option Bool → Option Bool → Option Bool
+end_of_two Control (Some true) later = Some true
+end_of_two reach before later = or_before before later
+
+-- whether the last thick one of these ends so, or a content of a control, if there is one
 abbrev pub end_of : Reach → Nodes → Option Bool
 end_of reach no_nodes = None
 end_of reach (bytes b rest) = end_of reach rest
 end_of reach (element tag kids rest) =
-    or_before (end_of_one reach tag (end_of (into reach tag) kids)) (end_of reach rest)
+    end_of_two reach (end_of_one reach tag (end_of (into reach tag) kids)) (end_of reach rest)
 
+-- a cell ends so
 abbrev pub test_1 : Test
 test_1 around tag kids = implies (open_one "tc" around tag) (is_so (end_of Direct kids))
 
@@ -109,8 +114,8 @@ abbrev pub test_2 : Test
 test_2 around tag kids = implies (open_one "tr" around tag) (has_own "tc" Direct kids)
 
 -- Rule 3. A content revision holds no paragraph, no table, and no properties of these, text boxes aside; it has no run
--- properties and no content of a control as a kid; and where it stands among blocks it has no block as a kid. So what is
--- round it keeps its form when the revision's marks go.
+-- properties and no content of a control as a kid; and where it is among blocks it has no block as a kid. So the elements
+-- round it keep their form when the tags of the revision go.
 
 -- these ancestors, up to a text box, include a content revision
 abbrev pub below_content : List Tag → Bool
@@ -122,7 +127,7 @@ abbrev pub in_content : List Tag → Bool
 in_content [] = false
 in_content (tag ∷ around) = is_some (trace_of tag)
 
--- what has these ancestors stands in a block list, directly or through content revisions
+-- an element with these ancestors is in a block list, directly or through content revisions
 abbrev pub among_blocks : List Tag → Bool
 among_blocks [] = false
 among_blocks (tag ∷ around) = if is_some (trace_of tag) then among_blocks around else in_blocks (tag ∷ around)
@@ -131,6 +136,7 @@ among_blocks (tag ∷ around) = if is_some (trace_of tag) then among_blocks arou
 abbrev pub is_banned : Tag → Bool
 is_banned tag = is_any ("p" ∷ "tbl" ∷ "tr" ∷ "tc" ∷ "pPr" ∷ "tblPr" ∷ "tblPrEx" ∷ "trPr" ∷ "tcPr" ∷ "sectPr" ∷ []) tag
 
+-- the three parts of rule 3
 abbrev pub test_3 : Test
 test_3 around tag kids =
     implies (is_banned tag && is_open around) (not (below_content around))
@@ -158,10 +164,13 @@ test_6 around tag kids =
     && implies (open_one "body" around tag) (only_last (is "sectPr") kids)
     && implies (open_one "sdt" around tag) (once "sdtContent" kids)
 
--- Rule 7. No marker of a move holds an element. A marker is an open edge of a range that has an `id`.
+-- Rule 7. No marker of a move holds an element.
+
+-- an element with these ancestors is a marker: an open edge of a range that has an `id`
 abbrev pub is_marker : (List ℕ → Bool) → List Tag → Tag → Bool
 is_marker has_id around tag = is_open around && is_range_edge tag && has_id tag.tail
 
+-- a marker holds no element
 abbrev pub test_7 : (List ℕ → Bool) → Test
 test_7 has_id around tag kids = implies (is_marker has_id around tag) (not (has_element kids))
 
@@ -176,6 +185,7 @@ below_change (tag ∷ around) = is_change (role around tag) || below_change arou
 abbrev pub is_banned_below_change : Tag → Bool
 is_banned_below_change tag = is_some (prop_of tag) || is_any ("p" ∷ "tbl" ∷ "tr" ∷ "tc" ∷ "txbxContent" ∷ []) tag
 
+-- an element that no change holds is below no change
 abbrev pub test_8 : Test
 test_8 around tag kids = implies (is_banned_below_change tag) (not (below_change around))
 
@@ -188,21 +198,12 @@ former_declares declares name (bytes b rest) = former_declares declares name res
 former_declares declares name (element tag kids rest) =
     if named name tag then declares tag.tail else former_declares declares name rest
 
--- the name of the properties that a change is of
-abbrev pub props_name : Prop → List ℕ
-props_name Run = codes "rPr"
-props_name Para = codes "pPr"
-props_name Sect = codes "sectPr"
-props_name Table = codes "tblPr"
-props_name Except = codes "tblPrEx"
-props_name RowProp = codes "trPr"
-props_name CellProp = codes "tcPr"
-
 -- the former properties in a change with these kids declare a namespace
 abbrev pub change_declares : (List ℕ → Bool) → Kind → Nodes → Bool
 change_declares declares (Change prop) kids = former_declares declares (props_name prop) kids
 change_declares declares _ kids = false
 
+-- a paragraph, a content revision and a change declare no namespace, and neither do former properties
 abbrev pub test_9 : (List ℕ → Bool) → Test
 test_9 declares around tag kids =
     implies (open_one "p" around tag || is_content (role around tag) || is_change (role around tag))

@@ -26,6 +26,3 @@ pub use marks::{cell_trace_of, is_range_edge, prop_of, row_trace_of, trace_of};
 pub use names::{is_named, is_quiet};
 pub use node::{Close, Elem, Node};
 pub use write::write_nodes;
-
-#[cfg(test)]
-mod tests;

@@ -1,4 +1,4 @@
--- What is answered of a text that is read: its nodes, or that it goes too deep or has too many of them.
+-- The answer for a text that is read: its nodes, or that it goes too deep or has too many of them.
 use Rattle.std.proofs.Common.{◌≡◌, ℕ, ◌<◌, ◌≤◌, Bool, true, false, List, [], ◌∷◌, ◌++◌, Option, Some, None, Result, Err, refl, sym, ap, subst, ◌∙◌, arith, inl, inr, ◌⊎◌}
 use Rattle.std.specs.Prelude.{IsErrOf}
 use Rattle.std.specs.List.{list_all}
@@ -53,7 +53,7 @@ pub error_was : {T : Type 0} (r : Result T XmlError) (x : XmlError) (f : MarkupE
 error_was r x markup.Unreadable e g h = refl
 error_was r x markup.NoMemory e g h = absurd cc
 
--- ---- it can be told whether there is a tree
+-- ---- it can be decided whether there is a tree
 
 text_or_none : (bs : List ℕ) → IsText bs ⊎ (IsText bs → ⊥)
 text_or_none bs =

@@ -1,4 +1,4 @@
--- A legal element that stands at the front is read.
+-- A legal element with which the bytes begin is read.
 use Rattle.std.proofs.Common.{◌≡◌, ℕ, suc, true, false, List, [], ◌∷◌, ◌++◌, length, drop, Some, None, refl, sym, ap, subst, ◌∙◌, arith}
 use Rattle.redl_tree.specs.Nodes.{Tag, Nodes, no_nodes, bytes, element, ◌⊕◌}
 use Rattle.redl_tree.specs.declared.kinds.Space.{Space}
@@ -30,7 +30,7 @@ record Gets (p : Point State) (u : Nodes) (rest : List ℕ) : Type 0 where
   turns_taken : ℕ
   gets : turns (element_step placed finished) turns_taken p ≡ Some (u, rest)
 
--- a piece that stands there is placed, and an element is open still
+-- a piece with which the bytes begin is placed, and an element is still open
 one_piece : (p : Piece) (y : List ℕ) (s s' : State) (u : Nodes) (rest : List ℕ) → IsPiece InElement p → Follows p y → placed p s ≡ Some s' → finished s' ≡ None → Gets (y, s') u rest → Gets (piece_then p y, s) u rest
 one_piece p y s s' u rest h f e none g = record {
   turns_taken = suc g.turns_taken;
@@ -134,7 +134,7 @@ root_gets tag kids y (End space) e h fits k =
     let kids_got = nodes_get inner kids behind frame [] no_nodes u y k (end_ends_stretch (name_text (name_of tag) ++ (space ++ (62 ∷ y)))) ended in
     one_piece (start_tag (name_of tag) tag.tail) (tree_then kids behind) nothing_yet (state (frame ∷ []) no_nodes inner) u y (h.name, h.tail) tt (start_placed [] tag [] no_nodes h) refl kids_got
 
--- An element that stands at the front is read, and all of what stands behind it is left.
+-- An element with which the bytes begin is read, and all that follows it is left.
 pub element_again : (tag : Tag) (kids : Nodes) (y : List ℕ) → AreLegal [] (element tag kids no_nodes) → element_at (tree_then (element tag kids no_nodes) y) ≡ Some (element tag kids no_nodes, y)
 unfolding element_by
 element_again tag kids y h =

@@ -32,7 +32,7 @@ use Rattle.redl_xml.proofs.Parts.{outline, document_is}
 none_some : {A : Type 0} (x : A) → None ≡ Some x → ⊥
 none_some x e = cc
 
--- ---- a stretch or none
+-- ---- an optional stretch
 
 stretch_of : (place : Place) (bs : List ℕ) (o : Option (Piece × List ℕ)) → piece_at place bs ≡ o → stretch_in place bs ≡ stretch_or_none bs o
 unfolding stretch_in
@@ -42,7 +42,7 @@ filled_or_none : (place : Place) (b : List ℕ) → IsStretch place b → IsStre
 filled_or_none place [] h = tt
 filled_or_none place (b ∷ bs) h = h
 
--- what is read as a stretch or none stands there
+-- the bytes begin with what is read as an optional stretch
 record TakesStretch (place : Place) (bs : List ℕ) (x : List ℕ × List ℕ) : Type 0 where
   whole : bs ≡ x.0 ++ x.1
   legal : IsStretchOrNone place (bytes_or_none x.0)
@@ -68,7 +68,7 @@ stretch_in_nothing place = of (piece_at place []) refl where
   of None e = stretch_of place [] None e
   of (Some x) e = let less = piece_shorter place [] x e in absurd (omega arith)
 
--- the bytes of a stretch or none
+-- the bytes of an optional stretch
 pub record HasBytes (place : Place) (x : Nodes) : Type 0 where
   pub bytes_of : List ℕ
   pub is : x ≡ bytes_or_none bytes_of
@@ -84,12 +84,12 @@ has_bytes place (bytes b (bytes c rest)) h = absurd h
 has_bytes place (bytes b (element tag kids rest)) h = absurd h
 has_bytes place (element tag kids rest) h = absurd h
 
--- where no stretch stands in the rest, the bytes before it are read
+-- if the rest begins with no stretch, the bytes before it are read
 stretch_again : (place : Place) (b rest : List ℕ) → ((b ≡ []) ⊎ IsStretch place b) → ends_stretch rest ≡ true → stretch_in place rest ≡ ([], rest) → stretch_in place (b ++ rest) ≡ (b, rest)
 stretch_again place b rest (inl none) end e = ap (λ (x : List ℕ). stretch_in place (x ++ rest)) none ∙ e ∙ ap (λ (x : List ℕ). (x, rest)) (sym none)
 stretch_again place b rest (inr h) end e = stretch_of place (b ++ rest) (Some (stretch b, rest)) (piece_again place (stretch b) rest h end)
 
--- before an element stands no stretch
+-- an element begins with no stretch
 root_is_no_stretch : (place : Place) (tag : Tag) (kids : Nodes) (y : List ℕ) → AreLegal [] (element tag kids no_nodes) → stretch_in place (tree_then (element tag kids no_nodes) y) ≡ ([], tree_then (element tag kids no_nodes) y)
 root_is_no_stretch place tag kids y h = of tag.close where
   of : (close : Close) → (let bs : List ℕ = 60 ∷ (name_text (name_of tag) ++ (tag.tail ++ close_then tag close (tree_then kids) y)) in stretch_in place bs ≡ ([], bs))
@@ -187,7 +187,7 @@ document_of_reading bs u h =
     let whole : b.bytes_of ++ tree_then r a.bytes_of ≡ bs = sym (whole_then b.bytes_of a.bytes_of r) ∙ ap text (sym parts) ∙ h.text in
     ap document_at (sym whole) ∙ document_again d.root d.kids b.bytes_of a.bytes_of d.is_root b.legal a.legal ∙ ap (λ (x : Nodes). Some x) (sym parts)
 
--- One text has at most one tree.
+-- A text has at most one tree.
 pub one_tree : (bs : List ℕ) (u v : Nodes) → IsReading bs u → IsReading bs v → u ≡ v
 one_tree bs u v hu hv = same_Some u v (sym (document_of_reading bs u hu) ∙ document_of_reading bs v hv)
 

@@ -95,7 +95,7 @@ unfolding entered known
 entered_again scope name tail h =
     rw (with_again (attributes_of tail) scope h.declarations, h.prefix, h.prefixes) refl
 
--- the scope behind an element that was entered
+-- the scope after an element that was entered
 pub left_entered : (scope : Scope) (name : Name) (tail : List ℕ) (x : Space × Scope) → entered scope name tail ≡ Some x → drop (declared_in tail) x.1 ≡ scope
 left_entered scope name tail x e =
     let t = entered_takes scope name tail x e in
@@ -103,7 +103,7 @@ left_entered scope name tail x e =
 
 -- ---- an element that declares nothing
 
--- an attribute that is no declaration, and whose prefix may be used
+-- an attribute that is not a declaration, and whose prefix may be used
 abbrev pub is_plain : Scope → Name × List ℕ → Bool
 is_plain scope a = not (is_there (declared_prefix a.0)) && is_known scope a.0.prefix
 
@@ -121,7 +121,7 @@ plain_attributes scope (a ∷ more) h =
     let rest = plain_attributes scope more both.1 in
     (rw none rest.0, rw (none, plain.1) rest.1)
 
--- Going into it asks for its own prefix alone, and the scope stays.
+-- Entering it depends only on its own prefix, and the scope stays.
 pub plain_entered : (scope : Scope) (name : Name) (tail : List ℕ) → list_all (is_plain scope) (attributes_of tail) ≡ true → entered scope name tail ≡ known name [] scope
 unfolding entered known
 plain_entered scope name tail h =

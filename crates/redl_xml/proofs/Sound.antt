@@ -108,7 +108,7 @@ ends-⊕_element t no_nodes tag kids = refl
 ends-⊕_element t (bytes b rest) tag kids = ends-⊕_element true rest tag kids
 ends-⊕_element t (element other xs rest) tag kids = ends-⊕_element false rest tag kids
 
--- the frame's tag is legal in the scope round it
+-- the frame's tag is legal in the scope around it
 record OpensIn (outer : Scope) (f : Frame) (inner : Scope) : Type 0 where
   name : IsName f.name
   tail : IsTail f.tail
@@ -133,7 +133,7 @@ item_goes_on : (bs : List ℕ) → begins_item bs ≡ true → ends_stretch bs �
 item_goes_on [] e = absurd cc
 item_goes_on (b ∷ bs) e = rw e (none_and (eqb b 60))
 
--- where a stretch stands, none ends
+-- where a stretch is, none ends
 content_goes_on : (first : List ℕ) (more : List (Item × List ℕ)) (rest : List ℕ) → list_all (is_other 60) first ≡ true → (first ++ items_then more [] ≢ []) → ends_stretch (first ++ items_then more rest) ≡ false
 content_goes_on [] [] rest h filled = absurd (filled refl)
 content_goes_on [] (i ∷ more) rest h filled = item_goes_on (items_then (i ∷ more) rest) (item_begins i.0 (i.1 ++ items_then more rest))
@@ -218,7 +218,7 @@ pub record IsOne (u : Nodes) : Type 0 where
   pub kids : Nodes
   pub whole : u ≡ element tag kids no_nodes
 
--- either the element is finished, or nothing stands before the outermost one still
+-- either the element is finished, or nothing comes before the outermost one yet
 abbrev Holds : State → Type 0
 Holds s = by_frames s.open_elements s.kids where
   by_frames : List Frame → Nodes → Type 0
@@ -305,7 +305,7 @@ sound_turns (suc n) bs s u rest e l t = by_piece n bs s u rest (piece_at InEleme
   by_piece n bs s u rest None g e l t go = absurd (none_some (u, rest) (rw (step_fails placed finished bs s g) at e))
   by_piece n bs s u rest (Some x) g e l t go = by_place n bs s u rest x g (placed x.0 s) refl e l t go
 
--- The element that is read is legal, and stands there.
+-- The element that is read is legal, and the bytes begin with it.
 pub element_sound : (bs : List ℕ) (u : Nodes) (rest : List ℕ) → element_at bs ≡ Some (u, rest) → IsSound nothing_yet bs u rest
 unfolding element_by
 element_sound bs u rest e = sound_turns (suc (length bs)) bs nothing_yet u rest e (record { frames_legal = refl; kids_legal = tt; follows = λ e. absurd cc }) refl

@@ -24,7 +24,7 @@ map_some : {A B C : Type 0} (f : B → C) (o : Option A) (g : A → B) (h : A �
 map_some f None g h e = refl
 map_some f (Some x) g h e = ap (λ y. Some y) (e x)
 
--- an element that begins there stands one below the open ones
+-- an element that begins there is one deeper than the open ones
 begun : (limit : ℕ) (s : State) (d n : ℕ) (tags : List (Name × ℕ)) (scope : Scope)
     → survey tags (max d (length (map tag_of s.open_elements) + 1)) (one_more limit n) scope ≡ survey tags (max d (length s.open_elements + 1)) (one_more limit n) scope
 begun limit s d n tags scope = ap (λ (k : ℕ). survey tags (max d (k + 1)) (one_more limit n) scope) (length-map s.open_elements tag_of)
@@ -112,7 +112,7 @@ turns_grow limit (suc n) bs s r rest e =
       of (done (Some x)) g h go = let P : (ℕ × ℕ) × List ℕ → Type 0 = λ y. Grows s y.0 in subst P (same_Some x (r, rest) h) g
       of (next p) g h go = let more = go p.0 p.1 r rest h in (omega (arith, g.0, more.0), omega (arith, g.1, more.1))
 
--- What is read behind a point adds to what was counted there.
+-- What is read after a point adds to what was counted there.
 pub survey_grows : (limit : ℕ) (s : Survey) (bs : List ℕ) (r : ℕ × ℕ) (rest : List ℕ) → survey_from limit s bs ≡ Some (r, rest) → Grows s r
 unfolding element_by
 survey_grows limit s bs r rest e = turns_grow limit (suc (length bs)) bs s r rest e

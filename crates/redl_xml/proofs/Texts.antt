@@ -1,11 +1,11 @@
--- The text of nodes with what stands behind it, as lists that compute.
+-- The text of nodes followed by a rest, as lists that compute.
 use Rattle.std.proofs.Common.{◌≡◌, ℕ, List, [], ◌∷◌, ◌++◌, refl, ap, ◌∙◌, append_assoc}
 use Rattle.redl_tree.specs.Nodes.{Tag, Nodes, no_nodes, bytes, element}
 use Rattle.redl_tree.specs.Text.{text, name_text, rest_text}
 use Rattle.redl_tree.specs.declared.node.Close.{Close}
 use Rattle.redl_tree.specs.declared.node.Close.TheVariants.{Empty, End}
 
--- what stands behind a tail, where the kids put their text before what stands behind them
+-- what follows a tail, if the kids put their text before what follows them
 abbrev pub closing_then : Tag → Close → (List ℕ → List ℕ) → List ℕ → List ℕ
 closing_then tag Empty kids y = 47 ∷ 62 ∷ y
 closing_then tag (End space) kids y = 62 ∷ kids (60 ∷ 47 ∷ (name_text tag.prefix tag.local ++ (space ++ (62 ∷ y))))

@@ -1,4 +1,4 @@
--- The text of nodes with what stands behind it, with names as the pieces of a text have them.
+-- The text of nodes followed by a rest, with names as the pieces of a text have them.
 use Rattle.std.proofs.Common.{◌≡◌, ℕ, List, [], ◌∷◌, ◌++◌, refl, ap, ◌∙◌, append_assoc}
 use Rattle.redl_tree.specs.Nodes.{Tag, Nodes, no_nodes, bytes, element, ◌⊕◌}
 use Rattle.redl_tree.specs.Text.{text}
@@ -9,7 +9,7 @@ use Rattle.redl_markup.specs.Names.{Name, name_text}
 use Rattle.redl_xml.specs.Readings.{name_of}
 use Rattle.redl_xml.proofs.Texts.{closing_then, text_then, text-then}
 
--- what stands behind a tail, where the kids put their text before what stands behind them
+-- what follows a tail, if the kids put their text before what follows them
 abbrev pub close_then : Tag → Close → (List ℕ → List ℕ) → List ℕ → List ℕ
 close_then tag Empty kids y = 47 ∷ 62 ∷ y
 close_then tag (End space) kids y = 62 ∷ kids (60 ∷ 47 ∷ (name_text (name_of tag) ++ (space ++ (62 ∷ y))))

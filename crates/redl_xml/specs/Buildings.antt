@@ -1,4 +1,4 @@
--- What the code's open elements are, as plain data.
+-- The code's open elements as plain data.
 use Rattle.std.specs.Prelude.{map, reverse}
 use Rattle.redl_tree.specs.View.{nodes_of}
 use Rattle.redl_markup.specs.Views.{name_view}

@@ -1,4 +1,4 @@
--- A whole document read from the left: a stretch or none, an element, and a stretch or none.
+-- A whole document read from the left: an optional stretch, an element, and an optional stretch.
 use Rattle.std.specs.Prelude.{ℕ, List, [], ◌∷◌, Option, Some, None, if◌then◌else◌}
 use Rattle.redl_tree.specs.Nodes.{Nodes, no_nodes, bytes, ◌⊕◌}
 use Rattle.redl_markup.specs.declared.place.Place.{Place}
@@ -19,11 +19,11 @@ stretch_or_none bs (Some x) = by_piece x.0 where
   by_piece (empty_tag name tail) = ([], bs)
   by_piece (end_tag name space) = ([], bs)
 
--- the stretch of this place at the front, or nothing, and what stands behind it
+-- the leading stretch of this place, which may be empty, and what follows it
 unfoldable pub stretch_in : Place → List ℕ → List ℕ × List ℕ
 stretch_in place bs = stretch_or_none bs (piece_at place bs)
 
--- what stands before the root, what was made of the root, and what stands behind it
+-- the stretch before the root, what was made of the root, and the stretch after it
 pub record Outline (R : Type 0) : Type 0 where
   pub before : List ℕ
   pub root : R
@@ -32,15 +32,15 @@ pub record Outline (R : Type 0) : Type 0 where
 abbrev pub outline_with : {R : Type 0} → List ℕ → R → List ℕ × List ℕ → Option (Outline R)
 outline_with before root after = if is_filled after.1 then None else Some (record { before = before; root = root; after = after.0 })
 
--- with what was made of the root, and what stands behind that
+-- with what was made of the root, and what follows it
 abbrev pub outlined : {R : Type 0} → List ℕ → R × List ℕ → Option (Outline R)
 outlined before found = outline_with before found.0 (stretch_in AfterRoot found.1)
 
--- the parts of a document whose root is read so
+-- the parts of a document whose root is read in this way
 abbrev pub outline_by : {R : Type 0} → (List ℕ → Option (R × List ℕ)) → List ℕ → Option (Outline R)
 outline_by read bs = read (stretch_in BeforeRoot bs).1 >>= outlined (stretch_in BeforeRoot bs).0
 
--- the bytes as a bytes node, where there are any
+-- the bytes as a bytes node, if there are any
 abbrev pub bytes_or_none : List ℕ → Nodes
 bytes_or_none [] = no_nodes
 bytes_or_none (b ∷ bs) = bytes (b ∷ bs) no_nodes

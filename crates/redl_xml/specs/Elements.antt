@@ -17,7 +17,7 @@ use Rattle.redl_xml.specs.Scopes.{Scope, declared_prefix, declared_by, is_allowe
 
 -- ---- into an element and out of it
 
--- the scope with what an attribute declares, where that may stand
+-- the scope with what an attribute declares, if that is allowed
 unfoldable pub with_attribute : Name × List ℕ → Scope → Option Scope
 with_attribute a scope = if is_allowed a then Some (declared_by (declared_prefix a.0) a.1 scope) else None
 
@@ -25,7 +25,7 @@ abbrev pub with_attributes : List (Name × List ℕ) → Scope → Option Scope
 with_attributes [] scope = Some scope
 with_attributes (a ∷ more) scope = with_attribute a scope >>= with_attributes more
 
--- the element's space and the scope in it, where its prefixes may be used
+-- the element's space and the scope in it, if its prefixes may be used
 unfoldable pub known : Name → List (Name × List ℕ) → Scope → Option (Space × Scope)
 known name attributes scope =
     if is_element_prefix scope name.prefix && list_all (is_known_attribute scope) attributes then Some (space_of scope name.prefix, scope) else None
@@ -88,7 +88,7 @@ closed [] kids scope name space = None
 closed (f ∷ fs) kids scope name space =
     if name_eq f.name name then Some (record { open_elements = fs; kids = f.before ⊕ one_element f.name f.space f.tail (End space) kids; scope = drop f.declared scope }) else None
 
--- a stretch stands in an element
+-- a stretch is allowed in an element
 abbrev pub stretched : List Frame → State → List ℕ → Option State
 stretched [] s b = None
 stretched (f ∷ fs) s b = Some (added s (bytes b no_nodes))
@@ -104,7 +104,7 @@ abbrev pub finished_by : List Frame → Nodes → Option Nodes
 finished_by [] kids = Some kids
 finished_by (f ∷ fs) kids = None
 
--- the nodes, where no element is open
+-- the nodes, if no element is open
 abbrev pub finished : State → Option Nodes
 finished s = finished_by s.open_elements s.kids
 
@@ -113,7 +113,7 @@ nothing_yet = record { open_elements = []; kids = no_nodes; scope = [] }
 
 -- ---- the turns
 
--- what is left of the bytes, and what was made of those before it
+-- the rest of the bytes, and what was made of those before it
 abbrev pub Point : Type 0 → Type 0
 Point S = List ℕ × S
 
@@ -129,14 +129,14 @@ abbrev pub from_piece : {S R : Type 0} → (Piece → S → Option S) → (S →
 from_piece place finish s None = done None
 from_piece place finish s (Some x) = from_state finish x.1 (place x.0 s)
 
--- a piece is placed, and where that finishes an element the turns end
+-- a piece is placed, and the turns end if that finishes an element
 unfoldable pub element_step : {S R : Type 0} → (Piece → S → Option S) → (S → Option R) → Point S → Turn (Point S) (R × List ℕ)
 element_step place finish p = from_piece place finish p.1 (piece_at InElement p.0)
 
--- pieces placed from a first state on, until an element is finished; with what stands behind it
+-- pieces placed from a first state on, until an element is finished; with what follows it
 unfoldable pub element_by : {S R : Type 0} → (Piece → S → Option S) → (S → Option R) → S → List ℕ → Option (R × List ℕ)
 element_by place finish start bs = turns (element_step place finish) (suc (length bs)) (bs, start)
 
--- the element at the front
+-- the leading element
 abbrev pub element_at : List ℕ → Option (Nodes × List ℕ)
 element_at bs = element_by placed finished nothing_yet bs

@@ -1,4 +1,4 @@
--- What an error of the crate below is here.
+-- The error of this crate for an error of the crate below.
 use Rattle.redl_markup.specs.declared.error.MarkupError.{MarkupError}
 use Rattle.redl_markup.specs.declared.error.MarkupError.TheVariants as markup
 use Rattle.redl_xml.specs.declared.xml_error.XmlError.{XmlError}

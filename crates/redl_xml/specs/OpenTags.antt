@@ -1,4 +1,4 @@
--- What the code's survey is, as plain data.
+-- The code's survey as plain data.
 use Rattle.std.specs.Prelude.{ℕ, map, reverse}
 use Rattle.redl_markup.specs.Names.{Name}
 use Rattle.redl_markup.specs.Views.{name_view}

@@ -21,8 +21,8 @@ use Rattle.redl_xml.specs.Scopes.{Scope, scope_in, space_of, is_allowed, is_elem
 abbrev pub name_of : Tag → Name
 name_of tag = record { prefix = tag.prefix; local = tag.local }
 
--- The tag is legal in this scope: its form, its declarations, its prefix and those of its attributes, by what is
--- declared on it or round it. Its space is that of the nearest declaration. It is in no revision.
+-- The tag is legal in this scope: its form, its declarations, its prefix and those of its attributes, given the
+-- declarations on it and on its ancestors. Its space is that of the nearest declaration. It is in no revision.
 pub record IsTag (scope : Scope) (tag : Tag) : Type 0 where
   pub name : IsName (name_of tag)
   pub tail : IsTail tag.tail
@@ -33,19 +33,19 @@ pub record IsTag (scope : Scope) (tag : Tag) : Type 0 where
   pub kind : tag.kind ≡ Plain
   pub rev : tag.rev ≡ 0
 
--- An element closed by `Empty` has no kids. An end tag has white space behind its name, or none.
+-- An element closed by `Empty` has no kids. An end tag has optional white space after its name.
 abbrev pub ClosesBy : Close → Nodes → Type 0
 ClosesBy Empty kids = kids ≡ no_nodes
 ClosesBy (End space) kids = IsSpace space
 
--- The nodes of an element: each bytes node is a longest stretch, with no other one beside it, and each tag is legal.
+-- The nodes of an element: each bytes node is a longest stretch, with no other bytes node beside it, and each tag is legal.
 abbrev pub AreLegal : Scope → Nodes → Type 0
 AreLegal scope no_nodes = Unit {0}
 AreLegal scope (bytes b rest) = IsStretch InElement b × (begins_with_bytes rest ≡ false) × AreLegal scope rest
 AreLegal scope (element tag kids rest) =
     IsTag scope tag × ClosesBy tag.close kids × AreLegal (scope_in tag.tail scope) kids × AreLegal scope rest
 
--- one bytes node with a stretch of this place, or none
+-- at most one bytes node, with a stretch of this place
 abbrev pub IsStretchOrNone : Place → Nodes → Type 0
 IsStretchOrNone place no_nodes = Unit {0}
 IsStretchOrNone place (bytes b no_nodes) = IsStretch place b
@@ -53,7 +53,7 @@ IsStretchOrNone place (bytes b (bytes c rest)) = ⊥
 IsStretchOrNone place (bytes b (element tag kids rest)) = ⊥
 IsStretchOrNone place (element tag kids rest) = ⊥
 
--- what stands at the top: a stretch or none, the root, and a stretch or none
+-- the top: an optional stretch, the root, and an optional stretch
 pub record IsDocument (nodes : Nodes) : Type 0 where
   pub before : Nodes
   pub root : Tag

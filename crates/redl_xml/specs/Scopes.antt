@@ -33,12 +33,12 @@ is_xmlns word = bytes_eq word (codes "xmlns")
 -- ---- declarations
 
 -- What an attribute with this name declares: `xmlns:p` the prefix p, `xmlns` the namespace of names without a prefix,
--- for which the empty text stands here, and any other attribute nothing.
+-- for which the prefix here is the empty text, and any other attribute nothing.
 abbrev pub declared_prefix : Name → Option (List ℕ)
 declared_prefix name = if is_xmlns name.prefix then Some name.local else (if not (is_filled name.prefix) && is_xmlns name.local then Some [] else None)
 
--- `xmlns` isn't declared as a prefix, and `xml` only as its own namespace. A prefix is declared with a value that
--- isn't empty. Names without a prefix may be declared to be in no namespace.
+-- `xmlns` is not declared as a prefix, and `xml` only as its own namespace. A prefix is declared with a value that
+-- is not empty. Names without a prefix may be declared to be in no namespace.
 unfoldable pub may_declare : List ℕ → List ℕ → Bool
 may_declare prefix value =
     not (is_filled prefix) || (not (is_xmlns prefix) && is_filled value && (not (is_xml_prefix prefix) || is_xml_namespace (decoded_value value)))
@@ -47,7 +47,7 @@ abbrev pub is_allowed_by : Option (List ℕ) → List ℕ → Bool
 is_allowed_by None value = true
 is_allowed_by (Some prefix) value = may_declare prefix value
 
--- an attribute is no declaration, or one that may stand
+-- an attribute is not a declaration, or is an allowed one
 abbrev pub is_allowed : Name × List ℕ → Bool
 is_allowed a = is_allowed_by (declared_prefix a.0) a.1
 

@@ -1,4 +1,4 @@
--- Shapes of nodes: whether bytes come first, and how deep elements stand in one another.
+-- Shapes of nodes: whether bytes come first, and how deeply elements are nested.
 use Rattle.std.specs.Prelude.{ℕ, ◌+◌, max, Bool, true, false}
 use Rattle.redl_tree.specs.Nodes.{Nodes, no_nodes, bytes, element}
 
@@ -7,7 +7,7 @@ begins_with_bytes no_nodes = false
 begins_with_bytes (bytes b rest) = true
 begins_with_bytes (element tag kids rest) = false
 
--- how many elements stand in one another; an element with no element in it has the depth 1
+-- how deeply elements are nested; an element with no element in it has depth 1
 abbrev pub depth_of : Nodes → ℕ
 depth_of no_nodes = 0
 depth_of (bytes b rest) = depth_of rest

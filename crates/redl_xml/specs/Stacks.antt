@@ -1,4 +1,4 @@
--- Declarations as the code keeps them, and what they are as a scope.
+-- Declarations as the code keeps them, and the scope that they are.
 use Rattle.std.specs.Prelude.{◌≡◌, ℕ, List, [], ◌∷◌, reverse, Option, Some, None}
 use Rattle.std.specs.Borrow.{Bor}
 use Rattle.std.specs.BTreeMap.{BTreeMap, get_by}
@@ -26,7 +26,7 @@ abbrev pub flat : Option (Option Space) → Option Space
 flat None = None
 flat (Some space) = space
 
--- what a map from prefixes has for one
+-- what a map from prefixes has for a prefix
 abbrev pub found : BTreeMap (Bor (List ℕ)) (Option Space) → List ℕ → Option Space
 found map prefix = flat (get_by (λ k. slice_cmp nat_cmp prefix k.now) map)
 

@@ -1,4 +1,4 @@
--- How deep an element goes and how many nodes it has, by the tags of the open elements alone.
+-- How deep an element goes and how many nodes it has, by only the tags of the open elements.
 use Rattle.std.specs.Prelude.{ℕ, ◌+◌, max, nat_le, List, [], ◌∷◌, length, drop, map, Option, Some, None, if◌then◌else◌}
 use Rattle.redl_markup.specs.Reading.{◌>>=◌}
 use Rattle.redl_markup.specs.Names.{Name, name_eq}
@@ -48,13 +48,13 @@ abbrev pub survey_finished_by : List (Name × ℕ) → ℕ → ℕ → Option (�
 survey_finished_by [] deepest nodes = Some (deepest, nodes)
 survey_finished_by (t ∷ ts) deepest nodes = None
 
--- depth and nodes, where no element is open
+-- depth and nodes, if no element is open
 abbrev pub survey_finished : Survey → Option (ℕ × ℕ)
 survey_finished s = survey_finished_by s.open_tags s.deepest s.nodes
 
 -- ---- the sizes beside what is built
 
--- the greatest depth with one more piece, where an element that begins there stands at this depth
+-- the greatest depth with one more piece, if an element that begins with it is at this depth
 abbrev pub deepest_with : Piece → ℕ → ℕ → ℕ
 deepest_with (start_tag name tail) depth deepest = max deepest depth
 deepest_with (empty_tag name tail) depth deepest = max deepest depth
@@ -77,13 +77,13 @@ survey_of deepest nodes s = record { open_tags = map tag_of s.open_elements; dee
 
 -- ---- the turns
 
--- depth and nodes of an element with these open tags, and what stands behind it
+-- depth and nodes of an element with these open tags, and what follows it
 abbrev pub survey_from : ℕ → Survey → List ℕ → Option ((ℕ × ℕ) × List ℕ)
 survey_from limit s bs = element_by (surveyed limit) survey_finished s bs
 
 abbrev pub survey_begun : Survey
 survey_begun = record { open_tags = []; deepest = 0; nodes = 0; scope = [] }
 
--- depth and nodes of the element at the front, and what stands behind it
+-- depth and nodes of the leading element, and what follows it
 abbrev pub survey_at : ℕ → List ℕ → Option ((ℕ × ℕ) × List ℕ)
 survey_at limit bs = survey_from limit survey_begun bs

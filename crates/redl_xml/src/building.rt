@@ -1,4 +1,4 @@
-//! The elements that are open, and the nodes in them so far.
+//! The open elements, and the nodes in them so far.
 
 ghost use Rattle.std.specs.Prelude.{◌≡◌, IfOk, OnOk, IsErrOf, Some, None, map};
 ghost use Rattle.redl_tree.specs.Nodes.{element_item, bytes_item};
@@ -164,7 +164,7 @@ impl<'a> Building<'a> {
         Ok(())
     }
 
-    /// One more piece. `Unreadable` where it can't stand there.
+    /// Adds a piece. `Unreadable` if it is not allowed there.
     pub(crate) fn place(&mut self, alloc: Global, piece: Piece<'a>) -> Result<(), MarkupError>
         requires { TailTells piece }
         ensures ok { OnOk result (placed (piece_view piece.entry) (building_view self.old) ≡ Some (building_view self.new)) }
@@ -178,7 +178,7 @@ impl<'a> Building<'a> {
         }
     }
 
-    /// The survey of what is open, with what was counted. The nodes go.
+    /// The survey of the open elements, with the counts so far. The nodes are dropped.
     pub(crate) fn into_survey(self, alloc: Global, sizes: Sizes) -> Result<Survey<'a>, AllocError>
         ensures { IfOk result (λ survey. survey_view survey ≡ survey_of sizes.deepest sizes.nodes (building_view self.entry)) }
     {

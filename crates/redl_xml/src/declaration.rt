@@ -2,7 +2,7 @@
 
 use redl_tree::Space;
 
-/// What a start tag declares of a prefix: the space of its namespace, and the space that the prefix had before.
+/// A declaration in a start tag: the prefix, the space of its namespace, and the space that the prefix had before.
 #[derive(Clone, Copy)]
 pub(crate) struct Declaration<'a> {
     pub(crate) prefix: &'a [u8],

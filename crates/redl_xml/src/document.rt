@@ -5,6 +5,7 @@ ghost use Rattle.redl_tree.specs.Nodes.{Nodes, ◌⊕◌};
 ghost use Rattle.redl_tree.specs.Count.{count};
 ghost use Rattle.redl_tree.specs.View.{nodes_of};
 ghost use Rattle.redl_markup.specs.Reading.{Finds};
+ghost use Rattle.redl_io.specs.Limits.{depth as depth_limit, nodes as node_limit};
 ghost use Rattle.redl_xml.specs.Shapes.{depth_of};
 ghost use Rattle.redl_xml.specs.Documents.{stretch_in, bytes_or_none, document_at, counted, sizes_at};
 ghost use Rattle.redl_xml.specs.Readings.{IsReading, HasReading, HasNoReading};
@@ -18,14 +19,14 @@ use redl_markup::{MarkupError, Piece, Place, is_text, next_piece};
 use redl_tree::Node;
 use std::alloc::{AllocError, Global};
 
-/// The nodes of a document, how deep they go, and how many they are, up to one above a limit.
+/// The nodes of a document, how deep they go, and how many there are, counted up to one above a limit.
 #[derive(Drop)]
 struct Document {
     nodes: Vec<Node>,
     sizes: Sizes,
 }
 
-/// The stretch of this place at the front, or nothing, and what stands behind it.
+/// The leading stretch of this place, which may be empty, and the bytes after it.
 #[tactic(auto, unfolding(crate::specs::Documents::stretch_in))]
 fn stretch(alloc: Global, bytes: &[u8], place: Place) -> Result<(&[u8], &[u8]), MarkupError>
     ensures { Finds (λ x. (x.0.now, x.1.now)) result (Some (stretch_in place bytes.now)) }
@@ -37,7 +38,7 @@ fn stretch(alloc: Global, bytes: &[u8], place: Place) -> Result<(&[u8], &[u8]), 
     }
 }
 
-/// Adds the bytes as a node, where there are any.
+/// Adds the bytes as a node, if there are any.
 fn push_bytes(nodes: &mut Vec<Node>, alloc: Global, bytes: &[u8]) -> Result<(), AllocError>
     ensures { OnOk result (nodes_of nodes.new.items ≡ nodes_of nodes.old.items ⊕ bytes_or_none bytes.now) }
 {
@@ -49,7 +50,7 @@ fn push_bytes(nodes: &mut Vec<Node>, alloc: Global, bytes: &[u8]) -> Result<(), 
     Ok(())
 }
 
-/// The nodes at the top: what stands before the root, the root, and what stands behind it.
+/// The nodes at the top: the stretch before the root, the root, and the stretch after it.
 fn top_nodes(
     alloc: Global,
     before: &[u8],
@@ -66,7 +67,7 @@ fn top_nodes(
     Ok(nodes)
 }
 
-/// Counts the bytes as a node, where there are any.
+/// Counts the bytes as a node, if there are any.
 fn count_bytes(sizes: &mut Sizes, limit: u32, bytes: &[u8])
     ensures deepest { sizes.new.deepest ≡ sizes.old.deepest }
     ensures nodes { sizes.new.nodes ≡ counted limit bytes.now sizes.old.nodes }
@@ -76,7 +77,7 @@ fn count_bytes(sizes: &mut Sizes, limit: u32, bytes: &[u8])
     }
 }
 
-/// The document that the bytes are. `Unreadable` exactly where they aren't one. Past a limit its nodes are of no use.
+/// The document that the bytes are. `Unreadable` exactly if they are not one. Past a limit its nodes are incomplete.
 fn read_document(alloc: Global, limits: Limits, bytes: &[u8]) -> Result<Document, MarkupError>
     ensures sizes { Finds (λ d. (d.sizes.deepest, d.sizes.nodes)) result (sizes_at limits.nodes bytes.now) }
     ensures nodes { IfOk result (λ d. d.sizes.deepest ≤ limits.depth → d.sizes.nodes ≤ limits.nodes → document_at bytes.now ≡ Some (nodes_of d.nodes.items)) }
@@ -94,7 +95,7 @@ fn read_document(alloc: Global, limits: Limits, bytes: &[u8]) -> Result<Document
     Ok(Document { nodes, sizes })
 }
 
-/// The nodes of a text that is within the limits.
+/// The nodes of a text, if it is within the limits.
 fn read_within(alloc: Global, bytes: &[u8], limits: Limits) -> Result<Vec<Node>, XmlError>
     ensures found { IfOk result (λ nodes. IsReading bytes.now (nodes_of nodes.items)) }
     ensures within { IfOk result (λ nodes. (depth_of (nodes_of nodes.items) ≤ limits.depth) × (count (nodes_of nodes.items) ≤ limits.nodes)) }
@@ -117,23 +118,23 @@ fn read_within(alloc: Global, bytes: &[u8], limits: Limits) -> Result<Vec<Node>,
 
 /// The nodes whose text these bytes are, byte for byte.
 ///
-/// The text is UTF-8 of the characters that XML 1.0 allows, and has no document type declaration. At the top stand the
-/// text before the root as one node of bytes, the root, and the text behind it; an empty one isn't there. In an element
-/// each longest stretch without a tag is one node of bytes. An element's space is that of the nearest declaration of its
-/// prefix. Every element is in no revision.
+/// The text is UTF-8 of the characters that XML 1.0 allows, and has no document type declaration. The nodes at the top
+/// are the text before the root as one node of bytes, the root, and the text after it; an empty text is no node. In an
+/// element each longest stretch without a tag is one node of bytes. An element's space is that of the nearest
+/// declaration of its prefix. No element is in a revision.
 ///
-/// `Unreadable` comes exactly where the bytes are the text of no tree. Of those that are, `Depth` comes exactly where an
-/// element stands deeper than 512, the root being at depth 1, and else `Nodes` exactly where there are more than
-/// 2,097,152 nodes. It takes time linear in the bytes, but for n log n in the numbers n of attributes of one tag and of
-/// prefixes.
+/// `Unreadable` exactly if the bytes are the text of no tree. Otherwise `Depth` exactly if an element is deeper than 512,
+/// with the root at depth 1, and otherwise `Nodes` exactly if there are more than 2,097,152 nodes. `NoMemory` means out
+/// of memory. The time is linear in the number of bytes, except for n log n in the number n of attributes of one tag,
+/// and in the number of prefixes.
 pub fn read(alloc: Global, bytes: &[u8]) -> Result<Vec<Node>, XmlError>
     ensures found { IfOk result (λ nodes. IsReading bytes.now (nodes_of nodes.items)) }
-    ensures within { IfOk result (λ nodes. (depth_of (nodes_of nodes.items) ≤ DEPTH_LIMIT) × (count (nodes_of nodes.items) ≤ NODE_LIMIT)) }
+    ensures within { IfOk result (λ nodes. (depth_of (nodes_of nodes.items) ≤ depth_limit) × (count (nodes_of nodes.items) ≤ node_limit)) }
 
-    // Where nothing is read, there is no tree, or it goes too deep, or else it has too many nodes.
+    // If nothing is read, there is no tree, or it goes too deep, or it has too many nodes.
     ensures unreadable { IsErrOf result XmlError.Unreadable → HasNoReading bytes.now }
-    ensures too_deep { IsErrOf result XmlError.Depth → HasReading bytes.now (λ nodes. DEPTH_LIMIT < depth_of nodes) }
-    ensures too_many { IsErrOf result XmlError.Nodes → HasReading bytes.now (λ nodes. (depth_of nodes ≤ DEPTH_LIMIT) × (NODE_LIMIT < count nodes)) }
+    ensures too_deep { IsErrOf result XmlError.Depth → HasReading bytes.now (λ nodes. depth_limit < depth_of nodes) }
+    ensures too_many { IsErrOf result XmlError.Nodes → HasReading bytes.now (λ nodes. (depth_of nodes ≤ depth_limit) × (node_limit < count nodes)) }
 {
     let limits = Limits {
         depth: DEPTH_LIMIT,

@@ -14,7 +14,7 @@ use redl_markup::{MarkupError, Place, next_piece};
 use redl_tree::Node;
 use std::alloc::Global;
 
-/// What was read of an element, and what stands behind it. Past a limit there are no nodes.
+/// An element that was read, and the bytes after it. Past a limit there are no nodes.
 #[derive(Drop)]
 pub(crate) struct Element<'a> {
     pub(crate) nodes: Vec<Node>,
@@ -22,7 +22,7 @@ pub(crate) struct Element<'a> {
     pub(crate) rest: &'a [u8],
 }
 
-/// How deep an element goes of which so much was read, how many nodes it has, and what stands behind it.
+/// The depth and the number of nodes of an element of which a part was read, and the bytes after it.
 fn survey_on<'a>(
     alloc: Global,
     limit: u32,
@@ -43,9 +43,9 @@ fn survey_on<'a>(
     }
 }
 
-/// The element at the front.
+/// The element with which the bytes begin.
 ///
-/// Its nodes are kept up to a limit. Behind that it is read to its end with its open tags alone.
+/// Its nodes are kept up to a limit. Past that it is read to its end with only its open tags.
 pub(crate) fn read_element(
     alloc: Global,
     limits: Limits,

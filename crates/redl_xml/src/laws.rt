@@ -1,10 +1,10 @@
-//! What holds of all readings.
+//! Laws of all readings.
 
 ghost use Rattle.std.specs.Prelude.{◌≡◌, ℕ, List};
 ghost use Rattle.redl_tree.specs.Nodes.{Nodes};
 ghost use Rattle.redl_xml.specs.Readings.{IsReading, HaveLegalTails};
 
-/// One text has at most one tree.
+/// A text has at most one tree.
 pub fn one_tree()
     ensures { (bytes : List ℕ) (u v : Nodes) → IsReading bytes u → IsReading bytes v → u ≡ v }
 {}

@@ -1,8 +1,8 @@
 //! XML texts read as nodes.
 //!
-//! `read` takes a whole XML text within the profile of `specs/Readings.antt` and gives its one tree, or says why there
-//! is none. `one_tree` is the law that one text has at most one tree, and `tails_are_legal` the one that each tail of
-//! such a tree is that of a legal tag. Roles of elements are left to callers.
+//! `read` takes a whole XML text within the profile of `specs/Readings.antt` and gives its one tree, or the reason why
+//! there is none. `one_tree` is the law that a text has at most one tree, and `tails_are_legal` the law that each tail of
+//! such a tree is that of a legal tag. The roles of elements are left to callers.
 #![tactic(auto)]
 
 mod building;
@@ -16,10 +16,10 @@ mod survey;
 mod tail;
 mod xml_error;
 
-/// How deep elements may stand in one another, the root being at depth 1.
+/// The greatest depth of an element, with the root at depth 1.
 pub const DEPTH_LIMIT: usize = 512;
 
-/// How many nodes a text may have.
+/// The greatest number of nodes of a text.
 pub const NODE_LIMIT: u32 = 2_097_152;
 
 pub use document::read;

@@ -10,7 +10,7 @@ use std::alloc::{AllocError, Global};
 use std::collections::BTreeMap;
 use std::marker::Model;
 
-/// The declarations in scope, the nearest last, and for each prefix the space of its nearest one.
+/// The declarations in scope, the nearest last, and for each prefix the space of its nearest declaration.
 #[derive(Drop)]
 pub(crate) struct Scopes<'a> {
     declarations: Vec<Declaration<'a>>,
@@ -45,7 +45,7 @@ impl<'a> Scopes<'a> {
         }
     }
 
-    /// One more declaration, which is the nearest then.
+    /// Adds a declaration, which then is the nearest one.
     pub(crate) fn declare(&mut self, prefix: &'a [u8], space: Space) -> Result<(), AllocError>
         ensures { OnOk result (self.new ≡ (prefix.entry.now, space) ∷ self.old) }
     {
@@ -64,14 +64,14 @@ impl<'a> Scopes<'a> {
         }
     }
 
-    /// How many declarations there are.
+    /// The number of declarations.
     pub(crate) fn len(&self) -> usize
         ensures { result ≡ length self.now }
     {
         self.declarations.len()
     }
 
-    /// So many of the nearest declarations go.
+    /// Removes this many of the nearest declarations.
     pub(crate) fn forget(&mut self, count: usize)
         ensures { self.new ≡ drop count self.old }
     {
@@ -82,7 +82,7 @@ impl<'a> Scopes<'a> {
         }
     }
 
-    /// The nearest declaration goes.
+    /// Removes the nearest declaration.
     fn forget_one(&mut self)
         ensures { self.new ≡ drop 1 self.old }
     {

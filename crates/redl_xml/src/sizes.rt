@@ -6,21 +6,21 @@ ghost use Rattle.redl_xml.specs.Surveys.{one_more, deepest_with, nodes_with};
 
 use redl_markup::Piece;
 
-/// How deep elements may stand in one another, and how many nodes there may be.
+/// The greatest depth of an element, and the greatest number of nodes.
 #[derive(Clone, Copy)]
 pub(crate) struct Limits {
     pub(crate) depth: usize,
     pub(crate) nodes: u32,
 }
 
-/// The greatest depth so far, and the nodes so far, up to one above a limit.
+/// The greatest depth so far, and the number of nodes so far, up to one above a limit.
 #[derive(Clone, Copy)]
 pub(crate) struct Sizes {
     pub(crate) deepest: usize,
     pub(crate) nodes: u64,
 }
 
-/// A count and one more, up to one above the limit.
+/// A count plus one, up to one above the limit.
 fn one_more(limit: u32, nodes: u64) -> u64
     ensures { result ≡ one_more limit nodes }
 {
@@ -32,7 +32,7 @@ fn one_more(limit: u32, nodes: u64) -> u64
 }
 
 impl Sizes {
-    /// One more node, which is no element.
+    /// Adds a node that is not an element.
     pub(crate) fn add_bytes(&mut self, limit: u32)
         ensures deepest { self.new.deepest ≡ self.old.deepest }
         ensures nodes { self.new.nodes ≡ one_more limit self.old.nodes }
@@ -40,7 +40,7 @@ impl Sizes {
         self.nodes = one_more(limit, self.nodes);
     }
 
-    /// One more element at a depth.
+    /// Adds an element at a depth.
     pub(crate) fn add_element(&mut self, limit: u32, depth: usize)
         ensures deepest { self.new.deepest ≡ max self.old.deepest depth }
         ensures nodes { self.new.nodes ≡ one_more limit self.old.nodes }
@@ -49,7 +49,7 @@ impl Sizes {
         self.nodes = one_more(limit, self.nodes);
     }
 
-    /// What a piece adds where an element that begins there stands at this depth.
+    /// Adds a piece. An element that begins with it is at this depth.
     pub(crate) fn add_piece(&mut self, limit: u32, piece: Piece<'_>, depth: usize)
         ensures deepest { self.new.deepest ≡ deepest_with (piece_view piece.entry) depth self.old.deepest }
         ensures nodes { self.new.nodes ≡ nodes_with limit (piece_view piece.entry) self.old.nodes }
@@ -61,7 +61,7 @@ impl Sizes {
         }
     }
 
-    /// Whether they are within the limits.
+    /// Whether the sizes are within the limits.
     pub(crate) fn are_within(self, limits: Limits) -> bool
         ensures { (result ≡ true) ↔ ((self.deepest ≤ limits.depth) × (self.nodes ≤ limits.nodes)) }
     {

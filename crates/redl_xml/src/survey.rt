@@ -1,4 +1,4 @@
-//! The rest of an element, by the tags of the open elements alone.
+//! The rest of an element, read with only the tags of the open elements.
 
 ghost use Rattle.std.specs.Prelude.{◌≡◌, OnOk, IsErrOf, Some, None};
 ghost use Rattle.redl_markup.specs.Views.{name_view, piece_view, TellsPlain, TailTells};
@@ -19,7 +19,7 @@ pub(crate) struct OpenTag<'a> {
     pub(crate) declared: usize,
 }
 
-/// The tags of the open elements, the innermost last, what has been counted, and the declarations in scope.
+/// The tags of the open elements, the innermost last, the counts so far, and the declarations in scope.
 #[derive(Drop)]
 pub(crate) struct Survey<'a> {
     pub(crate) open: Vec<OpenTag<'a>>,
@@ -90,7 +90,7 @@ impl<'a> Survey<'a> {
         Ok(())
     }
 
-    /// One more piece. `Unreadable` where it can't stand there.
+    /// Adds a piece. `Unreadable` if it is not allowed there.
     pub(crate) fn place(
         &mut self,
         alloc: Global,

@@ -1,4 +1,4 @@
-//! What the attributes of a start tag declare, and whether their prefixes may be used.
+//! The declarations among the attributes of a start tag, and whether the prefixes of its attributes may be used.
 
 ghost use Rattle.std.specs.Prelude.{◌≡◌, ◌||◌, [], codes, IfOk};
 ghost use Rattle.std.specs.List.{list_all};
@@ -55,7 +55,7 @@ fn is_xmlns(word: &[u8]) -> bool
     word == b"xmlns".as_slice()
 }
 
-/// The prefix that an attribute with this name declares, which is empty in `xmlns`.
+/// The prefix that an attribute with this name declares, which is empty for `xmlns`.
 fn declared_prefix<'a>(name: Name<'a>) -> Option<&'a [u8]>
     ensures { Gives (λ prefix. prefix.now) result (declared_prefix (name_view name.entry)) }
 {
@@ -68,7 +68,7 @@ fn declared_prefix<'a>(name: Name<'a>) -> Option<&'a [u8]>
     None
 }
 
-/// Whether a prefix may be declared with this value, given as it is written and decoded.
+/// Whether a prefix may be declared with this value, given as written and as decoded.
 #[tactic(auto, unfolding(crate::specs::Scopes::may_declare))]
 fn may_declare(prefix: &[u8], value: &[u8], decoded: &[u8]) -> bool
     requires { decoded.now ≡ decoded_value value.now }
@@ -87,7 +87,7 @@ fn is_known<'a>(scopes: &Scopes<'a>, prefix: &'a [u8]) -> bool
     prefix.is_empty() || is_xml_prefix(prefix) || scopes.space(prefix).is_some()
 }
 
-/// Whether an element may have a prefix, so that none of its attributes with that prefix is a declaration.
+/// Whether an element may have a prefix, and so none of its attributes with that prefix is a declaration.
 fn is_element_prefix<'a>(scopes: &Scopes<'a>, prefix: &'a [u8]) -> bool
     ensures { result ≡ is_element_prefix scopes.now prefix.now }
 {
@@ -101,7 +101,7 @@ fn is_known_attribute<'a>(scopes: &Scopes<'a>, name: Name<'a>) -> bool
     declared_prefix(name).is_some() || is_known(scopes, name.prefix)
 }
 
-/// Declares what an attribute declares.
+/// Adds the declaration of an attribute, if it is one.
 #[tactic(auto, unfolding(crate::specs::Elements::with_attribute))]
 fn declare_attribute<'a>(
     scopes: &mut Scopes<'a>,
@@ -121,7 +121,7 @@ fn declare_attribute<'a>(
     Ok(())
 }
 
-/// Declares what the attributes of a tail declare.
+/// Adds the declarations among the attributes of a tail.
 fn declare_attributes<'a>(
     scopes: &mut Scopes<'a>,
     alloc: Global,
@@ -151,7 +151,7 @@ fn are_known<'a>(scopes: &Scopes<'a>, tail: &'a [u8]) -> bool
     true
 }
 
-/// The space of an element, whose prefix may be used.
+/// The space of an element, if its prefix may be used.
 #[tactic(auto, unfolding(crate::specs::Scopes::is_known, crate::specs::Elements::known))]
 fn element_space<'a>(scopes: &Scopes<'a>, name: Name<'a>) -> Option<Space>
     ensures { Gives (λ space. (space, scopes.now)) result (known (name_view name.entry) [] scopes.now) }
@@ -166,7 +166,7 @@ fn element_space<'a>(scopes: &Scopes<'a>, name: Name<'a>) -> Option<Space>
     }
 }
 
-/// The space of an element, whose prefix and whose attributes' prefixes may be used.
+/// The space of an element, if its prefix and those of its attributes may be used.
 #[tactic(auto, unfolding(crate::specs::Elements::known))]
 fn known_space<'a>(scopes: &Scopes<'a>, name: Name<'a>, tail: &'a [u8]) -> Option<Space>
     ensures { Gives (λ space. (space, scopes.now)) result (known (name_view name.entry) (attributes_of tail.now) scopes.now) }
@@ -178,16 +178,16 @@ fn known_space<'a>(scopes: &Scopes<'a>, name: Name<'a>, tail: &'a [u8]) -> Optio
     }
 }
 
-/// What is known of an element that was entered: its space, and how many declarations it has.
+/// An element that was entered: its space, and the number of its declarations.
 #[derive(Clone, Copy)]
 pub(crate) struct Entered {
     pub(crate) space: Space,
     pub(crate) declared: usize,
 }
 
-/// Goes into an element: declares what it declares, and gives its space.
+/// Enters an element: adds its declarations, and gives its space.
 ///
-/// `Unreadable` exactly where a declaration may not stand, or a prefix of the tag may not be used.
+/// `Unreadable` exactly if a declaration is not allowed, or a prefix of the tag may not be used.
 #[tactic(auto, unfolding(crate::specs::Elements::entered))]
 pub(crate) fn enter<'a>(
     scopes: &mut Scopes<'a>,
@@ -200,7 +200,7 @@ pub(crate) fn enter<'a>(
     ensures declared { IfOk result (λ x. x.declared ≡ declared_in tail.entry.bytes.now) }
 {
     if let Some(space) = element_space(scopes, name) {
-        // The attributes of most tags declare nothing, which was found when the tag was read.
+        // Most tags declare nothing, as was found when the tag was read.
         if tail.is_plain && is_element_prefix(scopes, tail.other_prefix) {
             return Ok(Entered { space, declared: 0 });
         }

@@ -10,9 +10,9 @@ use redl_markup::MarkupError;
 pub enum XmlError {
     /// The bytes are the text of no tree.
     Unreadable,
-    /// An element of the tree stands deeper than 512, the root being at depth 1.
+    /// An element of the tree is deeper than 512, with the root at depth 1.
     Depth,
-    /// The tree goes no deeper, and has more than 2,097,152 nodes.
+    /// The tree is no deeper than that, and has more than 2,097,152 nodes.
     Nodes,
     /// An allocation failed; nothing is known of the bytes.
     NoMemory,

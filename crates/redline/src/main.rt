@@ -4,7 +4,9 @@
 //! The words are copied first; a word that isn't UTF-8 ends the program before the call.
 #![tactic(auto)]
 
-ghost use Rattle.std.specs.Prelude.{IfOk, All, IsUtf8};
+ghost use Rattle.std.specs.Prelude.{◌≡◌, drop, map, IfOk, All, IsUtf8};
+ghost use Rattle.std.specs.String.{string_bytes};
+ghost use Rattle.std.specs.Vec.Iter.{into_iter_items};
 
 use redl_app::{WordsError, add_word, refuse_words, run};
 use redl_io::{FileShelf, StdSink, Text};
@@ -42,7 +44,8 @@ fn read_words(rt: &(impl Env + AllocGlobal)) -> Result<Vec<Text>, WordsError>
 
 // The words after the program's name.
 fn copy_words(alloc: Global, mut args: Args) -> Result<Vec<Text>, AllocError>
-    ensures { IfOk result (λ words. All IsUtf8 words.items) }
+    ensures words { IfOk result (λ words. words.items ≡ map string_bytes (drop 1 (into_iter_items args))) }
+    ensures utf8 { IfOk result (λ words. All IsUtf8 words.items) }
 {
     let mut words = Vec::new(alloc);
     let _program = args.next();

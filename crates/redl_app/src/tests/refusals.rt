@@ -1,7 +1,6 @@
-//! Calls that come to a refusal: words that are no command, what is not built, files that are no package, and no journal.
+//! Calls that come to a refusal: words that are no command, files that are no package, and no journal.
 use super::calls::{
-    BACK, FRONT, INSERTED, SOUND_WITH_ONE, UNBUILT, Want, add_file, digest_of, expect_call,
-    files_of, journal, package,
+    BACK, FRONT, INSERTED, UNBUILT, Want, add_file, digest_of, expect_call, journal, package,
 };
 use crate::Status;
 use redl_io::{MemShelf, Text};
@@ -39,31 +38,6 @@ fn words_of_no_command_fetch_nothing(rt: HostRuntime) -> Result<(), Fail> {
         let mut shelf = MemShelf::new(Vec::new(alloc), vec![in alloc; 1]?);
         expect_call(&rt, alloc, line, &mut shelf, &[], UNBUILT)?;
     }
-    Ok(())
-}
-
-#[test]
-fn what_is_no_run_content_is_not_decided(rt: HostRuntime) -> Result<(), Fail> {
-    let alloc = rt.alloc();
-    for body in [
-        "<w:p><w:pPr><w:rPr><w:del{A}/></w:rPr></w:pPr><w:r><w:t>e</w:t></w:r></w:p><w:p/>",
-        "<w:tbl><w:tr><w:trPr><w:ins{A}/></w:trPr><w:tc><w:p/></w:tc></w:tr></w:tbl>",
-        "<w:tbl><w:tr><w:tc><w:tcPr><w:cellDel{A}/></w:tcPr><w:p/></w:tc></w:tr></w:tbl>",
-        "<w:p><w:r><w:rPr><w:rPrChange{A}><w:rPr/></w:rPrChange></w:rPr></w:r></w:p>",
-        "<w:p><w:pPr><w:pPrChange{A}/></w:pPr></w:p>",
-        "<w:sectPr><w:sectPrChange{A}/></w:sectPr>",
-        "<w:tbl><w:tblPr><w:tblPrChange{A}/></w:tblPr></w:tbl>",
-    ] {
-        let files = files_of(alloc, body, "1", ["", "", ""])?;
-        let mut shelf = MemShelf::new(files, Vec::new(alloc));
-        expect_call(&rt, alloc, "settle accept P", &mut shelf, &[], UNBUILT)?;
-        expect_call(&rt, alloc, "write P J", &mut shelf, &[], UNBUILT)?;
-        expect_call(&rt, alloc, "check P", &mut shelf, &[], SOUND_WITH_ONE)?;
-    }
-    let marked = "<w:p><w:moveFromRangeStart w:id=\"1\"/></w:p>";
-    let mut shelf = MemShelf::new(files_of(alloc, marked, "0", ["", "", ""])?, Vec::new(alloc));
-    expect_call(&rt, alloc, "settle accept P", &mut shelf, &[], UNBUILT)?;
-    expect_call(&rt, alloc, "check P", &mut shelf, &[], UNBUILT)?;
     Ok(())
 }
 
@@ -131,45 +105,6 @@ fn a_file_that_is_no_package_is_refused(rt: HostRuntime) -> Result<(), Fail> {
         (typed.as_str(), "redline: package: no document\n"),
     ] {
         expect_fault(&rt, alloc, text.as_bytes(), lines)?;
-    }
-    Ok(())
-}
-
-// Each command that reads a package refuses one that isn't sound, with the least rule that it breaks.
-#[test]
-fn a_package_that_breaks_a_rule_is_refused(rt: HostRuntime) -> Result<(), Fail> {
-    let alloc = rt.alloc();
-    for (body, lines) in [
-        (
-            "<w:tbl><w:tr><w:tc><w:p/><w:tbl><w:tr><w:tc><w:p/></w:tc></w:tr></w:tbl></w:tc></w:tr></w:tbl>",
-            "redline: package: rule 1\n",
-        ),
-        ("<w:tbl><w:tr></w:tr></w:tbl>", "redline: package: rule 2\n"),
-        (
-            "<w:p><w:ins{A}><w:p/></w:ins></w:p>",
-            "redline: package: rule 3\n",
-        ),
-        (
-            "<w:p><w:r><w:rPr><w:rPrChange{A}><w:rPr/></w:rPrChange><w:b/></w:rPr></w:r></w:p>",
-            "redline: package: rule 4\n",
-        ),
-        (
-            "<w:p><w:pPr><w:rPr><w:ins{A}/><w:ins{B}/></w:rPr></w:pPr></w:p>",
-            "redline: package: rule 5\n",
-        ),
-        ("<w:p><w:r/><w:pPr/></w:p>", "redline: package: rule 6\n"),
-        (
-            "<w:p><w:moveFromRangeStart w:id=\"1\"><w:r/></w:moveFromRangeStart></w:p>",
-            "redline: package: rule 7\n",
-        ),
-        (
-            "<w:p><w:pPr><w:pPrChange{A}><w:pPr><w:rPr><w:rPrChange{B}/></w:rPr></w:pPr></w:pPrChange></w:pPr></w:p>",
-            "redline: package: rule 8\n",
-        ),
-        ("<w:p xmlns:q=\"u\"/>", "redline: package: rule 9\n"),
-    ] {
-        let text = package(alloc, body)?;
-        expect_fault(&rt, alloc, &text, lines)?;
     }
     Ok(())
 }

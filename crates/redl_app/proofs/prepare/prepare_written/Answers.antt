@@ -1,11 +1,10 @@
-use Rattle.std.proofs.Common.{◌∷◌, Contains, ap, sym, ◌∙◌, Ok, Err, subst}
+use Rattle.std.proofs.Common.{◌∷◌, Contains, ap, sym, ◌∙◌, Ok, subst}
 use Rattle.std.proofs.lemmas.Result.{err_from_is_err_and}
-use Rattle.redl_app.proofs.GatherLaws.{view_decided, when_decidable}
+use Rattle.redl_app.proofs.GatherLaws.{view_decided}
 use Rattle.redl_app.proofs.NameLaws.{only_one, among_more, the_first}
-use Rattle.redl_app.proofs.ReadLaws.{reads_then, reads_stops, reads_after, reads_next, reads_when, refused_bind}
-use Rattle.redl_app.specs.Outcome.{Subject, decidable, decided, written_of, ◌>>=◌}
+use Rattle.redl_app.proofs.ReadLaws.{reads_then, reads_stops, reads_after}
+use Rattle.redl_app.specs.Outcome.{Subject, decided, written_of, ◌>>=◌}
 use Rattle.redl_app.specs.Prepared.{writing_view}
-use Rattle.redl_lines.specs.Refusals.{refusal_view}
 use Rattle.redl_app.proofs.prepare.prepare_written.Goals as goal
 
 pub returns-in_err-file : goal.returns-in_err-file
@@ -13,19 +12,8 @@ returns-in_err-file g c =
     let p = err_from_is_err_and c.from_residual.result c.from_residual.ensures.1 in
     let name = c.args.name.now in
     let journals = c.args.journals.now in
-    rw (p.1, p.2) (reads_stops (λ read reader files. decidable read.1 >>= written_of reader files journals read.0)
+    rw (p.1, p.2) (reads_stops (λ read reader files. written_of reader files journals read.0 read.1)
     c.in_err-file.ensures (λ one h. subst (Contains (name ∷ journals)) (only_one name one h) (the_first name journals)))
-
-pub returns-in_err-reviewed : goal.returns-in_err-reviewed
-returns-in_err-reviewed g c =
-    let p = err_from_is_err_and c.from_residual-in_err-reviewed.result c.from_residual-in_err-reviewed.ensures.1 in
-    let journals = c.args.journals.now in
-    let bytes = c.in_ok-file.file.bytes.items in
-    let nodes = c.in_ok-file.file.«package» in
-    let refusal = refusal_view c.in_err-reviewed.field-0.0 in
-    rw (p.1, p.2) (reads_next (c.args.name.now ∷ journals) (Err refusal) (λ read reader files. decidable read.1 >>= written_of reader files journals read.0)
-    c.in_ok-file.ensures c.in_err-reviewed.ensures.never_unread
-    (λ reader files is. refused_bind refusal (decidable nodes) (written_of reader files journals bytes) ⊥ (c.in_err-reviewed.ensures.read reader is)))
 
 pub returns-in_err-entries : goal.returns-in_err-entries
 returns-in_err-entries g c =
@@ -35,11 +23,9 @@ returns-in_err-entries g c =
     let bytes = c.in_ok-file.file.bytes.items in
     let nodes = c.in_ok-file.file.«package» in
     let gathering = rw c.in_ok-reviewed.ensures.subject at c.in_err-entries.ensures.read in
-    rw (p.1, p.2) (reads_then (λ read reader files. decidable read.1 >>= written_of reader files journals read.0)
+    rw (p.1, p.2) (reads_then (λ read reader files. written_of reader files journals read.0 read.1)
     c.in_ok-file.ensures (λ one h. among_more name one journals h)
-    (reads_when (λ reader files. decidable nodes >>= written_of reader files journals bytes)
-    (when_decidable _ journals bytes nodes c.in_ok-reviewed.ensures.read)
-    (reads_stops (λ entries reader files. Ok (decided entries nodes)) gathering (λ one h. h))))
+    (reads_stops (λ entries reader files. Ok (decided entries nodes)) gathering (λ one h. h)))
 
 pub returns : goal.returns
 returns g c =
@@ -53,9 +39,7 @@ returns g c =
     let is = view_decided c.in_ok-write_reviewed.field-0 nodes reviewed.«package» reviewed.subject.count entries
     c.in_ok-write_reviewed.ensures.bytes c.in_ok-write_reviewed.ensures.unknown c.in_ok-reviewed.ensures.numbered
     (ap (λ (s : Subject). s.count) c.in_ok-reviewed.ensures.subject) in
-    reads_then (λ read reader files. decidable read.1 >>= written_of reader files journals read.0)
+    reads_then (λ read reader files. written_of reader files journals read.0 read.1)
     c.in_ok-file.ensures (λ one h. among_more name one journals h)
-    (reads_when (λ reader files. decidable nodes >>= written_of reader files journals bytes)
-    (when_decidable _ journals bytes nodes c.in_ok-reviewed.ensures.read)
     (reads_after (Ok (writing_view c.in_ok-write_reviewed.field-0)) (λ reader files. written_of reader files journals bytes nodes) gathering tt
-    (λ reader files is_reader read. ap (λ made. made >>= (λ all. Ok (decided all nodes))) read ∙ ap Ok (sym is))))
+    (λ reader files is_reader read. ap (λ made. made >>= (λ all. Ok (decided all nodes))) read ∙ ap Ok (sym is)))

@@ -1,76 +1,100 @@
-use Rattle.std.proofs.Common.{◌+◌, ◌++◌, ◌∷◌, List, length, drop, ap, sym, ◌∙◌, arith, subst}
+use Rattle.std.proofs.Common.{◌≡◌, ◌∙◌, ℕ, ◌+◌, ◌++◌, ◌∷◌, [], List, drop, map, ap, sym, arith, subst, append_assoc}
 use Rattle.std.proofs.lemmas.Result.{on_ok_weaker}
-use Rattle.redl_tree.specs.Arounds.{inside_of}
 use Rattle.redl_tree.specs.Count.{count}
+use Rattle.redl_tree.specs.Nodes.{Nodes, Item, element_item}
+use Rattle.redl_tree.specs.Seen.{Spot, spot, seen_one, seen_from, tags}
 use Rattle.redl_tree.specs.View.{tag_of, kids_of, item_of, nodes_of}
 use Rattle.redl_tree.specs.declared.node.Node.{Node}
-use Rattle.redl_tree.proofs.Laws.{nodes_here, count-in_front}
+use Rattle.redl_tree.proofs.Laws.{item_of-Elem, nodes_here, nodes_end, count-in_front}
 use Rattle.redl_opc.proofs.PartLaws.{tails-more}
-use Rattle.redl_index.specs.Numbers.{one_for}
-use Rattle.redl_opc.specs.declared.label.Label.{Label}
-use Rattle.redl_index.specs.Labels.{label_for, labels_of}
-use Rattle.redl_index.specs.Revisions.{kind_of, own_revision, revisions_at}
-use Rattle.redl_index.proofs.RevisionLaws.{IsNamed, named-role_in, found-own, found-item, labelled-own, labelled-item}
+use Rattle.redl_markers.specs.Ends.{one_end, ends_from}
+use Rattle.redl_markers.specs.Free.{Every, IsFree}
+use Rattle.redl_markers.specs.Walks.{item_seen, item_ends}
+use Rattle.redl_markers.proofs.FreeLaws.{every-step}
+use Rattle.redl_markers.proofs.WalkLaws.{tags-step}
+use Rattle.redl_index.specs.Contexts.{context_of, inside_context}
+use Rattle.redl_index.specs.Mentions.{Sight}
+use Rattle.redl_index.specs.Stories.{tags_in, sight_of}
+use Rattle.redl_index.specs.Tallies.{Tally, noted, noted_all, IsTally}
+use Rattle.redl_index.proofs.TallyLaws.{sight-is, noted-step, ends-left}
 use Rattle.redl_index.proofs.find.+members.Goals as goal
 
-pub find_in_elem-add-requires-clause-named : goal.find_in_elem-add-requires-clause-named
-find_in_elem-add-requires-clause-named t c =
-    subst IsNamed (sym c.role.ensures.by_answers) (named-role_in c.args.around (tag_of c.args.elem.now))
-
-pub find_in_elem-returns-clause-index : goal.find_in_elem-returns-clause-index
-find_in_elem-returns-clause-index t c =
+pub find_in_elem-returns-clause-found : goal.find_in_elem-returns-clause-found
+find_in_elem-returns-clause-found t c = λ above later tally here ends free had.
+    let story = c.args.story.now in
+    let at = c.args.walk.now.at in
     let tag = tag_of c.args.elem.now in
     let kids = kids_of c.args.elem.now in
-    let part = c.args.part in
-    let old = c.args.found.now.index in
-    let mid = c.add.new.self.index in
-    on_ok_weaker c.find_in_nodes.result
-    (λ found above is.
-    found (tag ∷ above) (c.inside.ensures ∙ ap (inside_of tag) is)
-    ∙ ap (λ (ns : List Node). mid ++ revisions_at (tag ∷ above) part (1 + length mid) (nodes_of ns)) c.deref.ensures.value
-    ∙ found-own above part old mid c.role.result tag kids c.in_ok-add.ensures.index
-    ∙ ap (λ kind. old ++ (own_revision (kind_of kind) part (1 + length old) tag ++ revisions_at (tag ∷ above) part ((1 + length old) + one_for kind) kids))
-    (c.role.ensures.role above is))
-    c.find_in_nodes.ensures.index
+    let x = seen_one above at tag kids in
+    let end = at + 1 + tags kids in
+    let up = spot at tag kids ∷ above in
+    let left = ends_from (at + 1) kids ++ later in
+    let split = ends ∙ append_assoc (one_end tag end) (ends_from (at + 1) kids) later in
+    let next = c.inside-inside.new.self.at + 1 in
+    let below = nodes_of c.deref.result.now in
+    let moved : at + 1 ≡ next = ap (λ n. n + 1) (sym c.inside-inside.ensures.at) in
+    let same : kids ≡ below = ap (λ (ns : List Node). nodes_of ns) (sym c.deref.ensures.value) in
+    let one = noted story.part tally (sight_of story x) in
+    let Noted : Sight → Type 0 = λ sight. IsTally c.add.new.self (noted story.part tally sight) in
+    let added : IsTally c.add.new.self one =
+    subst Noted (sight-is (tags_in story) tag.tail (c.sight-sight.ensures.kind above kids here free.0) (c.sight-sight.ensures.start above kids here free.0))
+    (c.in_ok-add.ensures.tally tally had) in
+    let Ends : ℕ → Nodes → Type 0 = λ n ns. c.inside-inside.new.self.ends.now ≡ ends_from n ns ++ later in
+    let Free : ℕ → Nodes → Type 0 = λ n ns. Every (IsFree story.moves) (seen_from up n ns) in
+    let Found : ℕ → Nodes → Type 0 = λ n ns. IsTally c.find_in_nodes.new.found (noted_all story.part one (map (sight_of story) (seen_from up n ns))) in
+    let ends_there = subst (λ n. Ends n below) moved (subst (λ ns. Ends (at + 1) ns) same (c.inside-inside.ensures.ends end left split)) in
+    let free_there = subst (λ n. Free n below) moved (subst (λ ns. Free (at + 1) ns) same free.1) in
+    let inside = c.inside-inside.ensures.context end left split ∙ ap (inside_context tag end) here in
+    subst (λ ns. Found (at + 1) ns) (sym same) (subst (λ n. Found n below) (sym moved) (c.in_ok-find_in_nodes.ensures.found up later one inside ends_there free_there added))
 
-pub find_in_elem-returns-clause-labels : goal.find_in_elem-returns-clause-labels
-find_in_elem-returns-clause-labels t c =
-    let tag = tag_of c.args.elem.now in
-    let kids = kids_of c.args.elem.now in
-    let old = c.args.found.now.index in
-    let mid = c.add.new.self.index in
-    let had = c.args.found.now.labels.items in
-    on_ok_weaker c.find_in_nodes.result
-    (λ found above is.
-    found (tag ∷ above) (c.inside.ensures ∙ ap (inside_of tag) is)
-    ∙ ap (λ (ns : List Node). c.add.new.self.labels.items ++ labels_of (tag ∷ above) (1 + length mid) (nodes_of ns)) c.deref.ensures.value
-    ∙ ap (λ (xs : List Label). xs ++ labels_of (tag ∷ above) (1 + length mid) kids) c.in_ok-add.ensures.labels
-    ∙ labelled-own above c.args.part old mid had c.role.result tag kids c.in_ok-add.ensures.index
-    ∙ ap (λ kind. had ++ (label_for kind (1 + length old) ∷ labels_of (tag ∷ above) ((1 + length old) + one_for kind) kids))
-    (c.role.ensures.role above is))
-    c.find_in_nodes.ensures.labels
+pub find_in_node-returns-in-Elem-clause-found : goal.find_in_node-returns-in-Elem-clause-found
+find_in_node-returns-in-Elem-clause-found t c =
+    let story = c.args.story.now in
+    let at = c.args.walk.now.at in
+    let elem = c.in-Elem.elem in
+    let is : element_item (tag_of elem) (kids_of elem) ≡ item_of c.args.node.now = sym (ap item_of c.in-Elem.is ∙ item_of-Elem elem) in
+    let P : Item → Type 0 = λ x. (above : List Spot) (later : List ℕ) (tally : Tally) → c.args.here ≡ context_of above → c.args.walk.now.ends.now ≡ item_ends at x ++ later
+    → Every (IsFree story.moves) (item_seen above at x) → IsTally c.args.found.now tally
+    → IsTally c.find_in_elem.new.found (noted_all story.part tally (map (sight_of story) (item_seen above at x))) in
+    on_ok_weaker c.find_in_elem.result (λ found. subst P is found) c.find_in_elem.ensures.found
 
 pub find_in_nodes-loop-node-preserved : goal.find_in_nodes-loop-node-preserved
 find_in_nodes-loop-node-preserved t c =
     let nodes = c.args.nodes.now in
-    let part = c.args.part in
-    let old = c.loop-node.found.index in
-    let had = c.loop-node.found.labels.items in
-    let found = c.find_in_node.new.found in
+    let story = c.args.story.now in
     let i = c.loop-node.node-index in
     let x = c.node-item.result in
+    let at = c.loop-node.walk.at in
+    let next = c.find_in_node.new.walk.at in
     let rest = nodes_of (drop (i + 1) nodes) in
+    let left = nodes_of (drop i nodes) in
     let here = nodes_here nodes i x (omega arith) c.node-item.is in
+    let moved = c.in_ok-find_in_node.ensures.at in
     record {
       tails = tails-more nodes i x (omega arith) c.node-item.is c.loop-node.invariant.tails;
       at_most = omega (arith, ap count here, count-in_front (item_of x) rest, c.in_ok-find_in_node.ensures.at_most, c.loop-node.invariant.at_most);
-      index = λ above is.
-          found-item above part old found.index (item_of x) rest (c.in_ok-find_in_node.ensures.index above is)
-          ∙ ap (λ ns. old ++ revisions_at above part (1 + length old) ns) (sym here)
-          ∙ c.loop-node.invariant.index above is;
-      labels = λ above is.
-          labelled-item above part old found.index had found.labels.items (item_of x) rest (c.in_ok-find_in_node.ensures.index above is)
-          (c.in_ok-find_in_node.ensures.labels above is)
-          ∙ ap (λ ns. had ++ labels_of above (1 + length old) ns) (sym here)
-          ∙ c.loop-node.invariant.labels above is;
+      at = tags-step at next (item_of x) rest left moved here ∙ c.loop-node.invariant.at;
+      ends = λ later e.
+          c.in_ok-find_in_node.ensures.ends (ends_from next rest ++ later)
+          (ends-left at next (item_of x) rest left moved here [] c.loop-node.walk.ends.now later (c.loop-node.invariant.ends later e));
+      found = λ above later tally is e free had.
+          let so_far = c.loop-node.invariant.found above later tally is e free had in
+          let split = every-step (IsFree story.moves) above at next (item_of x) rest left moved here so_far.2 in
+          let more = c.in_ok-find_in_node.ensures.found above (ends_from next rest ++ later) so_far.0 is
+          (ends-left at next (item_of x) rest left moved here above c.loop-node.walk.ends.now later (c.loop-node.invariant.ends later e)) split.0 so_far.1 in (
+            noted_all story.part so_far.0 (map (sight_of story) (item_seen above at (item_of x))),
+            more,
+            split.1,
+            noted-step at next (item_of x) rest left moved here above story.part (sight_of story) so_far.0 ∙ so_far.3,
+          );
     }
+
+pub find_in_nodes-returns-clause-found : goal.find_in_nodes-returns-clause-found
+find_in_nodes-returns-clause-found t c = λ above later tally is e free had.
+    let story = c.args.story.now in
+    let so_far = c.loop-node.invariant.found above later tally is e free had in
+    let over = nodes_end c.args.nodes.now c.loop-node.node-index (omega (arith, c.loop-node-test.false)) in
+    let P : Tally → Type 0 = λ found. IsTally c.loop-node.found found in
+    subst P
+    (ap (λ ns. noted_all story.part so_far.0 (map (sight_of story) (seen_from above c.loop-node.walk.at ns))) (sym over) ∙ so_far.3)
+    so_far.1

@@ -1,22 +1,27 @@
-use Rattle.std.proofs.Common.{◌≡◌, ◌+◌, ◌++◌, ◌≤◌, List, length, drop}
-use Rattle.redl_tree.specs.Arounds.{around_of}
+use Rattle.std.proofs.Common.{◌≡◌, ◌+◌, ◌++◌, ◌≤◌, ℕ, List, length, drop, map}
 use Rattle.redl_tree.specs.Count.{count}
-use Rattle.redl_tree.specs.Nodes.{Tag}
+use Rattle.redl_tree.specs.Seen.{Spot, tags, seen_from}
 use Rattle.redl_tree.specs.View.{nodes_of}
 use Rattle.redl_opc.specs.Tree.{HasUtf8Tails}
-use Rattle.redl_index.specs.Labels.{labels_of}
-use Rattle.redl_index.specs.Revisions.{revisions_at}
+use Rattle.redl_markers.specs.Ends.{ends_from}
+use Rattle.redl_markers.specs.Free.{Every, IsFree}
+use Rattle.redl_index.specs.Contexts.{context_of}
+use Rattle.redl_index.specs.Stories.{sight_of}
+use Rattle.redl_index.specs.Tallies.{Tally, noted_all, IsTally}
 use Rattle.redl_index.proofs.find.+members.Given as goal
 
--- what is in the nodes so far is found, and what is in the nodes that are left is to come behind it
+-- what is in the nodes so far is found, and what is in the nodes that are left is to come after it
 abbrev pub invariant-find_in_nodes-loop-node : goal.invariant-find_in_nodes-loop-node
 invariant-find_in_nodes-loop-node l = record {
   tails : HasUtf8Tails (nodes_of (drop l.node-index l.nodes));
   at_most : length l.found.index + count (nodes_of (drop l.node-index l.nodes)) ≤ length l.initial.found.index + count (nodes_of l.nodes);
-  index : (above : List Tag) → l.around ≡ around_of above
-      → l.found.index ++ revisions_at above l.part (1 + length l.found.index) (nodes_of (drop l.node-index l.nodes))
-      ≡ l.initial.found.index ++ revisions_at above l.part (1 + length l.initial.found.index) (nodes_of l.nodes);
-  labels : (above : List Tag) → l.around ≡ around_of above
-      → l.found.labels.items ++ labels_of above (1 + length l.found.index) (nodes_of (drop l.node-index l.nodes))
-      ≡ l.initial.found.labels.items ++ labels_of above (1 + length l.initial.found.index) (nodes_of l.nodes);
+  at : l.walk.at + tags (nodes_of (drop l.node-index l.nodes)) ≡ l.initial.walk.at + tags (nodes_of l.nodes);
+  ends : (later : List ℕ) → l.initial.walk.ends.now ≡ ends_from l.initial.walk.at (nodes_of l.nodes) ++ later
+      → l.walk.ends.now ≡ ends_from l.walk.at (nodes_of (drop l.node-index l.nodes)) ++ later;
+  found : (above : List Spot) (later : List ℕ) (tally : Tally) → l.here ≡ context_of above
+      → l.initial.walk.ends.now ≡ ends_from l.initial.walk.at (nodes_of l.nodes) ++ later
+      → Every (IsFree l.story.moves) (seen_from above l.initial.walk.at (nodes_of l.nodes)) → IsTally l.initial.found tally
+      → (so_far : Tally) × IsTally l.found so_far × Every (IsFree l.story.moves) (seen_from above l.walk.at (nodes_of (drop l.node-index l.nodes)))
+      × (noted_all l.story.part so_far (map (sight_of l.story) (seen_from above l.walk.at (nodes_of (drop l.node-index l.nodes))))
+      ≡ noted_all l.story.part tally (map (sight_of l.story) (seen_from above l.initial.walk.at (nodes_of l.nodes))));
 }

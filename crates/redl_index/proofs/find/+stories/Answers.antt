@@ -4,8 +4,8 @@ use Rattle.redl_tree.specs.View.{item_of, nodes_of}
 use Rattle.redl_tree.proofs.Laws.{nodes_here, count-in_front}
 use Rattle.redl_opc.proofs.PartLaws.{tails-more}
 use Rattle.redl_index.specs.Labels.{labels_in}
-use Rattle.redl_index.specs.Revisions.{item_part_behind, revisions_from}
-use Rattle.redl_index.proofs.RevisionLaws.{found-item_from, labelled-item_in}
+use Rattle.redl_index.specs.Revisions.{numbered, item_part_behind, revisions_from}
+use Rattle.redl_index.proofs.RevisionLaws.{found-item, labelled-item}
 use Rattle.redl_index.proofs.find.+stories.Goals as goal
 
 pub find_in_stories-loop-node-preserved : goal.find_in_stories-loop-node-preserved
@@ -25,12 +25,12 @@ find_in_stories-loop-node-preserved t c =
       part = omega (arith, ap count here, count-in_front (item_of x) rest, c.part_behind-part.ensures.at_most, c.loop-node.invariant.part);
       at_most = omega (arith, ap count here, count-in_front (item_of x) rest, c.in_ok-find_in_package_node.ensures.at_most, c.loop-node.invariant.at_most);
       index = λ around is.
-          ap (λ p. mid ++ revisions_from around p (1 + length mid) rest) (c.part_behind-part.ensures.part ∙ ap (λ level. item_part_behind level part (item_of x)) is)
-          ∙ found-item_from around part old mid (item_of x) rest (c.in_ok-find_in_package_node.ensures.index around is)
-          ∙ ap (λ ns. old ++ revisions_from around part (1 + length old) ns) (sym here)
+          ap (λ p. mid ++ numbered (1 + length mid) (revisions_from around p rest)) (c.part_behind-part.ensures.part ∙ ap (λ level. item_part_behind level part (item_of x)) is)
+          ∙ found-item around part old mid (item_of x) rest (c.in_ok-find_in_package_node.ensures.index around is)
+          ∙ ap (λ ns. old ++ numbered (1 + length old) (revisions_from around part ns)) (sym here)
           ∙ c.loop-node.invariant.index around is;
       labels = λ around is.
-          labelled-item_in around part old mid had found.labels.items (item_of x) rest (c.in_ok-find_in_package_node.ensures.index around is)
+          labelled-item around part old mid (item_of x) rest (c.in_ok-find_in_package_node.ensures.index around is) had found.labels.items
           (c.in_ok-find_in_package_node.ensures.labels around is)
           ∙ ap (λ ns. had ++ labels_in around (1 + length old) ns) (sym here)
           ∙ c.loop-node.invariant.labels around is;

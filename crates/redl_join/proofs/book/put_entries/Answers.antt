@@ -16,4 +16,4 @@ returns-in_err-write_entry g c =
     let whole : map deref c.loop-entry.yielded ++ (c.in-Some.entry.now ∷ c.next.new.self) ≡ c.args.entries.now.keys =
     ap (λ (l : List Entry). map deref c.loop-entry.yielded ++ l) (sym c.in-Some.ensures.steps) ∙ c.loop-entry.invariant.0 in
     puts_then (lines_around (map deref c.loop-entry.yielded) c.next.new.self c.args.entries.now.keys c.in-Some.entry.now whole) c.loop-entry.invariant.1
-    (puts_fails _ refl c.from_residual.ensures.0 c.in_err-write_entry.ensures)
+    (puts_fails _ refl c.from_residual.ensures.1 c.in_err-write_entry.ensures)

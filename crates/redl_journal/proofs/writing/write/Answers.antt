@@ -3,7 +3,7 @@ use Rattle.redl_io.proofs.Puts.{puts_then, puts_fails}
 use Rattle.redl_journal.proofs.writing.write.Goals as goal
 
 pub returns-in_err-write_head : goal.returns-in_err-write_head
-returns-in_err-write_head g c = puts_fails _ refl c.from_residual.ensures.0 c.in_err-write_head.ensures
+returns-in_err-write_head g c = puts_fails _ refl c.from_residual.ensures.1 c.in_err-write_head.ensures
 
 pub returns : goal.returns
 returns g c = puts_then refl c.in_ok-write_head.ensures (rw c.deref.ensures.value at c.write_entries.ensures)

@@ -3,25 +3,25 @@ use Rattle.redl_io.proofs.Puts.{puts_then, puts_fails}
 use Rattle.redl_journal.proofs.writing.write_entry.Goals as goal
 
 pub returns-in_err-put_number : goal.returns-in_err-put_number
-returns-in_err-put_number g c = puts_fails _ refl c.from_residual.ensures.0 c.in_err-put_number.ensures
+returns-in_err-put_number g c = puts_fails _ refl c.from_residual.ensures.1 c.in_err-put_number.ensures
 
 pub returns-in_err-put_piece : goal.returns-in_err-put_piece
-returns-in_err-put_piece g c = puts_then refl c.in_ok-put_number.ensures (puts_fails _ refl c.from_residual-in_err-put_piece.ensures.0 c.in_err-put_piece.ensures)
+returns-in_err-put_piece g c = puts_then refl c.in_ok-put_number.ensures (puts_fails _ refl c.from_residual-in_err-put_piece.ensures.1 c.in_err-put_piece.ensures)
 
 pub returns-in_err-put_number-2 : goal.returns-in_err-put_number-2
-returns-in_err-put_number-2 g c = puts_then refl c.in_ok-put_number.ensures (puts_then refl c.in_ok-put_piece.ensures (puts_fails _ refl c.from_residual-in_err-put_number-2.ensures.0 c.in_err-put_number-2.ensures))
+returns-in_err-put_number-2 g c = puts_then refl c.in_ok-put_number.ensures (puts_then refl c.in_ok-put_piece.ensures (puts_fails _ refl c.from_residual-in_err-put_number-2.ensures.1 c.in_err-put_number-2.ensures))
 
 pub returns-in_err-put_piece-2 : goal.returns-in_err-put_piece-2
-returns-in_err-put_piece-2 g c = puts_then refl c.in_ok-put_number.ensures (puts_then refl c.in_ok-put_piece.ensures (puts_then refl c.in_ok-put_number-2.ensures (puts_fails _ refl c.from_residual-in_err-put_piece-2.ensures.0 c.in_err-put_piece-2.ensures)))
+returns-in_err-put_piece-2 g c = puts_then refl c.in_ok-put_number.ensures (puts_then refl c.in_ok-put_piece.ensures (puts_then refl c.in_ok-put_number-2.ensures (puts_fails _ refl c.from_residual-in_err-put_piece-2.ensures.1 c.in_err-put_piece-2.ensures)))
 
 pub returns-in_err-put_word : goal.returns-in_err-put_word
-returns-in_err-put_word g c = puts_then refl c.in_ok-put_number.ensures (puts_then refl c.in_ok-put_piece.ensures (puts_then refl c.in_ok-put_number-2.ensures (puts_then refl c.in_ok-put_piece-2.ensures (puts_fails _ refl c.from_residual-in_err-put_word.ensures.0 c.in_err-put_word.ensures))))
+returns-in_err-put_word g c = puts_then refl c.in_ok-put_number.ensures (puts_then refl c.in_ok-put_piece.ensures (puts_then refl c.in_ok-put_number-2.ensures (puts_then refl c.in_ok-put_piece-2.ensures (puts_fails _ refl c.from_residual-in_err-put_word.ensures.1 c.in_err-put_word.ensures))))
 
 pub returns-in_err-put_piece-3 : goal.returns-in_err-put_piece-3
-returns-in_err-put_piece-3 g c = puts_then refl c.in_ok-put_number.ensures (puts_then refl c.in_ok-put_piece.ensures (puts_then refl c.in_ok-put_number-2.ensures (puts_then refl c.in_ok-put_piece-2.ensures (puts_then refl c.in_ok-put_word.ensures (puts_fails _ refl c.from_residual-in_err-put_piece-3.ensures.0 c.in_err-put_piece-3.ensures)))))
+returns-in_err-put_piece-3 g c = puts_then refl c.in_ok-put_number.ensures (puts_then refl c.in_ok-put_piece.ensures (puts_then refl c.in_ok-put_number-2.ensures (puts_then refl c.in_ok-put_piece-2.ensures (puts_then refl c.in_ok-put_word.ensures (puts_fails _ refl c.from_residual-in_err-put_piece-3.ensures.1 c.in_err-put_piece-3.ensures)))))
 
 pub returns-in_err-put_text : goal.returns-in_err-put_text
-returns-in_err-put_text g c = puts_then refl c.in_ok-put_number.ensures (puts_then refl c.in_ok-put_piece.ensures (puts_then refl c.in_ok-put_number-2.ensures (puts_then refl c.in_ok-put_piece-2.ensures (puts_then refl c.in_ok-put_word.ensures (puts_then refl c.in_ok-put_piece-3.ensures (puts_fails _ refl c.from_residual-in_err-put_text.ensures.0 c.in_err-put_text.ensures))))))
+returns-in_err-put_text g c = puts_then refl c.in_ok-put_number.ensures (puts_then refl c.in_ok-put_piece.ensures (puts_then refl c.in_ok-put_number-2.ensures (puts_then refl c.in_ok-put_piece-2.ensures (puts_then refl c.in_ok-put_word.ensures (puts_then refl c.in_ok-put_piece-3.ensures (puts_fails _ refl c.from_residual-in_err-put_text.ensures.1 c.in_err-put_text.ensures))))))
 
 pub returns : goal.returns
 returns g c = puts_then refl c.in_ok-put_number.ensures (puts_then refl c.in_ok-put_piece.ensures (puts_then refl c.in_ok-put_number-2.ensures (puts_then refl c.in_ok-put_piece-2.ensures (puts_then refl c.in_ok-put_word.ensures (puts_then refl c.in_ok-put_piece-3.ensures (puts_then refl c.in_ok-put_text.ensures c.put_piece-4.ensures))))))

@@ -1,5 +1,5 @@
 use Rattle.std.proofs.Common.{refl}
-use Rattle.redl_io.proofs.Puts.{puts_then}
+use Rattle.redl_io.proofs.Puts.{puts_then, puts_fails}
 use Rattle.redl_lines.proofs.lines.write_lines.Goals as goal
 
 pub returns-in_ok-write_refused-in-Unwritten : goal.returns-in_ok-write_refused-in-Unwritten
@@ -8,3 +8,7 @@ returns-in_ok-write_refused-in-Unwritten g c =
 
 pub returns-in-Usage : goal.returns-in-Usage
 returns-in-Usage g c = rw c.in-Usage.is c.put_piece-in-Usage.ensures
+
+pub returns-in_err-write_refused-in-Unwritten : goal.returns-in_err-write_refused-in-Unwritten
+returns-in_err-write_refused-in-Unwritten g c =
+    rw c.in-Unwritten.is (puts_fails _ refl c.from_residual.ensures.1 c.in_err-write_refused-in-Unwritten.ensures)

@@ -16,7 +16,7 @@ loop-entry-preserved g c =
 pub returns-in_err-write_entry : goal.returns-in_err-write_entry
 returns-in_err-write_entry g c =
     so_far_stops (refused_line c.in-Some.entry.now) (flat_map refused_line c.next.new.self) (ap (flat_map refused_line) c.in-Some.ensures.steps)
-    c.from_residual.ensures.0 c.loop-entry.invariant c.in_err-write_entry.ensures
+    c.from_residual.ensures.1 c.loop-entry.invariant c.in_err-write_entry.ensures
 
 pub returns : goal.returns
 returns g c = so_far_ends (ap (flat_map refused_line) c.in-None.ensures.steps.0) c.loop-entry.invariant

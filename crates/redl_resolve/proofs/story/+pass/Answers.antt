@@ -1,64 +1,210 @@
-use Rattle.std.proofs.Common.{◌≡◌, ◌≢◌, ◌<◌, ◌≤◌, ◌+◌, List, [], ◌∷◌, ◌++◌, true, length, take, drop, refl, sym, ap, ◌∙◌, arith, rules, if◌then◌else◌}
+use Rattle.std.proofs.Common.{◌≡◌, ◌≢◌, ◌<◌, ◌≤◌, ◌+◌, [], ◌∷◌, ◌++◌, true, false, length, take, drop, sym, ap, ◌∙◌, arith, if◌then◌else◌}
 use Rattle.std.proofs.lemmas.List.{nil_from_length, take_at, take_more_set, drop-set-lt, take_all, length-set, get_or-set_other}
-use Rattle.std.proofs.lemmas.Result.{on_ok_weaker}
 use Rattle.std.specs.Vec.Iter.{into_iter_items}
-use Rattle.redl_resolve.proofs.PassLaws.{count-push, count-push_elem, count-push_bytes, pass-in_front, by_fate-gone, by_fate-remark, visited-in_front, goes_into-gone, passed_each-in_front, visited_each-in_front, passed_each-pass, visited_each-visited}
-use Rattle.redl_resolve.specs.Stays.{all_stay, passed_each, item_passed_each, visited_each, item_visited_each}
-use Rattle.redl_resolve.specs.Visits.{visited}
-use Rattle.redl_resolve.specs.Rounds.{round_of, inside_of, revives}
-use Rattle.redl_tree.proofs.Laws.{item_of-Bytes, ⊕-no_nodes, built_more, nodes_here, nodes_end, nodes_of-push, nodes_of-push_elem, nodes_of-push_bytes, count-in_front}
+use Rattle.redl_paras.specs.Pieces.{pieces_of}
+use Rattle.redl_tables.proofs.AskedLaws.{answer-more, wide-goes}
+use Rattle.redl_tables.specs.Asked.{answer, asked_inside}
+use Rattle.redl_tables.specs.Lines.{and_then, is_gone}
+use Rattle.redl_resolve.proofs.ChainLaws.{passed_more, thin_none, count-push}
+use Rattle.redl_resolve.proofs.PassLaws.{pieces-in_front, skipped-in_front, skipped-few, rejected-skipped, after-count, by_fate-gone, by_fate-remark, no_restore, skipped-one, skipped-none, passed_each-in_front, passed_each-pass}
+use Rattle.redl_resolve.specs.Stays.{all_stay, passed_each, item_passed_each}
+use Rattle.redl_resolve.specs.Changes.{former_of}
+use Rattle.redl_resolve.specs.Chains.{whole, item_answer}
+use Rattle.redl_resolve.specs.Counts.{skipped, former_count}
+use Rattle.redl_tree.proofs.Laws.{count-in_front, built_more, nodes_here, nodes_end, nodes_of-push, ⊕-no_nodes}
 use Rattle.redl_tree.specs.Count.{count, item_count}
 use Rattle.redl_tree.specs.declared.kinds.Fate.TheVariants.{Leave, Free}
-use Rattle.redl_tree.specs.Fates.{fate_of, live_name}
-use Rattle.redl_tree.specs.Kinds.{is_content}
-use Rattle.redl_tree.specs.Nodes.{Tag, no_nodes, in_front, ◌⊕◌}
-use Rattle.redl_tree.specs.Pass.{pass}
-use Rattle.redl_tree.specs.View.{nodes_of, item_of, tag_of}
+use Rattle.redl_tree.specs.Fates.{fate_of, renamed}
+use Rattle.redl_tree.specs.Tables.{goes_at}
+use Rattle.redl_tree.proofs.PassLaws.{if_true}
+use Rattle.redl_tree.specs.Groups.{thin, grouped}
+use Rattle.redl_tree.specs.Kinds.{is_restore}
+use Rattle.redl_tree.specs.Nodes.{no_nodes, element, in_front, ◌⊕◌}
+use Rattle.redl_tree.specs.Pass.{pass, pieces, kept_kids}
+use Rattle.redl_tree.specs.Restored.{rejected}
+use Rattle.redl_tree.specs.View.{nodes_of, item_of, tag_of, kids_of}
 use Rattle.redl_resolve.proofs.story.+pass.Goals as goal
 
-pub pass_elem-returns-in_ok-push-in-Leave-clause-passed : goal.pass_elem-returns-in_ok-push-in-Leave-clause-passed
-pass_elem-returns-in_ok-push-in-Leave-clause-passed g t c = λ around round_is.
-    let left : fate_of c.args.says.now (tag_of c.args.elem) ≡ Leave = sym c.fate_of-fate.ensures ∙ c.in-Leave.is in
-    rw left (ap nodes_of c.in_ok-push-in-Leave.ensures.items
-    ∙ nodes_of-push_elem _ _ _ _ (c.in_ok-pass_left-in-Leave.ensures.tag around round_is) (c.in_ok-pass_left-in-Leave.ensures.kids around round_is))
+pub pass_elem-returns-then-is_block_para-clause-entered : goal.pass_elem-returns-then-is_block_para-clause-entered
+pass_elem-returns-then-is_block_para-clause-entered g t c =
+    let fate = fate_of c.args.says.now (tag_of c.args.elem) in
+    let none = skipped-none (is_restore fate) (kids_of c.args.elem) (no_restore fate (c.is_block_para.ensures.left c.if-is_block_para.true)) in
+    omega (arith, none, c.pass_para.ensures.entered)
 
-pub pass_elem-returns-in_ok-push-in-Leave-clause-made : goal.pass_elem-returns-in_ok-push-in-Leave-clause-made
-pass_elem-returns-in_ok-push-in-Leave-clause-made g t c =
-    let pushed = ap (λ xs. count (nodes_of xs)) c.in_ok-push-in-Leave.ensures.items ∙ count-push_elem c.args.passed.now.items c.pass_left.new.elem in
-    omega (arith, pushed, c.in_ok-pass_left-in-Leave.ensures.made)
+pub pass_freed-returns-then-has_no_chain-clause-passed : goal.pass_freed-returns-then-has_no_chain-clause-passed
+pass_freed-returns-then-has_no_chain-clause-passed g t c =
+    let none = c.has_no_chain.ensures.none c.if-has_no_chain.true in
+    let passed = nodes_of c.args.made.now.passed.items in
+    let more = nodes_of c.pass_onto.new.passed.items in
+    λ around round_is rest.
+    let freed = pass c.args.says.now around (nodes_of c.args.kids.items) in
+    ap (λ ps. more ⊕ grouped false (pieces_of ps ++ rest)) none
+    ∙ ap (λ n. n ⊕ grouped false rest) (c.in_ok-pass_onto.ensures.passed around round_is)
+    ∙ passed_more passed freed rest
+    ∙ ap (λ ps. passed ⊕ grouped false (pieces_of ps ++ thin freed ∷ rest)) (sym none)
 
-pub pass_left-returns-clause-tag : goal.pass_left-returns-clause-tag
-pass_left-returns-clause-tag g t c =
+pub pass_kids-returns-in_err-passed-clause-entered : goal.pass_kids-returns-in_err-passed-clause-entered
+pass_kids-returns-in_err-passed-clause-entered g t c = omega (arith, skipped-few c.args.says.now (nodes_of c.args.kids.items))
+
+pub pass_left-returns-in_err-elem-clause-entered : goal.pass_left-returns-in_err-elem-clause-entered
+pass_left-returns-in_err-elem-clause-entered g t c =
     let says = c.args.says.now in
-    let tag = tag_of c.args.elem.now in
-    on_ok_weaker c.rename.result (λ tag_is around round_is. tag_is ∙ ap (λ r. if revives r then live_name tag else tag) round_is) c.rename.ensures.tag
+    let kids = kids_of c.args.elem.now in
+    omega (
+      arith,
+      c.after_change.ensures.steps,
+      ap former_count c.in_ok-former.ensures,
+      ap (λ xs. former_count (rejected says (nodes_of xs))) c.deref.ensures.value,
+      rejected-skipped says kids,
+      c.pass_kids.ensures.entered,
+      ap (λ v. skipped says (nodes_of v.items)) c.replace-kids.ensures.value,
+      ap (λ v. count (nodes_of v.items)) c.replace-kids.ensures.value,
+    )
 
-pub pass_left-returns-clause-kids : goal.pass_left-returns-clause-kids
-pass_left-returns-clause-kids g t c =
+pub pass_left-returns-in_err-rename-clause-entered : goal.pass_left-returns-in_err-rename-clause-entered
+pass_left-returns-in_err-rename-clause-entered g t c =
     let says = c.args.says.now in
-    let tag = tag_of c.args.elem.now in
-    let inner_is : (around : List Tag) → c.args.round ≡ round_of says around → c.inside-inner.result ≡ round_of says (tag ∷ around) =
-    λ around round_is. c.inside-inner.ensures says c.fate_of.ensures ∙ ap (inside_of says tag) round_is in
-    on_ok_weaker c.rename.result (λ _ around round_is.
-    c.rename.ensures.kids ∙ c.in_ok-elem.ensures.passed (tag ∷ around) (inner_is around round_is)
-    ∙ ap (λ xs. pass says (tag ∷ around) (nodes_of xs.items)) c.replace-kids.ensures.value) c.rename.ensures.tag
+    let kids = kids_of c.args.elem.now in
+    omega (
+      arith,
+      c.after_change.ensures.steps,
+      ap former_count c.in_ok-former.ensures,
+      ap (λ xs. former_count (rejected says (nodes_of xs))) c.deref.ensures.value,
+      rejected-skipped says kids,
+      c.pass_kids.ensures.entered,
+      ap (λ v. skipped says (nodes_of v.items)) c.replace-kids.ensures.value,
+      ap (λ v. count (nodes_of v.items)) c.replace-kids.ensures.value,
+    )
+
+pub pass_left-returns-clause-entered : goal.pass_left-returns-clause-entered
+pass_left-returns-clause-entered g t c =
+    let says = c.args.says.now in
+    let kids = kids_of c.args.elem.now in
+    omega (
+      arith,
+      c.after_change.ensures.steps,
+      ap former_count c.in_ok-former.ensures,
+      ap (λ xs. former_count (rejected says (nodes_of xs))) c.deref.ensures.value,
+      rejected-skipped says kids,
+      c.pass_kids.ensures.entered,
+      ap (λ v. skipped says (nodes_of v.items)) c.replace-kids.ensures.value,
+      ap (λ v. count (nodes_of v.items)) c.replace-kids.ensures.value,
+    )
+
+pub pass_left-returns-clause-made : goal.pass_left-returns-clause-made
+pass_left-returns-clause-made g t c =
+    let k : count (kids_of c.rename.new.elem) ≡ count (nodes_of c.in_ok-elem.field-0.items) = ap count c.rename.ensures.kids in
+    let kept = ap count c.in_ok-elem.ensures.kids in
+    let few = after-count c.args.round (tag_of c.args.elem.now) (former_of c.in_ok-former.former) (nodes_of c.in_ok-passed.passed.items) in
+    omega (arith, k, kept, few, c.in_ok-passed.ensures.made, c.after_change.ensures.steps)
+
+pub pass_onto-loop-node-preserved : goal.pass_onto-loop-node-preserved
+pass_onto-loop-node-preserved g t c =
+    let says = c.args.says.now in
+    let node = c.in-Some.node in
+    let rest = into_iter_items c.next.new.self in
+    let here : into_iter_items c.loop-node.node-iterator ≡ node ∷ rest = c.in-Some.ensures.steps.0 in
+    let more = nodes_of rest in
+    let made = c.loop-node.made in
+    record {
+      passed = λ around round_is.
+          c.in_ok-here.ensures.passed around round_is (pieces says around more)
+          ∙ ap (λ ps. whole made ps) (sym (pieces-in_front says around (item_of node) more))
+          ∙ ap (λ xs. whole made (pieces says around (nodes_of xs))) (sym here)
+          ∙ c.loop-node.invariant.passed around round_is;
+      entered = omega (
+        arith,
+        c.in_ok-here.ensures.entered,
+        ap (λ xs. count (nodes_of xs)) here,
+        count-in_front (item_of node) more,
+        ap (λ xs. skipped says (nodes_of xs)) here,
+        skipped-in_front says (item_of node) more,
+        c.loop-node.invariant.entered,
+      );
+      made = omega (arith, c.in_ok-here.ensures.made, c.loop-node.invariant.made);
+      answer = answer-more says c.args.round.asked (item_of node) more _ c.loop-node.all _ _ (ap nodes_of here) (c.and-all.ensures ∙ ap (and_then c.loop-node.all) c.in_ok-here.ensures.answer) c.loop-node.invariant.answer;
+    }
+
+pub pass_onto-returns-in_err-here-clause-entered : goal.pass_onto-returns-in_err-here-clause-entered
+pass_onto-returns-in_err-here-clause-entered g t c =
+    let says = c.args.says.now in
+    let node = c.in-Some.node in
+    let rest = into_iter_items c.next.new.self in
+    let here : into_iter_items c.loop-node.node-iterator ≡ node ∷ rest = c.in-Some.ensures.steps.0 in
+    let more = nodes_of rest in
+    omega (
+      arith,
+      c.pass_node.ensures.entered,
+      ap (λ xs. count (nodes_of xs)) here,
+      count-in_front (item_of node) more,
+      ap (λ xs. skipped says (nodes_of xs)) here,
+      skipped-in_front says (item_of node) more,
+      skipped-few says more,
+      c.loop-node.invariant.entered,
+    )
+
+pub pass_onto-returns-clause-passed : goal.pass_onto-returns-clause-passed
+pass_onto-returns-clause-passed g t c = λ around round_is.
+    let none : into_iter_items c.loop-node.node-iterator ≡ [] = nil_from_length _ (sym c.loop-node.node-iterator.rest.ok.0 ∙ c.in-None.ensures.steps.0) in
+    c.in_ok-passed.ensures.whole
+    ∙ ap (λ xs. whole c.loop-node.made (pieces c.args.says.now around (nodes_of xs))) (sym none)
+    ∙ c.loop-node.invariant.passed around round_is
+
+pub pass_narrow-returns-then-goes_at-clause-passed : goal.pass_narrow-returns-then-goes_at-clause-passed
+pass_narrow-returns-then-goes_at-clause-passed g t c = λ around round_is rest.
+    let says = c.args.says.now in
+    let tag = tag_of c.args.elem in
+    let kids = kids_of c.args.elem in
+    let made = c.args.made.now in
+    let stays = element (renamed says around tag) (kept_kids says around tag kids (pass says (tag ∷ around) kids)) no_nodes in
+    ap (λ n. nodes_of made.passed.items ⊕ n) (thin_none (pieces_of made.chain.items) rest)
+    ∙ ap (λ n. whole made (thin n ∷ rest)) (sym (if_true (goes_at says around tag kids) no_nodes stays (sym (c.goes_at.ensures around round_is) ∙ c.if-goes_at.true)))
+
+pub pass_other-returns-else-is_content-clause-passed : goal.pass_other-returns-else-is_content-clause-passed
+pass_other-returns-else-is_content-clause-passed g t c = λ around round_is rest.
+    let freed : fate_of c.args.says.now (tag_of c.args.elem) ≡ Free = sym c.fate_of-fate.ensures ∙ c.in-Free.is in
+    let made = c.args.made.now in
+    ap (λ n. nodes_of made.passed.items ⊕ n) (thin_none (pieces_of made.chain.items) rest)
+    ∙ ap (λ n. whole made (thin n ∷ rest)) (sym (by_fate-remark _ _ _ _ freed (sym c.is_content.ensures ∙ c.if-is_content.false)))
+
+pub pass_other-returns-in_default : goal.pass_other-returns-in_default
+pass_other-returns-in_default g t c =
+    let fate = fate_of c.args.says.now (tag_of c.args.elem) in
+    let not_left : fate ≢ Leave = λ left. c.in_default.not-Leave (c.fate_of-fate.ensures ∙ left) in
+    let not_freed : fate ≢ Free = λ freed. c.in_default.not-Free (c.fate_of-fate.ensures ∙ freed) in
+    let made = c.args.made.now in
+    record {
+      passed = λ around round_is rest.
+          ap (λ n. nodes_of made.passed.items ⊕ n) (thin_none (pieces_of made.chain.items) rest)
+          ∙ ap (λ n. whole made (thin n ∷ rest)) (sym (by_fate-gone _ _ _ _ not_left not_freed));
+      answer = c.answer_of.ensures;
+      entered = omega (arith, skipped-one (is_restore fate) (kids_of c.args.elem));
+      made = omega arith;
+    }
 
 pub pass_kids-returns-then-all_stay : goal.pass_kids-returns-then-all_stay
 pass_kids-returns-then-all_stay g t c =
     let says = c.args.says.now in
     let kids = c.args.kids.items in
-    let stay : all_stay says (nodes_of kids) ≡ true =
-    ap (λ xs. all_stay says (nodes_of xs)) (sym c.deref.ensures.value) ∙ sym c.all_stay.ensures ∙ c.if-all_stay.true in
     let value : c.deref_mut.result.now ≡ kids = c.deref_mut.ensures.value in
+    let seen : c.deref.result.now ≡ kids = c.deref.ensures.value in
     let items : take c.args.kids.len (c.pass_each.new.nodes ++ drop (length c.pass_each.new.nodes) kids) ≡ c.pass_each.new.nodes =
     take_at c.pass_each.new.nodes _ _ (omega (arith, c.pass_each.auto.nodes, c.deref_mut.ensures.len)) in
     record {
       passed = λ around round_is.
-          ap nodes_of items ∙ c.in_ok-pass_each.ensures.passed around round_is
+          let stay : all_stay says around (nodes_of kids) ≡ true =
+          ap (λ xs. all_stay says around (nodes_of xs)) (sym seen) ∙ sym (c.all_stay.ensures.stay around round_is) ∙ c.if-all_stay.true in
+          ap nodes_of items ∙ c.in_ok-answer.ensures.passed around round_is
           ∙ ap (λ xs. passed_each says around (nodes_of xs)) value ∙ passed_each-pass says around (nodes_of kids) stay;
-      entered = omega (arith, c.in_ok-pass_each.ensures.entered, ap (λ xs. count (nodes_of xs)) value);
-      made = omega (arith, ap (λ xs. count (nodes_of xs)) items, c.in_ok-pass_each.ensures.made);
-      exactly = omega (arith, c.in_ok-pass_each.ensures.exactly, ap (λ xs. visited_each says (nodes_of xs)) value, visited_each-visited says (nodes_of kids) stay);
+      entered = omega (
+        arith,
+        c.in_ok-answer.ensures.entered,
+        ap (λ xs. count (nodes_of xs)) value,
+        ap (λ xs. skipped says (nodes_of xs)) seen,
+        c.all_stay.ensures.left c.if-all_stay.true,
+      );
+      made = omega (arith, ap (λ xs. count (nodes_of xs)) items, c.in_ok-answer.ensures.made);
+      answer = c.in_ok-answer.ensures.answer ∙ ap (λ xs. answer says c.args.round.asked (nodes_of xs)) value;
     }
 
 pub pass_each-loop-i-preserved : goal.pass_each-loop-i-preserved
@@ -79,7 +225,7 @@ pass_each-loop-i-preserved g t c =
         λ k d below. get_or-set_other items i k passed d (omega arith) ∙ c.loop-i.invariant.unvisited.1 k d (omega arith),
       );
       passed = λ around round_is.
-          let made = c.in_ok-pass_below.ensures.passed around round_is
+          let made = c.in_ok-here.ensures.passed around round_is
           ∙ ap (λ z. item_passed_each says around (item_of z)) (sym (c.index-nodes-i).is) in
           let placed = in_front (item_passed_each says around (item_of x)) no_nodes in
           built_more _ _ _
@@ -88,32 +234,27 @@ pass_each-loop-i-preserved g t c =
           ∙ ap (λ xs. placed ⊕ passed_each says around (nodes_of xs)) (sym back)) (c.loop-i.invariant.passed around round_is);
       entered = omega (
         arith,
-        c.in_ok-pass_below.ensures.entered,
+        c.in_ok-here.ensures.entered,
         ap (λ z. item_count (item_of z)) (c.index-nodes-i).is,
         ap count here,
         count-in_front (item_of x) (nodes_of more),
         ap (λ xs. count (nodes_of xs)) back,
         c.loop-i.invariant.entered,
       );
-      exactly = omega (
-        arith,
-        c.in_ok-pass_below.ensures.exactly,
-        ap (λ z. item_visited_each says (item_of z)) (c.index-nodes-i).is,
-        ap (visited_each says) here,
-        visited_each-in_front says (item_of x) (nodes_of more),
-        ap (λ xs. visited_each says (nodes_of xs)) back,
-        c.loop-i.invariant.exactly,
-      );
       made = omega (
         arith,
         ap (λ xs. count (nodes_of xs)) front ∙ count-push (take i items) passed,
-        c.in_ok-pass_below.ensures.made,
+        c.in_ok-here.ensures.made,
         c.loop-i.invariant.made,
       );
+      answer = answer-more says c.args.round.asked (item_of x) _ _ c.loop-i.all _ _
+          (here ∙ ap (λ xs. in_front (item_of x) (nodes_of xs)) (sym back))
+          (c.and-all.ensures ∙ ap (and_then c.loop-i.all) (c.in_ok-here.ensures.answer ∙ ap (λ z. item_answer says c.args.round.asked (item_of z)) (sym (c.index-nodes-i).is)))
+          c.loop-i.invariant.answer;
     }
 
-pub pass_each-returns-in_err-pass_below-clause-entered : goal.pass_each-returns-in_err-pass_below-clause-entered
-pass_each-returns-in_err-pass_below-clause-entered g t c =
+pub pass_each-returns-in_err-here-clause-entered : goal.pass_each-returns-in_err-here-clause-entered
+pass_each-returns-in_err-here-clause-entered g t c =
     let items = c.loop-i.nodes in
     let i = c.loop-i.i in
     let x = (c.index-nodes-i).result in
@@ -121,7 +262,7 @@ pass_each-returns-in_err-pass_below-clause-entered g t c =
     let here = nodes_here items i x within (c.index-nodes-i).is in
     omega (
       arith,
-      c.in_err-pass_below.ensures.entered,
+      c.in_err-here.ensures.entered,
       ap (λ z. item_count (item_of z)) (c.index-nodes-i).is,
       ap count here,
       count-in_front (item_of x) (nodes_of (drop (i + 1) items)),
@@ -142,83 +283,19 @@ pass_each-returns-clause-made g t c =
     let past : length items ≤ c.loop-i.i = omega (arith, c.loop-i.invariant.unvisited.0) in
     omega (arith, ap (λ xs. count (nodes_of xs)) (take_all c.loop-i.i items past), c.loop-i.invariant.made)
 
-pub pass_each-returns-clause-exactly : goal.pass_each-returns-clause-exactly
-pass_each-returns-clause-exactly g t c =
-    let items = c.loop-i.nodes in
-    let past : length items ≤ c.loop-i.i = omega (arith, c.loop-i.invariant.unvisited.0) in
-    omega (arith, ap (visited_each c.args.says.now) (nodes_end items c.loop-i.i past), c.loop-i.invariant.exactly)
-
-pub pass_elem-returns-else-is_content-clause-passed : goal.pass_elem-returns-else-is_content-clause-passed
-pass_elem-returns-else-is_content-clause-passed g t c = λ around round_is.
-    let freed : fate_of c.args.says.now (tag_of c.args.elem) ≡ Free = sym c.fate_of-fate.ensures ∙ c.in-Free.is in
-    sym (ap (λ ns. nodes_of c.args.passed.now.items ⊕ ns) (by_fate-remark _ _ _ _ freed (sym c.is_content.ensures ∙ c.if-is_content.false))
-    ∙ ⊕-no_nodes (nodes_of c.args.passed.now.items))
-
-pub pass_elem-returns-in_default : goal.pass_elem-returns-in_default
-pass_elem-returns-in_default g t c =
-    let fate = fate_of c.args.says.now (tag_of c.args.elem) in
-    let not_left : fate ≢ Leave = λ left. c.in_default.not-Leave (c.fate_of-fate.ensures ∙ left) in
-    let not_freed : fate ≢ Free = λ freed. c.in_default.not-Free (c.fate_of-fate.ensures ∙ freed) in
-    record {
-      passed = λ around round_is.
-          sym (ap (λ ns. nodes_of c.args.passed.now.items ⊕ ns) (by_fate-gone _ _ _ _ not_left not_freed)
-          ∙ ⊕-no_nodes (nodes_of c.args.passed.now.items));
-      entered = omega arith;
-      made = omega arith;
-      exactly = rw (goes_into-gone fate (is_content c.args.elem.kind) not_left not_freed) (omega arith);
-    }
-
-pub pass_node-returns-in_ok-push-in-Bytes-clause-passed : goal.pass_node-returns-in_ok-push-in-Bytes-clause-passed
-pass_node-returns-in_ok-push-in-Bytes-clause-passed g t c = λ around round_is.
-    rw (c.in-Bytes.is, item_of-Bytes)
-    (ap nodes_of c.in_ok-push-in-Bytes.ensures.items ∙ nodes_of-push_bytes _ _)
-
-pub pass_node-returns-in_ok-push-in-Bytes-clause-made : goal.pass_node-returns-in_ok-push-in-Bytes-clause-made
-pass_node-returns-in_ok-push-in-Bytes-clause-made g t c =
-    let pushed = ap (λ xs. count (nodes_of xs)) c.in_ok-push-in-Bytes.ensures.items ∙ count-push_bytes c.args.passed.now.items c.in-Bytes.text in
-    omega (arith, pushed)
-
-pub pass_nodes-loop-node-init : goal.pass_nodes-loop-node-init
-pass_nodes-loop-node-init g t c =
-    let items : into_iter_items c.into_iter-node-iterator.result ≡ c.args.nodes.items = search rules in
-    record {
-      passed = λ around round_is. rw items refl;
-      entered = omega (arith, ap (λ xs. count (nodes_of xs)) items);
-      exactly = rw items refl;
-      made = omega arith;
-    }
-
-pub pass_nodes-loop-node-preserved : goal.pass_nodes-loop-node-preserved
-pass_nodes-loop-node-preserved g t c =
+pub pass_staying-returns-clause-passed : goal.pass_staying-returns-clause-passed
+pass_staying-returns-clause-passed g t c = λ around round_is rest.
     let says = c.args.says.now in
-    let node = c.in-Some.node in
-    let rest = into_iter_items c.next.new.self in
-    let here : into_iter_items c.loop-node.node-iterator ≡ node ∷ rest = c.in-Some.ensures.steps.0 in
-    record {
-      passed = λ around round_is. built_more _ _ _ (c.in_ok-pass_node.ensures.passed around round_is)
-          (ap (λ xs. pass says around (nodes_of xs)) here ∙ pass-in_front says around (item_of node) (nodes_of rest))
-          (c.loop-node.invariant.passed around round_is);
-      entered = omega (arith, ap (λ xs. count (nodes_of xs)) here, count-in_front (item_of node) (nodes_of rest), c.in_ok-pass_node.ensures.entered, c.loop-node.invariant.entered);
-      exactly = omega (arith, ap (λ xs. visited says (nodes_of xs)) here, visited-in_front says (item_of node) (nodes_of rest), c.in_ok-pass_node.ensures.exactly, c.loop-node.invariant.exactly);
-      made = omega (arith, c.in_ok-pass_node.ensures.made, c.loop-node.invariant.made);
-    }
-
-pub pass_nodes-returns-in_err-pass_node-clause-entered : goal.pass_nodes-returns-in_err-pass_node-clause-entered
-pass_nodes-returns-in_err-pass_node-clause-entered g t c =
-    let node = c.in-Some.node in
-    let rest = into_iter_items c.next.new.self in
-    let here : into_iter_items c.loop-node.node-iterator ≡ node ∷ rest = c.in-Some.ensures.steps.0 in
-    omega (arith, ap (λ xs. count (nodes_of xs)) here, count-in_front (item_of node) (nodes_of rest), c.in_err-pass_node.ensures.entered, c.loop-node.invariant.entered)
-
-pub pass_nodes-returns-clause-passed : goal.pass_nodes-returns-clause-passed
-pass_nodes-returns-clause-passed g t c = λ around round_is.
-    let none : into_iter_items c.loop-node.node-iterator ≡ [] =
-    nil_from_length _ (sym c.loop-node.node-iterator.rest.ok.0 ∙ c.in-None.ensures.steps.0) in
-    let passed = nodes_of c.loop-node.passed.items in
-    sym (⊕-no_nodes passed) ∙ ap (λ xs. passed ⊕ pass c.args.says.now around (nodes_of xs)) (sym none) ∙ c.loop-node.invariant.passed around round_is
-
-pub pass_nodes-returns-clause-exactly : goal.pass_nodes-returns-clause-exactly
-pass_nodes-returns-clause-exactly g t c =
-    let none : into_iter_items c.loop-node.node-iterator ≡ [] =
-    nil_from_length _ (sym c.loop-node.node-iterator.rest.ok.0 ∙ c.in-None.ensures.steps.0) in
-    omega (arith, ap (λ xs. visited c.args.says.now (nodes_of xs)) none, c.loop-node.invariant.exactly)
+    let tag = tag_of c.args.elem in
+    let kids = kids_of c.args.elem in
+    let old = c.args.made.now in
+    let new_tag = renamed says around tag in
+    let new_kids = kept_kids says around tag kids (pass says (tag ∷ around) kids) in
+    let wide : c.is_wide.result ≡ true = c.if-not-is_wide.false in
+    let gone : c.is_gone.result ≡ goes_at says around tag kids =
+    c.is_gone.ensures ∙ ap is_gone (c.in_ok-below.ensures.answer ∙ ap (λ r. answer says (asked_inside tag r.asked) kids) round_is)
+    ∙ sym (wide-goes says around tag kids (c.is_wide.ensures.cell wide) (c.is_wide.ensures.row wide) (c.is_wide.ensures.wide says around round_is wide)) in
+    c.in_ok-give_unless.ensures.whole rest
+    ∙ ap (λ b. whole old (thin (if b then no_nodes else element (tag_of c.pass_left.new.elem) (kids_of c.pass_left.new.elem) no_nodes) ∷ rest)) gone
+    ∙ ap (λ x. whole old (thin (if goes_at says around tag kids then no_nodes else element x (kids_of c.pass_left.new.elem) no_nodes) ∷ rest)) (c.in_ok-below.ensures.tag around round_is)
+    ∙ ap (λ k. whole old (thin (if goes_at says around tag kids then no_nodes else element new_tag k no_nodes) ∷ rest)) (c.in_ok-below.ensures.kids around round_is)

@@ -1,9 +1,12 @@
 use Rattle.std.proofs.Common.{◌≡◌, [], ◌++◌, ◌+◌, List, length, refl, sym, ap, ◌∙◌, append-nil}
+use Rattle.redl_tree.specs.Text.{text}
 use Rattle.redl_tree.specs.View.{nodes_of}
+use Rattle.redl_tree.proofs.NumberLaws.{text-numbered}
 use Rattle.redl_opc.specs.declared.label.Label.{Label}
+use Rattle.redl_stamp.specs.Attribute.{attribute_value}
 use Rattle.redl_index.specs.declared.revision.Revision.{Revision}
 use Rattle.redl_index.specs.Labels.{labels_in}
-use Rattle.redl_index.proofs.NumberLaws.{labelled_in-labels_in}
+use Rattle.redl_index.proofs.LabelLaws.{labelled_in-labels_in}
 use Rattle.redl_index.proofs.index.Index.build.Goals as goal
 
 pub returns-clause-nodes : goal.returns-clause-nodes
@@ -17,3 +20,6 @@ returns-clause-nodes c =
     ∙ ap (labels_in [] 1) c.nodes.ensures.nodes
     ∙ sym (append-nil (labels_in [] 1 nodes)) in
     c.label_stories.ensures ∙ labelled_in-labels_in [] 1 c.deref.result.now 0 [] nodes [] labels_are refl
+
+pub returns-clause-text : goal.returns-clause-text
+returns-clause-text c = ap text (returns-clause-nodes c) ∙ text-numbered attribute_value c.args.pkg.now

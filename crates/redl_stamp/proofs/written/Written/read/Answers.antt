@@ -20,4 +20,6 @@ loop-attribute-preserved c =
           let left_is = before.utf8 tail_is in
           let read_is = c.in-Some.ensures.utf8 left_is.0 in
           (read_is.1, more.utf8 left_is.1 read_is.0);
+      utf8_name = λ tail_is. more.utf8_name (before.utf8_name tail_is) (c.in-Some.ensures.utf8 (before.utf8 tail_is).0).0;
+      utf8_id = λ tail_is. more.utf8_id (before.utf8_id tail_is) (c.in-Some.ensures.utf8 (before.utf8 tail_is).0).0;
     }

@@ -1,0 +1,215 @@
+-- What the code keeps of the ancestors tells the kind and the move of an element.
+use Rattle.std.proofs.Common.{◌≡◌, ◌∙◌, refl, ap, sym, subst, ℕ, ◌+◌, List, [], ◌∷◌, Bool, true, false, ◌&&◌, ◌||◌, true≢false, is_some, find, cond, not, IfSome, IsTrue, Option, Some, None, option_map, if◌then◌else◌}
+use Rattle.redl_tree.specs.Nodes.{Tag, Nodes}
+use Rattle.redl_tree.specs.Names.{is}
+use Rattle.redl_tree.specs.Packages.{is_story_root}
+use Rattle.redl_tree.specs.Places.{is_open, within, role, placed, first_role, change_at, in_mark_props, in_row_props, in_cell_props, in_props, trace_of, row_trace_of, cell_trace_of, prop_of}
+use Rattle.redl_tree.specs.Arounds.{around_of, inside_of}
+use Rattle.redl_tree.specs.Moves.{Marking, Pair, pairs, is_of_pair}
+use Rattle.redl_tree.specs.Seen.{Spot, spot, Seen, seen_one, root_spots, tags, tags_of}
+use Rattle.redl_tree.specs.Markers.{mark_end, move_of_member, move_of_marker, move_of, whole_role, either, own_role}
+use Rattle.redl_tree.specs.declared.around.Around.{Around}
+use Rattle.redl_tree.specs.declared.kinds.Kind.{Kind}
+use Rattle.redl_tree.specs.declared.kinds.Kind.TheVariants.{Content, Mark, Row, Cell, Change, Plain, Marker}
+use Rattle.redl_tree.specs.declared.kinds.Trace.{Trace}
+use Rattle.redl_tree.specs.declared.kinds.Trace.TheVariants.{Ins, Del}
+use Rattle.redl_tree.specs.Arounds.{role_in, change_in, holds_change}
+use Rattle.redl_tree.specs.declared.kinds.Prop.{Prop}
+use Rattle.redl_index.specs.Kinds.{kind_of, is_named}
+use Rattle.redl_tree.proofs.NameLaws.{and-left, and-right, is-other, is_any-apart}
+use Rattle.redl_stamp.specs.Attribute.{attribute_value}
+use Rattle.redl_moves.specs.Standing.{IsApart}
+use Rattle.redl_moves.specs.Starts.{start_in}
+use Rattle.redl_markers.specs.Free.{IsFree}
+use Rattle.redl_markers.proofs.FreeLaws.{content-apart, mark-apart}
+use Rattle.redl_moves.specs.declared.start.Start.{Start}
+use Rattle.redl_index.specs.Contexts.{para_end, context_of, inside_context, move_by, IsApartAs, is_marker_by}
+
+-- ---- a mark is at the end of the nearest paragraph
+
+mark-end : (start : ℕ) (above : List Spot) → in_mark_props (tags_of above) ≡ true → mark_end start above ≡ para_end above
+mark-end start [] e = absurd (true≢false (sym e))
+mark-end start (r ∷ []) e = absurd (true≢false (sym (and-right (is "rPr" r.tag) false e)))
+mark-end start (r ∷ q ∷ []) e =
+    absurd (true≢false (sym (and-right (is "pPr" q.tag) false (and-right (is "rPr" r.tag) (is "pPr" q.tag && false) e))))
+mark-end start (r ∷ q ∷ p ∷ above) e =
+    let below = within ("pPr" ∷ "p" ∷ []) (q.tag ∷ p.tag ∷ tags_of above) in
+    let last = within ("p" ∷ []) (p.tag ∷ tags_of above) in
+    let in_q = and-right (is "rPr" r.tag) below e in
+    let in_p = and-right (is "pPr" q.tag) last in_q in
+    sym (ap (λ b. if b then r.end else para_end (q ∷ p ∷ above)) (is-other "rPr" "p" r.tag (and-left (is "rPr" r.tag) below e) refl)
+    ∙ ap (λ b. if b then q.end else para_end (p ∷ above)) (is-other "pPr" "p" q.tag (and-left (is "pPr" q.tag) last in_q) refl)
+    ∙ ap (λ b. if b then p.end else para_end above) (and-left (is "p" p.tag) (is_open (tags_of above)) in_p))
+
+-- what holds of each kind of role, and of a mark's where its properties are, holds of the role of an element
+module _ (P : Kind → Type 0) (around : List Tag) (tag : Tag) (plain : P Plain) (content : (t : Trace) → P (Content t)) (mark : in_mark_props around ≡ true → (t : Trace) → P (Mark t))
+    (row : (t : Trace) → P (Row t)) (cell : (t : Trace) → P (Cell t)) (change : (p : Prop) → P (Change p)) where
+  first-holds : (holds : Bool) (k : Option Kind) (ks : List (Option Kind)) → (holds ≡ true → (x : Kind) → k ≡ Some x → P x) → P (first_role ks) → P (first_role (placed holds k ∷ ks))
+  first-holds false k ks own rest = rest
+  first-holds true None ks own rest = rest
+  first-holds true (Some x) ks own rest = own refl x refl
+
+  mapped : (f : Trace → Kind) → ((t : Trace) → P (f t)) → (t : Option Trace) (x : Kind) → option_map f t ≡ Some x → P x
+  mapped f own None x e = absurd (cc)
+  mapped f own (Some t) x e = let is : f t ≡ x = cc in subst P is (own t)
+
+  changes : (prop : Option Prop) → P (first_role (change_at around prop ∷ []))
+  changes None = plain
+  changes (Some p) = first-holds (in_props p around) (Some (Change p)) [] (λ h x e. let is : Change p ≡ x = cc in subst P is (change p)) plain
+
+  role-holds : P (role around tag)
+  role-holds =
+      first-holds (is_open around) (option_map Content (trace_of tag)) _ (λ h. mapped Content content (trace_of tag))
+      (first-holds (in_mark_props around) (option_map Mark (trace_of tag)) _ (λ h. mapped Mark (mark h) (trace_of tag))
+      (first-holds (in_row_props around) (option_map Row (row_trace_of tag)) _ (λ h. mapped Row row (row_trace_of tag))
+      (first-holds (in_cell_props around) (option_map Cell (cell_trace_of tag)) _ (λ h. mapped Cell cell (cell_trace_of tag))
+      (changes (prop_of tag)))))
+
+member-by : (moves : List Pair) (kind : Kind) (x : Seen) → move_of_member moves kind x ≡ move_by moves kind x.own.start (mark_end x.own.start x.above)
+member-by moves Plain x = refl
+member-by moves (Content trace) x = refl
+member-by moves (Mark trace) x = refl
+member-by moves (Row trace) x = refl
+member-by moves (Cell trace) x = refl
+member-by moves (Change prop) x = refl
+member-by moves Marker x = refl
+
+-- the move of a member, by where the nearest paragraph ends
+member-here : (moves : List Pair) (x : Seen) → move_of_member moves (own_role x) x ≡ move_by moves (own_role x) x.own.start (para_end x.above)
+member-here moves x =
+    member-by moves (own_role x) x
+    ∙ role-holds (λ k. move_by moves k x.own.start (mark_end x.own.start x.above) ≡ move_by moves k x.own.start (para_end x.above)) (tags_of x.above) x.own.tag
+    refl (λ t. refl) (λ in_mark t. ap (λ n. move_by moves (Mark t) x.own.start n) (mark-end x.own.start x.above in_mark)) (λ t. refl) (λ t. refl) (λ p. refl)
+
+-- no marker is where an element with a role is
+pub apart-here : (marks : List Marking) (x : Seen) → IsFree marks x → IsApartAs marks (own_role x) x.own.start (para_end x.above)
+apart-here marks x free =
+    role-holds (λ k. own_role x ≡ k → IsApartAs marks k x.own.start (para_end x.above)) (tags_of x.above) x.own.tag
+    (λ e. tt) (λ t e. content-apart marks x free t e)
+    (λ in_mark t e. let P : ℕ → Type 0 = λ n. IsApart n marks in subst P (mark-end x.own.start x.above in_mark) (mark-apart marks x free t e))
+    (λ t e. tt) (λ t e. tt) (λ p e. tt) refl
+
+-- ---- the move of a marker
+
+find_no : (xs : List Pair) → find (λ x. false) xs ≡ None
+find_no [] = refl
+find_no (x ∷ xs) = find_no xs
+
+find-and : (b : Bool) (f : Pair → Bool) (xs : List Pair) → find (λ x. b && f x) xs ≡ (if b then find f xs else None)
+find-and true f xs = refl
+find-and false f xs = find_no xs
+
+pub marker-here : (moves : List Pair) (above : List Spot) (at : ℕ) (tag : Tag) (kids : Nodes) (around : Around) (b : Bool) → b ≡ is_marker_by around tag →
+    around ≡ around_of (tags_of above) →
+    (if b then find (is_of_pair at) moves else None) ≡ move_of_marker attribute_value moves (seen_one above at tag kids)
+marker-here moves above at tag kids around b is here =
+    ap (λ b. if b then find (is_of_pair at) moves else None) (is ∙ ap (λ a. is_marker_by a tag) here)
+    ∙ sym (find-and (is_marker_by (around_of (tags_of above)) tag) (is_of_pair at) moves)
+
+-- ---- the kind and the move of an element
+
+is_some-map : (marks : List Marking) (m : Option Pair) → is_some (option_map (start_in marks) m) ≡ is_some m
+is_some-map marks None = refl
+is_some-map marks (Some pair) = refl
+
+either-none : (m other : Option Pair) → is_some m ≡ false → either m other ≡ other
+either-none None other e = refl
+either-none (Some pair) other e = absurd (true≢false e)
+
+either-some : (m other : Option Pair) → is_some m ≡ true → either m other ≡ m
+either-some None other e = absurd (true≢false (sym e))
+either-some (Some pair) other e = refl
+
+module _ (marks : List Marking) (x : Seen) (found : Option Start) (is : found ≡ option_map (start_in marks) (move_of_marker attribute_value (pairs marks) x)) where
+  -- an element that is a marker of a move
+  pub marker-kind : is_some found ≡ true → Marker ≡ whole_role attribute_value (pairs marks) x
+  marker-kind e = ap (λ b. if b then Marker else own_role x) (sym e ∙ ap is_some is ∙ is_some-map marks (move_of_marker attribute_value (pairs marks) x))
+
+  pub marker-move : is_some found ≡ true → found ≡ option_map (start_in marks) (move_of attribute_value (pairs marks) x)
+  marker-move e =
+      let m = move_of_marker attribute_value (pairs marks) x in
+      is ∙ ap (option_map (start_in marks)) (sym (either-some m (move_of_member (pairs marks) (own_role x) x) (sym (is_some-map marks m) ∙ sym (ap is_some is) ∙ e)))
+
+  -- another element
+  pub member-kind : is_some found ≡ false → own_role x ≡ whole_role attribute_value (pairs marks) x
+  member-kind e = ap (λ b. if b then Marker else own_role x) (sym e ∙ ap is_some is ∙ is_some-map marks (move_of_marker attribute_value (pairs marks) x))
+
+  pub member-move : is_some found ≡ false →
+      option_map (start_in marks) (move_by (pairs marks) (own_role x) x.own.start (para_end x.above)) ≡ option_map (start_in marks) (move_of attribute_value (pairs marks) x)
+  member-move e =
+      let m = move_of_marker attribute_value (pairs marks) x in
+      ap (option_map (start_in marks))
+      (sym (member-here (pairs marks) x) ∙ sym (either-none m (move_of_member (pairs marks) (own_role x) x) (sym (is_some-map marks m) ∙ sym (ap is_some is) ∙ e)))
+
+-- ---- contexts
+
+pub context-inside : (at : ℕ) (tag : Tag) (kids : Nodes) (above : List Spot) →
+    inside_context tag (at + 1 + tags kids) (context_of above) ≡ context_of (spot at tag kids ∷ above)
+context-inside at tag kids above = refl
+
+pub context-root : (tag : Tag) (kids : Nodes) (around : Around) → around ≡ inside_of tag (around_of []) → is "p" tag ≡ false →
+    record { around = around; para_end = 0 } ≡ context_of (root_spots tag kids)
+context-root tag kids around is no_p =
+    ap (λ a. record { around = a; para_end = 0 }) is
+    ∙ ap (λ b. record { around = inside_of tag (around_of []); para_end = if b then 0 + 1 + tags kids else 0 }) (sym no_p)
+
+-- the root of a story is no paragraph
+pub root-no_p : (tag : Tag) → is_story_root tag ≡ true → is "p" tag ≡ false
+root-no_p tag root =
+    sym (or-none (is "p" tag))
+    ∙ is_any-apart ("document" ∷ "hdr" ∷ "ftr" ∷ "footnotes" ∷ "endnotes" ∷ "comments" ∷ []) ("p" ∷ []) tag root refl
+  where
+    or-none : (b : Bool) → (b || false) ≡ b
+    or-none true = refl
+    or-none false = refl
+
+-- ---- each kind has a name
+
+abbrev pub IsNamed : Kind → Type 0
+IsNamed kind = IfSome (kind_of kind) (λ kind. IsTrue (is_named kind))
+
+named-first : (first : Option Kind) (kinds : List (Option Kind)) → IfSome first IsNamed → IsNamed (first_role kinds) → IsNamed (first_role (first ∷ kinds))
+named-first None kinds h k = k
+named-first (Some kind) kinds h k = h
+
+named-placed : (holds : Bool) (kind : Option Kind) → IfSome kind IsNamed → IfSome (placed holds kind) IsNamed
+named-placed true kind h = h
+named-placed false kind h = tt
+
+named-content : (trace : Option Trace) → IfSome (option_map Content trace) IsNamed
+named-content None = tt
+named-content (Some trace) = refl
+
+named-mark : (trace : Option Trace) → IfSome (option_map Mark trace) IsNamed
+named-mark None = tt
+named-mark (Some trace) = refl
+
+named-row : (is_ins is_del : Bool) → IfSome (option_map Row (cond is_ins (Some Ins) (cond is_del (Some Del) None))) IsNamed
+named-row true is_del = refl
+named-row false true = refl
+named-row false false = tt
+
+named-cell : (is_ins is_del : Bool) → IfSome (option_map Cell (cond is_ins (Some Ins) (cond is_del (Some Del) None))) IsNamed
+named-cell true is_del = refl
+named-cell false true = refl
+named-cell false false = tt
+
+named-change : (here : Around) (prop : Option Prop) → IfSome (change_in here prop) IsNamed
+named-change here None = tt
+named-change here (Some prop) = named-placed (holds_change here prop) (Some (Change prop)) refl
+
+pub named-role_in : (here : Around) (tag : Tag) → IsNamed (role_in here tag)
+named-role_in here tag =
+    let content = option_map Content (trace_of tag) in
+    let mark = option_map Mark (trace_of tag) in
+    let row = option_map Row (row_trace_of tag) in
+    let cell = option_map Cell (cell_trace_of tag) in
+    let change = change_in here (prop_of tag) in
+    let cells = placed here.cell_props cell ∷ change ∷ [] in
+    let rows = placed here.row_props row ∷ cells in
+    let marks = placed here.mark_props mark ∷ rows in
+    named-first (placed (not here.quiet) content) marks (named-placed (not here.quiet) content (named-content (trace_of tag)))
+    (named-first (placed here.mark_props mark) rows (named-placed here.mark_props mark (named-mark (trace_of tag)))
+    (named-first (placed here.row_props row) cells (named-placed here.row_props row (named-row (is "ins" tag) (is "del" tag)))
+    (named-first (placed here.cell_props cell) (change ∷ []) (named-placed here.cell_props cell (named-cell (is "cellIns" tag) (is "cellDel" tag)))
+    (named-first change [] (named-change here (prop_of tag)) tt))))

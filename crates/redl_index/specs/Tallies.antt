@@ -1,0 +1,91 @@
+-- What has been found after some elements of a story, one element after the other.
+use Rattle.std.specs.Prelude.{ℕ, ◌+◌, ◌-◌, ◌^◌, ◌≡◌, nat_lt, nat_eq, List, [], ◌∷◌, ◌++◌, ◌==◌, ◌&&◌, not, Bool, set, slice_get, Option, Some, None, unwrap_or, length, if◌then◌else◌}
+use Rattle.indexmap.specs.IndexMap.{get}
+use Rattle.redl_tree.specs.Numbers.{Numbered, Numbering, number_of_move}
+use Rattle.redl_tree.specs.declared.kinds.Kind.{Kind}
+use Rattle.redl_opc.specs.declared.label.Label.{Label}
+use Rattle.redl_index.specs.Mentions.{Mention, Sight}
+use Rattle.redl_index.specs.Revisions.{revision_of}
+use Rattle.redl_index.specs.declared.revision.Revision.{Revision}
+use Rattle.redl_index.specs.declared.found.Found.{Found}
+
+-- the revisions so far, the labels of the elements so far, and the moves of the story that have a number
+pub record Tally : Type 0 where
+  pub index : List Revision
+  pub labels : List Label
+  pub moves : List Numbered
+
+abbrev pub next_number : Tally → ℕ
+next_number tally = 1 + length tally.index
+
+abbrev pub numbering_of : Tally → Numbering
+numbering_of tally = record { next = next_number tally; moves = tally.moves }
+
+-- the number that a move has so far
+abbrev pub known_number : List Numbered → Option ℕ → Option ℕ
+known_number moves None = None
+known_number moves (Some start) = number_of_move moves start
+
+abbrev pub with_move : Option ℕ → ℕ → List Numbered → List Numbered
+with_move None number moves = moves
+with_move (Some start) number moves = record { start = start; number = number } ∷ moves
+
+-- a revision with one member more, as far as 32 bits count
+abbrev pub with_one_more : Revision → Revision
+with_one_more revision = record revision { members = if nat_lt revision.members (2 ^ 32 - 1) then revision.members + 1 else revision.members }
+
+abbrev pub replaced : List Revision → ℕ → Option Revision → List Revision
+replaced index place None = index
+replaced index place (Some revision) = set index place (with_one_more revision)
+
+-- a further mention of the revision with this number, which counts as a member or not
+abbrev pub mentioned_again : Bool → ℕ → List Revision → List Revision
+mentioned_again counts number index =
+    if counts && not (number == 0) then replaced index (number - 1) (slice_get index (number - 1)) else index
+
+-- after a mention in this part: the first of its revision, or of the revision with this number
+abbrev pub mentioned : ℕ → Tally → Mention → Option ℕ → Tally
+mentioned part tally mention None = record {
+  index = tally.index ++ revision_of part (mention ∷ []) mention (next_number tally) ∷ [];
+  labels = tally.labels;
+  moves = with_move mention.move (next_number tally) tally.moves;
+}
+mentioned part tally mention (Some number) = record {
+  index = mentioned_again mention.counts number tally.index;
+  labels = tally.labels;
+  moves = tally.moves;
+}
+
+abbrev pub mentioned_by : ℕ → Tally → Mention → Tally
+mentioned_by part tally mention = mentioned part tally mention (known_number tally.moves mention.move)
+
+-- with the label of an element more
+abbrev pub labelled : Kind → ℕ → Tally → Tally
+labelled kind number tally = record {
+  index = tally.index;
+  labels = tally.labels ++ record { kind = kind; rev = number } ∷ [];
+  moves = tally.moves;
+}
+
+-- the number of the revision that is mentioned
+abbrev pub number_of : Tally → Mention → ℕ
+number_of tally mention = unwrap_or (known_number tally.moves mention.move) (next_number tally)
+
+-- after one element more, in this part
+abbrev pub noted_by : ℕ → Tally → Kind → Option Mention → Tally
+noted_by part tally kind None = labelled kind 0 tally
+noted_by part tally kind (Some mention) =
+    labelled kind (number_of tally mention) (mentioned_by part tally mention)
+
+abbrev pub noted : ℕ → Tally → Sight → Tally
+noted part tally sight = noted_by part tally sight.kind sight.mention
+
+abbrev pub noted_all : ℕ → Tally → List Sight → Tally
+noted_all part tally [] = tally
+noted_all part tally (sight ∷ sights) = noted_all part (noted part tally sight) sights
+
+-- what code has found is that
+pub record IsTally (found : Found) (tally : Tally) : Type 0 where
+  pub index : found.index ≡ tally.index
+  pub labels : found.labels.items ≡ tally.labels
+  pub moves : (start : ℕ) → get nat_eq found.moves start ≡ number_of_move tally.moves start

@@ -1,0 +1,113 @@
+//! One story: which move its elements are in.
+
+ghost use Rattle.std.specs.Prelude.{◌≡◌, List, find, option_map, slice_get, IfSome, IsTrue};
+ghost use Rattle.redl_tree.specs.Nodes.{Nodes};
+ghost use Rattle.redl_tree.specs.Moves.{pairs};
+ghost use Rattle.redl_tree.specs.Markers.{move_at, move_of, move_of_marker, whole_role};
+ghost use Rattle.redl_tree.specs.Seen.{Spot, seen_one, tags_of};
+ghost use Rattle.redl_tree.specs.View.{tag_of};
+ghost use Rattle.redl_tree.specs.Arounds.{around_of};
+ghost use Rattle.redl_stamp.specs.Attribute.{attribute_value};
+ghost use Rattle.redl_moves.specs.Standing.{IsApart};
+ghost use Rattle.redl_moves.specs.Starts.{start_in};
+ghost use Rattle.redl_markers.specs.Free.{IsFree};
+ghost use Rattle.redl_index.specs.Contexts.{context_of, move_by, IsApartAs, is_marker_by};
+ghost use Rattle.redl_index.specs.Kinds.{kind_of, is_named};
+ghost use Rattle.redl_index.specs.Mentions.{tail_of};
+ghost use Rattle.redl_index.specs.Stories.{tags_in};
+
+use crate::context::Context;
+use redl_moves::{Half, Moves, Start};
+use redl_stamp::has_attribute;
+use redl_tree::{Around, Elem, Kind, Trace, is_range_edge};
+
+/// A story whose markers are known: the number of its part, its moves, and the elements that are its markers.
+#[derive(Drop)]
+pub(crate) struct Story<'a> {
+    pub(crate) part: u32,
+    pub(crate) moves: Moves,
+    pub(crate) elems: Vec<&'a Elem>,
+}
+
+/// The kind of an element, and where the move starts that it is in.
+#[derive(Clone, Copy, Debug, PartialEq, Eq)]
+pub(crate) struct Sight {
+    pub(crate) kind: Kind,
+    pub(crate) start: Option<Start>,
+}
+
+impl<'a> Story<'a> {
+    /// The attributes of the marker at a place among the markers.
+    pub(crate) fn tail(&self, place: u32) -> &[u8]
+        ensures { result.now ≡ tail_of (slice_get (tags_in self.now) place) }
+    {
+        match self.elems.get(place as usize) {
+            Some(elem) => elem.tail.as_bytes(),
+            None => b"",
+        }
+    }
+
+    /// What an element is that has its start tag at this position.
+    pub(crate) fn sight(&self, elem: &Elem, here: Context, at: u64) -> Sight
+        ensures named { IfSome (kind_of result.kind) (λ named. IsTrue (is_named named)) }
+        ensures kind { (above : List Spot) (kids : Nodes) → here ≡ context_of above → IsFree self.now.moves (seen_one above at (tag_of elem.now) kids)
+            → result.kind ≡ whole_role attribute_value (pairs self.now.moves) (seen_one above at (tag_of elem.now) kids) }
+        ensures start { (above : List Spot) (kids : Nodes) → here ≡ context_of above → IsFree self.now.moves (seen_one above at (tag_of elem.now) kids)
+            → result.start ≡ option_map (start_in self.now.moves) (move_of attribute_value (pairs self.now.moves) (seen_one above at (tag_of elem.now) kids)) }
+    {
+        let marker = self.marker(elem, here.around, at);
+        if marker.is_some() {
+            return Sight {
+                kind: Kind::Marker,
+                start: marker,
+            };
+        }
+        let kind = here.around.role(elem);
+        Sight {
+            kind,
+            start: self.member(kind, at, here.para_end),
+        }
+    }
+
+    /// Where the move starts of which an element is a marker.
+    fn marker(&self, elem: &Elem, around: Around, at: u64) -> Option<Start>
+        ensures { (above : List Spot) (kids : Nodes) → around ≡ around_of (tags_of above)
+            → result ≡ option_map (start_in self.now.moves) (move_of_marker attribute_value (pairs self.now.moves) (seen_one above at (tag_of elem.now) kids)) }
+    {
+        if is_marker(elem, around) {
+            self.moves.at_marker(at)
+        } else {
+            None
+        }
+    }
+
+    /// Where the move starts of which an element with this role is a member. Content is where it starts, and the mark of a
+    /// paragraph where the paragraph ends.
+    fn member(&self, role: Kind, at: u64, para_end: u64) -> Option<Start>
+        ensures { IsApartAs self.now.moves role at para_end → result ≡ option_map (start_in self.now.moves) (move_by (pairs self.now.moves) role at para_end) }
+    {
+        match role {
+            Kind::Content(trace) => self.open_at(trace, at),
+            Kind::Mark(trace) => self.open_at(trace, para_end),
+            _ => None,
+        }
+    }
+
+    /// Where the move starts that something with this trace is in at this position.
+    fn open_at(&self, trace: Trace, at: u64) -> Option<Start>
+        ensures { IsApart at self.now.moves → result ≡ option_map (start_in self.now.moves) (move_at (pairs self.now.moves) trace at) }
+    {
+        match trace {
+            Trace::From => self.moves.open_at(Half::From, at),
+            Trace::To => self.moves.open_at(Half::To, at),
+            _ => None,
+        }
+    }
+}
+
+/// Whether an element is a marker of a move: an open edge of a range, with an `id`.
+fn is_marker(elem: &Elem, around: Around) -> bool
+    ensures { result ≡ is_marker_by around (tag_of elem.now) }
+{
+    !around.quiet && is_range_edge(elem) && has_attribute(elem.tail.as_bytes(), b"id")
+}

@@ -1,0 +1,119 @@
+//! Books by hand: their verdicts, their text whatever the order of the journals, and what a removal leaves.
+ghost use Rattle.std.specs.Prelude.{All, IfOk};
+ghost use Rattle.redl_journal.specs.Journals.{IsAllowed};
+
+use redl_io::{MemSink, Text};
+use redl_join::{Book, Verdict};
+use redl_journal::{Entry, Word, read};
+use std::alloc::{AllocError, Global};
+use std::test::Fail;
+
+const HEAD: &[u8] =
+    b"redline-journal 1\ndocument e3b0c44298fc1c149afbf4c8996fb92427ae41e4649b934ca495991b7852b855\nrevisions 3\n";
+
+// The entries of a journal with these lines.
+fn entries_of(alloc: Global, lines: &[u8]) -> Result<Vec<Entry>, Fail>
+    ensures { IfOk result (λ entries. All IsAllowed entries.items) }
+{
+    let mut text = Vec::from_slice(alloc, HEAD)?;
+    text.extend_from_slice(lines)?;
+    let journal = read(alloc, &text)?;
+    Ok(journal.entries)
+}
+
+// The book of the entries of journals with these lines.
+fn book_of(alloc: Global, journals: &[&[u8]]) -> Result<Book, Fail> {
+    let mut book = Book::new(alloc);
+    for lines in journals {
+        for entry in entries_of(alloc, lines)? {
+            book.add(entry)?;
+        }
+    }
+    Ok(book)
+}
+
+fn verdict_of(alloc: Global, lines: &[u8]) -> Result<Verdict, Fail> {
+    let book = book_of(alloc, &[lines])?;
+    Ok(book.verdict(1))
+}
+
+#[test]
+fn verdicts_of_small_books(rt: HostRuntime) -> Result<(), Fail> {
+    for (case, lines, want) in [
+        ("no entry", b"".as_slice(), Verdict::Undecided),
+        ("one accepts", b"1\t1\taccept\tAnn\n", Verdict::Accept),
+        (
+            "another revision",
+            b"1\t2\taccept\tAnn\n",
+            Verdict::Undecided,
+        ),
+        (
+            "two reviewers",
+            b"1\t1\taccept\tAnn\n1\t1\treject\tBob\n",
+            Verdict::Disputed,
+        ),
+        (
+            "older word",
+            b"2\t1\treject\tAnn\n1\t1\taccept\tAnn\n",
+            Verdict::Reject,
+        ),
+        (
+            "withdrawn",
+            b"1\t1\taccept\tAnn\n2\t1\twithdraw\tAnn\n",
+            Verdict::Undecided,
+        ),
+    ] {
+        let verdict = verdict_of(rt.alloc(), lines)?;
+        assert!(rt; verdict == want, "{case}: {verdict:?}");
+    }
+    Ok(())
+}
+
+// Whether the book is written as this text.
+fn has_text(alloc: Global, book: &Book, text: &[u8]) -> Result<bool, AllocError> {
+    let mut sink = MemSink::new(alloc, 2_000, Vec::new(alloc))?;
+    let answer = book.write(&[0; 32], 3, &mut sink);
+    Ok(answer.is_ok() && sink.bytes() == text)
+}
+
+#[test]
+fn journals_join_in_any_order(rt: HostRuntime) -> Result<(), Fail> {
+    let first = b"2\t1\treject\tBob\n1\t2\taccept\tAnn\n".as_slice();
+    let second = b"1\t1\taccept\tBob\n2\t1\treject\tBob\n".as_slice();
+    let text =
+        b"redline-journal 1\ndocument 0000000000000000000000000000000000000000000000000000000000000000\nrevisions 3\n1\t2\taccept\tAnn\n1\t1\taccept\tBob\n2\t1\treject\tBob\n";
+    for journals in [[first, second, first], [second, first, second]] {
+        let book = book_of(rt.alloc(), &journals)?;
+        assert!(rt; has_text(rt.alloc(), &book, text)?);
+    }
+    Ok(())
+}
+
+// Removes the entry. Gives whether it was there, Bob's greatest seq, the verdict on revision 1, and the number of entries.
+fn after_removal(book: &mut Book, entry: &Entry) -> (bool, u32, Verdict, u64, usize) {
+    let was_there = book.remove(entry);
+    (
+        was_there,
+        book.greatest(b"Bob"),
+        book.verdict(1),
+        book.len(),
+        book.entries().count(),
+    )
+}
+
+#[test]
+fn a_removed_entry_no_longer_counts(rt: HostRuntime) -> Result<(), Fail> {
+    let lines = b"1\t1\taccept\tAnn\n1\t1\taccept\tBob\n2\t1\treject\tBob\n".as_slice();
+    let mut book = book_of(rt.alloc(), &[lines])?;
+    let entry = Entry {
+        reviewer: Text::copy_of(rt.alloc(), b"Bob")?,
+        seq: 2,
+        rev: 1,
+        word: Word::Reject,
+    };
+    for was_there in [true, false] {
+        let found = after_removal(&mut book, &entry);
+        assert!(rt; found == (was_there, 1, Verdict::Accept, 2, 2), "{found:?}");
+    }
+    Ok(())
+}

@@ -1,0 +1,140 @@
+//! Tables of journals by hand: texts that are no journal, texts that are written again as they were read, and one journal's
+//! entries field by field. README, "A journal", describes the form.
+use redl_io::MemSink;
+use redl_journal::{Entry, JournalError, Word, read, write};
+use std::alloc::{AllocError, Global};
+use std::test::Fail;
+
+const TITLE: &[u8] = b"redline-journal 1\ndocument ";
+
+const ZEROS: &[u8] = b"0000000000000000000000000000000000000000000000000000000000000000";
+
+// The SHA-256 of the empty text.
+const EMPTY: &[u8] = b"e3b0c44298fc1c149afbf4c8996fb92427ae41e4649b934ca495991b7852b855";
+
+// The same in upper case, which no journal has.
+const UPPER: &[u8] = b"E3B0C44298FC1C149AFBF4C8996FB92427AE41E4649B934CA495991B7852B855";
+
+const COUNT: &[u8] = b"\nrevisions 3\n";
+
+// The text of these parts, one after another.
+fn text_of(alloc: Global, parts: &[&[u8]]) -> Result<Vec<u8>, AllocError> {
+    let mut text = Vec::new(alloc);
+    for part in parts {
+        text.extend_from_slice(part)?;
+    }
+    Ok(text)
+}
+
+fn is_malformed(alloc: Global, parts: &[&[u8]]) -> Result<bool, AllocError> {
+    let text = text_of(alloc, parts)?;
+    Ok(read(alloc, &text).err() == Some(JournalError::Malformed))
+}
+
+#[test]
+fn heads_of_no_journal_are_refused(rt: HostRuntime) -> Result<(), Fail> {
+    for (fault, parts) in [
+        ("nothing", [b"".as_slice(), b"".as_slice(), b"".as_slice()]),
+        ("version 2", [b"redline-journal 2\ndocument ", ZEROS, COUNT]),
+        ("no title", [b"document ", ZEROS, COUNT]),
+        ("63 digits", [TITLE, &ZEROS[1..], COUNT]),
+        ("upper-case digits", [TITLE, UPPER, COUNT]),
+        ("count 03", [TITLE, ZEROS, b"\nrevisions 03\n"]),
+        ("count 2^32", [TITLE, ZEROS, b"\nrevisions 4294967296\n"]),
+        ("cut count", [TITLE, ZEROS, b"\nrevisions 3"]),
+    ] {
+        assert!(rt; is_malformed(rt.alloc(), &parts)?, "{fault}");
+    }
+    Ok(())
+}
+
+#[test]
+fn lines_of_no_entry_are_refused(rt: HostRuntime) -> Result<(), Fail> {
+    for (fault, line) in [
+        ("no newline", b"1\t1\taccept\tAnn".as_slice()),
+        ("leading zero", b"01\t1\taccept\tAnn\n"),
+        ("plus", b"+1\t1\taccept\tAnn\n"),
+        ("revision past 4294967295", b"1\t4294967296\taccept\tAnn\n"),
+        ("seq 0", b"0\t1\taccept\tAnn\n"),
+        ("word in upper case", b"1\t1\tAccept\tAnn\n"),
+        ("empty reviewer", b"1\t1\taccept\t\n"),
+        ("byte 7F in the reviewer", b"1\t1\taccept\tA\x7fn\n"),
+        ("reviewer not UTF-8", b"1\t1\taccept\tA\xc3\n"),
+        ("carriage return", b"1\t1\taccept\tAnn\r\n"),
+        ("empty line", b"1\t1\taccept\tAnn\n\n"),
+        ("space for a tab", b"1 1\taccept\tAnn\n"),
+    ] {
+        assert!(rt;
+            is_malformed(rt.alloc(), &[TITLE, ZEROS, COUNT, line])?,
+            "{fault}"
+        );
+    }
+    Ok(())
+}
+
+// Whether the text has this number of entries and is written again as it was read.
+fn comes_back(alloc: Global, text: &[u8], entries: usize) -> Result<bool, Fail> {
+    let journal = read(alloc, text)?;
+    let mut sink = MemSink::new(alloc, 2_000, Vec::new(alloc))?;
+    let answer = write(&journal, &mut sink);
+    Ok(journal.entries.len() == entries && answer.is_ok() && sink.bytes() == text)
+}
+
+#[test]
+fn journals_are_written_as_they_were_read(rt: HostRuntime) -> Result<(), Fail> {
+    for (rest, entries) in [
+        (b"\nrevisions 0\n".as_slice(), 0),
+        (
+            b"\nrevisions 3\n1\t1\twithdraw\tAnn\n1\t1\twithdraw\tAnn\n1\t1\taccept\tAnn\n",
+            3,
+        ),
+        (
+            b"\nrevisions 9\n4294967295\t0\taccept\tCy & Co\n1\t4294967295\treject\tJ\xc3\xb6rg\n",
+            2,
+        ),
+    ] {
+        let text = text_of(rt.alloc(), &[TITLE, EMPTY, rest])?;
+        assert!(rt;
+            comes_back(rt.alloc(), &text, entries)?,
+            "{entries} entries"
+        );
+    }
+    Ok(())
+}
+
+// Whether a copy of the entry has these values.
+fn has_copy(
+    alloc: Global,
+    entry: &Entry,
+    seq: u32,
+    rev: u32,
+    word: Word,
+    reviewer: &[u8],
+) -> Result<bool, AllocError> {
+    let copy = entry.copy(alloc)?;
+    Ok(
+        copy.seq == seq
+            && copy.rev == rev
+            && copy.word == word
+            && copy.reviewer.as_bytes() == reviewer,
+    )
+}
+
+#[test]
+fn entries_are_read_field_by_field(rt: HostRuntime) -> Result<(), Fail> {
+    let rest = b"\nrevisions 300\n7\t205\treject\tBob\n12\t0\taccept\tAnn B\n";
+    let text = text_of(rt.alloc(), &[TITLE, EMPTY, rest])?;
+    let journal = read(rt.alloc(), &text)?;
+    let head = (journal.count, journal.digest[0], journal.digest[31]);
+    assert!(rt; head == (300, 0xe3, 0x55), "{head:?}");
+    for (entry, (seq, rev, word, reviewer)) in journal.entries.iter().zip([
+        (7, 205, Word::Reject, b"Bob".as_slice()),
+        (12, 0, Word::Accept, b"Ann B"),
+    ]) {
+        assert!(rt;
+            has_copy(rt.alloc(), entry, seq, rev, word, reviewer)?,
+            "{seq}"
+        );
+    }
+    Ok(())
+}

@@ -1,0 +1,80 @@
+use Rattle.std.proofs.Common.{◌∙◌, ℕ, ◌+◌, ap, arith, drop, ◌++◌, ◌∷◌, set, if◌then◌else◌, List, filter_map, map}
+use Rattle.redl_tree.specs.Names.{is}
+use Rattle.redl_tree.specs.declared.node.Node.{Node}
+use Rattle.redl_markers.specs.Ends.{ends_from}
+use Rattle.redl_markers.specs.Trails.{inside_trail}
+use Rattle.redl_markers.specs.Walks.{marker_by, tag_by, element_ends}
+use Rattle.redl_tree.specs.View.{nodes_of, item_of, tag_of, kids_of}
+use Rattle.redl_tree.specs.Seen.{spot, tags, seen_from}
+use Rattle.redl_tree.proofs.Laws.{nodes_here}
+use Rattle.redl_tree.specs.Markers.{marker_of}
+use Rattle.redl_stamp.specs.Attribute.{attribute_value}
+use Rattle.redl_markers.specs.Found.{marker_tag}
+use Rattle.redl_moves.specs.Marks.{markings}
+use Rattle.redl_markers.proofs.WalkLaws.{tags-step, ends-step, seen-step, ends-element, seen-element}
+use Rattle.redl_markers.proofs.markers.+markers.Goals as goal
+
+pub find_in_elem-returns-clause-ends : goal.find_in_elem-returns-clause-ends
+find_in_elem-returns-clause-ends t c =
+    let at = c.args.at in
+    let end = c.in_ok-end.end in
+    let tag = tag_of c.args.elem.now in
+    let kids = kids_of c.args.elem.now in
+    let old = c.add_marker.new.self.ends.items in
+    let all = c.find_in_nodes.new.found.ends.items in
+    c.mend_end.ensures
+    ∙ ap (λ place. if is "p" tag then set all place end else all) (omega (arith, c.add_marker.new.self.ends.ok.0))
+    ∙ ends-element at end tag kids old c.note_end.new.ends.items all c.in_ok-note_end.ensures
+    (c.in_ok-end.ensures.ends ∙ ap (λ (ns : List Node). c.note_end.new.ends.items ++ ends_from (at + 1) (nodes_of ns)) c.deref.ensures.value)
+    (c.in_ok-end.ensures.after ∙ ap (λ (ns : List Node). (at + 1) + tags (nodes_of ns)) c.deref.ensures.value)
+    ∙ ap (λ (xs : List ℕ). xs ++ element_ends at tag kids) c.in_ok-add_marker.ensures.ends
+
+pub find_in_elem-returns-clause-marks : goal.find_in_elem-returns-clause-marks
+find_in_elem-returns-clause-marks t c = λ above is.
+    let at = c.args.at in
+    let tag = tag_of c.args.elem.now in
+    let kids = kids_of c.args.elem.now in
+    let mid = markings c.add_marker.new.self.marks.items in
+    seen-element (marker_of attribute_value) above at tag kids (marker_by c.args.trail at tag)
+    (markings c.args.found.now.marks.items) mid (markings c.find_in_nodes.new.found.marks.items)
+    (ap (λ trail. marker_by trail at tag) is) c.in_ok-add_marker.ensures.marks
+    (c.in_ok-end.ensures.marks (spot at tag kids ∷ above) (c.inside.ensures ∙ ap (inside_trail tag kids) is)
+    ∙ ap (λ (ns : List Node). mid ++ filter_map (marker_of attribute_value) (seen_from (spot at tag kids ∷ above) (at + 1) (nodes_of ns))) c.deref.ensures.value)
+
+pub find_in_elem-returns-clause-elems : goal.find_in_elem-returns-clause-elems
+find_in_elem-returns-clause-elems t c = λ above is.
+    let at = c.args.at in
+    let tag = tag_of c.args.elem.now in
+    let kids = kids_of c.args.elem.now in
+    let mid = map (λ elem. tag_of elem.now) c.add_marker.new.self.elems.items in
+    seen-element marker_tag above at tag kids (tag_by c.args.trail at tag)
+    (map (λ elem. tag_of elem.now) c.args.found.now.elems.items) mid (map (λ elem. tag_of elem.now) c.find_in_nodes.new.found.elems.items)
+    (ap (λ trail. tag_by trail at tag) is) c.in_ok-add_marker.ensures.elems
+    (c.in_ok-end.ensures.elems (spot at tag kids ∷ above) (c.inside.ensures ∙ ap (inside_trail tag kids) is)
+    ∙ ap (λ (ns : List Node). mid ++ filter_map marker_tag (seen_from (spot at tag kids ∷ above) (at + 1) (nodes_of ns))) c.deref.ensures.value)
+
+pub find_in_nodes-loop-node-preserved : goal.find_in_nodes-loop-node-preserved
+find_in_nodes-loop-node-preserved t c =
+    let nodes = c.args.nodes.now in
+    let i = c.loop-node.node-index in
+    let x = c.node-item.result in
+    let at = c.loop-node.at in
+    let next = c.in_ok-at.at in
+    let rest = nodes_of (drop (i + 1) nodes) in
+    let left = nodes_of (drop i nodes) in
+    let here = nodes_here nodes i x (omega (arith, c.loop-node-test.true)) c.node-item.is in
+    record {
+      after = tags-step at next (item_of x) rest left c.in_ok-at.ensures.after here ∙ c.loop-node.invariant.after;
+      ends =
+          ends-step at next (item_of x) rest left c.in_ok-at.ensures.after here c.loop-node.found.ends.items c.find_in_node.new.found.ends.items c.in_ok-at.ensures.ends
+          ∙ c.loop-node.invariant.ends;
+      marks = λ above is.
+          seen-step at next (item_of x) rest left c.in_ok-at.ensures.after here (marker_of attribute_value) above
+          (markings c.loop-node.found.marks.items) (markings c.find_in_node.new.found.marks.items) (c.in_ok-at.ensures.marks above is)
+          ∙ c.loop-node.invariant.marks above is;
+      elems = λ above is.
+          seen-step at next (item_of x) rest left c.in_ok-at.ensures.after here marker_tag above
+          (map (λ elem. tag_of elem.now) c.loop-node.found.elems.items) (map (λ elem. tag_of elem.now) c.find_in_node.new.found.elems.items)
+          (c.in_ok-at.ensures.elems above is)
+          ∙ c.loop-node.invariant.elems above is;
+    }

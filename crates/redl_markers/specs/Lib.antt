@@ -1,0 +1,5 @@
+pub mod Found
+pub mod Free
+pub mod Ends
+pub mod Trails
+pub mod Walks

@@ -1,0 +1,10 @@
+pub mod PlaceLaws
+pub mod TableLaws
+pub mod PairLaws
+pub mod OpenLaws
+pub mod StandingLaws
+pub mod BeforeLaws
+pub mod AgainLaws
+pub mod ThereLaws
+pub mod OwnerLaws
+pub mod StoryLaws

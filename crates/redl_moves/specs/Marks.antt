@@ -1,0 +1,29 @@
+-- Markers as the definitions of moves see them.
+use Rattle.std.specs.Prelude.{ℕ, ◌+◌, ◌≤◌, List, [], ◌∷◌, map}
+use Rattle.redl_tree.specs.Moves.{Edge, from_start, from_end, to_start, to_end, Marking}
+use Rattle.redl_tree.specs.Moves as moves
+use Rattle.redl_moves.specs.declared.marker.Marker.{Marker}
+use Rattle.redl_moves.specs.declared.marker.MarkerKind.{MarkerKind}
+use Rattle.redl_moves.specs.declared.marker.MarkerKind.TheVariants.{FromStart, FromEnd, ToStart, ToEnd}
+use Rattle.redl_moves.specs.declared.marker.Move.{Move}
+
+abbrev pub edge_of : MarkerKind → Edge
+edge_of FromStart = from_start
+edge_of FromEnd = from_end
+edge_of ToStart = to_start
+edge_of ToEnd = to_end
+
+abbrev pub marking_of : Marker → Marking
+marking_of mark = record { edge = edge_of mark.kind; id = mark.id; name = mark.name; at = mark.at; loose = mark.loose }
+
+abbrev pub markings : List Marker → List Marking
+markings marks = map marking_of marks
+
+-- a move as the definitions see it
+abbrev pub move_of : Move → moves.Move
+move_of m = record { from_start = m.from_start; from_end = m.from_end; to_start = m.to_start; to_end = m.to_end }
+
+-- the positions of markers rise along the list, from this one on
+abbrev pub RisesFrom : ℕ → List Marking → Type 0
+RisesFrom at [] = Unit {0}
+RisesFrom at (mark ∷ marks) = (at ≤ mark.at) × RisesFrom (mark.at + 1) marks

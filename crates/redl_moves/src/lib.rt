@@ -1,0 +1,24 @@
+//! Moves: which markers of a story belong together, and which move a position lies in.
+//!
+//! Read `Moves` first. It takes the markers of one story in the order of their positions, pairs them, and then answers, without
+//! memory, which move a marker is of and which move is open at a position (ECMA-376 Part 1, 17.13.5.23 to 17.13.5.28; that
+//! ranges are paired by their names is our own rule).
+//! `pair` alone lists the paired moves. Finding the markers of a story is left to the crates above.
+#![tactic(auto)]
+
+mod before;
+mod marker;
+mod moves;
+mod opens;
+mod owners;
+mod pairing;
+mod side;
+mod start;
+mod table;
+mod tables;
+
+pub use marker::{Marker, MarkerKind, Move};
+pub use moves::Moves;
+pub use opens::Half;
+pub use pairing::pair;
+pub use start::Start;

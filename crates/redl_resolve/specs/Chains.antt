@@ -1,0 +1,68 @@
+-- What is made of a list so far, together with the pieces that are left.
+use Rattle.std.specs.Prelude.{◌≡◌, ℕ, ◌+◌, List, ◌∷◌, ◌++◌, false, if◌then◌else◌}
+use Rattle.redl_tree.specs.Count.{count}
+use Rattle.redl_tree.specs.Groups.{Piece, grouped}
+use Rattle.redl_tree.specs.Nodes.{Tag, Nodes, no_nodes, bytes, element, ◌⊕◌, Item, bytes_item, element_item}
+use Rattle.redl_tree.specs.Groups.{thin, para}
+use Rattle.redl_tree.specs.Fates.{renamed}
+use Rattle.redl_tree.specs.Tables.{para_is_cut, goes_at}
+use Rattle.redl_tables.specs.Lines.{item_found, elem_found}
+use Rattle.redl_tables.specs.declared.owned.Finding.{Finding}
+use Rattle.redl_tables.specs.declared.questions.Question.{Question}
+use Rattle.redl_tree.specs.Pass.{pass, piece, element_pass, kept_kids}
+use Rattle.redl_tree.specs.View.{nodes_of}
+use Rattle.redl_tree.specs.declared.kinds.Say.{Say}
+use Rattle.redl_paras.specs.Pieces.{pieces_of}
+use Rattle.redl_resolve.specs.Counts.{pieces_count}
+use Rattle.redl_resolve.specs.Rounds.{round_of}
+use Rattle.redl_resolve.specs.declared.made.Made.{Made}
+use Rattle.redl_resolve.specs.declared.rounds.Round.{Round}
+
+-- the list that is made, if these pieces are still to come
+abbrev pub whole : Made → List Piece → Nodes
+whole made rest = nodes_of made.passed.items ⊕ grouped false (pieces_of made.chain.items ++ rest)
+
+-- how many nodes are in it
+abbrev pub weight : Made → ℕ
+weight made = count (nodes_of made.passed.items) + pieces_count (pieces_of made.chain.items)
+
+-- One more piece is added, whatever comes after it.
+abbrev pub AddsPiece : Made → Made → Piece → Type 0
+AddsPiece old new piece = (rest : List Piece) → whole new rest ≡ whole old (piece ∷ rest)
+
+-- the same for a piece that depends on the ancestors, where this is their summary
+abbrev pub Adds : List Say → Round → Made → Made → (List Tag → Piece) → Type 0
+Adds says round old new piece = (around : List Tag) → round ≡ round_of says around → AddsPiece old new (piece around)
+
+-- the piece of an element in its list
+abbrev pub elem_piece : List Say → List Tag → Tag → Nodes → Piece
+elem_piece says around tag kids = piece says around tag kids (pass says (tag ∷ around) kids)
+
+-- the piece of a node in its list
+abbrev pub item_piece : List Say → List Tag → Item → Piece
+item_piece says around (bytes_item b) = thin (bytes b no_nodes)
+item_piece says around (element_item tag kids) = elem_piece says around tag kids
+
+-- the piece of a paragraph in a block list
+abbrev pub para_piece : List Say → List Tag → Tag → Nodes → Piece
+para_piece says around tag kids =
+    para (renamed says around tag) (para_is_cut says kids) (kept_kids says around tag kids (pass says (tag ∷ around) kids))
+
+-- the piece of any other element, once no paragraph before it can be joined
+abbrev pub other_piece : List Say → List Tag → Tag → Nodes → Piece
+other_piece says around tag kids = thin (element_pass says around tag kids (pass says (tag ∷ around) kids))
+
+-- the same of an element that is left
+abbrev pub left_piece : List Say → List Tag → Tag → Nodes → Piece
+left_piece says around tag kids =
+    thin (if goes_at says around tag kids
+    then no_nodes
+    else element (renamed says around tag) (kept_kids says around tag kids (pass says (tag ∷ around) kids)) no_nodes)
+
+-- the answer of a node
+abbrev pub item_answer : List Say → Question → Item → Finding
+item_answer says here x = item_found here.unit says here.reach x
+
+-- the answer of an element
+abbrev pub elem_answer : List Say → Question → Tag → Nodes → Finding
+elem_answer says here tag kids = elem_found here.unit says here.reach tag kids

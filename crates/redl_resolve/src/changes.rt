@@ -1,0 +1,144 @@
+//! A rejected change of properties, and the former properties that it gives back.
+
+ghost use Rattle.std.specs.Prelude.{◌≡◌, ◌+◌, IfOk};
+ghost use Rattle.redl_resolve.specs.Changes.{former_of, elem_rejected, item_rejected, copies_of, item_former, present_in, after_in};
+ghost use Rattle.redl_resolve.specs.Counts.{former_count};
+ghost use Rattle.redl_tree.specs.Names.{named};
+ghost use Rattle.redl_tree.specs.Places.{props_name};
+ghost use Rattle.redl_tree.specs.Restored.{rejected as rejected_by, former_kids};
+ghost use Rattle.redl_tree.specs.View.{nodes_of, item_of, tag_of, kids_of};
+
+use crate::rounds::Round;
+use crate::steps::Steps;
+use redl_props::{restore, without_marks};
+use redl_tables::fate_of;
+use redl_tree::{Elem, Fate, Kind, Node, Prop, Say, copy_nodes, is_named};
+use std::alloc::{AllocError, Global};
+use std::sync::ledger::Ledger;
+
+/// A change of properties that is rejected.
+#[derive(Drop)]
+pub(crate) struct Former {
+    /// Which properties were changed.
+    pub prop: Prop,
+    /// What they held before.
+    pub kids: Vec<Node>,
+}
+
+/// The first rejected change among some kids, copied before the kids are passed.
+pub(crate) fn rejected(
+    alloc: Global,
+    kids: &[Node],
+    says: &[Say],
+) -> Result<Option<Former>, AllocError>
+    ensures { IfOk result (λ found. former_of found ≡ rejected_by says.now (nodes_of kids.now)) }
+{
+    for kid in kids {
+        if let Some(former) = rejected_node(alloc, kid, says)? {
+            return Ok(Some(former));
+        }
+    }
+    Ok(None)
+}
+
+fn rejected_node(alloc: Global, node: &Node, says: &[Say]) -> Result<Option<Former>, AllocError>
+    ensures { IfOk result (λ found. former_of found ≡ item_rejected says.now (item_of node.now)) }
+{
+    match node {
+        Node::Elem(elem) => rejected_elem(alloc, elem, says),
+        Node::Bytes(_) => Ok(None),
+    }
+}
+
+fn rejected_elem(alloc: Global, elem: &Elem, says: &[Say]) -> Result<Option<Former>, AllocError>
+    ensures { IfOk result (λ found. former_of found ≡ elem_rejected says.now (tag_of elem.now) (kids_of elem.now)) }
+{
+    if fate_of(says, elem) != Fate::Restore {
+        return Ok(None);
+    }
+    match elem.kind {
+        Kind::Change(prop) => Ok(Some(Former {
+            prop,
+            kids: copy_former(alloc, &elem.kids, prop)?,
+        })),
+        _ => Ok(None),
+    }
+}
+
+// Copies of what the former properties among the kids of a change hold.
+fn copy_former(alloc: Global, kids: &[Node], prop: Prop) -> Result<Vec<Node>, AllocError>
+    ensures { IfOk result (λ copies. nodes_of copies.items ≡ former_kids (props_name prop) (nodes_of kids.now)) }
+{
+    for kid in kids {
+        if let Some(copies) = copy_if_former(alloc, kid, prop)? {
+            return Ok(copies);
+        }
+    }
+    Ok(Vec::new(alloc))
+}
+
+fn copy_if_former(alloc: Global, node: &Node, prop: Prop) -> Result<Option<Vec<Node>>, AllocError>
+    ensures { IfOk result (λ copies. copies_of copies ≡ item_former (props_name prop) (item_of node.now)) }
+{
+    match node {
+        Node::Elem(elem) => {
+            if is_former(elem, prop) {
+                return Ok(Some(copy_nodes(alloc, &elem.kids)?));
+            }
+            Ok(None)
+        }
+        Node::Bytes(_) => Ok(None),
+    }
+}
+
+// Whether an element has the name of these properties.
+fn is_former(elem: &Elem, prop: Prop) -> bool
+    ensures { result ≡ named (props_name prop) (tag_of elem.now) }
+{
+    match prop {
+        Prop::Run => is_named(elem, b"rPr"),
+        Prop::Para => is_named(elem, b"pPr"),
+        Prop::Sect => is_named(elem, b"sectPr"),
+        Prop::Table => is_named(elem, b"tblPr"),
+        Prop::Except => is_named(elem, b"tblPrEx"),
+        Prop::Row => is_named(elem, b"trPr"),
+        Prop::Cell => is_named(elem, b"tcPr"),
+    }
+}
+
+/// The passed kids of an element, with the properties of a rejected change given back. A step is counted for each node
+/// that is given back.
+pub(crate) fn after_change<L: Ledger>(
+    alloc: Global,
+    former: Option<Former>,
+    elem: &Elem,
+    passed: Vec<Node>,
+    round: Round,
+    steps: &mut Steps<L>,
+) -> Result<Vec<Node>, AllocError>
+    ensures kids { IfOk result (λ kids. nodes_of kids.items ≡ after_in round (tag_of elem.now) (former_of former) (nodes_of passed.items)) }
+    ensures steps { steps.new ≡ steps.old + former_count (former_of former) }
+{
+    match former {
+        Some(former) => {
+            steps.tick_each(&former.kids);
+            restore(
+                alloc,
+                present(elem, passed, round),
+                &former.kids,
+                former.prop,
+            )
+        }
+        None => Ok(passed),
+    }
+}
+
+// What a change may leave of the passed kids: of all `rPr` only that of a paragraph's mark has revisions to keep.
+fn present(elem: &Elem, kids: Vec<Node>, round: Round) -> Vec<Node>
+    ensures { nodes_of result.items ≡ present_in round (tag_of elem.now) (nodes_of kids.items) }
+{
+    if is_named(elem, b"rPr") && !round.para_props {
+        return without_marks(kids);
+    }
+    kids
+}

@@ -1,0 +1,69 @@
+//! Calls of the program over files in memory.
+
+ghost use Rattle.std.specs.Prelude.{IfOk, All, IsUtf8};
+
+use redl_app::{Status, add_word, run};
+use redl_io::{MemShelf, MemSink, Text};
+use std::alloc::{AllocError, Global};
+
+/// What a call came to: its status, what was written, and the lines on standard error.
+#[derive(Drop)]
+pub struct Answer {
+    pub status: Status,
+    pub written: MemSink,
+    pub lines: MemSink,
+}
+
+// The most bytes that a call of a row writes.
+const ROOM: usize = 20_000;
+
+/// The answer of a call with the words of this line over these files.
+pub fn call(alloc: Global, line: &str, files: Vec<(Text, Vec<u8>)>) -> Result<Answer, AllocError> {
+    let words = words_of(alloc, line)?;
+    let mut written = MemSink::new(alloc, ROOM, Vec::new(alloc))?;
+    let mut lines = MemSink::new(alloc, ROOM, Vec::new(alloc))?;
+    let mut shelf = MemShelf::new(files, Vec::new(alloc));
+    let status = run(alloc, &words, &mut shelf, &mut written, &mut lines);
+    Ok(Answer {
+        status,
+        written,
+        lines,
+    })
+}
+
+// The words of a line, with one space between two.
+fn words_of(alloc: Global, line: &str) -> Result<Vec<Text>, AllocError>
+    ensures { IfOk result (λ words. All IsUtf8 words.items) }
+{
+    let mut words = Vec::new(alloc);
+    for word in line.split(' ') {
+        add_word(alloc, &mut words, word)?;
+    }
+    Ok(words)
+}
+
+/// The answer of a call over this package alone.
+pub fn call_over(alloc: Global, line: &str, package: &[u8]) -> Result<Answer, AllocError> {
+    let files = only_package(alloc, package)?;
+    call(alloc, line, files)
+}
+
+/// The package of this text, as the only file.
+pub fn only_package(alloc: Global, package: &[u8]) -> Result<Vec<(Text, Vec<u8>)>, AllocError> {
+    let mut files = Vec::new(alloc);
+    add_file(alloc, &mut files, "P", package)?;
+    Ok(files)
+}
+
+/// Adds a file with this name and this text.
+pub fn add_file(
+    alloc: Global,
+    files: &mut Vec<(Text, Vec<u8>)>,
+    name: &str,
+    text: &[u8],
+) -> Result<(), AllocError> {
+    let name = Text::copy_of(alloc, name.as_bytes())?;
+    let text = text.to_vec(alloc)?;
+    files.push((name, text))?;
+    Ok(())
+}

@@ -1,0 +1,85 @@
+//! The names that stand for longer texts in rows.
+
+use std::alloc::{AllocError, Global};
+
+/// What stands before the body of a package with one part, and behind it.
+pub const FRONT: &str = "{package}{document}";
+
+pub const BACK: &str = "{/document}{/package}";
+
+// Each name and its text. A text that holds another one comes first.
+const NAMES: [(&str, &str); 19] = [
+    (
+        "{A}",
+        " w:id=\"1\" w:author=\"Ann\" w:date=\"2024-05-06T07:08:09Z\"",
+    ),
+    (
+        "{B}",
+        " w:id=\"2\" w:author=\"Bob\" w:date=\"2024-05-06T09:08:10+02:00\"",
+    ),
+    ("{C}", " w:id=\"3\" w:author=\"Cy &amp; Co\""),
+    (
+        "{package}",
+        "<?xml version=\"1.0\" encoding=\"UTF-8\"?><pkg:package xmlns:pkg=\"http://schemas.microsoft.com/office/2006/xmlPackage\">",
+    ),
+    ("{/package}", "</pkg:package>"),
+    (
+        "{document}",
+        "<pkg:part pkg:name=\"/word/document.xml\" pkg:contentType=\"application/vnd.openxmlformats-officedocument.wordprocessingml.document.main+xml\"><pkg:xmlData><w:document xmlns:w=\"http://schemas.openxmlformats.org/wordprocessingml/2006/main\"><w:body>",
+    ),
+    (
+        "{/document}",
+        "</w:body></w:document></pkg:xmlData></pkg:part>",
+    ),
+    (
+        "{header}",
+        "<pkg:part pkg:name=\"/word/header1.xml\" pkg:contentType=\"application/vnd.openxmlformats-officedocument.wordprocessingml.header+xml\"><pkg:xmlData><w:hdr xmlns:w=\"http://schemas.openxmlformats.org/wordprocessingml/2006/main\">",
+    ),
+    ("{/header}", "</w:hdr></pkg:xmlData></pkg:part>"),
+    (
+        "{footer}",
+        "<pkg:part pkg:name=\"/word/footer1.xml\" pkg:contentType=\"application/vnd.openxmlformats-officedocument.wordprocessingml.footer+xml\"><pkg:xmlData><w:ftr xmlns:w=\"http://schemas.openxmlformats.org/wordprocessingml/2006/main\">",
+    ),
+    ("{/footer}", "</w:ftr></pkg:xmlData></pkg:part>"),
+    (
+        "{footnotes}",
+        "<pkg:part pkg:name=\"/word/footnotes.xml\" pkg:contentType=\"application/vnd.openxmlformats-officedocument.wordprocessingml.footnotes+xml\"><pkg:xmlData><w:footnotes xmlns:w=\"http://schemas.openxmlformats.org/wordprocessingml/2006/main\">",
+    ),
+    ("{/footnotes}", "</w:footnotes></pkg:xmlData></pkg:part>"),
+    (
+        "{endnotes}",
+        "<pkg:part pkg:name=\"/word/endnotes.xml\" pkg:contentType=\"application/vnd.openxmlformats-officedocument.wordprocessingml.endnotes+xml\"><pkg:xmlData><w:endnotes xmlns:w=\"http://schemas.openxmlformats.org/wordprocessingml/2006/main\">",
+    ),
+    ("{/endnotes}", "</w:endnotes></pkg:xmlData></pkg:part>"),
+    (
+        "{comments}",
+        "<pkg:part pkg:name=\"/word/comments.xml\" pkg:contentType=\"application/vnd.openxmlformats-officedocument.wordprocessingml.comments+xml\"><pkg:xmlData><w:comments xmlns:w=\"http://schemas.openxmlformats.org/wordprocessingml/2006/main\">",
+    ),
+    ("{/comments}", "</w:comments></pkg:xmlData></pkg:part>"),
+    ("{n}", "\n"),
+    ("{r}", "\r"),
+];
+
+/// The text with what its names stand for.
+pub fn spell_out(alloc: Global, text: &str) -> Result<String, AllocError> {
+    let mut whole = String::from_str(alloc, text)?;
+    for (name, long) in NAMES {
+        whole = whole.replace(alloc, name, long)?;
+    }
+    Ok(whole)
+}
+
+/// The text with names in it, and only the body where all else is that of a package with one part.
+pub fn name_parts(alloc: Global, text: &str) -> Result<String, AllocError> {
+    let mut named = String::from_str(alloc, text)?;
+    for (name, long) in NAMES {
+        named = named.replace(alloc, long, name)?;
+    }
+    let body = named
+        .strip_prefix(FRONT)
+        .and_then(|rest| rest.strip_suffix(BACK));
+    match body {
+        Some(body) => String::from_str(alloc, body),
+        None => Ok(named),
+    }
+}

@@ -1,0 +1,125 @@
+//! A row: its call, and what is printed of it.
+
+use crate::calls::{Answer, add_file, call, call_over, only_package};
+use crate::names::{BACK, FRONT, name_parts, spell_out};
+use redl_io::{MemSink, Text};
+use sha2::{Digest, Sha256};
+use std::alloc::{AllocError, Global};
+use std::str;
+
+/// What is printed of a row: its title, what its call comes to, and an empty line.
+pub fn print_row(alloc: Global, row: &str) -> Result<String, AllocError> {
+    let mut printed = String::new(alloc);
+    for line in row.lines().filter(|line| line.starts_with('#')) {
+        print_line(&mut printed, line)?;
+    }
+    if let Some(words) = field(row, "words") {
+        print_calls(alloc, row, words, &mut printed)?;
+    }
+    print_line(&mut printed, "")?;
+    Ok(printed)
+}
+
+fn print_line(printed: &mut String, line: &str) -> Result<(), AllocError> {
+    printed.push_str(line)?;
+    printed.push('\n')
+}
+
+// Prints what the call with these words comes to, and the row's second call.
+fn print_calls(
+    alloc: Global,
+    row: &str,
+    words: &str,
+    printed: &mut String,
+) -> Result<(), AllocError> {
+    let package = package_of(alloc, row)?;
+    let files = files_of(alloc, row, words, package.as_bytes())?;
+    let first = call(alloc, words, files)?;
+    print_answer(alloc, &first, printed)?;
+    if let Some(words) = field(row, "again") {
+        let again = call_over(alloc, words, first.written.bytes())?;
+        print_answer(alloc, &again, printed)?;
+    }
+    Ok(())
+}
+
+// The rest of the row's line that begins with this name and a colon.
+fn field<'a>(row: &'a str, name: &str) -> Option<&'a str> {
+    row.lines().find_map(|line| line
+        .strip_prefix(name)
+        .and_then(|rest| rest.strip_prefix(": ")))
+}
+
+// The text of the row's package.
+fn package_of(alloc: Global, row: &str) -> Result<String, AllocError> {
+    match field(row, "text") {
+        Some(text) => spell_out(alloc, text),
+        None => {
+            let body = field(row, "P").unwrap_or("");
+            spell_out(alloc, format!(in alloc; "{FRONT}{body}{BACK}")?.as_str())
+        }
+    }
+}
+
+// The package, and the journals that the words name.
+fn files_of(
+    alloc: Global,
+    row: &str,
+    words: &str,
+    package: &[u8],
+) -> Result<Vec<(Text, Vec<u8>)>, AllocError> {
+    let mut files = only_package(alloc, package)?;
+    for name in words.split(' ').filter(|name| *name != "P") {
+        if let Some(entries) = field(row, name) {
+            let journal = journal_of(alloc, row, package, entries)?;
+            add_file(alloc, &mut files, name, journal.as_bytes())?;
+        }
+    }
+    Ok(files)
+}
+
+// A journal of the package with these entries.
+fn journal_of(
+    alloc: Global,
+    row: &str,
+    package: &[u8],
+    entries: &str,
+) -> Result<String, AllocError> {
+    let digest = Sha256::digest(package);
+    let digest = hex::encode(alloc, digest.as_slice())?;
+    let revisions = revisions_of(alloc, row, package)?;
+    let mut journal = format!(in alloc;
+        "redline-journal 1\ndocument {digest}\nrevisions {revisions}\n"
+    )?;
+    for entry in entries.split("; ") {
+        journal.push_str(entry.replacen(alloc, " ", "\t", 3)?.as_str())?;
+        journal.push('\n')?;
+    }
+    Ok(journal)
+}
+
+// The number of revisions that the row gives, or else the one that a check tells.
+fn revisions_of(alloc: Global, row: &str, package: &[u8]) -> Result<String, AllocError> {
+    if let Some(revisions) = field(row, "revisions") {
+        return String::from_str(alloc, revisions);
+    }
+    let answer = call_over(alloc, "check P", package)?;
+    let told = text_of(&answer.written).split(' ').nth(1).unwrap_or("0");
+    String::from_str(alloc, told)
+}
+
+// Prints the status, what was written if something was, and the lines.
+fn print_answer(alloc: Global, answer: &Answer, printed: &mut String) -> Result<(), AllocError> {
+    let status = answer.status.code();
+    print_line(printed, format!(in alloc; "status {status}")?.as_str())?;
+    if !answer.written.bytes().is_empty() {
+        let written = name_parts(alloc, text_of(&answer.written))?;
+        print_line(printed, format!(in alloc; "written {written}")?.as_str())?;
+    }
+    printed.push_str(text_of(&answer.lines))
+}
+
+// What a sink has.
+fn text_of(sink: &MemSink) -> &str {
+    str::from_utf8(sink.bytes()).unwrap_or("no UTF-8")
+}

@@ -1,0 +1,149 @@
+//! The own rows of a table and the own cells of a row, and whether they go (ECMA-376 Part 1, 17.4).
+
+ghost use Rattle.std.specs.Prelude.{◌≡◌, ◌&&◌, if◌then◌else◌};
+ghost use Rattle.redl_tables.specs.Lines.{unit_name, unit_goes, found_of, and_then, item_found, elem_found, is_gone, is_living};
+ghost use Rattle.redl_tree.specs.Lists.{is_direct};
+ghost use Rattle.redl_tree.specs.Names.{is};
+ghost use Rattle.redl_tree.specs.Tables.{own, row_goes as row_goes_by};
+ghost use Rattle.redl_tree.specs.View.{nodes_of, item_of, tag_of, kids_of};
+
+use crate::cuts::{Line, is_cut};
+use redl_tree::{Elem, Node, Reach, Say, is_named};
+
+/// What a table or a row owns: rows or cells.
+#[derive(Clone, Copy, Debug, PartialEq, Eq)]
+pub enum Unit {
+    Row,
+    Cell,
+}
+
+/// What is found of own rows or cells: there is none, all go, or one stays.
+#[derive(Clone, Copy, Debug, PartialEq, Eq)]
+pub enum Finding {
+    Nothing,
+    Gone,
+    Living,
+}
+
+impl Finding {
+    /// What is found of two lists together: this one, and then the later one.
+    pub fn and(self, later: Finding) -> Finding
+        ensures { result ≡ and_then self later }
+    {
+        match (self, later) {
+            (Finding::Living, _) => Finding::Living,
+            (Finding::Nothing, _) => later,
+            (Finding::Gone, Finding::Living) => Finding::Living,
+            (Finding::Gone, _) => Finding::Gone,
+        }
+    }
+
+    /// Whether there are some, and all go.
+    pub fn is_gone(self) -> bool
+        ensures { result ≡ is_gone self }
+    {
+        matches!(self, Finding::Gone)
+    }
+
+    fn is_living(self) -> bool
+        ensures { result ≡ is_living self }
+    {
+        matches!(self, Finding::Living)
+    }
+}
+
+/// What is found among nodes that are reached so. It stops at the first row or cell that stays.
+#[cycle(own)]
+pub(crate) fn found(nodes: &[Node], unit: Unit, reach: Reach, says: &[Say]) -> Finding
+    ensures { result ≡ found_of (unit_goes unit says.now) (own (unit_name unit) reach (nodes_of nodes.now)) }
+{
+    let mut all = Finding::Nothing;
+    for node in nodes {
+        all = all.and(found_in(node, unit, reach, says));
+        if all.is_living() {
+            return Finding::Living;
+        }
+    }
+    all
+}
+
+// What is found of one node.
+#[cycle(own)]
+fn found_in(node: &Node, unit: Unit, reach: Reach, says: &[Say]) -> Finding
+    ensures { result ≡ item_found unit says.now reach (item_of node.now) }
+{
+    match node {
+        Node::Elem(elem) => found_at(elem, unit, reach, says),
+        Node::Bytes(_) => Finding::Nothing,
+    }
+}
+
+/// What is found of an element: of a row or cell that is an own one, by itself, else among its kids.
+#[cycle(own)]
+pub(crate) fn found_at(elem: &Elem, unit: Unit, reach: Reach, says: &[Say]) -> Finding
+    ensures { result ≡ elem_found unit says.now reach (tag_of elem.now) (kids_of elem.now) }
+{
+    if is_own(elem, unit, reach) {
+        return found_itself(elem, unit, says);
+    }
+    found_further(&elem.kids, unit, reach.into(elem), says)
+}
+
+// What is found of an own row or cell.
+#[cycle(own)]
+fn found_itself(elem: &Elem, unit: Unit, says: &[Say]) -> Finding
+    ensures { result ≡ (if unit_goes unit says.now (kids_of elem.now) then Finding.Gone else Finding.Living) }
+{
+    if goes_itself(&elem.kids, unit, says) {
+        Finding::Gone
+    } else {
+        Finding::Living
+    }
+}
+
+// The same as `found`, which is left out where nothing is reached.
+#[cycle(own)]
+fn found_further(nodes: &[Node], unit: Unit, reach: Reach, says: &[Say]) -> Finding
+    ensures { result ≡ found_of (unit_goes unit says.now) (own (unit_name unit) reach (nodes_of nodes.now)) }
+{
+    match reach {
+        Reach::Beyond => Finding::Nothing,
+        _ => found(nodes, unit, reach, says),
+    }
+}
+
+/// Whether an element is an own row or cell, among nodes that are reached so.
+pub(crate) fn is_own(elem: &Elem, unit: Unit, reach: Reach) -> bool
+    ensures { result ≡ (is_direct reach && is (unit_name unit) (tag_of elem.now)) }
+{
+    reach == Reach::Direct && is_unit(elem, unit)
+}
+
+// Whether an element is a row or a cell.
+fn is_unit(elem: &Elem, unit: Unit) -> bool
+    ensures { result ≡ is (unit_name unit) (tag_of elem.now) }
+{
+    match unit {
+        Unit::Row => is_named(elem, b"tr"),
+        Unit::Cell => is_named(elem, b"tc"),
+    }
+}
+
+/// Whether a row or a cell with these kids goes.
+#[cycle(own)]
+pub(crate) fn goes_itself(kids: &[Node], unit: Unit, says: &[Say]) -> bool
+    ensures { result ≡ unit_goes unit says.now (nodes_of kids.now) }
+{
+    match unit {
+        Unit::Row => row_goes(kids, says),
+        Unit::Cell => is_cut(kids, Line::Cell, says),
+    }
+}
+
+// Whether a row with these kids is cut, or has cells and all go.
+#[cycle(own)]
+fn row_goes(kids: &[Node], says: &[Say]) -> bool
+    ensures { result ≡ row_goes_by says.now (nodes_of kids.now) }
+{
+    is_cut(kids, Line::Row, says) || found(kids, Unit::Cell, Reach::Direct, says).is_gone()
+}

@@ -1,0 +1,130 @@
+-- The stories of an indexed package: their kinds agree with their places. The laws of survival and soundness need no more,
+-- and no numbers.
+use Rattle.std.proofs.Common.{◌≡◌, ℕ, ◌+◌, List, [], ◌∷◌, ◌++◌, map, Bool, true, false, ◌&&◌, inl, inr, is_some, find, refl, sym, ap, ◌∙◌, codes, if◌then◌else◌}
+use Rattle.std.proofs.lemmas.Bool.{and_parts}
+use Rattle.std.proofs.lemmas.List.{map-append}
+use Rattle.redl_tree.specs.Nodes.{Tag, Nodes, no_nodes, bytes, element}
+use Rattle.redl_tree.specs.View.{Parts}
+use Rattle.redl_tree.specs.Places.{is_quiet, is_open, is_range_edge, role}
+use Rattle.redl_tree.specs.Seen.{Spot, spot, seen_one, root_spots, seen, tags, tags_of}
+use Rattle.redl_tree.specs.Moves.{Pair, is_of_pair}
+use Rattle.redl_tree.specs.Markers.{Value, moves_among, move_of_marker}
+use Rattle.redl_tree.specs.Sound.{is_marker}
+use Rattle.redl_tree.specs.Numbers.{Numbering, counted, revision_of, numbering_after, labelled_tag, labelled, labelled_story, start_with, next_after_story, next_after, numbered_in, IsIndexed}
+use Rattle.redl_tree.specs.Packages.{is_root, level_of, is_data_level, is_story_root, stories_in, stories, pass_in, pass_package}
+use Rattle.redl_tree.specs.Pass.{pass}
+use Rattle.redl_tree.specs.Survivors.{text_pieces, survivors}
+use Rattle.redl_tree.specs.declared.kinds.Kind.TheVariants.{Marker}
+use Rattle.redl_tree.specs.declared.kinds.Say.{Say}
+use Rattle.redl_tree.proofs.Named.{by_names}
+use Rattle.redl_tree.proofs.Fits.{Fits, AllFit}
+use Rattle.redl_tree.proofs.Survival.{survival}
+
+-- a search by a test that begins with a fact
+find_fact : (b : Bool) (test : Pair → Bool) (xs : List Pair) → is_some (find (λ x. b && test x) xs) ≡ true → b ≡ true
+find_fact true test xs e = refl
+find_fact false test [] e = e
+find_fact false test (x ∷ xs) e = find_fact false test xs e
+
+kind_fits : (marked : Bool) (around : List Tag) (tag : Tag) → tag.kind ≡ (if marked then Marker else role around tag) →
+    (marked ≡ true → (is_open around ≡ true) × (is_range_edge tag ≡ true)) → Fits around tag
+kind_fits true around tag k h = inr (record { kind = k; open_place = (h refl).0; edge = (h refl).1 })
+kind_fits false around tag k h = inl k
+
+labelled_fits : (value : Value) (moves : List Pair) (so_far : Numbering) (above : List Spot) (at : ℕ) (tag : Tag) (kids : Nodes) →
+    labelled_tag value moves so_far (seen_one above at tag kids) ≡ tag → Fits (tags_of above) tag
+labelled_fits value moves so_far above at tag kids e =
+    let has_id : (List ℕ → Bool) = λ tail. is_some (value tail (codes "id")) in
+    kind_fits (is_some (move_of_marker value moves (seen_one above at tag kids))) (tags_of above) tag (sym (ap (λ t. t.kind) e))
+    (λ m.
+    let marks = find_fact (is_marker has_id (tags_of above) tag) (is_of_pair at) moves m in
+    and_parts (is_open (tags_of above)) (is_range_edge tag)
+    (and_parts (is_open (tags_of above) && is_range_edge tag) (has_id tag.tail) marks).0)
+
+pub fits_from : (value : Value) (moves : List Pair) (so_far : Numbering) (above : List Spot) (at : ℕ) (nodes : Nodes) →
+    labelled value moves above at so_far nodes ≡ nodes → AllFit (tags_of above) nodes
+fits_from value moves so_far above at no_nodes e = tt
+fits_from value moves so_far above at (bytes b rest) e = fits_from value moves so_far above at rest cc
+fits_from value moves so_far above at (element tag kids rest) e = (
+  labelled_fits value moves so_far above at tag kids cc,
+  fits_from value moves (counted (revision_of value moves (seen_one above at tag kids)) so_far) (spot at tag kids ∷ above) (at + 1) kids cc,
+  fits_from value moves
+      (numbering_after value moves (spot at tag kids ∷ above) (at + 1) (counted (revision_of value moves (seen_one above at tag kids)) so_far) kids)
+      above (at + 2 + tags kids) rest cc,
+)
+
+pub root_name : (around : List Tag) (tag : Tag) → is_root around tag ≡ true → is_story_root tag ≡ true
+root_name around tag e = (and_parts (is_data_level (level_of around)) (is_story_root tag) e).1
+
+pub root_loud : (around : List Tag) (tag : Tag) → is_root around tag ≡ true → is_quiet tag ≡ false
+root_loud around tag e =
+    by_names (λ t. is_quiet t ≡ false) ("document" ∷ "hdr" ∷ "ftr" ∷ "footnotes" ∷ "endnotes" ∷ "comments" ∷ []) tag (root_name around tag e) (refl, (refl, (refl, (refl, (refl, (refl, tt))))))
+
+-- a story of an indexed package
+pub record IsStory (story : Parts) : Type 0 where
+  pub root : is_story_root story.tag ≡ true
+  pub loud : is_quiet story.tag ≡ false
+  pub fits : AllFit (story.tag ∷ []) story.kids
+
+abbrev pub AreStories : List Parts → Type 0
+AreStories [] = Unit {0}
+AreStories (story ∷ rest) = IsStory story × AreStories rest
+
+AreStories-++ : (xs ys : List Parts) → AreStories xs → AreStories ys → AreStories (xs ++ ys)
+AreStories-++ [] ys h k = k
+AreStories-++ (x ∷ xs) ys h k = (h.0, AreStories-++ xs ys h.1 k)
+
+stories_are : (value : Value) (around : List Tag) (next : ℕ) (nodes : Nodes) → numbered_in value around next nodes ≡ nodes → AreStories (stories_in around nodes)
+stories_are value around next no_nodes e = tt
+stories_are value around next (bytes b rest) e = stories_are value around next rest cc
+stories_are value around next (element tag kids rest) e =
+    AreStories-++ (if is_root around tag then record { tag = tag; kids = kids } ∷ [] else stories_in (tag ∷ around) kids) (stories_in around rest)
+    (here (is_root around tag) refl (cc) (stories_are value (tag ∷ around) next kids))
+    (stories_are value around (if is_root around tag then next_after_story value next tag kids else next_after value (tag ∷ around) next kids) rest cc)
+  where
+    here : (b : Bool) → is_root around tag ≡ b → (if b then labelled_story value next tag kids else numbered_in value (tag ∷ around) next kids) ≡ kids →
+        (numbered_in value (tag ∷ around) next kids ≡ kids → AreStories (stories_in (tag ∷ around) kids)) →
+        AreStories (if b then record { tag = tag; kids = kids } ∷ [] else stories_in (tag ∷ around) kids)
+    here true r e ih =
+        (record { root = root_name around tag r; loud = root_loud around tag r; fits = fits_from value (moves_among value (seen tag kids)) (start_with next) (root_spots tag kids) 1 kids e }, tt)
+    here false r e ih = ih e
+
+pub indexed_stories : (value : Value) (nodes : Nodes) → IsIndexed value nodes → AreStories (stories nodes)
+indexed_stories value nodes e = stories_are value [] 1 nodes e
+
+-- the stories of a passed package are the passed stories
+abbrev pub passed : List Say → Parts → Parts
+passed says story = record { tag = story.tag; kids = pass says (story.tag ∷ []) story.kids }
+
+stories-pass_in : (says : List Say) (around : List Tag) (nodes : Nodes) → stories_in around (pass_in says around nodes) ≡ map (passed says) (stories_in around nodes)
+stories-pass_in says around no_nodes = refl
+stories-pass_in says around (bytes b rest) = stories-pass_in says around rest
+stories-pass_in says around (element tag kids rest) =
+    here (is_root around tag) (stories-pass_in says (tag ∷ around) kids) (stories-pass_in says around rest)
+  where
+    here : (b : Bool) → stories_in (tag ∷ around) (pass_in says (tag ∷ around) kids) ≡ map (passed says) (stories_in (tag ∷ around) kids) →
+        stories_in around (pass_in says around rest) ≡ map (passed says) (stories_in around rest) →
+        (if b then record { tag = tag; kids = if b then pass says (tag ∷ []) kids else pass_in says (tag ∷ around) kids } ∷ []
+        else stories_in (tag ∷ around) (if b then pass says (tag ∷ []) kids else pass_in says (tag ∷ around) kids))
+        ++ stories_in around (pass_in says around rest)
+        ≡ map (passed says) ((if b then record { tag = tag; kids = kids } ∷ [] else stories_in (tag ∷ around) kids) ++ stories_in around rest)
+    here true ih later = ap (λ ss. passed says (record { tag = tag; kids = kids }) ∷ ss) later
+    here false ih later =
+        ap (λ ss. ss ++ stories_in around (pass_in says around rest)) ih
+        ∙ ap (λ ss. map (passed says) (stories_in (tag ∷ around) kids) ++ ss) later
+        ∙ sym (map-append (passed says) (stories_in (tag ∷ around) kids) (stories_in around rest))
+
+pub stories-pass : (says : List Say) (nodes : Nodes) → stories (pass_package says nodes) ≡ map (passed says) (stories nodes)
+stories-pass says nodes = stories-pass_in says [] nodes
+
+-- The law of survival for a package: the text pieces of the passed stories are the survivors of the original ones.
+survival_of : (says : List Say) (xs : List Parts) → AreStories xs → map text_pieces (map (passed says) xs) ≡ map (survivors says) xs
+survival_of says [] h = refl
+survival_of says (x ∷ xs) h =
+    ap (λ t. t ∷ map text_pieces (map (passed says) xs)) (survival says x.tag x.kids h.0.loud h.0.fits)
+    ∙ ap (λ ts. survivors says x ∷ ts) (survival_of says xs h.1)
+
+pub survival-package : (value : Value) (says : List Say) (nodes : Nodes) → IsIndexed value nodes →
+    map text_pieces (stories (pass_package says nodes)) ≡ map (survivors says) (stories nodes)
+survival-package value says nodes is =
+    ap (λ ss. map text_pieces ss) (stories-pass says nodes) ∙ survival_of says (stories nodes) (indexed_stories value nodes is)

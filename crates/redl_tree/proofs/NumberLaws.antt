@@ -1,0 +1,484 @@
+-- Laws of a numbered package. It has the text and the stories of the original, it keeps the same rules, and numbering it
+-- again changes nothing: markers, moves, roles and positions don't depend on labels.
+use Rattle.std.proofs.Common.{◌≡◌, ℕ, ◌+◌, List, [], ◌∷◌, ◌++◌, map, filter_map, find, Bool, true, false, ◌&&◌, ◌||◌, not, Option, Some, None, is_some, option_map, option_and_then, refl, sym, ap, ◌∙◌, codes, if◌then◌else◌}
+use Rattle.std.specs.List.{list_any, list_all}
+use Rattle.std.proofs.lemmas.List.{map-append}
+use Rattle.redl_tree.specs.Nodes.{Tag, Nodes, no_nodes, bytes, element}
+use Rattle.redl_tree.specs.Labels.{unlabelled_tag, unlabelled}
+use Rattle.redl_tree.specs.Text.{text}
+use Rattle.redl_tree.specs.Names.{is}
+use Rattle.redl_tree.specs.Kids.{some_element, kids_of_all}
+use Rattle.redl_tree.specs.Places.{is_open, trace_of, row_trace_of, cell_trace_of, role}
+use Rattle.redl_tree.specs.Lists.{into, place, in_rows, in_cells}
+use Rattle.redl_tree.specs.View.{Parts}
+use Rattle.redl_tree.specs.Packages.{is_root, stories_in, stories}
+use Rattle.redl_tree.specs.Sound.{Test, everywhere, is_marker, holds, tests, first_broken, broken, is_sound}
+use Rattle.redl_tree.specs.Seen.{tags, Spot, spot, Seen, seen_one, seen_from, root_spots, seen, tags_of}
+use Rattle.redl_tree.specs.Moves.{Marking, Pair, pairs, is_of_pair}
+use Rattle.redl_tree.specs.Markers.{Value, edge_of, is_row_revision, is_cell_revision, is_revised, is_reached, is_in_grid, is_own, leaves_grid, any_leaves_grid, is_astray, is_loose, marker_of, moves_among, own_role, mark_end, move_at, move_of_member, move_of_marker, either, move_of, whole_role}
+use Rattle.redl_tree.specs.Numbers.{membership, Numbering, counted, number_for, revision_of, numbering_after, labelled_tag, labelled, start_with, labelled_story, next_after_story, next_after, numbered_in, numbered_package, IsIndexed}
+use Rattle.redl_tree.specs.declared.kinds.Kind.{Kind}
+use Rattle.redl_tree.specs.declared.kinds.Kind.TheVariants.{Plain, Content, Mark, Row, Cell, Change, Marker}
+use Rattle.redl_tree.proofs.LabelLaws.{bare, text-unlabelled, open-bare, role-bare, place-bare, in_rows-bare, in_cells-bare, into-bare, some-bare, kids_of_all-bare, everywhere-bare, marker-bare, Blind, AreBlind, tests_are_blind}
+
+-- Positions
+
+tags-bare : (nodes : Nodes) → tags (unlabelled nodes) ≡ tags nodes
+tags-bare no_nodes = refl
+tags-bare (bytes b rest) = tags-bare rest
+tags-bare (element tag kids rest) = rw (tags-bare kids, tags-bare rest) refl
+
+-- the same element without the labels of its tag and of its kids
+abbrev bare_spot : Spot → Spot
+bare_spot s = record { tag = unlabelled_tag s.tag; kids = unlabelled s.kids; start = s.start; end = s.end }
+
+abbrev bare_spots : List Spot → List Spot
+bare_spots spots = map bare_spot spots
+
+abbrev bare_seen : Seen → Seen
+bare_seen s = record { own = bare_spot s.own; above = bare_spots s.above }
+
+spot-bare : (at : ℕ) (tag : Tag) (kids : Nodes) → spot at (unlabelled_tag tag) (unlabelled kids) ≡ bare_spot (spot at tag kids)
+spot-bare at tag kids = ap (λ n. record { tag = unlabelled_tag tag; kids = unlabelled kids; start = at; end = at + 1 + n }) (tags-bare kids)
+
+seen_one-bare : (above : List Spot) (at : ℕ) (tag : Tag) (kids : Nodes) → seen_one (bare_spots above) at (unlabelled_tag tag) (unlabelled kids) ≡ bare_seen (seen_one above at tag kids)
+seen_one-bare above at tag kids = ap (λ s. record { own = s; above = bare_spots above }) (spot-bare at tag kids)
+
+seen_from-bare : (above : List Spot) (at : ℕ) (nodes : Nodes) → seen_from (bare_spots above) at (unlabelled nodes) ≡ map bare_seen (seen_from above at nodes)
+seen_from-bare above at no_nodes = refl
+seen_from-bare above at (bytes b rest) = seen_from-bare above at rest
+seen_from-bare above at (element tag kids rest) =
+    ap (λ s. s ∷ (seen_from (spot at (unlabelled_tag tag) (unlabelled kids) ∷ bare_spots above) (at + 1) (unlabelled kids) ++ seen_from (bare_spots above) (at + 2 + tags (unlabelled kids)) (unlabelled rest)))
+    (seen_one-bare above at tag kids)
+    ∙ ap (λ s. bare_seen (seen_one above at tag kids) ∷ (seen_from (s ∷ bare_spots above) (at + 1) (unlabelled kids) ++ seen_from (bare_spots above) (at + 2 + tags (unlabelled kids)) (unlabelled rest)))
+    (spot-bare at tag kids)
+    ∙ ap (λ n. bare_seen (seen_one above at tag kids) ∷ (seen_from (bare_spots (spot at tag kids ∷ above)) (at + 1) (unlabelled kids) ++ seen_from (bare_spots above) (at + 2 + n) (unlabelled rest)))
+    (tags-bare kids)
+    ∙ ap (λ xs. bare_seen (seen_one above at tag kids) ∷ (xs ++ seen_from (bare_spots above) (at + 2 + tags kids) (unlabelled rest)))
+    (seen_from-bare (spot at tag kids ∷ above) (at + 1) kids)
+    ∙ ap (λ xs. bare_seen (seen_one above at tag kids) ∷ (map bare_seen (seen_from (spot at tag kids ∷ above) (at + 1) kids) ++ xs))
+    (seen_from-bare above (at + 2 + tags kids) rest)
+    ∙ ap (λ xs. bare_seen (seen_one above at tag kids) ∷ xs)
+    (sym (map-append bare_seen (seen_from (spot at tag kids ∷ above) (at + 1) kids) (seen_from above (at + 2 + tags kids) rest)))
+
+tags_of-bare : (above : List Spot) → tags_of (bare_spots above) ≡ bare (tags_of above)
+tags_of-bare [] = refl
+tags_of-bare (s ∷ above) = ap (λ ts. unlabelled_tag s.tag ∷ ts) (tags_of-bare above)
+
+root_spots-bare : (root : Tag) (kids : Nodes) → root_spots (unlabelled_tag root) (unlabelled kids) ≡ bare_spots (root_spots root kids)
+root_spots-bare root kids = ap (λ s. s ∷ []) (spot-bare 0 root kids)
+
+seen-bare : (root : Tag) (kids : Nodes) → seen (unlabelled_tag root) (unlabelled kids) ≡ map bare_seen (seen root kids)
+seen-bare root kids = ap (λ above. seen_from above 1 (unlabelled kids)) (root_spots-bare root kids) ∙ seen_from-bare (root_spots root kids) 1 kids
+
+-- Markers
+
+row_revision-bare : (kids : Nodes) → is_row_revision (unlabelled kids) ≡ is_row_revision kids
+row_revision-bare kids =
+    ap (some_element (λ tag. is_some (row_trace_of tag))) (kids_of_all-bare "trPr" kids)
+    ∙ some-bare (λ tag. is_some (row_trace_of tag)) (λ tag. is_some (row_trace_of tag)) (λ tag. refl) (kids_of_all "trPr" kids)
+
+cell_revision-bare : (kids : Nodes) → is_cell_revision (unlabelled kids) ≡ is_cell_revision kids
+cell_revision-bare kids =
+    ap (some_element (λ tag. is_some (cell_trace_of tag))) (kids_of_all-bare "tcPr" kids)
+    ∙ some-bare (λ tag. is_some (cell_trace_of tag)) (λ tag. is_some (cell_trace_of tag)) (λ tag. refl) (kids_of_all "tcPr" kids)
+
+revised-bare : (s : Spot) → is_revised (bare_spot s) ≡ is_revised s
+revised-bare s =
+    ap (λ b. is_some (trace_of s.tag) || (is "tr" s.tag && b) || (is "tc" s.tag && is_cell_revision (unlabelled s.kids))) (row_revision-bare s.kids)
+    ∙ ap (λ b. is_some (trace_of s.tag) || (is "tr" s.tag && is_row_revision s.kids) || (is "tc" s.tag && b)) (cell_revision-bare s.kids)
+
+any_revised-bare : (above : List Spot) → list_any is_revised (bare_spots above) ≡ list_any is_revised above
+any_revised-bare [] = refl
+any_revised-bare (s ∷ above) =
+    ap (λ b. b || list_any is_revised (bare_spots above)) (revised-bare s) ∙ ap (λ b. is_revised s || b) (any_revised-bare above)
+
+own-bare : (around : List Tag) (tag : Tag) → is_own (bare around) (unlabelled_tag tag) ≡ is_own around tag
+own-bare around tag =
+    ap (λ b. (b && is "tr" tag) || (in_cells (bare around) && is "tc" tag)) (in_rows-bare around)
+    ∙ ap (λ b. (in_rows around && is "tr" tag) || (b && is "tc" tag)) (in_cells-bare around)
+
+leaves_grid-bare : (around : List Tag) (tag : Tag) → leaves_grid (bare around) (unlabelled_tag tag) ≡ leaves_grid around tag
+leaves_grid-bare around tag =
+    ap (λ here. is_in_grid here && not (is_own (bare around) (unlabelled_tag tag)) && not (is_reached (into here.reach (unlabelled_tag tag)))) (place-bare around)
+    ∙ ap (λ b. is_in_grid (place around) && not b && not (is_reached (into (place around).reach (unlabelled_tag tag)))) (own-bare around tag)
+    ∙ ap (λ r. is_in_grid (place around) && not (is_own around tag) && not (is_reached r)) (into-bare (place around).reach tag)
+
+any_leaves_grid-bare : (around : List Tag) → any_leaves_grid (bare around) ≡ any_leaves_grid around
+any_leaves_grid-bare [] = refl
+any_leaves_grid-bare (tag ∷ around) =
+    ap (λ b. b || any_leaves_grid (bare around)) (leaves_grid-bare around tag) ∙ ap (λ b. leaves_grid around tag || b) (any_leaves_grid-bare around)
+
+astray-bare : (around : List Tag) → is_astray (bare around) ≡ is_astray around
+astray-bare around =
+    ap (λ here. is_in_grid here || any_leaves_grid (bare around)) (place-bare around)
+    ∙ ap (λ b. is_in_grid (place around) || b) (any_leaves_grid-bare around)
+
+loose-bare : (above : List Spot) → is_loose (bare_spots above) ≡ is_loose above
+loose-bare above =
+    ap (λ b. b || is_astray (tags_of (bare_spots above))) (any_revised-bare above)
+    ∙ ap (λ b. list_any is_revised above || b) (ap is_astray (tags_of-bare above) ∙ astray-bare (tags_of above))
+
+spots_open : (above : List Spot) → is_open (tags_of (bare_spots above)) ≡ is_open (tags_of above)
+spots_open above = ap is_open (tags_of-bare above) ∙ open-bare (tags_of above)
+
+-- the marker that an element is in an open place, where it is loose or not
+abbrev marker_if : Value → Seen → Bool → Option Marking
+marker_if value s loose =
+    option_and_then
+    (λ edge. option_map (λ id. record { edge = edge; id = id; name = value s.own.tag.tail (codes "name"); at = s.own.start; loose = loose })
+    (value s.own.tag.tail (codes "id"))) (edge_of s.own.tag)
+
+marker_of-bare : (value : Value) (s : Seen) → marker_of value (bare_seen s) ≡ marker_of value s
+marker_of-bare value s =
+    ap (λ b. if b then marker_if value s (is_loose (bare_spots s.above)) else None) (spots_open s.above)
+    ∙ ap (λ l. if is_open (tags_of s.above) then marker_if value s l else None) (loose-bare s.above)
+
+markers-bare : (value : Value) (xs : List Seen) → filter_map (marker_of value) (map bare_seen xs) ≡ filter_map (marker_of value) xs
+markers-bare value [] = refl
+markers-bare value (x ∷ xs) = rw (marker_of-bare value x, markers-bare value xs) refl
+
+moves-bare : (value : Value) (root : Tag) (kids : Nodes) → moves_among value (seen (unlabelled_tag root) (unlabelled kids)) ≡ moves_among value (seen root kids)
+moves-bare value root kids = ap (moves_among value) (seen-bare root kids) ∙ ap pairs (markers-bare value (seen root kids))
+
+-- Roles and revisions
+
+own_role-bare : (s : Seen) → own_role (bare_seen s) ≡ own_role s
+own_role-bare s = ap (λ around. role around (unlabelled_tag s.own.tag)) (tags_of-bare s.above) ∙ role-bare (tags_of s.above) s.own.tag
+
+move_of_marker-bare : (value : Value) (moves : List Pair) (s : Seen) → move_of_marker value moves (bare_seen s) ≡ move_of_marker value moves s
+move_of_marker-bare value moves s =
+    ap (λ b. find (λ pair. b && is_of_pair s.own.start pair) moves)
+    (ap (λ around. is_marker (λ tail. is_some (value tail (codes "id"))) around (unlabelled_tag s.own.tag)) (tags_of-bare s.above)
+    ∙ marker-bare (λ tail. is_some (value tail (codes "id"))) (tags_of s.above) s.own.tag)
+
+mark_end-bare : (start : ℕ) (above : List Spot) → mark_end start (bare_spots above) ≡ mark_end start above
+mark_end-bare start [] = refl
+mark_end-bare start (x ∷ []) = refl
+mark_end-bare start (x ∷ y ∷ []) = refl
+mark_end-bare start (x ∷ y ∷ z ∷ above) = refl
+
+move_of_member-bare : (moves : List Pair) (kind : Kind) (s : Seen) → move_of_member moves kind (bare_seen s) ≡ move_of_member moves kind s
+move_of_member-bare moves (Mark trace) s = ap (move_at moves trace) (mark_end-bare s.own.start s.above)
+move_of_member-bare moves (Content trace) s = refl
+move_of_member-bare moves Plain s = refl
+move_of_member-bare moves (Row trace) s = refl
+move_of_member-bare moves (Cell trace) s = refl
+move_of_member-bare moves (Change prop) s = refl
+move_of_member-bare moves Marker s = refl
+
+move_of-bare : (value : Value) (moves : List Pair) (s : Seen) → move_of value moves (bare_seen s) ≡ move_of value moves s
+move_of-bare value moves s =
+    ap (λ m. either m (move_of_member moves (own_role (bare_seen s)) (bare_seen s))) (move_of_marker-bare value moves s)
+    ∙ ap (either (move_of_marker value moves s)) (ap (λ kind. move_of_member moves kind (bare_seen s)) (own_role-bare s) ∙ move_of_member-bare moves (own_role s) s)
+
+whole_role-bare : (value : Value) (moves : List Pair) (s : Seen) → whole_role value moves (bare_seen s) ≡ whole_role value moves s
+whole_role-bare value moves s =
+    ap (λ m. if is_some m then Marker else own_role (bare_seen s)) (move_of_marker-bare value moves s)
+    ∙ ap (λ kind. if is_some (move_of_marker value moves s) then Marker else kind) (own_role-bare s)
+
+revision_of-bare : (value : Value) (moves : List Pair) (s : Seen) → revision_of value moves (bare_seen s) ≡ revision_of value moves s
+revision_of-bare value moves s =
+    ap (λ kind. membership kind (move_of value moves (bare_seen s))) (whole_role-bare value moves s)
+    ∙ ap (membership (whole_role value moves s)) (move_of-bare value moves s)
+
+-- Numbers
+
+module _ (value : Value) (moves : List Pair) where
+  -- how far the numbering is behind an element's start tag
+  abbrev begun : List Spot → ℕ → Numbering → Tag → Nodes → Numbering
+  begun above at so_far tag kids = counted (revision_of value moves (seen_one above at tag kids)) so_far
+
+  begun-bare : (above : List Spot) (at : ℕ) (so_far : Numbering) (tag : Tag) (kids : Nodes) → begun (bare_spots above) at so_far (unlabelled_tag tag) (unlabelled kids) ≡ begun above at so_far tag kids
+  begun-bare above at so_far tag kids =
+      ap (λ r. counted r so_far) (ap (revision_of value moves) (seen_one-bare above at tag kids) ∙ revision_of-bare value moves (seen_one above at tag kids))
+
+  kids-bare : (above : List Spot) (at : ℕ) (so_far : Numbering) (tag : Tag) (kids : Nodes) →
+      numbering_after value moves (bare_spots (spot at tag kids ∷ above)) (at + 1) (begun above at so_far tag kids) (unlabelled kids)
+      ≡ numbering_after value moves (spot at tag kids ∷ above) (at + 1) (begun above at so_far tag kids) kids →
+      numbering_after value moves (spot at (unlabelled_tag tag) (unlabelled kids) ∷ bare_spots above) (at + 1) (begun (bare_spots above) at so_far (unlabelled_tag tag) (unlabelled kids)) (unlabelled kids)
+      ≡ numbering_after value moves (spot at tag kids ∷ above) (at + 1) (begun above at so_far tag kids) kids
+  kids-bare above at so_far tag kids ih =
+      ap (λ s. numbering_after value moves (s ∷ bare_spots above) (at + 1) (begun (bare_spots above) at so_far (unlabelled_tag tag) (unlabelled kids)) (unlabelled kids)) (spot-bare at tag kids)
+      ∙ ap (λ x. numbering_after value moves (bare_spots (spot at tag kids ∷ above)) (at + 1) x (unlabelled kids)) (begun-bare above at so_far tag kids)
+      ∙ ih
+
+  after-bare : (above : List Spot) (at : ℕ) (so_far : Numbering) (nodes : Nodes) → numbering_after value moves (bare_spots above) at so_far (unlabelled nodes) ≡ numbering_after value moves above at so_far nodes
+  after-bare above at so_far no_nodes = refl
+  after-bare above at so_far (bytes b rest) = after-bare above at so_far rest
+  after-bare above at so_far (element tag kids rest) =
+      ap (λ n. numbering_after value moves (bare_spots above) (at + 2 + n)
+      (numbering_after value moves (spot at (unlabelled_tag tag) (unlabelled kids) ∷ bare_spots above) (at + 1) (begun (bare_spots above) at so_far (unlabelled_tag tag) (unlabelled kids)) (unlabelled kids))
+      (unlabelled rest)) (tags-bare kids)
+      ∙ ap (λ x. numbering_after value moves (bare_spots above) (at + 2 + tags kids) x (unlabelled rest))
+      (kids-bare above at so_far tag kids (after-bare (spot at tag kids ∷ above) (at + 1) (begun above at so_far tag kids) kids))
+      ∙ after-bare above (at + 2 + tags kids) (numbering_after value moves (spot at tag kids ∷ above) (at + 1) (begun above at so_far tag kids) kids) rest
+
+  labelled_tag-bare : (so_far : Numbering) (above : List Spot) (at : ℕ) (tag : Tag) (kids : Nodes) →
+      labelled_tag value moves so_far (seen_one (bare_spots above) at (unlabelled_tag tag) (unlabelled kids)) ≡ labelled_tag value moves so_far (seen_one above at tag kids)
+  labelled_tag-bare so_far above at tag kids =
+      let s = seen_one above at tag kids in
+      ap (labelled_tag value moves so_far) (seen_one-bare above at tag kids)
+      ∙ ap (λ kind. record tag { kind = kind; rev = number_for (revision_of value moves (bare_seen s)) so_far }) (whole_role-bare value moves s)
+      ∙ ap (λ r. record tag { kind = whole_role value moves s; rev = number_for r so_far }) (revision_of-bare value moves s)
+
+  -- labels are replaced
+  labelled-bare : (above : List Spot) (at : ℕ) (so_far : Numbering) (nodes : Nodes) → labelled value moves (bare_spots above) at so_far (unlabelled nodes) ≡ labelled value moves above at so_far nodes
+  labelled-bare above at so_far no_nodes = refl
+  labelled-bare above at so_far (bytes b rest) = ap (bytes b) (labelled-bare above at so_far rest)
+  labelled-bare above at so_far (element tag kids rest) =
+      let above' = bare_spots above in
+      let tag' = unlabelled_tag tag in
+      let kids' = unlabelled kids in
+      let inner = spot at tag kids ∷ above in
+      let inner' = spot at tag' kids' ∷ above' in
+      let first = begun above at so_far tag kids in
+      let first' = begun above' at so_far tag' kids' in
+      let later' = numbering_after value moves inner' (at + 1) first' kids' in
+      ap (λ t. element t (labelled value moves inner' (at + 1) first' kids') (labelled value moves above' (at + 2 + tags kids') later' (unlabelled rest)))
+      (labelled_tag-bare so_far above at tag kids)
+      ∙ ap (λ xs. element (labelled_tag value moves so_far (seen_one above at tag kids)) xs (labelled value moves above' (at + 2 + tags kids') later' (unlabelled rest)))
+      (ap (λ s. labelled value moves (s ∷ above') (at + 1) first' kids') (spot-bare at tag kids)
+      ∙ ap (λ x. labelled value moves (bare_spots inner) (at + 1) x kids') (begun-bare above at so_far tag kids)
+      ∙ labelled-bare inner (at + 1) first kids)
+      ∙ ap (element (labelled_tag value moves so_far (seen_one above at tag kids)) (labelled value moves inner (at + 1) first kids))
+      (ap (λ n. labelled value moves above' (at + 2 + n) later' (unlabelled rest)) (tags-bare kids)
+      ∙ ap (λ x. labelled value moves above' (at + 2 + tags kids) x (unlabelled rest)) (kids-bare above at so_far tag kids (after-bare inner (at + 1) first kids))
+      ∙ labelled-bare above (at + 2 + tags kids) (numbering_after value moves inner (at + 1) first kids) rest)
+
+  unlabelled-labelled : (above : List Spot) (at : ℕ) (so_far : Numbering) (nodes : Nodes) → unlabelled (labelled value moves above at so_far nodes) ≡ unlabelled nodes
+  unlabelled-labelled above at so_far no_nodes = refl
+  unlabelled-labelled above at so_far (bytes b rest) = ap (bytes b) (unlabelled-labelled above at so_far rest)
+  unlabelled-labelled above at so_far (element tag kids rest) =
+      ap (λ xs. element (unlabelled_tag tag) xs (unlabelled (labelled value moves above (at + 2 + tags kids) (numbering_after value moves (spot at tag kids ∷ above) (at + 1) (begun above at so_far tag kids) kids) rest)))
+      (unlabelled-labelled (spot at tag kids ∷ above) (at + 1) (begun above at so_far tag kids) kids)
+      ∙ ap (element (unlabelled_tag tag) (unlabelled kids))
+      (unlabelled-labelled above (at + 2 + tags kids) (numbering_after value moves (spot at tag kids ∷ above) (at + 1) (begun above at so_far tag kids) kids) rest)
+
+-- Stories
+
+module _ (value : Value) (next : ℕ) (root : Tag) where
+  pub unlabelled-story : (kids : Nodes) → unlabelled (labelled_story value next root kids) ≡ unlabelled kids
+  unlabelled-story kids = unlabelled-labelled value (moves_among value (seen root kids)) (root_spots root kids) 1 (start_with next) kids
+
+  -- what is labelled, and the numbers, depend on no label
+  story-bare : (kids : Nodes) → labelled_story value next (unlabelled_tag root) (unlabelled kids) ≡ labelled_story value next root kids
+  story-bare kids =
+      ap (λ moves. labelled value moves (root_spots (unlabelled_tag root) (unlabelled kids)) 1 (start_with next) (unlabelled kids)) (moves-bare value root kids)
+      ∙ ap (λ above. labelled value (moves_among value (seen root kids)) above 1 (start_with next) (unlabelled kids)) (root_spots-bare root kids)
+      ∙ labelled-bare value (moves_among value (seen root kids)) (root_spots root kids) 1 (start_with next) kids
+
+  story_next-bare : (kids : Nodes) → next_after_story value next (unlabelled_tag root) (unlabelled kids) ≡ next_after_story value next root kids
+  story_next-bare kids =
+      ap (λ moves. (numbering_after value moves (root_spots (unlabelled_tag root) (unlabelled kids)) 1 (start_with next) (unlabelled kids)).next) (moves-bare value root kids)
+      ∙ ap (λ above. (numbering_after value (moves_among value (seen root kids)) above 1 (start_with next) (unlabelled kids)).next) (root_spots-bare root kids)
+      ∙ ap (λ so_far. so_far.next) (after-bare value (moves_among value (seen root kids)) (root_spots root kids) 1 (start_with next) kids)
+
+  -- a labelled story is labelled again as it is
+  pub story-again : (kids : Nodes) → labelled_story value next root (labelled_story value next root kids) ≡ labelled_story value next root kids
+  story-again kids =
+      sym (story-bare (labelled_story value next root kids))
+      ∙ ap (labelled_story value next (unlabelled_tag root)) (unlabelled-story kids)
+      ∙ story-bare kids
+
+  pub story_next-again : (kids : Nodes) → next_after_story value next root (labelled_story value next root kids) ≡ next_after_story value next root kids
+  story_next-again kids =
+      sym (story_next-bare (labelled_story value next root kids))
+      ∙ ap (next_after_story value next (unlabelled_tag root)) (unlabelled-story kids)
+      ∙ story_next-bare kids
+
+-- Packages
+
+unlabelled-numbered_in : (value : Value) (around : List Tag) (next : ℕ) (nodes : Nodes) → unlabelled (numbered_in value around next nodes) ≡ unlabelled nodes
+unlabelled-numbered_in value around next no_nodes = refl
+unlabelled-numbered_in value around next (bytes b rest) = ap (bytes b) (unlabelled-numbered_in value around next rest)
+unlabelled-numbered_in value around next (element tag kids rest) =
+    at (is_root around tag) (unlabelled-numbered_in value (tag ∷ around) next kids) (λ n. unlabelled-numbered_in value around n rest)
+  where
+    at : (b : Bool) → unlabelled (numbered_in value (tag ∷ around) next kids) ≡ unlabelled kids → ((n : ℕ) → unlabelled (numbered_in value around n rest) ≡ unlabelled rest) →
+        element (unlabelled_tag tag) (unlabelled (if b then labelled_story value next tag kids else numbered_in value (tag ∷ around) next kids))
+        (unlabelled (numbered_in value around (if b then next_after_story value next tag kids else next_after value (tag ∷ around) next kids) rest))
+        ≡ element (unlabelled_tag tag) (unlabelled kids) (unlabelled rest)
+    at true below later =
+        ap (λ xs. element (unlabelled_tag tag) xs (unlabelled (numbered_in value around (next_after_story value next tag kids) rest))) (unlabelled-story value next tag kids)
+        ∙ ap (element (unlabelled_tag tag) (unlabelled kids)) (later (next_after_story value next tag kids))
+    at false below later =
+        ap (λ xs. element (unlabelled_tag tag) xs (unlabelled (numbered_in value around (next_after value (tag ∷ around) next kids) rest))) below
+        ∙ ap (element (unlabelled_tag tag) (unlabelled kids)) (later (next_after value (tag ∷ around) next kids))
+
+-- a numbered package is the original but for labels
+pub unlabelled-numbered : (value : Value) (nodes : Nodes) → unlabelled (numbered_package value nodes) ≡ unlabelled nodes
+unlabelled-numbered value nodes = unlabelled-numbered_in value [] 1 nodes
+
+-- numbering a package doesn't change its text
+pub text-numbered : (value : Value) (nodes : Nodes) → text (numbered_package value nodes) ≡ text nodes
+text-numbered value nodes = sym (text-unlabelled (numbered_package value nodes)) ∙ ap text (unlabelled-numbered value nodes) ∙ text-unlabelled nodes
+
+next_after-again : (value : Value) (around : List Tag) (next : ℕ) (nodes : Nodes) → next_after value around next (numbered_in value around next nodes) ≡ next_after value around next nodes
+next_after-again value around next no_nodes = refl
+next_after-again value around next (bytes b rest) = next_after-again value around next rest
+next_after-again value around next (element tag kids rest) =
+    at (is_root around tag) (next_after-again value (tag ∷ around) next kids) (λ n. next_after-again value around n rest)
+  where
+    at : (b : Bool) → next_after value (tag ∷ around) next (numbered_in value (tag ∷ around) next kids) ≡ next_after value (tag ∷ around) next kids →
+        ((n : ℕ) → next_after value around n (numbered_in value around n rest) ≡ next_after value around n rest) →
+        next_after value around
+        (if b then next_after_story value next tag (if b then labelled_story value next tag kids else numbered_in value (tag ∷ around) next kids)
+        else next_after value (tag ∷ around) next (if b then labelled_story value next tag kids else numbered_in value (tag ∷ around) next kids))
+        (numbered_in value around (if b then next_after_story value next tag kids else next_after value (tag ∷ around) next kids) rest)
+        ≡ next_after value around (if b then next_after_story value next tag kids else next_after value (tag ∷ around) next kids) rest
+    at true below later =
+        ap (λ n. next_after value around n (numbered_in value around (next_after_story value next tag kids) rest)) (story_next-again value next tag kids)
+        ∙ later (next_after_story value next tag kids)
+    at false below later =
+        ap (λ n. next_after value around n (numbered_in value around (next_after value (tag ∷ around) next kids) rest)) below
+        ∙ later (next_after value (tag ∷ around) next kids)
+
+numbered_in-again : (value : Value) (around : List Tag) (next : ℕ) (nodes : Nodes) → numbered_in value around next (numbered_in value around next nodes) ≡ numbered_in value around next nodes
+numbered_in-again value around next no_nodes = refl
+numbered_in-again value around next (bytes b rest) = ap (bytes b) (numbered_in-again value around next rest)
+numbered_in-again value around next (element tag kids rest) =
+    at (is_root around tag) (numbered_in-again value (tag ∷ around) next kids) (λ n. numbered_in-again value around n rest)
+  where
+    at : (b : Bool) → numbered_in value (tag ∷ around) next (numbered_in value (tag ∷ around) next kids) ≡ numbered_in value (tag ∷ around) next kids →
+        ((n : ℕ) → numbered_in value around n (numbered_in value around n rest) ≡ numbered_in value around n rest) →
+        element tag
+        (if b then labelled_story value next tag (if b then labelled_story value next tag kids else numbered_in value (tag ∷ around) next kids)
+        else numbered_in value (tag ∷ around) next (if b then labelled_story value next tag kids else numbered_in value (tag ∷ around) next kids))
+        (numbered_in value around
+        (if b then next_after_story value next tag (if b then labelled_story value next tag kids else numbered_in value (tag ∷ around) next kids)
+        else next_after value (tag ∷ around) next (if b then labelled_story value next tag kids else numbered_in value (tag ∷ around) next kids))
+        (numbered_in value around (if b then next_after_story value next tag kids else next_after value (tag ∷ around) next kids) rest))
+        ≡ element tag (if b then labelled_story value next tag kids else numbered_in value (tag ∷ around) next kids)
+        (numbered_in value around (if b then next_after_story value next tag kids else next_after value (tag ∷ around) next kids) rest)
+    at true below later =
+        let n = next_after_story value next tag kids in
+        ap (λ xs. element tag xs (numbered_in value around (next_after_story value next tag (labelled_story value next tag kids)) (numbered_in value around n rest))) (story-again value next tag kids)
+        ∙ ap (λ m. element tag (labelled_story value next tag kids) (numbered_in value around m (numbered_in value around n rest))) (story_next-again value next tag kids)
+        ∙ ap (element tag (labelled_story value next tag kids)) (later n)
+    at false below later =
+        let n = next_after value (tag ∷ around) next kids in
+        let inner = numbered_in value (tag ∷ around) next kids in
+        ap (λ xs. element tag xs (numbered_in value around (next_after value (tag ∷ around) next inner) (numbered_in value around n rest))) below
+        ∙ ap (λ m. element tag inner (numbered_in value around m (numbered_in value around n rest))) (next_after-again value (tag ∷ around) next kids)
+        ∙ ap (element tag inner) (later n)
+
+-- a numbered package is indexed: numbering it again changes nothing
+pub numbered-indexed : (value : Value) (nodes : Nodes) → IsIndexed value (numbered_package value nodes)
+numbered-indexed value nodes = numbered_in-again value [] 1 nodes
+
+-- The stories of a numbered package have the roots of the original, and their kids are labelled, where numbers go on from
+-- story to story.
+abbrev pub numbered_stories : Value → ℕ → List Parts → List Parts
+numbered_stories value next [] = []
+numbered_stories value next (story ∷ later) =
+    record { tag = story.tag; kids = labelled_story value next story.tag story.kids }
+    ∷ numbered_stories value (next_after_story value next story.tag story.kids) later
+
+-- the next number behind these stories
+abbrev pub next_after_stories : Value → ℕ → List Parts → ℕ
+next_after_stories value next [] = next
+next_after_stories value next (story ∷ later) = next_after_stories value (next_after_story value next story.tag story.kids) later
+
+numbered_stories-++ : (value : Value) (next : ℕ) (xs ys : List Parts) → numbered_stories value next (xs ++ ys) ≡ numbered_stories value next xs ++ numbered_stories value (next_after_stories value next xs) ys
+numbered_stories-++ value next [] ys = refl
+numbered_stories-++ value next (story ∷ xs) ys =
+    ap (λ more. record { tag = story.tag; kids = labelled_story value next story.tag story.kids } ∷ more)
+    (numbered_stories-++ value (next_after_story value next story.tag story.kids) xs ys)
+
+next_after_stories-++ : (value : Value) (next : ℕ) (xs ys : List Parts) → next_after_stories value next (xs ++ ys) ≡ next_after_stories value (next_after_stories value next xs) ys
+next_after_stories-++ value next [] ys = refl
+next_after_stories-++ value next (story ∷ xs) ys = next_after_stories-++ value (next_after_story value next story.tag story.kids) xs ys
+
+next_after-stories : (value : Value) (around : List Tag) (next : ℕ) (nodes : Nodes) → next_after value around next nodes ≡ next_after_stories value next (stories_in around nodes)
+next_after-stories value around next no_nodes = refl
+next_after-stories value around next (bytes b rest) = next_after-stories value around next rest
+next_after-stories value around next (element tag kids rest) =
+    at (is_root around tag) (next_after-stories value (tag ∷ around) next kids) (λ n. next_after-stories value around n rest)
+  where
+    at : (b : Bool) → next_after value (tag ∷ around) next kids ≡ next_after_stories value next (stories_in (tag ∷ around) kids) →
+        ((n : ℕ) → next_after value around n rest ≡ next_after_stories value n (stories_in around rest)) →
+        next_after value around (if b then next_after_story value next tag kids else next_after value (tag ∷ around) next kids) rest
+        ≡ next_after_stories value next ((if b then record { tag = tag; kids = kids } ∷ [] else stories_in (tag ∷ around) kids) ++ stories_in around rest)
+    at true below later = later (next_after_story value next tag kids)
+    at false below later =
+        ap (λ n. next_after value around n rest) below
+        ∙ later (next_after_stories value next (stories_in (tag ∷ around) kids))
+        ∙ sym (next_after_stories-++ value next (stories_in (tag ∷ around) kids) (stories_in around rest))
+
+stories-numbered_in : (value : Value) (around : List Tag) (next : ℕ) (nodes : Nodes) → stories_in around (numbered_in value around next nodes) ≡ numbered_stories value next (stories_in around nodes)
+stories-numbered_in value around next no_nodes = refl
+stories-numbered_in value around next (bytes b rest) = stories-numbered_in value around next rest
+stories-numbered_in value around next (element tag kids rest) =
+    at (is_root around tag) (stories-numbered_in value (tag ∷ around) next kids) (next_after-stories value (tag ∷ around) next kids) (λ n. stories-numbered_in value around n rest)
+  where
+    at : (b : Bool) → stories_in (tag ∷ around) (numbered_in value (tag ∷ around) next kids) ≡ numbered_stories value next (stories_in (tag ∷ around) kids) →
+        next_after value (tag ∷ around) next kids ≡ next_after_stories value next (stories_in (tag ∷ around) kids) →
+        ((n : ℕ) → stories_in around (numbered_in value around n rest) ≡ numbered_stories value n (stories_in around rest)) →
+        (if b then record { tag = tag; kids = if b then labelled_story value next tag kids else numbered_in value (tag ∷ around) next kids } ∷ []
+        else stories_in (tag ∷ around) (if b then labelled_story value next tag kids else numbered_in value (tag ∷ around) next kids))
+        ++ stories_in around (numbered_in value around (if b then next_after_story value next tag kids else next_after value (tag ∷ around) next kids) rest)
+        ≡ numbered_stories value next ((if b then record { tag = tag; kids = kids } ∷ [] else stories_in (tag ∷ around) kids) ++ stories_in around rest)
+    at true below numbers later =
+        ap (λ more. record { tag = tag; kids = labelled_story value next tag kids } ∷ more) (later (next_after_story value next tag kids))
+    at false below numbers later =
+        ap (λ xs. xs ++ stories_in around (numbered_in value around (next_after value (tag ∷ around) next kids) rest)) below
+        ∙ ap (λ xs. numbered_stories value next (stories_in (tag ∷ around) kids) ++ xs) (later (next_after value (tag ∷ around) next kids))
+        ∙ ap (λ n. numbered_stories value next (stories_in (tag ∷ around) kids) ++ numbered_stories value n (stories_in around rest)) numbers
+        ∙ sym (numbered_stories-++ value next (stories_in (tag ∷ around) kids) (stories_in around rest))
+
+-- the shape of a package stays: its stories are those of the original, labelled in their order
+pub stories-numbered : (value : Value) (nodes : Nodes) → stories (numbered_package value nodes) ≡ numbered_stories value 1 (stories nodes)
+stories-numbered value nodes = stories-numbered_in value [] 1 nodes
+
+labelled_roots : (value : Value) (next : ℕ) (xs : List Parts) → map (λ story. story.tag) (numbered_stories value next xs) ≡ map (λ story. story.tag) xs
+labelled_roots value next [] = refl
+labelled_roots value next (story ∷ later) = ap (λ roots. story.tag ∷ roots) (labelled_roots value (next_after_story value next story.tag story.kids) later)
+
+-- the roots of its stories are those of the original
+pub roots-numbered : (value : Value) (nodes : Nodes) → map (λ story. story.tag) (stories (numbered_package value nodes)) ≡ map (λ story. story.tag) (stories nodes)
+roots-numbered value nodes = ap (map (λ story. story.tag)) (stories-numbered value nodes) ∙ labelled_roots value 1 (stories nodes)
+
+-- Soundness
+
+-- a rule that looks at no label holds of a labelled story where it holds of the story
+everywhere-labelled : (test : Test) → Blind test → (value : Value) (next : ℕ) (root : Tag) (kids : Nodes) →
+    everywhere test [] (element root (labelled_story value next root kids) no_nodes) ≡ everywhere test [] (element root kids no_nodes)
+everywhere-labelled test blind value next root kids =
+    sym (everywhere-bare test blind [] (element root (labelled_story value next root kids) no_nodes))
+    ∙ ap (λ xs. everywhere test [] (element (unlabelled_tag root) xs no_nodes)) (unlabelled-story value next root kids)
+    ∙ everywhere-bare test blind [] (element root kids no_nodes)
+
+holds-labelled : (test : Test) → Blind test → (value : Value) (next : ℕ) (xs : List Parts) → holds test (numbered_stories value next xs) ≡ holds test xs
+holds-labelled test blind value next [] = refl
+holds-labelled test blind value next (story ∷ later) =
+    ap (λ b. b && holds test (numbered_stories value (next_after_story value next story.tag story.kids) later)) (everywhere-labelled test blind value next story.tag story.kids)
+    ∙ ap (λ b. everywhere test [] (element story.tag story.kids no_nodes) && b) (holds-labelled test blind value (next_after_story value next story.tag story.kids) later)
+
+-- a rule that looks at no label holds of a numbered package where it holds of the original
+pub holds-numbered : (test : Test) → Blind test → (value : Value) (nodes : Nodes) → holds test (stories (numbered_package value nodes)) ≡ holds test (stories nodes)
+holds-numbered test blind value nodes = ap (holds test) (stories-numbered value nodes) ∙ holds-labelled test blind value 1 (stories nodes)
+
+first_broken-numbered : (value : Value) (nodes : Nodes) (rules : List Test) → AreBlind rules → (number : ℕ) →
+    first_broken number rules (stories (numbered_package value nodes)) ≡ first_broken number rules (stories nodes)
+first_broken-numbered value nodes [] blind number = refl
+first_broken-numbered value nodes (test ∷ rules) blind number =
+    ap (λ b. if b then first_broken (number + 1) rules (stories (numbered_package value nodes)) else Some number) (holds-numbered test blind.0 value nodes)
+    ∙ ap (λ x. if holds test (stories nodes) then x else Some number) (first_broken-numbered value nodes rules blind.1 (number + 1))
+
+all_hold-numbered : (value : Value) (nodes : Nodes) (rules : List Test) → AreBlind rules →
+    list_all (λ test. holds test (stories (numbered_package value nodes))) rules ≡ list_all (λ test. holds test (stories nodes)) rules
+all_hold-numbered value nodes [] blind = refl
+all_hold-numbered value nodes (test ∷ rules) blind =
+    ap (λ b. b && list_all (λ test. holds test (stories (numbered_package value nodes))) rules) (holds-numbered test blind.0 value nodes)
+    ∙ ap (λ b. holds test (stories nodes) && b) (all_hold-numbered value nodes rules blind.1)
+
+-- a numbered package breaks the same rule as the original
+pub broken-numbered : (value : Value) (has_id declares : List ℕ → Bool) (nodes : Nodes) →
+    broken (tests has_id declares) (numbered_package value nodes) ≡ broken (tests has_id declares) nodes
+broken-numbered value has_id declares nodes = first_broken-numbered value nodes (tests has_id declares) (tests_are_blind has_id declares) 1
+
+-- a numbered package is sound where the original is
+pub sound-numbered : (value : Value) (has_id declares : List ℕ → Bool) (nodes : Nodes) →
+    is_sound (tests has_id declares) (numbered_package value nodes) ≡ is_sound (tests has_id declares) nodes
+sound-numbered value has_id declares nodes = all_hold-numbered value nodes (tests has_id declares) (tests_are_blind has_id declares)

@@ -1,0 +1,240 @@
+-- The steps of the pass over a list: a first node that is joined with no later one gives its part by itself, and a list is
+-- put together from the left.
+use Rattle.std.proofs.Common.{◌≡◌, ◌∙◌, refl, sym, ap, List, [], ◌∷◌, ◌++◌, Bool, true, false, true≢false, ◌&&◌, ◌||◌, Option, Some, None, if◌then◌else◌}
+use Rattle.std.proofs.lemmas.Bool.{and_parts}
+use Rattle.redl_tree.specs.Nodes.{Tag, Nodes, no_nodes, bytes, element, ◌⊕◌}
+use Rattle.redl_tree.specs.Names.{is}
+use Rattle.redl_tree.specs.Kids.{without}
+use Rattle.redl_tree.specs.Lists.{in_blocks, is_thick}
+use Rattle.redl_tree.specs.Fates.{fate_of, renamed}
+use Rattle.redl_tree.specs.Kinds.{is_content, is_leave}
+use Rattle.redl_tree.specs.Tables.{goes_at, para_is_cut}
+use Rattle.redl_tree.specs.Groups.{Piece, para, thin, thick, paragraph_next, has_thick, joins, given, held_by, grouped_from, grouped}
+use Rattle.redl_tree.specs.Pass.{by_fate, kept_kids, element_pass, is_block_para, piece, pieces, pass}
+use Rattle.redl_tree.specs.declared.kinds.Say.{Say}
+use Rattle.redl_tree.specs.declared.kinds.Fate.{Fate}
+use Rattle.redl_tree.specs.declared.kinds.Fate.TheVariants.{Leave, Free, Cut, Clear, Restore, Drop}
+use Rattle.redl_tree.proofs.Named.{by_name}
+use Rattle.redl_tree.proofs.Laws.{⊕_assoc}
+
+-- An element that is no cut paragraph of a block list gives its part by itself, and the nodes after it give theirs.
+
+pub leave_of : (f : Fate) (ic : Bool) (passed stays : Nodes) → is_leave f ≡ true → by_fate f ic passed stays ≡ stays
+leave_of Leave ic passed stays e = refl
+leave_of Free ic passed stays e = absurd (true≢false (sym e))
+leave_of Cut ic passed stays e = absurd (true≢false (sym e))
+leave_of Clear ic passed stays e = absurd (true≢false (sym e))
+leave_of Restore ic passed stays e = absurd (true≢false (sym e))
+leave_of Drop ic passed stays e = absurd (true≢false (sym e))
+
+pub if_false : {X : Type 0} (b : Bool) (x y : X) → b ≡ false → (if b then x else y) ≡ y
+if_false true x y e = absurd (true≢false e)
+if_false false x y e = refl
+
+pub if_true : {X : Type 0} (b : Bool) (x y : X) → b ≡ true → (if b then x else y) ≡ x
+if_true true x y e = refl
+if_true false x y e = absurd (true≢false (sym e))
+
+-- a paragraph that is left gives itself
+pub para_pass : (says : List Say) (around : List Tag) (tag : Tag) (kids passed : Nodes) → is_block_para says around tag ≡ true →
+    element_pass says around tag kids passed ≡ element (renamed says around tag) (kept_kids says around tag kids passed) no_nodes
+para_pass says around tag kids passed e =
+    let a = and_parts (is "p" tag && in_blocks around) (is_leave (fate_of says tag)) e in
+    let b = and_parts (is "p" tag) (in_blocks around) a.0 in
+    let stays = element (renamed says around tag) (kept_kids says around tag kids passed) no_nodes in
+    leave_of (fate_of says tag) (is_content tag.kind) passed (if goes_at says around tag kids then no_nodes else stays) a.1
+    ∙ if_false (goes_at says around tag kids) no_nodes stays (by_name (λ t. goes_at says around t kids ≡ false) "p" tag b.0 refl)
+
+pub block_p : (says : List Say) (around : List Tag) (tag : Tag) → is_block_para says around tag ≡ true → is "p" tag ≡ true
+block_p says around tag e = (and_parts (is "p" tag) (in_blocks around) (and_parts (is "p" tag && in_blocks around) (is_leave (fate_of says tag)) e).0).0
+
+-- what a node of a list gives by itself
+abbrev pub alone : Piece → Nodes
+alone (para tag cut kids) = element tag kids no_nodes
+alone (thin nodes) = nodes
+alone (thick nodes) = nodes
+
+alone-if : (p heavy cut : Bool) (tag : Tag) (kids n : Nodes) → (p ≡ true → n ≡ element tag kids no_nodes) →
+    alone (if p then para tag cut kids else if heavy then thick n else thin n) ≡ n
+alone-if true heavy cut tag kids n h = sym (h refl)
+alone-if false true cut tag kids n h = refl
+alone-if false false cut tag kids n h = refl
+
+pub alone-piece : (says : List Say) (around : List Tag) (tag : Tag) (kids passed : Nodes) →
+    alone (piece says around tag kids passed) ≡ element_pass says around tag kids passed
+alone-piece says around tag kids passed =
+    alone-if (is_block_para says around tag) (is_thick tag) (para_is_cut says kids) (renamed says around tag) (kept_kids says around tag kids passed)
+    (element_pass says around tag kids passed) (para_pass says around tag kids passed)
+
+abbrev pub all_alone : List Piece → Nodes
+all_alone [] = no_nodes
+all_alone (p ∷ ps) = alone p ⊕ all_alone ps
+
+-- the nodes of a list passed one by one
+abbrev pub each : List Say → List Tag → Nodes → Nodes
+each says around no_nodes = no_nodes
+each says around (bytes b rest) = bytes b (each says around rest)
+each says around (element tag kids rest) = element_pass says around tag kids (pass says (tag ∷ around) kids) ⊕ each says around rest
+
+pub all_alone-each : (says : List Say) (around : List Tag) (nodes : Nodes) → all_alone (pieces says around nodes) ≡ each says around nodes
+all_alone-each says around no_nodes = refl
+all_alone-each says around (bytes b rest) = ap (bytes b) (all_alone-each says around rest)
+all_alone-each says around (element tag kids rest) =
+    ap (λ n. n ⊕ all_alone (pieces says around rest)) (alone-piece says around tag kids (pass says (tag ∷ around) kids))
+    ∙ ap (λ n. element_pass says around tag kids (pass says (tag ∷ around) kids) ⊕ n) (all_alone-each says around rest)
+
+step_apart : (followed p heavy cut : Bool) (tag : Tag) (kids n : Nodes) (ps : List Piece) → (p && cut) ≡ false → (p ≡ true → n ≡ element tag kids no_nodes) →
+    grouped_from followed None ((if p then para tag cut kids else if heavy then thick n else thin n) ∷ ps) ≡ n ⊕ grouped_from followed None ps
+step_apart followed true heavy true tag kids n ps e h = absurd (true≢false e)
+step_apart followed true heavy false tag kids n ps e h = ap (λ x. x ⊕ grouped_from followed None ps) (sym (h refl))
+step_apart followed false true cut tag kids n ps e h = refl
+step_apart followed false false cut tag kids n ps e h = refl
+
+pub pass-apart : (says : List Say) (around : List Tag) (tag : Tag) (kids rest : Nodes) → (is_block_para says around tag && para_is_cut says kids) ≡ false →
+    pass says around (element tag kids rest) ≡ element_pass says around tag kids (pass says (tag ∷ around) kids) ⊕ pass says around rest
+pass-apart says around tag kids rest e =
+    let passed = pass says (tag ∷ around) kids in
+    step_apart false (is_block_para says around tag) (is_thick tag) (para_is_cut says kids) (renamed says around tag) (kept_kids says around tag kids passed)
+    (element_pass says around tag kids passed) (pieces says around rest) e (para_pass says around tag kids passed)
+
+no_and : (a b : Bool) → a ≡ false → (a && b) ≡ false
+no_and true b e = absurd (true≢false e)
+no_and false b e = refl
+
+and_no : (a b : Bool) → b ≡ false → (a && b) ≡ false
+and_no true b e = e
+and_no false b e = refl
+
+-- outside of block lists all nodes are passed one by one
+pub pass-outside : (says : List Say) (around : List Tag) (tag : Tag) (kids rest : Nodes) → in_blocks around ≡ false →
+    pass says around (element tag kids rest) ≡ element_pass says around tag kids (pass says (tag ∷ around) kids) ⊕ pass says around rest
+pass-outside says around tag kids rest e =
+    pass-apart says around tag kids rest
+    (no_and (is_block_para says around tag) (para_is_cut says kids)
+    (no_and (is "p" tag && in_blocks around) (is_leave (fate_of says tag)) (and_no (is "p" tag) (in_blocks around) e)))
+
+pub pass-each : (says : List Say) (around : List Tag) (nodes : Nodes) → in_blocks around ≡ false → pass says around nodes ≡ each says around nodes
+pass-each says around no_nodes e = refl
+pass-each says around (bytes b rest) e = ap (bytes b) (pass-each says around rest e)
+pass-each says around (element tag kids rest) e =
+    pass-outside says around tag kids rest e
+    ∙ ap (λ n. element_pass says around tag kids (pass says (tag ∷ around) kids) ⊕ n) (pass-each says around rest e)
+
+pub without-⊕ : (test : Tag → Bool) (xs ys : Nodes) → without test (xs ⊕ ys) ≡ without test xs ⊕ without test ys
+without-⊕ test no_nodes ys = refl
+without-⊕ test (bytes b rest) ys = ap (bytes b) (without-⊕ test rest ys)
+without-⊕ test (element tag kids rest) ys = at (test tag) (without-⊕ test rest ys)
+  where
+    at : (b : Bool) → without test (rest ⊕ ys) ≡ without test rest ⊕ without test ys →
+        (if b then without test (rest ⊕ ys) else element tag kids (without test (rest ⊕ ys)))
+        ≡ (if b then without test rest else element tag kids (without test rest)) ⊕ without test ys
+    at true ih = ih
+    at false ih = ap (element tag kids) ih
+
+-- Lists that are put together from the left.
+
+-- what is held is taken up by a paragraph of the list
+abbrev pub Takes : Option Nodes → List Piece → Type 0
+Takes None ps = Unit {0}
+Takes (Some held) ps = paragraph_next ps ≡ true
+
+pub takes-next : (p : Piece) (held : Option Nodes) (ps : List Piece) → Takes held (p ∷ ps) → Takes (held_by p held (joins p ps)) ps
+takes-next (para tag cut kids) held ps t = at cut (paragraph_next ps) refl
+  where
+    at : (c n : Bool) → paragraph_next ps ≡ n → Takes (held_by (para tag c kids) held (c && n)) ps
+    at true true e = e
+    at true false e = tt
+    at false n e = tt
+takes-next (thin nodes) None ps t = tt
+takes-next (thin nodes) (Some held) ps t = t
+takes-next (thick nodes) held ps t = tt
+
+-- the last thick node of the list is a paragraph that is cut
+abbrev pub ends_cut : List Piece → Bool
+ends_cut [] = false
+ends_cut (para tag cut kids ∷ ps) = if has_thick ps then ends_cut ps else cut
+ends_cut (thin nodes ∷ ps) = ends_cut ps
+ends_cut (thick nodes ∷ ps) = ends_cut ps
+
+or_assoc : (a b c : Bool) → ((a || b) || c) ≡ (a || (b || c))
+or_assoc true b c = refl
+or_assoc false b c = refl
+
+pub thick-append : (xs ys : List Piece) → has_thick (xs ++ ys) ≡ (has_thick xs || has_thick ys)
+thick-append [] ys = refl
+thick-append (para tag cut kids ∷ xs) ys = refl
+thick-append (thin nodes ∷ xs) ys = thick-append xs ys
+thick-append (thick nodes ∷ xs) ys = refl
+
+next_of : Bool → Bool → Bool → Bool
+next_of true mine other = mine
+next_of false mine other = other
+
+pub next-thick : (xs : List Piece) → has_thick xs ≡ false → paragraph_next xs ≡ false
+next-thick [] e = refl
+next-thick (para tag cut kids ∷ xs) e = absurd (true≢false e)
+next-thick (thin nodes ∷ xs) e = next-thick xs e
+next-thick (thick nodes ∷ xs) e = refl
+
+pub next-append : (xs ys : List Piece) → has_thick xs ≡ true → paragraph_next (xs ++ ys) ≡ paragraph_next xs
+next-append [] ys e = absurd (true≢false (sym e))
+next-append (para tag cut kids ∷ xs) ys e = refl
+next-append (thin nodes ∷ xs) ys e = next-append xs ys e
+next-append (thick nodes ∷ xs) ys e = refl
+
+pub next-thin : (xs ys : List Piece) → has_thick xs ≡ false → paragraph_next (xs ++ ys) ≡ paragraph_next ys
+next-thin [] ys e = refl
+next-thin (para tag cut kids ∷ xs) ys e = absurd (true≢false e)
+next-thin (thin nodes ∷ xs) ys e = next-thin xs ys e
+next-thin (thick nodes ∷ xs) ys e = absurd (true≢false e)
+
+-- in front of a list that it doesn't join, a node joins as without it
+joins-append : (p : Piece) (xs ys : List Piece) → (ends_cut (p ∷ xs) && paragraph_next ys) ≡ false → joins p (xs ++ ys) ≡ joins p xs
+joins-append (para tag cut kids) xs ys e = at (has_thick xs) refl e
+  where
+    at : (t : Bool) → has_thick xs ≡ t → ((if t then ends_cut xs else cut) && paragraph_next ys) ≡ false → (cut && paragraph_next (xs ++ ys)) ≡ (cut && paragraph_next xs)
+    at true h e = ap (λ b. cut && b) (next-append xs ys h)
+    at false h e = ap (λ b. cut && b) (next-thin xs ys h) ∙ e ∙ sym (and_no cut (paragraph_next xs) (next-thick xs h))
+joins-append (thin nodes) xs ys e = refl
+joins-append (thick nodes) xs ys e = refl
+
+ends-rest : (p : Piece) (xs : List Piece) (n : Bool) → (ends_cut (p ∷ xs) && n) ≡ false → (ends_cut xs && n) ≡ false
+ends-rest (para tag cut kids) xs n e = at (has_thick xs) refl e
+  where
+    none_cut : (xs : List Piece) → has_thick xs ≡ false → ends_cut xs ≡ false
+    none_cut [] e = refl
+    none_cut (para tag cut kids ∷ xs) e = absurd (true≢false e)
+    none_cut (thin nodes ∷ xs) e = none_cut xs e
+    none_cut (thick nodes ∷ xs) e = absurd (true≢false e)
+
+    at : (t : Bool) → has_thick xs ≡ t → ((if t then ends_cut xs else cut) && n) ≡ false → (ends_cut xs && n) ≡ false
+    at true h e = e
+    at false h e = ap (λ b. b && n) (none_cut xs h)
+ends-rest (thin nodes) xs n e = e
+ends-rest (thick nodes) xs n e = e
+
+-- A list may be cut in two where no paragraph of the first side is joined with one of the second: each side is put together by
+-- itself.
+pub grouped_from-append : (followed : Bool) (xs ys : List Piece) (held : Option Nodes) → (ends_cut xs && paragraph_next ys) ≡ false → Takes held xs →
+    grouped_from followed held (xs ++ ys) ≡ grouped_from (has_thick ys || followed) held xs ⊕ grouped_from followed None ys
+grouped_from-append followed [] ys None e t = refl
+grouped_from-append followed [] ys (Some held) e t = absurd (true≢false (sym t))
+grouped_from-append followed (p ∷ xs) ys held e t =
+    let j = joins-append p xs ys e in
+    let here = given p held (joins p xs) (has_thick xs || (has_thick ys || followed)) in
+    let later = held_by p held (joins p xs) in
+    ap (λ b. given p held b (has_thick (xs ++ ys) || followed) ⊕ grouped_from followed (held_by p held b) (xs ++ ys)) j
+    ∙ ap (λ b. given p held (joins p xs) b ⊕ grouped_from followed later (xs ++ ys))
+    (ap (λ b. b || followed) (thick-append xs ys) ∙ or_assoc (has_thick xs) (has_thick ys) followed)
+    ∙ ap (λ n. here ⊕ n) (grouped_from-append followed xs ys later (ends-rest p xs (paragraph_next ys) e) (takes-next p held xs t))
+    ∙ sym (⊕_assoc here (grouped_from (has_thick ys || followed) later xs) (grouped_from followed None ys))
+
+pub grouped-append : (followed : Bool) (xs ys : List Piece) → (ends_cut xs && paragraph_next ys) ≡ false →
+    grouped followed (xs ++ ys) ≡ grouped (has_thick ys || followed) xs ⊕ grouped followed ys
+grouped-append followed xs ys e = grouped_from-append followed xs ys None e tt
+
+pub pieces-⊕ : (says : List Say) (around : List Tag) (xs ys : Nodes) → pieces says around (xs ⊕ ys) ≡ pieces says around xs ++ pieces says around ys
+pieces-⊕ says around no_nodes ys = refl
+pieces-⊕ says around (bytes b rest) ys = ap (λ ps. thin (bytes b no_nodes) ∷ ps) (pieces-⊕ says around rest ys)
+pieces-⊕ says around (element tag kids rest) ys =
+    ap (λ ps. piece says around tag kids (pass says (tag ∷ around) kids) ∷ ps) (pieces-⊕ says around rest ys)

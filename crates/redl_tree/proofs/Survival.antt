@@ -1,0 +1,435 @@
+-- The law of survival for one story: its text pieces after a pass are the survivors.
+use Rattle.std.proofs.Common.{◌≡◌, ℕ, List, [], ◌∷◌, ◌++◌, map, filter, append_assoc, codes, Bool, true, false, ◌&&◌, ◌||◌, not, Option, Some, None, is_some, refl, sym, ap, ◌∙◌, true≢false, if◌then◌else◌}
+use Rattle.std.proofs.lemmas.List.{append-nil, map-append}
+use Rattle.std.proofs.lemmas.List.Elements.{filter-append}
+use Rattle.std.specs.List.{list_any}
+use Rattle.redl_tree.specs.Nodes.{Tag, Nodes, no_nodes, bytes, element, ◌⊕◌}
+use Rattle.redl_tree.specs.View.{Parts}
+use Rattle.redl_tree.specs.Names.{is}
+use Rattle.redl_tree.specs.Kids.{only, without, has_element}
+use Rattle.redl_tree.specs.Places.{is_quiet, is_open, trace_of}
+use Rattle.redl_tree.specs.Lists.{is_thick}
+use Rattle.redl_tree.specs.Kinds.{is_content, is_cut, is_drop}
+use Rattle.redl_tree.specs.Fates.{fate, fate_of, say_of, trace_fate, renamed, live_name, is_revived}
+use Rattle.redl_tree.specs.Restored.{rejected, after_change}
+use Rattle.redl_tree.specs.Tables.{goes_at, para_is_cut}
+use Rattle.redl_tree.specs.Groups.{Piece, para, thin, thick, has_thick, joins, taken, joined_tag, joined_kids, settled, given, held_by, grouped_from}
+use Rattle.redl_tree.specs.Pass.{by_fate, kept_kids, element_pass, is_block_para, piece, pieces, pass}
+use Rattle.redl_tree.specs.Survivors.{Stretch, stretches_in, is_gone, any_gone, text_pieces, survivors}
+use Rattle.redl_tree.specs.declared.kinds.Trace.{Trace}
+use Rattle.redl_tree.specs.declared.kinds.Trace.TheVariants.{Ins, Del, From, To}
+use Rattle.redl_tree.specs.declared.kinds.Kind.{Kind}
+use Rattle.redl_tree.specs.declared.kinds.Kind.TheVariants.{Plain, Content, Marker}
+use Rattle.redl_tree.specs.declared.kinds.Say.{Say}
+use Rattle.redl_tree.specs.declared.kinds.Say.TheVariants.{Keep, Accept, Reject}
+use Rattle.redl_tree.specs.declared.kinds.Fate.{Fate}
+use Rattle.redl_tree.specs.declared.kinds.Fate.TheVariants.{Leave, Free, Cut, Clear, Restore, Drop}
+use Rattle.redl_tree.proofs.Named.{by_name, by_trace}
+use Rattle.redl_tree.proofs.Fits.{Fits, AllFit, OpenKind, plain, content as content_kind, marker, open_fits, open_none_rejected, open_∷}
+use Rattle.redl_tree.proofs.PassLaws.{if_true, if_false, alone, alone-piece, block_p, Takes, takes-next}
+
+-- the bytes of nodes that have no quiet ancestor among them, in order
+abbrev pub texts : Nodes → List (List ℕ)
+texts no_nodes = []
+texts (bytes b rest) = b ∷ texts rest
+texts (element tag kids rest) = (if is_quiet tag then [] else texts kids) ++ texts rest
+
+texts-⊕ : (xs ys : Nodes) → texts (xs ⊕ ys) ≡ texts xs ++ texts ys
+texts-⊕ no_nodes ys = refl
+texts-⊕ (bytes b rest) ys = ap (λ ts. b ∷ ts) (texts-⊕ rest ys)
+texts-⊕ (element tag kids rest) ys =
+    ap (λ ts. (if is_quiet tag then [] else texts kids) ++ ts) (texts-⊕ rest ys)
+    ∙ sym (append_assoc (if is_quiet tag then [] else texts kids) (texts rest) (texts ys))
+
+texts-one : (tag : Tag) (kids : Nodes) → texts (element tag kids no_nodes) ≡ (if is_quiet tag then [] else texts kids)
+texts-one tag kids = append-nil (if is_quiet tag then [] else texts kids)
+
+pPr_quiet : (tag : Tag) → is "pPr" tag ≡ true → is_quiet tag ≡ true
+pPr_quiet tag e = by_name (λ t. is_quiet t ≡ true) "pPr" tag e refl
+
+texts-without : (xs : Nodes) → texts (without (is "pPr") xs) ≡ texts xs
+texts-without no_nodes = refl
+texts-without (bytes b rest) = ap (λ ts. b ∷ ts) (texts-without rest)
+texts-without (element tag kids rest) = at (is "pPr" tag) refl (texts-without rest)
+  where
+    at : (b : Bool) → is "pPr" tag ≡ b → texts (without (is "pPr") rest) ≡ texts rest →
+        texts (if b then without (is "pPr") rest else element tag kids (without (is "pPr") rest))
+        ≡ (if is_quiet tag then [] else texts kids) ++ texts rest
+    at true e ih = ih ∙ ap (λ ts. ts ++ texts rest) (sym (if_true (is_quiet tag) [] (texts kids) (pPr_quiet tag e)))
+    at false e ih = ap (λ ts. (if is_quiet tag then [] else texts kids) ++ ts) ih
+
+texts-only : (xs : Nodes) → texts (only (is "pPr") xs) ≡ []
+texts-only no_nodes = refl
+texts-only (bytes b rest) = texts-only rest
+texts-only (element tag kids rest) = at (is "pPr" tag) refl (texts-only rest)
+  where
+    at : (b : Bool) → is "pPr" tag ≡ b → texts (only (is "pPr") rest) ≡ [] →
+        texts (if b then element tag kids (only (is "pPr") rest) else only (is "pPr") rest) ≡ []
+    at true e ih = ap (λ ts. ts ++ texts (only (is "pPr") rest)) (if_true (is_quiet tag) [] (texts kids) (pPr_quiet tag e)) ∙ ih
+    at false e ih = ih
+
+-- Lists that are put together
+
+abbrev pub piece_texts : Piece → List (List ℕ)
+piece_texts (para tag cut kids) = texts kids
+piece_texts (thin nodes) = texts nodes
+piece_texts (thick nodes) = texts nodes
+
+abbrev pub pieces_texts : List Piece → List (List ℕ)
+pieces_texts [] = []
+pieces_texts (p ∷ ps) = piece_texts p ++ pieces_texts ps
+
+-- the paragraphs among these are no properties
+abbrev pub IsLoudPiece : Piece → Type 0
+IsLoudPiece (para tag cut kids) = is_quiet tag ≡ false
+IsLoudPiece (thin nodes) = Unit {0}
+IsLoudPiece (thick nodes) = Unit {0}
+
+abbrev pub AreLoud : List Piece → Type 0
+AreLoud [] = Unit {0}
+AreLoud (p ∷ ps) = IsLoudPiece p × AreLoud ps
+
+abbrev held_texts : Option Nodes → List (List ℕ)
+held_texts None = []
+held_texts (Some held) = texts held
+
+texts-settled : (ends : Bool) (tag : Tag) (kids : Nodes) → is_quiet tag ≡ false → texts (settled ends tag kids) ≡ texts kids
+texts-settled ends tag kids q = at (ends && not (has_element (without (is "pPr") kids)))
+  where
+    at : (b : Bool) → texts (if b then without (is "pPr") kids else element tag kids no_nodes) ≡ texts kids
+    at true = texts-without kids
+    at false = texts-one tag kids ∙ if_false (is_quiet tag) [] (texts kids) q
+
+texts-joined : (held : Option Nodes) (kids : Nodes) → texts (joined_kids held kids) ≡ held_texts held ++ texts kids
+texts-joined None kids = refl
+texts-joined (Some held) kids =
+    texts-⊕ (only (is "pPr") kids) (held ⊕ without (is "pPr") kids)
+    ∙ ap (λ ts. ts ++ texts (held ⊕ without (is "pPr") kids)) (texts-only kids)
+    ∙ texts-⊕ held (without (is "pPr") kids) ∙ ap (λ ts. texts held ++ ts) (texts-without kids)
+
+texts-taken : (held : Option Nodes) (nodes : Nodes) → texts (taken held nodes) ≡ held_texts held ++ texts nodes
+texts-taken None nodes = texts-without nodes
+texts-taken (Some held) nodes = texts-⊕ held (without (is "pPr") nodes) ∙ ap (λ ts. texts held ++ ts) (texts-without nodes)
+
+loud_joined : (held : Option Nodes) (tag : Tag) → is_quiet tag ≡ false → is_quiet (joined_tag held tag) ≡ false
+loud_joined None tag q = q
+loud_joined (Some held) tag q = q
+
+-- what a node gives, and what is held behind it, is what was held and what it holds itself
+texts-given : (p : Piece) (held : Option Nodes) (joins followed : Bool) (ps : List Piece) → IsLoudPiece p → Takes held (p ∷ ps) →
+    texts (given p held joins followed) ++ held_texts (held_by p held joins) ≡ held_texts held ++ piece_texts p
+texts-given (para tag cut kids) held true followed ps l t = texts-taken held kids
+texts-given (para tag cut kids) held false followed ps l t =
+    append-nil (texts (settled (cut && followed) (joined_tag held tag) (joined_kids held kids)))
+    ∙ texts-settled (cut && followed) (joined_tag held tag) (joined_kids held kids) (loud_joined held tag l) ∙ texts-joined held kids
+texts-given (thin nodes) None joins followed ps l t = append-nil (texts nodes)
+texts-given (thin nodes) (Some held) joins followed ps l t = texts-taken (Some held) nodes
+texts-given (thick nodes) None joins followed ps l t = append-nil (texts nodes)
+texts-given (thick nodes) (Some held) joins followed ps l t = absurd (true≢false (sym t))
+
+-- joining and dissolving paragraphs leaves the text pieces as they are
+pub texts-grouped : (followed : Bool) (held : Option Nodes) (ps : List Piece) → AreLoud ps → Takes held ps →
+    texts (grouped_from followed held ps) ≡ held_texts held ++ pieces_texts ps
+texts-grouped followed None [] l t = refl
+texts-grouped followed (Some held) [] l t = absurd (true≢false (sym t))
+texts-grouped followed held (p ∷ ps) l t =
+    let here = given p held (joins p ps) (has_thick ps || followed) in
+    let later = held_by p held (joins p ps) in
+    texts-⊕ here (grouped_from followed later ps)
+    ∙ ap (λ ts. texts here ++ ts) (texts-grouped followed later ps l.1 (takes-next p held ps t))
+    ∙ sym (append_assoc (texts here) (held_texts later) (pieces_texts ps))
+    ∙ ap (λ ts. ts ++ pieces_texts ps) (texts-given p held (joins p ps) (has_thick ps || followed) ps l.0 t)
+    ∙ append_assoc (held_texts held) (piece_texts p) (pieces_texts ps)
+
+-- Survivors as a recursion
+
+abbrev pub gone_at : List Say → List Tag → Tag → Nodes → Bool
+gone_at says around tag kids =
+    (is_content tag.kind && is_cut (fate_of says tag)) || is_drop (fate_of says tag) || goes_at says around tag kids
+
+abbrev pub kept : List Say → List Tag → Nodes → List (List ℕ)
+kept says around no_nodes = []
+kept says around (bytes b rest) = b ∷ kept says around rest
+kept says around (element tag kids rest) =
+    (if is_quiet tag || gone_at says around tag kids then [] else kept says (tag ∷ around) kids) ++ kept says around rest
+
+quiet_renamed : (says : List Say) (around : List Tag) (tag : Tag) → is_quiet (renamed says around tag) ≡ is_quiet tag
+quiet_renamed says around tag = at (is_revived says around)
+  where
+    at_instr : (b : Bool) → is "delInstrText" tag ≡ b → is_quiet (if b then record tag { local = codes "instrText" } else tag) ≡ is_quiet tag
+    at_instr true e = by_name (λ t. is_quiet (record t { local = codes "instrText" }) ≡ is_quiet t) "delInstrText" tag e refl
+    at_instr false e = refl
+
+    at_text : (b : Bool) → is "delText" tag ≡ b → is_quiet (if b then record tag { local = codes "t" } else if is "delInstrText" tag then record tag { local = codes "instrText" } else tag) ≡ is_quiet tag
+    at_text true e = by_name (λ t. is_quiet (record t { local = codes "t" }) ≡ is_quiet t) "delText" tag e refl
+    at_text false e = at_instr (is "delInstrText" tag) refl
+
+    at : (b : Bool) → is_quiet (if b then live_name tag else tag) ≡ is_quiet tag
+    at true = at_text (is "delText" tag) refl
+    at false = refl
+
+texts-stays : (says : List Say) (around : List Tag) (tag : Tag) (kids passed : Nodes) (goes : Bool) (inner : List (List ℕ)) →
+    (is_quiet tag ≡ false → (rejected says kids ≡ None) × (texts passed ≡ inner)) →
+    texts (if goes then no_nodes else element (renamed says around tag) (after_change around tag (rejected says kids) passed) no_nodes)
+    ≡ (if is_quiet tag || goes then [] else inner)
+texts-stays says around tag kids passed goes inner h = at (is_quiet tag) refl goes
+  where
+    at : (q : Bool) → is_quiet tag ≡ q → (goes : Bool) →
+        texts (if goes then no_nodes else element (renamed says around tag) (after_change around tag (rejected says kids) passed) no_nodes)
+        ≡ (if q || goes then [] else inner)
+    at true e true = refl
+    at false e true = refl
+    at true e false =
+        let made = after_change around tag (rejected says kids) passed in
+        texts-one (renamed says around tag) made
+        ∙ if_true (is_quiet (renamed says around tag)) [] (texts made) (quiet_renamed says around tag ∙ e)
+    at false e false =
+        let made = after_change around tag (rejected says kids) passed in
+        texts-one (renamed says around tag) made
+        ∙ if_false (is_quiet (renamed says around tag)) [] (texts made) (quiet_renamed says around tag ∙ e)
+        ∙ ap (λ u. texts (after_change around tag u passed)) (h e).0 ∙ (h e).1
+
+-- the fates of a trace
+abbrev IsTraceFate : Fate → Type 0
+IsTraceFate Leave = Unit {0}
+IsTraceFate Free = Unit {0}
+IsTraceFate Cut = Unit {0}
+IsTraceFate Clear = ⊥
+IsTraceFate Restore = ⊥
+IsTraceFate Drop = ⊥
+
+trace_fate_is : (t : Trace) (say : Say) → IsTraceFate (trace_fate t say)
+trace_fate_is t Keep = tt
+trace_fate_is Ins Accept = tt
+trace_fate_is To Accept = tt
+trace_fate_is Del Accept = tt
+trace_fate_is From Accept = tt
+trace_fate_is Ins Reject = tt
+trace_fate_is To Reject = tt
+trace_fate_is Del Reject = tt
+trace_fate_is From Reject = tt
+
+plain_texts : (k : Kind) (say : Say) (q goes : Bool) (passed stays : Nodes) (inner : List (List ℕ)) → k ≡ Plain →
+    texts stays ≡ (if q || goes then [] else inner) →
+    texts (by_fate (fate k say) (is_content k) passed stays)
+    ≡ (if q || ((is_content k && is_cut (fate k say)) || is_drop (fate k say) || goes) then [] else inner)
+plain_texts k say q goes passed stays inner e h = rw e h
+
+marker_texts : (k : Kind) (say : Say) (q goes : Bool) (passed stays : Nodes) (inner : List (List ℕ)) → k ≡ Marker →
+    texts stays ≡ (if q || goes then [] else inner) →
+    texts (by_fate (fate k say) (is_content k) passed stays)
+    ≡ (if q || ((is_content k && is_cut (fate k say)) || is_drop (fate k say) || goes) then [] else inner)
+marker_texts k Keep q goes passed stays inner e h = rw e h
+marker_texts k Accept true goes passed stays inner e h = rw e refl
+marker_texts k Accept false goes passed stays inner e h = rw e refl
+marker_texts k Reject true goes passed stays inner e h = rw e refl
+marker_texts k Reject false goes passed stays inner e h = rw e refl
+
+content_texts : (f : Fate) (passed stays : Nodes) (inner : List (List ℕ)) → IsTraceFate f →
+    texts stays ≡ inner → texts passed ≡ inner →
+    texts (by_fate f true passed stays) ≡ (if (is_cut f || is_drop f) || false then [] else inner)
+content_texts Leave passed stays inner t h p = h
+content_texts Free passed stays inner t h p = p
+content_texts Cut passed stays inner t h p = refl
+content_texts Clear passed stays inner t h p = absurd t
+content_texts Restore passed stays inner t h p = absurd t
+content_texts Drop passed stays inner t h p = absurd t
+
+content_kind_texts : (k : Kind) (t : Trace) (say : Say) (q goes : Bool) (passed stays : Nodes) (inner : List (List ℕ)) → k ≡ Content t →
+    q ≡ false → goes ≡ false →
+    texts stays ≡ (if q || goes then [] else inner) → texts passed ≡ inner →
+    texts (by_fate (fate k say) (is_content k) passed stays)
+    ≡ (if q || ((is_content k && is_cut (fate k say)) || is_drop (fate k say) || goes) then [] else inner)
+content_kind_texts k t say true goes passed stays inner e q g h p = absurd (true≢false q)
+content_kind_texts k t say false true passed stays inner e q g h p = absurd (true≢false g)
+content_kind_texts k t say false false passed stays inner e q g h p = rw e (content_texts (trace_fate t say) passed stays inner (trace_fate_is t say) h p)
+
+trace_some : (tag : Tag) (t : Trace) → trace_of tag ≡ Some t → is_some (trace_of tag) ≡ true
+trace_some tag t e = rw e refl
+
+-- no content revision is quiet, a table, a row, a cell or a shell
+trace_quiet : (tag : Tag) → is_some (trace_of tag) ≡ true → is_quiet tag ≡ false
+trace_quiet tag e = by_trace (λ t. is_quiet t ≡ false) tag e (refl, (refl, (refl, (refl, tt))))
+
+trace_stays : (says : List Say) (around : List Tag) (tag : Tag) (kids : Nodes) → is_some (trace_of tag) ≡ true → goes_at says around tag kids ≡ false
+trace_stays says around tag kids e = by_trace (λ t. goes_at says around t kids ≡ false) tag e (refl, (refl, (refl, (refl, tt))))
+
+element_of_kind : (says : List Say) (around : List Tag) (tag : Tag) (kids passed : Nodes) (inner : List (List ℕ)) → OpenKind tag →
+    (texts (if goes_at says around tag kids then no_nodes else element (renamed says around tag) (after_change around tag (rejected says kids) passed) no_nodes)
+    ≡ (if is_quiet tag || goes_at says around tag kids then [] else inner)) →
+    (is_quiet tag ≡ false → texts passed ≡ inner) →
+    texts (element_pass says around tag kids passed) ≡ (if is_quiet tag || gone_at says around tag kids then [] else inner)
+element_of_kind says around tag kids passed inner (plain k t) stays ih =
+    plain_texts tag.kind (say_of says tag.rev) (is_quiet tag) (goes_at says around tag kids) passed
+    (if goes_at says around tag kids then no_nodes else element (renamed says around tag) (after_change around tag (rejected says kids) passed) no_nodes)
+    inner k stays
+element_of_kind says around tag kids passed inner (marker k t) stays ih =
+    marker_texts tag.kind (say_of says tag.rev) (is_quiet tag) (goes_at says around tag kids) passed
+    (if goes_at says around tag kids then no_nodes else element (renamed says around tag) (after_change around tag (rejected says kids) passed) no_nodes)
+    inner k stays
+element_of_kind says around tag kids passed inner (content_kind t k e) stays ih =
+    let quiet = trace_quiet tag (trace_some tag t e) in
+    content_kind_texts tag.kind t (say_of says tag.rev) (is_quiet tag) (goes_at says around tag kids) passed
+    (if goes_at says around tag kids then no_nodes else element (renamed says around tag) (after_change around tag (rejected says kids) passed) no_nodes)
+    inner k quiet (trace_stays says around tag kids (trace_some tag t e)) stays (ih quiet)
+
+-- what one element among the content leaves of the text pieces of its kids
+element_texts : (says : List Say) (around : List Tag) (tag : Tag) (kids passed : Nodes) (inner : List (List ℕ)) → is_open around ≡ true →
+    Fits around tag → AllFit (tag ∷ around) kids → (is_quiet tag ≡ false → texts passed ≡ inner) →
+    texts (element_pass says around tag kids passed) ≡ (if is_quiet tag || gone_at says around tag kids then [] else inner)
+element_texts says around tag kids passed inner o fit below ih =
+    element_of_kind says around tag kids passed inner (open_fits around tag o fit)
+    (texts-stays says around tag kids passed (goes_at says around tag kids) inner
+    (λ q. (open_none_rejected says (tag ∷ around) kids (open_∷ tag around q ∙ o) below, ih q)))
+    ih
+
+-- what a node of a list leaves of the text pieces is what it gives by itself
+
+texts-alone : (p : Piece) → IsLoudPiece p → piece_texts p ≡ texts (alone p)
+texts-alone (para tag cut kids) q = sym (texts-one tag kids ∙ if_false (is_quiet tag) [] (texts kids) q)
+texts-alone (thin nodes) q = refl
+texts-alone (thick nodes) q = refl
+
+quiet_p : (tag : Tag) → is "p" tag ≡ true → is_quiet tag ≡ false
+quiet_p tag e = by_name (λ t. is_quiet t ≡ false) "p" tag e refl
+
+piece_loud-if : (p heavy cut : Bool) (tag : Tag) (kids n : Nodes) → (p ≡ true → is_quiet tag ≡ false) →
+    IsLoudPiece (if p then para tag cut kids else if heavy then thick n else thin n)
+piece_loud-if true heavy cut tag kids n h = h refl
+piece_loud-if false true cut tag kids n h = tt
+piece_loud-if false false cut tag kids n h = tt
+
+piece_loud : (says : List Say) (around : List Tag) (tag : Tag) (kids passed : Nodes) → IsLoudPiece (piece says around tag kids passed)
+piece_loud says around tag kids passed =
+    piece_loud-if (is_block_para says around tag) (is_thick tag) (para_is_cut says kids) (renamed says around tag) (kept_kids says around tag kids passed)
+    (element_pass says around tag kids passed) (λ e. quiet_renamed says around tag ∙ quiet_p tag (block_p says around tag e))
+
+pub pieces_loud : (says : List Say) (around : List Tag) (nodes : Nodes) → AreLoud (pieces says around nodes)
+pieces_loud says around no_nodes = tt
+pieces_loud says around (bytes b rest) = (tt, pieces_loud says around rest)
+pieces_loud says around (element tag kids rest) = (piece_loud says around tag kids (pass says (tag ∷ around) kids), pieces_loud says around rest)
+
+-- what the pieces of a list among the content leave
+texts-pieces : (says : List Say) (around : List Tag) (nodes : Nodes) → is_open around ≡ true → AllFit around nodes →
+    pieces_texts (pieces says around nodes) ≡ kept says around nodes
+texts-pieces says around no_nodes o fit = refl
+texts-pieces says around (bytes b rest) o fit = ap (λ ts. b ∷ ts) (texts-pieces says around rest o fit)
+texts-pieces says around (element tag kids rest) o fit =
+    let passed = pass says (tag ∷ around) kids in
+    let inner = kept says (tag ∷ around) kids in
+    let here : (is_quiet tag ≡ false → texts passed ≡ inner) =
+    λ q. texts-grouped false None (pieces says (tag ∷ around) kids) (pieces_loud says (tag ∷ around) kids) tt
+    ∙ texts-pieces says (tag ∷ around) kids (open_∷ tag around q ∙ o) fit.1
+    in
+    ap (λ ts. ts ++ pieces_texts (pieces says around rest))
+    (texts-alone (piece says around tag kids passed) (piece_loud says around tag kids passed)
+    ∙ ap texts (alone-piece says around tag kids passed)
+    ∙ element_texts says around tag kids passed inner o fit.0 fit.1 here)
+    ∙ ap (λ ts. (if is_quiet tag || gone_at says around tag kids then [] else inner) ++ ts) (texts-pieces says around rest o fit.2)
+
+-- Stretches
+
+abbrev pub tags_above : List Parts → List Tag
+tags_above above = map (λ parts. parts.tag) above
+
+-- the texts that pass a test on what stands above, where the test looks at one element after the other
+abbrev pub left_by : (List Parts → Tag → Nodes → Bool) → List Parts → Nodes → List (List ℕ)
+left_by ends above no_nodes = []
+left_by ends above (bytes b rest) = b ∷ left_by ends above rest
+left_by ends above (element tag kids rest) =
+    (if ends above tag kids then [] else left_by ends (record { tag = tag; kids = kids } ∷ above) kids) ++ left_by ends above rest
+
+module _ (live : List Parts → Bool) (ends : List Parts → Tag → Nodes → Bool)
+    (step : (above : List Parts) (tag : Tag) (kids : Nodes) → live (record { tag = tag; kids = kids } ∷ above) ≡ (not (ends above tag kids) && live above)) where
+  dead_below : (above : List Parts) (tag : Tag) (kids : Nodes) → live above ≡ false → live (record { tag = tag; kids = kids } ∷ above) ≡ false
+  dead_below above tag kids d = step above tag kids ∙ at (not (ends above tag kids)) (live above) d
+    where
+      at : (a b : Bool) → b ≡ false → (a && b) ≡ false
+      at true b e = e
+      at false b e = refl
+
+  dead_stretches : (above : List Parts) (nodes : Nodes) → live above ≡ false → filter (λ s. live s.above) (stretches_in above nodes) ≡ []
+  dead_stretches above no_nodes d = refl
+  dead_stretches above (bytes b rest) d = if_false (live above) (record { text = b; above = above } ∷ filter (λ s. live s.above) (stretches_in above rest)) (filter (λ s. live s.above) (stretches_in above rest)) d ∙ dead_stretches above rest d
+  dead_stretches above (element tag kids rest) d =
+      let below = record { tag = tag; kids = kids } ∷ above in
+      filter-append (λ s. live s.above) (stretches_in below kids) (stretches_in above rest)
+      ∙ ap (λ ts. ts ++ filter (λ s. live s.above) (stretches_in above rest)) (dead_stretches below kids (dead_below above tag kids d))
+      ∙ dead_stretches above rest d
+
+  stretches_left : (above : List Parts) (nodes : Nodes) → live above ≡ true →
+      map (λ s. s.text) (filter (λ s. live s.above) (stretches_in above nodes)) ≡ left_by ends above nodes
+  stretches_left above no_nodes l = refl
+  stretches_left above (bytes b rest) l =
+      ap (λ ss. map (λ s. s.text) ss) (if_true (live above) (record { text = b; above = above } ∷ filter (λ s. live s.above) (stretches_in above rest)) (filter (λ s. live s.above) (stretches_in above rest)) l)
+      ∙ ap (λ ts. b ∷ ts) (stretches_left above rest l)
+  stretches_left above (element tag kids rest) l =
+      let below = record { tag = tag; kids = kids } ∷ above in
+      let inside = filter (λ s. live s.above) (stretches_in below kids) in
+      let after = filter (λ s. live s.above) (stretches_in above rest) in
+      ap (λ ss. map (λ s. s.text) ss) (filter-append (λ s. live s.above) (stretches_in below kids) (stretches_in above rest))
+      ∙ map-append (λ s. s.text) inside after
+      ∙ ap (λ ts. ts ++ map (λ s. s.text) after)
+      (at (ends above tag kids) (live below) inside (left_by ends below kids) l (step above tag kids) (dead_stretches below kids) (stretches_left below kids))
+      ∙ ap (λ ts. (if ends above tag kids then [] else left_by ends below kids) ++ ts) (stretches_left above rest l)
+    where
+      at : (e b : Bool) (inside : List Stretch) (left : List (List ℕ)) → live above ≡ true → b ≡ (not e && live above) →
+          (b ≡ false → inside ≡ []) → (b ≡ true → map (λ s. s.text) inside ≡ left) →
+          map (λ s. s.text) inside ≡ (if e then [] else left)
+      at true b inside left l is d h = ap (λ ss. map (λ s. s.text) ss) (d is)
+      at false b inside left l is d h = h (is ∙ l)
+
+left_by-quiet : (above : List Parts) (nodes : Nodes) → left_by (λ above tag kids. is_quiet tag) above nodes ≡ texts nodes
+left_by-quiet above no_nodes = refl
+left_by-quiet above (bytes b rest) = ap (λ ts. b ∷ ts) (left_by-quiet above rest)
+left_by-quiet above (element tag kids rest) =
+    ap (λ ts. (if is_quiet tag then [] else ts) ++ left_by (λ above tag kids. is_quiet tag) above rest) (left_by-quiet (record { tag = tag; kids = kids } ∷ above) kids)
+    ∙ ap (λ ts. (if is_quiet tag then [] else texts kids) ++ ts) (left_by-quiet above rest)
+
+abbrev ends_under : List Say → List Parts → Tag → Nodes → Bool
+ends_under says above tag kids = is_quiet tag || is_gone says above (record { tag = tag; kids = kids })
+
+-- below the root
+left_by-kept : (says : List Say) (parent : Parts) (above : List Parts) (nodes : Nodes) →
+    left_by (ends_under says) (parent ∷ above) nodes ≡ kept says (tags_above (parent ∷ above)) nodes
+left_by-kept says parent above no_nodes = refl
+left_by-kept says parent above (bytes b rest) = ap (λ ts. b ∷ ts) (left_by-kept says parent above rest)
+left_by-kept says parent above (element tag kids rest) =
+    ap (λ ts. (if ends_under says (parent ∷ above) tag kids then [] else ts) ++ left_by (ends_under says) (parent ∷ above) rest)
+    (left_by-kept says (record { tag = tag; kids = kids }) (parent ∷ above) kids)
+    ∙ ap (λ ts. (if ends_under says (parent ∷ above) tag kids then [] else kept says (tag ∷ tags_above (parent ∷ above)) kids) ++ ts) (left_by-kept says parent above rest)
+
+not_or : (a b : Bool) → not (a || b) ≡ (not a && not b)
+not_or true b = refl
+not_or false b = refl
+
+not_ors : (q l g a : Bool) → (not (q || l) && not (g || a)) ≡ (not (q || g) && (not l && not a))
+not_ors true l g a = refl
+not_ors false true true a = refl
+not_ors false true false a = refl
+not_ors false false true a = refl
+not_ors false false false a = refl
+
+pub text_pieces-texts : (root : Tag) (kids : Nodes) → is_quiet root ≡ false → text_pieces (record { tag = root; kids = kids }) ≡ texts kids
+text_pieces-texts root kids q =
+    stretches_left (λ above. not (list_any (λ parts. is_quiet parts.tag) above)) (λ above tag kids. is_quiet tag)
+    (λ above tag kids. not_or (is_quiet tag) (list_any (λ parts. is_quiet parts.tag) above))
+    (record { tag = root; kids = kids } ∷ []) kids (rw q refl)
+    ∙ left_by-quiet (record { tag = root; kids = kids } ∷ []) kids
+
+pub survivors-kept : (says : List Say) (root : Tag) (kids : Nodes) → is_quiet root ≡ false →
+    survivors says (record { tag = root; kids = kids }) ≡ kept says (root ∷ []) kids
+survivors-kept says root kids q =
+    stretches_left (λ above. not (list_any (λ parts. is_quiet parts.tag) above) && not (any_gone says above)) (ends_under says)
+    (λ above tag kids. not_ors (is_quiet tag) (list_any (λ parts. is_quiet parts.tag) above) (is_gone says above (record { tag = tag; kids = kids })) (any_gone says above))
+    (record { tag = root; kids = kids } ∷ []) kids (rw q refl)
+    ∙ left_by-kept says (record { tag = root; kids = kids }) [] kids
+
+-- SURVIVAL: the text pieces of a passed story are the survivors of the story.
+pub survival : (says : List Say) (root : Tag) (kids : Nodes) → is_quiet root ≡ false → AllFit (root ∷ []) kids →
+    text_pieces (record { tag = root; kids = pass says (root ∷ []) kids }) ≡ survivors says (record { tag = root; kids = kids })
+survival says root kids q fit =
+    text_pieces-texts root (pass says (root ∷ []) kids) q
+    ∙ texts-grouped false None (pieces says (root ∷ []) kids) (pieces_loud says (root ∷ []) kids) tt
+    ∙ texts-pieces says (root ∷ []) kids (open_∷ root [] q) fit
+    ∙ sym (survivors-kept says root kids q)
