@@ -3,6 +3,7 @@
     python3 make.py document BYTES FILE          paragraphs up to so many bytes
     python3 make.py package BYTES FILE           a package of several parts, as a word processor saves one: a document with
                                                  references in its text and many attributes, styles, a picture of 6 MB
+    python3 make.py changes BYTES FILE           paragraphs with a tracked mark and changes of properties, up to so many bytes
     python3 make.py nodes COUNT FILE             a document of so many small nodes
     python3 make.py reviewed PARAGRAPHS ENTRIES FOLDER
                                                  P with two revisions a paragraph, and the journals J0, J1 and J2
@@ -96,13 +97,18 @@ def package(size):
     return "".join(pieces + [back])
 
 
+def reviewed_package(size):
+    """A document of at most so many bytes, with a mark and changes of properties on every paragraph."""
+    return FRONT + CHANGED * ((size - len(FRONT) - len(BACK) - 6) // len(CHANGED)) + "<w:p/>" + BACK
+
+
 def nodes(count):
     """A document with so many nodes: five nodes a paragraph."""
     return FRONT + "<w:p><w:r><w:br/><w:tab/></w:r><w:r/></w:p>" * ((count - 6) // 5) + BACK
 
 
 def journal(whole, revisions, entries, k):
-    """Reviewer k's journal: his share of the entries, spread over the revisions, with rising sequence numbers."""
+    """Reviewer k's journal: their share of the entries, spread over the revisions, with rising sequence numbers."""
     lines = ["redline-journal 1\n", "document %s\n" % hashlib.sha256(whole).hexdigest(), "revisions %d\n" % revisions]
     for seq, i in enumerate(range(k, entries, len(REVIEWERS)), 1):
         lines.append("%d\t%d\t%s\t%s\n" % (seq, 1 + i * 7919 % revisions, WORDS[i % len(WORDS)], REVIEWERS[k]))
@@ -121,6 +127,30 @@ def letters(i):
 
 def nested(depth, inside):
     return '<w:ins w:id="1">' * depth + inside + "</w:ins>" * depth
+
+
+CHANGED = (
+    '<w:p><w:pPr><w:jc w:val="left"/><w:rPr><w:ins w:id="1" w:author="Ann Gray"/></w:rPr>'
+    '<w:pPrChange w:id="2" w:author="Ann Gray"><w:pPr><w:jc w:val="right"/></w:pPr></w:pPrChange></w:pPr>'
+    '<w:r><w:rPr><w:b/><w:rPrChange w:id="3" w:author="Bob Hay"><w:rPr><w:i/></w:rPr></w:rPrChange></w:rPr><w:t>changed</w:t></w:r></w:p>'
+)
+
+
+def row(i):
+    """A row of two cells: each third row is inserted, and in each second row the first cell is deleted."""
+    tracked = '<w:trPr><w:ins w:id="%d" w:author="Ann Gray"/></w:trPr>' % i if i % 3 == 0 else ""
+    cell = '<w:tcPr><w:cellDel w:id="%d" w:author="Bob Hay"/></w:tcPr>' % i if i % 2 == 0 else ""
+    return "<w:tr>%s<w:tc>%s<w:p/></w:tc><w:tc><w:p><w:r><w:t>row %d</w:t></w:r></w:p></w:tc></w:tr>" % (tracked, cell, i)
+
+
+def moved(i):
+    """A paragraph that text is moved from, and one that it is moved to."""
+    side = (
+        '<w:p><w:move{0}RangeStart w:id="%d" w:author="Ann Gray" w:name="move%d"/><w:move{0} w:id="%d" w:author="Ann Gray">'
+        '<w:r><w:t>moved %d</w:t></w:r></w:move{0}><w:move{0}RangeEnd w:id="%d"/></w:p>'
+    )
+    numbers = (i, i, i, i, i)
+    return side.format("From") % numbers + side.format("To") % numbers
 
 
 SHAPES = {
@@ -143,6 +173,16 @@ SHAPES = {
     "scopes": lambda: "<w:p>%s</w:p>" % "".join('<w:r xmlns:n%s="u"/>' % letters(i) for i in range(400000)),
     # one stretch of 20 MB
     "text": lambda: "<w:p><w:r><w:t>%s</w:t></w:r></w:p>" % ("x" * 20000000),
+    # 100,000 paragraphs whose marks are all inserted: rejected, they are one group
+    "group": lambda: '<w:p><w:pPr><w:rPr><w:ins w:id="1"/></w:rPr></w:pPr><w:r><w:t>joined</w:t></w:r></w:p>' * 100000 + "<w:p/>",
+    # a mark and a change of properties on each of 100,000 paragraphs, and a change on each of their runs
+    "changes": lambda: CHANGED * 100000 + "<w:p/>",
+    # one table of 100,000 rows, of which each third one and each second cell are tracked
+    "table": lambda: "<w:tbl>%s</w:tbl><w:p/>" % "".join(map(row, range(100000))),
+    # 20,000 moves, each from one paragraph to another
+    "moves": lambda: "".join(map(moved, range(20000))) + "<w:p/>",
+    # 100,000 starts of ranges that all have one name, so that none is paired
+    "names": lambda: "<w:p>%s</w:p>" % "".join('<w:moveFromRangeStart w:id="%d" w:name="same"/>' % i for i in range(100000)),
 }
 
 
@@ -157,6 +197,9 @@ def main():
         return
     if sys.argv[1] == "package":
         save(sys.argv[3], package(int(sys.argv[2])))
+        return
+    if sys.argv[1] == "changes":
+        save(sys.argv[3], reviewed_package(int(sys.argv[2])))
         return
     if sys.argv[1] == "nodes":
         save(sys.argv[3], nodes(int(sys.argv[2])))
