@@ -7,9 +7,9 @@ use Rattle.redl_lines.specs.Refusals.{Refusal}
 use Rattle.redl_app.specs.Prepared.{output_text, writing_view}
 use Rattle.redl_app.specs.declared.prepared.Prepared.{Prepared}
 use Rattle.redl_index.specs.Numbers.{numbered_package, package_revisions}
-use Rattle.redl_tree.specs.Nodes.{Nodes}
-use Rattle.redl_tree.specs.Packages.{pass_package}
-use Rattle.redl_tree.specs.Text.{text}
+use Rattle.redl_tree.specs.Model.Nodes.{Nodes}
+use Rattle.redl_tree.specs.Decisions.Packages.{pass_package}
+use Rattle.redl_tree.specs.Model.Text.{text}
 use Rattle.redl_io.specs.Shelf.{Files}
 use Rattle.redl_journal.specs.declared.entry.Entry.{Entry}
 

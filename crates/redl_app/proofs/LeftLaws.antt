@@ -15,10 +15,10 @@ use Rattle.redl_stamp.specs.Attribute.{attribute_value}
 use Rattle.redl_tree.proofs.Indexed.{survival-package}
 use Rattle.redl_tree.proofs.NumberLaws.{numbered-indexed}
 use Rattle.redl_tree.proofs.Soundness.{numbered_sound, soundness}
-use Rattle.redl_tree.specs.Nodes.{Nodes}
-use Rattle.redl_tree.specs.Packages.{stories, pass_package}
-use Rattle.redl_tree.specs.Sound.{Test, holds, first_broken, is_sound}
-use Rattle.redl_tree.specs.View.{Parts}
+use Rattle.redl_tree.specs.Model.Nodes.{Nodes}
+use Rattle.redl_tree.specs.Decisions.Packages.{stories, pass_package}
+use Rattle.redl_tree.specs.Rules.Sound.{Test, holds, first_broken, is_sound}
+use Rattle.redl_tree.specs.Model.View.{Parts}
 use Rattle.redl_tree.specs.declared.kinds.Say.{Say}
 
 -- ---- steps that went well

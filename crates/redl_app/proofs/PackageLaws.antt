@@ -12,14 +12,14 @@ use Rattle.redl_lines.specs.Refusals.{Refusal, over, no_package}
 use Rattle.redl_lines.specs.declared.refusal.Refusal.{Refusal as Declared}
 use Rattle.redl_lines.specs.declared.refusal.Limit.TheVariants.{PackageBytes, Depth, Nodes as TooManyNodes}
 use Rattle.redl_lines.specs.declared.refusal.PackageFault.TheVariants.{NotReadable}
-use Rattle.redl_tree.specs.Count.{count}
+use Rattle.redl_tree.specs.Model.Count.{count}
 use Rattle.redl_opc.specs.Tree.{HasUtf8Tails}
-use Rattle.redl_tree.specs.Nodes.{Nodes, no_nodes, bytes, element}
+use Rattle.redl_tree.specs.Model.Nodes.{Nodes, no_nodes, bytes, element}
 use Rattle.redl_xml.proofs.Documents.{one_tree}
 use Rattle.redl_xml.specs.Shapes.{depth_of}
 use Rattle.redl_xml.specs.Readings.{IsReading, HasReading, HasNoReading, HaveLegalTails}
-use Rattle.redl_xml.specs.declared.xml_error.XmlError.{XmlError}
-use Rattle.redl_xml.specs.declared.xml_error.XmlError.TheVariants as xml
+use Rattle.redl_xml.specs.declared.error.XmlError.{XmlError}
+use Rattle.redl_xml.specs.declared.error.XmlError.TheVariants as xml
 use Rattle.redl_io.specs.Limits.{depth as depth_limit, nodes as node_limit}
 
 -- ---- what a reader reads

@@ -5,7 +5,7 @@ use Rattle.redl_app.specs.Outcome.{Reader, IsReader, IsTreeOf, IsJournalOf, outc
 use Rattle.redl_io.specs.Shelf.{Files}
 use Rattle.redl_journal.specs.Journals.{Journal, IsJournal, HasNoJournal}
 use Rattle.redl_journal.proofs.Lines.{one_reading as one_journal, journal_or_none}
-use Rattle.redl_tree.specs.Nodes.{Nodes}
+use Rattle.redl_tree.specs.Model.Nodes.{Nodes}
 use Rattle.redl_xml.specs.Readings.{IsReading, HasNoReading}
 use Rattle.redl_xml.proofs.Answered.{tree_or_none}
 use Rattle.redl_xml.proofs.Documents.{one_tree}

@@ -8,11 +8,11 @@ use Rattle.redl_index.specs.Numbers.{package_revisions, numbered_package}
 use Rattle.redl_io.specs.Shelf.{Files}
 use Rattle.redl_journal.specs.declared.entry.Entry.{Entry}
 use Rattle.redl_rules.specs.Attributes.{rules}
-use Rattle.redl_tree.specs.Nodes.{Nodes}
-use Rattle.redl_tree.specs.Packages.{stories}
-use Rattle.redl_tree.specs.Sound.{is_sound}
-use Rattle.redl_tree.specs.Survivors.{text_pieces, survivors}
-use Rattle.redl_tree.specs.Text.{text}
+use Rattle.redl_tree.specs.Model.Nodes.{Nodes}
+use Rattle.redl_tree.specs.Decisions.Packages.{stories}
+use Rattle.redl_tree.specs.Rules.Sound.{is_sound}
+use Rattle.redl_tree.specs.Decisions.Survivors.{text_pieces, survivors}
+use Rattle.redl_tree.specs.Model.Text.{text}
 use Rattle.redl_tree.specs.declared.kinds.Say.{Say}
 
 -- a command that decides revisions, and the name of its package

@@ -12,10 +12,10 @@ use Rattle.redl_join.specs.declared.verdict.Verdict.{Verdict}
 use Rattle.redl_join.specs.declared.verdict.Verdict.TheVariants as verdict
 use Rattle.redl_journal.specs.declared.entry.Entry.{Entry}
 use Rattle.redl_journal.specs.Journals.{Journal, IsJournal, HasNoJournal}
-use Rattle.redl_tree.specs.Nodes.{Nodes}
-use Rattle.redl_tree.specs.Count.{count}
-use Rattle.redl_tree.specs.Packages.{pass_package}
-use Rattle.redl_tree.specs.Text.{text}
+use Rattle.redl_tree.specs.Model.Nodes.{Nodes}
+use Rattle.redl_tree.specs.Model.Count.{count}
+use Rattle.redl_tree.specs.Decisions.Packages.{pass_package}
+use Rattle.redl_tree.specs.Model.Text.{text}
 use Rattle.redl_tree.specs.declared.kinds.Say.{Say}
 use Rattle.redl_tree.specs.declared.kinds.Say.TheVariants as say
 use Rattle.redl_opc.specs.Shape.{refusal}

@@ -1,8 +1,8 @@
 -- What a clause sees of the code's values.
 use Rattle.std.specs.Prelude.{ℕ, List, Result, Ok, Err, All, IsUtf8}
-use Rattle.redl_tree.specs.Nodes.{Nodes}
-use Rattle.redl_tree.specs.Text.{text}
-use Rattle.redl_tree.specs.View.{nodes_of}
+use Rattle.redl_tree.specs.Model.Nodes.{Nodes}
+use Rattle.redl_tree.specs.Model.Text.{text}
+use Rattle.redl_tree.specs.Model.View.{nodes_of}
 use Rattle.redl_app.specs.Outcome.{Subject, Writing, sound_text}
 use Rattle.redl_lines.specs.Refusals.{Refusal, refusal_view}
 use Rattle.redl_app.specs.Words.{Command, settle, write, check}

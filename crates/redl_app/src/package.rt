@@ -5,7 +5,7 @@ ghost use Rattle.redl_app.specs.Outcome.{tree_in, shaped, sound, package_in, pac
 ghost use Rattle.redl_app.specs.Prepared.{made_of, package_view};
 ghost use Rattle.redl_app.specs.Reading.{ReadsFiles, Reads, NeverUnread};
 ghost use Rattle.redl_opc.specs.Tree.{IsTree};
-ghost use Rattle.redl_tree.specs.View.{nodes_of};
+ghost use Rattle.redl_tree.specs.Model.View.{nodes_of};
 
 use crate::PACKAGE_LIMIT;
 use crate::fetch::fetch_file;

@@ -8,9 +8,9 @@ ghost use Rattle.redl_app.specs.Words.{settle, write, check, command_of, files_o
 ghost use Rattle.redl_index.specs.Numbers.{numbered_package, package_revisions};
 ghost use Rattle.redl_journal.specs.Journals.{IsAllowed};
 ghost use Rattle.redl_lines.specs.Refusals.{unbuilt};
-ghost use Rattle.redl_tree.specs.Packages.{pass_package as pass_package_by};
-ghost use Rattle.redl_tree.specs.Text.{text};
-ghost use Rattle.redl_tree.specs.View.{nodes_of};
+ghost use Rattle.redl_tree.specs.Decisions.Packages.{pass_package as pass_package_by};
+ghost use Rattle.redl_tree.specs.Model.Text.{text};
+ghost use Rattle.redl_tree.specs.Model.View.{nodes_of};
 ghost use Rattle.sha2.specs.Sha256.{sha256};
 
 use crate::JOURNALS_LIMIT;

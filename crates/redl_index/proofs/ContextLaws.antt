@@ -1,19 +1,19 @@
 -- What the code keeps of the ancestors tells the kind and the move of an element.
 use Rattle.std.proofs.Common.{◌≡◌, ◌∙◌, refl, ap, sym, subst, ℕ, ◌+◌, List, [], ◌∷◌, Bool, true, false, ◌&&◌, ◌||◌, true≢false, is_some, find, cond, not, IfSome, IsTrue, Option, Some, None, option_map, if◌then◌else◌}
-use Rattle.redl_tree.specs.Nodes.{Tag, Nodes}
-use Rattle.redl_tree.specs.Names.{is}
-use Rattle.redl_tree.specs.Packages.{is_story_root}
-use Rattle.redl_tree.specs.Places.{is_open, within, role, placed, first_role, change_at, in_mark_props, in_row_props, in_cell_props, in_props, trace_of, row_trace_of, cell_trace_of, prop_of}
-use Rattle.redl_tree.specs.Arounds.{around_of, inside_of}
-use Rattle.redl_tree.specs.Moves.{Marking, Pair, pairs, is_of_pair}
-use Rattle.redl_tree.specs.Seen.{Spot, spot, Seen, seen_one, root_spots, tags, tags_of}
-use Rattle.redl_tree.specs.Markers.{mark_end, move_of_member, move_of_marker, move_of, whole_role, either, own_role}
+use Rattle.redl_tree.specs.Model.Nodes.{Tag, Nodes}
+use Rattle.redl_tree.specs.Roles.Names.{is}
+use Rattle.redl_tree.specs.Decisions.Packages.{is_story_root}
+use Rattle.redl_tree.specs.Roles.Places.{is_open, within, role, placed, first_role, change_at, in_mark_props, in_row_props, in_cell_props, in_props, trace_of, row_trace_of, cell_trace_of, prop_of}
+use Rattle.redl_tree.specs.Roles.Arounds.{around_of, inside_of}
+use Rattle.redl_tree.specs.Revisions.Moves.{Marking, Pair, pairs, is_of_pair}
+use Rattle.redl_tree.specs.Model.Seen.{Spot, spot, Seen, seen_one, root_spots, tags, tags_of}
+use Rattle.redl_tree.specs.Revisions.Markers.{mark_end, move_of_member, move_of_marker, move_of, whole_role, either, own_role}
 use Rattle.redl_tree.specs.declared.around.Around.{Around}
 use Rattle.redl_tree.specs.declared.kinds.Kind.{Kind}
 use Rattle.redl_tree.specs.declared.kinds.Kind.TheVariants.{Content, Mark, Row, Cell, Change, Plain, Marker}
 use Rattle.redl_tree.specs.declared.kinds.Trace.{Trace}
 use Rattle.redl_tree.specs.declared.kinds.Trace.TheVariants.{Ins, Del}
-use Rattle.redl_tree.specs.Arounds.{role_in, change_in, holds_change}
+use Rattle.redl_tree.specs.Roles.Arounds.{role_in, change_in, holds_change}
 use Rattle.redl_tree.specs.declared.kinds.Prop.{Prop}
 use Rattle.redl_index.specs.Kinds.{kind_of, is_named}
 use Rattle.redl_tree.proofs.NameLaws.{and-left, and-right, is-other, is_any-apart}

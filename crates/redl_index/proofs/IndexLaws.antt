@@ -3,8 +3,8 @@ use Rattle.std.proofs.Common.{◌≡◌, refl, sym, subst, ℕ, ◌+◌, ◌<◌
 use Rattle.std.proofs.lemmas.List.{drop_more}
 use Rattle.std.proofs.lemmas.List.Elements.{All-set}
 use Rattle.std.proofs.lemmas.Option.{slice_get_within, get_or_from_slice_get}
-use Rattle.redl_tree.specs.Count.{count, item_count}
-use Rattle.redl_tree.specs.View.{item_of, nodes_of}
+use Rattle.redl_tree.specs.Model.Count.{count, item_count}
+use Rattle.redl_tree.specs.Model.View.{item_of, nodes_of}
 use Rattle.redl_tree.specs.declared.node.Node.{Node}
 use Rattle.redl_tree.proofs.Laws.{count-in_front}
 use Rattle.redl_index.specs.declared.revision.Revision.{Revision}

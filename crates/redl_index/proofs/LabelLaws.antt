@@ -1,10 +1,10 @@
 -- The labels of a package make its nodes numbered.
 use Rattle.std.proofs.Common.{◌≡◌, ◌∙◌, refl, ap, sym, ℕ, suc, ◌+◌, List, [], ◌∷◌, ◌++◌, Bool, true, false, cond, length, slice_get, Some, append_assoc, length-append, arith}
-use Rattle.redl_tree.specs.Nodes.{Tag, Nodes, no_nodes, bytes, element, Item, bytes_item, element_item, in_front}
-use Rattle.redl_tree.specs.Packages.{is_root}
-use Rattle.redl_tree.specs.Seen.{Spot, spot, Seen, seen_one, seen_from, seen, root_spots, tags}
-use Rattle.redl_tree.specs.Moves.{Pair, pairs}
-use Rattle.redl_tree.specs.Numbers.{Numbering, counted, revision_of, numbering_after, labelled, start_with, numbered_in}
+use Rattle.redl_tree.specs.Model.Nodes.{Tag, Nodes, no_nodes, bytes, element, Item, bytes_item, element_item, in_front}
+use Rattle.redl_tree.specs.Decisions.Packages.{is_root}
+use Rattle.redl_tree.specs.Model.Seen.{Spot, spot, Seen, seen_one, seen_from, seen, root_spots, tags}
+use Rattle.redl_tree.specs.Revisions.Moves.{Pair, pairs}
+use Rattle.redl_tree.specs.Revisions.Numbers.{Numbering, counted, revision_of, numbering_after, labelled, start_with, numbered_in}
 use Rattle.redl_opc.specs.declared.label.Label.{Label}
 use Rattle.redl_opc.specs.Labels.{elements, relabelled, story_elements, kids_story_elements, labelled_in}
 use Rattle.redl_stamp.specs.Attribute.{attribute_value}

@@ -2,13 +2,13 @@
 use Rattle.std.proofs.Common.{◌≡◌, ◌∙◌, refl, ap, sym, subst, ℕ, suc, ◌+◌, ◌-◌, ◌^◌, ◌<◌, ◌≤◌, ◌==◌, ◌&&◌, ◌||◌, not, nat_lt, List, [], ◌∷◌, ◌++◌, Bool, true, false, true≢false, cond, filter, filter_map, map, length, slice_get, Option, Some, None, is_some, option_map, append_assoc, length-append, arith, if◌then◌else◌}
 use Rattle.std.specs.List.{cons_option, list_any}
 use Rattle.std.proofs.lemmas.List.{append-nil}
-use Rattle.redl_tree.specs.Nodes.{Tag, Nodes, no_nodes, bytes, element, Item, bytes_item, element_item, in_front}
-use Rattle.redl_tree.specs.Packages.{is_root, level_of}
-use Rattle.redl_tree.specs.Count.{count}
-use Rattle.redl_tree.specs.Markers.{whole_role, move_of}
-use Rattle.redl_tree.specs.Moves.{Marking, Pair, pairs}
-use Rattle.redl_tree.specs.Numbers.{Membership, in_none, in_own, in_move, membership, Numbering, number_of_move, counted, counted_move, start_with, next_after, next_after_story}
-use Rattle.redl_tree.specs.Seen.{Seen, seen, seen_from, root_spots}
+use Rattle.redl_tree.specs.Model.Nodes.{Tag, Nodes, no_nodes, bytes, element, Item, bytes_item, element_item, in_front}
+use Rattle.redl_tree.specs.Decisions.Packages.{is_root, level_of}
+use Rattle.redl_tree.specs.Model.Count.{count}
+use Rattle.redl_tree.specs.Revisions.Markers.{whole_role, move_of}
+use Rattle.redl_tree.specs.Revisions.Moves.{Marking, Pair, pairs}
+use Rattle.redl_tree.specs.Revisions.Numbers.{Membership, in_none, in_own, in_move, membership, Numbering, number_of_move, counted, counted_move, start_with, next_after, next_after_story}
+use Rattle.redl_tree.specs.Model.Seen.{Seen, seen, seen_from, root_spots}
 use Rattle.redl_tree.specs.declared.kinds.Kind.{Kind}
 use Rattle.redl_tree.specs.declared.kinds.Kind.TheVariants.{Content, Mark, Row, Cell, Change, Plain, Marker}
 use Rattle.redl_opc.specs.declared.label.Label.{Label}

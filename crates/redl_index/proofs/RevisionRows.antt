@@ -1,7 +1,7 @@
 -- A worked row of revisions. What attributes say is worked out in redl_stamp, and moves in redl_tree.
 use Prim.Native.String.{String}
 use Rattle.std.proofs.Common.{◌≡◌, ℕ, List, [], ◌∷◌, map, refl}
-use Rattle.redl_tree.specs.Nodes.{Nodes, no_nodes, ◌⊕◌}
+use Rattle.redl_tree.specs.Model.Nodes.{Nodes, no_nodes, ◌⊕◌}
 use Rattle.redl_tree.specs.declared.kinds.Prop.TheVariants.{Run}
 use Rattle.redl_tree.specs.declared.kinds.Space.TheVariants.{Pkg}
 use Rattle.redl_tree.specs.declared.kinds.Trace.TheVariants.{Ins, Del}

@@ -4,8 +4,8 @@ use Rattle.std.proofs.lemmas.List.{length-map}
 use Rattle.std.proofs.lemmas.Option.{slice_get_past}
 use Rattle.std.proofs.lemmas.Str.{IsUtf8-nil}
 use Rattle.std.specs.Str.{IsUtf8}
-use Rattle.redl_tree.specs.Nodes.{Tag}
-use Rattle.redl_tree.specs.View.{tag_of}
+use Rattle.redl_tree.specs.Model.Nodes.{Tag}
+use Rattle.redl_tree.specs.Model.View.{tag_of}
 use Rattle.redl_index.specs.Mentions.{tail_of}
 use Rattle.redl_index.specs.Stories.{tags_in, HaveUtf8Tails}
 use Rattle.redl_index.specs.declared.story.Story.{Story}

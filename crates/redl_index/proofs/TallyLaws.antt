@@ -1,12 +1,12 @@
 -- What has been found after the elements of a story: the numbering and the labels.
 use Rattle.std.proofs.Common.{◌≡◌, ◌∙◌, refl, ap, sym, ℕ, ◌+◌, ◌-◌, ◌==◌, ◌&&◌, not, List, [], ◌∷◌, ◌++◌, Bool, true, false, map, length, slice_get, Option, Some, None, option_map, append_assoc, length-append, arith, if◌then◌else◌}
 use Rattle.std.proofs.lemmas.List.{length-set, append-nil, map-append}
-use Rattle.redl_tree.specs.Nodes.{Tag, Nodes, Item, in_front}
-use Rattle.redl_tree.specs.Seen.{Spot, Seen, seen_from}
-use Rattle.redl_tree.specs.Moves.{Marking, Pair, pairs}
-use Rattle.redl_tree.specs.Markers.{whole_role, move_of}
-use Rattle.redl_tree.specs.Numbers.{Membership, in_none, in_own, in_move, membership, Numbered, Numbering, number_of_move, counted_move, counted, number_for}
-use Rattle.redl_tree.specs.Numbers as numbers
+use Rattle.redl_tree.specs.Model.Nodes.{Tag, Nodes, Item, in_front}
+use Rattle.redl_tree.specs.Model.Seen.{Spot, Seen, seen_from}
+use Rattle.redl_tree.specs.Revisions.Moves.{Marking, Pair, pairs}
+use Rattle.redl_tree.specs.Revisions.Markers.{whole_role, move_of}
+use Rattle.redl_tree.specs.Revisions.Numbers.{Membership, in_none, in_own, in_move, membership, Numbered, Numbering, number_of_move, counted_move, counted, number_for}
+use Rattle.redl_tree.specs.Revisions.Numbers as numbers
 use Rattle.redl_tree.specs.declared.kinds.Kind.{Kind}
 use Rattle.redl_tree.specs.declared.kinds.Kind.TheVariants.{Content, Mark, Row, Cell, Change, Plain, Marker}
 use Rattle.redl_opc.specs.declared.label.Label.{Label}

@@ -1,12 +1,12 @@
 -- What is round an element of a story, as the code keeps it.
 use Rattle.std.specs.Prelude.{ℕ, List, [], ◌∷◌, Bool, ◌&&◌, not, codes, is_some, if◌then◌else◌, Option, None}
-use Rattle.redl_tree.specs.Nodes.{Tag}
-use Rattle.redl_tree.specs.Names.{is}
-use Rattle.redl_tree.specs.Arounds.{around_of, inside_of}
-use Rattle.redl_tree.specs.Moves.{Marking, Pair}
-use Rattle.redl_tree.specs.Seen.{Spot, tags_of}
-use Rattle.redl_tree.specs.Markers.{move_at}
-use Rattle.redl_tree.specs.Places.{is_range_edge}
+use Rattle.redl_tree.specs.Model.Nodes.{Tag}
+use Rattle.redl_tree.specs.Roles.Names.{is}
+use Rattle.redl_tree.specs.Roles.Arounds.{around_of, inside_of}
+use Rattle.redl_tree.specs.Revisions.Moves.{Marking, Pair}
+use Rattle.redl_tree.specs.Model.Seen.{Spot, tags_of}
+use Rattle.redl_tree.specs.Revisions.Markers.{move_at}
+use Rattle.redl_tree.specs.Roles.Places.{is_range_edge}
 use Rattle.redl_tree.specs.declared.around.Around.{Around}
 use Rattle.redl_tree.specs.declared.kinds.Kind.{Kind}
 use Rattle.redl_tree.specs.declared.kinds.Kind.TheVariants.{Content, Mark}

@@ -1,11 +1,11 @@
 -- The labels of the elements below the roots of stories, in the order of their start tags: their kinds and numbers.
 use Rattle.std.specs.Prelude.{ℕ, List, [], ◌∷◌, ◌++◌, if◌then◌else◌}
-use Rattle.redl_tree.specs.Nodes.{Tag, Nodes, no_nodes, bytes, element, Item, bytes_item, element_item}
-use Rattle.redl_tree.specs.Packages.{is_root}
-use Rattle.redl_tree.specs.Seen.{Seen, seen}
-use Rattle.redl_tree.specs.Moves.{Pair, pairs}
-use Rattle.redl_tree.specs.Markers.{whole_role}
-use Rattle.redl_tree.specs.Numbers.{Numbering, revision_of, number_for, counted, start_with, next_after, next_after_story}
+use Rattle.redl_tree.specs.Model.Nodes.{Tag, Nodes, no_nodes, bytes, element, Item, bytes_item, element_item}
+use Rattle.redl_tree.specs.Decisions.Packages.{is_root}
+use Rattle.redl_tree.specs.Model.Seen.{Seen, seen}
+use Rattle.redl_tree.specs.Revisions.Moves.{Pair, pairs}
+use Rattle.redl_tree.specs.Revisions.Markers.{whole_role}
+use Rattle.redl_tree.specs.Revisions.Numbers.{Numbering, revision_of, number_for, counted, start_with, next_after, next_after_story}
 use Rattle.redl_opc.specs.declared.label.Label.{Label}
 use Rattle.redl_stamp.specs.Attribute.{attribute_value}
 use Rattle.redl_markers.specs.Found.{markers_of}

@@ -1,10 +1,10 @@
 -- The mentions of revisions in a story: each element that is in a revision, one of its own or a paired move, mentions it
 -- (ECMA-376 Part 1, 17.13.5).
 use Rattle.std.specs.Prelude.{ℕ, List, [], Bool, true, not, Option, Some, None, option_map, slice_get, filter_map, map}
-use Rattle.redl_tree.specs.Nodes.{Tag, Nodes}
-use Rattle.redl_tree.specs.Seen.{Seen, seen}
-use Rattle.redl_tree.specs.Moves.{Marking, pairs}
-use Rattle.redl_tree.specs.Markers.{move_of, whole_role}
+use Rattle.redl_tree.specs.Model.Nodes.{Tag, Nodes}
+use Rattle.redl_tree.specs.Model.Seen.{Seen, seen}
+use Rattle.redl_tree.specs.Revisions.Moves.{Marking, pairs}
+use Rattle.redl_tree.specs.Revisions.Markers.{move_of, whole_role}
 use Rattle.redl_tree.specs.declared.kinds.Kind.{Kind}
 use Rattle.redl_stamp.specs.Attribute.{attribute_value}
 use Rattle.redl_moves.specs.Starts.{start_in}

@@ -1,8 +1,8 @@
 -- The kinds and numbers of the elements of a package, and how many revisions it has: the definitions of redl_tree, where
 -- attributes are read as redl_stamp reads them (ECMA-376 Part 1, 17.13.5; the numbers are our own rule).
 use Rattle.std.specs.Prelude.{ℕ}
-use Rattle.redl_tree.specs.Nodes.{Nodes}
-use Rattle.redl_tree.specs.Numbers as numbers
+use Rattle.redl_tree.specs.Model.Nodes.{Nodes}
+use Rattle.redl_tree.specs.Revisions.Numbers as numbers
 use Rattle.redl_stamp.specs.Attribute.{attribute_value}
 
 -- how many revisions a package has

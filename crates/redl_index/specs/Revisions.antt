@@ -2,8 +2,8 @@
 use Rattle.std.specs.Prelude.{ℕ, ◌+◌, ◌^◌, ◌<◌, ◌==◌, ◌&&◌, not, List, [], ◌∷◌, ◌++◌, All, Bool, true, false, IsTrue, Option, Some, None, length, filter, map, if◌then◌else◌, IfSome}
 use Rattle.std.specs.List.{list_any}
 use Rattle.std.specs.Str.{IsUtf8}
-use Rattle.redl_tree.specs.Nodes.{Tag, Nodes, no_nodes, bytes, element, Item, bytes_item, element_item}
-use Rattle.redl_tree.specs.Packages.{is_root, level_of}
+use Rattle.redl_tree.specs.Model.Nodes.{Tag, Nodes, no_nodes, bytes, element, Item, bytes_item, element_item}
+use Rattle.redl_tree.specs.Decisions.Packages.{is_root, level_of}
 use Rattle.redl_tree.specs.declared.level.Level.{Level}
 use Rattle.redl_tree.specs.declared.level.Level.TheVariants.{Package}
 use Rattle.redl_stamp.specs.Moment.{IsMoment}

@@ -1,9 +1,9 @@
 -- A story whose markers are known, as the code keeps it.
 use Rattle.std.specs.Prelude.{ℕ, ◌≡◌, List, map, Some, slice_get}
 use Rattle.std.specs.Str.{IsUtf8}
-use Rattle.redl_tree.specs.Nodes.{Tag}
-use Rattle.redl_tree.specs.Seen.{Seen}
-use Rattle.redl_tree.specs.View.{tag_of}
+use Rattle.redl_tree.specs.Model.Nodes.{Tag}
+use Rattle.redl_tree.specs.Model.Seen.{Seen}
+use Rattle.redl_tree.specs.Model.View.{tag_of}
 use Rattle.redl_index.specs.Mentions.{Sight, sight_in}
 use Rattle.redl_index.specs.declared.story.Story.{Story}
 

@@ -1,7 +1,7 @@
 -- What has been found after some elements of a story, one element after the other.
 use Rattle.std.specs.Prelude.{ℕ, ◌+◌, ◌-◌, ◌^◌, ◌≡◌, nat_lt, nat_eq, List, [], ◌∷◌, ◌++◌, ◌==◌, ◌&&◌, not, Bool, set, slice_get, Option, Some, None, unwrap_or, length, if◌then◌else◌}
 use Rattle.indexmap.specs.IndexMap.{get}
-use Rattle.redl_tree.specs.Numbers.{Numbered, Numbering, number_of_move}
+use Rattle.redl_tree.specs.Revisions.Numbers.{Numbered, Numbering, number_of_move}
 use Rattle.redl_tree.specs.declared.kinds.Kind.{Kind}
 use Rattle.redl_opc.specs.declared.label.Label.{Label}
 use Rattle.redl_index.specs.Mentions.{Mention, Sight}

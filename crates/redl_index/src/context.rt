@@ -1,7 +1,7 @@
 //! What is round an element, and how far a walk of a story is.
 
 ghost use Rattle.std.specs.Prelude.{◌≡◌, ◌+◌, ◌^◌, ◌<◌, ◌++◌, ℕ, List};
-ghost use Rattle.redl_tree.specs.View.{tag_of};
+ghost use Rattle.redl_tree.specs.Model.View.{tag_of};
 ghost use Rattle.redl_markers.specs.Ends.{one_end};
 ghost use Rattle.redl_index.specs.Contexts.{inside_context};
 

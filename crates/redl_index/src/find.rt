@@ -2,11 +2,11 @@
 
 ghost use Rattle.std.specs.Prelude.{◌≡◌, ◌+◌, ◌^◌, ◌<◌, ◌≤◌, ◌++◌, ℕ, IsTrue, List, OnOk, length, map};
 ghost use Rattle.std.specs.Str.{IsUtf8};
-ghost use Rattle.redl_tree.specs.Count.{count, item_count};
-ghost use Rattle.redl_tree.specs.Nodes.{Tag, no_nodes, in_front};
-ghost use Rattle.redl_tree.specs.Packages.{level_of, is_story_root};
-ghost use Rattle.redl_tree.specs.Seen.{Spot, tags, seen_from};
-ghost use Rattle.redl_tree.specs.View.{nodes_of, item_of, tag_of, kids_of};
+ghost use Rattle.redl_tree.specs.Model.Count.{count, item_count};
+ghost use Rattle.redl_tree.specs.Model.Nodes.{Tag, no_nodes, in_front};
+ghost use Rattle.redl_tree.specs.Decisions.Packages.{level_of, is_story_root};
+ghost use Rattle.redl_tree.specs.Model.Seen.{Spot, tags, seen_from};
+ghost use Rattle.redl_tree.specs.Model.View.{nodes_of, item_of, tag_of, kids_of};
 ghost use Rattle.redl_opc.specs.Tree.{HasUtf8Tails};
 ghost use Rattle.redl_markers.specs.Ends.{ends_from};
 ghost use Rattle.redl_markers.specs.Free.{Every, IsFree};

@@ -3,7 +3,7 @@
 ghost use Rattle.std.specs.Prelude.{◌≡◌, ◌+◌, ◌^◌, ◌<◌, ◌≤◌, ◌++◌, ◌∷◌, ◌==◌, ℕ, [], Some, None, nat_eq, length, if◌then◌else◌, IfOk, IfSome, IsTrue, OnOk};
 ghost use Rattle.std.specs.Str.{IsUtf8};
 ghost use Rattle.indexmap.specs.IndexMap.{get};
-ghost use Rattle.redl_tree.specs.View.{tag_of};
+ghost use Rattle.redl_tree.specs.Model.View.{tag_of};
 ghost use Rattle.redl_index.specs.Kinds.{kind_of, is_named};
 ghost use Rattle.redl_index.specs.Mentions.{mention_as, move_mention, sight_by};
 ghost use Rattle.redl_index.specs.Revisions.{revision_of, revision_with};

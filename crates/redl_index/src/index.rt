@@ -1,7 +1,7 @@
 //! The index of a package.
 
 ghost use Rattle.std.specs.Prelude.{◌≡◌, ◌+◌, ◌-◌, ◌^◌, ◌<◌, ◌≤◌, ◌↔◌, ◌++◌, ◌∷◌, [], Some, length, slice_get, IfOk, IfSome, IsSome, IsTrue, OnOk, OnErr};
-ghost use Rattle.redl_tree.specs.Text.{text};
+ghost use Rattle.redl_tree.specs.Model.Text.{text};
 ghost use Rattle.redl_index.specs.Numbers.{numbered_package};
 ghost use Rattle.redl_index.specs.Revisions.{IsTold, revisions_of};
 ghost use Rattle.redl_index.specs.Tallies.{mentioned_again, replaced};

@@ -1,12 +1,12 @@
 //! One story: which move its elements are in.
 
 ghost use Rattle.std.specs.Prelude.{◌≡◌, List, find, option_map, slice_get, IfSome, IsTrue};
-ghost use Rattle.redl_tree.specs.Nodes.{Nodes};
-ghost use Rattle.redl_tree.specs.Moves.{pairs};
-ghost use Rattle.redl_tree.specs.Markers.{move_at, move_of, move_of_marker, whole_role};
-ghost use Rattle.redl_tree.specs.Seen.{Spot, seen_one, tags_of};
-ghost use Rattle.redl_tree.specs.View.{tag_of};
-ghost use Rattle.redl_tree.specs.Arounds.{around_of};
+ghost use Rattle.redl_tree.specs.Model.Nodes.{Nodes};
+ghost use Rattle.redl_tree.specs.Revisions.Moves.{pairs};
+ghost use Rattle.redl_tree.specs.Revisions.Markers.{move_at, move_of, move_of_marker, whole_role};
+ghost use Rattle.redl_tree.specs.Model.Seen.{Spot, seen_one, tags_of};
+ghost use Rattle.redl_tree.specs.Model.View.{tag_of};
+ghost use Rattle.redl_tree.specs.Roles.Arounds.{around_of};
 ghost use Rattle.redl_stamp.specs.Attribute.{attribute_value};
 ghost use Rattle.redl_moves.specs.Standing.{IsApart};
 ghost use Rattle.redl_moves.specs.Starts.{start_in};

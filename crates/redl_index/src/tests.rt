@@ -1,8 +1,8 @@
 //! Tables of whole packages, each an outline of names: their labels and their revisions, where there is ample memory.
 
 ghost use Rattle.std.specs.Prelude.{◌≡◌, IsTrue};
-ghost use Rattle.redl_tree.specs.Nodes.{no_nodes, in_front};
-ghost use Rattle.redl_tree.specs.View.{nodes_of, item_of};
+ghost use Rattle.redl_tree.specs.Model.Nodes.{no_nodes, in_front};
+ghost use Rattle.redl_tree.specs.Model.View.{nodes_of, item_of};
 ghost use Rattle.redl_opc.specs.Tree.{HasUtf8Tails, IsTree};
 
 use super::*;

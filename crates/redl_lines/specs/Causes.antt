@@ -1,10 +1,10 @@
 -- The refusal of a call for each error of a call below.
 use Rattle.redl_opc.specs.declared.error.OpcError.{OpcError}
 use Rattle.redl_opc.specs.declared.error.OpcError.TheVariants as opc
-use Rattle.redl_rules.specs.declared.package.RuleError.{RuleError}
-use Rattle.redl_rules.specs.declared.package.RuleError.TheVariants as rules
-use Rattle.redl_xml.specs.declared.xml_error.XmlError.{XmlError}
-use Rattle.redl_xml.specs.declared.xml_error.XmlError.TheVariants as xml
+use Rattle.redl_rules.specs.declared.soundness.RuleError.{RuleError}
+use Rattle.redl_rules.specs.declared.soundness.RuleError.TheVariants as rules
+use Rattle.redl_xml.specs.declared.error.XmlError.{XmlError}
+use Rattle.redl_xml.specs.declared.error.XmlError.TheVariants as xml
 use Rattle.redl_lines.specs.Refusals.{Refusal, no_package, over, no_memory}
 use Rattle.redl_lines.specs.declared.refusal.Limit.TheVariants.{Depth, Nodes as TooManyNodes}
 use Rattle.redl_lines.specs.declared.refusal.PackageFault.TheVariants.{NotReadable, NotPackage, PartShape, NoDocument, Rule}

@@ -2,10 +2,10 @@
 use Rattle.std.proofs.Common.{◌≡◌, ◌∙◌, refl, ap, sym, subst, ℕ, zero, suc, ◌+◌, ◌≤◌, ◌<◌, List, [], ◌∷◌, ◌++◌, Option, Some, None, filter_map, arith}
 use Rattle.std.specs.List.{cons_option}
 use Rattle.std.proofs.lemmas.List.Elements.{filter_map-append}
-use Rattle.redl_tree.specs.Nodes.{Nodes, no_nodes, bytes, element}
-use Rattle.redl_tree.specs.Seen.{Spot, spot, Seen, seen_one, seen_from, tags}
-use Rattle.redl_tree.specs.Moves.{Marking}
-use Rattle.redl_tree.specs.Markers.{Value, marker_of}
+use Rattle.redl_tree.specs.Model.Nodes.{Nodes, no_nodes, bytes, element}
+use Rattle.redl_tree.specs.Model.Seen.{Spot, spot, Seen, seen_one, seen_from, tags}
+use Rattle.redl_tree.specs.Revisions.Moves.{Marking}
+use Rattle.redl_tree.specs.Revisions.Markers.{Value, marker_of}
 use Rattle.redl_moves.specs.Standing.{IsApart}
 use Rattle.redl_markers.specs.Free.{Every}
 use Rattle.redl_markers.proofs.RiseLaws.{Between, marker-at, markers-between}

@@ -1,11 +1,11 @@
 -- Which positions of a story are free of markers.
 use Rattle.std.proofs.Common.{◌≡◌, ◌∙◌, refl, ap, sym, subst, ℕ, ◌+◌, List, [], ◌∷◌, ◌++◌, Bool, true, false, true≢false, ◌||◌, Option, Some, None, option_map, option_and_then, codes, arith, if◌then◌else◌}
-use Rattle.redl_tree.specs.Nodes.{Tag, Nodes, no_nodes, bytes, element, Item, in_front}
-use Rattle.redl_tree.specs.Names.{is, is_any}
-use Rattle.redl_tree.specs.Places.{is_open, role, placed, first_role, change_at, in_props, trace_of, is_range_edge, in_mark_props, in_row_props, in_cell_props, row_trace_of, cell_trace_of, prop_of}
-use Rattle.redl_tree.specs.Seen.{Spot, spot, Seen, seen_from, seen, root_spots, tags, tags_of}
-use Rattle.redl_tree.specs.Moves.{from_start, from_end, to_start, to_end, Marking}
-use Rattle.redl_tree.specs.Markers.{edge_of, marker_of, marking, own_role, mark_end}
+use Rattle.redl_tree.specs.Model.Nodes.{Tag, Nodes, no_nodes, bytes, element, Item, in_front}
+use Rattle.redl_tree.specs.Roles.Names.{is, is_any}
+use Rattle.redl_tree.specs.Roles.Places.{is_open, role, placed, first_role, change_at, in_props, trace_of, is_range_edge, in_mark_props, in_row_props, in_cell_props, row_trace_of, cell_trace_of, prop_of}
+use Rattle.redl_tree.specs.Model.Seen.{Spot, spot, Seen, seen_from, seen, root_spots, tags, tags_of}
+use Rattle.redl_tree.specs.Revisions.Moves.{from_start, from_end, to_start, to_end, Marking}
+use Rattle.redl_tree.specs.Revisions.Markers.{edge_of, marker_of, marking, own_role, mark_end}
 use Rattle.redl_tree.specs.declared.kinds.Kind.{Kind}
 use Rattle.redl_tree.specs.declared.kinds.Kind.TheVariants.{Content, Mark, Row, Cell, Change}
 use Rattle.redl_tree.specs.declared.kinds.Trace.{Trace}

@@ -2,11 +2,11 @@
 use Rattle.std.proofs.Common.{◌≡◌, refl, ap, sym, subst, ℕ, ◌+◌, ◌≤◌, ◌<◌, List, [], ◌∷◌, ◌++◌, Bool, true, false, length, Option, Some, None, option_map, option_and_then, filter_map, codes, arith, if◌then◌else◌}
 use Rattle.std.specs.List.{cons_option}
 use Rattle.std.proofs.lemmas.List.Elements.{filter_map-append}
-use Rattle.redl_tree.specs.Nodes.{Nodes, no_nodes, bytes, element}
-use Rattle.redl_tree.specs.Places.{is_open}
-use Rattle.redl_tree.specs.Seen.{Spot, spot, Seen, seen_one, seen_from, tags, tags_of}
-use Rattle.redl_tree.specs.Moves.{Edge, Marking}
-use Rattle.redl_tree.specs.Markers.{Value, edge_of, marking, marker_of}
+use Rattle.redl_tree.specs.Model.Nodes.{Nodes, no_nodes, bytes, element}
+use Rattle.redl_tree.specs.Roles.Places.{is_open}
+use Rattle.redl_tree.specs.Model.Seen.{Spot, spot, Seen, seen_one, seen_from, tags, tags_of}
+use Rattle.redl_tree.specs.Revisions.Moves.{Edge, Marking}
+use Rattle.redl_tree.specs.Revisions.Markers.{Value, edge_of, marking, marker_of}
 use Rattle.redl_moves.specs.Marks.{RisesFrom}
 
 -- the positions rise, from this one on, and all are below that one

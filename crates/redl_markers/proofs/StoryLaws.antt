@@ -1,11 +1,11 @@
 -- How much a story has of what is found, by the number of its nodes.
 use Rattle.std.proofs.Common.{◌≡◌, ◌∙◌, refl, ap, cond, ℕ, ◌+◌, ◌≤◌, List, [], ◌∷◌, ◌++◌, Option, Some, None, is_some, option_map, filter, filter_map, map, length, length-append, arith}
 use Rattle.std.specs.List.{cons_option}
-use Rattle.redl_tree.specs.Nodes.{Nodes, no_nodes, bytes, element}
-use Rattle.redl_tree.specs.Count.{count}
-use Rattle.redl_tree.specs.Seen.{Spot, spot, Seen, seen_from, tags}
-use Rattle.redl_tree.specs.Moves.{Marking}
-use Rattle.redl_tree.specs.Markers.{marker_of}
+use Rattle.redl_tree.specs.Model.Nodes.{Nodes, no_nodes, bytes, element}
+use Rattle.redl_tree.specs.Model.Count.{count}
+use Rattle.redl_tree.specs.Model.Seen.{Spot, spot, Seen, seen_from, tags}
+use Rattle.redl_tree.specs.Revisions.Moves.{Marking}
+use Rattle.redl_tree.specs.Revisions.Markers.{marker_of}
 use Rattle.redl_stamp.specs.Attribute.{attribute_value}
 use Rattle.redl_markers.specs.Found.{is_found, marker_tag}
 

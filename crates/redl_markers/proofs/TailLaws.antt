@@ -2,10 +2,10 @@
 use Rattle.std.proofs.Common.{◌≡◌, ◌∙◌, refl, ap, subst, cond, ℕ, zero, suc, ◌+◌, inl, inr, List, [], ◌∷◌, Bool, true, false, Option, Some, None, is_some, slice_get, filter, filter_map, map}
 use Rattle.std.specs.List.{cons_option}
 use Rattle.std.specs.Str.{IsUtf8}
-use Rattle.redl_tree.specs.Nodes.{Tag, Nodes, no_nodes, bytes, element}
-use Rattle.redl_tree.specs.Seen.{Spot, spot, Seen, seen_from, seen, root_spots, tags}
-use Rattle.redl_tree.specs.Moves.{Marking}
-use Rattle.redl_tree.specs.Markers.{marker_of}
+use Rattle.redl_tree.specs.Model.Nodes.{Tag, Nodes, no_nodes, bytes, element}
+use Rattle.redl_tree.specs.Model.Seen.{Spot, spot, Seen, seen_from, seen, root_spots, tags}
+use Rattle.redl_tree.specs.Revisions.Moves.{Marking}
+use Rattle.redl_tree.specs.Revisions.Markers.{marker_of}
 use Rattle.redl_stamp.specs.Attribute.{attribute_value}
 use Rattle.redl_opc.specs.Tree.{HasUtf8Tails}
 use Rattle.redl_moves.proofs.AgainLaws.{In}

@@ -1,9 +1,9 @@
 -- The markers of moves in a story (ECMA-376 Part 1, 17.13.5.23 to 17.13.5.28).
 use Rattle.std.specs.Prelude.{List, Bool, Option, is_some, option_map, filter, filter_map, map}
-use Rattle.redl_tree.specs.Nodes.{Tag, Nodes}
-use Rattle.redl_tree.specs.Seen.{Seen, seen}
-use Rattle.redl_tree.specs.Moves.{Marking}
-use Rattle.redl_tree.specs.Markers.{marker_of}
+use Rattle.redl_tree.specs.Model.Nodes.{Tag, Nodes}
+use Rattle.redl_tree.specs.Model.Seen.{Seen, seen}
+use Rattle.redl_tree.specs.Revisions.Moves.{Marking}
+use Rattle.redl_tree.specs.Revisions.Markers.{marker_of}
 use Rattle.redl_stamp.specs.Attribute.{attribute_value}
 
 -- the markers of the story with this root and these kids of it, in the order of their start tags

@@ -2,13 +2,13 @@
 use Rattle.std.specs.Prelude.{List, Bool, false, ◌&&◌, ◌||◌, not, is_some, if◌then◌else◌}
 use Rattle.std.specs.List.{list_any}
 use Prim.Native.String.{String}
-use Rattle.redl_tree.specs.Nodes.{Tag, Nodes, Item, bytes_item, element_item}
-use Rattle.redl_tree.specs.Kids.{some_element}
-use Rattle.redl_tree.specs.Names.{is}
-use Rattle.redl_tree.specs.Places.{is_quiet, trace_of}
-use Rattle.redl_tree.specs.Lists.{into, inside, nowhere, place, is_direct, is_rows, is_cells}
-use Rattle.redl_tree.specs.Seen.{Spot, tags_of}
-use Rattle.redl_tree.specs.Markers.{is_row_revision, is_cell_revision, is_revised, is_in_grid, is_reached, any_leaves_grid}
+use Rattle.redl_tree.specs.Model.Nodes.{Tag, Nodes, Item, bytes_item, element_item}
+use Rattle.redl_tree.specs.Model.Kids.{some_element}
+use Rattle.redl_tree.specs.Roles.Names.{is}
+use Rattle.redl_tree.specs.Roles.Places.{is_quiet, trace_of}
+use Rattle.redl_tree.specs.Roles.Lists.{into, inside, nowhere, place, is_direct, is_rows, is_cells}
+use Rattle.redl_tree.specs.Model.Seen.{Spot, tags_of}
+use Rattle.redl_tree.specs.Revisions.Markers.{is_row_revision, is_cell_revision, is_revised, is_in_grid, is_reached, any_leaves_grid}
 use Rattle.redl_tree.specs.declared.lists.Place.{Place}
 use Rattle.redl_markers.specs.declared.trail.Trail.{Trail}
 

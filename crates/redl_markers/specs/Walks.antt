@@ -1,9 +1,9 @@
 -- What the walk of a story finds in one element and in one node, given the trail of the ancestors.
 use Rattle.std.specs.Prelude.{ℕ, ◌+◌, List, [], ◌∷◌, ◌++◌, not, codes, Option, None, option_map, option_and_then, if◌then◌else◌}
-use Rattle.redl_tree.specs.Nodes.{Tag, Nodes, Item, bytes_item, element_item}
-use Rattle.redl_tree.specs.Seen.{Spot, spot, Seen, seen_one, seen_from, tags}
-use Rattle.redl_tree.specs.Moves.{Edge, Marking}
-use Rattle.redl_tree.specs.Markers.{edge_of}
+use Rattle.redl_tree.specs.Model.Nodes.{Tag, Nodes, Item, bytes_item, element_item}
+use Rattle.redl_tree.specs.Model.Seen.{Spot, spot, Seen, seen_one, seen_from, tags}
+use Rattle.redl_tree.specs.Revisions.Moves.{Edge, Marking}
+use Rattle.redl_tree.specs.Revisions.Markers.{edge_of}
 use Rattle.redl_markers.specs.declared.trail.Trail.{Trail}
 use Rattle.redl_markers.specs.Trails.{is_loose_at}
 use Rattle.redl_markers.specs.Ends.{one_end, ends_from}

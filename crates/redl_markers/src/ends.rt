@@ -1,8 +1,8 @@
 //! The positions of the ends of paragraphs, in the order of their starts.
 
 ghost use Rattle.std.specs.Prelude.{◌≡◌, ◌++◌, set, if◌then◌else◌, OnOk};
-ghost use Rattle.redl_tree.specs.Names.{is};
-ghost use Rattle.redl_tree.specs.View.{tag_of};
+ghost use Rattle.redl_tree.specs.Roles.Names.{is};
+ghost use Rattle.redl_tree.specs.Model.View.{tag_of};
 ghost use Rattle.redl_markers.specs.Ends.{one_end};
 
 use redl_tree::{Elem, is_named};

@@ -1,11 +1,11 @@
 //! The walk of a story that finds the markers of its moves, and the ends of its paragraphs.
 
 ghost use Rattle.std.specs.Prelude.{◌≡◌, ◌+◌, ◌^◌, ◌<◌, ◌++◌, List, IfOk, OnOk, length, option_map, option_to_list, filter_map, map};
-ghost use Rattle.redl_tree.specs.Count.{count};
-ghost use Rattle.redl_tree.specs.Nodes.{Tag};
-ghost use Rattle.redl_tree.specs.View.{nodes_of, item_of, tag_of, kids_of};
-ghost use Rattle.redl_tree.specs.Seen.{Spot, tags, seen_from};
-ghost use Rattle.redl_tree.specs.Markers.{edge_of as edge_of_tag, marker_of};
+ghost use Rattle.redl_tree.specs.Model.Count.{count};
+ghost use Rattle.redl_tree.specs.Model.Nodes.{Tag};
+ghost use Rattle.redl_tree.specs.Model.View.{nodes_of, item_of, tag_of, kids_of};
+ghost use Rattle.redl_tree.specs.Model.Seen.{Spot, tags, seen_from};
+ghost use Rattle.redl_tree.specs.Revisions.Markers.{edge_of as edge_of_tag, marker_of};
 ghost use Rattle.redl_stamp.specs.Attribute.{attribute_value};
 ghost use Rattle.redl_moves.specs.Marks.{marking_of, markings, edge_of, RisesFrom};
 ghost use Rattle.redl_markers.specs.Ends.{ends_from};

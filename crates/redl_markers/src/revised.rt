@@ -1,10 +1,10 @@
 //! Elements that are revisions themselves: content revisions, rows and cells (ECMA-376 Part 1, 17.13.5).
 
 ghost use Rattle.std.specs.Prelude.{◌≡◌, is_some};
-ghost use Rattle.redl_tree.specs.Kids.{some_element};
-ghost use Rattle.redl_tree.specs.Markers.{is_row_revision as row_revision, is_cell_revision as cell_revision};
-ghost use Rattle.redl_tree.specs.Places.{row_trace_of as row_trace_of_tag, cell_trace_of as cell_trace_of_tag};
-ghost use Rattle.redl_tree.specs.View.{nodes_of, item_of, tag_of, kids_of};
+ghost use Rattle.redl_tree.specs.Model.Kids.{some_element};
+ghost use Rattle.redl_tree.specs.Revisions.Markers.{is_row_revision as row_revision, is_cell_revision as cell_revision};
+ghost use Rattle.redl_tree.specs.Roles.Places.{row_trace_of as row_trace_of_tag, cell_trace_of as cell_trace_of_tag};
+ghost use Rattle.redl_tree.specs.Model.View.{nodes_of, item_of, tag_of, kids_of};
 ghost use Rattle.redl_markers.specs.Trails.{is_revised_by, makes_revised};
 
 use redl_tree::{Elem, Node, cell_trace_of, is_named, row_trace_of, trace_of};

@@ -1,10 +1,10 @@
 //! What a marker has to know of its ancestors.
 
 ghost use Rattle.std.specs.Prelude.{◌≡◌, [], not, if◌then◌else◌};
-ghost use Rattle.redl_tree.specs.Lists.{inside, nowhere};
-ghost use Rattle.redl_tree.specs.Markers.{is_in_grid as in_grid, is_reached as reached};
-ghost use Rattle.redl_tree.specs.Seen.{Spot};
-ghost use Rattle.redl_tree.specs.View.{tag_of, kids_of};
+ghost use Rattle.redl_tree.specs.Roles.Lists.{inside, nowhere};
+ghost use Rattle.redl_tree.specs.Revisions.Markers.{is_in_grid as in_grid, is_reached as reached};
+ghost use Rattle.redl_tree.specs.Model.Seen.{Spot};
+ghost use Rattle.redl_tree.specs.Model.View.{tag_of, kids_of};
 ghost use Rattle.redl_markers.specs.Trails.{trail_of, inside_trail, is_loose_at, is_own_at, leaves_grid_at};
 
 use crate::revised::is_revised;

@@ -3,7 +3,7 @@ use Rattle.std.proofs.Common.{◌≡◌, ◌∙◌, refl, ap, sym, subst, cond, 
 use Rattle.std.specs.List.{cons_option}
 use Rattle.std.specs.Prelude.{not}
 use Rattle.std.proofs.lemmas.Slice.Eq.{bytes_eq-Decides}
-use Rattle.redl_tree.specs.Moves.{Edge, from_start, from_end, to_start, to_end, Marking, Range, Pair, same_edge, has_name, only_one, with_name, with_id, range_from, range_with_id, range_with_name, pair_with_name, pair_of, pairs, is_open_at, later, latest, pair_at}
+use Rattle.redl_tree.specs.Revisions.Moves.{Edge, from_start, from_end, to_start, to_end, Marking, Range, Pair, same_edge, has_name, only_one, with_name, with_id, range_from, range_with_id, range_with_name, pair_with_name, pair_of, pairs, is_open_at, later, latest, pair_at}
 use Rattle.redl_tree.proofs.NameLaws.{bytes-same, and-left, and-right}
 use Rattle.redl_moves.specs.Marks.{RisesFrom}
 use Rattle.redl_moves.specs.Opens.{start_of, or_this, find_last}

@@ -1,6 +1,6 @@
 -- How many markers come before a position.
 use Rattle.std.proofs.Common.{◌≡◌, ◌∙◌, refl, ap, ℕ, zero, suc, ◌+◌, ◌≤◌, ◌<◌, List, [], ◌∷◌, true, false, nat_lt, Bool, Some, slice_get, map, length, get_or, arith, if◌then◌else◌}
-use Rattle.redl_tree.specs.Moves.{Marking}
+use Rattle.redl_tree.specs.Revisions.Moves.{Marking}
 use Rattle.redl_moves.specs.Marks.{markings, RisesFrom}
 use Rattle.redl_moves.specs.Standing.{before}
 use Rattle.redl_moves.specs.declared.marker.Marker.{Marker}

@@ -5,7 +5,7 @@ use Rattle.redl_moves.specs.Marks.{marking_of, markings, move_of}
 use Rattle.redl_moves.specs.declared.marker.Marker.{Marker}
 use Rattle.redl_moves.specs.declared.marker.Move as marker
 use Rattle.redl_moves.proofs.PairLaws.{marks_here}
-use Rattle.redl_tree.specs.Moves.{Marking, Move}
+use Rattle.redl_tree.specs.Revisions.Moves.{Marking, Move}
 use Rattle.redl_moves.specs.Places.{move_begun}
 use Rattle.redl_moves.specs.Opens.{start_of, end_of, is_open_at, or_this, find_last, opens_over, OpenAlike}
 use Rattle.redl_moves.specs.declared.opens.Half.{Half}

@@ -1,6 +1,6 @@
 -- Which move the marker at a position is of: by places it is the same as by the definitions.
 use Rattle.std.proofs.Common.{◌≡◌, ◌∙◌, refl, ap, cond, ℕ, inl, inr, List, [], ◌∷◌, Bool, true, false, ◌||◌, ◌==◌, Option, Some, None, option_map, slice_get, find, map}
-use Rattle.redl_tree.specs.Moves.{Marking, Pair, Move, pairs, is_of_pair, place_of, by_places, paired_moves}
+use Rattle.redl_tree.specs.Revisions.Moves.{Marking, Pair, Move, pairs, is_of_pair, place_of, by_places, paired_moves}
 use Rattle.redl_moves.specs.Marks.{RisesFrom}
 use Rattle.redl_moves.specs.Starts.{at_of, start_by, start_in}
 use Rattle.redl_moves.specs.Owners.{is_at, first_owner, owner_over}

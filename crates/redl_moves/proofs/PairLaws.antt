@@ -2,8 +2,8 @@
 use Rattle.std.proofs.Common.{◌≡◌, ◌∙◌, refl, ap, sym, ℕ, ◌+◌, ◌<◌, List, [], ◌∷◌, ◌++◌, Option, Some, None, option_map, option_to_list, filter_map, map, length, drop, get_or}
 use Rattle.std.proofs.lemmas.List.{drop_more}
 use Rattle.std.specs.List.{cons_option}
-use Rattle.redl_tree.specs.Moves as moves
-use Rattle.redl_tree.specs.Moves.{Marking, from_start}
+use Rattle.redl_tree.specs.Revisions.Moves as moves
+use Rattle.redl_tree.specs.Revisions.Moves.{Marking, from_start}
 use Rattle.redl_moves.specs.Marks.{marking_of, markings, move_of}
 use Rattle.redl_moves.specs.Places.{move_begun}
 use Rattle.redl_moves.specs.declared.marker.Marker.{Marker}

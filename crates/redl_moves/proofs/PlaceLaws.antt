@@ -1,7 +1,7 @@
 -- Paired moves by places are those of the definitions.
 use Rattle.std.specs.List.{cons_option}
 use Rattle.std.proofs.Common.{◌≡◌, ◌∙◌, refl, ap, sym, cond, ℕ, zero, suc, ◌+◌, ◌≤◌, ◌<◌, ◌==◌, List, [], ◌∷◌, Bool, true, false, Option, Some, None, option_map, option_and_then, slice_get, filter, filter_map, map, arith, if◌then◌else◌}
-use Rattle.redl_tree.specs.Moves.{Edge, from_start, from_end, to_start, to_end, Marking, Range, same_edge, only_one, with_name, with_id, range_from, range_with_id, range_with_name, pair_from, pair_with_name, pair_of, place_of, by_places, paired_moves}
+use Rattle.redl_tree.specs.Revisions.Moves.{Edge, from_start, from_end, to_start, to_end, Marking, Range, same_edge, only_one, with_name, with_id, range_from, range_with_id, range_with_name, pair_from, pair_with_name, pair_of, place_of, by_places, paired_moves}
 use Rattle.redl_moves.specs.Marks.{RisesFrom}
 use Rattle.redl_moves.specs.Keys.{has_key}
 use Rattle.redl_moves.specs.Places.{places_from, only_place, Span, are_range, span_between, span_from, span_with_id, span_with_name, move_from, move_with_name, move_begun, moves_by_place}

@@ -1,8 +1,8 @@
 -- What the tables of a story answer.
 use Rattle.std.proofs.Common.{◌≡◌, ◌∙◌, refl, ap, sym, ℕ, List, [], Option, Some, None, nat_eq, option_map, slice_get, map}
 use Rattle.indexmap.specs.IndexMap.{get}
-use Rattle.redl_tree.specs.Moves as moves
-use Rattle.redl_tree.specs.Moves.{Marking, Pair, pairs, pair_at, by_places, paired_moves}
+use Rattle.redl_tree.specs.Revisions.Moves as moves
+use Rattle.redl_tree.specs.Revisions.Moves.{Marking, Pair, pairs, pair_at, by_places, paired_moves}
 use Rattle.redl_moves.specs.Marks.{move_of, RisesFrom}
 use Rattle.redl_moves.specs.Opens.{opens_over}
 use Rattle.redl_moves.specs.Owners.{owner_over}

@@ -1,6 +1,6 @@
 -- The four markers of a paired move are among the markers of the story, at the places that their positions give.
 use Rattle.std.proofs.Common.{◌≡◌, ◌∙◌, ap, sym, ℕ, suc, inl, inr, List, [], ◌∷◌, Some, slice_get, filter}
-use Rattle.redl_tree.specs.Moves.{from_start, from_end, to_start, to_end, Marking, Range, Pair, range_with_name, pair_of, pairs, is_open_at, pair_at, place_of}
+use Rattle.redl_tree.specs.Revisions.Moves.{from_start, from_end, to_start, to_end, Marking, Range, Pair, range_with_name, pair_of, pairs, is_open_at, pair_at, place_of}
 use Rattle.redl_moves.specs.Marks.{RisesFrom}
 use Rattle.redl_moves.specs.declared.opens.Half.TheVariants.{From, To}
 use Rattle.redl_moves.proofs.PlaceLaws.{place-at}

@@ -1,7 +1,7 @@
 -- Markers as the definitions of moves see them.
 use Rattle.std.specs.Prelude.{ℕ, ◌+◌, ◌≤◌, List, [], ◌∷◌, map}
-use Rattle.redl_tree.specs.Moves.{Edge, from_start, from_end, to_start, to_end, Marking}
-use Rattle.redl_tree.specs.Moves as moves
+use Rattle.redl_tree.specs.Revisions.Moves.{Edge, from_start, from_end, to_start, to_end, Marking}
+use Rattle.redl_tree.specs.Revisions.Moves as moves
 use Rattle.redl_moves.specs.declared.marker.Marker.{Marker}
 use Rattle.redl_moves.specs.declared.marker.MarkerKind.{MarkerKind}
 use Rattle.redl_moves.specs.declared.marker.MarkerKind.TheVariants.{FromStart, FromEnd, ToStart, ToEnd}

@@ -1,6 +1,6 @@
 -- Which move's range is open at a place among the markers, and started last. A place is the number of markers before it.
 use Rattle.std.specs.Prelude.{ℕ, ◌+◌, ◌≤◌, ◌≡◌, List, [], ◌∷◌, ◌++◌, Bool, not, nat_lt, Option, Some, None, option_to_list, if◌then◌else◌}
-use Rattle.redl_tree.specs.Moves.{Edge, from_start, to_start, Marking, Move}
+use Rattle.redl_tree.specs.Revisions.Moves.{Edge, from_start, to_start, Marking, Move}
 use Rattle.redl_moves.specs.Places.{move_begun}
 use Rattle.redl_moves.specs.declared.opens.Half.{Half}
 use Rattle.redl_moves.specs.declared.opens.Half.TheVariants.{From, To}

@@ -1,6 +1,6 @@
 -- Which move the marker at a position is of, by the places of markers.
 use Rattle.std.specs.Prelude.{ℕ, List, [], ◌∷◌, Bool, ◌||◌, ◌==◌, Option, Some, None, slice_get, if◌then◌else◌}
-use Rattle.redl_tree.specs.Moves.{Marking, Move}
+use Rattle.redl_tree.specs.Revisions.Moves.{Marking, Move}
 use Rattle.redl_moves.specs.Starts.{at_of, start_by}
 use Rattle.redl_moves.specs.declared.start.Start.{Start}
 

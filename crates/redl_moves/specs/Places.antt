@@ -1,7 +1,7 @@
--- Paired moves by the places of markers in their list: the definitions of `redl_tree/specs/Moves.antt`, with a place for each
+-- Paired moves by the places of markers in their list: the definitions of `redl_tree/specs/Revisions/Moves.antt`, with a place for each
 -- marker that they speak of.
 use Rattle.std.specs.Prelude.{ℕ, ◌+◌, List, [], ◌∷◌, Bool, ◌&&◌, not, Option, Some, None, option_and_then, nat_lt, slice_get, filter_map, if◌then◌else◌}
-use Rattle.redl_tree.specs.Moves.{Edge, from_start, from_end, to_start, to_end, Marking, Move, only_one, same_edge}
+use Rattle.redl_tree.specs.Revisions.Moves.{Edge, from_start, from_end, to_start, to_end, Marking, Move, only_one, same_edge}
 use Rattle.redl_moves.specs.Keys.{has_key}
 use Rattle.redl_moves.specs.declared.table.Key.TheVariants.{Id, Name}
 

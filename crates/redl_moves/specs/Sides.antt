@@ -1,6 +1,6 @@
 -- The sides of the moves of a story, as the code keeps them.
 use Rattle.std.specs.Prelude.{◌≡◌, ℕ, List}
-use Rattle.redl_tree.specs.Moves.{Edge, from_start, from_end, to_start, to_end, Marking}
+use Rattle.redl_tree.specs.Revisions.Moves.{Edge, from_start, from_end, to_start, to_end, Marking}
 use Rattle.redl_moves.specs.Marks.{markings}
 use Rattle.redl_moves.specs.Keys.{has_key}
 use Rattle.redl_moves.specs.Places.{only_place, Span}

@@ -1,6 +1,6 @@
 -- The move that is open at a position: the definition of `pair_at`, said by the starts before the position.
 use Rattle.std.specs.Prelude.{ℕ, ◌+◌, List, [], ◌∷◌, nat_lt, Option, Some, None, option_and_then, slice_get, ◌≡◌, filter, filter_map, if◌then◌else◌}
-use Rattle.redl_tree.specs.Moves.{Edge, Marking, Range, Pair, same_edge, pair_with_name}
+use Rattle.redl_tree.specs.Revisions.Moves.{Edge, Marking, Range, Pair, same_edge, pair_with_name}
 use Rattle.redl_moves.specs.Opens.{find_last, start_of}
 use Rattle.redl_moves.specs.declared.opens.Half.{Half}
 use Rattle.redl_moves.specs.declared.opens.Half.TheVariants.{From, To}

@@ -1,6 +1,6 @@
 -- Where a move begins: the position of its source start, and the place of that marker in the list of markers.
 use Rattle.std.specs.Prelude.{ℕ, List, Option, Some, None, slice_get}
-use Rattle.redl_tree.specs.Moves.{Marking, Pair, place_of}
+use Rattle.redl_tree.specs.Revisions.Moves.{Marking, Pair, place_of}
 use Rattle.redl_moves.specs.declared.start.Start.{Start}
 
 abbrev pub at_of : Option Marking → ℕ

@@ -1,7 +1,7 @@
 -- The moves of a story, as the code keeps them.
 use Rattle.std.specs.Prelude.{ℕ, ◌≡◌, List, Option, Some, None, find, nat_eq, option_map, slice_get}
 use Rattle.indexmap.specs.IndexMap.{get}
-use Rattle.redl_tree.specs.Moves.{Marking, pairs, pair_at, is_of_pair}
+use Rattle.redl_tree.specs.Revisions.Moves.{Marking, pairs, pair_at, is_of_pair}
 use Rattle.redl_moves.specs.Marks.{RisesFrom}
 use Rattle.redl_moves.specs.Standing.{side_of, before, IsApart}
 use Rattle.redl_moves.specs.Starts.{start_by, start_in}

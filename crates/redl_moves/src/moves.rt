@@ -1,7 +1,7 @@
 //! The moves of a story.
 
 ghost use Rattle.std.specs.Prelude.{◌≡◌, ◌^◌, ◌<◌, length, find, option_map, IfOk};
-ghost use Rattle.redl_tree.specs.Moves.{pairs, pair_at, is_of_pair};
+ghost use Rattle.redl_tree.specs.Revisions.Moves.{pairs, pair_at, is_of_pair};
 ghost use Rattle.redl_moves.specs.Marks.{markings, RisesFrom};
 ghost use Rattle.redl_moves.specs.Standing.{side_of, IsApart};
 ghost use Rattle.redl_moves.specs.Starts.{start_in};
@@ -23,7 +23,7 @@ pub struct Moves {
 
 impl Model for Moves {
     ghost use Rattle.std.specs.Prelude.{List};
-    ghost use Rattle.redl_tree.specs.Moves.{Marking};
+    ghost use Rattle.redl_tree.specs.Revisions.Moves.{Marking};
     ghost use Rattle.redl_moves.specs.Marks.{markings};
     ghost use Rattle.redl_moves.specs.Stories.{IsStory};
 

@@ -1,7 +1,7 @@
 //! The paired moves of a story.
 
 ghost use Rattle.std.specs.Prelude.{◌≡◌, ◌^◌, ◌<◌, ◌++◌, List, length, map, IfOk, OnOk, option_map, option_to_list};
-ghost use Rattle.redl_tree.specs.Moves.{Marking, paired_moves, from_start};
+ghost use Rattle.redl_tree.specs.Revisions.Moves.{Marking, paired_moves, from_start};
 ghost use Rattle.redl_moves.specs.Marks.{marking_of, markings, edge_of, move_of, RisesFrom};
 ghost use Rattle.redl_moves.specs.Places.{move_begun, move_with_name};
 ghost use Rattle.redl_moves.specs.Sides.{IsSides};

@@ -1,7 +1,7 @@
 //! The ranges of the two sides of moves: those that content moved from, and those that it moved to.
 
 ghost use Rattle.std.specs.Prelude.{◌≡◌, ◌^◌, ◌<◌, List, length, IfOk, option_map};
-ghost use Rattle.redl_tree.specs.Moves.{Edge, Marking};
+ghost use Rattle.redl_tree.specs.Revisions.Moves.{Edge, Marking};
 ghost use Rattle.redl_moves.specs.Marks.{markings, edge_of};
 ghost use Rattle.redl_moves.specs.Places.{span_with_id, span_with_name};
 ghost use Rattle.redl_moves.specs.Sides.{IsSide, IsSides, span_of};

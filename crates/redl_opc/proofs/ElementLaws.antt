@@ -1,7 +1,7 @@
 -- Laws of the elements among nodes.
 use Rattle.std.proofs.Common.{◌≡◌, ℕ, List, ◌∷◌, ap}
-use Rattle.redl_tree.specs.Nodes.{in_front}
-use Rattle.redl_tree.specs.View.{nodes_of}
+use Rattle.redl_tree.specs.Model.Nodes.{in_front}
+use Rattle.redl_tree.specs.Model.View.{nodes_of}
 use Rattle.redl_tree.specs.declared.node.Node.{Node}
 use Rattle.redl_tree.specs.declared.node.Node as node
 use Rattle.redl_tree.specs.declared.node.Elem.{Elem}

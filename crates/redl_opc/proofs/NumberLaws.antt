@@ -1,9 +1,9 @@
 -- Labels, and so numbers, change neither the shape of a package nor the names of its parts.
 use Rattle.std.proofs.Common.{◌≡◌, ℕ, length, sym, ap, ◌∙◌, option_map, slice_get}
-use Rattle.redl_tree.specs.Nodes.{Nodes}
-use Rattle.redl_tree.specs.Labels.{unlabelled}
-use Rattle.redl_tree.specs.Markers.{Value}
-use Rattle.redl_tree.specs.Numbers.{numbered_package}
+use Rattle.redl_tree.specs.Model.Nodes.{Nodes}
+use Rattle.redl_tree.specs.Revisions.Labels.{unlabelled}
+use Rattle.redl_tree.specs.Revisions.Markers.{Value}
+use Rattle.redl_tree.specs.Revisions.Numbers.{numbered_package}
 use Rattle.redl_tree.proofs.NumberLaws.{unlabelled-numbered}
 use Rattle.redl_opc.specs.Shape.{refusal, parts_of}
 use Rattle.redl_opc.specs.Parts.{part_name, places_of}

@@ -1,8 +1,8 @@
 -- Laws of the parts of a package.
 use Rattle.std.proofs.Common.{◌≡◌, ◌≤◌, ◌<◌, ◌+◌, ℕ, zero, suc, List, [], ◌∷◌, ◌++◌, length, Option, Some, None, Bool, true, false, refl, sym, ap, ◌∙◌, arith, append_assoc, slice_get, option_map, option_and_then, length-append, cond, codes, get_or, drop, add-one, subst}
-use Rattle.redl_tree.specs.Nodes.{Nodes, no_nodes, bytes, element, Item, bytes_item, element_item, in_front, items_of}
-use Rattle.redl_tree.specs.Count.{count}
-use Rattle.redl_tree.specs.View.{item_of, nodes_of, tag_of, kids_of}
+use Rattle.redl_tree.specs.Model.Nodes.{Nodes, no_nodes, bytes, element, Item, bytes_item, element_item, in_front, items_of}
+use Rattle.redl_tree.specs.Model.Count.{count}
+use Rattle.redl_tree.specs.Model.View.{item_of, nodes_of, tag_of, kids_of}
 use Rattle.redl_tree.specs.declared.node.Node.{Node}
 use Rattle.redl_tree.specs.declared.node.Node as node
 use Rattle.redl_tree.specs.declared.node.Elem.{Elem}
@@ -10,7 +10,7 @@ use Rattle.redl_tree.proofs.Laws.{item_of-Elem, item_of-Bytes, nodes_here}
 use Rattle.std.specs.Str.{IsUtf8}
 use Rattle.redl_markup.specs.Reading.{◌>>=◌, Gives}
 use Rattle.redl_opc.specs.Elements.{Element, element_in, elements_of, only, only_element}
-use Rattle.redl_tree.specs.Packages.{named_pkg}
+use Rattle.redl_tree.specs.Decisions.Packages.{named_pkg}
 use Rattle.redl_opc.specs.Shape.{package_in, package_of, parts_of, elements_in, story_of}
 use Rattle.redl_opc.specs.Parts.{name_in, part_name, story, places_from, places_in, places_of}
 use Rattle.redl_opc.specs.Tree.{HasUtf8Tails}

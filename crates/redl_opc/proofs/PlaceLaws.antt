@@ -1,7 +1,7 @@
 -- Changes of the node at a place.
 use Rattle.std.proofs.Common.{◌≡◌, ◌<◌, ◌≤◌, ◌+◌, ℕ, zero, suc, List, [], ◌∷◌, length, get_or, set, drop, refl, sym, ap, ◌∙◌, arith}
-use Rattle.redl_tree.specs.Nodes.{Nodes, Item, bytes_item, element_item, in_front}
-use Rattle.redl_tree.specs.View.{item_of, nodes_of}
+use Rattle.redl_tree.specs.Model.Nodes.{Nodes, Item, bytes_item, element_item, in_front}
+use Rattle.redl_tree.specs.Model.View.{item_of, nodes_of}
 use Rattle.redl_tree.specs.declared.node.Node.{Node}
 use Rattle.redl_tree.specs.declared.node.Node as node
 use Rattle.redl_tree.specs.declared.node.Elem.{Elem}

@@ -1,9 +1,9 @@
 -- The stories that are found by ancestors are the stories of the parts.
 use Rattle.std.proofs.Common.{◌≡◌, ◌<◌, ℕ, zero, suc, List, [], ◌∷◌, ◌++◌, map, filter_map, length, slice_get, slice_index_or, Contains, Option, Some, None, is_some, option_map, option_and_then, Bool, true, false, true≢false, ◌&&◌, ◌||◌, not, if◌then◌else◌, refl, sym, ap, ◌∙◌, codes, bytes_eq, arith, append-nil, subst}
 use Rattle.std.specs.List.{list_all, list_any, cons_option}
-use Rattle.redl_tree.specs.Nodes.{Tag, Nodes, no_nodes, bytes, element}
-use Rattle.redl_tree.specs.View.{Parts}
-use Rattle.redl_tree.specs.Packages.{is_pkg, named_pkg, level_below, level_of, is_data_level, is_story_root, is_root, stories_in, stories}
+use Rattle.redl_tree.specs.Model.Nodes.{Tag, Nodes, no_nodes, bytes, element}
+use Rattle.redl_tree.specs.Model.View.{Parts}
+use Rattle.redl_tree.specs.Decisions.Packages.{is_pkg, named_pkg, level_below, level_of, is_data_level, is_story_root, is_root, stories_in, stories}
 use Rattle.redl_tree.specs.declared.level.Level.TheVariants.{Package, Part, Data, Below}
 use Rattle.redl_tree.proofs.NameLaws.{and-left, and-right, and-false, bytes-same}
 use Rattle.redl_opc.specs.Elements.{Element, elements_of, only, only_element}

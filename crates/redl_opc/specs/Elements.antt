@@ -1,7 +1,7 @@
 -- The elements among the nodes of a list.
 use Rattle.std.specs.Prelude.{List, [], ◌∷◌, Option, Some, None}
-use Rattle.redl_tree.specs.Nodes.{Tag, Nodes, no_nodes, bytes, element, Item, bytes_item, element_item}
-use Rattle.redl_tree.specs.View.{tag_of, kids_of}
+use Rattle.redl_tree.specs.Model.Nodes.{Tag, Nodes, no_nodes, bytes, element, Item, bytes_item, element_item}
+use Rattle.redl_tree.specs.Model.View.{tag_of, kids_of}
 use Rattle.redl_tree.specs.declared.node.Elem.{Elem}
 
 pub record Element : Type 0 where

@@ -1,8 +1,8 @@
 -- Labels: the kind of an element in a revision, and the number of the revision. A label is not written in a text.
 use Rattle.std.specs.Prelude.{ℕ, zero, suc, ◌+◌, List, [], ◌∷◌, ◌++◌, Option, Some, None, slice_get, if◌then◌else◌}
 use Rattle.redl_markup.specs.Reading.{◌>>=◌}
-use Rattle.redl_tree.specs.Nodes.{Tag, Nodes, no_nodes, bytes, element, Item, bytes_item, element_item, items_of}
-use Rattle.redl_tree.specs.Packages.{is_root}
+use Rattle.redl_tree.specs.Model.Nodes.{Tag, Nodes, no_nodes, bytes, element, Item, bytes_item, element_item, items_of}
+use Rattle.redl_tree.specs.Decisions.Packages.{is_root}
 use Rattle.redl_tree.specs.declared.kinds.Kind.{Kind}
 use Rattle.redl_opc.specs.declared.label.Label.{Label}
 use Rattle.redl_opc.specs.Elements.{Element, element_in, only_element}

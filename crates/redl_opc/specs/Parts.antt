@@ -1,8 +1,8 @@
 -- The parts of a package by their numbers, which count from 0 in the order of the parts.
 use Rattle.std.specs.Prelude.{◌≡◌, ℕ, suc, List, [], ◌∷◌, Option, Some, None, unwrap_or, option_and_then, slice_get, codes, ◌<◌, ◌^◌}
 use Rattle.std.specs.Option.{option_map}
-use Rattle.redl_tree.specs.Nodes.{Tag, Nodes, no_nodes, bytes, element}
-use Rattle.redl_tree.specs.Count.{count}
+use Rattle.redl_tree.specs.Model.Nodes.{Tag, Nodes, no_nodes, bytes, element}
+use Rattle.redl_tree.specs.Model.Count.{count}
 use Rattle.redl_stamp.specs.Attribute.{attribute_value}
 use Rattle.redl_opc.specs.Elements.{Element}
 use Rattle.redl_opc.specs.Shape.{package_of, parts_of, story_of, refusal}

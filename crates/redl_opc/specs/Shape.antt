@@ -2,9 +2,9 @@
 -- that holds XML or other data. Its names are of the namespace `http://schemas.microsoft.com/office/2006/xmlPackage`.
 use Rattle.std.specs.Prelude.{◌≡◌, ℕ, List, [], Bool, false, ◌&&◌, ◌||◌, not, codes, Option, Some, None, is_some, if◌then◌else◌}
 use Rattle.std.specs.List.{list_all, list_any}
-use Rattle.redl_tree.specs.Nodes.{Tag, Nodes}
-use Rattle.redl_tree.specs.Names.{is}
-use Rattle.redl_tree.specs.Packages.{named_pkg, is_story_root}
+use Rattle.redl_tree.specs.Model.Nodes.{Tag, Nodes}
+use Rattle.redl_tree.specs.Roles.Names.{is}
+use Rattle.redl_tree.specs.Decisions.Packages.{named_pkg, is_story_root}
 use Rattle.redl_stamp.specs.Attribute.{attribute_value}
 use Rattle.redl_opc.specs.Elements.{Element, elements_of, only_element}
 use Rattle.redl_opc.specs.declared.error.OpcError.{OpcError}

@@ -1,8 +1,8 @@
 -- The stories of a package by its parts. `stories` of `redl_tree` finds them by their ancestors: they are the same ones.
 use Rattle.std.specs.Prelude.{◌≡◌, ◌<◌, ℕ, List, map, filter_map, length, Some}
 use Rattle.std.specs.Option.{option_map}
-use Rattle.redl_tree.specs.Nodes.{Nodes}
-use Rattle.redl_tree.specs.View.{Parts}
+use Rattle.redl_tree.specs.Model.Nodes.{Nodes}
+use Rattle.redl_tree.specs.Model.View.{Parts}
 use Rattle.redl_opc.specs.Elements.{Element}
 use Rattle.redl_opc.specs.Shape.{parts_of, story_of}
 use Rattle.redl_opc.specs.Parts.{part_name, story}

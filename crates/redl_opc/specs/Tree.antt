@@ -1,8 +1,8 @@
 -- What is required of nodes that may be a package. Nodes that were read from a text of at most 2,097,152 nodes have it.
 use Rattle.std.specs.Prelude.{◌<◌, ◌^◌}
 use Rattle.std.specs.Str.{IsUtf8}
-use Rattle.redl_tree.specs.Nodes.{Nodes, no_nodes, bytes, element}
-use Rattle.redl_tree.specs.Count.{count}
+use Rattle.redl_tree.specs.Model.Nodes.{Nodes, no_nodes, bytes, element}
+use Rattle.redl_tree.specs.Model.Count.{count}
 
 -- the tail of each element is UTF-8
 abbrev pub HasUtf8Tails : Nodes → Type 0

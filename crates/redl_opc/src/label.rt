@@ -1,7 +1,7 @@
 //! Labels of elements.
 
 ghost use Rattle.std.specs.Prelude.{◌≡◌, ◌++◌};
-ghost use Rattle.redl_tree.specs.View.{nodes_of, item_of};
+ghost use Rattle.redl_tree.specs.Model.View.{nodes_of, item_of};
 ghost use Rattle.redl_opc.specs.Elements.{element_of};
 ghost use Rattle.redl_opc.specs.Labels.{changed_at, changed_item, labelled, first_place};
 

@@ -1,11 +1,11 @@
 //! What holds of every package, as statements of the definitions alone: where its stories are, and what numbers leave as it is.
 
 ghost use Rattle.std.specs.Prelude.{◌≡◌, ℕ, List, length, Contains, None};
-ghost use Rattle.redl_tree.specs.Markers.{Value};
-ghost use Rattle.redl_tree.specs.Nodes.{Nodes};
-ghost use Rattle.redl_tree.specs.Numbers.{numbered_package};
-ghost use Rattle.redl_tree.specs.Packages.{stories};
-ghost use Rattle.redl_tree.specs.View.{Parts};
+ghost use Rattle.redl_tree.specs.Revisions.Markers.{Value};
+ghost use Rattle.redl_tree.specs.Model.Nodes.{Nodes};
+ghost use Rattle.redl_tree.specs.Revisions.Numbers.{numbered_package};
+ghost use Rattle.redl_tree.specs.Decisions.Packages.{stories};
+ghost use Rattle.redl_tree.specs.Model.View.{Parts};
 ghost use Rattle.redl_opc.specs.Parts.{part_name};
 ghost use Rattle.redl_opc.specs.Shape.{refusal, parts_of};
 ghost use Rattle.redl_opc.specs.Stories.{part_stories, IsStoryOfPart};

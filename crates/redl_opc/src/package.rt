@@ -3,8 +3,8 @@
 ghost use Rattle.std.specs.Prelude.{◌≡◌, ◌<◌, ◌^◌, None, length, map, slice_get, IfOk, IfErr, IfSome};
 ghost use Rattle.std.specs.Str.{IsUtf8};
 ghost use Rattle.redl_markup.specs.Reading.{Gives};
-ghost use Rattle.redl_tree.specs.Count.{count};
-ghost use Rattle.redl_tree.specs.View.{nodes_of};
+ghost use Rattle.redl_tree.specs.Model.Count.{count};
+ghost use Rattle.redl_tree.specs.Model.View.{nodes_of};
 ghost use Rattle.redl_opc.specs.Elements.{element_of};
 ghost use Rattle.redl_opc.specs.Shape.{refusal, IsCause, parts_of};
 ghost use Rattle.redl_opc.specs.Parts.{part_name, story, places_of};
@@ -33,14 +33,14 @@ pub struct Package {
 impl Model for Package {
     ghost use Rattle.std.specs.Prelude.{map};
     ghost use Rattle.std.specs.Coded.{codes};
-    ghost use Rattle.redl_tree.specs.Nodes.{Nodes};
+    ghost use Rattle.redl_tree.specs.Model.Nodes.{Nodes};
     ghost use Rattle.redl_opc.specs.Code.{nodes_code};
 
     ghost Value = { Nodes };
 
     ghost coded = { nodes_code (Prim.hlevel codes) };
 
-    ghost use Rattle.redl_tree.specs.View.{nodes_of};
+    ghost use Rattle.redl_tree.specs.Model.View.{nodes_of};
     ghost use Rattle.redl_opc.specs.Parts.{IsKept};
     ghost use Rattle.redl_opc.specs.PartView.{part_view};
 

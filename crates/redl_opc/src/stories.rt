@@ -1,9 +1,9 @@
 //! Labels of all stories, from one list.
 
 ghost use Rattle.std.specs.Prelude.{◌≡◌, ◌+◌, ◌^◌, ◌<◌, ◌≤◌, List, slice_get};
-ghost use Rattle.redl_tree.specs.Nodes.{Tag};
-ghost use Rattle.redl_tree.specs.Packages.{level_of};
-ghost use Rattle.redl_tree.specs.View.{nodes_of, item_of, tag_of, kids_of};
+ghost use Rattle.redl_tree.specs.Model.Nodes.{Tag};
+ghost use Rattle.redl_tree.specs.Decisions.Packages.{level_of};
+ghost use Rattle.redl_tree.specs.Model.View.{nodes_of, item_of, tag_of, kids_of};
 ghost use Rattle.redl_opc.specs.Labels.{elements, item_elements, relabelled_tag, relabelled, relabelled_item, kids_story_elements, item_story_elements, story_elements, labelled_kids, labelled_item, labelled_in};
 
 use crate::label::Label;

@@ -1,7 +1,7 @@
 //! Tables of packages: whether the shape is the one meant, the order of causes, and that calls succeed with ample memory.
 ghost use Rattle.std.specs.Prelude.{◌≡◌, IsTrue};
-ghost use Rattle.redl_tree.specs.Nodes.{no_nodes, in_front};
-ghost use Rattle.redl_tree.specs.View.{nodes_of, item_of};
+ghost use Rattle.redl_tree.specs.Model.Nodes.{no_nodes, in_front};
+ghost use Rattle.redl_tree.specs.Model.View.{nodes_of, item_of};
 ghost use Rattle.redl_opc.specs.Tree.{HasUtf8Tails, IsTree};
 
 use super::*;

@@ -2,9 +2,9 @@
 use Rattle.std.proofs.Common.{◌≡◌, ◌≤◌, Bool, true, false, List, [], ◌∷◌, length, refl, sym, ap, ◌∙◌, arith, not, ◌||◌, ◌&&◌, nat_lt, Option, if◌then◌else◌}
 use Rattle.redl_tree.proofs.Laws.{in_front-⊕}
 use Rattle.redl_tree.proofs.PassLaws.{without-⊕}
-use Rattle.redl_tree.specs.Groups.{paragraph_next, has_thick, joins, given, held_by, grouped_from}
-use Rattle.redl_tree.specs.Kids.{without, has_element, some_element, item_is}
-use Rattle.redl_tree.specs.Nodes.{Tag, Nodes, no_nodes, bytes, element, Item, bytes_item, element_item, in_front, ◌⊕◌}
+use Rattle.redl_tree.specs.Decisions.Groups.{paragraph_next, has_thick, joins, given, held_by, grouped_from}
+use Rattle.redl_tree.specs.Model.Kids.{without, has_element, some_element, item_is}
+use Rattle.redl_tree.specs.Model.Nodes.{Tag, Nodes, no_nodes, bytes, element, Item, bytes_item, element_item, in_front, ◌⊕◌}
 use Rattle.redl_paras.specs.Pieces.{piece_of, pieces_of, is_cut, paras_of}
 use Rattle.redl_paras.specs.declared.piece.Piece.{Piece}
 use Rattle.redl_paras.specs.declared.piece.Piece.TheVariants.{Para, Thin}

@@ -1,12 +1,12 @@
 -- What a group ends with: a paragraph, where one is left.
 use Rattle.std.proofs.Common.{◌≡◌, List, [], ◌∷◌, Bool, true, false, ◌&&◌, ◌||◌, not, Option, Some, None, refl, sym, ap, ◌∙◌, true≢false, if◌then◌else◌}
 use Rattle.std.proofs.lemmas.Bool.{and_parts, or_parts}
-use Rattle.redl_tree.specs.Nodes.{Tag, Nodes, no_nodes, bytes, element, ◌⊕◌}
-use Rattle.redl_tree.specs.Names.{is}
-use Rattle.redl_tree.specs.Kids.{some_element, has_element, without}
-use Rattle.redl_tree.specs.Lists.{into, is_wrapper, is_thick}
-use Rattle.redl_tree.specs.Groups.{Piece, para, thin, thick, paragraph_next, has_thick, joins, joined_tag, joined_kids, settled, given, held_by, grouped_from, grouped}
-use Rattle.redl_tree.specs.Sound.{or_before, end_of_one, end_of}
+use Rattle.redl_tree.specs.Model.Nodes.{Tag, Nodes, no_nodes, bytes, element, ◌⊕◌}
+use Rattle.redl_tree.specs.Roles.Names.{is}
+use Rattle.redl_tree.specs.Model.Kids.{some_element, has_element, without}
+use Rattle.redl_tree.specs.Roles.Lists.{into, is_wrapper, is_thick}
+use Rattle.redl_tree.specs.Decisions.Groups.{Piece, para, thin, thick, paragraph_next, has_thick, joins, joined_tag, joined_kids, settled, given, held_by, grouped_from, grouped}
+use Rattle.redl_tree.specs.Rules.Sound.{or_before, end_of_one, end_of}
 use Rattle.redl_tree.specs.declared.lists.Reach.TheVariants.{Direct}
 use Rattle.redl_tree.proofs.Named.{by_names}
 use Rattle.redl_tree.proofs.PassLaws.{next-thick}

@@ -1,9 +1,9 @@
 -- Whether a chain of paragraphs ends with one: a cell has to, once thin nodes are left out (ECMA-376 Part 1, 17.4).
 use Rattle.std.specs.Prelude.{List, [], ◌∷◌, Bool, true, false, ◌&&◌, not, if◌then◌else◌}
-use Rattle.redl_tree.specs.Names.{is}
-use Rattle.redl_tree.specs.Kids.{some_element}
-use Rattle.redl_tree.specs.Lists.{is_thick}
-use Rattle.redl_tree.specs.Groups.{Piece, para, thin, thick, has_thick}
+use Rattle.redl_tree.specs.Roles.Names.{is}
+use Rattle.redl_tree.specs.Model.Kids.{some_element}
+use Rattle.redl_tree.specs.Roles.Lists.{is_thick}
+use Rattle.redl_tree.specs.Decisions.Groups.{Piece, para, thin, thick, has_thick}
 
 -- a chain consists of paragraphs and of thin nodes
 abbrev pub is_chain : List Piece → Bool

@@ -3,13 +3,13 @@
 ghost use Rattle.std.specs.Prelude.{◌≡◌, ◌&&◌, ◌||◌, ◌∷◌, [], true, Some, IfOk};
 ghost use Rattle.redl_paras.specs.Ends.{is_chain, keeps_last};
 ghost use Rattle.redl_paras.specs.Pieces.{piece_of, pieces_of, held_of, is_other, is_cut, paras_in as paras_in_piece, paras_of};
-ghost use Rattle.redl_tree.specs.Beside.{are_named, bytes_beside, bytes_of_each};
-ghost use Rattle.redl_tree.specs.Groups.{given, held_by, grouped};
-ghost use Rattle.redl_tree.specs.Kids.{some_element};
-ghost use Rattle.redl_tree.specs.Names.{is};
-ghost use Rattle.redl_tree.specs.Nodes.{◌⊕◌};
-ghost use Rattle.redl_tree.specs.Sound.{end_of};
-ghost use Rattle.redl_tree.specs.View.{nodes_of, item_of};
+ghost use Rattle.redl_tree.specs.Decisions.Beside.{are_named, bytes_beside, bytes_of_each};
+ghost use Rattle.redl_tree.specs.Decisions.Groups.{given, held_by, grouped};
+ghost use Rattle.redl_tree.specs.Model.Kids.{some_element};
+ghost use Rattle.redl_tree.specs.Roles.Names.{is};
+ghost use Rattle.redl_tree.specs.Model.Nodes.{◌⊕◌};
+ghost use Rattle.redl_tree.specs.Rules.Sound.{end_of};
+ghost use Rattle.redl_tree.specs.Model.View.{nodes_of, item_of};
 ghost use Rattle.redl_tree.specs.declared.lists.Reach.TheVariants.{Direct};
 
 use crate::join::{joined, settle, take_up};

@@ -2,11 +2,11 @@
 
 ghost use Rattle.std.specs.Prelude.{◌≡◌, ◌∷◌, [], ◌&&◌, not, IfOk, OnOk, Some};
 ghost use Rattle.redl_paras.specs.Pieces.{held_of};
-ghost use Rattle.redl_tree.specs.Groups.{taken, ended as ended_close, joined_tag, joined_kids, settled};
-ghost use Rattle.redl_tree.specs.Kids.{only, without, has_element, item_is};
-ghost use Rattle.redl_tree.specs.Names.{is};
-ghost use Rattle.redl_tree.specs.Nodes.{◌⊕◌};
-ghost use Rattle.redl_tree.specs.View.{nodes_of, item_of, tag_of, kids_of};
+ghost use Rattle.redl_tree.specs.Decisions.Groups.{taken, ended as ended_close, joined_tag, joined_kids, settled};
+ghost use Rattle.redl_tree.specs.Model.Kids.{only, without, has_element, item_is};
+ghost use Rattle.redl_tree.specs.Roles.Names.{is};
+ghost use Rattle.redl_tree.specs.Model.Nodes.{◌⊕◌};
+ghost use Rattle.redl_tree.specs.Model.View.{nodes_of, item_of, tag_of, kids_of};
 
 use redl_io::Text;
 use redl_tree::{Close, Elem, Node, is_named};

@@ -1,10 +1,10 @@
 -- Properties of which a change speaks of all kids: the former kids are all that is restored.
 use Rattle.std.proofs.Common.{◌≡◌, false, refl, ap, ◌⊎◌, inl, inr}
-use Rattle.redl_tree.specs.Nodes.{Nodes, no_nodes, bytes, element}
-use Rattle.redl_tree.specs.Restored.{outlasts, restored}
+use Rattle.redl_tree.specs.Model.Nodes.{Nodes, no_nodes, bytes, element}
+use Rattle.redl_tree.specs.Decisions.Restored.{outlasts, restored}
 use Rattle.redl_tree.specs.declared.kinds.Prop.{Prop}
 use Rattle.redl_tree.specs.declared.kinds.Prop.TheVariants.{Table, Except}
-use Rattle.redl_tree.specs.Kids.{without}
+use Rattle.redl_tree.specs.Model.Kids.{without}
 
 -- a test that nothing passes takes nothing away
 without_none : (xs : Nodes) → without (λ tag. false) xs ≡ xs

@@ -1,14 +1,14 @@
 //! Former properties: the present kids of a property element and those of its former properties go in, the kids that it has
 //! once the change is rejected come out.
 //!
-//! Read `restore` first. Its clause cites the table of `specs/Restored.antt` of `redl_tree`.
+//! Read `restore` first. Its clause cites the table of `specs/Decisions/Restored.antt` of `redl_tree`.
 //! Which change is rejected, and where its former kids are, is left to the crates above.
 #![tactic(auto)]
 
-mod outlasting;
+mod uncovered;
 mod properties;
 
-pub use outlasting::without_marks;
+pub use uncovered::without_marks;
 pub use properties::restore;
 
 #[cfg(test)]

@@ -1,11 +1,11 @@
 -- What is made of a list so far, with the pieces that are left: the steps that change it.
 use Rattle.std.proofs.Common.{◌≡◌, ◌≤◌, ◌+◌, ℕ, List, [], ◌∷◌, ◌++◌, Bool, true, false, true≢false, ◌&&◌, ◌||◌, not, Option, Some, None, refl, sym, ap, ◌∙◌, arith, if◌then◌else◌}
-use Rattle.redl_tree.specs.Count.{count, item_count}
-use Rattle.redl_tree.specs.Groups.{Piece as GroupPiece, para, thin, thick, paragraph_next, has_thick, joins, taken, joined_tag, joined_kids, settled, given, held_by, grouped_from, grouped}
-use Rattle.redl_tree.specs.Kids.{only, without, has_element}
-use Rattle.redl_tree.specs.Names.{is}
-use Rattle.redl_tree.specs.Nodes.{Tag, Nodes, no_nodes, bytes, element, in_front, ◌⊕◌}
-use Rattle.redl_tree.specs.View.{nodes_of, item_of, tag_of, kids_of}
+use Rattle.redl_tree.specs.Model.Count.{count, item_count}
+use Rattle.redl_tree.specs.Decisions.Groups.{Piece as GroupPiece, para, thin, thick, paragraph_next, has_thick, joins, taken, joined_tag, joined_kids, settled, given, held_by, grouped_from, grouped}
+use Rattle.redl_tree.specs.Model.Kids.{only, without, has_element}
+use Rattle.redl_tree.specs.Roles.Names.{is}
+use Rattle.redl_tree.specs.Model.Nodes.{Tag, Nodes, no_nodes, bytes, element, in_front, ◌⊕◌}
+use Rattle.redl_tree.specs.Model.View.{nodes_of, item_of, tag_of, kids_of}
 use Rattle.redl_tree.specs.declared.node.Node.{Node}
 use Rattle.redl_tree.specs.declared.node.Node as node
 use Rattle.redl_tree.specs.declared.node.Elem.{Elem}

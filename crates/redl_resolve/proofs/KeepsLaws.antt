@@ -3,8 +3,8 @@ use Rattle.std.proofs.Common.{◌≡◌, List}
 use Rattle.redl_resolve.specs.Keeps.{KeepsText, KeepsRules}
 use Rattle.redl_tree.proofs.Indexed.{survival-package}
 use Rattle.redl_tree.proofs.Soundness.{again_1, again_2, again_3, again_4, again_5, again_6, again_7, again_8, again_9, IsSoundPackage}
-use Rattle.redl_tree.specs.Nodes.{Nodes}
-use Rattle.redl_tree.specs.Packages.{pass_package}
+use Rattle.redl_tree.specs.Model.Nodes.{Nodes}
+use Rattle.redl_tree.specs.Decisions.Packages.{pass_package}
 use Rattle.redl_tree.specs.declared.kinds.Say.{Say}
 
 pub keeps_text : (says : List Say) (given result : Nodes) → result ≡ pass_package says given → KeepsText says given result

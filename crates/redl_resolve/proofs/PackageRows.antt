@@ -1,9 +1,9 @@
 -- Worked rows of the pass of a package, and of the number of its nodes.
 use Rattle.std.proofs.Common.{◌≡◌, List, [], ◌∷◌, ℕ, codes, refl}
-use Rattle.redl_tree.specs.Count.{count}
-use Rattle.redl_tree.specs.Nodes.{Nodes, ◌⊕◌}
-use Rattle.redl_tree.specs.Packages.{pass_package}
-use Rattle.redl_tree.specs.Text.{text}
+use Rattle.redl_tree.specs.Model.Count.{count}
+use Rattle.redl_tree.specs.Model.Nodes.{Nodes, ◌⊕◌}
+use Rattle.redl_tree.specs.Decisions.Packages.{pass_package}
+use Rattle.redl_tree.specs.Model.Text.{text}
 use Rattle.redl_tree.specs.declared.kinds.Kind.TheVariants.{Content}
 use Rattle.redl_tree.specs.declared.kinds.Say.{Say}
 use Rattle.redl_tree.specs.declared.kinds.Say.TheVariants.{Keep, Accept, Reject}

@@ -6,22 +6,22 @@ use Rattle.redl_resolve.specs.Changes.{item_rejected, item_former, present_in, a
 use Rattle.redl_resolve.specs.Counts.{item_skipped, skipped, former_count}
 use Rattle.redl_resolve.specs.Rounds.{round_of, item_pass_in}
 use Rattle.redl_resolve.specs.declared.rounds.Round.{Round}
-use Rattle.redl_tree.specs.Count.{count}
-use Rattle.redl_tree.specs.Fates.{fate_of}
-use Rattle.redl_tree.specs.Kids.{only, without}
-use Rattle.redl_tree.specs.Kinds.{is_content, is_leave, is_restore}
-use Rattle.redl_tree.specs.Tables.{goes_at, goes, para_is_cut}
-use Rattle.redl_tree.specs.Lists.{in_cells}
+use Rattle.redl_tree.specs.Model.Count.{count}
+use Rattle.redl_tree.specs.Decisions.Fates.{fate_of}
+use Rattle.redl_tree.specs.Model.Kids.{only, without}
+use Rattle.redl_tree.specs.Roles.Kinds.{is_content, is_leave, is_restore}
+use Rattle.redl_tree.specs.Decisions.Tables.{goes_at, goes, para_is_cut}
+use Rattle.redl_tree.specs.Roles.Lists.{in_cells}
 use Rattle.std.proofs.lemmas.Bool.{and_parts}
 use Rattle.redl_resolve.specs.Stays.{may_go, elem_stays, item_stays, all_stay, passed_each, item_passed_each}
 use Rattle.redl_tree.proofs.PassLaws.{leave_of, if_true, if_false, pass-apart}
-use Rattle.redl_tree.specs.Fates.{renamed}
-use Rattle.redl_tree.specs.Names.{named, is}
-use Rattle.redl_tree.specs.Packages.{pass_in}
-use Rattle.redl_tree.specs.Pass.{by_fate, pieces, pass, element_pass, kept_kids, is_block_para}
-use Rattle.redl_tree.specs.Places.{props_name}
-use Rattle.redl_tree.specs.Restored.{Rejected, rejected, rejected_as, former_kids, restored, outlasts, after_change}
-use Rattle.redl_tree.specs.Nodes.{Tag, Nodes, no_nodes, bytes, element, Item, bytes_item, element_item, in_front, ◌⊕◌}
+use Rattle.redl_tree.specs.Decisions.Fates.{renamed}
+use Rattle.redl_tree.specs.Roles.Names.{named, is}
+use Rattle.redl_tree.specs.Decisions.Packages.{pass_in}
+use Rattle.redl_tree.specs.Decisions.Pass.{by_fate, pieces, pass, element_pass, kept_kids, is_block_para}
+use Rattle.redl_tree.specs.Roles.Places.{props_name}
+use Rattle.redl_tree.specs.Decisions.Restored.{Rejected, rejected, rejected_as, former_kids, restored, outlasts, after_change}
+use Rattle.redl_tree.specs.Model.Nodes.{Tag, Nodes, no_nodes, bytes, element, Item, bytes_item, element_item, in_front, ◌⊕◌}
 use Rattle.redl_tree.specs.declared.kinds.Kind.{Kind}
 use Rattle.redl_tree.specs.declared.kinds.Kind.TheVariants.{Plain, Content, Mark, Row, Cell, Change, Marker}
 use Rattle.redl_tree.specs.declared.kinds.Prop.{Prop}

@@ -1,16 +1,16 @@
 -- What is made of a list so far, together with the pieces that are left.
 use Rattle.std.specs.Prelude.{◌≡◌, ℕ, ◌+◌, List, ◌∷◌, ◌++◌, false, if◌then◌else◌}
-use Rattle.redl_tree.specs.Count.{count}
-use Rattle.redl_tree.specs.Groups.{Piece, grouped}
-use Rattle.redl_tree.specs.Nodes.{Tag, Nodes, no_nodes, bytes, element, ◌⊕◌, Item, bytes_item, element_item}
-use Rattle.redl_tree.specs.Groups.{thin, para}
-use Rattle.redl_tree.specs.Fates.{renamed}
-use Rattle.redl_tree.specs.Tables.{para_is_cut, goes_at}
+use Rattle.redl_tree.specs.Model.Count.{count}
+use Rattle.redl_tree.specs.Decisions.Groups.{Piece, grouped}
+use Rattle.redl_tree.specs.Model.Nodes.{Tag, Nodes, no_nodes, bytes, element, ◌⊕◌, Item, bytes_item, element_item}
+use Rattle.redl_tree.specs.Decisions.Groups.{thin, para}
+use Rattle.redl_tree.specs.Decisions.Fates.{renamed}
+use Rattle.redl_tree.specs.Decisions.Tables.{para_is_cut, goes_at}
 use Rattle.redl_tables.specs.Lines.{item_found, elem_found}
 use Rattle.redl_tables.specs.declared.owned.Finding.{Finding}
 use Rattle.redl_tables.specs.declared.questions.Question.{Question}
-use Rattle.redl_tree.specs.Pass.{pass, piece, element_pass, kept_kids}
-use Rattle.redl_tree.specs.View.{nodes_of}
+use Rattle.redl_tree.specs.Decisions.Pass.{pass, piece, element_pass, kept_kids}
+use Rattle.redl_tree.specs.Model.View.{nodes_of}
 use Rattle.redl_tree.specs.declared.kinds.Say.{Say}
 use Rattle.redl_paras.specs.Pieces.{pieces_of}
 use Rattle.redl_resolve.specs.Counts.{pieces_count}

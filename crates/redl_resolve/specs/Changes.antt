@@ -1,15 +1,15 @@
 -- The rejected change of a list of kids, as the code holds it.
 use Rattle.std.specs.Prelude.{ℕ, List, Option, Some, None, Vec, ◌&&◌, not, if◌then◌else◌}
 use Rattle.std.specs.Global.{Global}
-use Rattle.redl_tree.specs.Fates.{fate_of}
-use Rattle.redl_tree.specs.Kinds.{is_restore}
-use Rattle.redl_tree.specs.Nodes.{Tag, Nodes, Item, bytes_item, element_item}
-use Rattle.redl_tree.specs.Restored.{Rejected, rejected_as, restored, outlasts}
-use Rattle.redl_tree.specs.Names.{is, named}
-use Rattle.redl_tree.specs.Kids.{without}
+use Rattle.redl_tree.specs.Decisions.Fates.{fate_of}
+use Rattle.redl_tree.specs.Roles.Kinds.{is_restore}
+use Rattle.redl_tree.specs.Model.Nodes.{Tag, Nodes, Item, bytes_item, element_item}
+use Rattle.redl_tree.specs.Decisions.Restored.{Rejected, rejected_as, restored, outlasts}
+use Rattle.redl_tree.specs.Roles.Names.{is, named}
+use Rattle.redl_tree.specs.Model.Kids.{without}
 use Rattle.redl_tree.specs.declared.kinds.Prop.TheVariants.{Run}
 use Rattle.redl_resolve.specs.declared.rounds.Round.{Round}
-use Rattle.redl_tree.specs.View.{nodes_of}
+use Rattle.redl_tree.specs.Model.View.{nodes_of}
 use Rattle.redl_tree.specs.declared.kinds.Say.{Say}
 use Rattle.redl_tree.specs.declared.node.Node.{Node}
 use Rattle.redl_resolve.specs.declared.changes.Former.{Former}

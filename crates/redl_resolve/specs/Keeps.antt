@@ -3,13 +3,13 @@
 -- kinds and numbers that its index gives them, and `result` is what the pass makes of it. Attributes are read by a crate
 -- above, so both hold for every reader of attributes.
 use Rattle.std.specs.Prelude.{◌≡◌, ℕ, List, Bool, true, map}
-use Rattle.redl_tree.specs.Markers.{Value}
-use Rattle.redl_tree.specs.Nodes.{Nodes}
-use Rattle.redl_tree.specs.Numbers.{IsIndexed}
-use Rattle.redl_tree.specs.Packages.{stories}
-use Rattle.redl_tree.specs.Sound.{tests, holds, is_sound, test_1, test_2, test_3, test_4, test_5, test_6, test_7, test_8, test_9}
-use Rattle.redl_tree.specs.Survivors.{text_pieces, survivors}
-use Rattle.redl_tree.specs.View.{Parts}
+use Rattle.redl_tree.specs.Revisions.Markers.{Value}
+use Rattle.redl_tree.specs.Model.Nodes.{Nodes}
+use Rattle.redl_tree.specs.Revisions.Numbers.{IsIndexed}
+use Rattle.redl_tree.specs.Decisions.Packages.{stories}
+use Rattle.redl_tree.specs.Rules.Sound.{tests, holds, is_sound, test_1, test_2, test_3, test_4, test_5, test_6, test_7, test_8, test_9}
+use Rattle.redl_tree.specs.Decisions.Survivors.{text_pieces, survivors}
+use Rattle.redl_tree.specs.Model.View.{Parts}
 use Rattle.redl_tree.specs.declared.kinds.Say.{Say}
 
 -- The text pieces of the stories are those of the original that survive, byte for byte and in their order.

@@ -1,14 +1,14 @@
 -- The summary of a node's ancestors that the pass carries down. `around` is the list of their tags, the nearest first.
 use Rattle.std.specs.Prelude.{List, [], ◌∷◌, Bool, ◌&&◌, ◌||◌, not, if◌then◌else◌}
 use Rattle.std.specs.List.{list_any}
-use Rattle.redl_tree.specs.Fates.{fate_of}
-use Rattle.redl_tree.specs.Kinds.{is_old_content, is_free, is_leave}
-use Rattle.redl_tree.specs.Nodes.{Tag, Nodes, Item, bytes_item, element_item}
-use Rattle.redl_tree.specs.Packages.{is_root, pass_in}
-use Rattle.redl_tree.specs.Pass.{pass}
-use Rattle.redl_tree.specs.Places.{is_quiet, within, in_para_props}
-use Rattle.redl_tree.specs.Lists.{place, inside, nowhere}
-use Rattle.redl_tree.specs.Names.{is}
+use Rattle.redl_tree.specs.Decisions.Fates.{fate_of}
+use Rattle.redl_tree.specs.Roles.Kinds.{is_old_content, is_free, is_leave}
+use Rattle.redl_tree.specs.Model.Nodes.{Tag, Nodes, Item, bytes_item, element_item}
+use Rattle.redl_tree.specs.Decisions.Packages.{is_root, pass_in}
+use Rattle.redl_tree.specs.Decisions.Pass.{pass}
+use Rattle.redl_tree.specs.Roles.Places.{is_quiet, within, in_para_props}
+use Rattle.redl_tree.specs.Roles.Lists.{place, inside, nowhere}
+use Rattle.redl_tree.specs.Roles.Names.{is}
 use Rattle.redl_tables.specs.Asked.{asked, asked_inside}
 use Rattle.redl_tree.specs.declared.lists.Place.{Place}
 use Rattle.redl_tree.specs.declared.kinds.Say.{Say}

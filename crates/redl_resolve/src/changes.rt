@@ -3,10 +3,10 @@
 ghost use Rattle.std.specs.Prelude.{◌≡◌, ◌+◌, IfOk};
 ghost use Rattle.redl_resolve.specs.Changes.{former_of, elem_rejected, item_rejected, copies_of, item_former, present_in, after_in};
 ghost use Rattle.redl_resolve.specs.Counts.{former_count};
-ghost use Rattle.redl_tree.specs.Names.{named};
-ghost use Rattle.redl_tree.specs.Places.{props_name};
-ghost use Rattle.redl_tree.specs.Restored.{rejected as rejected_by, former_kids};
-ghost use Rattle.redl_tree.specs.View.{nodes_of, item_of, tag_of, kids_of};
+ghost use Rattle.redl_tree.specs.Roles.Names.{named};
+ghost use Rattle.redl_tree.specs.Roles.Places.{props_name};
+ghost use Rattle.redl_tree.specs.Decisions.Restored.{rejected as rejected_by, former_kids};
+ghost use Rattle.redl_tree.specs.Model.View.{nodes_of, item_of, tag_of, kids_of};
 
 use crate::rounds::Round;
 use crate::steps::Steps;

@@ -3,10 +3,10 @@
 ghost use Rattle.std.specs.Prelude.{◌≡◌, ◌≢◌, ◌≤◌, ◌+◌, ◌∷◌, [], List, IfOk, OnOk, true, false, if◌then◌else◌};
 ghost use Rattle.redl_paras.specs.Pieces.{pieces_of, is_other};
 ghost use Rattle.redl_resolve.specs.Chains.{whole, weight, AddsPiece};
-ghost use Rattle.redl_tree.specs.Count.{count, item_count};
-ghost use Rattle.redl_tree.specs.Groups.{Piece as GroupPiece, para, thin, thick, grouped};
-ghost use Rattle.redl_tree.specs.Nodes.{Nodes, no_nodes, element, ◌⊕◌};
-ghost use Rattle.redl_tree.specs.View.{nodes_of, item_of, tag_of, kids_of};
+ghost use Rattle.redl_tree.specs.Model.Count.{count, item_count};
+ghost use Rattle.redl_tree.specs.Decisions.Groups.{Piece as GroupPiece, para, thin, thick, grouped};
+ghost use Rattle.redl_tree.specs.Model.Nodes.{Nodes, no_nodes, element, ◌⊕◌};
+ghost use Rattle.redl_tree.specs.Model.View.{nodes_of, item_of, tag_of, kids_of};
 
 use redl_paras::{Next, Piece, group};
 use redl_tree::{Elem, Node};

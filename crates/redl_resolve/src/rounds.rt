@@ -2,16 +2,16 @@
 
 ghost use Rattle.std.specs.Prelude.{◌≡◌, ◌∷◌, ◌&&◌, ◌||◌, not, true, false, List, []};
 ghost use Rattle.redl_resolve.specs.Rounds.{round_of, inside_of, place_inside, frees, leaves};
-ghost use Rattle.redl_tree.specs.Fates.{fate_of as fate_by};
-ghost use Rattle.redl_tree.specs.Kinds.{is_leave, is_old_content as is_old_content_kind};
-ghost use Rattle.redl_tree.specs.Lists.{is_direct, is_rows, is_cells, is_shell};
+ghost use Rattle.redl_tree.specs.Decisions.Fates.{fate_of as fate_by};
+ghost use Rattle.redl_tree.specs.Roles.Kinds.{is_leave, is_old_content as is_old_content_kind};
+ghost use Rattle.redl_tree.specs.Roles.Lists.{is_direct, is_rows, is_cells, is_shell};
 ghost use Rattle.redl_resolve.specs.Stays.{may_go as may_go_by};
-ghost use Rattle.redl_tree.specs.Names.{is};
-ghost use Rattle.redl_tree.specs.Nodes.{Tag};
-ghost use Rattle.redl_tree.specs.Places.{is_quiet as is_quiet_by};
-ghost use Rattle.redl_tree.specs.Pass.{is_block_para as is_block_para_by};
-ghost use Rattle.redl_tree.specs.Tables.{goes_at as goes_at_by};
-ghost use Rattle.redl_tree.specs.View.{tag_of, kids_of};
+ghost use Rattle.redl_tree.specs.Roles.Names.{is};
+ghost use Rattle.redl_tree.specs.Model.Nodes.{Tag};
+ghost use Rattle.redl_tree.specs.Roles.Places.{is_quiet as is_quiet_by};
+ghost use Rattle.redl_tree.specs.Decisions.Pass.{is_block_para as is_block_para_by};
+ghost use Rattle.redl_tree.specs.Decisions.Tables.{goes_at as goes_at_by};
+ghost use Rattle.redl_tree.specs.Model.View.{tag_of, kids_of};
 
 use redl_tables::{Question, fate_of, goes};
 use redl_tree::{Elem, Fate, Kind, Lot, Place, Reach, Say, Trace, is_named, is_quiet, is_wrapper};

@@ -4,8 +4,8 @@ ghost use Rattle.std.specs.Prelude.{◌≡◌, true, List};
 ghost use Rattle.redl_resolve.specs.Counts.{skipped, item_skipped};
 ghost use Rattle.redl_resolve.specs.Rounds.{round_of};
 ghost use Rattle.redl_resolve.specs.Stays.{item_stays, elem_stays as elem_stays_by, all_stay as all_stay_by};
-ghost use Rattle.redl_tree.specs.Nodes.{Tag, element_item};
-ghost use Rattle.redl_tree.specs.View.{nodes_of, item_of, tag_of, kids_of};
+ghost use Rattle.redl_tree.specs.Model.Nodes.{Tag, element_item};
+ghost use Rattle.redl_tree.specs.Model.View.{nodes_of, item_of, tag_of, kids_of};
 
 use crate::rounds::{Round, is_block_para, may_go};
 use redl_tables::{fate_of, para_is_cut};

@@ -23,8 +23,8 @@ impl<L: Ledger> Model for Steps<L> {
 
 impl<L: Ledger> Steps<L> {
     ghost use Rattle.std.specs.Prelude.{◌≡◌, ◌+◌, ◌<◌};
-    ghost use Rattle.redl_tree.specs.Count.{count, item_count};
-    ghost use Rattle.redl_tree.specs.View.{nodes_of, item_of};
+    ghost use Rattle.redl_tree.specs.Model.Count.{count, item_count};
+    ghost use Rattle.redl_tree.specs.Model.View.{nodes_of, item_of};
 
     /// A counter of no steps, by the ledger that this blank is for.
     pub fn new(blank: Blank) -> Steps<L>

@@ -3,10 +3,10 @@
 ghost use Rattle.std.specs.Prelude.{◌≡◌, ◌≤◌, ◌+◌, List, IfOk};
 ghost use Rattle.redl_resolve.specs.Keeps.{KeepsText, KeepsRules};
 ghost use Rattle.redl_resolve.specs.Rounds.{kids_pass_in, item_pass_in, element_pass_in};
-ghost use Rattle.redl_tree.specs.Count.{count, item_count};
-ghost use Rattle.redl_tree.specs.Nodes.{Tag};
-ghost use Rattle.redl_tree.specs.Packages.{level_of, pass_in, pass_package};
-ghost use Rattle.redl_tree.specs.View.{nodes_of, item_of, tag_of, kids_of};
+ghost use Rattle.redl_tree.specs.Model.Count.{count, item_count};
+ghost use Rattle.redl_tree.specs.Model.Nodes.{Tag};
+ghost use Rattle.redl_tree.specs.Decisions.Packages.{level_of, pass_in, pass_package};
+ghost use Rattle.redl_tree.specs.Model.View.{nodes_of, item_of, tag_of, kids_of};
 
 use crate::rounds::in_root;
 use crate::steps::Steps;

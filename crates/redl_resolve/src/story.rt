@@ -11,12 +11,12 @@ ghost use Rattle.redl_tables.specs.Asked.{answer, asked_inside};
 ghost use Rattle.redl_resolve.specs.Counts.{skipped, item_skipped};
 ghost use Rattle.redl_resolve.specs.Rounds.{round_of};
 ghost use Rattle.redl_resolve.specs.Stays.{passed_each, item_passed_each};
-ghost use Rattle.redl_tree.specs.Count.{count, item_count};
-ghost use Rattle.redl_tree.specs.Fates.{renamed};
-ghost use Rattle.redl_tree.specs.Groups.{thin};
-ghost use Rattle.redl_tree.specs.Nodes.{Tag, element_item, ◌⊕◌};
-ghost use Rattle.redl_tree.specs.Pass.{pass, kept_kids};
-ghost use Rattle.redl_tree.specs.View.{nodes_of, item_of, tag_of, kids_of};
+ghost use Rattle.redl_tree.specs.Model.Count.{count, item_count};
+ghost use Rattle.redl_tree.specs.Decisions.Fates.{renamed};
+ghost use Rattle.redl_tree.specs.Decisions.Groups.{thin};
+ghost use Rattle.redl_tree.specs.Model.Nodes.{Tag, element_item, ◌⊕◌};
+ghost use Rattle.redl_tree.specs.Decisions.Pass.{pass, kept_kids};
+ghost use Rattle.redl_tree.specs.Model.View.{nodes_of, item_of, tag_of, kids_of};
 
 use crate::changes::{after_change, rejected};
 use crate::made::Made;

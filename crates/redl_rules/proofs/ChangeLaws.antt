@@ -3,12 +3,12 @@ use Rattle.std.proofs.Common.{◌≡◌, Bool, true, false, List, [], ◌∷◌,
 use Rattle.std.specs.Prelude.{◌||◌}
 use Rattle.std.specs.List.{list_any}
 use Rattle.std.specs.Option.{option_map}
-use Rattle.redl_tree.specs.Nodes.{Tag, Nodes, no_nodes, bytes, element}
-use Rattle.redl_tree.specs.Names.{is}
-use Rattle.redl_tree.specs.Kinds.{is_change}
-use Rattle.redl_tree.specs.Places.{is_quiet, is_open, in_mark_props, in_row_props, in_cell_props, in_props, trace_of, row_trace_of, cell_trace_of, prop_of, placed, change_at, first_role, role}
-use Rattle.redl_tree.specs.Arounds.{around_of}
-use Rattle.redl_tree.specs.Sound.{only_last}
+use Rattle.redl_tree.specs.Model.Nodes.{Tag, Nodes, no_nodes, bytes, element}
+use Rattle.redl_tree.specs.Roles.Names.{is}
+use Rattle.redl_tree.specs.Roles.Kinds.{is_change}
+use Rattle.redl_tree.specs.Roles.Places.{is_quiet, is_open, in_mark_props, in_row_props, in_cell_props, in_props, trace_of, row_trace_of, cell_trace_of, prop_of, placed, change_at, first_role, role}
+use Rattle.redl_tree.specs.Roles.Arounds.{around_of}
+use Rattle.redl_tree.specs.Rules.Sound.{only_last}
 use Rattle.redl_tree.specs.declared.around.Around.{Around}
 use Rattle.redl_tree.specs.declared.kinds.Trace.{Trace}
 use Rattle.redl_tree.specs.declared.kinds.Prop.{Prop}

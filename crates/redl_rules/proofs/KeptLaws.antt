@@ -1,9 +1,9 @@
 -- Which rules hold, a node and a story at a time.
 use Rattle.std.proofs.Common.{◌≡◌, refl, ap, Bool, true, false, ◌&&◌, List, [], ◌∷◌, ◌++◌, sym, ◌∙◌}
-use Rattle.redl_tree.specs.Nodes.{Tag, Nodes, no_nodes, element, Item, bytes_item, element_item, in_front}
-use Rattle.redl_tree.specs.View.{Parts}
+use Rattle.redl_tree.specs.Model.Nodes.{Tag, Nodes, no_nodes, element, Item, bytes_item, element_item, in_front}
+use Rattle.redl_tree.specs.Model.View.{Parts}
 use Rattle.redl_rules.specs.declared.kept.Kept.{Kept}
-use Rattle.redl_tree.specs.Sound.{Test, everywhere, holds, test_1, test_2, test_3, test_4, test_5, test_6, test_7, test_8, test_9}
+use Rattle.redl_tree.specs.Rules.Sound.{Test, everywhere, holds, test_1, test_2, test_3, test_4, test_5, test_6, test_7, test_8, test_9}
 use Rattle.redl_rules.specs.Attributes.{has_id, declares}
 use Rattle.redl_rules.specs.Keeping.{kept_by, all_kept, in_both, kept_in, item_kept, element_kept, kept_among}
 

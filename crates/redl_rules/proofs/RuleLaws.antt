@@ -1,9 +1,9 @@
 -- The rules by what the ancestors are to an element are the rules.
 use Rattle.std.proofs.Common.{◌≡◌, refl, List, ◌∷◌}
-use Rattle.redl_tree.specs.Nodes.{Tag, Nodes}
-use Rattle.redl_tree.specs.Sound.{test_3, test_5, test_6, test_9}
-use Rattle.redl_tree.specs.Arounds.{around_of}
-use Rattle.redl_tree.specs.Places.{role}
+use Rattle.redl_tree.specs.Model.Nodes.{Tag, Nodes}
+use Rattle.redl_tree.specs.Rules.Sound.{test_3, test_5, test_6, test_9}
+use Rattle.redl_tree.specs.Roles.Arounds.{around_of}
+use Rattle.redl_tree.specs.Roles.Places.{role}
 use Rattle.redl_rules.specs.Attributes.{declares}
 use Rattle.redl_rules.specs.Rounds.{round_of}
 use Rattle.redl_rules.specs.Rules.{by_round_3, by_round_5, by_round_6, by_round_9}

@@ -1,7 +1,7 @@
 -- The stories of a package, by ancestors and by level, and a node at a time.
 use Rattle.std.proofs.Common.{◌≡◌, refl, sym, ap, true, ◌&&◌, List, [], ◌∷◌, ◌++◌}
-use Rattle.redl_tree.specs.Nodes.{Tag, Nodes, no_nodes, bytes, element, Item, bytes_item, element_item, in_front}
-use Rattle.redl_tree.specs.Packages.{level_of, is_data_level, is_story_root, stories_in}
+use Rattle.redl_tree.specs.Model.Nodes.{Tag, Nodes, no_nodes, bytes, element, Item, bytes_item, element_item, in_front}
+use Rattle.redl_tree.specs.Decisions.Packages.{level_of, is_data_level, is_story_root, stories_in}
 use Rattle.redl_tree.specs.declared.level.Level.{Level}
 use Rattle.redl_tree.specs.declared.level.Level.TheVariants.{Top}
 use Rattle.redl_rules.specs.Attributes.{broken_rule}

@@ -1,7 +1,7 @@
 -- What a check answers.
 use Rattle.std.specs.Prelude.{ℕ, Option, Some, None, Result, Ok, Err}
-use Rattle.redl_rules.specs.declared.package.RuleError.{RuleError}
-use Rattle.redl_rules.specs.declared.package.RuleError.TheVariants.{Broken}
+use Rattle.redl_rules.specs.declared.soundness.RuleError.{RuleError}
+use Rattle.redl_rules.specs.declared.soundness.RuleError.TheVariants.{Broken}
 
 -- the answer where this is the least broken rule
 abbrev pub answer_of : Option ℕ → Result Unit RuleError

@@ -1,8 +1,8 @@
 -- Which rules hold, of an element, of nodes, and of stories.
 use Rattle.std.specs.Prelude.{ℕ, List, ◌∷◌, Bool, true, ◌&&◌, Option, Some, None, if◌then◌else◌}
-use Rattle.redl_tree.specs.Nodes.{Tag, Nodes, Item, bytes_item, element_item}
-use Rattle.redl_tree.specs.View.{Parts}
-use Rattle.redl_tree.specs.Sound.{Test, everywhere, holds, test_1, test_2, test_3, test_4, test_5, test_6, test_7, test_8, test_9}
+use Rattle.redl_tree.specs.Model.Nodes.{Tag, Nodes, Item, bytes_item, element_item}
+use Rattle.redl_tree.specs.Model.View.{Parts}
+use Rattle.redl_tree.specs.Rules.Sound.{Test, everywhere, holds, test_1, test_2, test_3, test_4, test_5, test_6, test_7, test_8, test_9}
 use Rattle.redl_rules.specs.Attributes.{has_id, declares}
 use Rattle.redl_rules.specs.declared.kept.Kept.{Kept}
 

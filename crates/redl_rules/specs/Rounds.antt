@@ -1,14 +1,14 @@
 -- What the ancestors of an element are to the rules, in a few answers. Code that goes down a story carries these in place
 -- of the ancestors.
 use Rattle.std.specs.Prelude.{List, ◌&&◌, ◌||◌, not, is_some, if◌then◌else◌}
-use Rattle.redl_tree.specs.Nodes.{Tag}
-use Rattle.redl_tree.specs.Names.{is}
-use Rattle.redl_tree.specs.Places.{is_quiet, trace_of}
-use Rattle.redl_tree.specs.Lists.{nowhere, inside, place, is_block_list}
-use Rattle.redl_tree.specs.Kinds.{is_change}
-use Rattle.redl_tree.specs.Sound.{in_content, below_content, among_blocks, below_change}
+use Rattle.redl_tree.specs.Model.Nodes.{Tag}
+use Rattle.redl_tree.specs.Roles.Names.{is}
+use Rattle.redl_tree.specs.Roles.Places.{is_quiet, trace_of}
+use Rattle.redl_tree.specs.Roles.Lists.{nowhere, inside, place, is_block_list}
+use Rattle.redl_tree.specs.Roles.Kinds.{is_change}
+use Rattle.redl_tree.specs.Rules.Sound.{in_content, below_content, among_blocks, below_change}
 use Rattle.redl_tree.specs.declared.lists.Place.{Place}
-use Rattle.redl_tree.specs.Arounds.{around_of, inside_of}
+use Rattle.redl_tree.specs.Roles.Arounds.{around_of, inside_of}
 use Rattle.redl_tree.specs.declared.kinds.Kind.{Kind}
 use Rattle.redl_tree.specs.declared.around.Around.{Around}
 use Rattle.redl_rules.specs.declared.round.Round.{Round}

@@ -1,12 +1,12 @@
 -- Those of the nine rules that take several steps, by what the ancestors of an element are to it.
 use Prim.Native.String.{String}
 use Rattle.std.specs.Prelude.{List, Bool, ◌&&◌, ◌||◌, not, ◌∷◌, []}
-use Rattle.redl_tree.specs.Nodes.{Tag, Nodes}
-use Rattle.redl_tree.specs.Names.{is, is_any}
-use Rattle.redl_tree.specs.Kids.{some_element}
-use Rattle.redl_tree.specs.Kinds.{is_content, is_change}
-use Rattle.redl_tree.specs.Lists.{is_thick}
-use Rattle.redl_tree.specs.Sound.{implies, is_banned, once, each_once, only_first, only_last, change_declares}
+use Rattle.redl_tree.specs.Model.Nodes.{Tag, Nodes}
+use Rattle.redl_tree.specs.Roles.Names.{is, is_any}
+use Rattle.redl_tree.specs.Model.Kids.{some_element}
+use Rattle.redl_tree.specs.Roles.Kinds.{is_content, is_change}
+use Rattle.redl_tree.specs.Roles.Lists.{is_thick}
+use Rattle.redl_tree.specs.Rules.Sound.{implies, is_banned, once, each_once, only_first, only_last, change_declares}
 use Rattle.redl_tree.specs.declared.kinds.Kind.{Kind}
 use Rattle.redl_tree.specs.declared.around.Around.{Around}
 use Rattle.redl_rules.specs.declared.round.Round.{Round}

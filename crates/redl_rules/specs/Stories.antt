@@ -1,8 +1,8 @@
 -- The stories of a package, by the level of its nodes, a node at a time.
 use Rattle.std.specs.Prelude.{List, [], ◌∷◌, ◌++◌, ◌&&◌, if◌then◌else◌}
-use Rattle.redl_tree.specs.Nodes.{Tag, Nodes, no_nodes, bytes, element, Item, bytes_item, element_item}
-use Rattle.redl_tree.specs.Packages.{level_below, is_data_level, is_story_root}
-use Rattle.redl_tree.specs.View.{Parts}
+use Rattle.redl_tree.specs.Model.Nodes.{Tag, Nodes, no_nodes, bytes, element, Item, bytes_item, element_item}
+use Rattle.redl_tree.specs.Decisions.Packages.{level_below, is_data_level, is_story_root}
+use Rattle.redl_tree.specs.Model.View.{Parts}
 use Rattle.redl_tree.specs.declared.level.Level.{Level}
 
 -- the stories among nodes that stand at this level

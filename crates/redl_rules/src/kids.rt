@@ -1,15 +1,15 @@
 //! Questions about the kids of an element.
 
 ghost use Rattle.std.specs.Prelude.{◌≡◌, ◌∷◌, List};
-ghost use Rattle.redl_tree.specs.Nodes.{Tag};
-ghost use Rattle.redl_tree.specs.Names.{named};
-ghost use Rattle.redl_tree.specs.Kids.{some_element, has_element};
-ghost use Rattle.redl_tree.specs.Kinds.{is_change};
-ghost use Rattle.redl_tree.specs.Lists.{is_thick as is_thick_tag};
-ghost use Rattle.redl_tree.specs.Places.{role};
-ghost use Rattle.redl_tree.specs.Sound.{at_most_one, only_first, only_last};
-ghost use Rattle.redl_tree.specs.View.{nodes_of};
-ghost use Rattle.redl_tree.specs.Arounds.{around_of};
+ghost use Rattle.redl_tree.specs.Model.Nodes.{Tag};
+ghost use Rattle.redl_tree.specs.Roles.Names.{named};
+ghost use Rattle.redl_tree.specs.Model.Kids.{some_element, has_element};
+ghost use Rattle.redl_tree.specs.Roles.Kinds.{is_change};
+ghost use Rattle.redl_tree.specs.Roles.Lists.{is_thick as is_thick_tag};
+ghost use Rattle.redl_tree.specs.Roles.Places.{role};
+ghost use Rattle.redl_tree.specs.Rules.Sound.{at_most_one, only_first, only_last};
+ghost use Rattle.redl_tree.specs.Model.View.{nodes_of};
+ghost use Rattle.redl_tree.specs.Roles.Arounds.{around_of};
 
 use redl_tree::{Around, Node, is_named, is_thick};
 

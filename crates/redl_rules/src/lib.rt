@@ -8,9 +8,9 @@ mod attributes;
 mod ends;
 mod kept;
 mod kids;
-mod package;
+mod soundness;
 mod round;
 mod rules;
 mod walk;
 
-pub use package::{RuleError, check};
+pub use soundness::{RuleError, check};

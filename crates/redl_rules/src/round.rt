@@ -1,12 +1,12 @@
 //! What the ancestors of an element are to the rules.
 
 ghost use Rattle.std.specs.Prelude.{◌≡◌, ◌∷◌, ◌&&◌, ◌||◌, not, [], List, if◌then◌else◌};
-ghost use Rattle.redl_tree.specs.Nodes.{Tag};
-ghost use Rattle.redl_tree.specs.View.{tag_of};
-ghost use Rattle.redl_tree.specs.Kinds.{is_change};
-ghost use Rattle.redl_tree.specs.Lists.{nowhere, inside, is_block_list};
-ghost use Rattle.redl_tree.specs.Names.{is};
-ghost use Rattle.redl_tree.specs.Places.{role};
+ghost use Rattle.redl_tree.specs.Model.Nodes.{Tag};
+ghost use Rattle.redl_tree.specs.Model.View.{tag_of};
+ghost use Rattle.redl_tree.specs.Roles.Kinds.{is_change};
+ghost use Rattle.redl_tree.specs.Roles.Lists.{nowhere, inside, is_block_list};
+ghost use Rattle.redl_tree.specs.Roles.Names.{is};
+ghost use Rattle.redl_tree.specs.Roles.Places.{role};
 ghost use Rattle.redl_rules.specs.Rounds.{round_of, round_inside};
 
 use redl_tree::{Around, Elem, Kind, Place, is_named, trace_of};

@@ -1,15 +1,15 @@
 //! The nine rules, of one element by itself.
 
 ghost use Rattle.std.specs.Prelude.{◌≡◌, ◌∷◌, ◌&&◌, not, [], List};
-ghost use Rattle.redl_tree.specs.Nodes.{Tag};
-ghost use Rattle.redl_tree.specs.Names.{is, is_any};
-ghost use Rattle.redl_tree.specs.Kids.{some_element};
-ghost use Rattle.redl_tree.specs.Kinds.{is_content};
-ghost use Rattle.redl_tree.specs.Lists.{is_thick};
-ghost use Rattle.redl_tree.specs.Places.{props_name as props_name_of};
-ghost use Rattle.redl_tree.specs.Sound.{implies, is_banned as is_banned_tag, is_banned_below_change as is_banned_below_change_tag, test_1, test_2, test_4, test_7, test_8, former_declares, change_declares as change_declares_by, once, each_once, only_first, only_last};
-ghost use Rattle.redl_tree.specs.View.{tag_of, kids_of, nodes_of};
-ghost use Rattle.redl_tree.specs.Arounds.{around_of};
+ghost use Rattle.redl_tree.specs.Model.Nodes.{Tag};
+ghost use Rattle.redl_tree.specs.Roles.Names.{is, is_any};
+ghost use Rattle.redl_tree.specs.Model.Kids.{some_element};
+ghost use Rattle.redl_tree.specs.Roles.Kinds.{is_content};
+ghost use Rattle.redl_tree.specs.Roles.Lists.{is_thick};
+ghost use Rattle.redl_tree.specs.Roles.Places.{props_name as props_name_of};
+ghost use Rattle.redl_tree.specs.Rules.Sound.{implies, is_banned as is_banned_tag, is_banned_below_change as is_banned_below_change_tag, test_1, test_2, test_4, test_7, test_8, former_declares, change_declares as change_declares_by, once, each_once, only_first, only_last};
+ghost use Rattle.redl_tree.specs.Model.View.{tag_of, kids_of, nodes_of};
+ghost use Rattle.redl_tree.specs.Roles.Arounds.{around_of};
 ghost use Rattle.redl_rules.specs.Attributes.{has_id as has_id_tail, declares};
 ghost use Rattle.redl_rules.specs.Rounds.{round_of};
 ghost use Rattle.redl_rules.specs.Rules.{open_in, loses_tags as loses_tags_of, by_round_3, by_round_5, by_round_6, by_round_9};

@@ -1,8 +1,8 @@
 //! A check of whole packages answers the rule that each of them breaks: tables of bodies that break a rule, and of near ones
 //! that break none.
 ghost use Rattle.std.specs.Prelude.{◌≡◌, IsTrue};
-ghost use Rattle.redl_tree.specs.Nodes.{no_nodes, in_front};
-ghost use Rattle.redl_tree.specs.View.{nodes_of, item_of};
+ghost use Rattle.redl_tree.specs.Model.Nodes.{no_nodes, in_front};
+ghost use Rattle.redl_tree.specs.Model.View.{nodes_of, item_of};
 ghost use Rattle.redl_opc.specs.Tree.{HasUtf8Tails, IsTree};
 
 use redl_io::Text;

@@ -9,7 +9,7 @@ mod laws;
 mod moment;
 mod stamp;
 mod value;
-mod written;
+mod stamp_values;
 
 pub use laws::value_of_the_first;
 pub use moment::read_moment;

@@ -9,7 +9,7 @@ ghost use Rattle.redl_stamp.specs.Stamp.{stamp_of};
 
 use crate::moment::moment;
 use crate::value::decoded;
-use crate::written::Written;
+use crate::stamp_values::Written;
 use redl_io::Text;
 use std::alloc::{AllocError, Global};
 

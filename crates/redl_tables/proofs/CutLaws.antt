@@ -4,13 +4,13 @@ use Rattle.std.proofs.Common.{◌≡◌, List, [], ◌∷◌, ◌++◌, Bool, tr
 use Rattle.std.proofs.Math.Bool.{or_assoc}
 use Rattle.std.specs.List.{list_all}
 use Rattle.redl_tree.proofs.Laws.{⊕_assoc}
-use Rattle.redl_tree.specs.Nodes.{Nodes, no_nodes, bytes, element, Item, bytes_item, element_item, in_front, ◌⊕◌}
-use Rattle.redl_tree.specs.Names.{is}
-use Rattle.redl_tree.specs.Kids.{kids_of_all}
-use Rattle.redl_tree.specs.Lists.{into, is_direct}
-use Rattle.redl_tree.specs.Fates.{fate_of}
-use Rattle.redl_tree.specs.Kinds.{is_cut, is_mark}
-use Rattle.redl_tree.specs.Tables.{own, has_cut, para_is_cut, all_of_some, cells_go, cell_is_cut}
+use Rattle.redl_tree.specs.Model.Nodes.{Nodes, no_nodes, bytes, element, Item, bytes_item, element_item, in_front, ◌⊕◌}
+use Rattle.redl_tree.specs.Roles.Names.{is}
+use Rattle.redl_tree.specs.Model.Kids.{kids_of_all}
+use Rattle.redl_tree.specs.Roles.Lists.{into, is_direct}
+use Rattle.redl_tree.specs.Decisions.Fates.{fate_of}
+use Rattle.redl_tree.specs.Roles.Kinds.{is_cut, is_mark}
+use Rattle.redl_tree.specs.Decisions.Tables.{own, has_cut, para_is_cut, all_of_some, cells_go, cell_is_cut}
 use Rattle.redl_tree.specs.declared.kinds.Say.{Say}
 use Rattle.redl_tree.specs.declared.kinds.Kind.{Kind}
 use Rattle.redl_tree.specs.declared.lists.Reach.{Reach}

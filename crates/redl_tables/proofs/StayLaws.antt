@@ -2,8 +2,8 @@
 use Prim.Native.String.{String}
 use Rattle.std.proofs.Common.{◌≡◌, List, [], ◌∷◌, Bool, true, false, true≢false, not, sym, ◌∙◌}
 use Rattle.std.specs.List.{list_all}
-use Rattle.redl_tree.specs.Nodes.{Nodes}
-use Rattle.redl_tree.specs.Tables.{own, has_own, all_of_some}
+use Rattle.redl_tree.specs.Model.Nodes.{Nodes}
+use Rattle.redl_tree.specs.Decisions.Tables.{own, has_own, all_of_some}
 use Rattle.redl_tree.specs.declared.lists.Reach.{Reach}
 use Rattle.redl_tree.proofs.RowLaws.{is_empty, own-has}
 

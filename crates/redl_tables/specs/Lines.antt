@@ -1,13 +1,13 @@
 -- What cuts a paragraph, a row or a cell, and what of the own rows or cells goes, a node at a time.
 use Prim.Native.String.{String}
 use Rattle.std.specs.Prelude.{List, [], ◌∷◌, Bool, true, false, ◌&&◌, if◌then◌else◌}
-use Rattle.redl_tree.specs.Nodes.{Tag, Nodes, Item, bytes_item, element_item}
-use Rattle.redl_tree.specs.Names.{is}
-use Rattle.redl_tree.specs.Kids.{kids_of_all}
-use Rattle.redl_tree.specs.Lists.{into, is_direct}
-use Rattle.redl_tree.specs.Fates.{fate_of}
-use Rattle.redl_tree.specs.Kinds.{is_cut, is_mark, is_row, is_cell}
-use Rattle.redl_tree.specs.Tables.{own, has_cut, row_goes, cell_is_cut}
+use Rattle.redl_tree.specs.Model.Nodes.{Tag, Nodes, Item, bytes_item, element_item}
+use Rattle.redl_tree.specs.Roles.Names.{is}
+use Rattle.redl_tree.specs.Model.Kids.{kids_of_all}
+use Rattle.redl_tree.specs.Roles.Lists.{into, is_direct}
+use Rattle.redl_tree.specs.Decisions.Fates.{fate_of}
+use Rattle.redl_tree.specs.Roles.Kinds.{is_cut, is_mark, is_row, is_cell}
+use Rattle.redl_tree.specs.Decisions.Tables.{own, has_cut, row_goes, cell_is_cut}
 use Rattle.redl_tree.specs.declared.kinds.Say.{Say}
 use Rattle.redl_tree.specs.declared.kinds.Kind.{Kind}
 use Rattle.redl_tree.specs.declared.lists.Reach.{Reach}

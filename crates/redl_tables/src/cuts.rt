@@ -2,10 +2,10 @@
 
 ghost use Rattle.std.specs.Prelude.{◌≡◌, ◌&&◌};
 ghost use Rattle.redl_tables.specs.Lines.{test_of, name_of, item_cuts, item_cuts_below, item_cuts_para};
-ghost use Rattle.redl_tree.specs.Kids.{kids_of_all};
-ghost use Rattle.redl_tree.specs.Names.{is};
-ghost use Rattle.redl_tree.specs.Tables.{has_cut, para_is_cut as para_is_cut_by};
-ghost use Rattle.redl_tree.specs.View.{nodes_of, item_of, tag_of};
+ghost use Rattle.redl_tree.specs.Model.Kids.{kids_of_all};
+ghost use Rattle.redl_tree.specs.Roles.Names.{is};
+ghost use Rattle.redl_tree.specs.Decisions.Tables.{has_cut, para_is_cut as para_is_cut_by};
+ghost use Rattle.redl_tree.specs.Model.View.{nodes_of, item_of, tag_of};
 
 use crate::says::fate_of;
 use redl_tree::{Elem, Fate, Kind, Node, Say, is_named};

@@ -2,7 +2,7 @@
 //! its fate comes out; an element and a say for each revision go in, and whether the paragraph is cut, or the cell, row,
 //! table or shell goes, comes out.
 //!
-//! Read `fate` first, then `goes`, then `Question`. Their clauses cite `specs/Fates.antt` and `specs/Tables.antt` of
+//! Read `fate` first, then `goes`, then `Question`. Their clauses cite `specs/Decisions/Fates.antt` and `specs/Decisions/Tables.antt` of
 //! `redl_tree`, which define the pass over a document. How a fate is carried out is left to the crates above.
 #![tactic(auto)]
 

@@ -2,10 +2,10 @@
 
 ghost use Rattle.std.specs.Prelude.{◌≡◌, ◌&&◌, if◌then◌else◌};
 ghost use Rattle.redl_tables.specs.Lines.{unit_name, unit_goes, found_of, and_then, item_found, elem_found, is_gone, is_living};
-ghost use Rattle.redl_tree.specs.Lists.{is_direct};
-ghost use Rattle.redl_tree.specs.Names.{is};
-ghost use Rattle.redl_tree.specs.Tables.{own, row_goes as row_goes_by};
-ghost use Rattle.redl_tree.specs.View.{nodes_of, item_of, tag_of, kids_of};
+ghost use Rattle.redl_tree.specs.Roles.Lists.{is_direct};
+ghost use Rattle.redl_tree.specs.Roles.Names.{is};
+ghost use Rattle.redl_tree.specs.Decisions.Tables.{own, row_goes as row_goes_by};
+ghost use Rattle.redl_tree.specs.Model.View.{nodes_of, item_of, tag_of, kids_of};
 
 use crate::cuts::{Line, is_cut};
 use redl_tree::{Elem, Node, Reach, Say, is_named};

@@ -1,8 +1,8 @@
 //! The fate of an element by the say on its revision.
 
 ghost use Rattle.std.specs.Prelude.{◌≡◌};
-ghost use Rattle.redl_tree.specs.Fates.{fate_of as fate_by, say_of};
-ghost use Rattle.redl_tree.specs.View.{tag_of};
+ghost use Rattle.redl_tree.specs.Decisions.Fates.{fate_of as fate_by, say_of};
+ghost use Rattle.redl_tree.specs.Model.View.{tag_of};
 
 use crate::fates::fate;
 use redl_tree::{Elem, Fate, Say};

@@ -3,13 +3,13 @@ use Prim.Native.String.{String}
 use Rattle.std.proofs.Common.{◌≡◌, List, [], ◌∷◌, Bool, true, false, ◌&&◌, ◌||◌, not, refl, sym, ap, ◌∙◌, true≢false, codes, bytes_eq, if◌then◌else◌}
 use Rattle.std.proofs.lemmas.Bool.{and_parts, or_parts, not-true}
 use Rattle.std.specs.List.{list_all}
-use Rattle.redl_tree.specs.Nodes.{Tag}
-use Rattle.redl_tree.specs.Names.{is, is_math, is_any, is_w, is_m}
-use Rattle.redl_tree.specs.Places.{is_quiet, trace_of, prop_of, has_run_props, is_range_edge}
-use Rattle.redl_tree.specs.Lists.{into, has_blocks, is_thick}
+use Rattle.redl_tree.specs.Model.Nodes.{Tag}
+use Rattle.redl_tree.specs.Roles.Names.{is, is_math, is_any, is_w, is_m}
+use Rattle.redl_tree.specs.Roles.Places.{is_quiet, trace_of, prop_of, has_run_props, is_range_edge}
+use Rattle.redl_tree.specs.Roles.Lists.{into, has_blocks, is_thick}
 use Rattle.redl_tree.specs.declared.lists.Reach.{Reach}
 use Rattle.redl_tree.specs.declared.lists.Reach.TheVariants.{Direct, Control, Beyond}
-use Rattle.redl_tree.specs.Fates.{live_name, renamed, is_revived}
+use Rattle.redl_tree.specs.Decisions.Fates.{live_name, renamed, is_revived}
 use Rattle.redl_tree.specs.declared.kinds.Say.{Say}
 use Rattle.redl_tree.specs.declared.kinds.Space.TheVariants.{W}
 use Rattle.redl_tree.specs.declared.node.Close.{Close}

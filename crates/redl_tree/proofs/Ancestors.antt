@@ -5,17 +5,17 @@ use Prim.Native.String.{String}
 use Rattle.std.proofs.Common.{◌≡◌, List, [], ◌∷◌, Bool, true, false, ◌&&◌, ◌||◌, not, ◌⊎◌, inl, inr, Option, Some, None, is_some, option_map, refl, sym, ap, ◌∙◌, true≢false, if◌then◌else◌}
 use Rattle.std.proofs.lemmas.Bool.{and_parts, and_from, or_left, or_right}
 use Rattle.std.specs.List.{list_any, list_all}
-use Rattle.redl_tree.specs.Nodes.{Tag, Nodes}
-use Rattle.redl_tree.specs.Names.{is, is_any}
-use Rattle.redl_tree.specs.Places.{is_quiet, is_open, within, trace_of, row_trace_of, cell_trace_of, prop_of, has_run_props, in_run_owner, in_run_props, in_props, in_mark_props, in_row_props, in_cell_props, role, placed, first_role, change_at}
-use Rattle.redl_tree.specs.Lists.{place, inside, still, nowhere, into, has_blocks, is_thick, in_blocks, is_direct, is_blocks}
+use Rattle.redl_tree.specs.Model.Nodes.{Tag, Nodes}
+use Rattle.redl_tree.specs.Roles.Names.{is, is_any}
+use Rattle.redl_tree.specs.Roles.Places.{is_quiet, is_open, within, trace_of, row_trace_of, cell_trace_of, prop_of, has_run_props, in_run_owner, in_run_props, in_props, in_mark_props, in_row_props, in_cell_props, role, placed, first_role, change_at}
+use Rattle.redl_tree.specs.Roles.Lists.{place, inside, still, nowhere, into, has_blocks, is_thick, in_blocks, is_direct, is_blocks}
 use Rattle.redl_tree.specs.declared.lists.Place.{Place}
 use Rattle.redl_tree.specs.declared.lists.Reach.{Reach}
 use Rattle.redl_tree.specs.declared.lists.Reach.TheVariants.{Direct, Control, Beyond}
 use Rattle.redl_tree.specs.declared.lists.Lot.{Lot}
 use Rattle.redl_tree.specs.declared.lists.Lot.TheVariants.{Blocks, Rows, Cells}
-use Rattle.redl_tree.specs.Kinds.{is_content, is_change}
-use Rattle.redl_tree.specs.Sound.{Test, implies, open_any, below_content, in_content, among_blocks, below_change, test_8}
+use Rattle.redl_tree.specs.Roles.Kinds.{is_content, is_change}
+use Rattle.redl_tree.specs.Rules.Sound.{Test, implies, open_any, below_content, in_content, among_blocks, below_change, test_8}
 use Rattle.redl_tree.specs.declared.kinds.Trace.{Trace}
 use Rattle.redl_tree.specs.declared.kinds.Prop.{Prop}
 use Rattle.redl_tree.specs.declared.kinds.Prop.TheVariants.{Run, Para as ParaProp, Sect, Table, Except, Row as RowProp, Cell as CellProp}

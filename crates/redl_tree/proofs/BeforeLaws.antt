@@ -3,15 +3,15 @@
 use Prim.Native.String.{String}
 use Rattle.std.proofs.Common.{◌≡◌, ◌∙◌, refl, sym, ap, List, [], ◌∷◌, ◌++◌, Bool, true, false, true≢false, ◌&&◌, ◌||◌, Option, None, if◌then◌else◌}
 use Rattle.std.proofs.lemmas.Bool.{and_parts, and_from}
-use Rattle.redl_tree.specs.Nodes.{Tag, Nodes, no_nodes, bytes, element, ◌⊕◌}
-use Rattle.redl_tree.specs.Names.{is}
-use Rattle.redl_tree.specs.Kids.{kids_of_all}
-use Rattle.redl_tree.specs.Lists.{into, is_direct, in_cells, is_shell}
-use Rattle.redl_tree.specs.Fates.{fate_of, renamed}
-use Rattle.redl_tree.specs.Kinds.{is_content, is_restore, is_mark, is_row, is_cell}
-use Rattle.redl_tree.specs.Restored.{Rejected, rejected, rejected_as, after_change}
-use Rattle.redl_tree.specs.Tables.{own, has_cut, para_is_cut, cell_is_cut, all_of_some, cells_go, row_goes, rows_go, goes_at}
-use Rattle.redl_tree.specs.Pass.{by_fate, element_pass, is_block_para, pass}
+use Rattle.redl_tree.specs.Model.Nodes.{Tag, Nodes, no_nodes, bytes, element, ◌⊕◌}
+use Rattle.redl_tree.specs.Roles.Names.{is}
+use Rattle.redl_tree.specs.Model.Kids.{kids_of_all}
+use Rattle.redl_tree.specs.Roles.Lists.{into, is_direct, in_cells, is_shell}
+use Rattle.redl_tree.specs.Decisions.Fates.{fate_of, renamed}
+use Rattle.redl_tree.specs.Roles.Kinds.{is_content, is_restore, is_mark, is_row, is_cell}
+use Rattle.redl_tree.specs.Decisions.Restored.{Rejected, rejected, rejected_as, after_change}
+use Rattle.redl_tree.specs.Decisions.Tables.{own, has_cut, para_is_cut, cell_is_cut, all_of_some, cells_go, row_goes, rows_go, goes_at}
+use Rattle.redl_tree.specs.Decisions.Pass.{by_fate, element_pass, is_block_para, pass}
 use Rattle.redl_tree.specs.declared.kinds.Kind.{Kind}
 use Rattle.redl_tree.specs.declared.kinds.Kind.TheVariants.{Plain, Content, Mark, Row, Cell, Change, Marker}
 use Rattle.redl_tree.specs.declared.kinds.Say.{Say}

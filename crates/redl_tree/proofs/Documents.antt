@@ -1,13 +1,13 @@
 -- Documents for worked rows, and the results of the definitions for them.
 use Prim.Native.String.{String}
 use Rattle.std.proofs.Common.{ℕ, List, replicate, Option, codes, []}
-use Rattle.redl_tree.specs.Nodes.{Tag, Nodes, no_nodes, bytes, element, ◌⊕◌}
-use Rattle.redl_tree.specs.View.{Parts}
-use Rattle.redl_tree.specs.Text.{text}
-use Rattle.redl_tree.specs.Packages.{pass_package}
-use Rattle.redl_tree.specs.Numbers.{numbered_package, package_revisions}
-use Rattle.redl_tree.specs.Sound.{tests, broken}
-use Rattle.redl_tree.specs.Survivors.{text_pieces, survivors}
+use Rattle.redl_tree.specs.Model.Nodes.{Tag, Nodes, no_nodes, bytes, element, ◌⊕◌}
+use Rattle.redl_tree.specs.Model.View.{Parts}
+use Rattle.redl_tree.specs.Model.Text.{text}
+use Rattle.redl_tree.specs.Decisions.Packages.{pass_package}
+use Rattle.redl_tree.specs.Revisions.Numbers.{numbered_package, package_revisions}
+use Rattle.redl_tree.specs.Rules.Sound.{tests, broken}
+use Rattle.redl_tree.specs.Decisions.Survivors.{text_pieces, survivors}
 use Rattle.redl_tree.specs.declared.kinds.Say.{Say}
 use Rattle.redl_tree.specs.declared.kinds.Space.TheVariants.{W, Pkg, Other}
 use Rattle.redl_tree.specs.declared.node.Close.TheVariants.{Empty, End}

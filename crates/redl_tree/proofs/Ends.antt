@@ -2,17 +2,17 @@
 use Prim.Native.String.{String}
 use Rattle.std.proofs.Common.{◌≡◌, List, [], ◌∷◌, Bool, true, false, ◌&&◌, ◌||◌, not, Option, Some, None, is_some, refl, sym, ap, ◌∙◌, subst, true≢false, codes, if◌then◌else◌}
 use Rattle.std.proofs.lemmas.Bool.{and_from, or_parts, or_from}
-use Rattle.redl_tree.specs.Nodes.{Tag, Nodes, no_nodes, bytes, element, ◌⊕◌}
-use Rattle.redl_tree.specs.Names.{is, is_any, is_w, is_m}
-use Rattle.redl_tree.specs.Kids.{only, some_element}
-use Rattle.redl_tree.specs.Places.{is_quiet, is_open, is_range_edge, trace_of}
-use Rattle.redl_tree.specs.Lists.{into, place, inside, is_direct, in_blocks, in_rows, in_cells, is_wrapper, is_shell, is_thick}
-use Rattle.redl_tree.specs.Kinds.{is_leave}
-use Rattle.redl_tree.specs.Fates.{fate, fate_of, say_of, renamed}
-use Rattle.redl_tree.specs.Tables.{goes, goes_at, para_is_cut}
-use Rattle.redl_tree.specs.Groups.{Piece, para, thin, thick, paragraph_next, has_thick, joins, joined_tag, joined_kids, given, held_by, grouped_from}
-use Rattle.redl_tree.specs.Pass.{kept_kids, element_pass, is_block_para, piece, pieces, pass}
-use Rattle.redl_tree.specs.Sound.{Test, open_one, in_content, is_so, end_of_one, or_before, end_of_two, end_of, test_1}
+use Rattle.redl_tree.specs.Model.Nodes.{Tag, Nodes, no_nodes, bytes, element, ◌⊕◌}
+use Rattle.redl_tree.specs.Roles.Names.{is, is_any, is_w, is_m}
+use Rattle.redl_tree.specs.Model.Kids.{only, some_element}
+use Rattle.redl_tree.specs.Roles.Places.{is_quiet, is_open, is_range_edge, trace_of}
+use Rattle.redl_tree.specs.Roles.Lists.{into, place, inside, is_direct, in_blocks, in_rows, in_cells, is_wrapper, is_shell, is_thick}
+use Rattle.redl_tree.specs.Roles.Kinds.{is_leave}
+use Rattle.redl_tree.specs.Decisions.Fates.{fate, fate_of, say_of, renamed}
+use Rattle.redl_tree.specs.Decisions.Tables.{goes, goes_at, para_is_cut}
+use Rattle.redl_tree.specs.Decisions.Groups.{Piece, para, thin, thick, paragraph_next, has_thick, joins, joined_tag, joined_kids, given, held_by, grouped_from}
+use Rattle.redl_tree.specs.Decisions.Pass.{kept_kids, element_pass, is_block_para, piece, pieces, pass}
+use Rattle.redl_tree.specs.Rules.Sound.{Test, open_one, in_content, is_so, end_of_one, or_before, end_of_two, end_of, test_1}
 use Rattle.redl_tree.specs.declared.lists.Reach.{Reach}
 use Rattle.redl_tree.specs.declared.lists.Reach.TheVariants.{Direct, Control, Beyond}
 use Rattle.redl_tree.specs.declared.lists.Lot.TheVariants.{Blocks}

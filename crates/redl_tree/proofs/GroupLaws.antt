@@ -2,11 +2,11 @@
 use Rattle.std.proofs.Common.{◌≡◌, ℕ, List, [], ◌∷◌, ◌++◌, append_assoc, Bool, true, false, ◌&&◌, ◌||◌, not, Option, Some, None, refl, sym, ap, ◌∙◌, true≢false, if◌then◌else◌}
 use Rattle.std.proofs.lemmas.List.{append-nil}
 use Rattle.std.proofs.lemmas.Bool.{and_parts}
-use Rattle.redl_tree.specs.Nodes.{Tag, Nodes, no_nodes, bytes, element, ◌⊕◌}
-use Rattle.redl_tree.specs.Names.{is}
-use Rattle.redl_tree.specs.Kids.{only, without, has_element}
-use Rattle.redl_tree.specs.Groups.{Piece, para, thin, thick, has_thick, joins, taken, joined_tag, joined_kids, settled, given, held_by, grouped_from, grouped}
-use Rattle.redl_tree.specs.Beside.{bytes_beside, bytes_of_each, are_named}
+use Rattle.redl_tree.specs.Model.Nodes.{Tag, Nodes, no_nodes, bytes, element, ◌⊕◌}
+use Rattle.redl_tree.specs.Roles.Names.{is}
+use Rattle.redl_tree.specs.Model.Kids.{only, without, has_element}
+use Rattle.redl_tree.specs.Decisions.Groups.{Piece, para, thin, thick, has_thick, joins, taken, joined_tag, joined_kids, settled, given, held_by, grouped_from, grouped}
+use Rattle.redl_tree.specs.Decisions.Beside.{bytes_beside, bytes_of_each, are_named}
 use Rattle.redl_tree.proofs.Named.{by_name}
 use Rattle.redl_tree.proofs.PassLaws.{if_true, if_false, Takes, takes-next}
 

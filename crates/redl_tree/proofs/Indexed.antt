@@ -3,17 +3,17 @@
 use Rattle.std.proofs.Common.{◌≡◌, ℕ, ◌+◌, List, [], ◌∷◌, ◌++◌, map, Bool, true, false, ◌&&◌, inl, inr, is_some, find, refl, sym, ap, ◌∙◌, codes, if◌then◌else◌}
 use Rattle.std.proofs.lemmas.Bool.{and_parts}
 use Rattle.std.proofs.lemmas.List.{map-append}
-use Rattle.redl_tree.specs.Nodes.{Tag, Nodes, no_nodes, bytes, element}
-use Rattle.redl_tree.specs.View.{Parts}
-use Rattle.redl_tree.specs.Places.{is_quiet, is_open, is_range_edge, role}
-use Rattle.redl_tree.specs.Seen.{Spot, spot, seen_one, root_spots, seen, tags, tags_of}
-use Rattle.redl_tree.specs.Moves.{Pair, is_of_pair}
-use Rattle.redl_tree.specs.Markers.{Value, moves_among, move_of_marker}
-use Rattle.redl_tree.specs.Sound.{is_marker}
-use Rattle.redl_tree.specs.Numbers.{Numbering, counted, revision_of, numbering_after, labelled_tag, labelled, labelled_story, start_with, next_after_story, next_after, numbered_in, IsIndexed}
-use Rattle.redl_tree.specs.Packages.{is_root, level_of, is_data_level, is_story_root, stories_in, stories, pass_in, pass_package}
-use Rattle.redl_tree.specs.Pass.{pass}
-use Rattle.redl_tree.specs.Survivors.{text_pieces, survivors}
+use Rattle.redl_tree.specs.Model.Nodes.{Tag, Nodes, no_nodes, bytes, element}
+use Rattle.redl_tree.specs.Model.View.{Parts}
+use Rattle.redl_tree.specs.Roles.Places.{is_quiet, is_open, is_range_edge, role}
+use Rattle.redl_tree.specs.Model.Seen.{Spot, spot, seen_one, root_spots, seen, tags, tags_of}
+use Rattle.redl_tree.specs.Revisions.Moves.{Pair, is_of_pair}
+use Rattle.redl_tree.specs.Revisions.Markers.{Value, moves_among, move_of_marker}
+use Rattle.redl_tree.specs.Rules.Sound.{is_marker}
+use Rattle.redl_tree.specs.Revisions.Numbers.{Numbering, counted, revision_of, numbering_after, labelled_tag, labelled, labelled_story, start_with, next_after_story, next_after, numbered_in, IsIndexed}
+use Rattle.redl_tree.specs.Decisions.Packages.{is_root, level_of, is_data_level, is_story_root, stories_in, stories, pass_in, pass_package}
+use Rattle.redl_tree.specs.Decisions.Pass.{pass}
+use Rattle.redl_tree.specs.Decisions.Survivors.{text_pieces, survivors}
 use Rattle.redl_tree.specs.declared.kinds.Kind.TheVariants.{Marker}
 use Rattle.redl_tree.specs.declared.kinds.Say.{Say}
 use Rattle.redl_tree.proofs.Named.{by_names}

@@ -2,9 +2,9 @@
 use Rattle.std.proofs.Common.{◌≡◌, Bool, true, false, not, ◌||◌, List, [], ◌∷◌, refl, sym, ap, ◌∙◌}
 use Rattle.std.specs.Prelude.{if◌then◌else◌}
 use Rattle.std.specs.List.{filter}
-use Rattle.redl_tree.specs.Nodes.{Tag, Nodes, no_nodes, element, Item, bytes_item, element_item, in_front, ◌⊕◌}
-use Rattle.redl_tree.specs.Kids.{only, without, item_is, has_element}
-use Rattle.redl_tree.specs.View.{item_of, nodes_of}
+use Rattle.redl_tree.specs.Model.Nodes.{Tag, Nodes, no_nodes, element, Item, bytes_item, element_item, in_front, ◌⊕◌}
+use Rattle.redl_tree.specs.Model.Kids.{only, without, item_is, has_element}
+use Rattle.redl_tree.specs.Model.View.{item_of, nodes_of}
 use Rattle.redl_tree.specs.declared.node.Node.{Node}
 
 pub only_kept : (test : Tag → Bool) (x : Item) (xs : Nodes) → item_is test x ≡ true → only test (in_front x xs) ≡ in_front x (only test xs)

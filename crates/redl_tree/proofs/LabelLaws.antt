@@ -2,16 +2,16 @@
 use Prim.Native.String.{String}
 use Rattle.std.proofs.Common.{◌≡◌, ℕ, List, [], ◌∷◌, ◌++◌, map, Bool, true, false, ◌&&◌, ◌||◌, not, Option, Some, None, is_some, option_map, refl, sym, ap, ◌∙◌, if◌then◌else◌}
 use Rattle.std.specs.List.{list_any}
-use Rattle.redl_tree.specs.Nodes.{Tag, Nodes, no_nodes, bytes, element, ◌⊕◌}
-use Rattle.redl_tree.specs.Labels.{unlabelled_tag, unlabelled}
-use Rattle.redl_tree.specs.Text.{name_text, rest_text, element_text, text}
-use Rattle.redl_tree.specs.Names.{is}
-use Rattle.redl_tree.specs.Kids.{some_element, kids_of_all}
-use Rattle.redl_tree.specs.Places.{is_quiet, is_open, within, has_run_props, in_run_owner, in_run_props, in_mark_props, in_row_props, in_cell_props, in_props, placed, first_role, change_at, trace_of, row_trace_of, cell_trace_of, prop_of, props_name, role, is_range_edge}
-use Rattle.redl_tree.specs.Lists.{into, has_blocks, still, inside, nowhere, place, is_block_list, is_direct, is_rows, is_cells, in_blocks, in_rows, in_cells, is_thick}
-use Rattle.redl_tree.specs.Kinds.{is_content, is_change}
-use Rattle.redl_tree.specs.Tables.{has_own}
-use Rattle.redl_tree.specs.Sound.{Test, everywhere, implies, open_one, at_most_one, once, each_once, only_first, only_last, is_so, end_of_one, end_of_two, end_of, below_content, in_content, among_blocks, is_banned, is_marker, below_change, former_declares, change_declares, test_1, test_2, test_3, test_4, test_5, test_6, test_7, test_8, test_9, tests}
+use Rattle.redl_tree.specs.Model.Nodes.{Tag, Nodes, no_nodes, bytes, element, ◌⊕◌}
+use Rattle.redl_tree.specs.Revisions.Labels.{unlabelled_tag, unlabelled}
+use Rattle.redl_tree.specs.Model.Text.{name_text, rest_text, element_text, text}
+use Rattle.redl_tree.specs.Roles.Names.{is}
+use Rattle.redl_tree.specs.Model.Kids.{some_element, kids_of_all}
+use Rattle.redl_tree.specs.Roles.Places.{is_quiet, is_open, within, has_run_props, in_run_owner, in_run_props, in_mark_props, in_row_props, in_cell_props, in_props, placed, first_role, change_at, trace_of, row_trace_of, cell_trace_of, prop_of, props_name, role, is_range_edge}
+use Rattle.redl_tree.specs.Roles.Lists.{into, has_blocks, still, inside, nowhere, place, is_block_list, is_direct, is_rows, is_cells, in_blocks, in_rows, in_cells, is_thick}
+use Rattle.redl_tree.specs.Roles.Kinds.{is_content, is_change}
+use Rattle.redl_tree.specs.Decisions.Tables.{has_own}
+use Rattle.redl_tree.specs.Rules.Sound.{Test, everywhere, implies, open_one, at_most_one, once, each_once, only_first, only_last, is_so, end_of_one, end_of_two, end_of, below_content, in_content, among_blocks, is_banned, is_marker, below_change, former_declares, change_declares, test_1, test_2, test_3, test_4, test_5, test_6, test_7, test_8, test_9, tests}
 use Rattle.redl_tree.specs.declared.kinds.Prop.{Prop}
 use Rattle.redl_tree.specs.declared.kinds.Prop.TheVariants.{Run, Para, Sect, Table, Except, Row as RowProp, Cell as CellProp}
 use Rattle.redl_tree.specs.declared.kinds.Kind.{Kind}

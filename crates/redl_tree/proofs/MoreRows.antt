@@ -1,10 +1,10 @@
 -- Further worked rows, for cases that the others leave open.
 use Rattle.std.proofs.Common.{◌≡◌, [], ◌∷◌, codes, refl, Some, None}
-use Rattle.redl_tree.specs.Nodes.{Nodes, no_nodes, ◌⊕◌}
-use Rattle.redl_tree.specs.Text.{text}
-use Rattle.redl_tree.specs.Restored.{restored}
-use Rattle.redl_tree.specs.Packages.{pass_package}
-use Rattle.redl_tree.specs.Numbers.{numbered_package, package_revisions}
+use Rattle.redl_tree.specs.Model.Nodes.{Nodes, no_nodes, ◌⊕◌}
+use Rattle.redl_tree.specs.Model.Text.{text}
+use Rattle.redl_tree.specs.Decisions.Restored.{restored}
+use Rattle.redl_tree.specs.Decisions.Packages.{pass_package}
+use Rattle.redl_tree.specs.Revisions.Numbers.{numbered_package, package_revisions}
 use Rattle.redl_tree.proofs.Tails.{value}
 use Rattle.redl_tree.proofs.Documents.{w, e, wa, ea, s, pkg, attr_A, attr_B, settled, written, revision_numbers, broken_rule}
 use Rattle.redl_tree.specs.declared.kinds.Say.TheVariants.{Keep, Accept, Reject}

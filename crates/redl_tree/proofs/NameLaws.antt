@@ -2,10 +2,10 @@
 use Prim.Native.String.{String}
 use Rattle.std.proofs.Common.{◌≡◌, ◌∙◌, refl, sym, ap, List, [], ◌∷◌, ℕ, Bool, true, false, true≢false, ◌&&◌, ◌||◌, not, codes, bytes_eq}
 use Rattle.std.proofs.lemmas.Slice.Eq.{bytes_eq-Decides}
-use Rattle.redl_tree.specs.Nodes.{Tag}
-use Rattle.redl_tree.specs.Names.{is, is_any, is_w, is_m, is_math}
-use Rattle.redl_tree.specs.Places.{is_quiet}
-use Rattle.redl_tree.specs.Fates.{live_name}
+use Rattle.redl_tree.specs.Model.Nodes.{Tag}
+use Rattle.redl_tree.specs.Roles.Names.{is, is_any, is_w, is_m, is_math}
+use Rattle.redl_tree.specs.Roles.Places.{is_quiet}
+use Rattle.redl_tree.specs.Decisions.Fates.{live_name}
 use Rattle.redl_tree.specs.declared.kinds.Space.{Space}
 use Rattle.redl_tree.specs.declared.kinds.Space.TheVariants.{W, M, Pkg, Other}
 

@@ -3,20 +3,20 @@
 use Rattle.std.proofs.Common.{◌≡◌, ℕ, ◌+◌, List, [], ◌∷◌, ◌++◌, map, filter_map, find, Bool, true, false, ◌&&◌, ◌||◌, not, Option, Some, None, is_some, option_map, option_and_then, refl, sym, ap, ◌∙◌, codes, if◌then◌else◌}
 use Rattle.std.specs.List.{list_any, list_all}
 use Rattle.std.proofs.lemmas.List.{map-append}
-use Rattle.redl_tree.specs.Nodes.{Tag, Nodes, no_nodes, bytes, element}
-use Rattle.redl_tree.specs.Labels.{unlabelled_tag, unlabelled}
-use Rattle.redl_tree.specs.Text.{text}
-use Rattle.redl_tree.specs.Names.{is}
-use Rattle.redl_tree.specs.Kids.{some_element, kids_of_all}
-use Rattle.redl_tree.specs.Places.{is_open, trace_of, row_trace_of, cell_trace_of, role}
-use Rattle.redl_tree.specs.Lists.{into, place, in_rows, in_cells}
-use Rattle.redl_tree.specs.View.{Parts}
-use Rattle.redl_tree.specs.Packages.{is_root, stories_in, stories}
-use Rattle.redl_tree.specs.Sound.{Test, everywhere, is_marker, holds, tests, first_broken, broken, is_sound}
-use Rattle.redl_tree.specs.Seen.{tags, Spot, spot, Seen, seen_one, seen_from, root_spots, seen, tags_of}
-use Rattle.redl_tree.specs.Moves.{Marking, Pair, pairs, is_of_pair}
-use Rattle.redl_tree.specs.Markers.{Value, edge_of, is_row_revision, is_cell_revision, is_revised, is_reached, is_in_grid, is_own, leaves_grid, any_leaves_grid, is_astray, is_loose, marker_of, moves_among, own_role, mark_end, move_at, move_of_member, move_of_marker, either, move_of, whole_role}
-use Rattle.redl_tree.specs.Numbers.{membership, Numbering, counted, number_for, revision_of, numbering_after, labelled_tag, labelled, start_with, labelled_story, next_after_story, next_after, numbered_in, numbered_package, IsIndexed}
+use Rattle.redl_tree.specs.Model.Nodes.{Tag, Nodes, no_nodes, bytes, element}
+use Rattle.redl_tree.specs.Revisions.Labels.{unlabelled_tag, unlabelled}
+use Rattle.redl_tree.specs.Model.Text.{text}
+use Rattle.redl_tree.specs.Roles.Names.{is}
+use Rattle.redl_tree.specs.Model.Kids.{some_element, kids_of_all}
+use Rattle.redl_tree.specs.Roles.Places.{is_open, trace_of, row_trace_of, cell_trace_of, role}
+use Rattle.redl_tree.specs.Roles.Lists.{into, place, in_rows, in_cells}
+use Rattle.redl_tree.specs.Model.View.{Parts}
+use Rattle.redl_tree.specs.Decisions.Packages.{is_root, stories_in, stories}
+use Rattle.redl_tree.specs.Rules.Sound.{Test, everywhere, is_marker, holds, tests, first_broken, broken, is_sound}
+use Rattle.redl_tree.specs.Model.Seen.{tags, Spot, spot, Seen, seen_one, seen_from, root_spots, seen, tags_of}
+use Rattle.redl_tree.specs.Revisions.Moves.{Marking, Pair, pairs, is_of_pair}
+use Rattle.redl_tree.specs.Revisions.Markers.{Value, edge_of, is_row_revision, is_cell_revision, is_revised, is_reached, is_in_grid, is_own, leaves_grid, any_leaves_grid, is_astray, is_loose, marker_of, moves_among, own_role, mark_end, move_at, move_of_member, move_of_marker, either, move_of, whole_role}
+use Rattle.redl_tree.specs.Revisions.Numbers.{membership, Numbering, counted, number_for, revision_of, numbering_after, labelled_tag, labelled, start_with, labelled_story, next_after_story, next_after, numbered_in, numbered_package, IsIndexed}
 use Rattle.redl_tree.specs.declared.kinds.Kind.{Kind}
 use Rattle.redl_tree.specs.declared.kinds.Kind.TheVariants.{Plain, Content, Mark, Row, Cell, Change, Marker}
 use Rattle.redl_tree.proofs.LabelLaws.{bare, text-unlabelled, open-bare, role-bare, place-bare, in_rows-bare, in_cells-bare, into-bare, some-bare, kids_of_all-bare, everywhere-bare, marker-bare, Blind, AreBlind, tests_are_blind}

@@ -3,10 +3,10 @@
 use Rattle.std.proofs.Common.{◌≡◌, List, [], ◌∷◌, Bool, true, false, true≢false, not, sym, ◌∙◌}
 use Rattle.std.proofs.lemmas.Bool.{or_parts}
 use Rattle.std.specs.List.{list_all}
-use Rattle.redl_tree.specs.Nodes.{Tag, Nodes}
-use Rattle.redl_tree.specs.Kids.{only, without, some_element}
-use Rattle.redl_tree.specs.Restored.{outlasts, restored}
-use Rattle.redl_tree.specs.Tables.{own, has_own, all_of_some, cell_is_cut, row_is_cut, row_goes, cells_go, rows_go}
+use Rattle.redl_tree.specs.Model.Nodes.{Tag, Nodes}
+use Rattle.redl_tree.specs.Model.Kids.{only, without, some_element}
+use Rattle.redl_tree.specs.Decisions.Restored.{outlasts, restored}
+use Rattle.redl_tree.specs.Decisions.Tables.{own, has_own, all_of_some, cell_is_cut, row_is_cut, row_goes, cells_go, rows_go}
 use Rattle.redl_tree.specs.declared.kinds.Prop.{Prop}
 use Rattle.redl_tree.specs.declared.kinds.Prop.TheVariants.{Run, Para, Sect, Table, Except, Row as RowProp, Cell as CellProp}
 use Rattle.redl_tree.specs.declared.lists.Reach.TheVariants.{Direct}

@@ -2,15 +2,15 @@
 -- put together from the left.
 use Rattle.std.proofs.Common.{◌≡◌, ◌∙◌, refl, sym, ap, List, [], ◌∷◌, ◌++◌, Bool, true, false, true≢false, ◌&&◌, ◌||◌, Option, Some, None, if◌then◌else◌}
 use Rattle.std.proofs.lemmas.Bool.{and_parts}
-use Rattle.redl_tree.specs.Nodes.{Tag, Nodes, no_nodes, bytes, element, ◌⊕◌}
-use Rattle.redl_tree.specs.Names.{is}
-use Rattle.redl_tree.specs.Kids.{without}
-use Rattle.redl_tree.specs.Lists.{in_blocks, is_thick}
-use Rattle.redl_tree.specs.Fates.{fate_of, renamed}
-use Rattle.redl_tree.specs.Kinds.{is_content, is_leave}
-use Rattle.redl_tree.specs.Tables.{goes_at, para_is_cut}
-use Rattle.redl_tree.specs.Groups.{Piece, para, thin, thick, paragraph_next, has_thick, joins, given, held_by, grouped_from, grouped}
-use Rattle.redl_tree.specs.Pass.{by_fate, kept_kids, element_pass, is_block_para, piece, pieces, pass}
+use Rattle.redl_tree.specs.Model.Nodes.{Tag, Nodes, no_nodes, bytes, element, ◌⊕◌}
+use Rattle.redl_tree.specs.Roles.Names.{is}
+use Rattle.redl_tree.specs.Model.Kids.{without}
+use Rattle.redl_tree.specs.Roles.Lists.{in_blocks, is_thick}
+use Rattle.redl_tree.specs.Decisions.Fates.{fate_of, renamed}
+use Rattle.redl_tree.specs.Roles.Kinds.{is_content, is_leave}
+use Rattle.redl_tree.specs.Decisions.Tables.{goes_at, para_is_cut}
+use Rattle.redl_tree.specs.Decisions.Groups.{Piece, para, thin, thick, paragraph_next, has_thick, joins, given, held_by, grouped_from, grouped}
+use Rattle.redl_tree.specs.Decisions.Pass.{by_fate, kept_kids, element_pass, is_block_para, piece, pieces, pass}
 use Rattle.redl_tree.specs.declared.kinds.Say.{Say}
 use Rattle.redl_tree.specs.declared.kinds.Fate.{Fate}
 use Rattle.redl_tree.specs.declared.kinds.Fate.TheVariants.{Leave, Free, Cut, Clear, Restore, Drop}

@@ -2,14 +2,14 @@
 use Prim.Native.String.{String}
 use Rattle.std.proofs.Common.{◌≡◌, ℕ, suc, ◌≤◌, List, [], ◌∷◌, Bool, true, false, ◌&&◌, not, ◌⊎◌, inl, inr, Option, Some, None, is_some, refl, sym, ap, ◌∙◌, true≢false, arith, ⊎_elim, if◌then◌else◌}
 use Rattle.std.proofs.lemmas.Bool.{and_parts, and_from, or_parts, or_left, or_from, not-true}
-use Rattle.redl_tree.specs.Nodes.{Tag, Nodes, no_nodes, bytes, element, ◌⊕◌}
-use Rattle.redl_tree.specs.Names.{is, is_any}
-use Rattle.redl_tree.specs.Kids.{only, without, some_element}
-use Rattle.redl_tree.specs.Places.{is_quiet, is_open, within, prop_of, role, in_mark_props, in_row_props, in_cell_props}
-use Rattle.redl_tree.specs.Kinds.{is_change}
-use Rattle.redl_tree.specs.Restored.{Rejected, rejected, after_change, present, restored, outlasts}
-use Rattle.redl_tree.specs.Pass.{pass}
-use Rattle.redl_tree.specs.Sound.{Test, open_one, once, each_once, only_first, only_last, below_change, test_4, test_5, test_6}
+use Rattle.redl_tree.specs.Model.Nodes.{Tag, Nodes, no_nodes, bytes, element, ◌⊕◌}
+use Rattle.redl_tree.specs.Roles.Names.{is, is_any}
+use Rattle.redl_tree.specs.Model.Kids.{only, without, some_element}
+use Rattle.redl_tree.specs.Roles.Places.{is_quiet, is_open, within, prop_of, role, in_mark_props, in_row_props, in_cell_props}
+use Rattle.redl_tree.specs.Roles.Kinds.{is_change}
+use Rattle.redl_tree.specs.Decisions.Restored.{Rejected, rejected, after_change, present, restored, outlasts}
+use Rattle.redl_tree.specs.Decisions.Pass.{pass}
+use Rattle.redl_tree.specs.Rules.Sound.{Test, open_one, once, each_once, only_first, only_last, below_change, test_4, test_5, test_6}
 use Rattle.redl_tree.specs.declared.kinds.Prop.{Prop}
 use Rattle.redl_tree.specs.declared.kinds.Prop.TheVariants.{Run, Para as ParaProp, Sect, Table, Except, Row as RowProp, Cell as CellProp}
 use Rattle.redl_tree.specs.declared.kinds.Say.{Say}

@@ -3,17 +3,17 @@ use Prim.Native.String.{String}
 use Rattle.std.proofs.Common.{◌≡◌, List, [], ◌∷◌, ◌++◌, append_assoc, Bool, true, false, ◌&&◌, ◌||◌, not, ◌⊎◌, inl, inr, is_some, refl, sym, ap, ◌∙◌, true≢false, ⊎_elim, if◌then◌else◌}
 use Rattle.std.proofs.lemmas.Bool.{and_from, or_parts}
 use Rattle.std.specs.List.{list_all}
-use Rattle.redl_tree.specs.Nodes.{Tag, Nodes, no_nodes, bytes, element, ◌⊕◌}
-use Rattle.redl_tree.specs.Names.{is}
-use Rattle.redl_tree.specs.Kids.{only}
-use Rattle.redl_tree.specs.Places.{is_quiet, is_open, is_range_edge, trace_of}
-use Rattle.redl_tree.specs.Lists.{into, place, inside, is_direct, in_blocks, in_cells, is_shell}
-use Rattle.redl_tree.specs.Kinds.{is_content}
-use Rattle.redl_tree.specs.Fates.{fate, fate_of, say_of, renamed}
-use Rattle.redl_tree.specs.Restored.{after_change}
-use Rattle.redl_tree.specs.Tables.{own, has_own, cell_is_cut, row_is_cut, row_goes, cells_go, all_of_some, goes, goes_at}
-use Rattle.redl_tree.specs.Pass.{by_fate, kept_kids, element_pass, pass}
-use Rattle.redl_tree.specs.Sound.{Test, open_one, test_2}
+use Rattle.redl_tree.specs.Model.Nodes.{Tag, Nodes, no_nodes, bytes, element, ◌⊕◌}
+use Rattle.redl_tree.specs.Roles.Names.{is}
+use Rattle.redl_tree.specs.Model.Kids.{only}
+use Rattle.redl_tree.specs.Roles.Places.{is_quiet, is_open, is_range_edge, trace_of}
+use Rattle.redl_tree.specs.Roles.Lists.{into, place, inside, is_direct, in_blocks, in_cells, is_shell}
+use Rattle.redl_tree.specs.Roles.Kinds.{is_content}
+use Rattle.redl_tree.specs.Decisions.Fates.{fate, fate_of, say_of, renamed}
+use Rattle.redl_tree.specs.Decisions.Restored.{after_change}
+use Rattle.redl_tree.specs.Decisions.Tables.{own, has_own, cell_is_cut, row_is_cut, row_goes, cells_go, all_of_some, goes, goes_at}
+use Rattle.redl_tree.specs.Decisions.Pass.{by_fate, kept_kids, element_pass, pass}
+use Rattle.redl_tree.specs.Rules.Sound.{Test, open_one, test_2}
 use Rattle.redl_tree.specs.declared.lists.Reach.{Reach}
 use Rattle.redl_tree.specs.declared.lists.Reach.TheVariants.{Direct, Control, Beyond}
 use Rattle.redl_tree.specs.declared.lists.Lot.TheVariants.{Cells}

@@ -1,14 +1,14 @@
 -- Rules 3, 7, 8 and 9 hold again after a pass, by the law on ancestors.
 use Rattle.std.proofs.Common.{◌≡◌, ℕ, List, [], ◌∷◌, Bool, true, false, ◌&&◌, ◌||◌, not, inl, inr, Option, Some, None, is_some, refl, sym, ap, ◌∙◌, true≢false}
 use Rattle.std.proofs.lemmas.Bool.{and_parts, and_from, or_left, or_right}
-use Rattle.redl_tree.specs.Nodes.{Tag, Nodes, no_nodes, bytes, element, ◌⊕◌}
-use Rattle.redl_tree.specs.Names.{is}
-use Rattle.redl_tree.specs.Kids.{only, has_element}
-use Rattle.redl_tree.specs.Places.{is_open, is_range_edge, trace_of, prop_of, props_name, in_props, placed, first_role, role}
-use Rattle.redl_tree.specs.Kinds.{is_content, is_change}
-use Rattle.redl_tree.specs.Restored.{rejected, after_change}
-use Rattle.redl_tree.specs.Pass.{pieces, pass}
-use Rattle.redl_tree.specs.Sound.{Test, everywhere, open_one, is_marker, former_declares, change_declares, below_change, test_7, test_8, test_9}
+use Rattle.redl_tree.specs.Model.Nodes.{Tag, Nodes, no_nodes, bytes, element, ◌⊕◌}
+use Rattle.redl_tree.specs.Roles.Names.{is}
+use Rattle.redl_tree.specs.Model.Kids.{only, has_element}
+use Rattle.redl_tree.specs.Roles.Places.{is_open, is_range_edge, trace_of, prop_of, props_name, in_props, placed, first_role, role}
+use Rattle.redl_tree.specs.Roles.Kinds.{is_content, is_change}
+use Rattle.redl_tree.specs.Decisions.Restored.{rejected, after_change}
+use Rattle.redl_tree.specs.Decisions.Pass.{pieces, pass}
+use Rattle.redl_tree.specs.Rules.Sound.{Test, everywhere, open_one, is_marker, former_declares, change_declares, below_change, test_7, test_8, test_9}
 use Rattle.redl_tree.specs.declared.kinds.Say.{Say}
 use Rattle.redl_tree.specs.declared.kinds.Prop.{Prop}
 use Rattle.redl_tree.specs.declared.kinds.Kind.{Kind}

@@ -1,16 +1,16 @@
 -- Lists in properties and below changes, where nothing is freed: what the pass leaves of them.
 use Rattle.std.proofs.Common.{◌≡◌, ℕ, List, [], ◌∷◌, Bool, true, false, ◌&&◌, ◌||◌, inl, inr, Option, Some, None, is_some, option_map, refl, ap, ◌∙◌, true≢false, if◌then◌else◌}
 use Rattle.std.proofs.lemmas.Bool.{or_parts}
-use Rattle.redl_tree.specs.Nodes.{Tag, Nodes, no_nodes, bytes, element, ◌⊕◌}
-use Rattle.redl_tree.specs.Names.{named, is, is_any}
-use Rattle.redl_tree.specs.Places.{is_open, trace_of, row_trace_of, cell_trace_of, prop_of, role, in_mark_props, in_row_props, in_cell_props, placed, first_role, change_at}
-use Rattle.redl_tree.specs.Lists.{is_wrapper, is_shell, in_blocks, in_rows, in_cells, place, nowhere}
-use Rattle.redl_tree.specs.Kinds.{is_content, is_change}
-use Rattle.redl_tree.specs.Fates.{fate, fate_of, say_of, renamed}
-use Rattle.redl_tree.specs.Restored.{Rejected, rejected}
-use Rattle.redl_tree.specs.Tables.{goes_at}
-use Rattle.redl_tree.specs.Pass.{by_fate, kept_kids, element_pass, pass}
-use Rattle.redl_tree.specs.Sound.{Test, below_change, former_declares, test_8}
+use Rattle.redl_tree.specs.Model.Nodes.{Tag, Nodes, no_nodes, bytes, element, ◌⊕◌}
+use Rattle.redl_tree.specs.Roles.Names.{named, is, is_any}
+use Rattle.redl_tree.specs.Roles.Places.{is_open, trace_of, row_trace_of, cell_trace_of, prop_of, role, in_mark_props, in_row_props, in_cell_props, placed, first_role, change_at}
+use Rattle.redl_tree.specs.Roles.Lists.{is_wrapper, is_shell, in_blocks, in_rows, in_cells, place, nowhere}
+use Rattle.redl_tree.specs.Roles.Kinds.{is_content, is_change}
+use Rattle.redl_tree.specs.Decisions.Fates.{fate, fate_of, say_of, renamed}
+use Rattle.redl_tree.specs.Decisions.Restored.{Rejected, rejected}
+use Rattle.redl_tree.specs.Decisions.Tables.{goes_at}
+use Rattle.redl_tree.specs.Decisions.Pass.{by_fate, kept_kids, element_pass, pass}
+use Rattle.redl_tree.specs.Rules.Sound.{Test, below_change, former_declares, test_8}
 use Rattle.redl_tree.specs.declared.kinds.Trace.{Trace}
 use Rattle.redl_tree.specs.declared.kinds.Kind.{Kind}
 use Rattle.redl_tree.specs.declared.kinds.Kind.TheVariants.{Plain, Content, Mark, Row, Cell}

@@ -1,19 +1,19 @@
 -- The law of soundness: each of the nine rules holds of a passed package where all nine hold of the original.
 use Rattle.std.proofs.Common.{◌≡◌, ℕ, List, [], ◌∷◌, map, Bool, true, false, ◌&&◌, not, is_some, refl, sym, ap, ◌∙◌, true≢false}
 use Rattle.std.proofs.lemmas.Bool.{and_parts, and_from, or_parts, or_from}
-use Rattle.redl_tree.specs.Nodes.{Tag, Nodes, no_nodes, bytes, element}
-use Rattle.redl_tree.specs.View.{Parts}
-use Rattle.redl_tree.specs.Names.{is}
-use Rattle.redl_tree.specs.Kids.{some_element}
-use Rattle.redl_tree.specs.Places.{is_quiet, is_open, trace_of, role}
-use Rattle.redl_tree.specs.Lists.{is_thick, in_blocks}
-use Rattle.redl_tree.specs.Kinds.{is_content}
-use Rattle.redl_tree.specs.Tables.{goes_at}
-use Rattle.redl_tree.specs.Pass.{pass}
-use Rattle.redl_tree.specs.Packages.{is_story_root, stories, pass_package}
-use Rattle.redl_tree.specs.Markers.{Value}
-use Rattle.redl_tree.specs.Numbers.{IsIndexed, numbered_package}
-use Rattle.redl_tree.specs.Sound.{Test, everywhere, in_content, among_blocks, holds, tests, is_sound, test_1, test_2, test_3, test_4, test_5, test_6, test_7, test_8, test_9}
+use Rattle.redl_tree.specs.Model.Nodes.{Tag, Nodes, no_nodes, bytes, element}
+use Rattle.redl_tree.specs.Model.View.{Parts}
+use Rattle.redl_tree.specs.Roles.Names.{is}
+use Rattle.redl_tree.specs.Model.Kids.{some_element}
+use Rattle.redl_tree.specs.Roles.Places.{is_quiet, is_open, trace_of, role}
+use Rattle.redl_tree.specs.Roles.Lists.{is_thick, in_blocks}
+use Rattle.redl_tree.specs.Roles.Kinds.{is_content}
+use Rattle.redl_tree.specs.Decisions.Tables.{goes_at}
+use Rattle.redl_tree.specs.Decisions.Pass.{pass}
+use Rattle.redl_tree.specs.Decisions.Packages.{is_story_root, stories, pass_package}
+use Rattle.redl_tree.specs.Revisions.Markers.{Value}
+use Rattle.redl_tree.specs.Revisions.Numbers.{IsIndexed, numbered_package}
+use Rattle.redl_tree.specs.Rules.Sound.{Test, everywhere, in_content, among_blocks, holds, tests, is_sound, test_1, test_2, test_3, test_4, test_5, test_6, test_7, test_8, test_9}
 use Rattle.redl_tree.specs.declared.kinds.Say.{Say}
 use Rattle.redl_tree.proofs.Build.{one}
 use Rattle.redl_tree.proofs.Named.{by_names}

@@ -3,19 +3,19 @@ use Rattle.std.proofs.Common.{◌≡◌, ℕ, List, [], ◌∷◌, ◌++◌, map
 use Rattle.std.proofs.lemmas.List.{append-nil, map-append}
 use Rattle.std.proofs.lemmas.List.Elements.{filter-append}
 use Rattle.std.specs.List.{list_any}
-use Rattle.redl_tree.specs.Nodes.{Tag, Nodes, no_nodes, bytes, element, ◌⊕◌}
-use Rattle.redl_tree.specs.View.{Parts}
-use Rattle.redl_tree.specs.Names.{is}
-use Rattle.redl_tree.specs.Kids.{only, without, has_element}
-use Rattle.redl_tree.specs.Places.{is_quiet, is_open, trace_of}
-use Rattle.redl_tree.specs.Lists.{is_thick}
-use Rattle.redl_tree.specs.Kinds.{is_content, is_cut, is_drop}
-use Rattle.redl_tree.specs.Fates.{fate, fate_of, say_of, trace_fate, renamed, live_name, is_revived}
-use Rattle.redl_tree.specs.Restored.{rejected, after_change}
-use Rattle.redl_tree.specs.Tables.{goes_at, para_is_cut}
-use Rattle.redl_tree.specs.Groups.{Piece, para, thin, thick, has_thick, joins, taken, joined_tag, joined_kids, settled, given, held_by, grouped_from}
-use Rattle.redl_tree.specs.Pass.{by_fate, kept_kids, element_pass, is_block_para, piece, pieces, pass}
-use Rattle.redl_tree.specs.Survivors.{Stretch, stretches_in, is_gone, any_gone, text_pieces, survivors}
+use Rattle.redl_tree.specs.Model.Nodes.{Tag, Nodes, no_nodes, bytes, element, ◌⊕◌}
+use Rattle.redl_tree.specs.Model.View.{Parts}
+use Rattle.redl_tree.specs.Roles.Names.{is}
+use Rattle.redl_tree.specs.Model.Kids.{only, without, has_element}
+use Rattle.redl_tree.specs.Roles.Places.{is_quiet, is_open, trace_of}
+use Rattle.redl_tree.specs.Roles.Lists.{is_thick}
+use Rattle.redl_tree.specs.Roles.Kinds.{is_content, is_cut, is_drop}
+use Rattle.redl_tree.specs.Decisions.Fates.{fate, fate_of, say_of, trace_fate, renamed, live_name, is_revived}
+use Rattle.redl_tree.specs.Decisions.Restored.{rejected, after_change}
+use Rattle.redl_tree.specs.Decisions.Tables.{goes_at, para_is_cut}
+use Rattle.redl_tree.specs.Decisions.Groups.{Piece, para, thin, thick, has_thick, joins, taken, joined_tag, joined_kids, settled, given, held_by, grouped_from}
+use Rattle.redl_tree.specs.Decisions.Pass.{by_fate, kept_kids, element_pass, is_block_para, piece, pieces, pass}
+use Rattle.redl_tree.specs.Decisions.Survivors.{Stretch, stretches_in, is_gone, any_gone, text_pieces, survivors}
 use Rattle.redl_tree.specs.declared.kinds.Trace.{Trace}
 use Rattle.redl_tree.specs.declared.kinds.Trace.TheVariants.{Ins, Del, From, To}
 use Rattle.redl_tree.specs.declared.kinds.Kind.{Kind}

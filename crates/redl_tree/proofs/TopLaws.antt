@@ -3,17 +3,17 @@
 use Prim.Native.String.{String}
 use Rattle.std.proofs.Common.{◌≡◌, ℕ, zero, suc, ◌+◌, ◌≤◌, List, [], ◌∷◌, Bool, true, false, ◌&&◌, ◌||◌, not, Option, Some, None, refl, sym, ap, ◌∙◌, true≢false, arith, if◌then◌else◌}
 use Rattle.std.proofs.lemmas.Bool.{and_parts, and_from, or_parts, or_from, not-true}
-use Rattle.redl_tree.specs.Nodes.{Tag, Nodes, no_nodes, bytes, element, ◌⊕◌}
-use Rattle.redl_tree.specs.Names.{is}
-use Rattle.redl_tree.specs.Kids.{without, some_element, has_element}
-use Rattle.redl_tree.specs.Places.{is_quiet, is_open}
-use Rattle.redl_tree.specs.Lists.{is_direct}
-use Rattle.redl_tree.specs.Kinds.{is_content}
-use Rattle.redl_tree.specs.Fates.{fate_of, renamed}
-use Rattle.redl_tree.specs.Tables.{goes_at}
-use Rattle.redl_tree.specs.Groups.{Piece, para, thin, thick, has_thick, joins, ended, joined_tag, joined_kids, settled, given, held_by, grouped_from}
-use Rattle.redl_tree.specs.Pass.{by_fate, kept_kids, element_pass, pieces, pass}
-use Rattle.redl_tree.specs.Sound.{Test, implies, once, only_first, only_last, in_content}
+use Rattle.redl_tree.specs.Model.Nodes.{Tag, Nodes, no_nodes, bytes, element, ◌⊕◌}
+use Rattle.redl_tree.specs.Roles.Names.{is}
+use Rattle.redl_tree.specs.Model.Kids.{without, some_element, has_element}
+use Rattle.redl_tree.specs.Roles.Places.{is_quiet, is_open}
+use Rattle.redl_tree.specs.Roles.Lists.{is_direct}
+use Rattle.redl_tree.specs.Roles.Kinds.{is_content}
+use Rattle.redl_tree.specs.Decisions.Fates.{fate_of, renamed}
+use Rattle.redl_tree.specs.Decisions.Tables.{goes_at}
+use Rattle.redl_tree.specs.Decisions.Groups.{Piece, para, thin, thick, has_thick, joins, ended, joined_tag, joined_kids, settled, given, held_by, grouped_from}
+use Rattle.redl_tree.specs.Decisions.Pass.{by_fate, kept_kids, element_pass, pieces, pass}
+use Rattle.redl_tree.specs.Rules.Sound.{Test, implies, once, only_first, only_last, in_content}
 use Rattle.redl_tree.specs.declared.kinds.Say.{Say}
 use Rattle.redl_tree.specs.declared.kinds.Fate.{Fate}
 use Rattle.redl_tree.specs.declared.kinds.Fate.TheVariants.{Leave, Free, Cut, Clear, Restore, Drop}

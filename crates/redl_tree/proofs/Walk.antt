@@ -2,18 +2,18 @@
 use Prim.Native.String.{String}
 use Rattle.std.proofs.Common.{◌≡◌, ℕ, List, [], ◌∷◌, Bool, true, false, ◌&&◌, ◌||◌, not, ◌⊎◌, inl, inr, Option, Some, None, is_some, refl, sym, ap, ◌∙◌, true≢false, if◌then◌else◌}
 use Rattle.std.proofs.lemmas.Bool.{and_parts, and_from, or_parts, or_from}
-use Rattle.redl_tree.specs.Nodes.{Tag, Nodes, no_nodes, bytes, element, ◌⊕◌}
-use Rattle.redl_tree.specs.Names.{named, is, is_any}
-use Rattle.redl_tree.specs.Kids.{only, without, some_element, has_element}
-use Rattle.redl_tree.specs.Places.{is_quiet, is_open, within, trace_of, prop_of, props_name, role, in_props, in_run_owner, in_run_props, in_mark_props, placed, first_role}
-use Rattle.redl_tree.specs.Lists.{is_thick}
-use Rattle.redl_tree.specs.Kinds.{is_content, is_change, is_restore}
-use Rattle.redl_tree.specs.Fates.{fate_of, renamed}
-use Rattle.redl_tree.specs.Restored.{Rejected, rejected, rejected_as, after_change, present, restored, former_kids, outlasts}
-use Rattle.redl_tree.specs.Tables.{goes_at, para_is_cut}
-use Rattle.redl_tree.specs.Groups.{Piece, para, thin, thick, has_thick, joins as joins_piece, taken, ended, joined_tag, joined_kids, settled, given, held_by, grouped_from}
-use Rattle.redl_tree.specs.Pass.{by_fate, kept_kids, element_pass, is_block_para, pieces, pass}
-use Rattle.redl_tree.specs.Sound.{Test, everywhere, test_1, test_2, test_4, test_5, test_6, test_8, below_change}
+use Rattle.redl_tree.specs.Model.Nodes.{Tag, Nodes, no_nodes, bytes, element, ◌⊕◌}
+use Rattle.redl_tree.specs.Roles.Names.{named, is, is_any}
+use Rattle.redl_tree.specs.Model.Kids.{only, without, some_element, has_element}
+use Rattle.redl_tree.specs.Roles.Places.{is_quiet, is_open, within, trace_of, prop_of, props_name, role, in_props, in_run_owner, in_run_props, in_mark_props, placed, first_role}
+use Rattle.redl_tree.specs.Roles.Lists.{is_thick}
+use Rattle.redl_tree.specs.Roles.Kinds.{is_content, is_change, is_restore}
+use Rattle.redl_tree.specs.Decisions.Fates.{fate_of, renamed}
+use Rattle.redl_tree.specs.Decisions.Restored.{Rejected, rejected, rejected_as, after_change, present, restored, former_kids, outlasts}
+use Rattle.redl_tree.specs.Decisions.Tables.{goes_at, para_is_cut}
+use Rattle.redl_tree.specs.Decisions.Groups.{Piece, para, thin, thick, has_thick, joins as joins_piece, taken, ended, joined_tag, joined_kids, settled, given, held_by, grouped_from}
+use Rattle.redl_tree.specs.Decisions.Pass.{by_fate, kept_kids, element_pass, is_block_para, pieces, pass}
+use Rattle.redl_tree.specs.Rules.Sound.{Test, everywhere, test_1, test_2, test_4, test_5, test_6, test_8, below_change}
 use Rattle.redl_tree.specs.declared.kinds.Prop.{Prop}
 use Rattle.redl_tree.specs.declared.kinds.Prop.TheVariants.{Run, Para as ParaProp, Sect, Table, Except, Row as RowProp, Cell as CellProp}
 use Rattle.redl_tree.specs.declared.kinds.Kind.{Kind}

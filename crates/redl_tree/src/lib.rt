@@ -1,7 +1,7 @@
 //! The nodes of a document: their types, their text, and the definitions that the crates above speak of.
 //!
-//! Read `Node` first, then `write_nodes`. A contract sees a list of nodes as `Nodes` of `specs/Nodes.antt`, by the views
-//! of `specs/View.antt`. The laws of these are in `proofs/Laws.antt`, for all crates above.
+//! Read `Node` first, then `write_nodes`. A contract sees a list of nodes as `Nodes` of `specs/Model/Nodes.antt`, by the views
+//! of `specs/Model/View.antt`. The laws of these are in `proofs/Laws.antt`, for all crates above.
 //! How nodes come from bytes, and what becomes of them, is left to the crates above.
 #![tactic(auto)]
 

@@ -5,9 +5,9 @@ use Rattle.std.specs.List.{list_all}
 use Rattle.std.specs.Str.{IsUtf8, chars, is_utf8}
 use Rattle.std.proofs.lemmas.Option.{same_Some}
 use Rattle.std.proofs.lemmas.Str.{IsUtf8-from_is_utf8, is_utf8-from_IsUtf8}
-use Rattle.redl_tree.specs.Nodes.{Tag, Nodes, no_nodes, bytes, element, ◌⊕◌}
-use Rattle.redl_tree.specs.Text.{text}
-use Rattle.redl_tree.specs.Count.{count}
+use Rattle.redl_tree.specs.Model.Nodes.{Tag, Nodes, no_nodes, bytes, element, ◌⊕◌}
+use Rattle.redl_tree.specs.Model.Text.{text}
+use Rattle.redl_tree.specs.Model.Count.{count}
 use Rattle.redl_tree.specs.declared.node.Close.{Close}
 use Rattle.redl_tree.specs.declared.node.Close.TheVariants.{Empty, End}
 use Rattle.redl_markup.specs.declared.error.MarkupError.{MarkupError}
@@ -21,8 +21,8 @@ use Rattle.redl_markup.proofs.Characters.{text_is_utf8, tests_text}
 use Rattle.redl_markup.proofs.Pieces.{start_ends_stretch, end_ends_stretch}
 use Rattle.redl_markup.proofs.Runs.{either}
 use Rattle.redl_markup.proofs.Utf8.{piece_is_utf8}
-use Rattle.redl_xml.specs.declared.xml_error.XmlError.{XmlError}
-use Rattle.redl_xml.specs.declared.xml_error.XmlError.TheVariants.{Unreadable}
+use Rattle.redl_xml.specs.declared.error.XmlError.{XmlError}
+use Rattle.redl_xml.specs.declared.error.XmlError.TheVariants.{Unreadable}
 use Rattle.redl_xml.specs.Shapes.{depth_of}
 use Rattle.redl_xml.specs.Scopes.{Scope, scope_in}
 use Rattle.redl_xml.specs.Readings.{name_of, IsTag, ClosesBy, AreLegal, IsReading, HasReading, HasNoReading, HaveLegalTails}

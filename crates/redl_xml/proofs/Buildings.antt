@@ -5,8 +5,8 @@ use Rattle.std.proofs.lemmas.List.{map_push, reverse-append, length-map, length-
 use Rattle.std.proofs.lemmas.Simd.{map-map}
 use Rattle.redl_tree.specs.declared.kinds.Space.{Space}
 use Rattle.redl_tree.specs.declared.node.Close.TheVariants.{Empty, End}
-use Rattle.redl_tree.specs.Nodes.{Nodes, no_nodes, bytes, Item, in_front, ◌⊕◌}
-use Rattle.redl_tree.specs.View.{item_of, nodes_of}
+use Rattle.redl_tree.specs.Model.Nodes.{Nodes, no_nodes, bytes, Item, in_front, ◌⊕◌}
+use Rattle.redl_tree.specs.Model.View.{item_of, nodes_of}
 use Rattle.redl_tree.specs.declared.node.Node.{Node}
 use Rattle.redl_tree.proofs.Laws.{nodes_of-push}
 use Rattle.redl_markup.specs.Names.{Name, name_eq}

@@ -1,7 +1,7 @@
 -- The parts of a document, as the code finds them.
 use Rattle.std.proofs.Common.{◌≡◌, ℕ, true, false, List, [], ◌∷◌, length, ◌≤◌, Option, Some, None, refl, sym, ap, ◌∙◌, arith}
 use Rattle.std.proofs.lemmas.Option.{same_Some}
-use Rattle.redl_tree.specs.Nodes.{Nodes, no_nodes, bytes, ◌⊕◌}
+use Rattle.redl_tree.specs.Model.Nodes.{Nodes, no_nodes, bytes, ◌⊕◌}
 use Rattle.redl_tree.proofs.Laws.{⊕-no_nodes}
 use Rattle.redl_markup.specs.declared.place.Place.TheVariants.{BeforeRoot, AfterRoot}
 use Rattle.redl_markup.specs.declared.error.MarkupError.{MarkupError}

@@ -4,7 +4,7 @@ use Rattle.std.specs.Prelude.{nat_le}
 use Rattle.std.specs.Option.{option_map}
 use Rattle.std.proofs.lemmas.List.{length-map}
 use Rattle.std.proofs.lemmas.Option.{same_Some, cond_some}
-use Rattle.redl_tree.specs.Nodes.{Nodes, no_nodes, ◌⊕◌}
+use Rattle.redl_tree.specs.Model.Nodes.{Nodes, no_nodes, ◌⊕◌}
 use Rattle.redl_tree.specs.declared.node.Close.TheVariants.{Empty, End}
 use Rattle.redl_markup.specs.declared.place.Place.TheVariants.{InElement}
 use Rattle.redl_markup.specs.Reading.{◌>>=◌, Turn, done, next, turn, turns}

@@ -1,8 +1,8 @@
 -- The text of nodes followed by a rest, with names as the pieces of a text have them.
 use Rattle.std.proofs.Common.{◌≡◌, ℕ, List, [], ◌∷◌, ◌++◌, refl, ap, ◌∙◌, append_assoc}
-use Rattle.redl_tree.specs.Nodes.{Tag, Nodes, no_nodes, bytes, element, ◌⊕◌}
-use Rattle.redl_tree.specs.Text.{text}
-use Rattle.redl_tree.specs.Text as tree
+use Rattle.redl_tree.specs.Model.Nodes.{Tag, Nodes, no_nodes, bytes, element, ◌⊕◌}
+use Rattle.redl_tree.specs.Model.Text.{text}
+use Rattle.redl_tree.specs.Model.Text as tree
 use Rattle.redl_tree.specs.declared.node.Close.{Close}
 use Rattle.redl_tree.specs.declared.node.Close.TheVariants.{Empty, End}
 use Rattle.redl_markup.specs.Names.{Name, name_text}

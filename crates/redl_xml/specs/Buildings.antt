@@ -1,6 +1,6 @@
 -- The code's open elements as plain data.
 use Rattle.std.specs.Prelude.{map, reverse}
-use Rattle.redl_tree.specs.View.{nodes_of}
+use Rattle.redl_tree.specs.Model.View.{nodes_of}
 use Rattle.redl_markup.specs.Views.{name_view}
 use Rattle.redl_xml.specs.declared.building.OpenElement.{OpenElement}
 use Rattle.redl_xml.specs.declared.building.Building.{Building}

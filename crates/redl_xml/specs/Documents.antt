@@ -1,6 +1,6 @@
 -- A whole document read from the left: an optional stretch, an element, and an optional stretch.
 use Rattle.std.specs.Prelude.{ℕ, List, [], ◌∷◌, Option, Some, None, if◌then◌else◌}
-use Rattle.redl_tree.specs.Nodes.{Nodes, no_nodes, bytes, ◌⊕◌}
+use Rattle.redl_tree.specs.Model.Nodes.{Nodes, no_nodes, bytes, ◌⊕◌}
 use Rattle.redl_markup.specs.declared.place.Place.{Place}
 use Rattle.redl_markup.specs.declared.place.Place.TheVariants.{BeforeRoot, AfterRoot}
 use Rattle.redl_markup.specs.Lists.{is_filled}

@@ -1,7 +1,7 @@
 -- One element read from the left, piece by piece, as a function on plain data.
 use Rattle.std.specs.Prelude.{ℕ, suc, ◌&&◌, List, [], ◌∷◌, length, drop, Option, Some, None, if◌then◌else◌}
 use Rattle.std.specs.List.{list_all}
-use Rattle.redl_tree.specs.Nodes.{Tag, Nodes, no_nodes, bytes, element, ◌⊕◌}
+use Rattle.redl_tree.specs.Model.Nodes.{Tag, Nodes, no_nodes, bytes, element, ◌⊕◌}
 use Rattle.redl_tree.specs.declared.kinds.Space.{Space}
 use Rattle.redl_tree.specs.declared.kinds.Kind.TheVariants.{Plain}
 use Rattle.redl_tree.specs.declared.node.Close.{Close}

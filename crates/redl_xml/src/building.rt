@@ -1,8 +1,8 @@
 //! The open elements, and the nodes in them so far.
 
 ghost use Rattle.std.specs.Prelude.{◌≡◌, IfOk, OnOk, IsErrOf, Some, None, map};
-ghost use Rattle.redl_tree.specs.Nodes.{element_item, bytes_item};
-ghost use Rattle.redl_tree.specs.View.{item_of, nodes_of};
+ghost use Rattle.redl_tree.specs.Model.Nodes.{element_item, bytes_item};
+ghost use Rattle.redl_tree.specs.Model.View.{item_of, nodes_of};
 ghost use Rattle.redl_markup.specs.Views.{name_view, piece_view, TellsPlain, TailTells};
 ghost use Rattle.redl_markup.specs.Pieces.{start_tag, empty_tag, end_tag, stretch};
 ghost use Rattle.redl_xml.specs.Elements.{plain_tag, placed, nothing_yet};
@@ -13,7 +13,7 @@ ghost use Rattle.redl_xml.specs.OpenTags.{survey_view};
 use crate::scope::Scopes;
 use crate::sizes::Sizes;
 use crate::survey::{OpenTag, Survey};
-use crate::tail::enter;
+use crate::namespaces::enter;
 use redl_io::Text;
 use redl_markup::{MarkupError, Name, Piece, Tail};
 use redl_tree::{Close, Elem, Kind, Node, Space};

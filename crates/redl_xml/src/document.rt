@@ -1,9 +1,9 @@
 //! A whole text read as nodes.
 
 ghost use Rattle.std.specs.Prelude.{◌≡◌, ◌<◌, ◌≤◌, IfOk, OnOk, IsErrOf, Some};
-ghost use Rattle.redl_tree.specs.Nodes.{Nodes, ◌⊕◌};
-ghost use Rattle.redl_tree.specs.Count.{count};
-ghost use Rattle.redl_tree.specs.View.{nodes_of};
+ghost use Rattle.redl_tree.specs.Model.Nodes.{Nodes, ◌⊕◌};
+ghost use Rattle.redl_tree.specs.Model.Count.{count};
+ghost use Rattle.redl_tree.specs.Model.View.{nodes_of};
 ghost use Rattle.redl_markup.specs.Reading.{Finds};
 ghost use Rattle.redl_io.specs.Limits.{depth as depth_limit, nodes as node_limit};
 ghost use Rattle.redl_xml.specs.Shapes.{depth_of};
@@ -13,7 +13,7 @@ ghost use Rattle.redl_xml.specs.Readings.{IsReading, HasReading, HasNoReading};
 use crate::building::bytes_node;
 use crate::element::read_element;
 use crate::sizes::{Limits, Sizes};
-use crate::xml_error::XmlError;
+use crate::error::XmlError;
 use crate::{DEPTH_LIMIT, NODE_LIMIT};
 use redl_markup::{MarkupError, Piece, Place, is_text, next_piece};
 use redl_tree::Node;

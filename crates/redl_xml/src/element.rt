@@ -1,7 +1,7 @@
 //! One element, read to its end.
 
 ghost use Rattle.std.specs.Prelude.{◌≡◌, ◌≤◌, IfOk, Some};
-ghost use Rattle.redl_tree.specs.View.{nodes_of};
+ghost use Rattle.redl_tree.specs.Model.View.{nodes_of};
 ghost use Rattle.redl_markup.specs.Reading.{Finds};
 ghost use Rattle.redl_xml.specs.Elements.{element_at};
 ghost use Rattle.redl_xml.specs.Surveys.{survey_at, survey_from};

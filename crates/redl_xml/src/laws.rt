@@ -1,7 +1,7 @@
 //! Laws of all readings.
 
 ghost use Rattle.std.specs.Prelude.{◌≡◌, ℕ, List};
-ghost use Rattle.redl_tree.specs.Nodes.{Nodes};
+ghost use Rattle.redl_tree.specs.Model.Nodes.{Nodes};
 ghost use Rattle.redl_xml.specs.Readings.{IsReading, HaveLegalTails};
 
 /// A text has at most one tree.

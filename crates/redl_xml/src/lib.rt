@@ -13,8 +13,8 @@ mod laws;
 mod scope;
 mod sizes;
 mod survey;
-mod tail;
-mod xml_error;
+mod namespaces;
+mod error;
 
 /// The greatest depth of an element, with the root at depth 1.
 pub const DEPTH_LIMIT: usize = 512;
@@ -24,7 +24,7 @@ pub const NODE_LIMIT: u32 = 2_097_152;
 
 pub use document::read;
 pub use laws::{one_tree, tails_are_legal};
-pub use xml_error::XmlError;
+pub use error::XmlError;
 
 #[cfg(test)]
 mod tests;

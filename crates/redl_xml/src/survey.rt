@@ -8,7 +8,7 @@ ghost use Rattle.redl_xml.specs.OpenTags.{survey_view};
 
 use crate::scope::Scopes;
 use crate::sizes::Sizes;
-use crate::tail::enter;
+use crate::namespaces::enter;
 use redl_markup::{MarkupError, Name, Piece, Tail};
 use std::alloc::Global;
 

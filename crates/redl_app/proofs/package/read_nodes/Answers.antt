@@ -1,7 +1,7 @@
 use Rattle.std.proofs.Common.{arith}
 use Rattle.redl_app.proofs.PackageLaws.{tree_read, tree_refused, refused_as, utf8_tails}
 use Rattle.redl_app.specs.Outcome.{tree_in}
-use Rattle.redl_tree.specs.View.{nodes_of}
+use Rattle.redl_tree.specs.Model.View.{nodes_of}
 use Rattle.redl_xml.proofs.Answered.{tails_are_legal}
 use Rattle.redl_app.proofs.package.read_nodes.Goals as goal
 

@@ -1,9 +1,9 @@
 use Rattle.std.proofs.Common.{◌≡◌, ◌∙◌, ℕ, ◌+◌, ◌++◌, ◌∷◌, [], List, drop, map, ap, sym, arith, subst, append_assoc}
 use Rattle.std.proofs.lemmas.Result.{on_ok_weaker}
-use Rattle.redl_tree.specs.Count.{count}
-use Rattle.redl_tree.specs.Nodes.{Nodes, Item, element_item}
-use Rattle.redl_tree.specs.Seen.{Spot, spot, seen_one, seen_from, tags}
-use Rattle.redl_tree.specs.View.{tag_of, kids_of, item_of, nodes_of}
+use Rattle.redl_tree.specs.Model.Count.{count}
+use Rattle.redl_tree.specs.Model.Nodes.{Nodes, Item, element_item}
+use Rattle.redl_tree.specs.Model.Seen.{Spot, spot, seen_one, seen_from, tags}
+use Rattle.redl_tree.specs.Model.View.{tag_of, kids_of, item_of, nodes_of}
 use Rattle.redl_tree.specs.declared.node.Node.{Node}
 use Rattle.redl_tree.proofs.Laws.{item_of-Elem, nodes_here, nodes_end, count-in_front}
 use Rattle.redl_opc.proofs.PartLaws.{tails-more}

@@ -1,6 +1,6 @@
 use Rattle.std.proofs.Common.{◌+◌, ◌++◌, length, drop, ap, sym, ◌∙◌, arith}
-use Rattle.redl_tree.specs.Count.{count}
-use Rattle.redl_tree.specs.View.{item_of, nodes_of}
+use Rattle.redl_tree.specs.Model.Count.{count}
+use Rattle.redl_tree.specs.Model.View.{item_of, nodes_of}
 use Rattle.redl_tree.proofs.Laws.{nodes_here, count-in_front}
 use Rattle.redl_opc.proofs.PartLaws.{tails-more}
 use Rattle.redl_index.specs.Labels.{labels_in}

@@ -1,8 +1,8 @@
 use Rattle.std.proofs.Common.{◌≡◌, ◌+◌, ◌++◌, ◌≤◌, List, length, drop}
-use Rattle.redl_tree.specs.Count.{count}
-use Rattle.redl_tree.specs.Nodes.{Tag}
-use Rattle.redl_tree.specs.Packages.{level_of}
-use Rattle.redl_tree.specs.View.{nodes_of}
+use Rattle.redl_tree.specs.Model.Count.{count}
+use Rattle.redl_tree.specs.Model.Nodes.{Tag}
+use Rattle.redl_tree.specs.Decisions.Packages.{level_of}
+use Rattle.redl_tree.specs.Model.View.{nodes_of}
 use Rattle.redl_opc.specs.Tree.{HasUtf8Tails}
 use Rattle.redl_index.specs.Labels.{labels_in}
 use Rattle.redl_index.specs.Revisions.{numbered, revisions_from}

@@ -1,11 +1,11 @@
 use Rattle.std.proofs.Common.{◌≡◌, ◌∙◌, ◌++◌, [], ap, sym, subst, arith, List, slice_get}
 use Rattle.std.proofs.lemmas.List.{append-nil}
 use Rattle.std.proofs.lemmas.Result.{on_ok_weaker}
-use Rattle.redl_tree.specs.Arounds.{inside_of}
-use Rattle.redl_tree.specs.Moves.{Marking}
-use Rattle.redl_tree.specs.Nodes.{Tag, Nodes}
-use Rattle.redl_tree.specs.Seen.{tags, root_spots, seen_from}
-use Rattle.redl_tree.specs.View.{nodes_of, tag_of, kids_of}
+use Rattle.redl_tree.specs.Roles.Arounds.{inside_of}
+use Rattle.redl_tree.specs.Revisions.Moves.{Marking}
+use Rattle.redl_tree.specs.Model.Nodes.{Tag, Nodes}
+use Rattle.redl_tree.specs.Model.Seen.{tags, root_spots, seen_from}
+use Rattle.redl_tree.specs.Model.View.{nodes_of, tag_of, kids_of}
 use Rattle.redl_tree.specs.declared.node.Node.{Node}
 use Rattle.redl_markers.specs.Ends.{ends_from}
 use Rattle.redl_markers.specs.Found.{markers_of}

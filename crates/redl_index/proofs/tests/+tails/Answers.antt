@@ -1,5 +1,5 @@
 use Rattle.std.proofs.Common.{rules, sym, subst, arith, drop, ◌+◌}
-use Rattle.redl_tree.specs.View.{nodes_of, item_of}
+use Rattle.redl_tree.specs.Model.View.{nodes_of, item_of}
 use Rattle.redl_tree.proofs.Laws.{nodes_here, nodes_end}
 use Rattle.redl_opc.specs.Tree.{HasUtf8Tails}
 use Rattle.redl_opc.proofs.PartLaws.{tails-in_front}

@@ -1,13 +1,13 @@
 use Rattle.std.proofs.Common.{◌∙◌, ℕ, ◌+◌, ap, arith, drop, ◌++◌, ◌∷◌, set, if◌then◌else◌, List, filter_map, map}
-use Rattle.redl_tree.specs.Names.{is}
+use Rattle.redl_tree.specs.Roles.Names.{is}
 use Rattle.redl_tree.specs.declared.node.Node.{Node}
 use Rattle.redl_markers.specs.Ends.{ends_from}
 use Rattle.redl_markers.specs.Trails.{inside_trail}
 use Rattle.redl_markers.specs.Walks.{marker_by, tag_by, element_ends}
-use Rattle.redl_tree.specs.View.{nodes_of, item_of, tag_of, kids_of}
-use Rattle.redl_tree.specs.Seen.{spot, tags, seen_from}
+use Rattle.redl_tree.specs.Model.View.{nodes_of, item_of, tag_of, kids_of}
+use Rattle.redl_tree.specs.Model.Seen.{spot, tags, seen_from}
 use Rattle.redl_tree.proofs.Laws.{nodes_here}
-use Rattle.redl_tree.specs.Markers.{marker_of}
+use Rattle.redl_tree.specs.Revisions.Markers.{marker_of}
 use Rattle.redl_stamp.specs.Attribute.{attribute_value}
 use Rattle.redl_markers.specs.Found.{marker_tag}
 use Rattle.redl_moves.specs.Marks.{markings}

@@ -1,7 +1,7 @@
 use Rattle.std.proofs.Common.{◌≡◌, ◌+◌, ◌++◌, List, drop, filter_map, map}
-use Rattle.redl_tree.specs.View.{nodes_of, tag_of}
-use Rattle.redl_tree.specs.Seen.{Spot, tags, seen_from}
-use Rattle.redl_tree.specs.Markers.{marker_of}
+use Rattle.redl_tree.specs.Model.View.{nodes_of, tag_of}
+use Rattle.redl_tree.specs.Model.Seen.{Spot, tags, seen_from}
+use Rattle.redl_tree.specs.Revisions.Markers.{marker_of}
 use Rattle.redl_stamp.specs.Attribute.{attribute_value}
 use Rattle.redl_moves.specs.Marks.{markings}
 use Rattle.redl_markers.specs.Found.{marker_tag}

@@ -1,9 +1,9 @@
 use Rattle.std.proofs.Common.{◌≡◌, ◌∙◌, ◌+◌, ap, sym, subst, arith, length, filter_map, List}
 use Rattle.std.proofs.lemmas.List.{length-map}
-use Rattle.redl_tree.specs.View.{nodes_of, tag_of, kids_of}
-use Rattle.redl_tree.specs.Seen.{tags, seen, root_spots, seen_from}
-use Rattle.redl_tree.specs.Moves.{Marking}
-use Rattle.redl_tree.specs.Markers.{marker_of}
+use Rattle.redl_tree.specs.Model.View.{nodes_of, tag_of, kids_of}
+use Rattle.redl_tree.specs.Model.Seen.{tags, seen, root_spots, seen_from}
+use Rattle.redl_tree.specs.Revisions.Moves.{Marking}
+use Rattle.redl_tree.specs.Revisions.Markers.{marker_of}
 use Rattle.redl_tree.specs.declared.node.Node.{Node}
 use Rattle.redl_stamp.specs.Attribute.{attribute_value}
 use Rattle.redl_moves.specs.Marks.{marking_of, markings, RisesFrom}

@@ -1,7 +1,7 @@
 use Rattle.std.proofs.Common.{◌≡◌, is_some, drop}
-use Rattle.redl_tree.specs.Kids.{some_element}
-use Rattle.redl_tree.specs.Places.{cell_trace_of}
-use Rattle.redl_tree.specs.View.{nodes_of}
+use Rattle.redl_tree.specs.Model.Kids.{some_element}
+use Rattle.redl_tree.specs.Roles.Places.{cell_trace_of}
+use Rattle.redl_tree.specs.Model.View.{nodes_of}
 use Rattle.redl_markers.proofs.revised.has_cell_trace.Given as goal
 
 -- such an element is among the nodes that are left or nowhere

@@ -1,9 +1,9 @@
 use Rattle.std.proofs.Common.{◌∙◌, ◌+◌, ◌||◌, ap, sym, arith, drop, is_some, Bool}
-use Rattle.redl_tree.specs.Nodes.{Tag}
-use Rattle.redl_tree.specs.Kids.{some_element, kids_of_all}
-use Rattle.redl_tree.specs.Markers.{is_cell_revision}
-use Rattle.redl_tree.specs.Places.{cell_trace_of}
-use Rattle.redl_tree.specs.View.{nodes_of, item_of}
+use Rattle.redl_tree.specs.Model.Nodes.{Tag}
+use Rattle.redl_tree.specs.Model.Kids.{some_element, kids_of_all}
+use Rattle.redl_tree.specs.Revisions.Markers.{is_cell_revision}
+use Rattle.redl_tree.specs.Roles.Places.{cell_trace_of}
+use Rattle.redl_tree.specs.Model.View.{nodes_of, item_of}
 use Rattle.redl_tree.proofs.Laws.{nodes_here}
 use Rattle.redl_markers.proofs.WalkLaws.{revised-here}
 use Rattle.redl_markers.proofs.revised.is_cell_revision.Goals as goal

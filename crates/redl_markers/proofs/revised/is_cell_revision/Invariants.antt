@@ -1,6 +1,6 @@
 use Rattle.std.proofs.Common.{◌≡◌, drop}
-use Rattle.redl_tree.specs.Markers.{is_cell_revision}
-use Rattle.redl_tree.specs.View.{nodes_of}
+use Rattle.redl_tree.specs.Revisions.Markers.{is_cell_revision}
+use Rattle.redl_tree.specs.Model.View.{nodes_of}
 use Rattle.redl_markers.proofs.revised.is_cell_revision.Given as goal
 
 -- a revision of the cell is among the nodes that are left or nowhere

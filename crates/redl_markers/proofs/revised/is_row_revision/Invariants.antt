@@ -1,6 +1,6 @@
 use Rattle.std.proofs.Common.{◌≡◌, drop}
-use Rattle.redl_tree.specs.Markers.{is_row_revision}
-use Rattle.redl_tree.specs.View.{nodes_of}
+use Rattle.redl_tree.specs.Revisions.Markers.{is_row_revision}
+use Rattle.redl_tree.specs.Model.View.{nodes_of}
 use Rattle.redl_markers.proofs.revised.is_row_revision.Given as goal
 
 -- a revision of the row is among the nodes that are left or nowhere

@@ -1,7 +1,7 @@
 use Rattle.std.proofs.Common.{◌∙◌, ◌++◌, sym, ap, arith, map, filter_map, List, drop, ◌+◌}
 use Rattle.std.proofs.lemmas.List.{append-nil, drop_all}
 use Rattle.redl_moves.specs.Marks.{markings, move_of}
-use Rattle.redl_tree.specs.Moves.{from_start}
+use Rattle.redl_tree.specs.Revisions.Moves.{from_start}
 use Rattle.redl_moves.specs.Places.{move_begun}
 use Rattle.redl_moves.specs.declared.marker.Marker.{Marker}
 use Rattle.redl_moves.specs.declared.marker.Move.{Move}

@@ -1,6 +1,6 @@
 use Rattle.std.proofs.Common.{◌≡◌, ◌++◌, drop, map, filter_map}
 use Rattle.redl_moves.specs.Marks.{markings, move_of}
-use Rattle.redl_tree.specs.Moves.{from_start}
+use Rattle.redl_tree.specs.Revisions.Moves.{from_start}
 use Rattle.redl_moves.specs.Places.{move_begun, moves_by_place}
 use Rattle.redl_moves.proofs.pairing.paired.Given as goal
 

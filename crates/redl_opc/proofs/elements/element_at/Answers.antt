@@ -1,5 +1,5 @@
 use Rattle.std.proofs.Common.{map}
-use Rattle.redl_tree.specs.View.{item_of}
+use Rattle.redl_tree.specs.Model.View.{item_of}
 use Rattle.redl_tree.proofs.Laws.{items_of-from_items, item_of-Elem, item_of-Bytes}
 use Rattle.redl_opc.proofs.PartLaws.{gives_none}
 use Rattle.redl_opc.proofs.elements.element_at.Goals as goal

@@ -1,6 +1,6 @@
 use Rattle.std.proofs.Common.{◌≡◌, length}
 use Rattle.std.specs.List.{list_all}
-use Rattle.redl_tree.specs.View.{nodes_of}
+use Rattle.redl_tree.specs.Model.View.{nodes_of}
 use Rattle.redl_opc.specs.Elements.{elements_of}
 use Rattle.redl_opc.specs.Shape.{is_part}
 use Rattle.redl_opc.proofs.shape.are_parts.Given as goal

@@ -1,6 +1,6 @@
 use Rattle.std.proofs.Common.{◌≡◌, length}
 use Rattle.std.specs.List.{list_any}
-use Rattle.redl_tree.specs.View.{nodes_of}
+use Rattle.redl_tree.specs.Model.View.{nodes_of}
 use Rattle.redl_opc.specs.Elements.{elements_of}
 use Rattle.redl_opc.specs.Shape.{is_document}
 use Rattle.redl_opc.proofs.shape.have_document.Given as goal

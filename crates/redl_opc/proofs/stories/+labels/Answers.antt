@@ -1,7 +1,7 @@
 use Rattle.std.proofs.Common.{◌≡◌, ◌+◌, ◌<◌, ◌≤◌, length, take, drop, sym, ap, ◌∙◌, arith}
 use Rattle.std.proofs.lemmas.List.{take_more_set, drop-set-lt, take_all, length-set, get_or-set_other}
-use Rattle.redl_tree.specs.Nodes.{no_nodes, in_front, ◌⊕◌}
-use Rattle.redl_tree.specs.View.{nodes_of, item_of}
+use Rattle.redl_tree.specs.Model.Nodes.{no_nodes, in_front, ◌⊕◌}
+use Rattle.redl_tree.specs.Model.View.{nodes_of, item_of}
 use Rattle.redl_tree.proofs.Laws.{nodes_here, nodes_end, nodes_of-push, ⊕-no_nodes, built_more}
 use Rattle.redl_opc.specs.Labels.{elements, item_elements, relabelled, relabelled_item}
 use Rattle.redl_opc.proofs.LabelLaws.{elements-in_front, relabelled-in_front}

@@ -1,6 +1,6 @@
 use Rattle.std.proofs.Common.{◌≡◌, ◌+◌, take, drop}
-use Rattle.redl_tree.specs.Nodes.{◌⊕◌}
-use Rattle.redl_tree.specs.View.{nodes_of}
+use Rattle.redl_tree.specs.Model.Nodes.{◌⊕◌}
+use Rattle.redl_tree.specs.Model.View.{nodes_of}
 use Rattle.redl_opc.specs.Labels.{elements, relabelled}
 use Rattle.redl_opc.proofs.stories.+labels.Given as goal
 

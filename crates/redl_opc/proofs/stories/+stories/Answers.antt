@@ -1,8 +1,8 @@
 use Rattle.std.proofs.Common.{◌≡◌, ◌+◌, ◌<◌, ◌≤◌, List, length, take, drop, sym, ap, ◌∙◌, arith}
 use Rattle.std.proofs.lemmas.List.{take_more_set, drop-set-lt, take_all, length-set, get_or-set_other}
-use Rattle.redl_tree.specs.Nodes.{Tag, no_nodes, in_front, ◌⊕◌}
-use Rattle.redl_tree.specs.Packages.{level_of}
-use Rattle.redl_tree.specs.View.{nodes_of, item_of}
+use Rattle.redl_tree.specs.Model.Nodes.{Tag, no_nodes, in_front, ◌⊕◌}
+use Rattle.redl_tree.specs.Decisions.Packages.{level_of}
+use Rattle.redl_tree.specs.Model.View.{nodes_of, item_of}
 use Rattle.redl_tree.proofs.Laws.{nodes_here, nodes_end, nodes_of-push, ⊕-no_nodes, built_more}
 use Rattle.redl_opc.specs.Labels.{elements, item_elements, story_elements, item_story_elements, labelled_in, labelled_item}
 use Rattle.redl_opc.proofs.LabelLaws.{elements-in_front, story_elements-in_front, labelled_in-in_front}

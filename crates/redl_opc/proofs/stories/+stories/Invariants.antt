@@ -1,7 +1,7 @@
 use Rattle.std.proofs.Common.{◌≡◌, ◌+◌, ◌≤◌, List, take, drop}
-use Rattle.redl_tree.specs.Nodes.{Tag, ◌⊕◌}
-use Rattle.redl_tree.specs.Packages.{level_of}
-use Rattle.redl_tree.specs.View.{nodes_of}
+use Rattle.redl_tree.specs.Model.Nodes.{Tag, ◌⊕◌}
+use Rattle.redl_tree.specs.Decisions.Packages.{level_of}
+use Rattle.redl_tree.specs.Model.View.{nodes_of}
 use Rattle.redl_opc.specs.Labels.{elements, story_elements, labelled_in}
 use Rattle.redl_opc.proofs.stories.+stories.Given as goal
 

@@ -6,13 +6,13 @@ use Rattle.redl_paras.proofs.EndLaws.{grouped-end, grouped-left}
 use Rattle.redl_paras.specs.Pieces.{pieces_of, held_of, is_other, paras_of}
 use Rattle.redl_tree.proofs.GroupLaws.{beside-grouped}
 use Rattle.redl_tree.proofs.Laws.{⊕-no_nodes, built_more}
-use Rattle.redl_tree.specs.Beside.{bytes_beside}
-use Rattle.redl_tree.specs.Groups.{grouped_from}
-use Rattle.redl_tree.specs.Kids.{some_element}
-use Rattle.redl_tree.specs.Names.{is}
-use Rattle.redl_tree.specs.Nodes.{◌⊕◌}
-use Rattle.redl_tree.specs.Sound.{end_of}
-use Rattle.redl_tree.specs.View.{nodes_of}
+use Rattle.redl_tree.specs.Decisions.Beside.{bytes_beside}
+use Rattle.redl_tree.specs.Decisions.Groups.{grouped_from}
+use Rattle.redl_tree.specs.Model.Kids.{some_element}
+use Rattle.redl_tree.specs.Roles.Names.{is}
+use Rattle.redl_tree.specs.Model.Nodes.{◌⊕◌}
+use Rattle.redl_tree.specs.Rules.Sound.{end_of}
+use Rattle.redl_tree.specs.Model.View.{nodes_of}
 use Rattle.redl_tree.specs.declared.lists.Reach.TheVariants.{Direct}
 use Rattle.redl_paras.proofs.grouping.group.Goals as goal
 

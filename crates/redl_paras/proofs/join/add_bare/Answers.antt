@@ -2,10 +2,10 @@ use Rattle.std.proofs.Common.{not, ap, ◌∙◌, rules}
 use Rattle.std.proofs.lemmas.Fn.{filter_same}
 use Rattle.redl_tree.proofs.KeptLaws.{filter_without}
 use Rattle.redl_tree.proofs.Laws.{nodes_of-append}
-use Rattle.redl_tree.specs.Kids.{item_is}
-use Rattle.redl_tree.specs.Names.{is}
-use Rattle.redl_tree.specs.Nodes.{◌⊕◌}
-use Rattle.redl_tree.specs.View.{nodes_of, item_of}
+use Rattle.redl_tree.specs.Model.Kids.{item_is}
+use Rattle.redl_tree.specs.Roles.Names.{is}
+use Rattle.redl_tree.specs.Model.Nodes.{◌⊕◌}
+use Rattle.redl_tree.specs.Model.View.{nodes_of, item_of}
 use Rattle.redl_paras.proofs.join.add_bare.Goals as goal
 
 pub returns : goal.returns

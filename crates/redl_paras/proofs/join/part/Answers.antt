@@ -4,10 +4,10 @@ use Rattle.std.specs.Vec.Iter.{into_iter_items}
 use Rattle.redl_paras.proofs.ChainLaws.{without-in_front}
 use Rattle.redl_tree.proofs.KeptLaws.{only_front}
 use Rattle.redl_tree.proofs.Laws.{⊕-no_nodes, built_more}
-use Rattle.redl_tree.specs.Kids.{only, without}
-use Rattle.redl_tree.specs.Names.{is}
-use Rattle.redl_tree.specs.Nodes.{◌⊕◌}
-use Rattle.redl_tree.specs.View.{nodes_of, item_of}
+use Rattle.redl_tree.specs.Model.Kids.{only, without}
+use Rattle.redl_tree.specs.Roles.Names.{is}
+use Rattle.redl_tree.specs.Model.Nodes.{◌⊕◌}
+use Rattle.redl_tree.specs.Model.View.{nodes_of, item_of}
 use Rattle.redl_paras.proofs.join.part.Goals as goal
 
 pub loop-kid-init : goal.loop-kid-init

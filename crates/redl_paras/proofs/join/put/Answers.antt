@@ -1,10 +1,10 @@
 use Rattle.std.proofs.Common.{◌≡◌, true, false, sym, ap, ◌∙◌}
 use Rattle.redl_tree.proofs.KeptLaws.{only_kept, only_left, without_kept, without_left}
 use Rattle.redl_tree.proofs.Laws.{⊕-no_nodes, nodes_of-push}
-use Rattle.redl_tree.specs.Kids.{item_is}
-use Rattle.redl_tree.specs.Names.{is}
-use Rattle.redl_tree.specs.Nodes.{no_nodes, ◌⊕◌}
-use Rattle.redl_tree.specs.View.{nodes_of, item_of}
+use Rattle.redl_tree.specs.Model.Kids.{item_is}
+use Rattle.redl_tree.specs.Roles.Names.{is}
+use Rattle.redl_tree.specs.Model.Nodes.{no_nodes, ◌⊕◌}
+use Rattle.redl_tree.specs.Model.View.{nodes_of, item_of}
 use Rattle.redl_paras.proofs.join.put.Goals as goal
 
 pub returns-in_ok-push-clause-props : goal.returns-in_ok-push-clause-props

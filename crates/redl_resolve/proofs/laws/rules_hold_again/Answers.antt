@@ -1,6 +1,6 @@
 use Rattle.std.proofs.Common.{refl}
 use Rattle.redl_resolve.proofs.KeepsLaws.{keeps_rules}
-use Rattle.redl_tree.specs.Packages.{pass_package}
+use Rattle.redl_tree.specs.Decisions.Packages.{pass_package}
 use Rattle.redl_resolve.proofs.laws.rules_hold_again.Goals as goal
 
 pub returns : goal.returns

@@ -1,7 +1,7 @@
 use Rattle.std.proofs.Common.{[], refl}
 use Rattle.std.proofs.lemmas.Result.{IfOk-weaker}
 use Rattle.redl_resolve.proofs.KeepsLaws.{keeps_text, keeps_rules}
-use Rattle.redl_tree.specs.View.{nodes_of}
+use Rattle.redl_tree.specs.Model.View.{nodes_of}
 use Rattle.redl_resolve.proofs.stories.into_passed.Goals as goal
 
 pub returns-clause-survival : goal.returns-clause-survival

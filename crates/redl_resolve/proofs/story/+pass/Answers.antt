@@ -12,17 +12,17 @@ use Rattle.redl_resolve.specs.Changes.{former_of}
 use Rattle.redl_resolve.specs.Chains.{whole, item_answer}
 use Rattle.redl_resolve.specs.Counts.{skipped, former_count}
 use Rattle.redl_tree.proofs.Laws.{count-in_front, built_more, nodes_here, nodes_end, nodes_of-push, ⊕-no_nodes}
-use Rattle.redl_tree.specs.Count.{count, item_count}
+use Rattle.redl_tree.specs.Model.Count.{count, item_count}
 use Rattle.redl_tree.specs.declared.kinds.Fate.TheVariants.{Leave, Free}
-use Rattle.redl_tree.specs.Fates.{fate_of, renamed}
-use Rattle.redl_tree.specs.Tables.{goes_at}
+use Rattle.redl_tree.specs.Decisions.Fates.{fate_of, renamed}
+use Rattle.redl_tree.specs.Decisions.Tables.{goes_at}
 use Rattle.redl_tree.proofs.PassLaws.{if_true}
-use Rattle.redl_tree.specs.Groups.{thin, grouped}
-use Rattle.redl_tree.specs.Kinds.{is_restore}
-use Rattle.redl_tree.specs.Nodes.{no_nodes, element, in_front, ◌⊕◌}
-use Rattle.redl_tree.specs.Pass.{pass, pieces, kept_kids}
-use Rattle.redl_tree.specs.Restored.{rejected}
-use Rattle.redl_tree.specs.View.{nodes_of, item_of, tag_of, kids_of}
+use Rattle.redl_tree.specs.Decisions.Groups.{thin, grouped}
+use Rattle.redl_tree.specs.Roles.Kinds.{is_restore}
+use Rattle.redl_tree.specs.Model.Nodes.{no_nodes, element, in_front, ◌⊕◌}
+use Rattle.redl_tree.specs.Decisions.Pass.{pass, pieces, kept_kids}
+use Rattle.redl_tree.specs.Decisions.Restored.{rejected}
+use Rattle.redl_tree.specs.Model.View.{nodes_of, item_of, tag_of, kids_of}
 use Rattle.redl_resolve.proofs.story.+pass.Goals as goal
 
 pub pass_elem-returns-then-is_block_para-clause-entered : goal.pass_elem-returns-then-is_block_para-clause-entered

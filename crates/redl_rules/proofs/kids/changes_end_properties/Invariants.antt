@@ -1,11 +1,11 @@
 use Rattle.std.proofs.Common.{◌≡◌, ◌&&◌, not, List, drop}
-use Rattle.redl_tree.specs.Nodes.{Tag}
-use Rattle.redl_tree.specs.View.{nodes_of}
-use Rattle.redl_tree.specs.Kids.{has_element}
-use Rattle.redl_tree.specs.Kinds.{is_change}
-use Rattle.redl_tree.specs.Places.{role}
-use Rattle.redl_tree.specs.Sound.{implies, only_last}
-use Rattle.redl_tree.specs.Arounds.{around_of}
+use Rattle.redl_tree.specs.Model.Nodes.{Tag}
+use Rattle.redl_tree.specs.Model.View.{nodes_of}
+use Rattle.redl_tree.specs.Model.Kids.{has_element}
+use Rattle.redl_tree.specs.Roles.Kinds.{is_change}
+use Rattle.redl_tree.specs.Roles.Places.{role}
+use Rattle.redl_tree.specs.Rules.Sound.{implies, only_last}
+use Rattle.redl_tree.specs.Roles.Arounds.{around_of}
 use Rattle.redl_rules.proofs.kids.changes_end_properties.Given as goal
 
 abbrev pub invariant-loop-node : goal.invariant-loop-node

@@ -1,6 +1,6 @@
 use Rattle.std.proofs.Common.{◌≡◌, drop}
-use Rattle.redl_tree.specs.View.{nodes_of}
-use Rattle.redl_tree.specs.Sound.{former_declares}
+use Rattle.redl_tree.specs.Model.View.{nodes_of}
+use Rattle.redl_tree.specs.Rules.Sound.{former_declares}
 use Rattle.redl_rules.specs.Attributes.{declares}
 use Rattle.redl_rules.proofs.rules.former_declares_names.Given as goal
 

@@ -1,5 +1,5 @@
 use Rattle.std.proofs.Common.{◌+◌, drop, sym, ap, ◌∙◌, arith}
-use Rattle.redl_tree.specs.View.{nodes_of, item_of}
+use Rattle.redl_tree.specs.Model.View.{nodes_of, item_of}
 use Rattle.redl_tree.proofs.Laws.{nodes_here, nodes_end}
 use Rattle.redl_rules.specs.Keeping.{in_both, kept_in, item_kept}
 use Rattle.redl_rules.proofs.KeptLaws.{in_both-assoc, in_both-all, kept_in-in_front}

@@ -1,6 +1,6 @@
 use Rattle.std.proofs.Common.{◌≡◌, List, drop}
-use Rattle.redl_tree.specs.Nodes.{Tag}
-use Rattle.redl_tree.specs.View.{nodes_of}
+use Rattle.redl_tree.specs.Model.Nodes.{Tag}
+use Rattle.redl_tree.specs.Model.View.{nodes_of}
 use Rattle.redl_rules.specs.Rounds.{round_of}
 use Rattle.redl_rules.specs.Keeping.{in_both, kept_in}
 use Rattle.redl_rules.proofs.walk.+kept.Given as goal

@@ -1,6 +1,6 @@
 use Rattle.std.proofs.Common.{◌≡◌, ◌∷◌, refl, sym, ap, ◌∙◌}
-use Rattle.redl_tree.specs.View.{tag_of, kids_of}
-use Rattle.redl_tree.specs.Arounds.{around_of}
+use Rattle.redl_tree.specs.Model.View.{tag_of, kids_of}
+use Rattle.redl_tree.specs.Roles.Arounds.{around_of}
 use Rattle.redl_rules.specs.declared.round.Round.{Round}
 use Rattle.redl_tree.specs.declared.around.Around.{Around}
 use Rattle.redl_rules.specs.Rounds.{round_of}

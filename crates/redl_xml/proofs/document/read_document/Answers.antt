@@ -1,7 +1,7 @@
 use Rattle.std.proofs.Common.{◌≡◌, ◌≢◌, ◌∙◌, ◌≤◌, ap, sym, Some, length, ℕ, arith}
 use Rattle.std.proofs.lemmas.Result.{err_from_is_err_and}
-use Rattle.redl_tree.specs.Nodes.{Nodes}
-use Rattle.redl_tree.specs.View.{nodes_of}
+use Rattle.redl_tree.specs.Model.Nodes.{Nodes}
+use Rattle.redl_tree.specs.Model.View.{nodes_of}
 use Rattle.redl_xml.proofs.Parts.{none_filled, some_filled, sizes_are, sizes_fail, root_fails, document_is, counted_grows}
 use Rattle.redl_xml.proofs.document.read_document.Goals as goal
 

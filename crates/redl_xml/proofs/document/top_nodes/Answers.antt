@@ -1,6 +1,6 @@
 use Rattle.std.proofs.Common.{◌≡◌, ◌∙◌, ◌++◌, ap, List}
-use Rattle.redl_tree.specs.Nodes.{Nodes, ◌⊕◌}
-use Rattle.redl_tree.specs.View.{nodes_of}
+use Rattle.redl_tree.specs.Model.Nodes.{Nodes, ◌⊕◌}
+use Rattle.redl_tree.specs.Model.View.{nodes_of}
 use Rattle.redl_tree.specs.declared.node.Node.{Node}
 use Rattle.redl_tree.proofs.Laws.{nodes_of-append, ⊕_assoc}
 use Rattle.redl_xml.specs.Documents.{bytes_or_none}

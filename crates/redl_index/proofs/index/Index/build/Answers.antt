@@ -1,6 +1,6 @@
 use Rattle.std.proofs.Common.{◌≡◌, [], ◌++◌, ◌+◌, List, length, refl, sym, ap, ◌∙◌, append-nil}
-use Rattle.redl_tree.specs.Text.{text}
-use Rattle.redl_tree.specs.View.{nodes_of}
+use Rattle.redl_tree.specs.Model.Text.{text}
+use Rattle.redl_tree.specs.Model.View.{nodes_of}
 use Rattle.redl_tree.proofs.NumberLaws.{text-numbered}
 use Rattle.redl_opc.specs.declared.label.Label.{Label}
 use Rattle.redl_stamp.specs.Attribute.{attribute_value}

@@ -1,6 +1,6 @@
 use Rattle.std.proofs.Common.{◌∙◌, ap, sym, find, None, option_map, if◌then◌else◌}
-use Rattle.redl_tree.specs.Moves.{pairs, is_of_pair}
-use Rattle.redl_tree.specs.View.{tag_of}
+use Rattle.redl_tree.specs.Revisions.Moves.{pairs, is_of_pair}
+use Rattle.redl_tree.specs.Model.View.{tag_of}
 use Rattle.redl_moves.specs.Starts.{start_in}
 use Rattle.redl_index.proofs.ContextLaws.{marker-here}
 use Rattle.redl_index.proofs.story.Story.marker.Goals as goal

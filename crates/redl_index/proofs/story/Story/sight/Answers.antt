@@ -1,8 +1,8 @@
 use Rattle.std.proofs.Common.{◌∙◌, ap, sym, subst, option_map}
-use Rattle.redl_tree.specs.Markers.{own_role}
-use Rattle.redl_tree.specs.Moves.{pairs}
-use Rattle.redl_tree.specs.Seen.{seen_one, tags_of}
-use Rattle.redl_tree.specs.View.{tag_of}
+use Rattle.redl_tree.specs.Revisions.Markers.{own_role}
+use Rattle.redl_tree.specs.Revisions.Moves.{pairs}
+use Rattle.redl_tree.specs.Model.Seen.{seen_one, tags_of}
+use Rattle.redl_tree.specs.Model.View.{tag_of}
 use Rattle.redl_tree.specs.declared.kinds.Kind.{Kind}
 use Rattle.redl_moves.specs.Starts.{start_in}
 use Rattle.redl_index.specs.Contexts.{move_by, IsApartAs, para_end}

@@ -1,7 +1,7 @@
 use Rattle.std.proofs.Common.{◌≡◌, [], length, ap, map, ◌∙◌, arith, refl}
 use Rattle.std.proofs.lemmas.List.{take_at}
-use Rattle.redl_tree.specs.View.{nodes_of}
-use Rattle.redl_tree.specs.Labels.{unlabelled}
+use Rattle.redl_tree.specs.Model.View.{nodes_of}
+use Rattle.redl_tree.specs.Revisions.Labels.{unlabelled}
 use Rattle.redl_opc.specs.Labels.{elements, labelled_in}
 use Rattle.redl_opc.specs.PartView.{part_view}
 use Rattle.redl_opc.proofs.LabelLaws.{kept-labelled, stories_alone, elements_at_most}

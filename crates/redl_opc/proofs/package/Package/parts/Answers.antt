@@ -1,6 +1,6 @@
 use Rattle.std.proofs.Common.{◌≡◌, arith, ap, length, map, ◌∙◌}
 use Rattle.std.proofs.lemmas.List.{length-map}
-use Rattle.redl_tree.specs.View.{nodes_of}
+use Rattle.redl_tree.specs.Model.View.{nodes_of}
 use Rattle.redl_opc.specs.Parts.{places_of}
 use Rattle.redl_opc.specs.Shape.{parts_of}
 use Rattle.redl_opc.specs.PartView.{part_view}

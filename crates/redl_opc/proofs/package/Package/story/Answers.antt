@@ -1,6 +1,6 @@
 use Rattle.std.proofs.Common.{◌≡◌, None, Some, sym, map, subst}
 use Rattle.redl_markup.specs.Reading.{Gives}
-use Rattle.redl_tree.specs.View.{nodes_of}
+use Rattle.redl_tree.specs.Model.View.{nodes_of}
 use Rattle.redl_opc.specs.Elements.{element_of}
 use Rattle.redl_opc.specs.Parts.{story}
 use Rattle.redl_opc.specs.Shape.{package_of, story_of}

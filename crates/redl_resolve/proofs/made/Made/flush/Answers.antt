@@ -1,9 +1,9 @@
 use Rattle.std.proofs.Common.{sym, ap, ◌∙◌}
 use Rattle.redl_paras.specs.Pieces.{pieces_of, is_other}
 use Rattle.redl_tree.proofs.Laws.{⊕-no_nodes, nodes_of-append}
-use Rattle.redl_tree.specs.Groups.{grouped}
-use Rattle.redl_tree.specs.Nodes.{◌⊕◌}
-use Rattle.redl_tree.specs.View.{nodes_of}
+use Rattle.redl_tree.specs.Decisions.Groups.{grouped}
+use Rattle.redl_tree.specs.Model.Nodes.{◌⊕◌}
+use Rattle.redl_tree.specs.Model.View.{nodes_of}
 use Rattle.redl_resolve.proofs.made.Made.flush.Goals as goal
 
 pub returns-then-has_no_chain-clause-passed : goal.returns-then-has_no_chain-clause-passed

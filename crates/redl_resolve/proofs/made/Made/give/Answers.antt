@@ -3,10 +3,10 @@ use Rattle.redl_paras.specs.Pieces.{pieces_of}
 use Rattle.redl_resolve.proofs.ChainLaws.{passed_more, count-push, pieces_count-push}
 use Rattle.redl_resolve.specs.Counts.{pieces_count}
 use Rattle.redl_tree.proofs.Laws.{nodes_of-push, count-in_front}
-use Rattle.redl_tree.specs.Count.{count}
-use Rattle.redl_tree.specs.Groups.{thin, grouped}
-use Rattle.redl_tree.specs.Nodes.{no_nodes, ◌⊕◌}
-use Rattle.redl_tree.specs.View.{nodes_of, item_of}
+use Rattle.redl_tree.specs.Model.Count.{count}
+use Rattle.redl_tree.specs.Decisions.Groups.{thin, grouped}
+use Rattle.redl_tree.specs.Model.Nodes.{no_nodes, ◌⊕◌}
+use Rattle.redl_tree.specs.Model.View.{nodes_of, item_of}
 use Rattle.redl_resolve.proofs.made.Made.give.Goals as goal
 
 pub returns-then-has_no_chain-clause-whole : goal.returns-then-has_no_chain-clause-whole

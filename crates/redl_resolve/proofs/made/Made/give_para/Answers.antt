@@ -3,10 +3,10 @@ use Rattle.redl_paras.specs.Pieces.{pieces_of}
 use Rattle.redl_resolve.proofs.ChainLaws.{passed_para, chain_para, count-⊕, count-push_elem, pieces_of-last, pieces_count-push, grouped-count}
 use Rattle.redl_resolve.specs.Counts.{pieces_count}
 use Rattle.redl_tree.proofs.Laws.{nodes_of-push_elem}
-use Rattle.redl_tree.specs.Count.{count}
-use Rattle.redl_tree.specs.Groups.{para, grouped}
-use Rattle.redl_tree.specs.Nodes.{◌⊕◌}
-use Rattle.redl_tree.specs.View.{nodes_of, tag_of, kids_of}
+use Rattle.redl_tree.specs.Model.Count.{count}
+use Rattle.redl_tree.specs.Decisions.Groups.{para, grouped}
+use Rattle.redl_tree.specs.Model.Nodes.{◌⊕◌}
+use Rattle.redl_tree.specs.Model.View.{nodes_of, tag_of, kids_of}
 use Rattle.redl_resolve.proofs.made.Made.give_para.Goals as goal
 
 pub returns-then-cut-clause-weight : goal.returns-then-cut-clause-weight

@@ -1,6 +1,6 @@
 use Rattle.std.proofs.Common.{◌∙◌, ap, ℕ, List, drop}
-use Rattle.redl_tree.specs.Nodes.{element_item}
-use Rattle.redl_tree.specs.View.{nodes_of}
+use Rattle.redl_tree.specs.Model.Nodes.{element_item}
+use Rattle.redl_tree.specs.Model.View.{nodes_of}
 use Rattle.redl_tree.specs.declared.node.Node.{Node}
 use Rattle.redl_tree.specs.declared.node.Close.TheVariants.{Empty}
 use Rattle.redl_markup.specs.Views.{name_view}

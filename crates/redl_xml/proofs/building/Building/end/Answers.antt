@@ -1,7 +1,7 @@
 use Rattle.std.proofs.Common.{◌≡◌, ◌∙◌, ap, sym, true, List, drop, Some}
 use Rattle.std.specs.Global.{Vec}
-use Rattle.redl_tree.specs.Nodes.{Nodes, ◌⊕◌, element_item}
-use Rattle.redl_tree.specs.View.{nodes_of}
+use Rattle.redl_tree.specs.Model.Nodes.{Nodes, ◌⊕◌, element_item}
+use Rattle.redl_tree.specs.Model.View.{nodes_of}
 use Rattle.redl_tree.specs.declared.node.Node.{Node}
 use Rattle.redl_tree.specs.declared.node.Close.TheVariants.{End}
 use Rattle.redl_markup.specs.Names.{name_eq}

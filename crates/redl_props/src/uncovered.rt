@@ -1,0 +1,72 @@
+//! Elements that no change of properties covers.
+
+ghost use Rattle.std.specs.Prelude.{◌≡◌, IfOk};
+ghost use Rattle.redl_tree.specs.Model.Kids.{only, without, item_is};
+ghost use Rattle.redl_tree.specs.Decisions.Restored.{outlasts as outlasts_tag};
+ghost use Rattle.redl_tree.specs.Model.View.{nodes_of, item_of, tag_of};
+
+use redl_tree::{Elem, Node, Prop, copy_node, is_named};
+use std::alloc::{AllocError, Global};
+
+/// The kids of run properties without the revisions of a paragraph's mark (ECMA-376 Part 1, 17.13.5).
+///
+/// All other kids stay, in their order. It takes no memory.
+pub fn without_marks(kids: Vec<Node>) -> Vec<Node>
+    ensures { nodes_of result.items ≡ without (outlasts_tag Prop.Run) (nodes_of kids.items) }
+{
+    let mut kids = kids;
+    kids.retain(|node| !node_outlasts(node, Prop::Run));
+    kids
+}
+
+/// The present kids that no change of these properties covers.
+pub(crate) fn retained(current: Vec<Node>, what: Prop) -> Vec<Node>
+    ensures { nodes_of result.items ≡ only (outlasts_tag what) (nodes_of current.items) }
+{
+    let mut kids = current;
+    kids.retain(|node| node_outlasts(node, what));
+    kids
+}
+
+/// A copy of the former kids, without those that no change of these properties covers.
+pub(crate) fn copied(alloc: Global, former: &[Node], what: Prop) -> Result<Vec<Node>, AllocError>
+    ensures { IfOk result (λ kids. nodes_of kids.items ≡ without (outlasts_tag what) (nodes_of former.now)) }
+{
+    let mut copied = Vec::with_capacity(alloc, former.len())?;
+    for node in former {
+        if !node_outlasts(node, what) {
+            copied.push(copy_node(alloc, node)?)?;
+        }
+    }
+    Ok(copied)
+}
+
+fn node_outlasts(node: &Node, what: Prop) -> bool
+    ensures { result ≡ item_is (outlasts_tag what) (item_of node.now) }
+{
+    match node {
+        Node::Elem(elem) => outlasts(elem, what),
+        Node::Bytes(_) => false,
+    }
+}
+
+// No change of these properties covers the element, so it stays when one is rejected.
+fn outlasts(elem: &Elem, what: Prop) -> bool
+    ensures { result ≡ outlasts_tag what (tag_of elem.now) }
+{
+    match what {
+        Prop::Run => {
+            is_named(elem, b"ins")
+                || is_named(elem, b"del")
+                || is_named(elem, b"moveFrom")
+                || is_named(elem, b"moveTo")
+        }
+        Prop::Para => is_named(elem, b"rPr") || is_named(elem, b"sectPr"),
+        Prop::Sect => is_named(elem, b"headerReference") || is_named(elem, b"footerReference"),
+        Prop::Table | Prop::Except => false,
+        Prop::Row => is_named(elem, b"ins") || is_named(elem, b"del"),
+        Prop::Cell => {
+            is_named(elem, b"cellIns") || is_named(elem, b"cellDel") || is_named(elem, b"cellMerge")
+        }
+    }
+}

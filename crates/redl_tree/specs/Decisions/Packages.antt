@@ -1,0 +1,86 @@
+-- Where nodes stand in a package, which of its elements are the roots of stories, and the pass of a package.
+-- A package is one XML text in the Flat OPC form: a `package` of parts, whose data is XML or not.
+-- `around` is the list of the tags of a node's ancestors, the nearest first.
+use Rattle.std.specs.Prelude.{ℕ, List, [], ◌∷◌, ◌++◌, Bool, true, false, ◌&&◌, bytes_eq, codes, if◌then◌else◌}
+use Rattle.redl_tree.specs.Model.Nodes.{Tag, Nodes, no_nodes, bytes, element}
+use Rattle.redl_tree.specs.Roles.Names.{is_any}
+use Rattle.redl_tree.specs.Decisions.Pass.{pass}
+use Rattle.redl_tree.specs.Model.View.{Parts}
+use Rattle.redl_tree.specs.declared.kinds.Say.{Say}
+use Rattle.redl_tree.specs.declared.kinds.Kind.{Kind}
+use Rattle.redl_tree.specs.declared.kinds.Kind.TheVariants.{Plain}
+use Rattle.redl_tree.specs.declared.kinds.Space.{Space}
+use Rattle.redl_tree.specs.declared.kinds.Space.TheVariants.{Pkg}
+use Rattle.redl_tree.specs.declared.level.Level.{Level}
+use Rattle.redl_tree.specs.declared.level.Level.TheVariants.{Top, Package, Part, Data, Below}
+
+-- the namespace of packages
+abbrev pub is_pkg : Space → Bool
+is_pkg Pkg = true
+is_pkg _ = false
+
+-- an element of the package's namespace with this local name, given by its bytes
+abbrev pub named_pkg : List ℕ → Tag → Bool
+named_pkg name tag = is_pkg tag.space && bytes_eq tag.local name
+
+-- the level of the kids of an element
+abbrev pub level_below : Level → Tag → Level
+level_below Top tag = if named_pkg (codes "package") tag then Package else Below
+level_below Package tag = if named_pkg (codes "part") tag then Part else Below
+level_below Part tag = if named_pkg (codes "xmlData") tag then Data else Below
+level_below Data tag = Below
+level_below Below tag = Below
+
+-- the level of nodes with these ancestors
+abbrev pub level_of : List Tag → Level
+level_of [] = Top
+level_of (tag ∷ around) = level_below (level_of around) tag
+
+-- in the XML data of a part
+abbrev pub is_data_level : Level → Bool
+is_data_level Data = true
+is_data_level _ = false
+
+-- The roots of stories, the parts whose content is decided (ECMA-376 Part 1, 17.2.3, 17.10.3, 17.10.4, 17.11.15, 17.11.9, 17.13.4.6).
+abbrev pub is_story_root : Tag → Bool
+is_story_root tag = is_any ("document" ∷ "hdr" ∷ "ftr" ∷ "footnotes" ∷ "endnotes" ∷ "comments" ∷ []) tag
+
+-- an element with these ancestors is the root of a story: it is in the data of a part, and has one of the six names
+abbrev pub is_root : List Tag → Tag → Bool
+is_root around tag = is_data_level (level_of around) && is_story_root tag
+
+-- the stories among nodes with these ancestors, in their order, each by its root's tag and kids
+abbrev pub stories_in : List Tag → Nodes → List Parts
+stories_in around no_nodes = []
+stories_in around (bytes b rest) = stories_in around rest
+stories_in around (element tag kids rest) =
+    (if is_root around tag then record { tag = tag; kids = kids } ∷ [] else stories_in (tag ∷ around) kids)
+    ++ stories_in around rest
+
+-- the stories of a package
+abbrev pub stories : Nodes → List Parts
+stories nodes = stories_in [] nodes
+
+-- The pass of a package passes the kids of each story's root, and leaves all else as it is.
+abbrev pub pass_in : List Say → List Tag → Nodes → Nodes
+pass_in says around no_nodes = no_nodes
+pass_in says around (bytes b rest) = bytes b (pass_in says around rest)
+pass_in says around (element tag kids rest) =
+    element tag (if is_root around tag then pass says (tag ∷ []) kids else pass_in says (tag ∷ around) kids)
+    (pass_in says around rest)
+
+-- the pass of a whole package
+abbrev pub pass_package : List Say → Nodes → Nodes
+pass_package says nodes = pass_in says [] nodes
+
+-- the kind of an element without a role
+abbrev pub is_plain : Kind → Bool
+is_plain Plain = true
+is_plain _ = false
+
+-- the roots of the stories among nodes with these ancestors have no role
+abbrev pub roots_are_plain : List Tag → Nodes → Bool
+roots_are_plain around no_nodes = true
+roots_are_plain around (bytes b rest) = roots_are_plain around rest
+roots_are_plain around (element tag kids rest) =
+    (if is_root around tag then is_plain tag.kind else roots_are_plain (tag ∷ around) kids) && roots_are_plain around rest

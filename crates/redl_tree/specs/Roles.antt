@@ -1,0 +1,6 @@
+-- Places in a document, and the role that an element has there.
+pub mod Names
+pub mod Places
+pub mod Arounds
+pub mod Lists
+pub mod Kinds

@@ -1,0 +1,2 @@
+-- The structure rules.
+pub mod Sound
