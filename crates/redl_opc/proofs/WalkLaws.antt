@@ -3,12 +3,11 @@ use Rattle.std.proofs.Common.{◌≡◌, ◌<◌, ◌≤◌, ◌+◌, ℕ, zero,
 use Rattle.std.specs.List.{cons_option}
 use Rattle.redl_tree.specs.Model.Nodes.{Nodes, no_nodes, bytes, element}
 use Rattle.redl_tree.specs.Model.Count.{count}
-use Rattle.redl_tree.specs.Model.View.{Parts}
 use Rattle.redl_tree.specs.Decisions.Packages.{named_pkg, is_story_root, stories}
-use Rattle.redl_opc.specs.Elements.{Element, elements_of, only, only_element}
+use Rattle.redl_opc.specs.Elements.{Element, elements_of, only_element}
 use Rattle.redl_opc.specs.Parts.{story}
 use Rattle.redl_opc.specs.Shape.{root_in, story_root, story_of, package_of, elements_in, parts_of, refusal}
-use Rattle.redl_opc.specs.Stories.{story_view, part_stories, stories_of_part, stories_from}
+use Rattle.redl_opc.specs.Stories.{story_view, stories_of_part, stories_from}
 use Rattle.redl_opc.specs.Tree.{HasUtf8Tails}
 use Rattle.redl_opc.proofs.PartLaws.{count-first, tails-first, only_is, root_is}
 use Rattle.redl_opc.proofs.StoryLaws.{stories-parts}
