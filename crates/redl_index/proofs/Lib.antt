@@ -4,5 +4,6 @@ pub mod IndexLaws
 pub mod ContextLaws
 pub mod LabelLaws
 pub mod RevisionLaws
+pub mod KindNameLaws
 mod Rows
 mod RevisionRows

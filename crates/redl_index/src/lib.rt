@@ -10,10 +10,12 @@ mod context;
 mod find;
 mod found;
 mod index;
+mod kind_names;
 mod revision;
 mod story;
 
 pub use index::Index;
+pub use kind_names::one_kind_for_a_name;
 pub use revision::{RevKind, Revision};
 
 #[cfg(test)]
