@@ -1,6 +1,6 @@
 use Rattle.std.proofs.Common.{sym, ◌∙◌, rules, refl}
 use Rattle.redl_journal.proofs.Parts.{number_not_text, number_not_parsed, number_other, number_same}
-use Rattle.redl_journal.proofs.fields.number.Goals as goal
+use Rattle.redl_journal.proofs.fields.read_number.Goals as goal
 
 pub returns-in_default : goal.returns-in_default
 returns-in_default c = number_not_text c.args.digits.now c.in_default.ensures.cases.0
