@@ -1,8 +1,8 @@
 -- Books and their unions.
-use Rattle.std.proofs.Common.{◌≡◌, ℕ, Bool, true, false, cond, eqb, List, [], ◌∷◌, Equal, refl, sym, ap, ◌∙◌, Contains, arith, map, ◌++◌, append-nil, append_assoc}
+use Rattle.std.proofs.Common.{◌≡◌, ℕ, Bool, true, false, cond, eqb, List, [], ◌∷◌, Equal, refl, sym, ap, ◌∙◌, Contains, arith, filter, map, ◌++◌, append-nil, append_assoc}
 use Rattle.std.proofs.lemmas.List.{map_push}
 use Rattle.std.proofs.lemmas.List.Concat.{flat_map-append}
-use Rattle.std.specs.Prelude.{◌||◌, ◌↔◌}
+use Rattle.std.specs.Prelude.{◌||◌, ◌↔◌, not}
 use Rattle.std.specs.List.{flat_map}
 use Rattle.std.specs.List.Sorted.{IsStrictlySortedBy}
 use Rattle.std.specs.Cmp.{eq_by_cmp_equiv}
@@ -21,6 +21,10 @@ use Rattle.redl_join.proofs.Lists.{insert_present, remove_inserted, filter_inser
 book-union : (book entries : List Entry) → IsBook book → IsBook (union book entries)
 book-union book [] h = h
 book-union book (e ∷ es) h = book-union (with_entry book e) es (sorted_insert entry_order-total book e h)
+
+pub union-append : (book entries others : List Entry) → union book (entries ++ others) ≡ union (union book entries) others
+union-append book [] others = refl
+union-append book (e ∷ es) others = union-append (with_entry book e) es others
 
 or_move : (a b c : Bool) → ((a || b) || c) ≡ (b || (a || c))
 or_move true true c = refl
@@ -112,6 +116,39 @@ kept-back book old mid new e kept lacks h g =
       indexed = rw back at (indexed-without (with_entry book e) mid new e (indexed-with book old mid e kept.ordered kept.indexed h) g);
       allowed = kept.allowed;
     }
+
+or_grows : (a b c : Bool) → (b ≡ true → c ≡ true) → (a || b) ≡ true → (a || c) ≡ true
+or_grows true b c grows h = refl
+or_grows false b c grows h = grows h
+
+or_after : (a b : Bool) → b ≡ true → (a || b) ≡ true
+or_after true b h = refl
+or_after false b h = h
+
+-- an entry that is listed at a revision is in the book
+pub has_entry-listed : (book : List Entry) (rev : ℕ) (e : Entry) → has_entry (filter (is_on rev) book) e ≡ true → has_entry book e ≡ true
+has_entry-listed [] rev e has = has
+has_entry-listed (x ∷ xs) rev e has = by (is_on rev x) has (has_entry-listed xs rev e) where
+  by : (on : Bool) → has_entry (cond on (x ∷ filter (is_on rev) xs) (filter (is_on rev) xs)) e ≡ true
+      → (has_entry (filter (is_on rev) xs) e ≡ true → has_entry xs e ≡ true) → (is_same e x || has_entry xs e) ≡ true
+  by true h rec = or_grows (is_same e x) (has_entry (filter (is_on rev) xs) e) (has_entry xs e) rec h
+  by false h rec = or_after (is_same e x) (has_entry xs e) (rec h)
+
+not_false : (b : Bool) → false ≡ not b → b ≡ true
+not_false true h = refl
+not_false false h = h
+
+-- an entry that was listed before is in the book, so listing it again changes nothing
+pub listed-before : (book : List Entry) (old : BTreeMap ℕ (BTreeSet Entry)) (e : Entry) → IsKept book old → false ≡ not (has_entry (entries_at old e.rev) e) → has_entry book e ≡ true
+listed-before book old e kept listed =
+    has_entry-listed book e.rev e (ap (λ (l : List Entry). has_entry l e) (sym (kept.indexed e.rev)) ∙ not_false (has_entry (entries_at old e.rev) e) listed)
+
+pub kept-again : (book : List Entry) (old new : BTreeMap ℕ (BTreeSet Entry)) (e : Entry) → IsKept book old → IsAllowed e
+    → ((rev : ℕ) → entries_at new rev ≡ cond (eqb rev e.rev) (with_entry (entries_at old rev) e) (entries_at old rev))
+    → has_entry book e ≡ true → IsKept book new
+kept-again book old new e kept allowed h has =
+    let same = kept-present book e kept.ordered has in
+    rw same at (kept-with book old new e kept allowed h)
 
 pub kept-as : (book same : List Entry) (old new : BTreeMap ℕ (BTreeSet Entry)) → IsKept book old → same ≡ book
     → ((rev : ℕ) → entries_at new rev ≡ entries_at old rev) → IsKept same new
