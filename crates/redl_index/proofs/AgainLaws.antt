@@ -7,7 +7,7 @@ use Rattle.redl_tree.specs.Decisions.Packages.{stories}
 use Rattle.redl_tree.specs.Revisions.Labels.{unlabelled_tag, unlabelled}
 use Rattle.redl_tree.specs.Revisions.Markers.{marker_of, move_of, whole_role}
 use Rattle.redl_tree.specs.Revisions.Moves.{Marking, pairs}
-use Rattle.redl_tree.specs.Revisions.Numbers.{labelled_story, next_after_story, next_after}
+use Rattle.redl_tree.specs.Revisions.Numbers.{labelled_story, next_after_story}
 use Rattle.redl_tree.specs.declared.kinds.Kind.{Kind}
 use Rattle.redl_tree.proofs.NumberLaws.{bare_seen, seen-bare, marker_of-bare, markers-bare, move_of-bare, whole_role-bare, unlabelled-story, unlabelled-numbered, story_next-bare, numbered_stories, next_after_stories, next_after-stories, stories-numbered}
 use Rattle.redl_opc.specs.Elements.{Element}
@@ -21,7 +21,6 @@ use Rattle.redl_index.specs.Kinds.{kind_of, is_marker_kind}
 use Rattle.redl_index.specs.Mentions.{tail_of, Sight, sight_by, sight_in, mentions}
 use Rattle.redl_index.specs.Numbers.{package_revisions, numbered_package}
 use Rattle.redl_index.specs.Revisions.{firsts, revision_of, story_revisions, revisions_in, revisions_from, numbered, revisions_of}
-use Rattle.redl_index.specs.declared.revision.Revision.{Revision}
 use Rattle.redl_index.specs.declared.revision.RevKind.TheVariants.{Move}
 
 -- ---- the mentions in a story

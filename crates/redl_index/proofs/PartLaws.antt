@@ -1,5 +1,5 @@
 -- Where revisions stand, and that their numbers count from 1.
-use Rattle.std.proofs.Common.{◌≡◌, ◌∙◌, refl, ap, sym, ℕ, zero, suc, ◌+◌, ◌<◌, List, [], ◌∷◌, ◌++◌, All, map, length, slice_get, get_or, Option, Some, None, IsSome, option_map, option_and_then, arith, subst}
+use Rattle.std.proofs.Common.{◌≡◌, ◌∙◌, refl, ap, sym, ℕ, zero, suc, ◌+◌, List, [], ◌∷◌, ◌++◌, All, map, slice_get, Option, Some, None, IsSome, option_map, option_and_then, arith, subst}
 use Rattle.std.proofs.lemmas.Option.{slice_get_within}
 use Rattle.redl_tree.specs.Model.Nodes.{Nodes}
 use Rattle.redl_opc.specs.Elements.{Element}

@@ -1,5 +1,5 @@
 -- Which rules hold, a node and a story at a time.
-use Rattle.std.proofs.Common.{◌≡◌, refl, ap, ℕ, zero, suc, ◌+◌, ◌<◌, length, take, drop, set, get_or, arith, Bool, true, false, ◌&&◌, not, List, [], ◌∷◌, ◌++◌, map, Option, Some, None, option_map, if◌then◌else◌, sym, ◌∙◌}
+use Rattle.std.proofs.Common.{◌≡◌, refl, ap, ℕ, zero, suc, ◌+◌, ◌<◌, length, take, drop, set, get_or, arith, Bool, true, false, ◌&&◌, not, List, [], ◌∷◌, ◌++◌, map, Option, Some, option_map, if◌then◌else◌, sym, ◌∙◌}
 use Rattle.std.specs.List.{position, position_from}
 use Rattle.std.proofs.lemmas.Iterator.Adapters.{position_from-zero}
 use Rattle.redl_tree.specs.Model.Nodes.{Tag, Nodes, no_nodes, element, Item, bytes_item, element_item, in_front}

@@ -1,13 +1,10 @@
-use Rattle.std.proofs.Common.{◌≡◌, ◌∙◌, ◌+◌, ◌++◌, ◌<◌, ◌≤◌, ap, sym, List, drop, length, Some, None, option_map, option_to_list, arith}
+use Rattle.std.proofs.Common.{◌≡◌, ◌∙◌, ◌+◌, ◌++◌, ◌<◌, ◌≤◌, ap, sym, List, length, Some, None, option_map, option_to_list, arith}
 use Rattle.std.proofs.lemmas.List.{append-nil}
-use Rattle.redl_tree.specs.Model.Count.{count}
-use Rattle.redl_tree.specs.Model.View.{tag_of, kids_of}
-use Rattle.redl_tree.specs.Decisions.Packages.{stories}
-use Rattle.redl_opc.specs.Elements.{Element, element_of}
+use Rattle.redl_opc.specs.Elements.{element_of}
 use Rattle.redl_opc.specs.Parts.{story}
 use Rattle.redl_opc.specs.Shape.{parts_of}
 use Rattle.redl_opc.specs.Stories.{story_view, stories_of_part, stories_from}
-use Rattle.redl_opc.proofs.WalkLaws.{count_from, count_from-start, count_from-part, count_from-story, parts-end, stories_from-start, stories_from-end}
+use Rattle.redl_opc.proofs.WalkLaws.{count_from-start, count_from-part, count_from-story, parts-end, stories_from-start, stories_from-end}
 use Rattle.redl_opc.specs.declared.label.Label.{Label}
 use Rattle.redl_index.specs.Labels.{story_labels, labels_of}
 use Rattle.redl_index.specs.Revisions.{numbered, revisions_in, revisions_from, revisions_of}

@@ -1,8 +1,7 @@
-use Rattle.std.proofs.Common.{◌≡◌, ◌∙◌, ◌+◌, ◌<◌, ◌≤◌, ap, sym, List, [], ◌∷◌, length, Some, None, option_map, option_to_list, true, arith}
+use Rattle.std.proofs.Common.{◌≡◌, ◌∙◌, ◌+◌, ◌<◌, ◌≤◌, ap, sym, [], ◌∷◌, length, option_map, option_to_list, true, arith}
 use Rattle.redl_tree.specs.Rules.Sound.{holds}
 use Rattle.redl_tree.specs.Model.View.{Parts}
 use Rattle.redl_opc.specs.Elements.{element_of}
-use Rattle.redl_opc.specs.Parts.{story}
 use Rattle.redl_opc.specs.Shape.{parts_of}
 use Rattle.redl_opc.specs.Stories.{story_view, stories_of_part, stories_from}
 use Rattle.redl_opc.proofs.WalkLaws.{stories_from-start, stories_from-part, stories_from-end}
@@ -27,17 +26,17 @@ loop-part-preserved c =
     let within : part < length (parts_of pkg) = omega (arith, c.parts-part-end.ensures.value) in
     let split = stories_from-part pkg part within in
     elim c.match-story.branch [
-      in-Some w ↦
-        let here : Parts = story_view (element_of w.in-Some.root.now) in
-        let one : stories_of_part pkg part ≡ here ∷ [] = ap (λ o. option_to_list (option_map story_view o)) w.in-Some.ensures.value in
-        let now : c.match-story.kept ≡ in_both kept (kept_among (stories_of_part pkg part)) =
-        w.kept-is ∙ w.and-kept.ensures ∙ ap (in_both kept) (w.kept_by_story.ensures ∙ sym (kept_among_one here) ∙ ap kept_among (sym one)) in
-        kept-more kept c.match-story.kept (stories_of_part pkg part) later (stories_from part pkg) now split ∙ c.loop-part.invariant
+      | in-Some w ↦
+          let here : Parts = story_view (element_of w.in-Some.root.now) in
+          let one : stories_of_part pkg part ≡ here ∷ [] = ap (λ o. option_to_list (option_map story_view o)) w.in-Some.ensures.value in
+          let now : c.match-story.kept ≡ in_both kept (kept_among (stories_of_part pkg part)) =
+          w.kept-is ∙ w.and-kept.ensures ∙ ap (in_both kept) (w.kept_by_story.ensures ∙ sym (kept_among_one here) ∙ ap kept_among (sym one)) in
+          kept-more kept c.match-story.kept (stories_of_part pkg part) later (stories_from part pkg) now split ∙ c.loop-part.invariant
       | in_default w ↦
-        let none : stories_of_part pkg part ≡ [] = ap (λ o. option_to_list (option_map story_view o)) w.in_default.ensures.value in
-        let now : c.match-story.kept ≡ in_both kept (kept_among (stories_of_part pkg part)) =
-        w.kept-is ∙ sym (in_both-all kept) ∙ ap (λ ss. in_both kept (kept_among ss)) (sym none) in
-        kept-more kept c.match-story.kept (stories_of_part pkg part) later (stories_from part pkg) now split ∙ c.loop-part.invariant
+          let none : stories_of_part pkg part ≡ [] = ap (λ o. option_to_list (option_map story_view o)) w.in_default.ensures.value in
+          let now : c.match-story.kept ≡ in_both kept (kept_among (stories_of_part pkg part)) =
+          w.kept-is ∙ sym (in_both-all kept) ∙ ap (λ ss. in_both kept (kept_among ss)) (sym none) in
+          kept-more kept c.match-story.kept (stories_of_part pkg part) later (stories_from part pkg) now split ∙ c.loop-part.invariant
     ]
 
 pub returns : goal.returns

@@ -1,4 +1,4 @@
-use Rattle.std.proofs.Common.{◌≡◌, [], ◌++◌, refl, sym, ap, subst, List, All, ◌∙◌, append-nil}
+use Rattle.std.proofs.Common.{◌≡◌, [], ◌++◌, refl, sym, subst, List, All, ◌∙◌, append-nil}
 use Rattle.redl_tree.specs.Decisions.Packages.{stories}
 use Rattle.redl_index.specs.Labels.{labels_of}
 use Rattle.redl_index.specs.Numbers.{numbered_package}
