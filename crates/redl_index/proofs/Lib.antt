@@ -5,5 +5,7 @@ pub mod ContextLaws
 pub mod LabelLaws
 pub mod RevisionLaws
 pub mod KindNameLaws
+pub mod PartLaws
+pub mod AgainLaws
 mod Rows
 mod RevisionRows
