@@ -4,5 +4,7 @@ pub mod IndexLaws
 pub mod ContextLaws
 pub mod LabelLaws
 pub mod RevisionLaws
+pub mod PartLaws
+pub mod AgainLaws
 mod Rows
 mod RevisionRows

@@ -10,10 +10,12 @@ mod context;
 mod find;
 mod found;
 mod index;
+mod laws;
 mod revision;
 mod story;
 
 pub use index::Index;
+pub use laws::{each_revision_has_a_part, numbering_keeps_revisions, revisions_are_numbered};
 pub use revision::{RevKind, Revision};
 
 #[cfg(test)]
