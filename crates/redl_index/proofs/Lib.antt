@@ -6,5 +6,6 @@ pub mod LabelLaws
 pub mod RevisionLaws
 pub mod PartLaws
 pub mod AgainLaws
+pub mod KindNameLaws
 mod Rows
 mod RevisionRows

@@ -1,0 +1,4 @@
+pub mod DateLaws
+pub mod JsonLaws
+pub mod NameLaws
+pub mod RowLaws

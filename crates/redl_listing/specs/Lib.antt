@@ -1,0 +1,4 @@
+pub mod Rows
+pub mod Dates
+pub mod Formats
+pub mod Texts

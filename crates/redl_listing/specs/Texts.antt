@@ -1,0 +1,117 @@
+-- The texts of the three formats (our own rule).
+use Rattle.std.specs.Prelude.{ℕ, ◌≡◌, ◌≤◌, ◌+◌, ◌-◌, ◌==◌, ◌||◌, nat_lt, Bool, true, false, List, [], ◌∷◌, ◌++◌, length, map, replicate, decimal, codes, if◌then◌else◌, Option, Some, None, ℤ, Vec, vec_len, vec_capacity}
+use Rattle.std.specs.Global.{Global}
+use Rattle.std.specs.List.{flat_map, join_with_byte}
+use Rattle.serde_json.specs.Data.{Data, null, string, number, unsigned, object, member, no_members}
+use Rattle.serde_json.specs.Written.{compact_text}
+use Rattle.redl_index.specs.KindNames.{kind_name}
+use Rattle.redl_join.specs.declared.verdict.Verdict.{Verdict}
+use Rattle.redl_join.specs.declared.verdict.Verdict.TheVariants.{Undecided, Accept, Reject, Disputed}
+use Rattle.redl_listing.specs.declared.row.Row.{Row}
+use Rattle.redl_listing.specs.Dates.{date_text, moment_text}
+
+-- the name of what was decided
+abbrev pub verdict_name : Verdict → List ℕ
+verdict_name Undecided = codes "open"
+verdict_name Accept = codes "accept"
+verdict_name Reject = codes "reject"
+verdict_name Disputed = codes "disputed"
+
+abbrev pub space : List ℕ
+space = 32 ∷ []
+
+abbrev pub tab : List ℕ
+tab = 9 ∷ []
+
+abbrev pub newline : List ℕ
+newline = 10 ∷ []
+
+-- ---- columns
+
+-- at the right end of so many places, or longer
+abbrev pub right_in : ℕ → List ℕ → List ℕ
+right_in width bytes = replicate (width - length bytes) 32 ++ bytes
+
+-- at the left end of so many places, or longer
+abbrev pub left_in : ℕ → List ℕ → List ℕ
+left_in width bytes = bytes ++ replicate (width - length bytes) 32
+
+-- a control character of ASCII is shown as a question mark
+unfoldable pub shown : ℕ → ℕ
+shown byte = if nat_lt byte 32 || byte == 127 then 63 else byte
+
+-- number, kind, verdict, date and author in columns
+unfoldable pub text_row : Row → List ℕ
+text_row row =
+    right_in 7 (decimal row.number) ++ (space ++ (left_in 12 (kind_name row.kind) ++ (space ++ (left_in 8 (verdict_name row.verdict)
+    ++ (space ++ (left_in 20 (date_text row.seconds) ++ (space ++ (map shown row.author ++ newline))))))))
+
+-- a line for each row; closing adds nothing
+abbrev pub text_listing : List Row → Bool → List ℕ
+text_listing rows closed = flat_map text_row rows
+
+-- ---- fields with tabs between
+
+-- a byte as a field has it: backslashes, tabs and ends of lines have two bytes
+unfoldable pub escape : ℕ → List ℕ
+escape byte =
+    if byte == 92 then codes "\\\\"
+    else if byte == 9 then codes "\\t"
+    else if byte == 10 then codes "\\n"
+    else if byte == 13 then codes "\\r"
+    else byte ∷ []
+
+-- number, kind, verdict and date, with a tab after each
+unfoldable pub decided_fields : Row → List ℕ
+decided_fields row =
+    decimal row.number ++ (tab ++ (kind_name row.kind ++ (tab ++ (verdict_name row.verdict ++ (tab ++ (date_text row.seconds ++ tab))))))
+
+-- these, and members, part and author with tabs between
+unfoldable pub tab_row : Row → List ℕ
+tab_row row =
+    decided_fields row ++ (decimal row.members ++ (tab ++ (flat_map escape row.part ++ (tab ++ (flat_map escape row.author ++ newline)))))
+
+-- a line for each row; closing adds nothing
+abbrev pub tab_listing : List Row → Bool → List ℕ
+tab_listing rows closed = flat_map tab_row rows
+
+-- ---- JSON (RFC 8259)
+
+-- a date, or null
+abbrev pub json_date : Option ℤ → Data
+json_date None = null
+json_date (Some seconds) = string (moment_text seconds)
+
+-- the row as an object, its members in the order of their names
+abbrev pub json_object : Row → Data
+json_object row =
+    object (member (codes "author") (string row.author)
+    (member (codes "date") (json_date row.seconds)
+    (member (codes "kind") (string (kind_name row.kind))
+    (member (codes "members") (number (unsigned row.members))
+    (member (codes "number") (number (unsigned row.number))
+    (member (codes "part") (string row.part)
+    (member (codes "verdict") (string (verdict_name row.verdict)) no_members)))))))
+
+-- its text without white space
+unfoldable pub json_row : Row → List ℕ
+json_row row = compact_text (json_object row)
+
+-- the end of the array
+abbrev pub json_end : Bool → List ℕ
+json_end false = []
+json_end true = codes "]" ++ newline
+
+-- an array of the rows, which closing ends
+abbrev pub json_listing : List Row → Bool → List ℕ
+json_listing rows closed = codes "[" ++ (join_with_byte 44 (map json_row rows) ++ json_end closed)
+
+-- a comma, unless there is no row
+abbrev pub comma_after : List Row → List ℕ
+comma_after [] = []
+comma_after (row ∷ rows) = 44 ∷ []
+
+-- what code keeps of the array: its text, and until it is closed room for its end
+pub record IsJsonDraft (rows : List Row) (closed : Bool) (text : Vec ℕ Global) : Type 0 where
+  pub listing : text.items ≡ json_listing rows closed
+  pub room : closed ≡ false → vec_len text + 2 ≤ vec_capacity text

@@ -1,0 +1,117 @@
+//! The fields of rows as texts.
+
+ghost use Rattle.std.specs.Prelude.{◌≡◌, ◌≤◌, ◌++◌, OnOk, IfOk, length, map, replicate, decimal};
+ghost use Rattle.std.specs.List.{flat_map};
+ghost use Rattle.redl_stamp.specs.Moment.{IsMoment};
+ghost use Rattle.redl_listing.specs.Dates.{date_text};
+ghost use Rattle.redl_listing.specs.Texts.{verdict_name, right_in, left_in, shown, escape};
+ghost use Rattle.std.specs.Prelude.{IfSome};
+
+use crate::dates::moment_text;
+use itoa::Buffer;
+use redl_join::Verdict;
+use std::alloc::AllocError;
+
+/// The name of what was decided.
+pub(crate) fn verdict_name(verdict: Verdict) -> &'static str
+    ensures { result.now ≡ verdict_name verdict }
+{
+    match verdict {
+        Verdict::Undecided => "open",
+        Verdict::Accept => "accept",
+        Verdict::Reject => "reject",
+        Verdict::Disputed => "disputed",
+    }
+}
+
+/// Adds spaces up to so many places where the bytes have fewer, and then the bytes. `Err` means out of memory.
+pub(crate) fn push_right(line: &mut Vec<u8>, bytes: &[u8], width: usize) -> Result<(), AllocError>
+    requires { width ≤ 20 }
+    ensures { OnOk result (line.new.items ≡ line.old.items ++ right_in width bytes.now) }
+{
+    push_spaces(line, width.saturating_sub(bytes.len()))?;
+    line.extend_from_slice(bytes)
+}
+
+/// Adds the bytes, and then spaces up to so many places where the bytes have fewer. `Err` means out of memory.
+pub(crate) fn push_left(line: &mut Vec<u8>, bytes: &[u8], width: usize) -> Result<(), AllocError>
+    requires { width ≤ 20 }
+    ensures { OnOk result (line.new.items ≡ line.old.items ++ left_in width bytes.now) }
+{
+    line.extend_from_slice(bytes)?;
+    push_spaces(line, width.saturating_sub(bytes.len()))
+}
+
+fn push_spaces(line: &mut Vec<u8>, count: usize) -> Result<(), AllocError>
+    requires { count ≤ 20 }
+    ensures { OnOk result (line.new.items ≡ line.old.items ++ replicate count 32) }
+{
+    let length = line.len() + count;
+    line.resize(length, b' ')
+}
+
+/// Adds the decimal digits of the number at the right end of so many places, or more. `Err` means out of memory.
+pub(crate) fn push_number(line: &mut Vec<u8>, number: u32, width: usize) -> Result<(), AllocError>
+    requires { width ≤ 20 }
+    ensures { OnOk result (line.new.items ≡ line.old.items ++ right_in width (decimal number)) }
+{
+    let mut buffer = Buffer::new();
+    push_right(line, buffer.format(number).as_bytes(), width)
+}
+
+/// Adds the date, at the left end of so many places, or more. `Err` means out of memory.
+pub(crate) fn push_date(
+    line: &mut Vec<u8>,
+    seconds: Option<i64>,
+    width: usize,
+) -> Result<(), AllocError>
+    requires width { width ≤ 20 }
+    requires moment { IfSome seconds IsMoment }
+    ensures { OnOk result (line.new.items ≡ line.old.items ++ left_in width (date_text seconds)) }
+{
+    match seconds {
+        Some(seconds) => push_left(line, &moment_text(seconds), width),
+        None => push_left(line, b"-", width),
+    }
+}
+
+/// Adds the bytes, with question marks for control characters of ASCII. `Err` means out of memory.
+#[tactic(auto, unfolding(crate::specs::Texts::shown))]
+pub(crate) fn push_shown(line: &mut Vec<u8>, bytes: &[u8]) -> Result<(), AllocError>
+    ensures { OnOk result (line.new.items ≡ line.old.items ++ map shown bytes.now) }
+{
+    for byte in bytes {
+        line.push(shown(*byte))?;
+    }
+    Ok(())
+}
+
+#[tactic(auto, unfolding(crate::specs::Texts::shown))]
+fn shown(byte: u8) -> u8
+    ensures { result ≡ shown byte }
+{
+    if byte < 32 || byte == 127 { b'?' } else { byte }
+}
+
+/// Adds the bytes, with two bytes for each backslash, tab and end of a line. `Err` means out of memory.
+pub(crate) fn push_escaped(line: &mut Vec<u8>, bytes: &[u8]) -> Result<(), AllocError>
+    ensures { OnOk result (line.new.items ≡ line.old.items ++ flat_map escape bytes.now) }
+{
+    for byte in bytes {
+        push_escape(line, *byte)?;
+    }
+    Ok(())
+}
+
+#[tactic(auto, unfolding(crate::specs::Texts::escape))]
+fn push_escape(line: &mut Vec<u8>, byte: u8) -> Result<(), AllocError>
+    ensures { OnOk result (line.new.items ≡ line.old.items ++ escape byte) }
+{
+    match byte {
+        b'\\' => line.extend_from_slice(b"\\\\"),
+        b'\t' => line.extend_from_slice(b"\\t"),
+        b'\n' => line.extend_from_slice(b"\\n"),
+        b'\r' => line.extend_from_slice(b"\\r"),
+        _ => line.extend_from_slice(&[byte]),
+    }
+}

@@ -1,0 +1,75 @@
+//! Rows.
+
+ghost use Rattle.std.specs.Prelude.{◌≡◌, ◌<◌, IfOk, length, All, OnOk};
+ghost use Rattle.std.specs.Str.{IsUtf8};
+ghost use Rattle.redl_index.specs.Revisions.{IsTold};
+ghost use Rattle.redl_listing.specs.Rows.{IsRow, row_of};
+
+use redl_index::{RevKind, Revision};
+use redl_io::Text;
+use redl_join::Verdict;
+use std::alloc::{AllocError, Global};
+
+/// What a listing says of a revision.
+#[derive(Drop)]
+pub struct Row {
+    /// The revision's number, from 1 on.
+    pub number: u32,
+    /// What the revision is.
+    pub kind: RevKind,
+    /// What the reviewers decided on it.
+    pub verdict: Verdict,
+    /// Who made it.
+    pub author: Text,
+    /// When, in seconds from 1970-01-01T00:00:00Z, if that is known.
+    pub seconds: Option<i64>,
+    /// The name of the part that it is in.
+    pub part: Text,
+    /// How many members it has.
+    pub members: u32,
+}
+
+impl Row {
+    /// The row of a revision on which this was decided, in the part that its number names. `Err` means out of memory.
+    pub(crate) fn of(
+        alloc: Global,
+        revision: &Revision,
+        verdict: Verdict,
+        parts: &[Text],
+    ) -> Result<Row, AllocError>
+        requires part { revision.now.part < length parts.now }
+        requires parts { All IsUtf8 parts.now }
+        requires told { IsTold revision.now }
+        ensures value { IfOk result (λ row. row ≡ row_of parts.now revision.now verdict) }
+        ensures row { IfOk result IsRow }
+    {
+        let author = revision.author.copy(alloc)?;
+        let part = parts[revision.part as usize].copy(alloc)?;
+        Ok(Row {
+            number: revision.number,
+            kind: revision.kind,
+            verdict,
+            author,
+            seconds: revision.seconds,
+            part,
+            members: revision.members,
+        })
+    }
+
+    /// An equal row. `Err` means out of memory.
+    pub fn copy(&self, alloc: Global) -> Result<Row, AllocError>
+        ensures { IfOk result (λ row. row ≡ self.now) }
+    {
+        let author = self.author.copy(alloc)?;
+        let part = self.part.copy(alloc)?;
+        Ok(Row {
+            number: self.number,
+            kind: self.kind,
+            verdict: self.verdict,
+            author,
+            seconds: self.seconds,
+            part,
+            members: self.members,
+        })
+    }
+}

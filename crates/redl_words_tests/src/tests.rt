@@ -1,0 +1,310 @@
+//! Command lines, each as its words with bars between, and what they ask for.
+ghost use Rattle.std.specs.Prelude.{All, IfOk, IsUtf8};
+
+use redl_io::Text;
+use redl_journal::Word;
+use redl_select::Selection;
+use redl_words::{Command, WordsError, read_words};
+use std::alloc::{AllocError, Global};
+use std::str::from_utf8;
+use std::test::Fail;
+
+fn add_word(alloc: Global, words: &mut Vec<Text>, word: &str) -> Result<(), AllocError>
+    requires { All IsUtf8 words.old.items }
+    ensures { All IsUtf8 words.new.items }
+{
+    let word = Text::copy_of(alloc, word.as_bytes())?;
+    words.push(word)?;
+    Ok(())
+}
+
+// The words between the bars.
+fn words_of(alloc: Global, line: &str) -> Result<Vec<Text>, AllocError>
+    ensures { IfOk result (λ words. All IsUtf8 words.items) }
+{
+    let mut words = Vec::new(alloc);
+    for word in line.split('|') {
+        add_word(alloc, &mut words, word)?;
+    }
+    Ok(words)
+}
+
+fn shown(text: &Text) -> &str {
+    from_utf8(text.as_bytes()).unwrap_or("no text")
+}
+
+// The texts, with a comma after each.
+fn all_shown(alloc: Global, texts: &[Text]) -> Result<String, AllocError> {
+    let mut all = String::new(alloc);
+    for text in texts {
+        all.push_str(shown(text))?;
+        all.push(',')?;
+    }
+    Ok(all)
+}
+
+fn selection_shown(alloc: Global, selection: &Selection) -> Result<String, AllocError> {
+    match selection {
+        Selection::All => String::from_str(alloc, "all"),
+        Selection::Numbers(listed) => format!(in alloc; "numbers {listed:?}"),
+        Selection::Author(name) => format!(in alloc; "author {}", shown(name)),
+        Selection::Span(start, end) => format!(in alloc; "span {start} {end}"),
+        Selection::Kind(kind) => format!(in alloc; "kind {kind:?}"),
+    }
+}
+
+// The choices, with a comma after each.
+fn choices_shown(alloc: Global, choices: &[(Word, Selection)]) -> Result<String, AllocError> {
+    let mut all = String::new(alloc);
+    for (word, selection) in choices {
+        let selection = selection_shown(alloc, selection)?;
+        let choice = format!(in alloc; "{word:?} {selection},")?;
+        all.push_str(choice.as_str())?;
+    }
+    Ok(all)
+}
+
+fn decide_shown(
+    alloc: Global,
+    names: (&Text, &Text),
+    texts: (&[Text], &[Text]),
+    choices: &[(Word, Selection)],
+) -> Result<String, AllocError> {
+    let journals = all_shown(alloc, texts.0)?;
+    let locks = all_shown(alloc, texts.1)?;
+    let choices = choices_shown(alloc, choices)?;
+    format!(in alloc;
+        "decide {} by {} journals {journals} locks {locks} choices {choices}",
+        shown(names.0),
+        shown(names.1)
+    )
+}
+
+fn with_texts(
+    alloc: Global,
+    front: &str,
+    locks: &[Text],
+    journals: &[Text],
+) -> Result<String, AllocError> {
+    let locks = all_shown(alloc, locks)?;
+    let journals = all_shown(alloc, journals)?;
+    format!(in alloc; "{front} locks {locks} journals {journals}")
+}
+
+fn list_shown(
+    alloc: Global,
+    names: (&Text, &Text),
+    locks: &[Text],
+    journals: &[Text],
+) -> Result<String, AllocError> {
+    let front = format!(in alloc; "list {} as {}", shown(names.0), shown(names.1))?;
+    with_texts(alloc, front.as_str(), locks, journals)
+}
+
+fn write_shown(
+    alloc: Global,
+    package: &Text,
+    locks: &[Text],
+    journals: &[Text],
+) -> Result<String, AllocError> {
+    let front = format!(in alloc; "write {}", shown(package))?;
+    with_texts(alloc, front.as_str(), locks, journals)
+}
+
+fn join_shown(alloc: Global, journals: &[Text]) -> Result<String, AllocError> {
+    let journals = all_shown(alloc, journals)?;
+    format!(in alloc; "join {journals}")
+}
+
+fn command_shown(alloc: Global, command: &Command) -> Result<String, AllocError> {
+    match command {
+        Command::Settle { accept, package } => {
+            format!(in alloc; "settle {accept} {}", shown(package))
+        }
+        Command::List {
+            package,
+            format,
+            locks,
+            journals,
+        } => list_shown(alloc, (package, format), locks, journals),
+        Command::Write {
+            package,
+            locks,
+            journals,
+        } => write_shown(alloc, package, locks, journals),
+        Command::Decide {
+            package,
+            reviewer,
+            journals,
+            locks,
+            choices,
+        } => decide_shown(alloc, (package, reviewer), (journals, locks), choices),
+        Command::Join { journals } => join_shown(alloc, journals),
+        Command::Check { package } => format!(in alloc; "check {}", shown(package)),
+        Command::Sample { number } => format!(in alloc; "sample {number}"),
+    }
+}
+
+// What the words of a line ask for.
+fn told(alloc: Global, words: &[Text]) -> Result<String, AllocError>
+    requires { All IsUtf8 words.now }
+{
+    match read_words(alloc, words) {
+        Ok(command) => command_shown(alloc, &command),
+        Err(WordsError::Usage) => String::from_str(alloc, "usage"),
+        Err(WordsError::NoMemory) => Err(AllocError),
+    }
+}
+
+fn line_told(alloc: Global, line: &str) -> Result<String, AllocError> {
+    let words = words_of(alloc, line)?;
+    told(alloc, &words)
+}
+
+#[test]
+fn lines_of_each_command(rt: HostRuntime) -> Result<(), Fail> {
+    for (line, want) in [
+        ("settle|accept|P", "settle true P"),
+        ("settle|reject|--|P", "usage"),
+        ("settle|reject|P", "settle false P"),
+        ("list|P", "list P as text locks  journals "),
+        (
+            "list|P|J|--lock|A|--format|tab|K|--lock|A|J",
+            "list P as tab locks A,A, journals J,K,J,",
+        ),
+        ("list|P|--format|", "list P as  locks  journals "),
+        (
+            "list|P|--format|--lock|--lock|--format",
+            "list P as --lock locks --format, journals ",
+        ),
+        ("write|P", "write P locks  journals "),
+        (
+            "write|P|J|--lock|Cy & Co|K|--lock||J",
+            "write P locks Cy & Co,, journals J,K,J,",
+        ),
+        (
+            "decide|P|Dee|--accept|all",
+            "decide P by Dee journals  locks  choices Accept all,",
+        ),
+        (
+            "decide|P|-x|--journal|J|--lock|A|--reject|numbers:2,0,2|--withdraw|author:|--journal|K|--accept|kind:row-ins",
+            "decide P by -x journals J,K, locks A, choices Reject numbers [2, 0, 2],Withdraw author ,Accept kind Row(Ins),",
+        ),
+        (
+            "decide|P|Dee|--accept|span:2024-05-06T07:08:09Z/2024-05-06T09:08:10+02:00",
+            "decide P by Dee journals  locks  choices Accept span 1714979289 1714979290,",
+        ),
+        (
+            "decide|P|Dee|--accept|author:a/b:c|--accept|numbers:4294967295",
+            "decide P by Dee journals  locks  choices Accept author a/b:c,Accept numbers [4294967295],",
+        ),
+        ("join|J", "join J,"),
+        ("join|K|J|K", "join K,J,K,"),
+        ("check|P", "check P"),
+        ("sample|0", "sample 0"),
+        ("sample|4294967295", "sample 4294967295"),
+    ] {
+        let got = line_told(rt.alloc(), line)?;
+        assert!(rt; (got.as_str() == want), "{line}: {got}");
+    }
+    Ok(())
+}
+
+#[test]
+fn lines_of_no_command(rt: HostRuntime) -> Result<(), Fail> {
+    for line in [
+        "",
+        "P",
+        "--help",
+        "Settle|accept|P",
+        "settle|accept",
+        "settle|keep|P",
+        "settle|accept|P|Q",
+        "settle|accept|-P",
+        "settle|accept|",
+        "list",
+        "list|-P",
+        "list|P|--format",
+        "list|P|--format|tab|--format|tab",
+        "list|P|--format=tab",
+        "list|P|--accept|all",
+        "list|P|--journal|J",
+        "list|P|-J",
+        "list|P|",
+        "list|--format|tab|P",
+        "list|P|--|J",
+        "write|--lock|A|P",
+        "write|P|--lock",
+        "write|P|--lock=A|J",
+        "write|P|--format|tab",
+        "decide|P|Dee",
+        "decide|P|Dee|--lock|A",
+        "decide|P|Dee|J|--accept|all",
+        "decide|P||--accept|all",
+        "decide|P|D\u{7f}|--accept|all",
+        "decide|P|--accept|all",
+        "decide|P|Dee|--accept",
+        "decide|P|Dee|--accept|all|--journal|-J",
+        "decide|P|Dee|--accept|all|--format|tab",
+        "join",
+        "join|",
+        "join|-J",
+        "join|J|--lock|A",
+        "check",
+        "check|P|J",
+        "check|--",
+        "sample",
+        "sample|",
+        "sample|01",
+        "sample|-1",
+        "sample|+1",
+        "sample|4294967296",
+        "sample|8|8",
+    ] {
+        let got = line_told(rt.alloc(), line)?;
+        assert!(rt; (got.as_str() == "usage"), "{line}: {got}");
+    }
+    Ok(())
+}
+
+#[test]
+fn no_selections(rt: HostRuntime) -> Result<(), Fail> {
+    for text in [
+        "",
+        "All",
+        "all:",
+        "1",
+        "numbers",
+        "numbers:",
+        "numbers:1,",
+        "numbers:1,,2",
+        "numbers:1, 2",
+        "numbers:01",
+        "numbers:+1",
+        "numbers:4294967296",
+        "author",
+        "kind:",
+        "kind:Ins",
+        "kind:row-from",
+        "kind:ins ",
+        "span:",
+        "span:2024-05-06T07:08:09Z",
+        "span:2024-05-06/2024-05-07T00:00:00Z",
+        "span:2024-05-06T07:08:09Z/2024-05-06T07:08:10Z/",
+        "span:2024-02-30T00:00:00Z/2024-05-06T07:08:10Z",
+        "span: 2024-05-06T07:08:09Z/2024-05-06T07:08:10Z",
+        "age:1",
+    ] {
+        let line = format!(in rt.alloc(); "decide|P|Dee|--accept|{text}")?;
+        let got = line_told(rt.alloc(), line.as_str())?;
+        assert!(rt; (got.as_str() == "usage"), "{text}: {got}");
+    }
+    Ok(())
+}
+
+#[test]
+fn no_words(rt: HostRuntime) -> Result<(), Fail> {
+    let got = told(rt.alloc(), &[])?;
+    assert!(rt; (got.as_str() == "usage"), "{got}");
+    Ok(())
+}
