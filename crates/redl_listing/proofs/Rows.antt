@@ -1,14 +1,13 @@
 -- Rows by hand, with their texts.
-use Rattle.std.proofs.Common.{◌≡◌, ℕ, Bool, true, false, List, [], ◌∷◌, ◌++◌, Some, None, ℤ, pos, codes, refl}
-use Prim.Native.String.{String}
+use Rattle.std.proofs.Common.{◌≡◌, true, false, [], ◌∷◌, ◌++◌, Some, None, pos, codes, refl}
 use Rattle.std.specs.Fmt.{digits}
-use Rattle.redl_tree.specs.declared.kinds.Trace.TheVariants.{Ins, Del, From}
-use Rattle.redl_index.specs.declared.revision.RevKind.TheVariants.{Content, Move, Row as RowOf}
+use Rattle.redl_tree.specs.declared.kinds.Trace.TheVariants.{Ins}
+use Rattle.redl_index.specs.declared.revision.RevKind.TheVariants.{Content, Move}
 use Rattle.redl_stamp.specs.Moment.{first_moment, last_moment}
 use Rattle.redl_join.specs.declared.verdict.Verdict.TheVariants.{Undecided, Disputed}
 use Rattle.redl_listing.specs.declared.row.Row.{Row}
-use Rattle.redl_listing.specs.Dates.{year_and_day, month_and_day, date_text, moment_text}
-use Rattle.redl_listing.specs.Texts.{tab, newline, shown, escape, text_row, decided_fields, tab_row, json_row, text_listing, tab_listing, json_listing}
+use Rattle.redl_listing.specs.Dates.{year_and_day, month_and_day, date_text}
+use Rattle.redl_listing.specs.Texts.{tab, newline, shown, escape, text_row, decided_fields, tab_row, text_listing, tab_listing, json_listing}
 
 -- an insertion of Ann's
 insertion : Row
