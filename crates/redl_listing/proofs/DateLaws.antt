@@ -1,5 +1,5 @@
 -- The text of a day is that of its year, month and day.
-use Rattle.std.proofs.Common.{◌≡◌, ℕ, zero, suc, ◌+◌, ◌-◌, ◌<◌, ◌≤◌, ◌⊎◌, inl, inr, true, false, nat_lt, List, refl, sym, ap, ◌∙◌, arith, ℤ, pos, negsuc, ◌/◌, ◌%◌, [], ◌∷◌, ◌++◌, ◌+ℤ◌, ◌-ℤ◌, ◌≤ℤ◌, ◌<ℤ◌, unsigned_abs}
+use Rattle.std.proofs.Common.{◌≡◌, ℕ, zero, suc, ◌+◌, ◌-◌, ◌<◌, ◌≤◌, inl, inr, List, refl, ap, ◌∙◌, arith, ℤ, pos, negsuc, ◌/◌, ◌%◌, [], ◌∷◌, ◌++◌, ◌+ℤ◌, ◌-ℤ◌, ◌≤ℤ◌, unsigned_abs}
 use Rattle.std.specs.Str.{IsAscii, IsUtf8}
 use Rattle.std.proofs.lemmas.Str.{IsAscii-append, IsUtf8-from_ascii}
 use Rattle.std.proofs.lemmas.Str.Ascii.{IsAscii-nil, IsAscii-cons}
@@ -10,7 +10,6 @@ use Rattle.jiff_core.specs.Date.{epoch_day}
 use Rattle.jiff_core.proofs.SignedLemmas.{signed_arith}
 use Rattle.jiff_core.proofs.MarchLemmas.{day_count-early}
 use Rattle.jiff_core.proofs.CalendarLemmas.{days_from_civil-day_count, days_of_months-zero, days_of_months_more, days_of_months_mono, day_of_year_bound, day_count-day_of_year, day_count-next_year, day_count-later_year, day_count-lt_year}
-use Rattle.jiff_core.proofs.DateLemmas.{civil}
 use Rattle.redl_stamp.specs.Moment.{first_moment}
 use Rattle.redl_listing.specs.Dates.{year_and_day, month_and_day, two_digits, day_text, ymd_text, year_text, month_text, time_text, since_text, moment_text}
 

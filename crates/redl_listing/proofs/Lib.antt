@@ -2,3 +2,4 @@ pub mod DateLaws
 pub mod JsonLaws
 pub mod NameLaws
 pub mod RowLaws
+mod Rows

@@ -1,5 +1,5 @@
 -- Finding formats by their names.
-use Rattle.std.proofs.Common.{◌≡◌, ℕ, suc, [], ◌+◌, ◌<◌, Bool, true, false, cond, arith, List, ◌∷◌, ◌++◌, length, All, get_or, take, drop, refl, sym, subst, ◌∙◌, add-one, append_assoc, Some, None, ap}
+use Rattle.std.proofs.Common.{◌≡◌, ℕ, suc, [], ◌+◌, ◌<◌, Bool, true, false, cond, arith, List, ◌∷◌, ◌++◌, length, All, get_or, take, drop, refl, sym, subst, add-one, append_assoc, Some, None, ap}
 use Rattle.std.proofs.Math.Seq.{take-suc, drop-cons}
 use Rattle.std.specs.Str.{bytes_eq}
 use Rattle.redl_listing.specs.Formats.{first_named, without_named}

@@ -1,5 +1,5 @@
 -- Rows one after another.
-use Rattle.std.proofs.Common.{◌≡◌, ◌≤◌, ℕ, List, [], ◌++◌, length, drop, sym, ◌∙◌}
+use Rattle.std.proofs.Common.{◌≡◌, ◌≤◌, ℕ, List, ◌++◌, length, drop, sym, ◌∙◌}
 use Rattle.std.proofs.lemmas.List.{drop_all, append-nil}
 use Rattle.redl_index.specs.declared.revision.Revision.{Revision}
 use Rattle.redl_join.specs.declared.verdict.Verdict.{Verdict}

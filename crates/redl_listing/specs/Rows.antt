@@ -1,5 +1,5 @@
 -- The rows of a listing: what it says of each revision (our own rule).
-use Rattle.std.specs.Prelude.{Bool, ℕ, List, [], map, IsTrue, IfSome, unwrap_or, slice_get, codes}
+use Rattle.std.specs.Prelude.{Bool, ℕ, List, [], map, IsTrue, IfSome, unwrap_or, slice_get}
 use Rattle.std.specs.List.{zip}
 use Rattle.std.specs.Str.{IsUtf8}
 use Rattle.redl_stamp.specs.Moment.{IsMoment}

@@ -1,5 +1,5 @@
 -- The calendar has the day, since it is at most 9999-12-31.
-use Rattle.std.proofs.Common.{arith, ◌≡◌, ◌+◌, ◌<◌, ◌^◌, pos, ◌+ℤ◌, ◌∙◌, ℤ, w64}
+use Rattle.std.proofs.Common.{arith, ◌≡◌, pos, ◌+ℤ◌, ◌∙◌, w64}
 use Rattle.std.specs.Int.{cast_signed}
 use Rattle.std.proofs.lemmas.Int.{to_z_pos}
 use Rattle.jiff_core.specs.Calendar.{IsEpochDay}

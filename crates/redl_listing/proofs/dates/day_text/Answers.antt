@@ -1,10 +1,9 @@
 -- The year is 0 to 9999, the month at most 12 and the day at most 31.
-use Rattle.std.proofs.Common.{arith, ◌≡◌, ◌+◌, ◌∙◌, ◌<◌, ◌^◌, ℕ, ℤ, pos, unsigned_abs, ap, sym, subst, w8, w16}
+use Rattle.std.proofs.Common.{arith, ◌≡◌, ◌+◌, ◌∙◌, ℤ, pos, unsigned_abs, ap, sym, subst, w8, w16}
 use Rattle.jiff_core.specs.Calendar.{IsCivilDate, day_count}
 use Rattle.jiff_core.proofs.CalendarLemmas.{days_in_month_bounds}
 use Rattle.jiff_core.proofs.DateLemmas.{civil}
 use Rattle.jiff_core.proofs.SignedLemmas.{signed_arith, back_small}
-use Rattle.redl_listing.specs.Dates.{ymd_text}
 use Rattle.redl_listing.proofs.DateLaws.{day_text-is, natural_is, ymd_text-same}
 use Rattle.redl_listing.proofs.dates.day_text.Goals as goal
 

@@ -1,0 +1,9 @@
+//! Tests of `redl_listing`, in a crate of their own so that `redl_listing` isn't proved a second time for them.
+#![tactic(auto)]
+
+#[cfg(test)]
+mod count_format;
+#[cfg(test)]
+mod packages;
+#[cfg(test)]
+mod tests;
