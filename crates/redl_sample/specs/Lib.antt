@@ -1,0 +1,4 @@
+pub mod Blocks
+pub mod Packages
+pub mod Journals
+pub mod Summaries
