@@ -109,7 +109,7 @@ def words(who, sequence, word, *numbers):
 
 
 # What three reviewers say of the contract. They dispute the time of payment, 32 and 33. Bob comes round to the new price of
-# cable, 12, with a later sequence number, and takes back what he said of the inserted mark 30.
+# cable, 12, with a later sequence number, and takes back their word on the inserted mark 30.
 CONTRACT_SAYS = {
     "ann": words("Ann Gray", 1, "accept", 2, 3, 4, 5, 6, 11, 12, *range(20, 29), 29, 31, 32, 33, 42, 43, 47, 48, 49),
     "bob": words("Bob Hay", 1, "accept", 2, 3, 6, 11, *range(13, 20), 27, 29, 30, 47)
