@@ -40,7 +40,13 @@ fn a_fault_of_the_package_has_its_line(rt: HostRuntime) -> Result<(), Fail> {
         (PackageFault::NoDocument, "redline: package: no document\n"),
         (PackageFault::Rule(9), "redline: package: rule 9\n"),
     ] {
-        expect_end(&rt, alloc, &End::Failed(Failure::Cause(Cause::Package(fault))), 3, line)?;
+        expect_end(
+            &rt,
+            alloc,
+            &End::Failed(Failure::Cause(Cause::Package(fault))),
+            3,
+            line,
+        )?;
     }
     Ok(())
 }
@@ -61,7 +67,13 @@ fn a_limit_has_its_line(rt: HostRuntime) -> Result<(), Fail> {
         (Limit::Nodes, "redline: limit nodes 2097152\n"),
         (Limit::Sample, "redline: limit sample 20000\n"),
     ] {
-        expect_end(&rt, alloc, &End::Failed(Failure::Cause(Cause::Limit(limit))), 7, line)?;
+        expect_end(
+            &rt,
+            alloc,
+            &End::Failed(Failure::Cause(Cause::Limit(limit))),
+            7,
+            line,
+        )?;
     }
     Ok(())
 }
