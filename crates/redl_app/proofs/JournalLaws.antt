@@ -1,14 +1,12 @@
 -- What a reader reads, by what the code read, and the entries of journals.
-use Rattle.std.proofs.Common.{◌≡◌, ◌≢◌, inl, inr, take, length-take, ◌<◌, ◌≤◌, ◌+◌, ◌-◌, ℕ, zero, suc, List, ◌∷◌, length, filter, Bool, true, false, not, ◌==◌, nat_lt, Option, None, Some, Result, Ok, Err, refl, sym, ap, ◌∙◌, arith, if◌then◌else◌}
-use Rattle.std.proofs.lemmas.List.{take_all}
-use Rattle.std.proofs.lemmas.Bool.{cases_lt, lt-ltb, le-ltb, false_from_ne_true, eqb-true, eq-eqb}
+use Rattle.std.proofs.Common.{◌≡◌, ◌≢◌, ◌<◌, ◌+◌, ◌-◌, ℕ, zero, suc, List, ◌∷◌, Bool, true, false, not, ◌==◌, Option, None, Some, Ok, Err, refl, sym, ap, ◌∙◌, arith}
+use Rattle.std.proofs.lemmas.Bool.{false_from_ne_true, eqb-true, eq-eqb}
 use Rattle.std.specs.List.{range_with_len}
 use Rattle.std.specs.Str.{bytes_eq}
-use Rattle.redl_app.specs.Outcome.{Reader, IsReader, IsJournalOf, Subject, entries_of, entries_in}
-use Rattle.redl_lines.specs.Refusals.{other_document, other_count, over}
-use Rattle.redl_lines.specs.declared.refusal.Limit.TheVariants.{JournalBytes}
-use Rattle.redl_join.specs.Books.{union, with_entry}
-use Rattle.redl_journal.specs.declared.entry.Entry.{Entry}
+use Rattle.redl_app.proofs.FetchLaws.{if_true, if_false}
+use Rattle.redl_app.specs.Journals.{DocumentId, entries_of}
+use Rattle.redl_app.specs.Readers.{Reader, IsReader, IsJournalOf}
+use Rattle.redl_lines.specs.Failures.{caused, other_document, other_count}
 use Rattle.redl_journal.specs.Journals.{Journal, IsJournal, HasNoJournal}
 use Rattle.redl_journal.proofs.Lines.{one_reading}
 
@@ -30,37 +28,21 @@ reads_no_journal reader text is none = no_journal_by text (reader.journal text) 
 
 -- ---- the entries of one journal
 
-pub if_true : {X : Type 0} (test : Bool) (x y : X) → test ≡ true → (if test then x else y) ≡ x
-if_true test x y is = rw is refl
+pub entries_other_document : (document : DocumentId) (name : List ℕ) (journal : Journal) → not (bytes_eq journal.digest document.digest) ≡ true
+    → entries_of document name (Some journal) ≡ Err (caused (other_document name journal.digest document.digest))
+entries_other_document document name journal differs = if_true (not (bytes_eq journal.digest document.digest)) _ _ differs
 
-pub if_false : {X : Type 0} (test : Bool) (x y : X) → test ≡ false → (if test then x else y) ≡ y
-if_false test x y is = rw is refl
+pub entries_other_count : (document : DocumentId) (name : List ℕ) (journal : Journal) → not (bytes_eq journal.digest document.digest) ≡ false
+    → journal.count ≢ document.count → entries_of document name (Some journal) ≡ Err (caused (other_count name journal.count document.count))
+entries_other_count document name journal same differs =
+    if_false (not (bytes_eq journal.digest document.digest)) _ _ same
+    ∙ if_true (not (journal.count == document.count)) _ _ (ap not (false_from_ne_true (journal.count == document.count) (λ e. differs (eqb-true journal.count document.count e))))
 
-pub entries_too_many : (reader : Reader) (subject : Subject) (left : ℕ) (name text : List ℕ) → left < length text
-    → entries_in reader subject left name text ≡ Err (over JournalBytes)
-entries_too_many reader subject left name text more =
-    if_true (nat_lt left (length text)) _ _ (lt-ltb left (length text) more)
-
-pub entries_within : (reader : Reader) (subject : Subject) (left : ℕ) (name text : List ℕ) (read : Option Journal)
-    → length text ≤ left → reader.journal text ≡ read → entries_in reader subject left name text ≡ entries_of subject name read
-entries_within reader subject left name text read within is =
-    if_false (nat_lt left (length text)) _ _ (le-ltb left (length text) within) ∙ ap (entries_of subject name) is
-
-pub entries_other_document : (subject : Subject) (name : List ℕ) (journal : Journal) → not (bytes_eq journal.digest subject.digest) ≡ true
-    → entries_of subject name (Some journal) ≡ Err (other_document name journal.digest subject.digest)
-entries_other_document subject name journal differs = if_true (not (bytes_eq journal.digest subject.digest)) _ _ differs
-
-pub entries_other_count : (subject : Subject) (name : List ℕ) (journal : Journal) → not (bytes_eq journal.digest subject.digest) ≡ false
-    → journal.count ≢ subject.count → entries_of subject name (Some journal) ≡ Err (other_count name journal.count subject.count)
-entries_other_count subject name journal same differs =
-    if_false (not (bytes_eq journal.digest subject.digest)) _ _ same
-    ∙ if_true (not (journal.count == subject.count)) _ _ (ap not (false_from_ne_true (journal.count == subject.count) (λ e. differs (eqb-true journal.count subject.count e))))
-
-pub entries_of_subject : (subject : Subject) (name : List ℕ) (journal : Journal) → not (bytes_eq journal.digest subject.digest) ≡ false
-    → journal.count ≡ subject.count → entries_of subject name (Some journal) ≡ Ok journal.entries
-entries_of_subject subject name journal same one =
-    if_false (not (bytes_eq journal.digest subject.digest)) _ _ same
-    ∙ if_false (not (journal.count == subject.count)) _ _ (ap not (ap (λ n. n == subject.count) one ∙ eq-eqb subject.count subject.count refl))
+pub entries_of_it : (document : DocumentId) (name : List ℕ) (journal : Journal) → not (bytes_eq journal.digest document.digest) ≡ false
+    → journal.count ≡ document.count → entries_of document name (Some journal) ≡ Ok journal.entries
+entries_of_it document name journal same one =
+    if_false (not (bytes_eq journal.digest document.digest)) _ _ same
+    ∙ if_false (not (journal.count == document.count)) _ _ (ap not (ap (λ n. n == document.count) one ∙ eq-eqb document.count document.count refl))
 
 -- ---- numbers in a row
 
@@ -70,33 +52,3 @@ range-more a (suc n) some = rw sub_one_suc refl
   where
     sub_one_suc : suc n - 1 ≡ n
     sub_one_suc = omega arith
-
--- ---- books
-
--- the next entry is one that passes, or is not
-pub union-keeps : (test : Entry → Bool) (book : List Entry) (entry : Entry) (rest : List Entry) → test entry ≡ true
-    → union book (filter test (entry ∷ rest)) ≡ union (with_entry book entry) (filter test rest)
-union-keeps test book entry rest is = ap (union book) (if_true (test entry) _ _ is)
-
-pub union-skips : (test : Entry → Bool) (book : List Entry) (entry : Entry) (rest : List Entry) → test entry ≡ false
-    → union book (filter test (entry ∷ rest)) ≡ union book (filter test rest)
-union-skips test book entry rest is = ap (union book) (if_false (test entry) _ _ is)
-
--- ---- errors
-
--- the error of a result, whatever its other type
-pub same_err : {T E : Type 0} {e f : E} → let made : Result T E = Err e in made ≡ Err f → e ≡ f
-same_err is = cc
-
--- ---- texts that were cut at one byte more than a limit
-
--- such a text has the same entries, or too many bytes
-pub same_entries : (reader : Reader) (subject : Subject) (left : ℕ) (name bytes whole : List ℕ) → bytes ≡ take (left + 1) whole
-    → entries_in reader subject left name bytes ≡ entries_in reader subject left name whole
-same_entries reader subject left name bytes whole cut =
-    elim (cases_lt left (length whole)) [
-      | inl longer ↦
-          entries_too_many reader subject left name bytes (omega (arith, longer, ap length cut, length-take (left + 1) whole))
-          ∙ sym (entries_too_many reader subject left name whole longer)
-      | inr within ↦ ap (entries_in reader subject left name) (cut ∙ take_all (left + 1) whole (omega (arith, within)))
-    ]

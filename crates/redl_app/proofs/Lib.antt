@@ -1,8 +1,10 @@
-mod ReaderLaws
-pub mod GatherLaws
-pub mod JournalLaws
-mod LeftLaws
-pub mod NameLaws
-pub mod PackageLaws
+pub mod FetchLaws
 pub mod ReadLaws
+pub mod NameLaws
+pub mod JournalLaws
+pub mod GatherLaws
+pub mod AdmissionLaws
+pub mod PackageLaws
 pub mod TopLaws
+mod LeftLaws
+mod ReaderLaws

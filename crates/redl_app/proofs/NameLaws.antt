@@ -5,12 +5,6 @@ pub only_one : (x y : List ℕ) → Contains (x ∷ []) y → x ≡ y
 only_one x y (zero, within, is) = is
 only_one x y (suc k, within, is) = absurd (omega (arith, within))
 
-pub among_more : (x y : List ℕ) (xs : List (List ℕ)) → Contains xs y → Contains (x ∷ xs) y
-among_more x y xs (k, within, is) = (suc k, omega (arith, within), is)
-
-pub the_first : (x : List ℕ) (xs : List (List ℕ)) → Contains (x ∷ xs) x
-the_first x xs = (zero, omega arith, refl)
-
 pub is_ok_unless : {T E : Type 0} (Good : T → Type 0) (Bad : E → Type 0) (Held : Type 0) (r : Result T E)
     → MatchResult r Good (λ e. ¬ Held × Bad e) → Held → IsOk r
 is_ok_unless Good Bad Held (Ok x) h held = refl

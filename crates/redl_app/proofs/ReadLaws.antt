@@ -1,63 +1,95 @@
--- Steps that take files from the shelf, one after another.
-use Rattle.std.proofs.lemmas.List.{take_all}
-use Rattle.std.proofs.Common.{◌≡◌, ◌≤◌, ◌+◌, arith, length, take, length-take, inl, inr, ℕ, List, Option, None, Some, IfSome, Result, Ok, Err, Contains, sym, ap, ◌∙◌, subst}
-use Rattle.redl_app.specs.Outcome.{Reader, IsReader, ◌>>=◌}
-use Rattle.redl_app.specs.Reading.{IsMade, IsUnread, UnlessUnread, NeverUnread, ReadsFiles, front_of}
-use Rattle.redl_lines.specs.Refusals.{Refusal, unbuilt, no_package, unread, malformed, other_document, other_count, over, no_memory}
+-- Steps of a call, one after another.
+use Rattle.std.proofs.Common.{◌≡◌, ℕ, List, Option, None, Some, IfSome, Result, Ok, Err, Contains, inl, inr, refl, sym, ap, ◌∙◌, subst}
+use Rattle.redl_app.proofs.FetchLaws.{front_failed}
+use Rattle.redl_app.specs.Readers.{Reader, IsReader}
+use Rattle.redl_app.specs.Reading.{IsMade, IsUnread, UnlessUnread, NeverUnread, ReadsFiles, Reads, front_of}
+use Rattle.redl_app.specs.Steps.{◌>>=◌}
 use Rattle.redl_io.specs.Faults.{Rose}
 use Rattle.redl_io.specs.Shelf.{Files}
+use Rattle.redl_lines.specs.Failures.{Failure, caused, unread, no_memory}
 
 -- ---- one step
 
-made_bind : {X Y : Type 0} (x : X) (made : Result Y Refusal) (due : Result X Refusal) (next : X → Result Y Refusal) (failed : Type 0)
+pub made_bind : {X Y : Type 0} (x : X) (made : Result Y Failure) (due : Result X Failure) (next : X → Result Y Failure) (failed : Type 0)
     → due ≡ Ok x → IsMade made (next x) failed → IsMade made (due >>= next) failed
 made_bind x made due next failed is h = subst (λ d. IsMade made (d >>= next) failed) (sym is) h
 
-pub refused_bind : {X Y : Type 0} (refusal : Refusal) (due : Result X Refusal) (next : X → Result Y Refusal) (failed : Type 0)
-    → IsMade {Y = X} (Err refusal) due failed → IsMade {Y = Y} (Err refusal) (due >>= next) failed
-refused_bind no_memory due next failed h = tt
-refused_bind (unread name) due next failed (inl h) = inl h
-refused_bind (unread name) due next failed (inr h) = inr (ap (λ d. d >>= next) h)
-refused_bind unbuilt due next failed h = ap (λ d. d >>= next) h
-refused_bind (malformed name) due next failed h = ap (λ d. d >>= next) h
-refused_bind (other_document name found expected) due next failed h = ap (λ d. d >>= next) h
-refused_bind (other_count name found expected) due next failed h = ap (λ d. d >>= next) h
-refused_bind (over limit) due next failed h = ap (λ d. d >>= next) h
-refused_bind (no_package fault) due next failed h = ap (λ d. d >>= next) h
+pub failed_bind : {X Y : Type 0} (failure : Failure) (due : Result X Failure) (next : X → Result Y Failure) (failed : Type 0)
+    → IsMade {Y = X} (Err failure) due failed → IsMade {Y = Y} (Err failure) (due >>= next) failed
+failed_bind no_memory due next failed h = tt
+failed_bind (unread name) due next failed (inl h) = inl h
+failed_bind (unread name) due next failed (inr h) = inr (ap (λ d. d >>= next) h)
+failed_bind (caused cause) due next failed h = ap (λ d. d >>= next) h
 
-unread_in : {Y : Type 0} (made : Result Y Refusal) (names more : List (List ℕ)) (told : Option Files) (failed : Type 0)
+unread_in : {Y : Type 0} (made : Result Y Failure) (names more : List (List ℕ)) (told : Option Files) (failed : Type 0)
     → ((name : List ℕ) → Contains names name → Contains more name) → IsUnread made names told failed → IsUnread made more told failed
 unread_in (Ok y) names more told failed among h = tt
-unread_in (Err (unread name)) names more told failed among (one, cause) = (among name one, cause)
 unread_in (Err no_memory) names more told failed among h = tt
-unread_in (Err unbuilt) names more told failed among h = tt
-unread_in (Err (malformed name)) names more told failed among h = tt
-unread_in (Err (other_document name found expected)) names more told failed among h = tt
-unread_in (Err (other_count name found expected)) names more told failed among h = tt
-unread_in (Err (over limit)) names more told failed among h = tt
-unread_in (Err (no_package fault)) names more told failed among h = tt
+unread_in (Err (unread name)) names more told failed among (one, cause) = (among name one, cause)
+unread_in (Err (caused cause)) names more told failed among h = tt
 
-unread_as : (X Y : Type 0) (refusal : Refusal) (names : List (List ℕ)) (told : Option Files) (failed : Type 0)
-    → IsUnread {Y = X} (Err refusal) names told failed → IsUnread {Y = Y} (Err refusal) names told failed
+unread_as : (X Y : Type 0) (failure : Failure) (names : List (List ℕ)) (told : Option Files) (failed : Type 0)
+    → IsUnread {Y = X} (Err failure) names told failed → IsUnread {Y = Y} (Err failure) names told failed
 unread_as X Y no_memory names told failed h = tt
 unread_as X Y (unread name) names told failed h = h
-unread_as X Y unbuilt names told failed h = tt
-unread_as X Y (malformed name) names told failed h = tt
-unread_as X Y (other_document name found expected) names told failed h = tt
-unread_as X Y (other_count name found expected) names told failed h = tt
-unread_as X Y (over limit) names told failed h = tt
-unread_as X Y (no_package fault) names told failed h = tt
+unread_as X Y (caused cause) names told failed h = tt
 
-stands_as : (X Y : Type 0) (refusal : Refusal) (Holds : Type 0)
-    → UnlessUnread {Y = X} (Err refusal) Holds → UnlessUnread {Y = Y} (Err refusal) Holds
+stands_as : (X Y : Type 0) (failure : Failure) (Holds : Type 0)
+    → UnlessUnread {Y = X} (Err failure) Holds → UnlessUnread {Y = Y} (Err failure) Holds
 stands_as X Y no_memory Holds h = h
 stands_as X Y (unread name) Holds h = tt
-stands_as X Y unbuilt Holds h = h
-stands_as X Y (malformed name) Holds h = h
-stands_as X Y (other_document name found expected) Holds h = h
-stands_as X Y (other_count name found expected) Holds h = h
-stands_as X Y (over limit) Holds h = h
-stands_as X Y (no_package fault) Holds h = h
+stands_as X Y (caused cause) Holds h = h
+
+stands_of : {Y : Type 0} (made : Result Y Failure) (Holds : Type 0) → Holds → UnlessUnread made Holds
+stands_of (Ok y) Holds h = h
+stands_of (Err no_memory) Holds h = h
+stands_of (Err (unread name)) Holds h = tt
+stands_of (Err (caused cause)) Holds h = h
+
+never_is_not : {Y : Type 0} (made : Result Y Failure) (names : List (List ℕ)) (told : Option Files) (failed : Type 0) → NeverUnread made → IsUnread made names told failed
+never_is_not (Ok y) names told failed never = tt
+never_is_not (Err no_memory) names told failed never = tt
+never_is_not (Err (unread name)) names told failed never = absurd never
+never_is_not (Err (caused cause)) names told failed never = tt
+
+never_as : (X Y : Type 0) (failure : Failure) → NeverUnread {Y = X} (Err failure) → NeverUnread {Y = Y} (Err failure)
+never_as X Y no_memory h = tt
+never_as X Y (unread name) h = h
+never_as X Y (caused cause) h = tt
+
+-- a step that takes no file makes what is due, whatever failed
+surely : {X : Type 0} (made due : Result X Failure) (failed : Type 0) → IsMade made due ⊥ → IsMade made due failed
+surely (Ok x) due failed h = h
+surely (Err no_memory) due failed h = tt
+surely (Err (unread name)) due failed (inl h) = absurd h
+surely (Err (unread name)) due failed (inr h) = inr h
+surely (Err (caused cause)) due failed h = h
+
+-- ---- steps that take no file, in a row
+
+-- a step went well, and then the next one
+pub takes_then : {X Y : Type 0} {x : X} {made : Result Y Failure} {due : Reader → Result X Failure} (next : X → Reader → Result Y Failure)
+    → Reads (Ok x) due → Reads made (next x) → Reads made (λ reader. due reader >>= (λ y. next y reader))
+takes_then {x = x} {made = made} {due = due} next first rest = record {
+  as_due = λ reader is. made_bind x made (due reader) (λ y. next y reader) ⊥ (first.as_due reader is) (rest.as_due reader is);
+  never_unread = rest.never_unread;
+}
+
+-- a step failed
+pub takes_stops : {X Y : Type 0} {failure : Failure} {due : Reader → Result X Failure} (next : X → Reader → Result Y Failure)
+    → Reads {Y = X} (Err failure) due → Reads {Y = Y} (Err failure) (λ reader. due reader >>= (λ y. next y reader))
+takes_stops {X} {Y} {failure} {due} next step = record {
+  as_due = λ reader is. failed_bind failure (due reader) (λ y. next y reader) ⊥ (step.as_due reader is);
+  never_unread = never_as X Y failure step.never_unread;
+}
+
+-- a step went well, and what is due was made of what it gave
+pub takes_ok : {X Y : Type 0} {x : X} {y : Y} {due : Reader → Result X Failure} (next : X → Result Y Failure)
+    → Reads (Ok x) due → next x ≡ Ok y → Reads (Ok y) (λ reader. due reader >>= next)
+takes_ok {due = due} next first is = record {
+  as_due = λ reader reads. ap (λ d. d >>= next) (first.as_due reader reads) ∙ is;
+  never_unread = tt;
+}
 
 -- ---- steps in a row
 
@@ -69,8 +101,12 @@ pub both : {P Q R : Files → Type 0} (told : Option Files) → ((files : Files)
 both None step p q = tt
 both (Some files) step p q = step files p q
 
-from_here : {X Y : Type 0} (old new : Option Files) (before now : ℕ) (names more whole : List (List ℕ)) (x : X) (made : Result Y Refusal)
-    (due : Reader → Files → Result X Refusal) (next : X → Reader → Files → Result Y Refusal)
+always : {P : Files → Type 0} (told : Option Files) → ((files : Files) → P files) → IfSome told P
+always None all = tt
+always (Some files) all = all files
+
+from_here : {X Y : Type 0} (old new : Option Files) (before now : ℕ) (names more whole : List (List ℕ)) (x : X) (made : Result Y Failure)
+    (due : Reader → Files → Result X Failure) (next : X → Reader → Files → Result Y Failure)
     → IfSome old (λ files. (reader : Reader) → IsReader reader → due reader files ≡ Ok x)
     → ((name : List ℕ) → Contains more name → Contains whole name)
     → ReadsFiles old new before now more made (next x)
@@ -84,8 +120,8 @@ from_here old new before now names more whole x made due next first among rest =
 }
 
 -- a step that went well, and then the next one
-pub reads_then : {X Y : Type 0} {old mid new : Option Files} {before between now : ℕ} {names more whole : List (List ℕ)} {x : X} {made : Result Y Refusal}
-    {due : Reader → Files → Result X Refusal} (next : X → Reader → Files → Result Y Refusal)
+pub reads_then : {X Y : Type 0} {old mid new : Option Files} {before between now : ℕ} {names more whole : List (List ℕ)} {x : X} {made : Result Y Failure}
+    {due : Reader → Files → Result X Failure} (next : X → Reader → Files → Result Y Failure)
     → ReadsFiles old mid before between names (Ok x) due
     → ((name : List ℕ) → Contains more name → Contains whole name)
     → ReadsFiles mid new between now more made (next x)
@@ -95,123 +131,81 @@ reads_then {old} {mid} {new} {before} {between} {now} {names} {more} {whole} {x}
     (subst (λ told. ReadsFiles told new before now more made (next x)) first.same_files
     (subst (λ count. ReadsFiles mid new count now more made (next x)) first.stands rest))
 
--- a step was refused, and nothing more was done
-pub reads_stops : {X Y : Type 0} {old new : Option Files} {before now : ℕ} {names whole : List (List ℕ)} {refusal : Refusal}
-    {due : Reader → Files → Result X Refusal} (next : X → Reader → Files → Result Y Refusal)
-    → ReadsFiles {Y = X} old new before now names (Err refusal) due
+-- a step failed, and nothing more was done
+pub reads_stops : {X Y : Type 0} {old new : Option Files} {before now : ℕ} {names whole : List (List ℕ)} {failure : Failure}
+    {due : Reader → Files → Result X Failure} (next : X → Reader → Files → Result Y Failure)
+    → ReadsFiles {Y = X} old new before now names (Err failure) due
     → ((name : List ℕ) → Contains names name → Contains whole name)
-    → ReadsFiles {Y = Y} old new before now whole (Err refusal) (λ reader files. due reader files >>= (λ y. next y reader files))
-reads_stops {X} {Y} {old} {new} {before} {now} {names} {whole} {refusal} {due} next step among = record {
-  as_due = if_some old (λ files h reader is. refused_bind refusal (due reader files) (λ y. next y reader files) (Rose before now) (h reader is)) step.as_due;
-  unread = unread_in {Y = Y} (Err refusal) names whole old (Rose before now) among (unread_as X Y refusal names old (Rose before now) step.unread);
+    → ReadsFiles {Y = Y} old new before now whole (Err failure) (λ reader files. due reader files >>= (λ y. next y reader files))
+reads_stops {X} {Y} {old} {new} {before} {now} {names} {whole} {failure} {due} next step among = record {
+  as_due = if_some old (λ files h reader is. failed_bind failure (due reader files) (λ y. next y reader files) (Rose before now) (h reader is)) step.as_due;
+  unread = unread_in {Y = Y} (Err failure) names whole old (Rose before now) among (unread_as X Y failure names old (Rose before now) step.unread);
   same_files = step.same_files;
-  stands = stands_as X Y refusal (now ≡ before) step.stands;
+  stands = stands_as X Y failure (now ≡ before) step.stands;
 }
 
-stands_of : {Y : Type 0} (made : Result Y Refusal) (Holds : Type 0) → Holds → UnlessUnread made Holds
-stands_of (Ok y) Holds h = h
-stands_of (Err no_memory) Holds h = h
-stands_of (Err (unread name)) Holds h = tt
-stands_of (Err unbuilt) Holds h = h
-stands_of (Err (malformed name)) Holds h = h
-stands_of (Err (other_document name found expected)) Holds h = h
-stands_of (Err (other_count name found expected)) Holds h = h
-stands_of (Err (over limit)) Holds h = h
-stands_of (Err (no_package fault)) Holds h = h
-
-never_unread : {Y : Type 0} (made : Result Y Refusal) (names : List (List ℕ)) (told : Option Files) (failed : Type 0) → NeverUnread made → IsUnread made names told failed
-never_unread (Ok y) names told failed never = tt
-never_unread (Err no_memory) names told failed never = tt
-never_unread (Err (unread name)) names told failed never = absurd never
-never_unread (Err unbuilt) names told failed never = tt
-never_unread (Err (malformed name)) names told failed never = tt
-never_unread (Err (other_document name found expected)) names told failed never = tt
-never_unread (Err (other_count name found expected)) names told failed never = tt
-never_unread (Err (over limit)) names told failed never = tt
-never_unread (Err (no_package fault)) names told failed never = tt
+-- what takes no file was made
+pub reads_nothing : {Y : Type 0} {made : Result Y Failure} {due : Reader → Result Y Failure} (told : Option Files) (count : ℕ) (names : List (List ℕ))
+    → Reads made due → ReadsFiles told told count count names made (λ reader files. due reader)
+reads_nothing {made = made} {due = due} told count names step = record {
+  as_due = always told (λ files reader is. surely made (due reader) (Rose count count) (step.as_due reader is));
+  unread = never_is_not made names told (Rose count count) step.never_unread;
+  same_files = refl;
+  stands = stands_of made (count ≡ count) refl;
+}
 
 -- what takes no file was made of what a step read
-pub reads_after : {X Y : Type 0} {old new : Option Files} {before now : ℕ} {names : List (List ℕ)} {x : X} {due : Reader → Files → Result X Refusal}
-    (made : Result Y Refusal) (later : Reader → Files → Result Y Refusal)
+pub reads_after : {X Y : Type 0} {old new : Option Files} {before now : ℕ} {names : List (List ℕ)} {x : X} {due : Reader → Files → Result X Failure}
+    (made : Result Y Failure) (later : Reader → Files → Result Y Failure)
     → ReadsFiles old new before now names (Ok x) due → NeverUnread made
     → ((reader : Reader) (files : Files) → IsReader reader → due reader files ≡ Ok x → IsMade made (later reader files) (Rose before now))
     → ReadsFiles old new before now names made later
 reads_after {X} {Y} {old} {new} {before} {now} {names} {x} {due} made later first never step = record {
   as_due = if_some old (λ files h reader is. step reader files is (h reader is)) first.as_due;
-  unread = never_unread made names old (Rose before now) never;
+  unread = never_is_not made names old (Rose before now) never;
   same_files = first.same_files;
   stands = stands_of made (now ≡ before) first.stands;
 }
 
--- a step that takes no file makes what is due, whatever failed
-surely : {X : Type 0} (refusal : Refusal) (due : Result X Refusal) (failed : Type 0) → IsMade {Y = X} (Err refusal) due ⊥ → IsMade {Y = X} (Err refusal) due failed
-surely no_memory due failed h = tt
-surely (unread name) due failed (inl h) = absurd h
-surely (unread name) due failed (inr h) = inr h
-surely unbuilt due failed h = h
-surely (malformed name) due failed h = h
-surely (other_document name found expected) due failed h = h
-surely (other_count name found expected) due failed h = h
-surely (over limit) due failed h = h
-surely (no_package fault) due failed h = h
+-- a step went well, and then one that takes no file
+pub reads_then_takes : {X Y : Type 0} {old new : Option Files} {before now : ℕ} {names : List (List ℕ)} {x : X} {made : Result Y Failure}
+    {due : Reader → Files → Result X Failure} (next : X → Reader → Result Y Failure)
+    → ReadsFiles old new before now names (Ok x) due → Reads made (next x)
+    → ReadsFiles old new before now names made (λ reader files. due reader files >>= (λ y. next y reader))
+reads_then_takes {before = before} {now = now} {x = x} {made = made} {due = due} next first rest =
+    reads_after made (λ reader files. due reader files >>= (λ y. next y reader)) first rest.never_unread
+    (λ reader files is found. made_bind x made (due reader files) (λ y. next y reader) (Rose before now) found
+    (surely made (next x reader) (Rose before now) (rest.as_due reader is)))
 
--- ---- files that are fetched up to one byte more than a limit
+-- a step that takes no file went well, and then one that takes some
+pub takes_then_reads : {X Y : Type 0} {old new : Option Files} {before now : ℕ} {names : List (List ℕ)} {x : X} {made : Result Y Failure}
+    {due : Reader → Result X Failure} (next : X → Reader → Files → Result Y Failure)
+    → Reads (Ok x) due → ReadsFiles old new before now names made (next x)
+    → ReadsFiles old new before now names made (λ reader files. due reader >>= (λ y. next y reader files))
+takes_then_reads {old = old} {before = before} {now = now} {x = x} {made = made} {due = due} next first rest = record {
+  as_due = if_some old
+      (λ files h reader is. made_bind x made (due reader) (λ y. next y reader files) (Rose before now) (first.as_due reader is) (h reader is)) rest.as_due;
+  unread = rest.unread;
+  same_files = rest.same_files;
+  stands = rest.stands;
+}
 
-front_whole : (limit : ℕ) (whole bytes : List ℕ) → bytes ≡ take (limit + 1) whole → length bytes ≤ limit → bytes ≡ whole
-front_whole limit whole bytes is within =
-    is ∙ take_all (limit + 1) whole (omega (arith, within, ap length is, length-take (limit + 1) whole))
-
--- where no more than the limit came, it is the whole file
-pub capped_ok : {X Y : Type 0} (limit : ℕ) (found : Result (List ℕ) Refusal) (bytes : List ℕ) (step : List ℕ → Result X Refusal) (view : List ℕ → X → Y) (x : X)
-    → front_of (limit + 1) found ≡ Ok bytes → length bytes ≤ limit → step bytes ≡ Ok x
-    → (found >>= (λ whole. step whole >>= (λ y. Ok (view whole y)))) ≡ Ok (view bytes x)
-capped_ok limit (Err refusal) bytes step view x front within is = absurd (cc front)
-capped_ok limit (Ok whole) bytes step view x front within is =
-    let cut : bytes ≡ take (limit + 1) whole = cc front in
-    let all = front_whole limit whole bytes cut within in
-    rw (← all) (ap (λ made. made >>= (λ y. Ok (view bytes y))) is)
-
--- a step that sees no more than the limit was refused
-pub capped_err : {X Y : Type 0} (limit : ℕ) (found : Result (List ℕ) Refusal) (bytes : List ℕ) (step : List ℕ → Result X Refusal) (view : List ℕ → X → Y) (refusal : Refusal) (failed : Type 0)
-    → front_of (limit + 1) found ≡ Ok bytes → ((whole : List ℕ) → bytes ≡ take (limit + 1) whole → step bytes ≡ step whole)
-    → IsMade {Y = X} (Err refusal) (step bytes) ⊥ → IsMade {Y = Y} (Err refusal) (found >>= (λ whole. step whole >>= (λ y. Ok (view whole y)))) failed
-capped_err limit (Err other) bytes step view refusal failed front same h = absurd (cc front)
-capped_err {X} {Y} limit (Ok whole) bytes step view refusal failed front same h =
-    let cut : bytes ≡ take (limit + 1) whole = cc front in
-    refused_bind refusal (step whole) (λ y. Ok (view whole y)) failed
-    (surely refusal (step whole) failed (subst (λ due. IsMade {Y = X} (Err refusal) due ⊥) (same whole cut) h))
-
-uncapped : (cap : ℕ) (found : Result (List ℕ) Refusal) (refusal : Refusal) → front_of cap found ≡ Err refusal → found ≡ Err refusal
-uncapped cap (Ok whole) refusal is = absurd (cc is)
-uncapped cap (Err other) refusal is = is
-
-made_uncapped : (cap : ℕ) (found : Result (List ℕ) Refusal) (refusal : Refusal) (failed : Type 0)
-    → IsMade {Y = List ℕ} (Err refusal) (front_of cap found) failed → IsMade {Y = List ℕ} (Err refusal) found failed
-made_uncapped cap found no_memory failed h = tt
-made_uncapped cap found (unread name) failed (inl h) = inl h
-made_uncapped cap found (unread name) failed (inr h) = inr (uncapped cap found (unread name) h)
-made_uncapped cap found unbuilt failed h = uncapped cap found unbuilt h
-made_uncapped cap found (malformed name) failed h = uncapped cap found (malformed name) h
-made_uncapped cap found (other_document name was expected) failed h = uncapped cap found (other_document name was expected) h
-made_uncapped cap found (other_count name was expected) failed h = uncapped cap found (other_count name was expected) h
-made_uncapped cap found (over limit) failed h = uncapped cap found (over limit) h
-made_uncapped cap found (no_package fault) failed h = uncapped cap found (no_package fault) h
-
--- a fetch was refused
-pub fetch_stops : {old new : Option Files} {before now : ℕ} {names : List (List ℕ)} {refusal : Refusal} (cap : ℕ) (due : Reader → Files → Result (List ℕ) Refusal)
-    → ReadsFiles {Y = List ℕ} old new before now names (Err refusal) (λ reader files. front_of cap (due reader files))
-    → ReadsFiles {Y = List ℕ} old new before now names (Err refusal) due
-fetch_stops {old} {new} {before} {now} {names} {refusal} cap due step = record {
-  as_due = if_some old (λ files h reader is. made_uncapped cap (due reader files) refusal (Rose before now) (h reader is)) step.as_due;
-  unread = step.unread;
-  same_files = step.same_files;
-  stands = step.stands;
+-- a step that takes no file failed before one that takes some
+pub takes_stops_reads : {X Y : Type 0} {failure : Failure} {due : Reader → Result X Failure} (next : X → Reader → Files → Result Y Failure)
+    (told : Option Files) (count : ℕ) (names : List (List ℕ))
+    → Reads {Y = X} (Err failure) due → ReadsFiles {Y = Y} told told count count names (Err failure) (λ reader files. due reader >>= (λ y. next y reader files))
+takes_stops_reads {X} {Y} {failure} {due} next told count names step = record {
+  as_due = always told (λ files reader is. failed_bind failure (due reader) (λ y. next y reader files) (Rose count count)
+      (surely {X = X} (Err failure) (due reader) (Rose count count) (step.as_due reader is)));
+  unread = never_is_not {Y = Y} (Err failure) names told (Rose count count) (never_as X Y failure step.never_unread);
+  same_files = refl;
+  stands = stands_of {Y = Y} (Err failure) (count ≡ count) refl;
 }
 
 -- ---- steps that were due by another name, and from another state
 
-pub reads_when : {Y : Type 0} {old new : Option Files} {before now : ℕ} {names : List (List ℕ)} {made : Result Y Refusal} {due : Reader → Files → Result Y Refusal}
-    (later : Reader → Files → Result Y Refusal) → IfSome old (λ files. (reader : Reader) → IsReader reader → later reader files ≡ due reader files)
+pub reads_when : {Y : Type 0} {old new : Option Files} {before now : ℕ} {names : List (List ℕ)} {made : Result Y Failure} {due : Reader → Files → Result Y Failure}
+    (later : Reader → Files → Result Y Failure) → IfSome old (λ files. (reader : Reader) → IsReader reader → later reader files ≡ due reader files)
     → ReadsFiles old new before now names made due → ReadsFiles old new before now names made later
 reads_when {old} {new} {before} {now} {names} {made} {due} later same step = record {
   as_due = both old (λ files e h reader is. subst (λ d. IsMade made d (Rose before now)) (sym (e reader is)) (h reader is)) same step.as_due;
@@ -220,20 +214,28 @@ reads_when {old} {new} {before} {now} {names} {made} {due} later same step = rec
   stands = step.stands;
 }
 
-pub reads_from : {Y : Type 0} {old mid new : Option Files} {before between now : ℕ} {names : List (List ℕ)} {made : Result Y Refusal} {due : Reader → Files → Result Y Refusal}
+pub reads_from : {Y : Type 0} {old mid new : Option Files} {before between now : ℕ} {names : List (List ℕ)} {made : Result Y Failure} {due : Reader → Files → Result Y Failure}
     → mid ≡ old → between ≡ before → ReadsFiles mid new between now names made due → ReadsFiles old new before now names made due
 reads_from {old = old} {mid = mid} {new = new} {before = before} {now = now} {names = names} {made = made} {due = due} told stands step =
     subst (λ files. ReadsFiles files new before now names made due) told (subst (λ count. ReadsFiles mid new count now names made due) stands step)
 
-pub reads_no_memory : {Y : Type 0} {old new : Option Files} {before now : ℕ} (names : List (List ℕ)) (due : Reader → Files → Result Y Refusal)
+-- memory ran out
+pub reads_no_memory : {Y : Type 0} {old new : Option Files} {before now : ℕ} (names : List (List ℕ)) (due : Reader → Files → Result Y Failure)
     → new ≡ old → now ≡ before → ReadsFiles {Y = Y} old new before now names (Err no_memory) due
 reads_no_memory {old} names due told stands = record {
-  as_due = anyhow old;
+  as_due = always old (λ files reader is. tt);
   unread = tt;
   same_files = told;
   stands = stands;
 }
-  where
-    anyhow : (old : Option Files) → IfSome old (λ files. (reader : Reader) → IsReader reader → Unit {0})
-    anyhow None = tt
-    anyhow (Some files) = λ reader is. tt
+
+-- a fetch failed
+pub fetch_stops : {old new : Option Files} {before now : ℕ} {names : List (List ℕ)} {failure : Failure} (cap : ℕ) (due : Reader → Files → Result (List ℕ) Failure)
+    → ReadsFiles {Y = List ℕ} old new before now names (Err failure) (λ reader files. front_of cap (due reader files))
+    → ReadsFiles {Y = List ℕ} old new before now names (Err failure) due
+fetch_stops {old} {new} {before} {now} {names} {failure} cap due step = record {
+  as_due = if_some old (λ files h reader is. front_failed cap (due reader files) failure (Rose before now) (h reader is)) step.as_due;
+  unread = step.unread;
+  same_files = step.same_files;
+  stands = step.stands;
+}

@@ -1,7 +1,8 @@
 -- There is a reader, and a call comes to one outcome under all readers.
 use Rattle.std.proofs.Common.{◌≡◌, ℕ, List, refl, ap, ◌∙◌, Option, None, Some, ◌⊎◌, inl, inr}
 use Rattle.std.proofs.Math.Path.{fun_ext}
-use Rattle.redl_app.specs.Outcome.{Reader, IsReader, IsTreeOf, IsJournalOf, outcome}
+use Rattle.redl_app.specs.Outcome.{outcome}
+use Rattle.redl_app.specs.Readers.{Reader, IsReader, IsTreeOf, IsJournalOf}
 use Rattle.redl_io.specs.Shelf.{Files}
 use Rattle.redl_journal.specs.Journals.{Journal, IsJournal, HasNoJournal}
 use Rattle.redl_journal.proofs.Lines.{one_reading as one_journal, journal_or_none}

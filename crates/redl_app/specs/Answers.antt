@@ -3,9 +3,11 @@ use Rattle.std.specs.Prelude.{◌≡◌, ◌⊎◌, ℕ, List, ◌++◌, Option,
 use Rattle.std.specs.Io.KnownBytes.{append_known}
 use Rattle.redl_io.specs.Shelf.{Files, Lacks}
 use Rattle.redl_io.specs.Sink.{GrowsByFront}
-use Rattle.redl_app.specs.Outcome.{Reader, IsReader, Outcome, outcome}
+use Rattle.redl_app.specs.Outcome.{outcome}
+use Rattle.redl_app.specs.Readers.{Reader, IsReader}
+use Rattle.redl_app.specs.Writing.{Outcome}
 use Rattle.redl_lines.specs.Ends.{Tells}
-use Rattle.redl_lines.specs.Refusals.{no_memory_line, unwritten_line, unread_line}
+use Rattle.redl_lines.specs.Lines.{no_memory_line, unwritten_line, unread_line}
 use Rattle.redl_app.specs.Words.{Command, files_of}
 use Rattle.redl_lines.specs.declared.status.Status.{Status}
 use Rattle.redl_lines.specs.declared.status.Status.TheVariants as status

@@ -3,9 +3,13 @@ use Rattle.std.specs.Prelude.{◌≡◌, ◌⊎◌, ℕ, List, Option, Result, O
 use Rattle.std.specs.Io.KnownBytes.{append_known}
 use Rattle.redl_io.specs.Faults.{Rose}
 use Rattle.redl_io.specs.Sink.{GrowsByFront}
-use Rattle.redl_lines.specs.Ends.{End, written, unwritten, refused}
-use Rattle.redl_app.specs.Outcome.{Writing}
-use Rattle.redl_lines.specs.Refusals.{Refusal, usage_line, no_memory_line}
+use Rattle.redl_app.specs.Readers.{Reader}
+use Rattle.redl_app.specs.Reading.{ReadsFiles}
+use Rattle.redl_app.specs.Writing.{Writing}
+use Rattle.redl_io.specs.Shelf.{Files}
+use Rattle.redl_lines.specs.Ends.{End, written, unwritten, failed}
+use Rattle.redl_lines.specs.Failures.{Failure}
+use Rattle.redl_lines.specs.Lines.{usage_line, no_memory_line}
 use Rattle.redl_lines.specs.declared.status.Status.{Status}
 use Rattle.redl_lines.specs.declared.status.Status.TheVariants as status
 use Rattle.redl_app.specs.declared.words.WordsError.{WordsError}
@@ -21,12 +25,19 @@ pub record WritesFront (old new : Option (List ℕ)) (before now : ℕ) (text : 
   pub bytes : GrowsByFront old new text
   pub rose : Rose before now
 
--- What was made was written, or the output failed, or it was refused.
-abbrev pub Finishes : Option (List ℕ) → Option (List ℕ) → ℕ → ℕ → Result Writing Refusal → End → Type 0
+-- What was made was written, or the output failed, or nothing was made.
+abbrev pub Finishes : Option (List ℕ) → Option (List ℕ) → ℕ → ℕ → Result Writing Failure → End → Type 0
 Finishes old new before now (Ok writing) end =
-    ((end ≡ written writing.unknown) × WritesAll old new before now writing.bytes)
-    ⊎ ((end ≡ unwritten writing.unknown) × WritesFront old new before now writing.bytes)
-Finishes old new before now (Err refusal) end = (end ≡ refused refusal) × (new ≡ old) × (now ≡ before)
+    ((end ≡ written writing.refused) × WritesAll old new before now writing.bytes)
+    ⊎ ((end ≡ unwritten writing.refused) × WritesFront old new before now writing.bytes)
+Finishes old new before now (Err failure) end = (end ≡ failed failure) × (new ≡ old) × (now ≡ before)
+
+-- A call took files of these names, made what was due or failed, and put what it made on the output.
+pub record Ends (old new : Option Files) (f f_new : ℕ) (out out_new : Option (List ℕ)) (before now : ℕ)
+    (names : List (List ℕ)) (due : Reader → Files → Result Writing Failure) (end : End) : Type 0 where
+  pub made : Result Writing Failure
+  pub reads : ReadsFiles old new f f_new names made due
+  pub finishes : Finishes out out_new before now made end
 
 -- ---- words that could not be had
 

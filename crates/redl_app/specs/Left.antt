@@ -1,12 +1,17 @@
 -- What a call that decides revisions leaves of a package: exactly the text that survives, in a sound package.
 use Rattle.std.specs.Prelude.{◌≡◌, ℕ, List, true, Option, Some, None, Ok, map}
-use Rattle.redl_app.specs.Outcome.{Reader, outcome, package_at, subject_of, gathered, same_says, says_of, known_entries}
+use Rattle.redl_app.specs.Commands.Settle.{same_says}
+use Rattle.redl_app.specs.Admission.{Admission, admitted}
+use Rattle.redl_app.specs.Commands.Write.{says_of}
+use Rattle.redl_app.specs.Journals.{document_of}
+use Rattle.redl_app.specs.Outcome.{outcome}
+use Rattle.redl_app.specs.Packages.{package_file, package_in}
+use Rattle.redl_app.specs.Readers.{Reader}
 use Rattle.redl_app.specs.Answers.{IsWritten}
 use Rattle.redl_app.specs.Words.{Command, settle, write, check, command_of}
 use Rattle.redl_io.specs.Limits.{journal_bytes}
 use Rattle.redl_index.specs.Numbers.{package_revisions, numbered_package}
 use Rattle.redl_io.specs.Shelf.{Files}
-use Rattle.redl_journal.specs.declared.entry.Entry.{Entry}
 use Rattle.redl_rules.specs.Attributes.{rules}
 use Rattle.redl_tree.specs.Model.Nodes.{Nodes}
 use Rattle.redl_tree.specs.Decisions.Packages.{stories}
@@ -25,9 +30,9 @@ decided_package (check name) = None
 abbrev pub AreSays : Reader → Files → Command → List ℕ → Nodes → List Say → Type 0
 AreSays reader files (settle say name) whole nodes says = says ≡ same_says say nodes
 AreSays reader files (write name journals) whole nodes says =
-    (entries : List Entry)
-    × (gathered reader files (subject_of whole nodes) journal_bytes journals ≡ Ok entries)
-    × (says ≡ says_of (known_entries (package_revisions nodes) entries) (package_revisions nodes))
+    (admission : Admission)
+    × (admitted reader files (document_of whole nodes) journal_bytes journals ≡ Ok admission)
+    × (says ≡ says_of admission.book (package_revisions nodes))
 AreSays reader files (check name) whole nodes says = ⊥
 
 -- The bytes are the text of what the command leaves of the package of this name.
@@ -36,7 +41,8 @@ pub record IsLeft (reader : Reader) (files : Files) (command : Command) (name by
   pub whole : List ℕ
   pub nodes : Nodes
   pub says : List Say
-  pub original : package_at reader files name ≡ Ok (whole, nodes)
+  pub file : package_file files name ≡ Ok whole
+  pub original : package_in reader whole ≡ Ok nodes
   pub decided : AreSays reader files command whole nodes says
   -- what is left of it
   pub left : Nodes

@@ -1,7 +1,14 @@
 pub mod Words
+pub mod Readers
+pub mod Steps
+pub mod Packages
+pub mod Journals
+pub mod Admission
+pub mod Writing
+pub mod Commands
 pub mod Outcome
 pub mod Answers
 pub mod Left
 pub mod Reading
-pub mod Prepared
+pub mod Views
 pub mod Finishing

@@ -1,5 +1,5 @@
 -- How a command line is read. The words come without the program's name.
-use Rattle.std.specs.Prelude.{ℕ, List, [], ◌∷◌, Option, None, Some, option_map, Bool, false, codes, ◌==◌, not, if◌then◌else◌}
+use Rattle.std.specs.Prelude.{ℕ, List, [], ◌∷◌, ◌++◌, Option, None, Some, option_map, Bool, false, codes, ◌==◌, not, if◌then◌else◌}
 use Rattle.std.specs.List.{list_all}
 use Rattle.std.specs.Str.{bytes_eq}
 use Rattle.redl_tree.specs.declared.kinds.Say.{Say}
@@ -50,9 +50,18 @@ command_of (verb ∷ words) =
     else if bytes_eq verb (codes "check") then check_of words
     else None
 
+-- the name of a command's package, and those of its journals
+abbrev pub package_of : Command → List (List ℕ)
+package_of (settle say package_) = package_ ∷ []
+package_of (write package_ journals) = package_ ∷ []
+package_of (check package_) = package_ ∷ []
+
+abbrev pub journals_of : Command → List (List ℕ)
+journals_of (settle say package_) = []
+journals_of (write package_ journals) = journals
+journals_of (check package_) = []
+
 -- the names of the files that a command asks for
 abbrev pub files_of : Option Command → List (List ℕ)
 files_of None = []
-files_of (Some (settle say package_)) = package_ ∷ []
-files_of (Some (write package_ journals)) = package_ ∷ journals
-files_of (Some (check package_)) = package_ ∷ []
+files_of (Some command) = package_of command ++ journals_of command

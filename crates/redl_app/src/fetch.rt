@@ -1,28 +1,50 @@
 //! Files from the shelf.
 
-ghost use Rattle.std.specs.Prelude.{◌≡◌, ◌≤◌, ◌∷◌, [], IfOk, vec_len};
-ghost use Rattle.redl_app.specs.Outcome.{file};
-ghost use Rattle.redl_app.specs.Prepared.{made_of};
+ghost use Rattle.std.specs.Prelude.{◌≡◌, ◌<◌, ◌≤◌, ◌^◌, ◌∷◌, [], IfOk, length};
 ghost use Rattle.redl_app.specs.Reading.{ReadsFiles, front_of};
+ghost use Rattle.redl_app.specs.Steps.{held, file};
+ghost use Rattle.redl_app.specs.Views.{result_view};
 
 use redl_io::{Shelf, ShelfError};
-use redl_lines::Refusal;
+use redl_lines::{Cause, Failure, Limit};
 use std::alloc::Global;
 
-/// The first bytes of the file of this name, at most `cap` of them.
+/// The text of the file of this name, of at most `most` bytes. A longer one is over the limit.
+///
+/// One byte more is asked for, so that a longer file shows.
 pub(crate) fn fetch_file<'a, F: Shelf>(
+    alloc: Global,
+    name: &'a str,
+    most: usize,
+    limit: Limit,
+    shelf: &mut F,
+) -> Result<Vec<u8>, Failure<'a>>
+    requires { most < 2 ^ 32 }
+    ensures read { ReadsFiles (F.told shelf.old) (F.told shelf.new) (F.faults shelf.old) (F.faults shelf.new) (name.now ∷ [])
+        (result_view (λ bytes. bytes.items) result) (λ reader files. file files name.now most limit) }
+    ensures within { IfOk result (λ bytes. length bytes.items ≤ most) }
+{
+    let bytes = fetch_front(alloc, name, most + 1, shelf)?;
+    if bytes.len() > most {
+        return Err(Failure::Cause(Cause::Limit(limit)));
+    }
+    Ok(bytes)
+}
+
+// The first bytes of the file of this name, at most `cap` of them.
+fn fetch_front<'a, F: Shelf>(
     alloc: Global,
     name: &'a str,
     cap: usize,
     shelf: &mut F,
-) -> Result<Vec<u8>, Refusal<'a>>
+) -> Result<Vec<u8>, Failure<'a>>
     ensures { ReadsFiles (F.told shelf.old) (F.told shelf.new) (F.faults shelf.old) (F.faults shelf.new) (name.now ∷ [])
-        (made_of (λ bytes. bytes.items) result) (λ reader files. front_of cap (file files name.now)) }
+        (result_view (λ bytes. bytes.items) result) (λ reader files. front_of cap (held name.now (files name.now))) }
 {
     match shelf.fetch(alloc, name, cap) {
         Ok(bytes) => Ok(bytes),
-        Err(ShelfError::NoMemory) => Err(Refusal::NoMemory),
-        Err(ShelfError::Failed) => Err(Refusal::Unread(name)),
-        Err(ShelfError::Missing) => Err(Refusal::Unread(name)),
+        Err(ShelfError::NoMemory) => Err(Failure::NoMemory),
+        Err(ShelfError::Failed) => Err(Failure::Unread(name)),
+        Err(ShelfError::Missing) => Err(Failure::Unread(name)),
     }
 }

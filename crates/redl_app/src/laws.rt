@@ -2,7 +2,8 @@
 
 ghost use Rattle.std.specs.Prelude.{◌≡◌, ℕ, List};
 ghost use Rattle.redl_app.specs.Left.{LeavesSound};
-ghost use Rattle.redl_app.specs.Outcome.{Reader, IsReader, outcome};
+ghost use Rattle.redl_app.specs.Outcome.{outcome};
+ghost use Rattle.redl_app.specs.Readers.{Reader, IsReader};
 ghost use Rattle.redl_io.specs.Shelf.{Files};
 
 /// There is a reader: each text has a body or none, and a journal or none.

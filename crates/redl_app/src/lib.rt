@@ -1,19 +1,18 @@
 //! The top call: from the words of a command line and the files that they name to the bytes, the lines and the status.
 //!
 //! Read `run` first: its clauses say what goes out and which status comes when, by the outcome of a call in
-//! `specs/Outcome.antt`. What journals decide is a private part of this crate.
+//! `specs/Outcome.antt`. What each command writes is defined in `specs/Commands`, and made in `commands`.
 //! Real files and streams are made by the program above.
 #![tactic(auto)]
 
-mod decisions;
+mod admitted;
+mod commands;
+mod document;
 mod fetch;
 mod journals;
 mod laws;
 mod output;
 mod package;
-mod prepare;
-mod prepared;
-mod subject;
 mod top;
 mod words;
 

@@ -1,17 +1,53 @@
 //! What a call writes, put on the output.
 
-ghost use Rattle.std.specs.Prelude.{◌≡◌, OnOk, OnErr};
+ghost use Rattle.std.specs.Prelude.{◌≡◌, [], OnOk, OnErr};
 ghost use Rattle.std.specs.Io.KnownBytes.{append_known};
-ghost use Rattle.redl_app.specs.Outcome.{sound_text};
-ghost use Rattle.redl_app.specs.Prepared.{output_text};
+ghost use Rattle.redl_app.specs.Commands.Check.{sound_text};
+ghost use Rattle.redl_app.specs.Views.{output_text, writing_view};
+ghost use Rattle.redl_app.specs.Writing.{only_bytes};
 ghost use Rattle.redl_io.specs.Sink.{Puts, GrowsByFront, CountsPut};
 
-use crate::prepared::Output;
 use itoa::Buffer;
 use redl_io::{Failed, Sink, Staged, put_pieces};
-use redl_tree::write_nodes;
+use redl_join::Book;
+use redl_lines::RefusedEntries;
+use redl_tree::{Node, write_nodes};
+use std::alloc::Global;
 
-/// Writes what a call writes, through a stage. `Failed` comes only where `out` failed, which then has a front of it.
+/// What goes out.
+#[derive(Drop)]
+pub(crate) enum Output {
+    /// The text of these nodes.
+    Package(Vec<Node>),
+    /// That a package is sound, and has so many revisions.
+    Count(u32),
+}
+
+/// What a call writes, and the entries that were refused.
+#[derive(Drop)]
+pub(crate) struct Writing {
+    /// What goes out.
+    pub output: Output,
+    /// The entries that were refused.
+    pub refused: RefusedEntries,
+}
+
+impl Writing {
+    /// Output alone, where no entry can be refused.
+    pub(crate) fn only(alloc: Global, output: Output) -> Writing
+        ensures { writing_view result ≡ only_bytes (output_text output) }
+    {
+        Writing {
+            output,
+            refused: RefusedEntries {
+                entries: Book::new(alloc),
+                count: 0,
+            },
+        }
+    }
+}
+
+/// Writes what a call writes, through a stage. `Failed` comes only where `out` failed, which then has only a prefix of it.
 pub(crate) fn write_output<O: Sink>(output: &Output, out: &mut O) -> Result<(), Failed>
     ensures all { OnOk result (O.told out.new ≡ append_known (O.told out.old) (output_text output.now)) }
     ensures front { OnErr result (GrowsByFront (O.told out.old) (O.told out.new) (output_text output.now)) }

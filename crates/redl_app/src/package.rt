@@ -1,80 +1,99 @@
-//! The package of a call: its text and its parts, or why it is refused.
+//! The package of a text: its parts with their numbers, or why it is refused, and what a pass leaves of it.
 
-ghost use Rattle.std.specs.Prelude.{◌≡◌, ◌≤◌, ◌∷◌, [], Some, IfOk, length};
-ghost use Rattle.redl_app.specs.Outcome.{tree_in, shaped, sound, package_in, package_at};
-ghost use Rattle.redl_app.specs.Prepared.{made_of, package_view};
-ghost use Rattle.redl_app.specs.Reading.{ReadsFiles, Reads, NeverUnread};
+ghost use Rattle.std.specs.Prelude.{◌≡◌, ◌<◌, IfOk};
+ghost use Rattle.redl_app.specs.Packages.{tree_in, shaped, sound, package_in};
+ghost use Rattle.redl_app.specs.Reading.{Reads};
+ghost use Rattle.redl_app.specs.Views.{result_view};
+ghost use Rattle.redl_index.specs.Numbers.{numbered_package, package_revisions};
 ghost use Rattle.redl_opc.specs.Tree.{IsTree};
+ghost use Rattle.redl_tree.specs.Decisions.Packages.{pass_package};
 ghost use Rattle.redl_tree.specs.Model.View.{nodes_of};
 
-use crate::PACKAGE_LIMIT;
-use crate::fetch::fetch_file;
-use redl_io::Shelf;
-use redl_lines::{Limit, Refusal};
+use redl_index::Index;
+use redl_lines::Failure;
 use redl_opc::Package;
+use redl_resolve::{Steps, into_passed};
 use redl_rules::check;
-use redl_tree::Node;
-use std::alloc::Global;
+use redl_tree::{Node, Say};
+use std::alloc::{AllocError, Global};
+use std::marker::Brand;
+use std::sync::ledger::{Blank, Ledger};
 
-/// A file that is a package: its text and its parts.
-#[derive(Drop)]
-pub(crate) struct PackageFile {
-    pub bytes: Vec<u8>,
-    pub package: Package,
-}
-
-/// The package of this name.
-pub(crate) fn read_package<'a, F: Shelf>(
-    alloc: Global,
-    name: &'a str,
-    shelf: &mut F,
-) -> Result<PackageFile, Refusal<'a>>
-    ensures { ReadsFiles (F.told shelf.old) (F.told shelf.new) (F.faults shelf.old) (F.faults shelf.new) (name.now ∷ [])
-        (made_of package_view result) (λ reader files. package_at reader files name.now) }
+/// The package with this text.
+pub(crate) fn read_package<'a>(alloc: Global, bytes: &[u8]) -> Result<Package, Failure<'a>>
+    ensures { Reads (result_view (λ made. made) result) (λ reader. package_in reader bytes.now) }
 {
-    let bytes = fetch_file(alloc, name, PACKAGE_LIMIT + 1, shelf)?;
-    let package = make_package(alloc, &bytes, PACKAGE_LIMIT)?;
-    Ok(PackageFile { bytes, package })
-}
-
-// The package with this text, of at most `limit` bytes.
-fn make_package<'a>(alloc: Global, bytes: &[u8], limit: usize) -> Result<Package, Refusal<'a>>
-    ensures read { Reads (made_of (λ made. made) result) (λ reader. package_in reader limit bytes.now) }
-    ensures never_unread { NeverUnread (made_of (λ made. made) result) }
-    ensures within { IfOk result (λ _. length bytes.now ≤ limit) }
-{
-    let nodes = read_nodes(alloc, bytes, limit)?;
+    let nodes = read_nodes(alloc, bytes)?;
     let package = shape(alloc, nodes)?;
     check_rules(alloc, &package)?;
     Ok(package)
 }
 
-// The tree of this text, of at most `limit` bytes.
-fn read_nodes<'a>(alloc: Global, bytes: &[u8], limit: usize) -> Result<Vec<Node>, Refusal<'a>>
-    ensures read { Reads (made_of (λ nodes. nodes_of nodes.items) result) (λ reader. tree_in reader limit bytes.now) }
-    ensures never_unread { NeverUnread (made_of (λ nodes. nodes_of nodes.items) result) }
+// The tree of this text.
+fn read_nodes<'a>(alloc: Global, bytes: &[u8]) -> Result<Vec<Node>, Failure<'a>>
+    ensures read { Reads (result_view (λ nodes. nodes_of nodes.items) result) (λ reader. tree_in (reader.tree bytes.now)) }
     ensures tree { IfOk result (λ nodes. IsTree (nodes_of nodes.items)) }
-    ensures within { IfOk result (λ _. length bytes.now ≤ limit) }
 {
-    if bytes.len() > limit {
-        return Err(Refusal::Limit(Limit::PackageBytes));
-    }
     Ok(redl_xml::read(alloc, bytes)?)
 }
 
 // The package that the nodes are.
-fn shape<'a>(alloc: Global, nodes: Vec<Node>) -> Result<Package, Refusal<'a>>
+fn shape<'a>(alloc: Global, nodes: Vec<Node>) -> Result<Package, Failure<'a>>
     requires { IsTree (nodes_of nodes.items) }
-    ensures read { Reads (made_of (λ made. made) result) (λ _. shaped (nodes_of nodes.items)) }
-    ensures never_unread { NeverUnread (made_of (λ made. made) result) }
+    ensures { Reads (result_view (λ made. made) result) (λ _. shaped (nodes_of nodes.items)) }
 {
     Ok(Package::make(alloc, nodes)?)
 }
 
 // Whether the package keeps the rules of structure.
-fn check_rules<'a>(alloc: Global, package: &Package) -> Result<(), Refusal<'a>>
-    ensures read { Reads (made_of (λ _. «package».now) result) (λ _. sound «package».now) }
-    ensures never_unread { NeverUnread (made_of (λ _. «package».now) result) }
+fn check_rules<'a>(alloc: Global, package: &Package) -> Result<(), Failure<'a>>
+    ensures { Reads (result_view (λ _. «package».now) result) (λ _. sound «package».now) }
 {
     Ok(check(alloc, package)?)
+}
+
+/// A package with the kinds and numbers of its revisions, and how many there are.
+#[derive(Drop)]
+pub(crate) struct Numbered {
+    pub package: Package,
+    pub count: u32,
+}
+
+/// The package with its numbers.
+pub(crate) fn number_package(alloc: Global, read: Package) -> Result<Numbered, AllocError>
+    ensures numbered { IfOk result (λ made. made.«package» ≡ numbered_package read) }
+    ensures count { IfOk result (λ made. made.count ≡ package_revisions read) }
+{
+    let mut package = read;
+    let index = Index::build(alloc, &mut package)?;
+    Ok(Numbered {
+        package,
+        count: index.count(),
+    })
+}
+
+/// What is left of a numbered package. Its own nodes go while it is made.
+pub(crate) fn pass_nodes(
+    alloc: Global,
+    package: Package,
+    says: &[Say],
+) -> Result<Vec<Node>, AllocError>
+    ensures { IfOk result (λ passed. nodes_of passed.items ≡ pass_package says.now «package») }
+{
+    pass_counted::<Brand>(alloc, package.into_nodes(), says, Blank::new(1))
+}
+
+// The pass with a counter of its own, which nobody reads.
+fn pass_counted<L: Ledger>(
+    alloc: Global,
+    nodes: Vec<Node>,
+    says: &[Say],
+    blank: Blank,
+) -> Result<Vec<Node>, AllocError>
+    requires name { blank.name ≡ L.name }
+    requires parts { blank.parts ≡ L.parts }
+    requires some { 0 < L.parts }
+    ensures { IfOk result (λ passed. nodes_of passed.items ≡ pass_package says.now (nodes_of nodes.items)) }
+{
+    into_passed(alloc, nodes, says, &mut Steps::<L>::new(blank))
 }

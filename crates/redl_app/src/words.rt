@@ -2,7 +2,7 @@
 
 ghost use Rattle.std.specs.Prelude.{◌≡◌, ◌++◌, ◌∷◌, [], All, IsUtf8, OnOk, OnErr, IfSome, option_map};
 ghost use Rattle.std.specs.List.{list_all};
-ghost use Rattle.redl_app.specs.Prepared.{command_view, HasUtf8};
+ghost use Rattle.redl_app.specs.Views.{command_view, HasUtf8};
 ghost use Rattle.redl_app.specs.Words.{is_name, say_named, settle_of, write_of, check_of, command_of};
 
 use redl_io::Text;

@@ -1,4 +1,5 @@
 pub mod Status
-pub mod Refusals
+pub mod Failures
 pub mod Causes
+pub mod Lines
 pub mod Ends

@@ -3,20 +3,28 @@
 ghost use Rattle.std.specs.Prelude.{◌≡◌};
 
 use crate::Status;
-use crate::refusal::Refusal;
+use crate::failure::Failure;
 use redl_join::Book;
+
+/// The entries that a call refused. One on a revision of the package was refused since the author of the revision is
+/// locked; any other has an unknown revision.
+#[derive(Drop)]
+pub struct RefusedEntries {
+    /// The entries.
+    pub entries: Book,
+    /// How many revisions the package has.
+    pub count: u32,
+}
 
 /// How a call ends, with what its lines tell.
 #[derive(Drop)]
 pub enum End<'a> {
     /// All was written; these entries were refused.
-    Written(Book),
+    Written(RefusedEntries),
     /// The output failed; these entries were refused.
-    Unwritten(Book),
+    Unwritten(RefusedEntries),
     /// Nothing was written.
-    Refused(Refusal<'a>),
-    /// The words of the command line couldn't be read.
-    Usage,
+    Failed(Failure<'a>),
 }
 
 impl End<'_> {
@@ -27,11 +35,10 @@ impl End<'_> {
         ensures { result ≡ end_status (end_view self.now) }
     {
         match self {
-            End::Written(unknown) if unknown.len() == 0 => Status::Done,
+            End::Written(refused) if refused.entries.len() == 0 => Status::Done,
             End::Written(_) => Status::Refused,
             End::Unwritten(_) => Status::WriteFault,
-            End::Refused(refusal) => refusal.status(),
-            End::Usage => Status::Usage,
+            End::Failed(failure) => failure.status(),
         }
     }
 }

@@ -1,18 +1,22 @@
-//! How a call ends: the causes of a refusal, the status of each end, and its lines on standard error.
+//! How a call ends: why it fails, the status of each end, and its lines on standard error.
 //!
-//! Read `tell` first: it writes the lines of an end, which `specs/Ends.antt` and `specs/Refusals.antt` define.
+//! Read `tell` first: it writes the lines of an end, which `specs/Ends.antt` and `specs/Lines.antt` define.
 //! The layer above makes the end, and its status is a function of it alone.
 //! When a cause comes, and which of several counts, is not said here.
 #![tactic(auto)]
 
+mod causes;
 mod end;
+mod failure;
 mod lines;
-mod refusal;
 mod status;
 
-pub use end::End;
+/// The most paragraphs of a sample.
+pub const SAMPLE_LIMIT: u32 = 20_000;
+
+pub use end::{End, RefusedEntries};
+pub use failure::{Cause, Failure, Limit, PackageFault};
 pub use lines::tell;
-pub use refusal::{Limit, PackageFault, Refusal};
 pub use status::Status;
 
 #[cfg(test)]

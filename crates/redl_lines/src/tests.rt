@@ -18,8 +18,9 @@ fn expect_end(
 ) -> Result<(), AllocError> {
     let mut err = MemSink::new(alloc, 300, Vec::new(alloc))?;
     tell(end, &mut err);
-    assert_eq!(rt; end.status().code(), code, "{lines}");
-    assert_eq!(rt; err.bytes(), lines.as_bytes(), "{lines}");
+    let status = end.status();
+    let is_wanted = status.code() == code && err.bytes() == lines.as_bytes();
+    assert!(rt; is_wanted, "{status:?}: {lines}");
     Ok(())
 }
 
@@ -39,7 +40,13 @@ fn a_fault_of_the_package_has_its_line(rt: HostRuntime) -> Result<(), Fail> {
         (PackageFault::NoDocument, "redline: package: no document\n"),
         (PackageFault::Rule(9), "redline: package: rule 9\n"),
     ] {
-        expect_end(&rt, alloc, &End::Refused(Refusal::Package(fault)), 3, line)?;
+        expect_end(
+            &rt,
+            alloc,
+            &End::Failed(Failure::Cause(Cause::Package(fault))),
+            3,
+            line,
+        )?;
     }
     Ok(())
 }
@@ -58,33 +65,38 @@ fn a_limit_has_its_line(rt: HostRuntime) -> Result<(), Fail> {
         ),
         (Limit::Depth, "redline: limit depth 512\n"),
         (Limit::Nodes, "redline: limit nodes 2097152\n"),
+        (Limit::Sample, "redline: limit sample 20000\n"),
     ] {
-        expect_end(&rt, alloc, &End::Refused(Refusal::Limit(limit)), 7, line)?;
+        expect_end(
+            &rt,
+            alloc,
+            &End::Failed(Failure::Cause(Cause::Limit(limit))),
+            7,
+            line,
+        )?;
     }
     Ok(())
 }
 
 #[test]
-fn a_refusal_has_its_status_and_line(rt: HostRuntime) -> Result<(), Fail> {
+fn a_cause_has_its_status_and_line(rt: HostRuntime) -> Result<(), Fail> {
     let alloc = rt.alloc();
-    let document = Refusal::OtherDocument {
+    let document = Cause::OtherDocument {
         journal: "J",
         found: [0x0a; 32],
         expected: [0xf1; 32],
     };
-    let count = Refusal::OtherCount {
+    let count = Cause::OtherCount {
         journal: "J",
         found: 0,
         expected: 4_294_967_295,
     };
-    for (refusal, code, line) in [
-        (Refusal::Unbuilt, 10, "redline: not built yet\n"),
-        (Refusal::Unread("a b"), 5, "redline: cannot read a b\n"),
-        (
-            Refusal::Malformed("J"),
-            4,
-            "redline: journal J: malformed\n",
-        ),
+    for (cause, code, line) in [
+        (Cause::Usage, 2, "redline: cannot read the command line\n"),
+        (Cause::NoFormat("pdf"), 2, "redline: no format pdf\n"),
+        (Cause::NoFormat(""), 2, "redline: no format \n"),
+        (Cause::Unbuilt, 10, "redline: not built yet\n"),
+        (Cause::Malformed("J"), 4, "redline: journal J: malformed\n"),
         (
             document,
             4,
@@ -95,61 +107,77 @@ fn a_refusal_has_its_status_and_line(rt: HostRuntime) -> Result<(), Fail> {
             4,
             "redline: journal J: revisions 0, expected 4294967295\n",
         ),
-        (Refusal::NoMemory, 8, "redline: no memory\n"),
+        (
+            Cause::NoSequence(b"Dee"),
+            9,
+            "redline: no sequence number left for Dee\n",
+        ),
     ] {
-        expect_end(&rt, alloc, &End::Refused(refusal), code, line)?;
+        expect_end(&rt, alloc, &End::Failed(Failure::Cause(cause)), code, line)?;
     }
-    expect_end(
-        &rt,
-        alloc,
-        &End::Usage,
-        2,
-        "redline: cannot read the command line\n",
-    )?;
+    Ok(())
+}
+
+#[test]
+fn what_the_outside_forces_has_its_status_and_line(rt: HostRuntime) -> Result<(), Fail> {
+    let alloc = rt.alloc();
+    for (failure, code, line) in [
+        (Failure::Unread("a b"), 5, "redline: cannot read a b\n"),
+        (Failure::NoMemory, 8, "redline: no memory\n"),
+    ] {
+        expect_end(&rt, alloc, &End::Failed(failure), code, line)?;
+    }
     Ok(())
 }
 
 const HEAD: &[u8] =
     b"redline-journal 1\ndocument e3b0c44298fc1c149afbf4c8996fb92427ae41e4649b934ca495991b7852b855\nrevisions 3\n";
 
-// The book of the entries with these lines.
-fn book_of(alloc: Global, lines: &str) -> Result<Book, Fail> {
-    let mut book = Book::new(alloc);
+// The entries with these lines, which a package of two revisions refused.
+fn refused(alloc: Global, lines: &str) -> Result<RefusedEntries, Fail> {
+    let mut entries = Book::new(alloc);
     let mut text = Vec::from_slice(alloc, HEAD)?;
     text.extend_from_slice(lines.as_bytes())?;
     for entry in read(alloc, &text)?.entries {
-        book.add(entry)?;
+        entries.add(entry)?;
     }
-    Ok(book)
+    Ok(RefusedEntries { entries, count: 2 })
 }
 
 #[test]
-fn a_refused_entry_has_a_line(rt: HostRuntime) -> Result<(), Fail> {
+fn a_refused_entry_has_a_line_with_its_cause(rt: HostRuntime) -> Result<(), Fail> {
     let alloc = rt.alloc();
-    let one = "1\t0\twithdraw\tAnn Gray\n";
-    let two = "1\t0\twithdraw\tAnn Gray\n2\t9\taccept\tBob\n";
-    let told = "redline: refused 1 0 withdraw Ann Gray: unknown revision\n";
-    let both =
-        "redline: refused 1 0 withdraw Ann Gray: unknown revision\nredline: refused 2 9 accept Bob: unknown revision\n";
-    let failed =
-        "redline: refused 1 0 withdraw Ann Gray: unknown revision\nredline: cannot write\n";
-    for (entries, code, lines) in [("", 0, ""), (one, 1, told), (two, 1, both)] {
-        expect_end(
-            &rt,
-            alloc,
-            &End::Written(book_of(alloc, entries)?),
-            code,
-            lines,
-        )?;
+    for (entries, code, lines) in [
+        ("", 0, ""),
+        (
+            "1\t0\twithdraw\tAnn Gray\n",
+            1,
+            "redline: refused 1 0 withdraw Ann Gray: unknown revision\n",
+        ),
+        (
+            "2\t3\taccept\tBob\n1\t1\treject\tBob\n7\t2\taccept\tAnn\n",
+            1,
+            "redline: refused 7 2 accept Ann: locked author\nredline: refused 1 1 reject Bob: locked author\nredline: refused 2 3 accept Bob: unknown revision\n",
+        ),
+    ] {
+        let end = End::Written(refused(alloc, entries)?);
+        expect_end(&rt, alloc, &end, code, lines)?;
     }
-    for (entries, lines) in [("", "redline: cannot write\n"), (one, failed)] {
-        expect_end(
-            &rt,
-            alloc,
-            &End::Unwritten(book_of(alloc, entries)?),
-            6,
-            lines,
-        )?;
+    Ok(())
+}
+
+#[test]
+fn a_failed_output_is_told_last(rt: HostRuntime) -> Result<(), Fail> {
+    let alloc = rt.alloc();
+    for (entries, lines) in [
+        ("", "redline: cannot write\n"),
+        (
+            "1\t2\taccept\tAnn\n",
+            "redline: refused 1 2 accept Ann: locked author\nredline: cannot write\n",
+        ),
+    ] {
+        let end = End::Unwritten(refused(alloc, entries)?);
+        expect_end(&rt, alloc, &end, 6, lines)?;
     }
     Ok(())
 }

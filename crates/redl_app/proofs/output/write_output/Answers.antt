@@ -1,6 +1,6 @@
 use Rattle.std.proofs.Common.{rules}
 use Rattle.redl_io.proofs.Front.{dropped_front, finished_front, on_err}
-use Rattle.redl_app.specs.Prepared.{output_text}
+use Rattle.redl_app.specs.Views.{output_text}
 use Rattle.redl_app.proofs.output.write_output.Goals as goal
 
 pub returns-in_err-put_output-clause-front : goal.returns-in_err-put_output-clause-front

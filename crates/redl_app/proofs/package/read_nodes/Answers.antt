@@ -1,14 +1,16 @@
 use Rattle.std.proofs.Common.{arith}
-use Rattle.redl_app.proofs.PackageLaws.{tree_read, tree_refused, refused_as, utf8_tails}
-use Rattle.redl_app.specs.Outcome.{tree_in}
+use Rattle.redl_app.proofs.PackageLaws.{tree_read, tree_fails, failed_as, utf8_tails}
+use Rattle.redl_app.specs.Packages.{tree_in}
 use Rattle.redl_tree.specs.Model.View.{nodes_of}
 use Rattle.redl_xml.proofs.Answered.{tails_are_legal}
 use Rattle.redl_app.proofs.package.read_nodes.Goals as goal
 
 pub returns-clause-read : goal.returns-clause-read
-returns-clause-read c = λ reader is.
-    tree_read reader c.args.limit c.args.bytes.now (nodes_of c.in_ok-read.field-0.items) is (omega arith) c.in_ok-read.ensures.found
-    c.in_ok-read.ensures.within.0 c.in_ok-read.ensures.within.1
+returns-clause-read c = record {
+  as_due = λ reader is. tree_read reader c.args.bytes.now (nodes_of c.in_ok-read.field-0.items) is c.in_ok-read.ensures.found
+      c.in_ok-read.ensures.within.0 c.in_ok-read.ensures.within.1;
+  never_unread = tt;
+}
 
 pub returns-clause-tree : goal.returns-clause-tree
 returns-clause-tree c = record {
@@ -17,7 +19,6 @@ returns-clause-tree c = record {
 }
 
 pub returns-in_err-read-clause-read : goal.returns-in_err-read-clause-read
-returns-in_err-read-clause-read c = λ reader is.
-    refused_as (λ nodes. nodes_of nodes.items) c.from_residual.result _ (tree_in reader c.args.limit c.args.bytes.now) c.from_residual.ensures.1
-    (tree_refused reader c.args.limit c.args.bytes.now c.in_err-read.field-0.0 is (omega arith)
-    c.in_err-read.ensures.unreadable c.in_err-read.ensures.too_deep c.in_err-read.ensures.too_many)
+returns-in_err-read-clause-read c =
+    failed_as (λ nodes. nodes_of nodes.items) c.from_residual.result _ (λ reader. tree_in (reader.tree c.args.bytes.now)) c.from_residual.ensures.1
+    (tree_fails c.args.bytes.now c.in_err-read.field-0.0 c.in_err-read.ensures.unreadable c.in_err-read.ensures.too_deep c.in_err-read.ensures.too_many)

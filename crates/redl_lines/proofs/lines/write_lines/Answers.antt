@@ -6,9 +6,6 @@ pub returns-in_ok-write_refused-in-Unwritten : goal.returns-in_ok-write_refused-
 returns-in_ok-write_refused-in-Unwritten g c =
     rw c.in-Unwritten.is (puts_then refl c.in_ok-write_refused-in-Unwritten.ensures c.put_piece.ensures)
 
-pub returns-in-Usage : goal.returns-in-Usage
-returns-in-Usage g c = rw c.in-Usage.is c.put_piece-in-Usage.ensures
-
 pub returns-in_err-write_refused-in-Unwritten : goal.returns-in_err-write_refused-in-Unwritten
 returns-in_err-write_refused-in-Unwritten g c =
     rw c.in-Unwritten.is (puts_fails _ refl c.from_residual.ensures.1 c.in_err-write_refused-in-Unwritten.ensures)

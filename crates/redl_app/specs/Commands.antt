@@ -1,0 +1,3 @@
+pub mod Settle
+pub mod Write
+pub mod Check

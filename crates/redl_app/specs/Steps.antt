@@ -1,0 +1,23 @@
+-- Steps of a call, one after another up to the first failure, and the files that a call names.
+use Rattle.std.specs.Prelude.{ℕ, List, length, nat_lt, Option, None, Some, Result, Ok, Err, if◌then◌else◌}
+use Rattle.redl_io.specs.Shelf.{Files}
+use Rattle.redl_lines.specs.Failures.{Failure, caused, unread, over}
+use Rattle.redl_lines.specs.declared.failure.Limit.{Limit}
+
+infixl 10 ◌>>=◌
+abbrev pub ◌>>=◌ : {X Y : Type 0} → Result X Failure → (X → Result Y Failure) → Result Y Failure
+(Ok x) >>= next = next x
+(Err failure) >>= next = Err failure
+
+-- the text of a file that the shelf has
+abbrev pub held : List ℕ → Option (List ℕ) → Result (List ℕ) Failure
+held name None = Err (unread name)
+held name (Some whole) = Ok whole
+
+-- a text of at most so many bytes
+abbrev pub within : ℕ → Limit → List ℕ → Result (List ℕ) Failure
+within most limit whole = if nat_lt most (length whole) then Err (caused (over limit)) else Ok whole
+
+-- the text of the file of this name, of at most so many bytes
+abbrev pub file : Files → List ℕ → ℕ → Limit → Result (List ℕ) Failure
+file files name most limit = held name (files name) >>= within most limit

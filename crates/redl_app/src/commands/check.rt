@@ -1,0 +1,29 @@
+//! `check P`.
+
+ghost use Rattle.std.specs.Prelude.{◌≡◌, IfOk};
+ghost use Rattle.redl_app.specs.Commands.Check.{checked, sound_text};
+ghost use Rattle.redl_app.specs.Reading.{Reads};
+ghost use Rattle.redl_app.specs.Views.{result_view, writing_view};
+ghost use Rattle.redl_app.specs.Writing.{only_bytes};
+ghost use Rattle.redl_index.specs.Numbers.{package_revisions};
+
+use crate::output::{Output, Writing};
+use crate::package::{number_package, read_package};
+use redl_lines::Failure;
+use redl_opc::Package;
+use std::alloc::{AllocError, Global};
+
+/// That the package with this text is sound, and how many revisions it has.
+pub(crate) fn check<'a>(alloc: Global, bytes: &[u8]) -> Result<Writing, Failure<'a>>
+    ensures { Reads (result_view writing_view result) (λ reader. checked reader bytes.now) }
+{
+    let package = read_package(alloc, bytes)?;
+    Ok(count_revisions(alloc, package)?)
+}
+
+fn count_revisions(alloc: Global, read: Package) -> Result<Writing, AllocError>
+    ensures { IfOk result (λ writing. writing_view writing ≡ only_bytes (sound_text (package_revisions read))) }
+{
+    let numbered = number_package(alloc, read)?;
+    Ok(Writing::only(alloc, Output::Count(numbered.count)))
+}

@@ -1,6 +1,0 @@
-use Rattle.redl_lines.proofs.lines.write_other_count.Goals as goal
-
-pub returns : goal.returns
-returns g c =
-    rw (c.as_bytes.ensures.value, (c.as_bytes-2).ensures.value, c.format.ensures.text, (c.as_bytes-3).ensures.value, (c.format-2).ensures.text)
-    at c.write_difference.ensures

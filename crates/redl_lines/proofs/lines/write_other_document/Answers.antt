@@ -1,4 +1,0 @@
-use Rattle.redl_lines.proofs.lines.write_other_document.Goals as goal
-
-pub returns : goal.returns
-returns g c = rw (c.as_bytes.ensures.value, c.digits.ensures, (c.digits-2).ensures) at c.write_difference.ensures

@@ -1,0 +1,115 @@
+-- The lines on standard error.
+use Rattle.std.specs.Prelude.{ℕ, List, [], ◌∷◌, ◌++◌, codes, decimal, Bool, ◌&&◌, nat_le, if◌then◌else◌}
+use Rattle.hex.specs.Hex.{encode_lower}
+use Rattle.redl_io.specs.Limits.{package_bytes, journal_bytes, depth, nodes}
+use Rattle.redl_journal.specs.declared.entry.Entry.{Entry}
+use Rattle.redl_journal.specs.Journals.{word_text}
+use Rattle.redl_lines.specs.Failures.{Cause, usage, unbuilt, no_format, no_package, malformed, other_document, other_count, no_sequence, over, Failure, caused, unread, no_memory}
+use Rattle.redl_lines.specs.declared.failure.Limit.{Limit}
+use Rattle.redl_lines.specs.declared.failure.Limit.TheVariants.{PackageBytes, JournalBytes, Depth, Nodes, Sample}
+use Rattle.redl_lines.specs.declared.failure.PackageFault.{PackageFault}
+use Rattle.redl_lines.specs.declared.failure.PackageFault.TheVariants.{NotReadable, NotPackage, PartShape, NoDocument, Rule}
+
+abbrev pub newline : List ℕ
+newline = 10 ∷ []
+
+-- ---- the words of the command line
+
+abbrev pub usage_line : List ℕ
+usage_line = codes "redline: cannot read the command line" ++ newline
+
+abbrev pub unbuilt_line : List ℕ
+unbuilt_line = codes "redline: not built yet" ++ newline
+
+abbrev pub no_format_line : List ℕ → List ℕ
+no_format_line name = codes "redline: no format " ++ (name ++ newline)
+
+-- ---- the package
+
+abbrev pub fault_line : PackageFault → List ℕ
+fault_line NotReadable = codes "redline: package: not readable" ++ newline
+fault_line NotPackage = codes "redline: package: not a package" ++ newline
+fault_line PartShape = codes "redline: package: part shape" ++ newline
+fault_line NoDocument = codes "redline: package: no document" ++ newline
+fault_line (Rule rule) = codes "redline: package: rule " ++ (decimal rule ++ newline)
+
+-- ---- the journals
+
+abbrev pub malformed_line : List ℕ → List ℕ
+malformed_line name = codes "redline: journal " ++ (name ++ (codes ": malformed" ++ newline))
+
+-- the line of a journal that says one thing of its package where the package has another
+abbrev pub difference_line : List ℕ → List ℕ → List ℕ → List ℕ → List ℕ
+difference_line name what found expected =
+    codes "redline: journal " ++ (name ++ (codes ": " ++ (what ++ (codes " " ++ (found
+    ++ (codes ", expected " ++ (expected ++ newline)))))))
+
+abbrev pub other_document_line : List ℕ → List ℕ → List ℕ → List ℕ
+other_document_line name found expected = difference_line name (codes "document") (encode_lower found) (encode_lower expected)
+
+abbrev pub other_count_line : List ℕ → ℕ → ℕ → List ℕ
+other_count_line name found expected = difference_line name (codes "revisions") (decimal found) (decimal expected)
+
+abbrev pub no_sequence_line : List ℕ → List ℕ
+no_sequence_line reviewer = codes "redline: no sequence number left for " ++ (reviewer ++ newline)
+
+-- ---- the limits
+
+-- the most paragraphs of a sample
+abbrev pub sample_paragraphs : ℕ
+sample_paragraphs = 20000
+
+abbrev pub limit_line : Limit → List ℕ
+limit_line PackageBytes = codes "redline: limit package bytes " ++ decimal package_bytes ++ newline
+limit_line JournalBytes = codes "redline: limit journal bytes " ++ decimal journal_bytes ++ newline
+limit_line Depth = codes "redline: limit depth " ++ decimal depth ++ newline
+limit_line Nodes = codes "redline: limit nodes " ++ decimal nodes ++ newline
+limit_line Sample = codes "redline: limit sample " ++ decimal sample_paragraphs ++ newline
+
+-- ---- why a call ends
+
+abbrev pub cause_line : Cause → List ℕ
+cause_line usage = usage_line
+cause_line unbuilt = unbuilt_line
+cause_line (no_format name) = no_format_line name
+cause_line (no_package fault) = fault_line fault
+cause_line (malformed name) = malformed_line name
+cause_line (other_document name found expected) = other_document_line name found expected
+cause_line (other_count name found expected) = other_count_line name found expected
+cause_line (no_sequence reviewer) = no_sequence_line reviewer
+cause_line (over limit) = limit_line limit
+
+abbrev pub unread_line : List ℕ → List ℕ
+unread_line name = codes "redline: cannot read " ++ (name ++ newline)
+
+abbrev pub no_memory_line : List ℕ
+no_memory_line = codes "redline: no memory" ++ newline
+
+abbrev pub failure_line : Failure → List ℕ
+failure_line (caused cause) = cause_line cause
+failure_line (unread name) = unread_line name
+failure_line no_memory = no_memory_line
+
+abbrev pub unwritten_line : List ℕ
+unwritten_line = codes "redline: cannot write" ++ newline
+
+-- ---- refused entries
+
+-- the entry is on one of the revisions 1 to count
+abbrev pub is_known : ℕ → Entry → Bool
+is_known count entry = nat_le 1 entry.rev && nat_le entry.rev count
+
+-- Why an entry is refused: its revision does not exist, or else the author of its revision is locked.
+abbrev pub why_refused : ℕ → Entry → List ℕ
+why_refused count entry = if is_known count entry then codes "locked author" else codes "unknown revision"
+
+-- the line of an entry: its seq, its revision, its word, its reviewer, and why it is refused
+abbrev pub entry_line : List ℕ → List ℕ → List ℕ → List ℕ → List ℕ → List ℕ
+entry_line seq rev word reviewer why =
+    codes "redline: refused " ++ (seq ++ (codes " " ++ (rev ++ (codes " " ++ (word ++ (codes " "
+    ++ (reviewer ++ (codes ": " ++ (why ++ newline)))))))))
+
+-- the line of a refused entry, in a package with so many revisions
+abbrev pub refused_line : ℕ → Entry → List ℕ
+refused_line count entry =
+    entry_line (decimal entry.seq) (decimal entry.rev) (word_text entry.word) entry.reviewer (why_refused count entry)
