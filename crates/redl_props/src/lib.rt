@@ -5,11 +5,11 @@
 //! Which change is rejected, and where its former kids are, is left to the crates above.
 #![tactic(auto)]
 
-mod uncovered;
 mod properties;
+mod uncovered;
 
-pub use uncovered::without_marks;
 pub use properties::restore;
+pub use uncovered::without_marks;
 
 #[cfg(test)]
 mod tests;

@@ -8,8 +8,8 @@ mod digits;
 mod laws;
 mod moment;
 mod stamp;
-mod value;
 mod stamp_values;
+mod value;
 
 pub use laws::value_of_the_first;
 pub use moment::read_moment;

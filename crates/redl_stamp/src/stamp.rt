@@ -8,8 +8,8 @@ ghost use Rattle.redl_stamp.specs.Moment.{IsMoment, moment_of};
 ghost use Rattle.redl_stamp.specs.Stamp.{stamp_of};
 
 use crate::moment::moment;
-use crate::value::decoded;
 use crate::stamp_values::Written;
+use crate::value::decoded;
 use redl_io::Text;
 use std::alloc::{AllocError, Global};
 
