@@ -1,14 +1,28 @@
 """Makes the packages and journals of this folder, and what the program is to write of them.
 
-It shares no code with the program: it reads a document as a list of tags and text, and decides by the two tables below.
-Run it in this folder: python3 make.py
-"""
-import hashlib
-import re
+    python3 make.py            into this folder
+    python3 make.py FOLDER     into another one
 
+What the program is to write comes from reading.py, which shares no code with it. The results of the examples that have been
+worked out by hand are not made, but compared with that reading.
+"""
+import os
+import sys
+
+import contract
+import reading
+
+HERE = os.path.dirname(os.path.abspath(__file__))
+# How a word processor finds the document of a package.
+FOUND = (
+    '<pkg:part pkg:name="/_rels/.rels" pkg:contentType="application/vnd.openxmlformats-package.relationships+xml" pkg:padding="512">'
+    '<pkg:xmlData><Relationships xmlns="http://schemas.openxmlformats.org/package/2006/relationships">'
+    '<Relationship Id="rId1" Type="http://schemas.openxmlformats.org/officeDocument/2006/relationships/officeDocument" Target="word/document.xml"/>'
+    "</Relationships></pkg:xmlData></pkg:part>"
+)
 FRONT = (
-    '<?xml version="1.0" encoding="UTF-8"?>'
-    '<pkg:package xmlns:pkg="http://schemas.microsoft.com/office/2006/xmlPackage">'
+    '<?xml version="1.0" encoding="UTF-8" standalone="yes"?>\n<?mso-application progid="Word.Document"?>\n'
+    '<pkg:package xmlns:pkg="http://schemas.microsoft.com/office/2006/xmlPackage">' + FOUND +
     '<pkg:part pkg:name="/word/document.xml" pkg:contentType="application/vnd.openxmlformats-officedocument.wordprocessingml.document.main+xml">'
     "<pkg:xmlData>"
     '<w:document xmlns:w="http://schemas.openxmlformats.org/wordprocessingml/2006/main"><w:body>'
@@ -23,11 +37,7 @@ BOB = 'w:author="Bob Hay" w:date="2026-11-03T14:30:00Z"'
 LETTER_FRONT = (
     '<?xml version="1.0" encoding="UTF-8" standalone="yes"?>\n'
     '<?mso-application progid="Word.Document"?>\n'
-    '<pkg:package xmlns:pkg="http://schemas.microsoft.com/office/2006/xmlPackage">'
-    '<pkg:part pkg:name="/_rels/.rels" pkg:contentType="application/vnd.openxmlformats-package.relationships+xml" pkg:padding="512">'
-    '<pkg:xmlData><Relationships xmlns="http://schemas.openxmlformats.org/package/2006/relationships">'
-    '<Relationship Id="rId1" Type="http://schemas.openxmlformats.org/officeDocument/2006/relationships/officeDocument" Target="word/document.xml"/>'
-    "</Relationships></pkg:xmlData></pkg:part>\n"
+    '<pkg:package xmlns:pkg="http://schemas.microsoft.com/office/2006/xmlPackage">' + FOUND + "\n"
     '<pkg:part pkg:name="/word/document.xml" pkg:contentType="application/vnd.openxmlformats-officedocument.wordprocessingml.document.main+xml">'
     '<pkg:xmlData><w:document xmlns:w="http://schemas.openxmlformats.org/wordprocessingml/2006/main"'
     " xmlns:r='http://schemas.openxmlformats.org/officeDocument/2006/relationships' >\n<w:body>"
@@ -87,93 +97,108 @@ LETTER = [
     + text("."),
 ]
 
-# seq, revision, word
-ANN_SAYS = [(1, 1, "accept"), (1, 2, "accept"), (1, 5, "accept"), (1, 9, "accept"), (2, 9, "reject"), (2, 4, "reject")]
-BOB_SAYS = [(1, 1, "accept"), (1, 3, "accept"), (1, 5, "reject"), (1, 6, "accept"), (2, 6, "withdraw"), (1, 8, "reject")]
-# revision 10 is none of the document's
-CARA_SAYS = [(1, 10, "reject"), (1, 9, "reject")]
+# reviewer, sequence number, revision, word
+ANN_SAYS = [("Ann Gray", *it) for it in [(1, 1, "accept"), (1, 2, "accept"), (1, 5, "accept"), (1, 9, "accept"), (2, 9, "reject"), (2, 4, "reject")]]
+BOB_SAYS = [("Bob Hay", *it) for it in [(1, 1, "accept"), (1, 3, "accept"), (1, 5, "reject"), (1, 6, "accept"), (2, 6, "withdraw"), (1, 8, "reject")]]
+# the document does not have revision 10
+CARA_SAYS = [("Cara Lee", 1, 10, "reject"), ("Cara Lee", 1, 9, "reject")]
 
-# what becomes of a revision: it stays as it is, loses its tags, or goes with all in it
-FATE = {
-    ("ins", "accept"): "free",
-    ("ins", "reject"): "cut",
-    ("del", "accept"): "cut",
-    ("del", "reject"): "free",
+
+def words(who, sequence, word, *numbers):
+    return [(who, sequence, number, word) for number in numbers]
+
+
+# What three reviewers say of the contract. They dispute the time of payment, 32 and 33. Bob comes round to the new price of
+# cable, 12, with a later sequence number, and takes back what he said of the inserted mark 30.
+CONTRACT_SAYS = {
+    "ann": words("Ann Gray", 1, "accept", 2, 3, 4, 5, 6, 11, 12, *range(20, 29), 29, 31, 32, 33, 42, 43, 47, 48, 49),
+    "bob": words("Bob Hay", 1, "accept", 2, 3, 6, 11, *range(13, 20), 27, 29, 30, 47)
+    + words("Bob Hay", 1, "reject", 12, 32, 33, 42, 43, 46)
+    + words("Bob Hay", 2, "accept", 12)
+    + words("Bob Hay", 2, "withdraw", 30),
+    "cara": words("Cara Lee", 1, "accept", 1, 5, *range(7, 11), *range(34, 42), 44, 45),
 }
-LIVE = {"w:delText": "w:t", "w:delInstrText": "w:instrText"}
-
-
-def resolve(body, decided):
-    """The body where revision n is decided as decided(n) says: accept, reject, or None."""
-    out = []
-    around = []
-    number = 0
-    for piece in re.findall(r"<[^>]*>|[^<]+", body):
-        cut = any(fate == "cut" for _, fate in around)
-        if not piece.startswith("<"):
-            if not cut:
-                out.append(piece)
-            continue
-        name = re.match(r"</?([\w:]+)", piece).group(1)
-        kind = name[2:] if name in ("w:ins", "w:del") else None
-        if piece.startswith("</") and kind:
-            _, fate = around.pop()
-        elif kind:
-            number += 1
-            fate = FATE.get((kind, decided(number)), "leave")
-            if not piece.endswith("/>"):
-                around.append((kind, fate))
-        else:
-            fate = "leave"
-            deletions = [fate for kind, fate in around if kind == "del"]
-            if name in LIVE and "free" in deletions and "leave" not in deletions:
-                piece = piece.replace(name, LIVE[name], 1)
-        if not cut and fate == "leave":
-            out.append(piece)
-    return "".join(out)
-
-
-def verdict(number, entries):
-    """accept or reject where all latest words agree; entries are (reviewer, seq, revision, word)."""
-    here = [entry for entry in set(entries) if entry[2] == number]
-    latest = {}
-    for who, seq, _, _ in here:
-        latest[who] = max(seq, latest.get(who, 0))
-    words = {word for who, seq, _, word in here if seq == latest[who]} - {"withdraw"}
-    return words.pop() if len(words) == 1 else None
-
-
-def journal(package, count, who, says):
-    head = "redline-journal 1\ndocument %s\nrevisions %d\n" % (hashlib.sha256(package.encode()).hexdigest(), count)
-    return head + "".join("%d\t%d\t%s\t%s\n" % (seq, revision, word, who) for seq, revision, word in says)
+LOCKED = "Dana Fox & Co"
+BY_HAND = ["terms", "joins", "properties", "rows", "moves"]
 
 
 def package(body):
     return FRONT + body + BACK
 
 
-def save(name, whole):
-    with open(name, "w", newline="\n") as file:
-        file.write(whole)
+class Folder:
+    """Where the files go."""
+
+    def __init__(self, name):
+        self.name = name
+
+    def save(self, name, whole):
+        with open(os.path.join(self.name, name), "w", newline="\n", encoding="utf-8") as file:
+            file.write(whole)
+
+
+def settled(folder, name, read):
+    folder.save(name + ".accepted.xml", reading.decided(read, lambda number: "accept"))
+    folder.save(name + ".rejected.xml", reading.decided(read, lambda number: "reject"))
+
+
+def make_plain(folder):
+    whole = package("".join("<w:p>%s</w:p>" % paragraph for paragraph in PARAGRAPHS))
+    read = reading.Package(whole)
+    folder.save("plain.xml", whole)
+    settled(folder, "plain", read)
+    folder.save("plain.written.xml", reading.written(read, ANN_SAYS + BOB_SAYS))
+    for name, says in [("ann", ANN_SAYS), ("bob", BOB_SAYS), ("cara", CARA_SAYS)]:
+        folder.save(name + ".journal", reading.journal(read, says))
+
+
+def make_letter(folder):
+    whole = LETTER_FRONT + "".join("\n<w:p w:rsidR='00A77B3E'>%s</w:p >" % paragraph for paragraph in LETTER) + LETTER_BACK
+    folder.save("letter.xml", whole)
+    folder.save("letter.accepted.xml", reading.decided(reading.Package(whole), lambda number: "accept"))
+
+
+def make_contract(folder):
+    whole = contract.package()
+    read = reading.Package(whole)
+    folder.save("contract.xml", whole)
+    settled(folder, "contract", read)
+    for name, says in CONTRACT_SAYS.items():
+        folder.save("contract.%s.journal" % name, reading.journal(read, says))
+    entries = sum(CONTRACT_SAYS.values(), [])
+    folder.save("contract.written.xml", reading.written(read, entries))
+    folder.save("contract.locked.xml", reading.written(read, entries, [LOCKED]))
+    folder.save("contract.locked.lines", reading.refused_lines(read, entries, [LOCKED]))
+    folder.save("contract.joined.journal", reading.journal(read, reading.in_order(entries)))
+    for form in ["text", "tab", "json"]:
+        folder.save("contract.list." + form, reading.listed(read, entries, form))
+    # Ann accepts all of Cara's changes in one go, but for the two in the sentence on prices.
+    of_cara = [number for number, it in enumerate(read.revisions, 1) if it.author == "Cara Lee"]
+    book, _ = reading.decide(read, "Ann Gray", CONTRACT_SAYS["ann"], [("accept", of_cara), ("withdraw", [5])])
+    folder.save("contract.decided.journal", reading.journal(read, book))
+
+
+def check_by_hand():
+    """The results that have been worked out by hand, against the reading."""
+    failed = 0
+    for name in BY_HAND:
+        text = lambda end: open(os.path.join(HERE, name + end), newline="", encoding="utf-8").read()
+        read = reading.Package(text(".xml"))
+        for end, say in [(".accepted.xml", "accept"), (".rejected.xml", "reject")]:
+            if text(end) != reading.decided(read, lambda number: say):
+                print("the reading gives other bytes than %s%s" % (name, end))
+                failed = 1
+    return failed
 
 
 def main():
-    body = "".join("<w:p>%s</w:p>" % paragraph for paragraph in PARAGRAPHS)
-    count = len(re.findall("<w:(?:ins|del) ", body))
-    plain = package(body)
-    reviewers = [("Ann Gray", ANN_SAYS, "ann"), ("Bob Hay", BOB_SAYS, "bob"), ("Cara Lee", CARA_SAYS, "cara")]
-    entries = [(who,) + entry for who, says, _ in reviewers[:2] for entry in says]
-    save("plain.xml", plain)
-    save("plain.accepted.xml", package(resolve(body, lambda number: "accept")))
-    save("plain.rejected.xml", package(resolve(body, lambda number: "reject")))
-    save("plain.written.xml", package(resolve(body, lambda number: verdict(number, entries))))
-    letter = "".join("\n<w:p w:rsidR='00A77B3E'>%s</w:p >" % paragraph for paragraph in LETTER)
-    save("letter.xml", LETTER_FRONT + letter + LETTER_BACK)
-    save("letter.accepted.xml", LETTER_FRONT + resolve(letter, lambda number: "accept") + LETTER_BACK)
+    folder = Folder(sys.argv[1] if len(sys.argv) > 1 else HERE)
+    make_plain(folder)
+    make_letter(folder)
+    make_contract(folder)
     # a paragraph whose properties don't come first
-    save("unsound.xml", package("<w:p>%s<w:pPr/></w:p>" % text("Terms of sale")))
-    for who, says, file in reviewers:
-        save(file + ".journal", journal(plain, count, who, says))
+    folder.save("unsound.xml", package("<w:p>%s<w:pPr/></w:p>" % text("Terms of sale")))
+    return check_by_hand()
 
 
-main()
+sys.exit(main())

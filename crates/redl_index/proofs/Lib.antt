@@ -4,5 +4,8 @@ pub mod IndexLaws
 pub mod ContextLaws
 pub mod LabelLaws
 pub mod RevisionLaws
+pub mod PartLaws
+pub mod AgainLaws
+pub mod KindNameLaws
 mod Rows
 mod RevisionRows

@@ -1,13 +1,14 @@
 -- Laws of revisions: the walk over a story finds those of the definition.
-use Rattle.std.proofs.Common.{◌≡◌, ◌∙◌, refl, ap, sym, subst, ℕ, suc, ◌+◌, ◌-◌, ◌^◌, ◌<◌, ◌≤◌, ◌==◌, ◌&&◌, ◌||◌, not, nat_lt, List, [], ◌∷◌, ◌++◌, Bool, true, false, true≢false, cond, filter, filter_map, map, length, slice_get, Option, Some, None, is_some, option_map, append_assoc, length-append, arith, if◌then◌else◌}
+use Rattle.std.proofs.Common.{◌≡◌, ◌∙◌, refl, ap, sym, subst, ℕ, suc, ◌+◌, ◌-◌, ◌^◌, ◌<◌, ◌≤◌, ◌==◌, ◌&&◌, ◌||◌, not, nat_lt, List, [], ◌∷◌, ◌++◌, Bool, true, false, true≢false, drop, filter, filter_map, map, length, slice_get, Option, Some, None, is_some, option_map, option_to_list, append_assoc, length-append, arith, if◌then◌else◌}
 use Rattle.std.specs.List.{cons_option, list_any}
 use Rattle.std.proofs.lemmas.List.{append-nil}
-use Rattle.redl_tree.specs.Model.Nodes.{Tag, Nodes, no_nodes, bytes, element, Item, bytes_item, element_item, in_front}
-use Rattle.redl_tree.specs.Decisions.Packages.{is_root, level_of}
+use Rattle.redl_tree.specs.Model.Nodes.{Tag, Nodes}
+use Rattle.redl_tree.specs.Model.View.{Parts}
 use Rattle.redl_tree.specs.Model.Count.{count}
 use Rattle.redl_tree.specs.Revisions.Markers.{whole_role, move_of}
 use Rattle.redl_tree.specs.Revisions.Moves.{Marking, Pair, pairs}
-use Rattle.redl_tree.specs.Revisions.Numbers.{Membership, in_none, in_own, in_move, membership, Numbering, number_of_move, counted, counted_move, start_with, next_after, next_after_story}
+use Rattle.redl_tree.specs.Revisions.Numbers.{Membership, in_none, in_own, in_move, membership, Numbering, number_of_move, counted, counted_move, start_with, next_after_story}
+use Rattle.redl_tree.proofs.NumberLaws.{next_after_stories, next_after-stories}
 use Rattle.redl_tree.specs.Model.Seen.{Seen, seen, seen_from, root_spots}
 use Rattle.redl_tree.specs.declared.kinds.Kind.{Kind}
 use Rattle.redl_tree.specs.declared.kinds.Kind.TheVariants.{Content, Mark, Row, Cell, Change, Plain, Marker}
@@ -17,13 +18,19 @@ use Rattle.redl_moves.specs.Starts.{start_in}
 use Rattle.redl_markers.specs.Found.{markers_of, marker_tags}
 use Rattle.redl_markers.specs.Free.{Every}
 use Rattle.redl_markers.proofs.StoryLaws.{seen-count}
-use Rattle.redl_index.specs.Labels.{story_labels, item_labels_in, next_behind, item_next, labels_in}
+use Rattle.redl_opc.specs.Elements.{Element}
+use Rattle.redl_opc.specs.Parts.{story}
+use Rattle.redl_opc.specs.Shape.{parts_of, story_of, refusal}
+use Rattle.redl_opc.specs.Stories.{story_view, stories_of_part, stories_from}
+use Rattle.redl_opc.proofs.StoryLaws.{stories-parts}
+use Rattle.redl_opc.proofs.WalkLaws.{part-at, stories_from-part}
+use Rattle.redl_index.specs.Labels.{story_labels, labels_of}
 use Rattle.redl_index.specs.Numbers.{package_revisions}
-use Rattle.redl_index.proofs.LabelLaws.{counted_all, numbering-fold, labels_in-in_front}
+use Rattle.redl_index.proofs.LabelLaws.{counted_all, numbering-fold, labels_of-append}
 use Rattle.redl_index.proofs.TallyLaws.{labels-noted}
 use Rattle.redl_index.specs.declared.revision.Revision.{Revision}
 use Rattle.redl_index.specs.Mentions.{Mention, mention_by, mentions, Sight, sight_in}
-use Rattle.redl_index.specs.Revisions.{starts_at, is_of, is_new, firsts, members_of, revision_with, revision_of, numbered, part_behind, item_part_behind, story_revisions, revisions_from, kids_revisions_from, item_revisions_from, revisions_of}
+use Rattle.redl_index.specs.Revisions.{starts_at, is_of, is_new, firsts, members_of, revision_with, revision_of, numbered, story_revisions, revisions_in, revisions_from, revisions_of}
 use Rattle.redl_index.specs.Tallies.{Tally, next_number, known_number, with_move, with_one_more, replaced, mentioned_again, mentioned, mentioned_by, noted_by, noted_all}
 
 -- ---- equal starts
@@ -620,74 +627,78 @@ length-story part next root kids =
     ∙ sym (ap (λ (n : Numbering). n.next) (numbering-fold (pairs (markers_of root kids)) (root_spots root kids) 1 (start_with next) kids)
     ∙ counted-next (markers_of root kids) (marker_tags root kids) (start_with next) [] (seen root kids) (λ k. refl))
 
-either-next : (is_root : Bool) (next : ℕ) (xs ys : List (ℕ → Revision)) (m n : ℕ) → next + length xs ≡ m → next + length ys ≡ n → next + length (cond is_root xs ys) ≡ cond is_root m n
-either-next true next xs ys m n h k = h
-either-next false next xs ys m n h k = k
-
 -- ---- how many a package has
 
-length-from : (around : List Tag) (part next : ℕ) (nodes : Nodes) → next + length (revisions_from around part nodes) ≡ next_after attribute_value around next nodes
-length-from around part next no_nodes = omega arith
-length-from around part next (bytes b rest) = length-from around part next rest
-length-from around part next (element tag kids rest) =
-    let inner = kids_revisions_from around part tag kids in
-    let after = revisions_from around (part_behind (level_of around) part) rest in
-    let more : next + length (inner ++ after) ≡ (next + length inner) + length after = omega (arith, length-append inner after) in
-    let below : next + length inner ≡ next_behind around next tag kids =
-    either-next (is_root around tag) next (story_revisions part tag kids) (revisions_from (tag ∷ around) part kids) _ _
-    (length-story part next tag kids) (length-from (tag ∷ around) part next kids) in
-    more ∙ ap (λ n. n + length after) below ∙ length-from around (part_behind (level_of around) part) (next_behind around next tag kids) rest
+-- the stories of parts
+abbrev stories_in_parts : List Element → List Parts
+stories_in_parts parts = map story_view (filter_map story_of parts)
 
-kids-next : (around : List Tag) (part next : ℕ) (tag : Tag) (kids : Nodes) → next + length (kids_revisions_from around part tag kids) ≡ next_behind around next tag kids
-kids-next around part next tag kids =
-    either-next (is_root around tag) next (story_revisions part tag kids) (revisions_from (tag ∷ around) part kids) _ _
-    (length-story part next tag kids) (length-from (tag ∷ around) part next kids)
+-- the next number behind a part
+pub length-in : (k next : ℕ) (root : Option Element)
+    → next + length (revisions_in k root) ≡ next_after_stories attribute_value next (option_to_list (option_map story_view root))
+length-in k next None = omega arith
+length-in k next (Some root) = length-story k next root.tag root.kids
 
-pub item-next : (around : List Tag) (part next : ℕ) (x : Item) → next + length (item_revisions_from around part x) ≡ item_next around next x
-item-next around part next (bytes_item b) = omega arith
-item-next around part next (element_item tag kids) = kids-next around part next tag kids
+length-from : (k next : ℕ) (parts : List Element) → next + length (revisions_from k parts) ≡ next_after_stories attribute_value next (stories_in_parts parts)
+length-from k next [] = omega arith
+length-from k next (part ∷ rest) = by (story_of part) (length-in k next (story_of part)) (λ n. length-from (k + 1) n rest)
+  where
+    by : (root : Option Element) → next + length (revisions_in k root) ≡ next_after_stories attribute_value next (option_to_list (option_map story_view root))
+        → ((n : ℕ) → n + length (revisions_from (k + 1) rest) ≡ next_after_stories attribute_value n (stories_in_parts rest))
+        → next + length (revisions_in k root ++ revisions_from (k + 1) rest)
+        ≡ next_after_stories attribute_value next (map story_view (cons_option root (filter_map story_of rest)))
+    by None here more = more next
+    by (Some root) here more =
+        let inner = story_revisions k root.tag root.kids in
+        let both : next + length (inner ++ revisions_from (k + 1) rest) ≡ (next + length inner) + length (revisions_from (k + 1) rest) =
+        omega (arith, length-append inner (revisions_from (k + 1) rest)) in
+        both ∙ ap (λ n. n + length (revisions_from (k + 1) rest)) here ∙ more (next_after_story attribute_value next root.tag root.kids)
 
 -- the revisions of a package are as many as it says
-pub length-revisions_of : (nodes : Nodes) → length (revisions_of nodes) ≡ package_revisions nodes
-length-revisions_of nodes =
-    length-numbered 1 (revisions_from [] 0 nodes) ∙ none-before (length (revisions_from [] 0 nodes)) ∙ length-from [] 0 0 nodes
+pub length-revisions_of : (nodes : Nodes) → refusal nodes ≡ None → length (revisions_of nodes) ≡ package_revisions nodes
+length-revisions_of nodes shape =
+    length-numbered 1 (revisions_from 0 (parts_of nodes)) ∙ none-before (length (revisions_from 0 (parts_of nodes)))
+    ∙ length-from 0 0 (parts_of nodes) ∙ ap (next_after_stories attribute_value 0) (stories-parts nodes shape)
+    ∙ sym (next_after-stories attribute_value [] 0 nodes)
   where
     none-before : (n : ℕ) → n ≡ 0 + n
     none-before n = omega arith
 
--- ---- a node at a time
+-- ---- a part at a time
 
-pub revisions_from-in_front : (around : List Tag) (part : ℕ) (x : Item) (ys : Nodes)
-    → revisions_from around part (in_front x ys) ≡ item_revisions_from around part x ++ revisions_from around (item_part_behind (level_of around) part x) ys
-revisions_from-in_front around part (bytes_item b) ys = refl
-revisions_from-in_front around part (element_item tag kids) ys = refl
-
-module _ (around : List Tag) (part : ℕ) (old mid : List Revision) (x : Item) (rest : Nodes) (is : mid ≡ old ++ numbered (1 + length old) (item_revisions_from around part x)) where
-  length-mid : 1 + length mid ≡ (1 + length old) + length (item_revisions_from around part x)
+module _ (nodes : Nodes) (number : ℕ) (within : number < length (parts_of nodes)) (old mid : List Revision)
+    (is : mid ≡ old ++ numbered (1 + length old) (revisions_in number (story nodes number))) where
+  length-mid : 1 + length mid ≡ (1 + length old) + length (revisions_in number (story nodes number))
   length-mid =
-      let here = item_revisions_from around part x in
+      let here = revisions_in number (story nodes number) in
       omega (arith, ap length is, length-append old (numbered (1 + length old) here), length-numbered (1 + length old) here)
 
-  -- the revisions of a node stand in front of those of the nodes behind it
-  pub found-item : mid ++ numbered (1 + length mid) (revisions_from around (item_part_behind (level_of around) part x) rest)
-      ≡ old ++ numbered (1 + length old) (revisions_from around part (in_front x rest))
-  found-item =
-      let here = item_revisions_from around part x in
-      let after = revisions_from around (item_part_behind (level_of around) part x) rest in
+  -- the revisions of a part stand in front of those of the parts behind it
+  pub found-part : mid ++ numbered (1 + length mid) (revisions_from (number + 1) (drop (number + 1) (parts_of nodes)))
+      ≡ old ++ numbered (1 + length old) (revisions_from number (drop number (parts_of nodes)))
+  found-part =
+      let found = part-at nodes number within in
+      let here = revisions_in number (story nodes number) in
+      let after = revisions_from (number + 1) (drop (number + 1) (parts_of nodes)) in
+      let all : here ++ after ≡ revisions_from number (drop number (parts_of nodes)) =
+      ap (λ root. revisions_in number root ++ after) found.1.root ∙ sym (ap (revisions_from number) found.1.front) in
       ap (λ n. mid ++ numbered n after) length-mid
       ∙ ap (λ (rs : List Revision). rs ++ numbered ((1 + length old) + length here) after) is
       ∙ append_assoc old (numbered (1 + length old) here) (numbered ((1 + length old) + length here) after)
-      ∙ ap (λ rs. old ++ rs) (sym (numbered-append (1 + length old) here after) ∙ ap (numbered (1 + length old)) (sym (revisions_from-in_front around part x rest)))
+      ∙ ap (λ rs. old ++ rs) (sym (numbered-append (1 + length old) here after) ∙ ap (numbered (1 + length old)) all)
 
   -- and so do its labels
-  pub labelled-item : (had now : List Label) → now ≡ had ++ item_labels_in around (1 + length old) x →
-      now ++ labels_in around (1 + length mid) rest ≡ had ++ labels_in around (1 + length old) (in_front x rest)
-  labelled-item had now labels =
-      let here = item_labels_in around (1 + length old) x in
-      let after = labels_in around (item_next around (1 + length old) x) rest in
-      ap (λ n. now ++ labels_in around n rest) (length-mid ∙ item-next around part (1 + length old) x)
+  pub labelled-part : (had now : List Label) → now ≡ had ++ labels_of (1 + length old) (stories_of_part nodes number) →
+      now ++ labels_of (1 + length mid) (stories_from (number + 1) nodes) ≡ had ++ labels_of (1 + length old) (stories_from number nodes)
+  labelled-part had now labels =
+      let here = labels_of (1 + length old) (stories_of_part nodes number) in
+      let next = next_after_stories attribute_value (1 + length old) (stories_of_part nodes number) in
+      let after = labels_of next (stories_from (number + 1) nodes) in
+      ap (λ n. now ++ labels_of n (stories_from (number + 1) nodes)) (length-mid ∙ length-in number (1 + length old) (story nodes number))
       ∙ ap (λ (ls : List Label). ls ++ after) labels ∙ append_assoc had here after
-      ∙ ap (λ ls. had ++ ls) (sym (labels_in-in_front around (1 + length old) x rest))
+      ∙ ap (λ ls. had ++ ls)
+      (sym (labels_of-append (1 + length old) (stories_of_part nodes number) (stories_from (number + 1) nodes))
+      ∙ sym (ap (labels_of (1 + length old)) (stories_from-part nodes number within)))
 
 -- ---- a story
 

@@ -1,5 +1,6 @@
 pub mod Numbers
 pub mod Kinds
+pub mod KindNames
 pub mod Mentions
 pub mod Revisions
 pub mod Labels

@@ -1,11 +1,11 @@
 -- The revisions of a package, in the order of their numbers, with who made each of them and when (ECMA-376 Part 1, 17.13.5).
-use Rattle.std.specs.Prelude.{ℕ, ◌+◌, ◌^◌, ◌<◌, ◌==◌, ◌&&◌, not, List, [], ◌∷◌, ◌++◌, All, Bool, true, false, IsTrue, Option, Some, None, length, filter, map, if◌then◌else◌, IfSome}
+use Rattle.std.specs.Prelude.{◌≡◌, ℕ, ◌+◌, ◌^◌, ◌<◌, ◌==◌, ◌&&◌, not, List, [], ◌∷◌, ◌++◌, All, Bool, true, false, IsTrue, Option, Some, None, length, filter, map, slice_get, if◌then◌else◌, IfSome, IsSome}
 use Rattle.std.specs.List.{list_any}
 use Rattle.std.specs.Str.{IsUtf8}
-use Rattle.redl_tree.specs.Model.Nodes.{Tag, Nodes, no_nodes, bytes, element, Item, bytes_item, element_item}
-use Rattle.redl_tree.specs.Decisions.Packages.{is_root, level_of}
-use Rattle.redl_tree.specs.declared.level.Level.{Level}
-use Rattle.redl_tree.specs.declared.level.Level.TheVariants.{Package}
+use Rattle.redl_tree.specs.Model.Nodes.{Tag, Nodes}
+use Rattle.redl_opc.specs.Elements.{Element}
+use Rattle.redl_opc.specs.Parts.{part_name, story}
+use Rattle.redl_opc.specs.Shape.{parts_of, story_of}
 use Rattle.redl_stamp.specs.Moment.{IsMoment}
 use Rattle.redl_stamp.specs.Stamp.{author_of, seconds_of}
 use Rattle.redl_index.specs.declared.revision.RevKind.{RevKind}
@@ -19,9 +19,14 @@ pub record IsTold (revision : Revision) : Type 0 where
   pub author : IsUtf8 revision.author
   pub moment : IfSome revision.seconds IsMoment
 
--- what an index keeps: that this is told of each revision, and a number names each of them
+-- the numbers count from 1: revision number k + 1 stands at place k
+abbrev pub AreNumbered : List Revision → Type 0
+AreNumbered revisions = (k : ℕ) (revision : Revision) → slice_get revisions k ≡ Some revision → revision.number ≡ k + 1
+
+-- what an index keeps: that this is told of each revision, that their numbers count from 1, and that 32 bits hold them
 pub record IsIndex (revisions : List Revision) : Type 0 where
   pub told : All IsTold revisions
+  pub numbers : AreNumbered revisions
   pub few : length revisions < 2 ^ 32
 
 -- a mention of the move whose source starts at this position
@@ -68,37 +73,27 @@ revision_of part story mention number = revision_with part mention.kind mention.
 abbrev pub story_revisions : ℕ → Tag → Nodes → List (ℕ → Revision)
 story_revisions part root kids = map (revision_of part (mentions root kids)) (firsts [] (mentions root kids))
 
--- the part that comes next behind an element at this level: parts are the child elements of the root, and count from 0
-abbrev pub part_behind : Level → ℕ → ℕ
-part_behind Package part = part + 1
-part_behind _ part = part
+-- the revisions in the part with this number; none if the part is not a story
+abbrev pub revisions_in : ℕ → Option Element → List (ℕ → Revision)
+revisions_in part None = []
+revisions_in part (Some root) = story_revisions part root.tag root.kids
 
--- the same in the stories among nodes with these ancestors in their package, in or from this part on
-abbrev pub revisions_from : List Tag → ℕ → Nodes → List (ℕ → Revision)
-revisions_from around part no_nodes = []
-revisions_from around part (bytes b rest) = revisions_from around part rest
-revisions_from around part (element tag kids rest) =
-    (if is_root around tag then story_revisions part tag kids else revisions_from (tag ∷ around) part kids)
-    ++ revisions_from around (part_behind (level_of around) part) rest
+-- the revisions in these parts, of which the first has this number
+abbrev pub revisions_from : ℕ → List Element → List (ℕ → Revision)
+revisions_from number [] = []
+revisions_from number (part ∷ later) = revisions_in number (story_of part) ++ revisions_from (number + 1) later
 
 -- revisions with their numbers, from this one on
 abbrev pub numbered : ℕ → List (ℕ → Revision) → List Revision
 numbered number [] = []
 numbered number (revision ∷ more) = revision number ∷ numbered (number + 1) more
 
--- the revisions of a package
+-- the revisions of a package, whose parts count from 0
 abbrev pub revisions_of : Nodes → List Revision
-revisions_of nodes = numbered 1 (revisions_from [] 0 nodes)
+revisions_of nodes = numbered 1 (revisions_from 0 (parts_of nodes))
 
--- ---- what code finds in one element, and in one node
-
-abbrev pub kids_revisions_from : List Tag → ℕ → Tag → Nodes → List (ℕ → Revision)
-kids_revisions_from around part tag kids = if is_root around tag then story_revisions part tag kids else revisions_from (tag ∷ around) part kids
-
-abbrev pub item_revisions_from : List Tag → ℕ → Item → List (ℕ → Revision)
-item_revisions_from around part (bytes_item b) = []
-item_revisions_from around part (element_item tag kids) = kids_revisions_from around part tag kids
-
-abbrev pub item_part_behind : Level → ℕ → Item → ℕ
-item_part_behind level part (bytes_item b) = part
-item_part_behind level part (element_item tag kids) = part_behind level part
+-- the part of a revision is a story of the package, and has a name
+pub record IsInStory (nodes : Nodes) (revision : Revision) : Type 0 where
+  pub is_part : revision.part < length (parts_of nodes)
+  pub has_name : IsSome (part_name nodes revision.part)
+  pub has_story : IsSome (story nodes revision.part)

@@ -1,10 +1,10 @@
 //! The walk that finds the revisions in the stories of a package, and the labels of the elements.
 
-ghost use Rattle.std.specs.Prelude.{◌≡◌, ◌+◌, ◌^◌, ◌<◌, ◌≤◌, ◌++◌, ℕ, IsTrue, List, OnOk, length, map};
+ghost use Rattle.std.specs.Prelude.{◌≡◌, ◌+◌, ◌^◌, ◌<◌, ◌≤◌, ◌++◌, ℕ, IsTrue, List, OnOk, length, map, []};
 ghost use Rattle.std.specs.Str.{IsUtf8};
 ghost use Rattle.redl_tree.specs.Model.Count.{count, item_count};
-ghost use Rattle.redl_tree.specs.Model.Nodes.{Tag, no_nodes, in_front};
-ghost use Rattle.redl_tree.specs.Decisions.Packages.{level_of, is_story_root};
+ghost use Rattle.redl_tree.specs.Model.Nodes.{no_nodes, in_front};
+ghost use Rattle.redl_tree.specs.Decisions.Packages.{is_story_root, stories};
 ghost use Rattle.redl_tree.specs.Model.Seen.{Spot, tags, seen_from};
 ghost use Rattle.redl_tree.specs.Model.View.{nodes_of, item_of, tag_of, kids_of};
 ghost use Rattle.redl_opc.specs.Tree.{HasUtf8Tails};
@@ -12,8 +12,9 @@ ghost use Rattle.redl_markers.specs.Ends.{ends_from};
 ghost use Rattle.redl_markers.specs.Free.{Every, IsFree};
 ghost use Rattle.redl_markers.specs.Walks.{item_tags, item_seen, item_ends, element_seen, element_ends};
 ghost use Rattle.redl_index.specs.Contexts.{context_of};
-ghost use Rattle.redl_index.specs.Labels.{story_labels, kids_labels_in, item_labels_in, labels_in};
-ghost use Rattle.redl_index.specs.Revisions.{numbered, story_revisions, revisions_from, kids_revisions_from, item_revisions_from, item_part_behind};
+ghost use Rattle.redl_index.specs.Labels.{story_labels, labels_of};
+ghost use Rattle.redl_index.specs.Numbers.{package_revisions};
+ghost use Rattle.redl_index.specs.Revisions.{numbered, story_revisions, revisions_of};
 ghost use Rattle.redl_index.specs.Stories.{tags_in, HaveUtf8Tails, sight_of};
 ghost use Rattle.redl_index.specs.Tallies.{Tally, noted_all, IsTally};
 
@@ -22,89 +23,25 @@ use crate::found::Found;
 use crate::story::Story;
 use redl_markers::find_markers;
 use redl_moves::Moves;
-use redl_tree::{Around, Elem, Level, Node};
+use redl_opc::Package;
+use redl_tree::{Around, Elem, Node};
 use std::alloc::AllocError;
 
-/// Adds what is in the stories among nodes that stand at a level, in or from a part on. `Err` means out of memory.
-#[cycle(stories)]
-#[tactic(auto, using(crate::proofs::IndexLaws::count_here))]
-pub(crate) fn find_in_stories(
-    nodes: &[Node],
-    level: Level,
-    first: u32,
-    found: &mut Found,
-) -> Result<(), AllocError>
-    requires few { length found.old.index + count (nodes_of nodes.now) < 2 ^ 32 }
-    requires parts { first + count (nodes_of nodes.now) < 2 ^ 32 }
-    requires tails { HasUtf8Tails (nodes_of nodes.now) }
-    ensures at_most { OnOk result (length found.new.index ≤ length found.old.index + count (nodes_of nodes.now)) }
-    ensures index { OnOk result ((around : List Tag) → level ≡ level_of around
-        → found.new.index ≡ found.old.index ++ numbered (1 + length found.old.index) (revisions_from around first (nodes_of nodes.now))) }
-    ensures labels { OnOk result ((around : List Tag) → level ≡ level_of around
-        → found.new.labels.items ≡ found.old.labels.items ++ labels_in around (1 + length found.old.index) (nodes_of nodes.now)) }
+/// Adds what is in the stories of a package to nothing. `Err` means out of memory.
+pub(crate) fn find_in_stories(pkg: &Package, found: &mut Found) -> Result<(), AllocError>
+    requires index { found.old.index ≡ [] }
+    requires labels { found.old.labels.items ≡ [] }
+    ensures index { OnOk result (found.new.index ≡ revisions_of pkg.now) }
+    ensures count { OnOk result (length found.new.index ≡ package_revisions pkg.now) }
+    ensures labels { OnOk result (found.new.labels.items ≡ labels_of 1 (stories pkg.now)) }
 {
-    let mut part = first;
-    for node in nodes {
-        find_in_package_node(node, level, part, found)?;
-        part = part_behind(level, part, node);
+    for part in 0..pkg.parts() {
+        let Some(root) = pkg.story(part) else {
+            continue;
+        };
+        find_in_story(root, part, found)?;
     }
     Ok(())
-}
-
-#[cycle(stories)]
-fn find_in_package_node(
-    node: &Node,
-    level: Level,
-    part: u32,
-    found: &mut Found,
-) -> Result<(), AllocError>
-    requires few { length found.old.index + item_count (item_of node.now) < 2 ^ 32 }
-    requires parts { part + item_count (item_of node.now) < 2 ^ 32 }
-    requires tails { HasUtf8Tails (in_front (item_of node.now) no_nodes) }
-    ensures at_most { OnOk result (length found.new.index ≤ length found.old.index + item_count (item_of node.now)) }
-    ensures index { OnOk result ((around : List Tag) → level ≡ level_of around
-        → found.new.index ≡ found.old.index ++ numbered (1 + length found.old.index) (item_revisions_from around part (item_of node.now))) }
-    ensures labels { OnOk result ((around : List Tag) → level ≡ level_of around
-        → found.new.labels.items ≡ found.old.labels.items ++ item_labels_in around (1 + length found.old.index) (item_of node.now)) }
-{
-    match node {
-        Node::Elem(elem) => find_in_package_elem(elem, level, part, found),
-        Node::Bytes(_) => Ok(()),
-    }
-}
-
-#[cycle(stories)]
-fn find_in_package_elem(
-    elem: &Elem,
-    level: Level,
-    part: u32,
-    found: &mut Found,
-) -> Result<(), AllocError>
-    requires few { length found.old.index + (1 + count (kids_of elem.now)) < 2 ^ 32 }
-    requires parts { part + (1 + count (kids_of elem.now)) < 2 ^ 32 }
-    requires tails { HasUtf8Tails (kids_of elem.now) }
-    ensures at_most { OnOk result (length found.new.index ≤ length found.old.index + (1 + count (kids_of elem.now))) }
-    ensures index { OnOk result ((around : List Tag) → level ≡ level_of around
-        → found.new.index ≡ found.old.index ++ numbered (1 + length found.old.index) (kids_revisions_from around part (tag_of elem.now) (kids_of elem.now))) }
-    ensures labels { OnOk result ((around : List Tag) → level ≡ level_of around
-        → found.new.labels.items ≡ found.old.labels.items ++ kids_labels_in around (1 + length found.old.index) (tag_of elem.now) (kids_of elem.now)) }
-{
-    if level.is_root(elem) {
-        return find_in_story(elem, part, found);
-    }
-    find_in_stories(&elem.kids, level.below(elem), part, found)
-}
-
-/// The part that comes next after a node at this level.
-fn part_behind(level: Level, part: u32, node: &Node) -> u32
-    requires parts { part + item_count (item_of node.now) < 2 ^ 32 }
-    ensures at_most { result ≤ part + item_count (item_of node.now) }
-    ensures part { result ≡ item_part_behind level part (item_of node.now) }
-{
-    match (node, level) {
-        (Node::Elem(_), Level::Package) => part + 1,
-        _ => part,
-    }
 }
 
 /// Adds what is in the story with this root, in two walks: the first finds the markers of moves and the ends of paragraphs.

@@ -1,16 +1,15 @@
 //! The index of a package.
 
-ghost use Rattle.std.specs.Prelude.{◌≡◌, ◌+◌, ◌-◌, ◌^◌, ◌<◌, ◌≤◌, ◌↔◌, ◌++◌, ◌∷◌, [], Some, length, slice_get, IfOk, IfSome, IsSome, IsTrue, OnOk, OnErr};
+ghost use Rattle.std.specs.Prelude.{◌≡◌, ◌+◌, ◌-◌, ◌^◌, ◌<◌, ◌≤◌, ◌↔◌, ◌++◌, ◌∷◌, [], Some, All, length, slice_get, IfOk, IfSome, IsSome, IsTrue, OnOk, OnErr};
 ghost use Rattle.redl_tree.specs.Model.Text.{text};
-ghost use Rattle.redl_index.specs.Numbers.{numbered_package};
-ghost use Rattle.redl_index.specs.Revisions.{IsTold, revisions_of};
+ghost use Rattle.redl_index.specs.Numbers.{numbered_package, package_revisions};
+ghost use Rattle.redl_index.specs.Revisions.{AreNumbered, IsInStory, IsTold, revisions_of};
 ghost use Rattle.redl_index.specs.Tallies.{mentioned_again, replaced};
 
 use crate::find::find_in_stories;
 use crate::found::Found;
 use crate::revision::Revision;
 use redl_opc::Package;
-use redl_tree::Level;
 use std::alloc::{AllocError, Global};
 use std::marker::Model;
 
@@ -45,6 +44,7 @@ impl Index {
     /// Adds a revision after the others. `Err` means out of memory.
     pub(crate) fn add(&mut self, revision: Revision) -> Result<(), AllocError>
         requires told { IsTold revision }
+        requires number { revision.number ≡ length self.old + 1 }
         requires few { length self.old + 1 < 2 ^ 32 }
         ensures { OnOk result (self.new ≡ self.old ++ revision ∷ []) }
     {
@@ -65,16 +65,19 @@ impl Index {
     ///
     /// A paired move is one revision, with its members and its four markers. Each other member is a revision of its own. Numbers
     /// count from 1 through the stories, in the order of the parts and of the first start tags (ECMA-376 Part 1, 17.13.5; that
-    /// moves are paired by names, and the numbers, are our own rules). All else in the package stays. `Err` means out of memory,
-    /// and then the package is as before. It goes three times through each story.
+    /// moves are paired by names, and the numbers, are our own rules). The part of each revision is a story with a name. All
+    /// else in the package stays. `Err` means out of memory, and then the package is as before. It goes three times through each
+    /// story.
     pub fn build(alloc: Global, pkg: &mut Package) -> Result<Index, AllocError>
         ensures index { IfOk result (λ index. index ≡ revisions_of pkg.old) }
+        ensures count { IfOk result (λ index. length index ≡ package_revisions pkg.old) }
+        ensures stories { IfOk result (λ index. All (IsInStory pkg.new) index) }
         ensures nodes { OnOk result (pkg.new ≡ numbered_package pkg.old) }
         ensures text { OnOk result (text pkg.new ≡ text pkg.old) }
         ensures unchanged { OnErr result (pkg.new ≡ pkg.old) }
     {
         let mut found = Found::nothing(alloc);
-        find_in_stories(pkg.nodes(), Level::Top, 0, &mut found)?;
+        find_in_stories(pkg, &mut found)?;
         pkg.label_stories(&found.labels);
         Ok(found.index)
     }
@@ -86,9 +89,11 @@ impl Index {
         self.revisions.len() as u32
     }
 
-    /// The revisions in the order of their numbers.
+    /// The revisions in the order of their numbers, which count from 1.
     pub fn revisions(&self) -> &[Revision]
-        ensures { result.now ≡ self.now }
+        ensures value { result.now ≡ self.now }
+        ensures numbers { AreNumbered self.now }
+        ensures told { All IsTold self.now }
     {
         &self.revisions
     }
@@ -100,6 +105,7 @@ impl Index {
     pub fn get(&self, number: u32) -> Option<&Revision>
         ensures found { IsSome result ↔ ((0 < number) × (number ≤ length self.now)) }
         ensures value { IfSome result (λ found. slice_get self.now (number - 1) ≡ Some found.now) }
+        ensures number { IfSome result (λ found. found.now.number ≡ number) }
         ensures told { IfSome result (λ found. IsTold found.now) }
     {
         let place = number.checked_sub(1)?;

@@ -10,10 +10,14 @@ mod context;
 mod find;
 mod found;
 mod index;
+mod laws;
+mod kind_names;
 mod revision;
 mod story;
 
 pub use index::Index;
+pub use laws::{each_revision_has_a_part, numbering_keeps_revisions, revisions_are_numbered};
+pub use kind_names::one_kind_for_a_name;
 pub use revision::{RevKind, Revision};
 
 #[cfg(test)]

@@ -1,11 +1,12 @@
 -- Books and their unions.
-use Rattle.std.proofs.Common.{◌≡◌, ℕ, Bool, true, false, cond, eqb, List, [], ◌∷◌, Equal, refl, sym, ap, ◌∙◌, Contains, arith, map, ◌++◌, append-nil, append_assoc}
+use Rattle.std.proofs.Common.{◌≡◌, ℕ, Bool, true, false, cond, eqb, List, [], ◌∷◌, Ordering, Less, Equal, Greater, refl, sym, ap, ◌∙◌, Contains, arith, filter, map, ◌++◌, append-nil, append_assoc}
 use Rattle.std.proofs.lemmas.List.{map_push}
 use Rattle.std.proofs.lemmas.List.Concat.{flat_map-append}
-use Rattle.std.specs.Prelude.{◌||◌, ◌↔◌}
+use Rattle.std.specs.Prelude.{◌||◌, ◌&&◌, ◌↔◌, not}
 use Rattle.std.specs.List.{flat_map}
 use Rattle.std.specs.List.Sorted.{IsStrictlySortedBy}
 use Rattle.std.specs.Cmp.{eq_by_cmp_equiv}
+use Rattle.std.specs.Ordering.{is_eq}
 use Rattle.std.specs.BTreeMap.{BTreeMap}
 use Rattle.std.specs.BTreeSet.{BTreeSet}
 use Rattle.std.proofs.lemmas.Map.Views.{Contains-from_any, list_any-from_Contains, tells_apart, All-insert_key, All-remove_key}
@@ -16,11 +17,20 @@ use Rattle.redl_journal.proofs.EntryOrder.{entry_order-total, entry_order-exact}
 use Rattle.redl_join.specs.Books.{IsBook, is_same, has_entry, with_entry, without_entry, union, is_on, entries_at, IsIndexed, IsKept}
 use Rattle.redl_join.proofs.Lists.{insert_present, remove_inserted, filter_insert, filter_remove, sorted_insert, any_insert, same_sorted}
 
+equal : (r : Ordering) → is_eq r ≡ true → r ≡ Equal
+equal Equal h = refl
+equal Less h = absurd cc
+equal Greater h = absurd cc
+
 -- ---- unions
 
-book-union : (book entries : List Entry) → IsBook book → IsBook (union book entries)
+pub book-union : (book entries : List Entry) → IsBook book → IsBook (union book entries)
 book-union book [] h = h
 book-union book (e ∷ es) h = book-union (with_entry book e) es (sorted_insert entry_order-total book e h)
+
+pub union-append : (book entries others : List Entry) → union book (entries ++ others) ≡ union (union book entries) others
+union-append book [] others = refl
+union-append book (e ∷ es) others = union-append (with_entry book e) es others
 
 or_move : (a b c : Bool) → ((a || b) || c) ≡ (b || (a || c))
 or_move true true c = refl
@@ -49,17 +59,39 @@ both_ways false false f g = refl
 pub one_book : (book other : List Entry) → IsBook book → IsBook other → ((e : Entry) → has_entry book e ≡ has_entry other e) → book ≡ other
 one_book book other h g same = same_sorted entry_order-total entry_order-exact book other h g same
 
-pub one_union : (entries others : List Entry) → ((e : Entry) → Contains entries e ↔ Contains others e) → union [] entries ≡ union [] others
+-- lists with the same entries make the same union with a book
+pub union-same : (book entries others : List Entry) → IsBook book → ((q : Entry) → has_entry entries q ≡ has_entry others q) → union book entries ≡ union book others
+union-same book entries others sorted same =
+    one_book (union book entries) (union book others) (book-union book entries sorted) (book-union book others sorted) (λ q.
+    has_entry-union book entries q ∙ ap (λ (b : Bool). has_entry book q || b) (same q) ∙ sym (has_entry-union book others q))
+
+pub has_entry-same : (entries others : List Entry) → ((e : Entry) → Contains entries e ↔ Contains others e) → (q : Entry) → has_entry entries q ≡ has_entry others q
+has_entry-same entries others h q =
+    both_ways (has_entry entries q) (has_entry others q) (same_members entries others (λ e. (h e).0) q) (same_members others entries (λ e. (h e).1) q)
+
+pub book-none : IsBook []
 unfolding IsStrictlySortedBy
-one_union entries others h =
-    one_book (union [] entries) (union [] others) (book-union [] entries tt) (book-union [] others tt) (λ q.
-    has_entry-union [] entries q
-    ∙ both_ways (has_entry entries q) (has_entry others q) (same_members entries others (λ e. (h e).0) q) (same_members others entries (λ e. (h e).1) q)
-    ∙ sym (has_entry-union [] others q))
+book-none = tt
+
+pub one_union : (entries others : List Entry) → ((e : Entry) → Contains entries e ↔ Contains others e) → union [] entries ≡ union [] others
+one_union entries others h = union-same [] entries others book-none (has_entry-same entries others h)
+
+pub has_entry-filter : (test : Entry → Bool) (entries : List Entry) (q : Entry) → has_entry (filter test entries) q ≡ (test q && has_entry entries q)
+has_entry-filter test [] q = nothing (test q) where
+  nothing : (a : Bool) → false ≡ (a && false)
+  nothing true = refl
+  nothing false = refl
+has_entry-filter test (x ∷ xs) q = by (test x) refl (is_same q x) refl (has_entry-filter test xs q) where
+  by : (a : Bool) → test x ≡ a → (b : Bool) → is_same q x ≡ b → has_entry (filter test xs) q ≡ (test q && has_entry xs q)
+      → has_entry (cond a (x ∷ filter test xs) (filter test xs)) q ≡ (test q && (is_same q x || has_entry xs q))
+  by true passes true same rest = let own : test q ≡ true = ap test (entry_order-exact q x (equal (entry_order q x) same)) ∙ passes in rw (same, own) refl
+  by true passes false same rest = rw same rest
+  by false fails true same rest = let own : test q ≡ false = ap test (entry_order-exact q x (equal (entry_order q x) same)) ∙ fails in rw (same, own) (rw own at rest)
+  by false fails false same rest = rw same rest
 
 -- ---- the entries of each revision
 
-is_on-same : (rev : ℕ) (a b : Entry) → entry_order a b ≡ Equal → is_on rev a ≡ is_on rev b
+pub is_on-same : (rev : ℕ) (a b : Entry) → entry_order a b ≡ Equal → is_on rev a ≡ is_on rev b
 is_on-same rev a b same = ap (is_on rev) (entry_order-exact a b same)
 
 eqb_turned : (m n : ℕ) → eqb m n ≡ eqb n m
@@ -112,6 +144,39 @@ kept-back book old mid new e kept lacks h g =
       indexed = rw back at (indexed-without (with_entry book e) mid new e (indexed-with book old mid e kept.ordered kept.indexed h) g);
       allowed = kept.allowed;
     }
+
+or_grows : (a b c : Bool) → (b ≡ true → c ≡ true) → (a || b) ≡ true → (a || c) ≡ true
+or_grows true b c grows h = refl
+or_grows false b c grows h = grows h
+
+or_after : (a b : Bool) → b ≡ true → (a || b) ≡ true
+or_after true b h = refl
+or_after false b h = h
+
+-- an entry that is listed at a revision is in the book
+pub has_entry-listed : (book : List Entry) (rev : ℕ) (e : Entry) → has_entry (filter (is_on rev) book) e ≡ true → has_entry book e ≡ true
+has_entry-listed [] rev e has = has
+has_entry-listed (x ∷ xs) rev e has = by (is_on rev x) has (has_entry-listed xs rev e) where
+  by : (on : Bool) → has_entry (cond on (x ∷ filter (is_on rev) xs) (filter (is_on rev) xs)) e ≡ true
+      → (has_entry (filter (is_on rev) xs) e ≡ true → has_entry xs e ≡ true) → (is_same e x || has_entry xs e) ≡ true
+  by true h rec = or_grows (is_same e x) (has_entry (filter (is_on rev) xs) e) (has_entry xs e) rec h
+  by false h rec = or_after (is_same e x) (has_entry xs e) (rec h)
+
+pub not_false : (b : Bool) → false ≡ not b → b ≡ true
+not_false true h = refl
+not_false false h = h
+
+-- an entry that was listed before is in the book, so listing it again changes nothing
+pub listed-before : (book : List Entry) (old : BTreeMap ℕ (BTreeSet Entry)) (e : Entry) → IsKept book old → false ≡ not (has_entry (entries_at old e.rev) e) → has_entry book e ≡ true
+listed-before book old e kept listed =
+    has_entry-listed book e.rev e (ap (λ (l : List Entry). has_entry l e) (sym (kept.indexed e.rev)) ∙ not_false (has_entry (entries_at old e.rev) e) listed)
+
+pub kept-again : (book : List Entry) (old new : BTreeMap ℕ (BTreeSet Entry)) (e : Entry) → IsKept book old → IsAllowed e
+    → ((rev : ℕ) → entries_at new rev ≡ cond (eqb rev e.rev) (with_entry (entries_at old rev) e) (entries_at old rev))
+    → has_entry book e ≡ true → IsKept book new
+kept-again book old new e kept allowed h has =
+    let same = kept-present book e kept.ordered has in
+    rw same at (kept-with book old new e kept allowed h)
 
 pub kept-as : (book same : List Entry) (old new : BTreeMap ℕ (BTreeSet Entry)) → IsKept book old → same ≡ book
     → ((rev : ℕ) → entries_at new rev ≡ entries_at old rev) → IsKept same new

@@ -5,6 +5,7 @@ use Rattle.std.specs.List.{list_any, list_all, AllByRecursion}
 use Rattle.std.specs.List.Sorted.{IsStrictlySortedBy}
 use Rattle.std.specs.Cmp.Lexicographic.{slice_cmp}
 use Rattle.std.specs.Ordering.{nat_cmp, ordering_then}
+use Rattle.std.specs.BTreeSet.{insert_key}
 use Rattle.std.specs.Str.{bytes_eq}
 use Rattle.std.proofs.lemmas.Cmp.{nat_list_cmp_total, tied_itself}
 use Rattle.std.proofs.lemmas.Bool.{eqb-true}
@@ -14,10 +15,12 @@ use Rattle.std.proofs.lemmas.Slice.Eq.{bytes_eq-Decides}
 use Rattle.redl_journal.specs.declared.entry.Entry.{Entry}
 use Rattle.redl_journal.specs.Order.{entry_order}
 use Rattle.redl_journal.proofs.EntryOrder.{entry_order-total}
-use Rattle.redl_join.specs.Books.{IsBook, is_on}
+use Rattle.redl_join.specs.Books.{IsBook, is_on, with_entry}
 use Rattle.redl_join.specs.Verdicts.{has_same_reviewer, is_latest, counts, is_accept, is_reject, verdict_of, verdict_at}
 use Rattle.redl_join.specs.Tallies.{Tally, still_counts, tally_with, tally_from, no_tally, tally_verdict}
-use Rattle.redl_join.proofs.Lists.{below}
+use Rattle.redl_join.specs.declared.verdict.Verdict.{Verdict}
+use Rattle.redl_join.proofs.Lists.{below, filter_insert}
+use Rattle.redl_join.proofs.Unions.{is_on-same}
 
 both_true : (a b : Bool) → (a && b) ≡ true → (a ≡ true) × (b ≡ true)
 both_true true b h = (refl, h)
@@ -244,6 +247,21 @@ tallied_verdict rev xs ys sorted are =
 pub no_entries_undecided : (rev : ℕ) (xs : List Entry) → [] ≡ filter (is_on rev) xs → verdict_at xs rev ≡ verdict_of false false
 unfolding IsStrictlySortedBy
 no_entries_undecided rev xs none = sym (tallied_verdict rev xs [] tt none)
+
+-- the verdict of the entries of one revision
+abbrev verdict_among : List Entry → Verdict
+verdict_among xs = verdict_of (list_any (λ e. is_latest xs e && is_accept e) xs) (list_any (λ e. is_latest xs e && is_reject e) xs)
+
+verdict_at-among : (rev : ℕ) (xs : List Entry) → verdict_at xs rev ≡ verdict_among (filter (is_on rev) xs)
+verdict_at-among rev xs = rw (counted rev xs is_accept, counted rev xs is_reject) refl
+
+-- an entry on another revision changes no verdict
+pub verdict_at-other : (rev : ℕ) (xs : List Entry) (e : Entry) → IsBook xs → is_on rev e ≡ false → verdict_at (with_entry xs e) rev ≡ verdict_at xs rev
+verdict_at-other rev xs e sorted other =
+    let same : filter (is_on rev) (with_entry xs e) ≡ filter (is_on rev) xs =
+    filter_insert entry_order-total (is_on rev) (is_on-same rev) xs e sorted
+    ∙ ap (λ (b : Bool). cond b (insert_key entry_order (filter (is_on rev) xs) e) (filter (is_on rev) xs)) other in
+    verdict_at-among rev (with_entry xs e) ∙ ap verdict_among same ∙ sym (verdict_at-among rev xs)
 
 -- ---- the loop, from the last entry to the first
 

@@ -5,7 +5,7 @@ ghost use Rattle.redl_journal.specs.Journals.{IsAllowed, entry_text, journal_tex
 ghost use Rattle.redl_join.specs.Books.{IsBook, has_entry, with_entry, without_entry};
 ghost use Rattle.redl_join.specs.Verdicts.{verdict_at, greatest_seq};
 
-use crate::index::{ByRevision, list, unlist};
+use crate::by_revision::{ByRevision, list, unlist};
 use crate::tally;
 use crate::verdict::Verdict;
 use redl_io::{Failed, Sink};
@@ -58,12 +58,13 @@ impl Book {
         ensures was_new { IfOk result (λ new. new ≡ not (has_entry self.old entry)) }
         ensures untouched { OnErr result (self.new ≡ self.old) }
     {
-        if self.entries.contains(&entry) {
+        let copy = entry.copy(self.alloc)?;
+        let listed = list(self.alloc, &mut self.by_revision, copy)?;
+        if !listed {
             return Ok(false);
         }
-        list(self.alloc, &mut self.by_revision, entry.copy(self.alloc)?)?;
         match self.entries.insert(entry) {
-            Ok(_) => Ok(true),
+            Ok(new) => Ok(new),
             Err(refused) => {
                 unlist(&mut self.by_revision, &refused.value);
                 Err(AllocError)

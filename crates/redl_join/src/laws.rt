@@ -1,5 +1,5 @@
 //! Laws of all books.
-ghost use Rattle.std.specs.Prelude.{◌≡◌, ◌↔◌, List, [], Contains};
+ghost use Rattle.std.specs.Prelude.{◌≡◌, ◌↔◌, ◌++◌, List, [], Contains};
 ghost use Rattle.redl_journal.specs.declared.entry.Entry.{Entry};
 ghost use Rattle.redl_join.specs.Books.{IsBook, has_entry, union};
 
@@ -13,4 +13,9 @@ pub fn same_book()
 pub fn same_union()
     ensures { (entries others : List Entry) → ((entry : Entry) → Contains entries entry ↔ Contains others entry)
         → union [] entries ≡ union [] others }
+{}
+
+/// The union with one list of entries and then with another is the union with both.
+pub fn union_of_both()
+    ensures { (book entries others : List Entry) → union (union book entries) others ≡ union book (entries ++ others) }
 {}

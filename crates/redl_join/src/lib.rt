@@ -5,11 +5,11 @@
 #![tactic(auto)]
 
 mod book;
-mod index;
+mod by_revision;
 mod laws;
 mod tally;
 mod verdict;
 
 pub use book::{Book, Entries};
-pub use laws::{same_book, same_union};
+pub use laws::{same_book, same_union, union_of_both};
 pub use verdict::Verdict;

@@ -40,8 +40,9 @@ pub(crate) fn field(bytes: &[u8], end: u8) -> Option<(&[u8], &[u8])>
     Some((field, rest))
 }
 
-/// The number that decimal digits write, without a sign or a leading zero.
-pub(crate) fn number(digits: &[u8]) -> Option<u32>
+/// The number that decimal digits write. `None` exactly where they have a sign or a leading zero, are no digits, or write a number
+/// above 4294967295.
+pub fn read_number(digits: &[u8]) -> Option<u32>
     ensures { number_in digits.now ≡ result }
 {
     let Ok(text) = str::from_utf8(digits) else {
@@ -110,7 +111,7 @@ fn is_text(bytes: &[u8]) -> bool
 
 /// Whether the bytes are a reviewer's name: 1 to 255 bytes of UTF-8 without control characters of ASCII.
 #[tactic(auto, unfolding(crate::specs::Reading::is_reviewer))]
-pub(crate) fn is_reviewer(name: &[u8]) -> bool
+pub fn is_reviewer(name: &[u8]) -> bool
     ensures { result ≡ is_reviewer name.now }
 {
     name.len() >= 1 && name.len() <= 255 && are_visible(name) && is_text(name)

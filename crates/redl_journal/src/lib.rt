@@ -16,6 +16,7 @@ mod writing;
 
 pub use entry::{Entry, Word};
 pub use error::JournalError;
+pub use fields::{is_reviewer, read_number};
 pub use journal::Journal;
 pub use laws::one_journal;
 pub use reading::read;

@@ -3,7 +3,7 @@ ghost use Rattle.std.specs.Prelude.{◌≡◌};
 ghost use Rattle.redl_journal.specs.Reading.{Gives, entry_in, entry_at, entry_of, digest_at, count_at, head_at, head_of};
 
 use crate::entry::Word;
-use crate::fields::{digest, field, is_reviewer, number, skip, word};
+use crate::fields::{digest, field, is_reviewer, read_number, skip, word};
 
 /// An entry whose reviewer is borrowed from the bytes that were read.
 #[derive(Clone, Copy)]
@@ -30,8 +30,8 @@ fn entry(line: &[u8]) -> Option<Line<'_>>
     let (seq, rest) = field(line, b'\t')?;
     let (rev, rest) = field(rest, b'\t')?;
     let (text, reviewer) = field(rest, b'\t')?;
-    let seq = number(seq)?;
-    let rev = number(rev)?;
+    let seq = read_number(seq)?;
+    let rev = read_number(rev)?;
     let word = word(text)?;
     if seq == 0 || !is_reviewer(reviewer) {
         return None;
@@ -72,7 +72,7 @@ fn count_line(bytes: &[u8]) -> Option<(u32, &[u8])>
 {
     let rest = skip(bytes, b"revisions ")?;
     let (digits, rest) = field(rest, b'\n')?;
-    let count = number(digits)?;
+    let count = read_number(digits)?;
     Some((count, rest))
 }
 

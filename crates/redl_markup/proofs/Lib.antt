@@ -15,4 +15,5 @@ pub mod Utf8
 pub mod Rows
 pub mod Alike
 pub mod Characters
+pub mod Blocks
 pub mod Numbers

@@ -1,5 +1,5 @@
 -- The list of a tail's attributes.
-use Rattle.std.proofs.Common.{◌≡◌, ℕ, inl, inr, zero, suc, ◌<◌, Bool, cond, List, [], ◌∷◌, ◌++◌, length, map, Option, Some, None, refl, sym, ap, ◌∙◌, arith, true}
+use Rattle.std.proofs.Common.{◌≡◌, ℕ, inl, inr, zero, suc, ◌<◌, Bool, List, [], ◌∷◌, ◌++◌, length, map, Option, Some, None, refl, sym, ap, ◌∙◌, arith, true}
 use Rattle.std.specs.Prelude.{IfSome, IsNone, ◌&&◌}
 use Rattle.std.specs.List.{AllByRecursion, list_all}
 use Rattle.redl_markup.specs.Reading.{Gives}
@@ -10,9 +10,7 @@ use Rattle.redl_markup.specs.Names.{Name, name_text}
 use Rattle.redl_markup.specs.Tails.{IsSpace, Attribute, attribute_then, attributes_then, IsAttribute, IsTail, named_value}
 use Rattle.redl_markup.specs.ScanNames.{name_at, char_at, word_at}
 use Rattle.redl_markup.specs.ScanTags.{attribute_at, attribute_in, Tail, attributes_at}
-use Rattle.redl_markup.specs.Attributes.{attributes_by, attributes_from, attributes_of, is_other_prefix, other_prefix}
-use Rattle.redl_markup.specs.Views.{name_view}
-use Rattle.redl_markup.specs.declared.name.Name as code
+use Rattle.redl_markup.specs.Attributes.{attributes_by, attributes_from, attributes_of, names_in}
 use Rattle.redl_markup.proofs.Runs.{after_again, either, and-true, and-both}
 use Rattle.redl_markup.proofs.Words.{before-append}
 use Rattle.redl_markup.proofs.Attributes.{first_again, first_shorter, tail_takes_turns, first_takes}
@@ -68,7 +66,7 @@ names_of [] = refl
 names_of (a ∷ attrs) = ap (λ (ns : List Name). a.name ∷ ns) (names_of attrs)
 
 -- They are those of the tail's attributes.
-pub names_listed : (bs : List ℕ) (x : Tail) → attributes_at bs ≡ Some x → x.0 ≡ map (λ (a : Name × List ℕ). a.0) (attributes_of (before bs x.1))
+pub names_listed : (bs : List ℕ) (x : Tail) → attributes_at bs ≡ Some x → x.0 ≡ names_in (before bs x.1)
 unfolding attributes_at
 names_listed bs x e =
     let t = tail_takes_turns (suc (length bs)) ([], bs) x e in
@@ -77,10 +75,6 @@ names_listed bs x e =
     let cut : before bs x.1 ≡ tail = ap (λ (z : List ℕ). before z x.1) whole ∙ before-append tail x.1 in
     let listed = ap attributes_of cut ∙ lists_all t.attributes t.space t.each t.is_space in
     t.names ∙ names_of t.attributes ∙ sym (ap (map (λ (a : Name × List ℕ). a.0)) listed)
-
--- the first other prefix is the first name's, or that of the rest
-pub other_step : (own : List ℕ) (n : code.Name) (rest left : List code.Name) (t : Bool) → left ≡ n ∷ rest → is_other_prefix own n.prefix.now ≡ t → other_prefix own (map name_view left) ≡ cond t n.prefix.now (other_prefix own (map name_view rest))
-other_step own n rest left t e h = rw (e, h) refl
 
 -- ---- the bytes of names
 

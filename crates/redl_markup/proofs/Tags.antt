@@ -117,3 +117,11 @@ unfolding end_tag_at is_space is_delimiter
 end_again name space rest n s =
     let stop = spaces_end_name space (62 ∷ rest) s refl in
     rw (name_again name (space ++ (62 ∷ rest)) n stop, front_again is_space space (62 ∷ rest) s refl, after_again is_space space (62 ∷ rest) s refl) refl
+
+-- the text of a start tag is its name and its tail
+pub start_text : (bs rest end : List ℕ) (name : Name) → name_at bs ≡ Some (name, rest) → tail_at rest ≡ Some (before rest end, end) → before bs end ≡ name_text name ++ before rest end
+start_text bs rest end name e f =
+    let named = (name_takes bs (name, rest) e).0 in
+    let tailed = (tail_takes rest (before rest end, end) f).0 in
+    let whole : bs ≡ (name_text name ++ before rest end) ++ end = named ∙ ap (λ (z : List ℕ). name_text name ++ z) tailed ∙ sym (append_assoc (name_text name) (before rest end) end) in
+    ap (λ (z : List ℕ). before z end) whole ∙ before-append (name_text name ++ before rest end) end

@@ -1,7 +1,5 @@
 -- The attributes of a tail, one after the other, as names and values.
-use Rattle.std.specs.Prelude.{ℕ, zero, suc, Bool, ◌&&◌, ◌||◌, not, List, [], ◌∷◌, length, Option, Some, None, if◌then◌else◌, codes}
-use Rattle.std.specs.Str.{bytes_eq}
-use Rattle.redl_markup.specs.Lists.{is_filled}
+use Rattle.std.specs.Prelude.{ℕ, zero, suc, List, [], ◌∷◌, length, map, Option, Some, None}
 use Rattle.redl_markup.specs.Names.{Name}
 use Rattle.redl_markup.specs.ScanTags.{attribute_in}
 
@@ -18,15 +16,6 @@ attributes_from (suc n) tail = attributes_by (attributes_from n) (attribute_in t
 unfoldable pub attributes_of : List ℕ → List (Name × List ℕ)
 attributes_of tail = attributes_from (suc (length tail)) tail
 
--- An attribute with this name has no prefix and is not `xmlns`, or has the prefix of its element or one other prefix.
-unfoldable pub is_plain_beside : List ℕ → List ℕ → Name → Bool
-is_plain_beside own other name =
-    if is_filled name.prefix then bytes_eq name.prefix own || bytes_eq name.prefix other else not (bytes_eq name.local (codes "xmlns"))
-
-unfoldable pub is_other_prefix : List ℕ → List ℕ → Bool
-is_other_prefix own prefix = is_filled prefix && not (bytes_eq prefix own)
-
--- The first prefix of attributes with these names that is not their element's, or empty if there is none.
-abbrev pub other_prefix : List ℕ → List Name → List ℕ
-other_prefix own [] = []
-other_prefix own (n ∷ ns) = if is_other_prefix own n.prefix then n.prefix else other_prefix own ns
+-- their names
+abbrev pub names_in : List ℕ → List Name
+names_in tail = map (λ a. a.0) (attributes_of tail)

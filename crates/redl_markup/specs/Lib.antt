@@ -13,4 +13,5 @@ pub mod Attributes
 pub mod ScanStretches
 pub mod ScanPieces
 pub mod Views
+pub mod PieceViews
 pub mod Terms

@@ -54,3 +54,8 @@ pub record IsTail (tail : List ℕ) : Type 0 where
 -- the name and the value
 abbrev pub named_value : Attribute → Name × List ℕ
 named_value a = (a.name, a.value)
+
+-- what a start tag is: its name, and its tail
+pub record NameAndTail : Type 0 where
+  pub name : Name
+  pub tail : List ℕ

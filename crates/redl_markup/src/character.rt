@@ -4,6 +4,8 @@ ghost use Rattle.std.specs.Prelude.{◌≡◌, IsTrue, ◌↔◌};
 ghost use Rattle.std.specs.List.{list_all};
 ghost use Rattle.redl_markup.specs.Characters.{is_character, is_plain_byte, is_name_start, is_name_character, IsText};
 
+use std::simd::prelude::*;
+
 #[tactic(auto, unfolding(crate::specs::Characters::is_character))]
 pub(crate) fn is_character(c: char) -> bool
     ensures { result ≡ is_character c }
@@ -38,11 +40,27 @@ fn is_plain_byte(b: u8) -> bool
     b >= 0x20 && b != 0xEF || matches!(b, b'\t' | b'\n' | b'\r')
 }
 
+/// The same of 64 bytes, all at a time.
+#[inline(always)]
+fn is_plain_block(block: u8x64) -> bool
+    ensures { result ≡ list_all is_plain_byte block }
+{
+    let is_control = block.simd_lt(u8x64::splat(0x20))
+        & block.simd_ne(u8x64::splat(b'\t'))
+        & block.simd_ne(u8x64::splat(b'\n'))
+        & block.simd_ne(u8x64::splat(b'\r'));
+    !(is_control | block.simd_eq(u8x64::splat(0xEF))).any()
+}
+
 /// Whether no byte begins a forbidden character: no control character, and not the first byte of U+FFFE and U+FFFF.
 fn has_plain_bytes(bytes: &[u8]) -> bool
     ensures { result ≡ list_all is_plain_byte bytes.now }
 {
-    bytes.iter().all(|b| is_plain_byte(*b))
+    let (blocks, rest) = bytes.as_chunks::<64>();
+    blocks
+        .iter()
+        .all(|block| is_plain_block(u8x64::from_array(*block)))
+        && rest.iter().all(|b| is_plain_byte(*b))
 }
 
 /// Whether the bytes are UTF-8 and each character is one that an XML text may have (XML 1.0, production 2).

@@ -38,19 +38,18 @@ fn few_unlike<'a>(names: &[Name<'a>]) -> bool
     true
 }
 
-fn many_unlike(alloc: Global, names: Vec<Name<'_>>) -> Result<bool, AllocError>
-    ensures { IfOk result (λ b. b ≡ are_distinct (map name_view names.entry.items)) }
+fn many_unlike(alloc: Global, names: &[Name<'_>]) -> Result<bool, AllocError>
+    ensures { IfOk result (λ b. b ≡ are_distinct (map name_view names.now)) }
 {
-    let count = names.len();
-    let set: BTreeSet<Name<'_>> = names.into_iter().collect(alloc)?;
-    Ok(set.len() == count)
+    let set: BTreeSet<Name<'_>> = names.iter().copied().collect(alloc)?;
+    Ok(set.len() == names.len())
 }
 
-pub(crate) fn no_two_alike(alloc: Global, names: Vec<Name<'_>>) -> Result<bool, AllocError>
-    ensures { IfOk result (λ b. b ≡ are_distinct (map name_view names.entry.items)) }
+pub(crate) fn no_two_alike(alloc: Global, names: &[Name<'_>]) -> Result<bool, AllocError>
+    ensures { IfOk result (λ b. b ≡ are_distinct (map name_view names.now)) }
 {
     if names.len() <= FEW {
-        return Ok(few_unlike(&names));
+        return Ok(few_unlike(names));
     }
     many_unlike(alloc, names)
 }

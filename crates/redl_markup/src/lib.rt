@@ -1,8 +1,7 @@
 //! The pieces of an XML text: its tags, and the stretches without a tag between them.
 //! `is_text` tests the characters of the whole input, and `next_piece` then reads one piece after the other.
 //! `next_piece` reads a piece exactly where the grammar has one at the start, and no text begins with two different pieces.
-//! It says which prefixes the attributes of a tag use. What these are bound to, which tags match, and that there is one
-//! root are left to the crate above.
+//! Namespaces, which tags match, and that there is one root are left to the crate above.
 #![tactic(auto)]
 
 mod attribute;
@@ -29,6 +28,6 @@ pub use decode::decode_value;
 pub use error::MarkupError;
 pub use laws::{attributes_are_listed, one_piece};
 pub use name::Name;
-pub use piece::{Piece, Tail};
+pub use piece::{Piece, StartTag};
 pub use place::Place;
 pub use read::next_piece;

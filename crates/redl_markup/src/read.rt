@@ -4,7 +4,7 @@ ghost use Rattle.std.specs.Prelude.{◌≡◌, codes, IfOk, IsErrOf};
 ghost use Rattle.redl_markup.specs.Pieces.{Stands, HasNoPiece};
 ghost use Rattle.redl_markup.specs.Reading.{Finds};
 ghost use Rattle.redl_markup.specs.ScanPieces.{piece_at};
-ghost use Rattle.redl_markup.specs.Views.{piece_view, TailTells};
+ghost use Rattle.redl_markup.specs.PieceViews.{piece_view};
 
 use crate::error::MarkupError;
 use crate::item::begins_item;
@@ -17,8 +17,7 @@ use std::alloc::Global;
 
 #[tactic(auto, unfolding(crate::specs::ScanPieces::piece_at))]
 fn read_piece(alloc: Global, bytes: &[u8], place: Place) -> Result<(Piece<'_>, &[u8]), MarkupError>
-    ensures read { Finds (λ x. (piece_view x.0, x.1.now)) result (piece_at place bytes.now) }
-    ensures plain { IfOk result (λ x. TailTells x.0) }
+    ensures { Finds (λ x. (piece_view x.0, x.1.now)) result (piece_at place bytes.now) }
 {
     if let Some(rest) = skip(bytes, b"</") {
         return end_tag(rest).ok_or(MarkupError::Unreadable);
@@ -42,9 +41,6 @@ pub fn next_piece(
 
     // The same as a function on lists, for callers that read one piece after the other.
     ensures read { Finds (λ x. (piece_view x.0, x.1.now)) result (piece_at place bytes.now) }
-
-    // Which other prefix the attributes of a tag use, and whether they are plain.
-    ensures plain { IfOk result (λ x. TailTells x.0) }
 {
     read_piece(alloc, bytes, place)
 }

@@ -1,13 +1,13 @@
 //! Stretches without a tag.
 
-ghost use Rattle.std.specs.Prelude.{◌≡◌, length, codes, IfSome};
+ghost use Rattle.std.specs.Prelude.{◌≡◌, length, codes};
 ghost use Rattle.std.specs.List.{list_all};
 ghost use Rattle.redl_markup.specs.Characters.{is_space};
 ghost use Rattle.redl_markup.specs.Lists.{lacks};
 ghost use Rattle.redl_markup.specs.Reading.{Gives};
 ghost use Rattle.redl_markup.specs.Stretches.{is_run};
 ghost use Rattle.redl_markup.specs.ScanStretches.{items_end, stretch_at};
-ghost use Rattle.redl_markup.specs.Views.{piece_view, TailTells};
+ghost use Rattle.redl_markup.specs.PieceViews.{piece_view};
 
 use crate::declaration::after_head;
 use crate::item::{begins_item, item};
@@ -65,8 +65,7 @@ fn end_of_items(bytes: &[u8], place: Place) -> Option<&[u8]>
 /// The longest stretch without a tag, and the bytes after it.
 #[tactic(auto, unfolding(crate::specs::ScanStretches::stretch_at))]
 pub(crate) fn stretch(bytes: &[u8], place: Place) -> Option<(Piece<'_>, &[u8])>
-    ensures read { Gives (λ x. (piece_view x.0, x.1.now)) result (stretch_at place bytes.now) }
-    ensures plain { IfSome result (λ x. TailTells x.0) }
+    ensures { Gives (λ x. (piece_view x.0, x.1.now)) result (stretch_at place bytes.now) }
 {
     let rest = end_of_items(after_head(bytes, place), place)?;
     let stretch = before(bytes, rest);

@@ -1,17 +1,18 @@
 //! Tags.
 
-ghost use Rattle.std.specs.Prelude.{◌≡◌, codes, map, IfOk, IfSome};
-ghost use Rattle.std.specs.List.{list_all};
-ghost use Rattle.redl_markup.specs.Attributes.{is_other_prefix, other_prefix, is_plain_beside};
+ghost use Rattle.std.specs.Prelude.{◌≡◌, codes, map, IfOk};
+ghost use Rattle.redl_markup.specs.Attributes.{names_in};
+ghost use Rattle.redl_markup.specs.Lists.{before};
 ghost use Rattle.redl_markup.specs.Reading.{Gives, Finds};
 ghost use Rattle.redl_markup.specs.ScanTags.{ends_tag, attributes_at, tail_at, tag_at, end_tag_at};
-ghost use Rattle.redl_markup.specs.Views.{name_view, piece_view, TellsPlain, TailTells};
+ghost use Rattle.redl_markup.specs.Views.{name_view};
+ghost use Rattle.redl_markup.specs.PieceViews.{piece_view};
 
 use crate::attribute::first_attribute;
 use crate::distinct::no_two_alike;
 use crate::error::MarkupError;
 use crate::name::Name;
-use crate::piece::{Piece, Tail};
+use crate::piece::{Piece, StartTag};
 use crate::scan::{before, skip, spaces};
 use crate::word::name;
 use std::alloc::Global;
@@ -42,78 +43,35 @@ fn attributes(alloc: Global, bytes: &[u8]) -> Result<(Vec<Name<'_>>, &[u8]), Mar
     }
 }
 
-#[tactic(auto, unfolding(crate::specs::Attributes::is_other_prefix))]
-fn is_other_prefix(own: &[u8], prefix: &[u8]) -> bool
-    ensures { result ≡ is_other_prefix own.now prefix.now }
-{
-    !prefix.is_empty() && prefix != own
-}
-
-/// The first prefix that is not the element's. Empty if there is none.
-fn other_prefix<'a>(own: &[u8], names: &[Name<'a>]) -> &'a [u8]
-    ensures { result.now ≡ other_prefix own.now (map name_view names.now) }
-{
-    let mut left = names.iter();
-    while let Some(first) = left.next() {
-        if is_other_prefix(own, first.prefix) {
-            return first.prefix;
-        }
-    }
-    b""
-}
-
-/// Whether an attribute with this name has no prefix and is not `xmlns`, or has the prefix of its element or the other one.
-#[tactic(auto, unfolding(crate::specs::Attributes::is_plain_beside))]
-fn is_plain_beside(own: &[u8], other: &[u8], name: Name<'_>) -> bool
-    ensures { result ≡ is_plain_beside own.now other.now (name_view name.entry) }
-{
-    if name.prefix.is_empty() {
-        return name.local != b"xmlns".as_slice();
-    }
-    name.prefix == own || name.prefix == other
-}
-
-fn are_plain_beside(own: &[u8], other: &[u8], names: &[Name<'_>]) -> bool
-    ensures { result ≡ list_all (is_plain_beside own.now other.now) (map name_view names.now) }
-{
-    names.iter().all(|name| is_plain_beside(own, other, *name))
-}
-
-/// The tail of a tag with this prefix, and the bytes after it.
+/// The names of the attributes of a tail, and the bytes after the tail.
 #[tactic(auto, unfolding(crate::specs::ScanTags::tail_at))]
-fn tail<'a>(alloc: Global, own: &[u8], bytes: &'a [u8]) -> Result<(Tail<'a>, &'a [u8]), MarkupError>
-    ensures read { Finds (λ x. (x.0.bytes.now, x.1.now)) result (tail_at bytes.now) }
-    ensures plain { IfOk result (λ x. TellsPlain own.now x.0) }
+fn tail(alloc: Global, bytes: &[u8]) -> Result<(Vec<Name<'_>>, &[u8]), MarkupError>
+    ensures read { Finds (λ x. (before bytes.now x.1.now, x.1.now)) result (tail_at bytes.now) }
+    ensures names { IfOk result (λ x. map name_view x.0.items ≡ names_in (before bytes.now x.1.now)) }
 {
     let (names, rest) = attributes(alloc, bytes)?;
-    let other_prefix = other_prefix(own, &names);
-    let is_plain = are_plain_beside(own, other_prefix, &names);
-    if !no_two_alike(alloc, names)? {
-        return Err(MarkupError::Unreadable);
+    if no_two_alike(alloc, &names)? {
+        Ok((names, rest))
+    } else {
+        Err(MarkupError::Unreadable)
     }
-    let tail = Tail {
-        bytes: before(bytes, rest),
-        other_prefix,
-        is_plain,
-    };
-    Ok((tail, rest))
 }
 
 /// A start tag or an empty element's tag, given the bytes after its `<`.
 #[tactic(auto, unfolding(crate::specs::ScanTags::tag_at))]
 pub(crate) fn start_tag(alloc: Global, bytes: &[u8]) -> Result<(Piece<'_>, &[u8]), MarkupError>
-    ensures read { Finds (λ x. (piece_view x.0, x.1.now)) result (tag_at bytes.now) }
-    ensures plain { IfOk result (λ x. TailTells x.0) }
+    ensures { Finds (λ x. (piece_view x.0, x.1.now)) result (tag_at bytes.now) }
 {
     let Some((name, rest)) = name(bytes) else {
         return Err(MarkupError::Unreadable);
     };
-    let (tail, end) = tail(alloc, name.prefix, rest)?;
+    let (attributes, end) = tail(alloc, rest)?;
+    let tag = StartTag::new(name, before(rest, end), before(bytes, end), attributes);
     if let Some(rest) = skip(end, b">") {
-        return Ok((Piece::Start(name, tail), rest));
+        return Ok((Piece::Start(tag), rest));
     }
     match skip(end, b"/>") {
-        Some(rest) => Ok((Piece::Empty(name, tail), rest)),
+        Some(rest) => Ok((Piece::Empty(tag), rest)),
         None => Err(MarkupError::Unreadable),
     }
 }
@@ -121,8 +79,7 @@ pub(crate) fn start_tag(alloc: Global, bytes: &[u8]) -> Result<(Piece<'_>, &[u8]
 /// An end tag, given the bytes after its `</`.
 #[tactic(auto, unfolding(crate::specs::ScanTags::end_tag_at))]
 pub(crate) fn end_tag(bytes: &[u8]) -> Option<(Piece<'_>, &[u8])>
-    ensures read { Gives (λ x. (piece_view x.0, x.1.now)) result (end_tag_at bytes.now) }
-    ensures plain { IfSome result (λ x. TailTells x.0) }
+    ensures { Gives (λ x. (piece_view x.0, x.1.now)) result (end_tag_at bytes.now) }
 {
     let (name, rest) = name(bytes)?;
     let (space, end) = spaces(rest);

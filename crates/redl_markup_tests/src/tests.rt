@@ -1,6 +1,8 @@
 //! Tables of what no clause of `redl_markup` says: that its grammar is the one of XML 1.0 and Namespaces in XML 1.0, and
 //! that calls succeed with ample memory, in time that grows no faster than the text.
-use redl_markup::{MarkupError, Piece, Place, decode_value, is_text, next_attribute, next_piece};
+use redl_markup::{
+    MarkupError, Name, Piece, Place, decode_value, is_text, next_attribute, next_piece,
+};
 use std::alloc::{AllocError, Global};
 use std::test::Fail;
 
@@ -12,8 +14,8 @@ fn shown(bytes: &[u8]) -> &str {
 // The first piece: its kind, its prefix and local name, and its tail, white space or text.
 fn first_piece(alloc: Global, text: &[u8], place: Place) -> (&'static str, &[u8], &[u8], &[u8]) {
     match next_piece(alloc, text, place) {
-        Ok((Piece::Start(name, tail), _)) => ("start", name.prefix, name.local, tail.bytes),
-        Ok((Piece::Empty(name, tail), _)) => ("empty", name.prefix, name.local, tail.bytes),
+        Ok((Piece::Start(tag), _)) => ("start", tag.name().prefix, tag.name().local, tag.tail()),
+        Ok((Piece::Empty(tag), _)) => ("empty", tag.name().prefix, tag.name().local, tag.tail()),
         Ok((Piece::End(name, space), _)) => ("end", name.prefix, name.local, space),
         Ok((Piece::Stretch(stretch), _)) => ("stretch", b"", b"", stretch),
         Err(MarkupError::Unreadable) => ("unreadable", b"", b"", b""),
@@ -91,6 +93,26 @@ fn tags_have_a_name_and_a_tail(rt: HostRuntime) {
         let want = (kind, prefix.as_bytes(), local.as_bytes(), tail.as_bytes());
         assert!(rt; got == want, "{text}: {got:?}");
     }
+}
+
+// The text of the start tag at the front, how many attributes it has, and the name of the last one.
+fn start_tag(alloc: Global, text: &[u8]) -> Option<(&[u8], usize, Name<'_>)> {
+    let Ok((Piece::Start(tag), _)) = next_piece(alloc, text, Place::InElement) else {
+        return None;
+    };
+    let names = tag.attributes();
+    Some((tag.text(), names.len(), *names.last()?))
+}
+
+#[test]
+fn a_start_tag_has_its_text_and_the_names_of_its_attributes(rt: HostRuntime) {
+    let name = Name {
+        prefix: b"w",
+        local: b"y",
+    };
+    let got = start_tag(rt.alloc(), b"<w:p x = '1'\tw:y=\"2\" >z");
+    let want = (b"w:p x = '1'\tw:y=\"2\" ".as_slice(), 2, name);
+    assert!(rt; got == Some(want), "{got:?}");
 }
 
 #[test]
@@ -333,6 +355,26 @@ fn texts_have_allowed_characters(rt: HostRuntime) {
         (
             b"\xED\x9F\xBF\xEE\x80\x80\xEF\xBF\xBD\xF0\x90\x80\x80\xF4\x8F\xBF\xBF",
             true,
+        ),
+        (
+            b"<w:t>a text of more than sixty-four bytes, so that a block of it is tested\t\r\n</w:t>",
+            true,
+        ),
+        (
+            b"<w:t>a text of more than sixty-four bytes,\x0Bso that a block of it is tested</w:t>",
+            false,
+        ),
+        (
+            b"<w:t>a text of more than sixty-four bytes, so that a block of it is tested\x0B</w:t>",
+            false,
+        ),
+        (
+            b"<w:t>a text of more than sixty-four bytes, \xEF\xBB\xBF so that a block of it is tested</w:t>",
+            true,
+        ),
+        (
+            b"<w:t>a text of more than sixty-four bytes, \xEF\xBF\xBF so that a block of it is tested</w:t>",
+            false,
         ),
         (b"\x00", false),
         (b"a\x08", false),

@@ -6,8 +6,10 @@ use Rattle.redl_tree.specs.Model.Nodes.{Tag, Nodes, no_nodes, bytes, element, It
 use Rattle.redl_tree.specs.Model.View.{item_of, nodes_of}
 use Rattle.redl_tree.specs.declared.node.Node.{Node}
 use Rattle.redl_tree.specs.Model.Count.{count}
+use Rattle.redl_tree.specs.Model.Text.{text}
 use Rattle.redl_tree.specs.Revisions.Labels.{unlabelled}
 use Rattle.redl_tree.specs.declared.kinds.Kind.{Kind}
+use Rattle.redl_tree.proofs.LabelLaws.{text-unlabelled}
 use Rattle.redl_opc.specs.Elements.{Element, elements_of, only, only_element}
 use Rattle.redl_tree.specs.Decisions.Packages.{named_pkg, is_story_root, is_root}
 use Rattle.redl_opc.specs.Shape.{has_attribute, is_data, is_data_alone, is_part, root_in, story_root, story_of, is_document_root, is_document, package_in, package_of, parts_refusal, refusal_of, refusal}
@@ -17,10 +19,10 @@ use Rattle.redl_opc.specs.Labels.{changed_at, labelled, elements, item_elements,
 use Rattle.redl_opc.specs.declared.label.Label.{Label}
 
 -- an element without its labels
-abbrev plain : Element → Element
+abbrev pub plain : Element → Element
 plain e = record { tag = record e.tag { kind = Kind.Plain; rev = 0 }; kids = unlabelled e.kids }
 
-elements-unlabelled : (ns : Nodes) → elements_of (unlabelled ns) ≡ map plain (elements_of ns)
+pub elements-unlabelled : (ns : Nodes) → elements_of (unlabelled ns) ≡ map plain (elements_of ns)
 elements-unlabelled no_nodes = refl
 elements-unlabelled (bytes b rest) = elements-unlabelled rest
 elements-unlabelled (element tag kids rest) = ap (λ es. plain (record { tag = tag; kids = kids }) ∷ es) (elements-unlabelled rest)
@@ -65,7 +67,7 @@ story_root-plain : (o : Option Element) → story_root (option_map plain o) ≡ 
 story_root-plain None = refl
 story_root-plain (Some e) = by_name (is_story_root e.tag) (Some (plain e)) (Some e) refl
 
-story_of-plain : (e : Element) → story_of (plain e) ≡ option_map plain (story_of e)
+pub story_of-plain : (e : Element) → story_of (plain e) ≡ option_map plain (story_of e)
 story_of-plain e =
     ap (λ o. story_root (root_in o)) (only-unlabelled e.kids) ∙ ap story_root (root_in-plain (only_element e.kids)) ∙ story_root-plain (root_in (only_element e.kids))
 
@@ -88,7 +90,7 @@ package_in-plain : (o : Option Element) → package_in (option_map plain o) ≡ 
 package_in-plain None = refl
 package_in-plain (Some e) = by_name (named_pkg (codes "package") e.tag) (Some (plain e)) (Some e) refl
 
-package_of-unlabelled : (ns : Nodes) → package_of (unlabelled ns) ≡ option_map plain (package_of ns)
+pub package_of-unlabelled : (ns : Nodes) → package_of (unlabelled ns) ≡ option_map plain (package_of ns)
 package_of-unlabelled ns = ap package_in (only-unlabelled ns) ∙ package_in-plain (only_element ns)
 
 parts_refusal-plain : (es : List Element) → parts_refusal (map plain es) ≡ parts_refusal es
@@ -145,6 +147,10 @@ labelled-plain kind rev [] e = refl
 labelled-plain kind rev (place ∷ path) e =
     ap (λ kids. record { tag = record e.tag { kind = Kind.Plain; rev = 0 }; kids = kids })
     (changed_at-unlabelled place (labelled kind rev path) (labelled-plain kind rev path) e.kids)
+
+-- labels are not part of the text
+pub text-labelled : (old new : Nodes) → unlabelled new ≡ unlabelled old → text new ≡ text old
+text-labelled old new same = sym (text-unlabelled new) ∙ ap text same ∙ text-unlabelled old
 
 -- the invariant of a package holds if only labels change
 pub kept-labelled : (old new : Nodes) (listed : List (ℕ × List ℕ)) → unlabelled new ≡ unlabelled old → IsKept old listed → IsKept new listed

@@ -4,3 +4,4 @@ pub mod LabelLaws
 pub mod PlaceLaws
 pub mod StoryLaws
 pub mod NumberLaws
+pub mod WalkLaws

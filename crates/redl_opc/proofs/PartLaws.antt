@@ -1,5 +1,5 @@
 -- Laws of the parts of a package.
-use Rattle.std.proofs.Common.{◌≡◌, ◌≤◌, ◌<◌, ◌+◌, ℕ, zero, suc, List, [], ◌∷◌, ◌++◌, length, Option, Some, None, Bool, true, false, refl, sym, ap, ◌∙◌, arith, append_assoc, slice_get, option_map, option_and_then, length-append, cond, codes, get_or, drop, add-one, subst}
+use Rattle.std.proofs.Common.{◌≡◌, ◌≤◌, ◌<◌, ◌+◌, ℕ, zero, suc, List, [], ◌∷◌, ◌++◌, length, Option, Some, None, Bool, true, false, refl, sym, ap, ◌∙◌, arith, append_assoc, slice_get, option_map, option_and_then, length-append, cond, codes, get_or, drop, add-one, subst, IfSome}
 use Rattle.redl_tree.specs.Model.Nodes.{Nodes, no_nodes, bytes, element, Item, bytes_item, element_item, in_front, items_of}
 use Rattle.redl_tree.specs.Model.Count.{count}
 use Rattle.redl_tree.specs.Model.View.{item_of, nodes_of, tag_of, kids_of}
@@ -64,21 +64,21 @@ length-elements_of no_nodes = omega arith
 length-elements_of (bytes b rest) = omega (arith, length-elements_of rest)
 length-elements_of (element tag kids rest) = omega (arith, length-elements_of rest)
 
-count-first : (ns : Nodes) (e : Element) (more : List Element) → elements_of ns ≡ e ∷ more → count e.kids ≤ count ns
+pub count-first : (ns : Nodes) (e : Element) (more : List Element) → elements_of ns ≡ e ∷ more → count e.kids ≤ count ns
 count-first no_nodes e more h = absurd cc
 count-first (bytes b rest) e more h = omega (arith, count-first rest e more h)
 count-first (element tag kids rest) e more h =
     let same : kids ≡ e.kids = cc in
     rw (← same) (omega arith)
 
-tails-first : (ns : Nodes) (e : Element) (more : List Element) → elements_of ns ≡ e ∷ more → HasUtf8Tails ns → HasUtf8Tails e.kids
+pub tails-first : (ns : Nodes) (e : Element) (more : List Element) → elements_of ns ≡ e ∷ more → HasUtf8Tails ns → HasUtf8Tails e.kids
 tails-first no_nodes e more h tails = absurd cc
 tails-first (bytes b rest) e more h tails = tails-first rest e more h tails
 tails-first (element tag kids rest) e more h tails =
     let same : kids ≡ e.kids = cc in
     rw same at tails.1
 
-only_is : (xs : List Element) (e : Element) → only xs ≡ Some e → xs ≡ e ∷ []
+pub only_is : (xs : List Element) (e : Element) → only xs ≡ Some e → xs ≡ e ∷ []
 only_is [] e h = absurd cc
 only_is (x ∷ []) e h = cc
 only_is (x ∷ y ∷ more) e h = absurd cc
@@ -186,6 +186,12 @@ story-places_of ns k = story-places_in (package_of ns) k
 
 pub gives_none : {X Y : Type 0} (view : X → Y) (r : Option X) (read : Option Y) → r ≡ None → read ≡ None → Gives view r read
 gives_none view r read e h = rw e h
+
+-- what holds of what is read holds of what is given
+pub gives-some : {X Y : Type 0} (view : X → Y) (P : Y → Type 0) (r : Option X) (read : Option Y) → Gives view r read → ((y : Y) → read ≡ Some y → P y)
+    → IfSome r (λ x. P (view x))
+gives-some view P None read given each = tt
+gives-some view P (Some x) read given each = each (view x) given
 
 -- the name of a part, by the list that a package keeps
 pub name-listed : (ns now : Nodes) (listed : List (ℕ × List ℕ)) (k : ℕ) (place : Option (ℕ × List ℕ)) → ns ≡ now → listed ≡ places_of ns → slice_get listed k ≡ place

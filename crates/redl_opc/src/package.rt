@@ -1,10 +1,12 @@
 //! Packages.
 
-ghost use Rattle.std.specs.Prelude.{◌≡◌, ◌<◌, ◌^◌, None, length, map, slice_get, IfOk, IfErr, IfSome};
+ghost use Rattle.std.specs.Prelude.{◌≡◌, ◌<◌, ◌^◌, None, length, map, slice_get, IfOk, IfErr, IfSome, IsTrue};
 ghost use Rattle.std.specs.Str.{IsUtf8};
 ghost use Rattle.redl_markup.specs.Reading.{Gives};
 ghost use Rattle.redl_tree.specs.Model.Count.{count};
-ghost use Rattle.redl_tree.specs.Model.View.{nodes_of};
+ghost use Rattle.redl_tree.specs.Model.Text.{text};
+ghost use Rattle.redl_tree.specs.Model.View.{nodes_of, tag_of, kids_of};
+ghost use Rattle.redl_tree.specs.Decisions.Packages.{is_story_root};
 ghost use Rattle.redl_opc.specs.Elements.{element_of};
 ghost use Rattle.redl_opc.specs.Shape.{refusal, IsCause, parts_of};
 ghost use Rattle.redl_opc.specs.Parts.{part_name, story, places_of};
@@ -113,7 +115,9 @@ impl Package {
 
     /// The number of parts.
     pub fn parts(&self) -> u32
-        ensures { result ≡ length (parts_of self.now) }
+        ensures value { result ≡ length (parts_of self.now) }
+        ensures shape { refusal self.now ≡ None }
+        ensures few { count self.now < 2 ^ 32 }
     {
         self.parts.len() as u32
     }
@@ -128,8 +132,12 @@ impl Package {
     }
 
     /// The root of a story. `None` exactly if no part has this number, or the part is not a story.
+    ///
+    /// To go over all stories, ask for those of the parts from 0 to `parts() - 1`.
     pub fn story(&self, part: u32) -> Option<&Elem>
-        ensures { Gives (λ root. element_of root.now) result (story self.now part) }
+        ensures value { Gives (λ root. element_of root.now) result (story self.now part) }
+        ensures root { IfSome result (λ root. IsTrue (is_story_root (tag_of root.now))) }
+        ensures tails { IfSome result (λ root. HasUtf8Tails (kids_of root.now)) }
     {
         let part = part_at(&self.parts, part)?;
         let root = package_of(&self.nodes)?;
@@ -155,7 +163,8 @@ impl Package {
     /// The path leads down from the root of the story: the empty path names the root, and each item is a place among kids.
     /// If there is no such story or element, nothing is labelled. Each item of the path takes one more level of calls.
     pub fn label(&mut self, part: u32, path: &[u32], kind: Kind, rev: u32)
-        ensures { self.new ≡ labelled_package kind rev part path.now self.old }
+        ensures nodes { self.new ≡ labelled_package kind rev part path.now self.old }
+        ensures text { text self.new ≡ text self.old }
     {
         let Some(way) = self.way_to_story(part) else {
             return;
@@ -168,7 +177,8 @@ impl Package {
     ///
     /// If there are fewer labels than elements, the remaining elements are unchanged. All else is unchanged.
     pub fn label_stories(&mut self, labels: &[Label])
-        ensures { self.new ≡ labelled_stories labels.now self.old }
+        ensures nodes { self.new ≡ labelled_stories labels.now self.old }
+        ensures text { text self.new ≡ text self.old }
     {
         let mut at = 0;
         label_nodes(&mut self.nodes, Level::Top, labels, &mut at);

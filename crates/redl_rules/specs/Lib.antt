@@ -3,5 +3,4 @@ pub mod Rounds
 pub mod Rules
 pub mod Ends
 pub mod Keeping
-pub mod Stories
 pub mod Answers

@@ -1,20 +1,12 @@
 //! Which rules hold.
 
-ghost use Rattle.std.specs.Prelude.{◌≡◌};
+ghost use Rattle.std.specs.Prelude.{◌≡◌, ◌<◌, IfSome, length, not, position};
 ghost use Rattle.redl_rules.specs.Keeping.{all_kept, in_both, least_broken};
 
-/// Which of the nine rules hold.
+/// Which of the nine rules hold, in their order.
 #[derive(Clone, Copy)]
 pub struct Kept {
-    pub rule_1: bool,
-    pub rule_2: bool,
-    pub rule_3: bool,
-    pub rule_4: bool,
-    pub rule_5: bool,
-    pub rule_6: bool,
-    pub rule_7: bool,
-    pub rule_8: bool,
-    pub rule_9: bool,
+    pub rules: [bool; 9],
 }
 
 impl Kept {
@@ -22,60 +14,33 @@ impl Kept {
     pub fn all() -> Kept
         ensures { result ≡ all_kept }
     {
-        Kept {
-            rule_1: true,
-            rule_2: true,
-            rule_3: true,
-            rule_4: true,
-            rule_5: true,
-            rule_6: true,
-            rule_7: true,
-            rule_8: true,
-            rule_9: true,
-        }
+        Kept { rules: [true; 9] }
     }
 
     /// The rules that hold in both.
     pub fn and(self, other: Kept) -> Kept
         ensures { result ≡ in_both self other }
     {
-        Kept {
-            rule_1: self.rule_1 & other.rule_1,
-            rule_2: self.rule_2 & other.rule_2,
-            rule_3: self.rule_3 & other.rule_3,
-            rule_4: self.rule_4 & other.rule_4,
-            rule_5: self.rule_5 & other.rule_5,
-            rule_6: self.rule_6 & other.rule_6,
-            rule_7: self.rule_7 & other.rule_7,
-            rule_8: self.rule_8 & other.rule_8,
-            rule_9: self.rule_9 & other.rule_9,
+        let mut rules = self.rules;
+        for i in 0..rules.len() {
+            rules[i] &= other.rules[i];
         }
+        Kept { rules }
     }
 
-    /// The least rule that doesn't hold.
+    /// The least rule that doesn't hold, where they count from 1.
     pub fn least_broken(self) -> Option<u8>
         ensures { result ≡ least_broken self }
     {
-        if !self.rule_1 {
-            Some(1)
-        } else if !self.rule_2 {
-            Some(2)
-        } else if !self.rule_3 {
-            Some(3)
-        } else if !self.rule_4 {
-            Some(4)
-        } else if !self.rule_5 {
-            Some(5)
-        } else if !self.rule_6 {
-            Some(6)
-        } else if !self.rule_7 {
-            Some(7)
-        } else if !self.rule_8 {
-            Some(8)
-        } else if !self.rule_9 {
-            Some(9)
-        } else {
-            None
-        }
+        let place = first_false(&self.rules)?;
+        Some(place as u8 + 1)
     }
+}
+
+/// The place of the first answer that is `false`.
+fn first_false(answers: &[bool]) -> Option<usize>
+    ensures value { result ≡ position not answers.now }
+    ensures within { IfSome result (λ place. place < length answers.now) }
+{
+    answers.iter().position(|answer| !*answer)
 }

@@ -8,9 +8,11 @@ mod attributes;
 mod ends;
 mod kept;
 mod kids;
-mod soundness;
+mod laws;
 mod round;
 mod rules;
+mod soundness;
 mod walk;
 
+pub use laws::numbering_keeps_rules;
 pub use soundness::{RuleError, check};

@@ -1,16 +1,14 @@
 //! The least rule that a package breaks.
 
 ghost use Rattle.std.specs.Prelude.{◌≡◌};
-ghost use Rattle.redl_tree.specs.Model.View.{nodes_of, item_of, tag_of, kids_of};
+ghost use Rattle.redl_tree.specs.Decisions.Packages.{stories};
 ghost use Rattle.redl_rules.specs.Attributes.{broken_rule as broken_rule_of};
 ghost use Rattle.redl_rules.specs.Answers.{answer_of};
 ghost use Rattle.redl_rules.specs.Keeping.{kept_among};
-ghost use Rattle.redl_rules.specs.Stories.{stories_at, element_stories, item_stories};
 
 use crate::kept::Kept;
 use crate::walk::kept_by_story;
 use redl_opc::Package;
-use redl_tree::{Elem, Level, Node};
 use std::alloc::Global;
 use thiserror::Error;
 
@@ -38,42 +36,21 @@ pub fn check(_alloc: Global, pkg: &Package) -> Result<(), RuleError>
     }
 }
 
-#[tactic(auto, using(crate::proofs::StoryLaws::broken_at_top))]
 fn broken_rule(pkg: &Package) -> Option<u8>
     ensures { result ≡ broken_rule_of pkg.now }
 {
-    kept_by_stories(pkg.nodes(), Level::Top).least_broken()
+    kept_by_stories(pkg).least_broken()
 }
 
-/// Which rules hold in the stories among nodes at this level.
-#[cycle(stories)]
-fn kept_by_stories(nodes: &[Node], level: Level) -> Kept
-    ensures { result ≡ kept_among (stories_at level (nodes_of nodes.now)) }
+/// Which rules hold in all stories.
+fn kept_by_stories(pkg: &Package) -> Kept
+    ensures { result ≡ kept_among (stories pkg.now) }
 {
     let mut kept = Kept::all();
-    for node in nodes {
-        kept = kept.and(kept_by_stories_of_node(node, level));
+    for part in 0..pkg.parts() {
+        if let Some(root) = pkg.story(part) {
+            kept = kept.and(kept_by_story(root));
+        }
     }
     kept
-}
-
-#[cycle(stories)]
-fn kept_by_stories_of_node(node: &Node, level: Level) -> Kept
-    ensures { result ≡ kept_among (item_stories level (item_of node.now)) }
-{
-    match node {
-        Node::Elem(elem) => kept_by_stories_of_elem(elem, level),
-        Node::Bytes(_) => Kept::all(),
-    }
-}
-
-#[cycle(stories)]
-fn kept_by_stories_of_elem(elem: &Elem, level: Level) -> Kept
-    ensures { result ≡ kept_among (element_stories level (tag_of elem.now) (kids_of elem.now)) }
-{
-    if level.is_root(elem) {
-        kept_by_story(elem)
-    } else {
-        kept_by_stories(&elem.kids, level.below(elem))
-    }
 }

@@ -61,14 +61,16 @@ fn kept_here(elem: &Elem, kind: Kind, round: Round, inner: Round) -> Kept
         → result ≡ kept_of above (tag_of elem.now) (kids_of elem.now) }
 {
     Kept {
-        rule_1: keeps_1(elem, round),
-        rule_2: keeps_2(elem, round),
-        rule_3: keeps_3(elem, kind, round),
-        rule_4: keeps_4(elem, inner.around),
-        rule_5: keeps_5(elem, inner.around),
-        rule_6: keeps_6(elem, round),
-        rule_7: keeps_7(elem, round),
-        rule_8: keeps_8(elem, round),
-        rule_9: keeps_9(elem, kind, round),
+        rules: [
+            keeps_1(elem, round),
+            keeps_2(elem, round),
+            keeps_3(elem, kind, round),
+            keeps_4(elem, inner.around),
+            keeps_5(elem, inner.around),
+            keeps_6(elem, round),
+            keeps_7(elem, round),
+            keeps_8(elem, round),
+            keeps_9(elem, kind, round),
+        ],
     }
 }

@@ -29,13 +29,13 @@ tags-bare (bytes b rest) = tags-bare rest
 tags-bare (element tag kids rest) = rw (tags-bare kids, tags-bare rest) refl
 
 -- the same element without the labels of its tag and of its kids
-abbrev bare_spot : Spot → Spot
+abbrev pub bare_spot : Spot → Spot
 bare_spot s = record { tag = unlabelled_tag s.tag; kids = unlabelled s.kids; start = s.start; end = s.end }
 
-abbrev bare_spots : List Spot → List Spot
+abbrev pub bare_spots : List Spot → List Spot
 bare_spots spots = map bare_spot spots
 
-abbrev bare_seen : Seen → Seen
+abbrev pub bare_seen : Seen → Seen
 bare_seen s = record { own = bare_spot s.own; above = bare_spots s.above }
 
 spot-bare : (at : ℕ) (tag : Tag) (kids : Nodes) → spot at (unlabelled_tag tag) (unlabelled kids) ≡ bare_spot (spot at tag kids)
@@ -68,7 +68,7 @@ tags_of-bare (s ∷ above) = ap (λ ts. unlabelled_tag s.tag ∷ ts) (tags_of-ba
 root_spots-bare : (root : Tag) (kids : Nodes) → root_spots (unlabelled_tag root) (unlabelled kids) ≡ bare_spots (root_spots root kids)
 root_spots-bare root kids = ap (λ s. s ∷ []) (spot-bare 0 root kids)
 
-seen-bare : (root : Tag) (kids : Nodes) → seen (unlabelled_tag root) (unlabelled kids) ≡ map bare_seen (seen root kids)
+pub seen-bare : (root : Tag) (kids : Nodes) → seen (unlabelled_tag root) (unlabelled kids) ≡ map bare_seen (seen root kids)
 seen-bare root kids = ap (λ above. seen_from above 1 (unlabelled kids)) (root_spots-bare root kids) ∙ seen_from-bare (root_spots root kids) 1 kids
 
 -- Markers
@@ -129,12 +129,12 @@ marker_if value s loose =
     (λ edge. option_map (λ id. record { edge = edge; id = id; name = value s.own.tag.tail (codes "name"); at = s.own.start; loose = loose })
     (value s.own.tag.tail (codes "id"))) (edge_of s.own.tag)
 
-marker_of-bare : (value : Value) (s : Seen) → marker_of value (bare_seen s) ≡ marker_of value s
+pub marker_of-bare : (value : Value) (s : Seen) → marker_of value (bare_seen s) ≡ marker_of value s
 marker_of-bare value s =
     ap (λ b. if b then marker_if value s (is_loose (bare_spots s.above)) else None) (spots_open s.above)
     ∙ ap (λ l. if is_open (tags_of s.above) then marker_if value s l else None) (loose-bare s.above)
 
-markers-bare : (value : Value) (xs : List Seen) → filter_map (marker_of value) (map bare_seen xs) ≡ filter_map (marker_of value) xs
+pub markers-bare : (value : Value) (xs : List Seen) → filter_map (marker_of value) (map bare_seen xs) ≡ filter_map (marker_of value) xs
 markers-bare value [] = refl
 markers-bare value (x ∷ xs) = rw (marker_of-bare value x, markers-bare value xs) refl
 
@@ -167,12 +167,12 @@ move_of_member-bare moves (Cell trace) s = refl
 move_of_member-bare moves (Change prop) s = refl
 move_of_member-bare moves Marker s = refl
 
-move_of-bare : (value : Value) (moves : List Pair) (s : Seen) → move_of value moves (bare_seen s) ≡ move_of value moves s
+pub move_of-bare : (value : Value) (moves : List Pair) (s : Seen) → move_of value moves (bare_seen s) ≡ move_of value moves s
 move_of-bare value moves s =
     ap (λ m. either m (move_of_member moves (own_role (bare_seen s)) (bare_seen s))) (move_of_marker-bare value moves s)
     ∙ ap (either (move_of_marker value moves s)) (ap (λ kind. move_of_member moves kind (bare_seen s)) (own_role-bare s) ∙ move_of_member-bare moves (own_role s) s)
 
-whole_role-bare : (value : Value) (moves : List Pair) (s : Seen) → whole_role value moves (bare_seen s) ≡ whole_role value moves s
+pub whole_role-bare : (value : Value) (moves : List Pair) (s : Seen) → whole_role value moves (bare_seen s) ≡ whole_role value moves s
 whole_role-bare value moves s =
     ap (λ m. if is_some m then Marker else own_role (bare_seen s)) (move_of_marker-bare value moves s)
     ∙ ap (λ kind. if is_some (move_of_marker value moves s) then Marker else kind) (own_role-bare s)
@@ -268,7 +268,7 @@ module _ (value : Value) (next : ℕ) (root : Tag) where
       ∙ ap (λ above. labelled value (moves_among value (seen root kids)) above 1 (start_with next) (unlabelled kids)) (root_spots-bare root kids)
       ∙ labelled-bare value (moves_among value (seen root kids)) (root_spots root kids) 1 (start_with next) kids
 
-  story_next-bare : (kids : Nodes) → next_after_story value next (unlabelled_tag root) (unlabelled kids) ≡ next_after_story value next root kids
+  pub story_next-bare : (kids : Nodes) → next_after_story value next (unlabelled_tag root) (unlabelled kids) ≡ next_after_story value next root kids
   story_next-bare kids =
       ap (λ moves. (numbering_after value moves (root_spots (unlabelled_tag root) (unlabelled kids)) 1 (start_with next) (unlabelled kids)).next) (moves-bare value root kids)
       ∙ ap (λ above. (numbering_after value (moves_among value (seen root kids)) above 1 (start_with next) (unlabelled kids)).next) (root_spots-bare root kids)
@@ -390,7 +390,7 @@ next_after_stories-++ : (value : Value) (next : ℕ) (xs ys : List Parts) → ne
 next_after_stories-++ value next [] ys = refl
 next_after_stories-++ value next (story ∷ xs) ys = next_after_stories-++ value (next_after_story value next story.tag story.kids) xs ys
 
-next_after-stories : (value : Value) (around : List Tag) (next : ℕ) (nodes : Nodes) → next_after value around next nodes ≡ next_after_stories value next (stories_in around nodes)
+pub next_after-stories : (value : Value) (around : List Tag) (next : ℕ) (nodes : Nodes) → next_after value around next nodes ≡ next_after_stories value next (stories_in around nodes)
 next_after-stories value around next no_nodes = refl
 next_after-stories value around next (bytes b rest) = next_after-stories value around next rest
 next_after-stories value around next (element tag kids rest) =

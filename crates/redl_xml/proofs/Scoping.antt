@@ -1,6 +1,6 @@
 -- Into an element and out of it again: the scope is what it was.
-use Rattle.std.proofs.Common.{◌≡◌, ℕ, suc, ◌+◌, Bool, true, cond, List, [], ◌∷◌, ◌++◌, length, drop, Option, Some, None, refl, sym, ap, subst, ◌∙◌, append_assoc, arith, length-append, inl, inr}
-use Rattle.std.specs.Prelude.{◌&&◌, ◌||◌, not, codes}
+use Rattle.std.proofs.Common.{◌≡◌, ℕ, suc, ◌+◌, Bool, true, false, cond, List, [], ◌∷◌, ◌++◌, length, drop, map, Option, Some, None, refl, sym, ap, subst, ◌∙◌, append_assoc, arith, length-append}
+use Rattle.std.specs.Prelude.{◌&&◌, not, codes}
 use Rattle.std.specs.List.{list_all}
 use Rattle.std.proofs.Math.Seq.{drop-append_seam}
 use Rattle.std.proofs.lemmas.Option.{same_Some, cond_some}
@@ -9,12 +9,13 @@ use Rattle.redl_markup.specs.References.{is_there}
 use Rattle.redl_markup.specs.Names.{Name}
 use Rattle.redl_markup.specs.Decoding.{decoded_value}
 use Rattle.redl_markup.specs.Lists.{is_filled}
-use Rattle.redl_markup.specs.Attributes.{attributes_of, is_plain_beside}
+use Rattle.redl_markup.specs.Attributes.{attributes_of, names_in}
+use Rattle.redl_markup.specs.Views.{name_view}
+use Rattle.redl_markup.specs.declared.name.Name as code
 use Rattle.redl_markup.proofs.Names.{bind_some}
-use Rattle.redl_markup.proofs.Runs.{and-true, and-both, either, not-true}
+use Rattle.redl_markup.proofs.Runs.{and-true, and-both}
 use Rattle.std.specs.Str.{bytes_eq}
-use Rattle.redl_xml.specs.Scopes.{Scope, is_xmlns, space_named, declared_prefix, declared_by, is_allowed, with_declarations, scope_in, space_of, is_known, is_element_prefix, is_known_attribute}
-use Rattle.redl_xml.proofs.Words.{same_bytes}
+use Rattle.redl_xml.specs.Scopes.{Scope, is_xmlns, space_named, declared_prefix, declared_by, is_allowed, with_declarations, scope_in, space_of, is_known, is_element_prefix, is_known_attribute, is_plain_name}
 use Rattle.redl_xml.specs.Elements.{with_attribute, with_attributes, known, entered, declarations, declared_in}
 
 -- ---- the scope grows by the declarations
@@ -103,39 +104,39 @@ left_entered scope name tail x e =
 
 -- ---- an element that declares nothing
 
--- an attribute that is not a declaration, and whose prefix may be used
-abbrev pub is_plain : Scope → Name × List ℕ → Bool
-is_plain scope a = not (is_there (declared_prefix a.0)) && is_known scope a.0.prefix
-
 declares_nothing : (o : Option (List ℕ)) → not (is_there o) ≡ true → o ≡ None
 declares_nothing None e = refl
 declares_nothing (Some x) e = absurd cc
 
-plain_attributes : (scope : Scope) (attributes : List (Name × List ℕ)) → list_all (is_plain scope) attributes ≡ true → (with_attributes attributes scope ≡ Some scope) × (list_all (is_known_attribute scope) attributes ≡ true)
+-- the names of the attributes are plain
+abbrev ArePlain : Scope → List (Name × List ℕ) → Type 0
+ArePlain scope attributes = list_all (is_plain_name scope) (map (λ a. a.0) attributes) ≡ true
+
+plain_attributes : (scope : Scope) (attributes : List (Name × List ℕ)) → ArePlain scope attributes → (with_attributes attributes scope ≡ Some scope) × (list_all (is_known_attribute scope) attributes ≡ true)
 unfolding with_attribute
 plain_attributes scope [] h = (refl, refl)
 plain_attributes scope (a ∷ more) h =
-    let both = and-true (is_plain scope a) (list_all (is_plain scope) more) h in
+    let both = and-true (is_plain_name scope a.0) (list_all (is_plain_name scope) (map (λ (b : Name × List ℕ). b.0) more)) h in
     let plain = and-true (not (is_there (declared_prefix a.0))) (is_known scope a.0.prefix) both.0 in
     let none = declares_nothing (declared_prefix a.0) plain.0 in
     let rest = plain_attributes scope more both.1 in
     (rw none rest.0, rw (none, plain.1) rest.1)
 
 -- Entering it depends only on its own prefix, and the scope stays.
-pub plain_entered : (scope : Scope) (name : Name) (tail : List ℕ) → list_all (is_plain scope) (attributes_of tail) ≡ true → entered scope name tail ≡ known name [] scope
+pub plain_entered : (scope : Scope) (name : Name) (tail : List ℕ) → list_all (is_plain_name scope) (names_in tail) ≡ true → entered scope name tail ≡ known name [] scope
 unfolding entered known
 plain_entered scope name tail h =
     let p = plain_attributes scope (attributes_of tail) h in
     rw (p.0, p.1) refl
 
-nothing_declared : (scope : Scope) (attributes : List (Name × List ℕ)) → list_all (is_plain scope) attributes ≡ true → declarations attributes ≡ 0
+nothing_declared : (scope : Scope) (attributes : List (Name × List ℕ)) → ArePlain scope attributes → declarations attributes ≡ 0
 nothing_declared scope [] h = refl
 nothing_declared scope (a ∷ more) h =
-    let both = and-true (is_plain scope a) (list_all (is_plain scope) more) h in
+    let both = and-true (is_plain_name scope a.0) (list_all (is_plain_name scope) (map (λ (b : Name × List ℕ). b.0) more)) h in
     let plain = and-true (not (is_there (declared_prefix a.0))) (is_known scope a.0.prefix) both.0 in
     rw (declares_nothing (declared_prefix a.0) plain.0) (nothing_declared scope more both.1)
 
-pub plain_declares_nothing : (scope : Scope) (tail : List ℕ) → list_all (is_plain scope) (attributes_of tail) ≡ true → 0 ≡ declared_in tail
+pub plain_declares_nothing : (scope : Scope) (tail : List ℕ) → list_all (is_plain_name scope) (names_in tail) ≡ true → 0 ≡ declared_in tail
 unfolding declared_in
 plain_declares_nothing scope tail h = sym (nothing_declared scope (attributes_of tail) h)
 
@@ -154,38 +155,31 @@ own_is_known scope name x e =
     let c = cond_some (is_element_prefix scope name.prefix && true) (space_of scope name.prefix, scope) x e in
     (and-true (is_element_prefix scope name.prefix) true c.0).0
 
--- ---- attributes with the prefix of their element, or one other
+-- ---- a plain name
 
-same_may_stand : (scope : Scope) (own prefix : List ℕ) → bytes_eq prefix own ≡ true → is_element_prefix scope own ≡ true → is_element_prefix scope prefix ≡ true
-same_may_stand scope own prefix e h = let P : List ℕ → Type 0 = λ p. is_element_prefix scope p ≡ true in subst P (sym (same_bytes prefix own e)) h
+-- a name with a prefix is plain if an element may have that prefix
+prefixed_is_plain : (scope : Scope) (name : Name) → is_filled name.prefix ≡ true → is_plain_name scope name ≡ is_element_prefix scope name.prefix
+prefixed_is_plain scope name filled = of (is_xmlns name.prefix) refl where
+  of : (t : Bool) → is_xmlns name.prefix ≡ t → is_plain_name scope name ≡ is_element_prefix scope name.prefix
+  of true e = rw e refl
+  of false e = rw (e, filled) refl
 
-one_may_stand : (scope : Scope) (own other prefix : List ℕ) → (bytes_eq prefix own || bytes_eq prefix other) ≡ true → is_element_prefix scope own ≡ true → is_element_prefix scope other ≡ true → is_element_prefix scope prefix ≡ true
-one_may_stand scope own other prefix h o p =
-    elim (either (bytes_eq prefix own)) [
-      | inl y ↦ same_may_stand scope own prefix y o
-      | inr n ↦ same_may_stand scope other prefix (rw n at h) p
-    ]
-
--- a prefix and a local name as those of an attribute that is plain
-abbrev pub is_plain_name : Scope → List ℕ → List ℕ → Bool
-is_plain_name scope prefix local = is_plain scope (record { prefix = prefix; local = local }, [])
-
-prefixed_is_plain : (scope : Scope) (prefix local : List ℕ) → is_filled prefix ≡ true → is_element_prefix scope prefix ≡ true → is_plain_name scope prefix local ≡ true
-prefixed_is_plain scope prefix local filled h =
-    let both = and-true (not (is_xmlns prefix)) (is_known scope prefix) h in
-    rw (not-true (is_xmlns prefix) both.0, both.1, filled) refl
-
-bare_is_plain : (scope : Scope) (local : List ℕ) → not (bytes_eq local (codes "xmlns")) ≡ true → is_plain_name scope [] local ≡ true
+-- a name without one is plain if it is not `xmlns`
+bare_is_plain : (scope : Scope) (local : List ℕ) → is_plain_name scope (record { prefix = []; local = local }) ≡ not (is_xmlns local)
 unfolding is_xmlns is_known
-bare_is_plain scope local h = rw (not-true (bytes_eq local (codes "xmlns")) h) refl
+bare_is_plain scope local = of (bytes_eq local (codes "xmlns")) refl where
+  of : (t : Bool) → bytes_eq local (codes "xmlns") ≡ t → is_plain_name scope (record { prefix = []; local = local }) ≡ not t
+  of true e = rw e refl
+  of false e = rw e refl
 
-name_is_plain : (scope : Scope) (own other prefix local : List ℕ) → is_plain_beside own other (record { prefix = prefix; local = local }) ≡ true → is_element_prefix scope own ≡ true → is_element_prefix scope other ≡ true → is_plain_name scope prefix local ≡ true
-unfolding is_plain_beside
-name_is_plain scope own other [] local h o p = bare_is_plain scope local h
-name_is_plain scope own other (b ∷ bs) local h o p = prefixed_is_plain scope (b ∷ bs) local refl (one_may_stand scope own other (b ∷ bs) h o p)
+pub bare_passes : (scope : Scope) (prefix local : List ℕ) → length prefix ≡ 0 → is_xmlns local ≡ false → is_plain_name scope (record { prefix = prefix; local = local }) ≡ true
+bare_passes scope [] local none other = bare_is_plain scope local ∙ ap not other
+bare_passes scope (b ∷ bs) local none other = absurd cc
 
-pub beside_is_plain : (scope : Scope) (own other : List ℕ) (attributes : List (Name × List ℕ)) → list_all (λ a. is_plain_beside own other a.0) attributes ≡ true → is_element_prefix scope own ≡ true → is_element_prefix scope other ≡ true → list_all (is_plain scope) attributes ≡ true
-beside_is_plain scope own other [] h o p = refl
-beside_is_plain scope own other (a ∷ more) h o p =
-    let both = and-true (is_plain_beside own other a.0) (list_all (λ (b : Name × List ℕ). is_plain_beside own other b.0) more) h in
-    and-both (is_plain scope a) (list_all (is_plain scope) more) (name_is_plain scope own other a.0.prefix a.0.local both.0 o p) (beside_is_plain scope own other more both.1 o p)
+pub no_prefix_may_stand : (scope : Scope) → is_element_prefix scope [] ≡ true
+unfolding is_xmlns is_known
+no_prefix_may_stand scope = refl
+
+-- the names go on as they are behind a plain one
+pub goes_past : (p : Name → Bool) (n : code.Name) (rest left : List code.Name) → left ≡ n ∷ rest → p (name_view n) ≡ true → list_all p (map name_view rest) ≡ list_all p (map name_view left)
+goes_past p n rest left e h = rw (e, h) refl

@@ -93,3 +93,7 @@ is_element_prefix scope prefix = not (is_xmlns prefix) && is_known scope prefix
 -- an attribute is a declaration, or its prefix may be used
 abbrev pub is_known_attribute : Scope → Name × List ℕ → Bool
 is_known_attribute scope a = is_there (declared_prefix a.0) || is_known scope a.0.prefix
+
+-- an attribute with this name is no declaration, and its prefix may be used
+abbrev pub is_plain_name : Scope → Name → Bool
+is_plain_name scope name = not (is_there (declared_prefix name)) && is_known scope name.prefix

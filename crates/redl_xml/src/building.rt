@@ -3,19 +3,20 @@
 ghost use Rattle.std.specs.Prelude.{◌≡◌, IfOk, OnOk, IsErrOf, Some, None, map};
 ghost use Rattle.redl_tree.specs.Model.Nodes.{element_item, bytes_item};
 ghost use Rattle.redl_tree.specs.Model.View.{item_of, nodes_of};
-ghost use Rattle.redl_markup.specs.Views.{name_view, piece_view, TellsPlain, TailTells};
+ghost use Rattle.redl_markup.specs.Views.{name_view};
+ghost use Rattle.redl_markup.specs.PieceViews.{piece_view};
 ghost use Rattle.redl_markup.specs.Pieces.{start_tag, empty_tag, end_tag, stretch};
 ghost use Rattle.redl_xml.specs.Elements.{plain_tag, placed, nothing_yet};
 ghost use Rattle.redl_xml.specs.Surveys.{survey_of};
 ghost use Rattle.redl_xml.specs.Buildings.{building_view};
 ghost use Rattle.redl_xml.specs.OpenTags.{survey_view};
 
+use crate::namespaces::enter;
 use crate::scope::Scopes;
 use crate::sizes::Sizes;
 use crate::survey::{OpenTag, Survey};
-use crate::namespaces::enter;
 use redl_io::Text;
-use redl_markup::{MarkupError, Name, Piece, Tail};
+use redl_markup::{MarkupError, Name, Piece, StartTag};
 use redl_tree::{Close, Elem, Kind, Node, Space};
 use std::alloc::{AllocError, Global};
 use std::mem;
@@ -88,37 +89,35 @@ impl<'a> Building<'a> {
         }
     }
 
-    fn start(&mut self, alloc: Global, name: Name<'a>, tail: Tail<'a>) -> Result<(), MarkupError>
-        requires { TellsPlain name.prefix.now tail }
-        ensures ok { OnOk result (placed (start_tag (name_view name.entry) tail.entry.bytes.now) (building_view self.old) ≡ Some (building_view self.new)) }
-        ensures unreadable { IsErrOf result MarkupError.Unreadable → placed (start_tag (name_view name.entry) tail.entry.bytes.now) (building_view self.old) ≡ None }
+    fn start(&mut self, alloc: Global, tag: &StartTag<'a>) -> Result<(), MarkupError>
+        ensures ok { OnOk result (placed (start_tag tag.now.name tag.now.tail) (building_view self.old) ≡ Some (building_view self.new)) }
+        ensures unreadable { IsErrOf result MarkupError.Unreadable → placed (start_tag tag.now.name tag.now.tail) (building_view self.old) ≡ None }
     {
-        let entered = enter(&mut self.scopes, alloc, name, tail)?;
+        let entered = enter(&mut self.scopes, alloc, tag)?;
         let before = mem::replace(&mut self.kids, Vec::new(alloc));
         self.open.push(OpenElement {
             tag: OpenTag {
-                name,
+                name: tag.name(),
                 declared: entered.declared,
             },
-            tail: tail.bytes,
+            tail: tag.tail(),
             space: entered.space,
             before,
         })?;
         Ok(())
     }
 
-    fn empty(&mut self, alloc: Global, name: Name<'a>, tail: Tail<'a>) -> Result<(), MarkupError>
-        requires { TellsPlain name.prefix.now tail }
-        ensures ok { OnOk result (placed (empty_tag (name_view name.entry) tail.entry.bytes.now) (building_view self.old) ≡ Some (building_view self.new)) }
-        ensures unreadable { IsErrOf result MarkupError.Unreadable → placed (empty_tag (name_view name.entry) tail.entry.bytes.now) (building_view self.old) ≡ None }
+    fn empty(&mut self, alloc: Global, tag: &StartTag<'a>) -> Result<(), MarkupError>
+        ensures ok { OnOk result (placed (empty_tag tag.now.name tag.now.tail) (building_view self.old) ≡ Some (building_view self.new)) }
+        ensures unreadable { IsErrOf result MarkupError.Unreadable → placed (empty_tag tag.now.name tag.now.tail) (building_view self.old) ≡ None }
     {
-        let entered = enter(&mut self.scopes, alloc, name, tail)?;
+        let entered = enter(&mut self.scopes, alloc, tag)?;
         self.scopes.forget(entered.declared);
         let node = element(
             alloc,
-            name,
+            tag.name(),
             entered.space,
-            tail.bytes,
+            tag.tail(),
             Vec::new(alloc),
             Close::Empty,
         )?;
@@ -166,13 +165,12 @@ impl<'a> Building<'a> {
 
     /// Adds a piece. `Unreadable` if it is not allowed there.
     pub(crate) fn place(&mut self, alloc: Global, piece: Piece<'a>) -> Result<(), MarkupError>
-        requires { TailTells piece }
         ensures ok { OnOk result (placed (piece_view piece.entry) (building_view self.old) ≡ Some (building_view self.new)) }
         ensures unreadable { IsErrOf result MarkupError.Unreadable → placed (piece_view piece.entry) (building_view self.old) ≡ None }
     {
         match piece {
-            Piece::Start(name, tail) => self.start(alloc, name, tail),
-            Piece::Empty(name, tail) => self.empty(alloc, name, tail),
+            Piece::Start(tag) => self.start(alloc, &tag),
+            Piece::Empty(tag) => self.empty(alloc, &tag),
             Piece::Stretch(bytes) => self.stretch(alloc, bytes),
             Piece::End(name, space) => self.end(alloc, name, space),
         }

@@ -12,8 +12,8 @@ ghost use Rattle.redl_xml.specs.Readings.{IsReading, HasReading, HasNoReading};
 
 use crate::building::bytes_node;
 use crate::element::read_element;
-use crate::sizes::{Limits, Sizes};
 use crate::error::XmlError;
+use crate::sizes::{Limits, Sizes};
 use crate::{DEPTH_LIMIT, NODE_LIMIT};
 use redl_markup::{MarkupError, Piece, Place, is_text, next_piece};
 use redl_tree::Node;

@@ -62,7 +62,7 @@ pub(crate) fn read_element(
     let mut rest = bytes;
     while sizes.are_within(limits) {
         let (piece, behind) = next_piece(alloc, rest, Place::InElement)?;
-        sizes.add_piece(limits.nodes, piece, building.open.len() + 1);
+        sizes.add_piece(limits.nodes, &piece, building.open.len() + 1);
         building.place(alloc, piece)?;
         rest = behind;
         if building.open.is_empty() {

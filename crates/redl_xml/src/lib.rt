@@ -9,12 +9,12 @@ mod building;
 mod declaration;
 mod document;
 mod element;
+mod error;
 mod laws;
+mod namespaces;
 mod scope;
 mod sizes;
 mod survey;
-mod namespaces;
-mod error;
 
 /// The greatest depth of an element, with the root at depth 1.
 pub const DEPTH_LIMIT: usize = 512;
@@ -23,8 +23,8 @@ pub const DEPTH_LIMIT: usize = 512;
 pub const NODE_LIMIT: u32 = 2_097_152;
 
 pub use document::read;
-pub use laws::{one_tree, tails_are_legal};
 pub use error::XmlError;
+pub use laws::{one_tree, tails_are_legal};
 
 #[cfg(test)]
 mod tests;

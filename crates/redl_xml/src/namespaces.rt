@@ -1,17 +1,17 @@
 //! The declarations among the attributes of a start tag, and whether the prefixes of its attributes may be used.
 
-ghost use Rattle.std.specs.Prelude.{◌≡◌, ◌||◌, [], codes, IfOk};
+ghost use Rattle.std.specs.Prelude.{◌≡◌, ◌||◌, [], codes, map, true, IfOk};
 ghost use Rattle.std.specs.List.{list_all};
 ghost use Rattle.redl_markup.specs.Reading.{Gives, Finds};
 ghost use Rattle.redl_markup.specs.References.{is_there};
 ghost use Rattle.redl_markup.specs.Decoding.{decoded_value};
 ghost use Rattle.redl_markup.specs.Attributes.{attributes_of};
-ghost use Rattle.redl_markup.specs.Views.{name_view, attribute_view, TellsPlain};
-ghost use Rattle.redl_xml.specs.Scopes.{space_named, is_xml_namespace, is_xml_prefix, is_xmlns, declared_prefix, may_declare, is_known, is_known_attribute, is_element_prefix};
+ghost use Rattle.redl_markup.specs.Views.{name_view, attribute_view};
+ghost use Rattle.redl_xml.specs.Scopes.{space_named, is_xml_namespace, is_xml_prefix, is_xmlns, declared_prefix, may_declare, is_known, is_known_attribute, is_element_prefix, is_plain_name};
 ghost use Rattle.redl_xml.specs.Elements.{with_attribute, with_attributes, known, entered, declared_in};
 
 use crate::scope::Scopes;
-use redl_markup::{Attribute, MarkupError, Name, Tail, decode_value, next_attribute};
+use redl_markup::{Attribute, MarkupError, Name, StartTag, decode_value, next_attribute};
 use redl_tree::Space;
 use std::alloc::{AllocError, Global};
 
@@ -87,7 +87,7 @@ fn is_known<'a>(scopes: &Scopes<'a>, prefix: &'a [u8]) -> bool
     prefix.is_empty() || is_xml_prefix(prefix) || scopes.space(prefix).is_some()
 }
 
-/// Whether an element may have a prefix, and so none of its attributes with that prefix is a declaration.
+/// Whether an element may have a prefix. An attribute with such a prefix is no declaration.
 fn is_element_prefix<'a>(scopes: &Scopes<'a>, prefix: &'a [u8]) -> bool
     ensures { result ≡ is_element_prefix scopes.now prefix.now }
 {
@@ -178,6 +178,29 @@ fn known_space<'a>(scopes: &Scopes<'a>, name: Name<'a>, tail: &'a [u8]) -> Optio
     }
 }
 
+/// Whether no attribute with one of these names is a declaration, and the prefix of each may be used.
+fn are_plain<'a>(scopes: &Scopes<'a>, own: &'a [u8], names: &[Name<'a>]) -> bool
+    requires { is_element_prefix scopes.now own.now ≡ true }
+    ensures { result ≡ list_all (is_plain_name scopes.now) (map name_view names.now) }
+{
+    // Most attributes have their element's prefix or one other, so few prefixes are looked up.
+    let mut other: &'a [u8] = b"";
+    let mut left = names.iter();
+    while let Some(name) = left.next() {
+        if name.prefix.is_empty() {
+            if is_xmlns(name.local) {
+                return false;
+            }
+        } else if name.prefix != own && name.prefix != other {
+            if !is_element_prefix(scopes, name.prefix) {
+                return false;
+            }
+            other = name.prefix;
+        }
+    }
+    true
+}
+
 /// An element that was entered: its space, and the number of its declarations.
 #[derive(Clone, Copy)]
 pub(crate) struct Entered {
@@ -192,22 +215,21 @@ pub(crate) struct Entered {
 pub(crate) fn enter<'a>(
     scopes: &mut Scopes<'a>,
     alloc: Global,
-    name: Name<'a>,
-    tail: Tail<'a>,
+    tag: &StartTag<'a>,
 ) -> Result<Entered, MarkupError>
-    requires { TellsPlain name.prefix.now tail }
-    ensures read { Finds (λ x. (x.space, scopes.new)) result (entered scopes.old (name_view name.entry) tail.entry.bytes.now) }
-    ensures declared { IfOk result (λ x. x.declared ≡ declared_in tail.entry.bytes.now) }
+    ensures read { Finds (λ x. (x.space, scopes.new)) result (entered scopes.old tag.now.name tag.now.tail) }
+    ensures declared { IfOk result (λ x. x.declared ≡ declared_in tag.now.tail) }
 {
+    let name = tag.name();
     if let Some(space) = element_space(scopes, name) {
-        // Most tags declare nothing, as was found when the tag was read.
-        if tail.is_plain && is_element_prefix(scopes, tail.other_prefix) {
+        // Most tags declare nothing.
+        if are_plain(scopes, name.prefix, tag.attributes()) {
             return Ok(Entered { space, declared: 0 });
         }
     }
     let around = scopes.len();
-    declare_attributes(scopes, alloc, tail.bytes)?;
-    let space = known_space(scopes, name, tail.bytes).ok_or(MarkupError::Unreadable)?;
+    declare_attributes(scopes, alloc, tag.tail())?;
+    let space = known_space(scopes, name, tag.tail()).ok_or(MarkupError::Unreadable)?;
     Ok(Entered {
         space,
         declared: scopes.len() - around,

@@ -1,7 +1,7 @@
 //! How deep an element goes and how many nodes it has, so far.
 
 ghost use Rattle.std.specs.Prelude.{◌≡◌, ◌≤◌, ◌↔◌, max, true};
-ghost use Rattle.redl_markup.specs.Views.{piece_view};
+ghost use Rattle.redl_markup.specs.PieceViews.{piece_view};
 ghost use Rattle.redl_xml.specs.Surveys.{one_more, deepest_with, nodes_with};
 
 use redl_markup::Piece;
@@ -50,12 +50,12 @@ impl Sizes {
     }
 
     /// Adds a piece. An element that begins with it is at this depth.
-    pub(crate) fn add_piece(&mut self, limit: u32, piece: Piece<'_>, depth: usize)
-        ensures deepest { self.new.deepest ≡ deepest_with (piece_view piece.entry) depth self.old.deepest }
-        ensures nodes { self.new.nodes ≡ nodes_with limit (piece_view piece.entry) self.old.nodes }
+    pub(crate) fn add_piece(&mut self, limit: u32, piece: &Piece<'_>, depth: usize)
+        ensures deepest { self.new.deepest ≡ deepest_with (piece_view piece.now) depth self.old.deepest }
+        ensures nodes { self.new.nodes ≡ nodes_with limit (piece_view piece.now) self.old.nodes }
     {
         match piece {
-            Piece::Start(_, _) | Piece::Empty(_, _) => self.add_element(limit, depth),
+            Piece::Start(_) | Piece::Empty(_) => self.add_element(limit, depth),
             Piece::Stretch(_) => self.add_bytes(limit),
             Piece::End(_, _) => {}
         }

@@ -1,15 +1,16 @@
 //! The rest of an element, read with only the tags of the open elements.
 
 ghost use Rattle.std.specs.Prelude.{◌≡◌, OnOk, IsErrOf, Some, None};
-ghost use Rattle.redl_markup.specs.Views.{name_view, piece_view, TellsPlain, TailTells};
+ghost use Rattle.redl_markup.specs.Views.{name_view};
+ghost use Rattle.redl_markup.specs.PieceViews.{piece_view};
 ghost use Rattle.redl_markup.specs.Pieces.{start_tag, empty_tag};
 ghost use Rattle.redl_xml.specs.Surveys.{surveyed, survey_stretched, survey_closed};
 ghost use Rattle.redl_xml.specs.OpenTags.{survey_view};
 
+use crate::namespaces::enter;
 use crate::scope::Scopes;
 use crate::sizes::Sizes;
-use crate::namespaces::enter;
-use redl_markup::{MarkupError, Name, Piece, Tail};
+use redl_markup::{MarkupError, Name, Piece, StartTag};
 use std::alloc::Global;
 
 /// The name of an open element, and how many declarations it has.
@@ -28,38 +29,24 @@ pub(crate) struct Survey<'a> {
 }
 
 impl<'a> Survey<'a> {
-    fn start(
-        &mut self,
-        alloc: Global,
-        limit: u32,
-        name: Name<'a>,
-        tail: Tail<'a>,
-    ) -> Result<(), MarkupError>
-        requires { TellsPlain name.prefix.now tail }
-        ensures ok { OnOk result (surveyed limit (start_tag (name_view name.entry) tail.entry.bytes.now) (survey_view self.old) ≡ Some (survey_view self.new)) }
-        ensures unreadable { IsErrOf result MarkupError.Unreadable → surveyed limit (start_tag (name_view name.entry) tail.entry.bytes.now) (survey_view self.old) ≡ None }
+    fn start(&mut self, alloc: Global, limit: u32, tag: &StartTag<'a>) -> Result<(), MarkupError>
+        ensures ok { OnOk result (surveyed limit (start_tag tag.now.name tag.now.tail) (survey_view self.old) ≡ Some (survey_view self.new)) }
+        ensures unreadable { IsErrOf result MarkupError.Unreadable → surveyed limit (start_tag tag.now.name tag.now.tail) (survey_view self.old) ≡ None }
     {
-        let entered = enter(&mut self.scopes, alloc, name, tail)?;
+        let entered = enter(&mut self.scopes, alloc, tag)?;
         self.open.push(OpenTag {
-            name,
+            name: tag.name(),
             declared: entered.declared,
         })?;
         self.sizes.add_element(limit, self.open.len());
         Ok(())
     }
 
-    fn empty(
-        &mut self,
-        alloc: Global,
-        limit: u32,
-        name: Name<'a>,
-        tail: Tail<'a>,
-    ) -> Result<(), MarkupError>
-        requires { TellsPlain name.prefix.now tail }
-        ensures ok { OnOk result (surveyed limit (empty_tag (name_view name.entry) tail.entry.bytes.now) (survey_view self.old) ≡ Some (survey_view self.new)) }
-        ensures unreadable { IsErrOf result MarkupError.Unreadable → surveyed limit (empty_tag (name_view name.entry) tail.entry.bytes.now) (survey_view self.old) ≡ None }
+    fn empty(&mut self, alloc: Global, limit: u32, tag: &StartTag<'a>) -> Result<(), MarkupError>
+        ensures ok { OnOk result (surveyed limit (empty_tag tag.now.name tag.now.tail) (survey_view self.old) ≡ Some (survey_view self.new)) }
+        ensures unreadable { IsErrOf result MarkupError.Unreadable → surveyed limit (empty_tag tag.now.name tag.now.tail) (survey_view self.old) ≡ None }
     {
-        let entered = enter(&mut self.scopes, alloc, name, tail)?;
+        let entered = enter(&mut self.scopes, alloc, tag)?;
         self.scopes.forget(entered.declared);
         self.sizes.add_element(limit, self.open.len() + 1);
         Ok(())
@@ -97,13 +84,12 @@ impl<'a> Survey<'a> {
         limit: u32,
         piece: Piece<'a>,
     ) -> Result<(), MarkupError>
-        requires { TailTells piece }
         ensures ok { OnOk result (surveyed limit (piece_view piece.entry) (survey_view self.old) ≡ Some (survey_view self.new)) }
         ensures unreadable { IsErrOf result MarkupError.Unreadable → surveyed limit (piece_view piece.entry) (survey_view self.old) ≡ None }
     {
         match piece {
-            Piece::Start(name, tail) => self.start(alloc, limit, name, tail),
-            Piece::Empty(name, tail) => self.empty(alloc, limit, name, tail),
+            Piece::Start(tag) => self.start(alloc, limit, &tag),
+            Piece::Empty(tag) => self.empty(alloc, limit, &tag),
             Piece::Stretch(_) => self.stretch(limit),
             Piece::End(name, _) => self.end(name),
         }

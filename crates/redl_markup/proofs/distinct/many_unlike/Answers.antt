@@ -1,6 +1,9 @@
-use Rattle.std.proofs.Common.{◌≡◌, ap, ◌∙◌, eqb, length, map, List, arith, subst}
+use Rattle.std.proofs.Common.{◌≡◌, ◌∙◌, ap, sym, subst, eqb, length, map, List}
 use Rattle.std.specs.BTreeSet.{btree_set_len}
-use Rattle.std.specs.Vec.Iter.{into_iter_items}
+use Rattle.std.specs.Slice.Iter.{iter_rest}
+use Rattle.std.proofs.lemmas.Iterator.{YieldsList-from_slice, items_from_drains}
+use Rattle.std.proofs.lemmas.Iterator.Consumers.{YieldsList-from_copied}
+use Rattle.std.proofs.lemmas.List.{map-id}
 use Rattle.redl_markup.specs.Names.{are_distinct}
 use Rattle.redl_markup.specs.Views.{name_view}
 use Rattle.redl_markup.specs.declared.name.Name as code
@@ -9,10 +12,9 @@ use Rattle.redl_markup.proofs.distinct.many_unlike.Goals as goal
 
 pub returns : goal.returns
 returns c =
-    let run = c.in_ok-set.ensures.runs tt in
-    let items = c.into_iter.ensures.runs run.0 run.0.seen in
-    let same = items.4 run.2 ∙ ap into_iter_items run.1 ∙ c.into_iter.ensures.rest in
+    let names = c.args.names.now in
+    let chain = YieldsList-from_copied {ys = names} (YieldsList-from_slice names (ap iter_rest c.copied.ensures.source ∙ c.iter.ensures.rest)) in
+    let ran = c.in_ok-set.ensures.ran in
+    let same : ran.0 ≡ names = sym (map-id ran.0) ∙ items_from_drains ran.0 ran.1 chain in
     let P : List code.Name → Type 0 = λ xs. eqb (btree_set_len c.in_ok-set.set) (length xs) ≡ are_distinct (map name_view xs) in
-    let test = subst P same (count_test run.0.items c.in_ok-set.set run.3) in
-    let count : c.len-count.result ≡ length c.args.names.items = omega (arith, c.len-count.ensures, c.args.names.ok.0) in
-    rw (c.len.ensures.len, count) test
+    rw c.len.ensures.len (subst P same (count_test ran.0 c.in_ok-set.set ran.2))

@@ -1,8 +1,9 @@
 use Rattle.std.proofs.Common.{◌+◌, drop, sym, ap, ◌∙◌, arith}
 use Rattle.redl_tree.specs.Model.View.{nodes_of, item_of}
 use Rattle.redl_tree.proofs.Laws.{nodes_here, nodes_end}
-use Rattle.redl_rules.specs.Keeping.{in_both, kept_in, item_kept}
-use Rattle.redl_rules.proofs.KeptLaws.{in_both-assoc, in_both-all, kept_in-in_front}
+use Rattle.redl_tree.specs.Rules.Sound.{everywhere}
+use Rattle.redl_rules.specs.Keeping.{in_both, kept_in}
+use Rattle.redl_rules.proofs.KeptLaws.{in_both-assoc, in_both-all, item_told, item_kept-told, kept_in-in_front}
 use Rattle.redl_rules.proofs.walk.+kept.Goals as goal
 
 pub kept_by_nodes-loop-node-preserved : goal.kept_by_nodes-loop-node-preserved
@@ -12,8 +13,8 @@ kept_by_nodes-loop-node-preserved t c above is =
     let x = c.node-item.result in
     let here = nodes_here nodes i x (omega arith) c.node-item.is in
     let rest = nodes_of (drop (i + 1) nodes) in
-    ap (λ kept. in_both kept (kept_in above rest)) (c.and-kept.ensures ∙ ap (in_both c.loop-node.kept) (c.kept_by_node.ensures above is))
-    ∙ in_both-assoc c.loop-node.kept (item_kept above (item_of x)) (kept_in above rest)
+    ap (λ kept. in_both kept (kept_in above rest)) (c.and-kept.ensures ∙ ap (in_both c.loop-node.kept) (c.kept_by_node.ensures above is ∙ item_kept-told above (item_of x)))
+    ∙ in_both-assoc c.loop-node.kept (item_told above (item_of x)) (λ test. everywhere test above rest)
     ∙ ap (in_both c.loop-node.kept) (sym (kept_in-in_front above (item_of x) rest) ∙ sym (ap (kept_in above) here))
     ∙ c.loop-node.invariant above is
 

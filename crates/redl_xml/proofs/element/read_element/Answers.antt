@@ -4,7 +4,7 @@ use Rattle.redl_tree.specs.Model.View.{nodes_of}
 use Rattle.redl_markup.specs.declared.error.MarkupError.{MarkupError}
 use Rattle.redl_markup.specs.declared.place.Place.TheVariants.{InElement}
 use Rattle.redl_markup.specs.Reading.{Fails}
-use Rattle.redl_markup.specs.Views.{piece_view}
+use Rattle.redl_markup.specs.PieceViews.{piece_view}
 use Rattle.redl_markup.proofs.Pieces.{piece_shorter}
 use Rattle.redl_xml.specs.Surveys.{Survey, surveyed, survey_finished, survey_begun, deepest_with, survey_of, survey_from}
 use Rattle.redl_xml.specs.Buildings.{building_view}

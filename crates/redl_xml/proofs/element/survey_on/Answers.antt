@@ -2,7 +2,7 @@ use Rattle.std.proofs.Common.{◌≡◌, ◌≢◌, ap, Err, length, arith}
 use Rattle.std.proofs.lemmas.Result.{err_from_is_err_and}
 use Rattle.redl_markup.specs.declared.error.MarkupError.{MarkupError}
 use Rattle.redl_markup.specs.declared.place.Place.TheVariants.{InElement}
-use Rattle.redl_markup.specs.Views.{piece_view}
+use Rattle.redl_markup.specs.PieceViews.{piece_view}
 use Rattle.redl_markup.proofs.Pieces.{piece_shorter}
 use Rattle.redl_xml.specs.Surveys.{surveyed, survey_finished}
 use Rattle.redl_xml.specs.OpenTags.{survey_view}

@@ -1,25 +1,24 @@
-use Rattle.std.proofs.Common.{◌≡◌, [], ◌++◌, ◌+◌, List, length, refl, sym, ap, ◌∙◌, append-nil}
-use Rattle.redl_tree.specs.Model.Text.{text}
-use Rattle.redl_tree.specs.Model.View.{nodes_of}
-use Rattle.redl_tree.proofs.NumberLaws.{text-numbered}
-use Rattle.redl_opc.specs.declared.label.Label.{Label}
-use Rattle.redl_stamp.specs.Attribute.{attribute_value}
+use Rattle.std.proofs.Common.{◌≡◌, [], ◌++◌, refl, sym, ap, subst, List, All, ◌∙◌, append-nil}
+use Rattle.redl_tree.specs.Decisions.Packages.{stories}
+use Rattle.redl_index.specs.Labels.{labels_of}
+use Rattle.redl_index.specs.Numbers.{numbered_package}
+use Rattle.redl_index.specs.Revisions.{IsInStory, revisions_of}
 use Rattle.redl_index.specs.declared.revision.Revision.{Revision}
-use Rattle.redl_index.specs.Labels.{labels_in}
-use Rattle.redl_index.proofs.LabelLaws.{labelled_in-labels_in}
+use Rattle.redl_index.proofs.LabelLaws.{labelled_in-labels_of}
+use Rattle.redl_index.proofs.AgainLaws.{revisions-numbered}
+use Rattle.redl_index.proofs.PartLaws.{revisions-in_story}
 use Rattle.redl_index.proofs.index.Index.build.Goals as goal
 
 pub returns-clause-nodes : goal.returns-clause-nodes
 returns-clause-nodes c =
     let nodes = c.args.pkg.now in
-    let none = c.nothing-found.result in
-    let labels_are : c.deref.result.now ≡ labels_in [] 1 nodes ++ [] =
-    c.deref.ensures.value ∙ c.in_ok-find_in_stories.ensures.labels [] refl
-    ∙ ap (λ (xs : List Label). xs ++ labels_in [] (1 + length none.index) (nodes_of c.nodes.result.now)) c.nothing-found.ensures.labels
-    ∙ ap (λ (found : List Revision). labels_in [] (1 + length found) (nodes_of c.nodes.result.now)) c.nothing-found.ensures.index
-    ∙ ap (labels_in [] 1) c.nodes.ensures.nodes
-    ∙ sym (append-nil (labels_in [] 1 nodes)) in
-    c.label_stories.ensures ∙ labelled_in-labels_in [] 1 c.deref.result.now 0 [] nodes [] labels_are refl
+    let labels_are : c.deref.result.now ≡ labels_of 1 (stories nodes) ++ [] =
+    c.deref.ensures.value ∙ c.in_ok-find_in_stories.ensures.labels ∙ sym (append-nil (labels_of 1 (stories nodes))) in
+    c.label_stories.ensures.nodes ∙ labelled_in-labels_of [] 1 c.deref.result.now 0 [] nodes [] labels_are refl
 
-pub returns-clause-text : goal.returns-clause-text
-returns-clause-text c = ap text (returns-clause-nodes c) ∙ text-numbered attribute_value c.args.pkg.now
+pub returns-clause-stories : goal.returns-clause-stories
+returns-clause-stories c =
+    let nodes = c.args.pkg.now in
+    let found : revisions_of (numbered_package nodes) ≡ c.find_in_stories.new.found.index = revisions-numbered nodes ∙ sym c.in_ok-find_in_stories.ensures.index in
+    let P : List Revision → Type 0 = All (IsInStory c.label_stories.new.self) in
+    subst P found (subst (λ pkg. All (IsInStory pkg) (revisions_of (numbered_package nodes))) (sym (returns-clause-nodes c)) (revisions-in_story (numbered_package nodes)))

@@ -1,10 +1,11 @@
 use Rattle.std.proofs.Common.{◌≡◌, [], length, ap, map, ◌∙◌, arith, refl}
 use Rattle.std.proofs.lemmas.List.{take_at}
+use Rattle.redl_tree.specs.Model.Text.{text}
 use Rattle.redl_tree.specs.Model.View.{nodes_of}
 use Rattle.redl_tree.specs.Revisions.Labels.{unlabelled}
 use Rattle.redl_opc.specs.Labels.{elements, labelled_in}
 use Rattle.redl_opc.specs.PartView.{part_view}
-use Rattle.redl_opc.proofs.LabelLaws.{kept-labelled, stories_alone, elements_at_most}
+use Rattle.redl_opc.proofs.LabelLaws.{kept-labelled, stories_alone, elements_at_most, text-labelled}
 use Rattle.redl_opc.proofs.package.Package.label_stories.Goals as goal
 
 pub label_nodes-requires : goal.label_nodes-requires
@@ -20,3 +21,13 @@ invariant_of-self c =
     (ap (λ xs. unlabelled (nodes_of xs)) (take_at c.label_nodes.new.nodes _ _ as_long)
     ∙ ap unlabelled (c.label_nodes.ensures.nodes [] refl ∙ ap (λ xs. labelled_in c.args.labels.now 0 [] (nodes_of xs)) c.deref_mut.ensures.value)
     ∙ stories_alone c.args.labels.now 0 [] nodes) c.self.invariant
+
+pub returns-clause-text : goal.returns-clause-text
+returns-clause-text c =
+    let nodes = nodes_of c.self.inside.nodes.items in
+    let as_long : length c.label_nodes.new.nodes ≡ c.self.inside.nodes.len = omega (arith, c.label_nodes.auto.nodes, c.deref_mut.ensures.len) in
+    text-labelled nodes _
+    (ap (λ xs. unlabelled (nodes_of xs)) (take_at c.label_nodes.new.nodes _ _ as_long)
+    ∙ ap unlabelled (c.label_nodes.ensures.nodes [] refl ∙ ap (λ xs. labelled_in c.args.labels.now 0 [] (nodes_of xs)) c.deref_mut.ensures.value)
+    ∙ stories_alone c.args.labels.now 0 [] nodes)
+    ∙ ap text c.self.view_is

@@ -13,8 +13,8 @@ overflow_cast-result c =
     let listed : length (map part_view c.self.inside.parts.items) ≡ length (places_of nodes) = ap length c.self.invariant.parts in
     omega (arith, c.len.ensures, simp length-map at listed, few-places_of nodes, c.self.invariant.few)
 
-pub returns : goal.returns
-returns c =
+pub returns-clause-value : goal.returns-clause-value
+returns-clause-value c =
     let listed : length (map part_view c.self.inside.parts.items) ≡ length (parts_of c.args.self.now) =
     ap length c.self.invariant.parts ∙ length-places_of (nodes_of c.self.inside.nodes.items) ∙ ap (λ nodes. length (parts_of nodes)) c.self.view_is in
     c.len.ensures ∙ omega (arith, simp length-map at listed)

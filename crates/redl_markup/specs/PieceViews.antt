@@ -1,0 +1,11 @@
+-- The code's pieces as plain data.
+use Rattle.redl_markup.specs.declared.piece.Piece as code
+use Rattle.redl_markup.specs.declared.piece.Piece.TheVariants.{Start, Empty, End, Stretch}
+use Rattle.redl_markup.specs.Pieces.{Piece, start_tag, empty_tag, end_tag, stretch}
+use Rattle.redl_markup.specs.Views.{name_view}
+
+abbrev pub piece_view : code.Piece → Piece
+piece_view (Start tag) = start_tag tag.name tag.tail
+piece_view (Empty tag) = empty_tag tag.name tag.tail
+piece_view (End name space) = end_tag (name_view name) space.now
+piece_view (Stretch bytes) = stretch bytes.now

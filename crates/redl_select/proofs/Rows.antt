@@ -1,0 +1,44 @@
+-- Selections by hand, with the numbers that they choose.
+use Rattle.std.proofs.Common.{◌≡◌, ℕ, [], ◌∷◌, List, Option, Some, None, refl}
+use Rattle.std.specs.Prelude.{ℤ, pos, codes}
+use Rattle.redl_tree.specs.declared.kinds.Trace.TheVariants.{Ins, Del}
+use Rattle.redl_index.specs.declared.revision.RevKind.{RevKind}
+use Rattle.redl_index.specs.declared.revision.RevKind.TheVariants.{Content, Row}
+use Rattle.redl_index.specs.declared.revision.Revision.{Revision}
+use Rattle.redl_select.specs.Selections.{all, numbers, author, span, kind, chosen}
+
+abbrev made_by : ℕ → RevKind → List ℕ → Option ℤ → Revision
+made_by number of_kind name seconds = record { number = number; kind = of_kind; author = name; seconds = seconds; part = 0; members = 1 }
+
+-- an insertion of a second, a deletion of the second after it, and an inserted row without a date
+abbrev three : List Revision
+three =
+    made_by 1 (Content Ins) (codes "Ann") (Some (pos 1_714_979_289)) ∷ made_by 2 (Content Del) (codes "Bob") (Some (pos 1_714_979_290))
+    ∷ made_by 3 (Row Ins) (codes "Cy & Co") None ∷ []
+
+row_all : chosen three all ≡ 1 ∷ 2 ∷ 3 ∷ []
+row_all = refl
+
+-- in order, each once, and also numbers that there are not
+row_numbers : chosen three (numbers (7 ∷ 2 ∷ 0 ∷ 2 ∷ [])) ≡ 0 ∷ 2 ∷ 7 ∷ []
+row_numbers = refl
+
+row_author : chosen three (author (codes "Bob")) ≡ 2 ∷ []
+row_author = refl
+
+-- names are compared byte by byte
+row_other_author : chosen three (author (codes "bob")) ≡ []
+row_other_author = refl
+
+-- the end of a span is not in it, and no revision without a date is
+row_span : chosen three (span (pos 1_714_979_289) (pos 1_714_979_290)) ≡ 1 ∷ []
+row_span = refl
+
+row_whole_span : chosen three (span (pos 0) (pos 253_402_300_799)) ≡ 1 ∷ 2 ∷ []
+row_whole_span = refl
+
+row_kind : chosen three (kind (Content Ins)) ≡ 1 ∷ []
+row_kind = refl
+
+row_kind_of_rows : chosen three (kind (Row Ins)) ≡ 3 ∷ []
+row_kind_of_rows = refl

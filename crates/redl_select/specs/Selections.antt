@@ -1,0 +1,95 @@
+-- Which revisions of a package a selection means (our own rule).
+use Rattle.std.specs.Prelude.{◌==◌, ◌&&◌, ◌+◌, ℕ, zero, suc, ℤ, int_le, int_lt, Bool, true, false, List, [], ◌∷◌, Option, Some, None, IsSomeAnd, IsTrue, fold, slice_get, if◌then◌else◌, Contains}
+use Rattle.std.specs.Str.{bytes_eq}
+use Rattle.std.specs.Ordering.{nat_cmp}
+use Rattle.std.specs.BTreeSet.{insert_key}
+use Rattle.redl_tree.specs.declared.kinds.Trace.{Trace}
+use Rattle.redl_tree.specs.declared.kinds.Trace.TheVariants.{Ins, Del, From, To}
+use Rattle.redl_tree.specs.declared.kinds.Prop.{Prop}
+use Rattle.redl_tree.specs.declared.kinds.Prop.TheVariants as props
+use Rattle.redl_index.specs.declared.revision.RevKind.{RevKind}
+use Rattle.redl_index.specs.declared.revision.RevKind.TheVariants.{Content, Move, Mark, Row, Cell, Change}
+use Rattle.redl_index.specs.declared.revision.Revision.{Revision}
+
+-- a choice of revisions
+pub data Selection : Type 0 where
+  -- each revision
+  all : Selection
+  -- these numbers, whether the package has them or not
+  numbers : List ℕ → Selection
+  -- the revisions of this author
+  author : List ℕ → Selection
+  -- the revisions made from the first moment on and before the second
+  span : ℤ → ℤ → Selection
+  -- the revisions of this kind
+  kind : RevKind → Selection
+
+-- ---- the revisions that a selection means
+
+-- traces and properties, told apart by a number for each
+abbrev pub trace_rank : Trace → ℕ
+trace_rank Ins = 0
+trace_rank Del = 1
+trace_rank From = 2
+trace_rank To = 3
+
+abbrev pub prop_rank : Prop → ℕ
+prop_rank props.Run = 0
+prop_rank props.Para = 1
+prop_rank props.Sect = 2
+prop_rank props.Table = 3
+prop_rank props.Except = 4
+prop_rank props.Row = 5
+prop_rank props.Cell = 6
+
+-- the two kinds are the same
+abbrev pub is_same_kind : RevKind → RevKind → Bool
+is_same_kind (Content a) (Content b) = trace_rank a == trace_rank b
+is_same_kind Move Move = true
+is_same_kind (Mark a) (Mark b) = trace_rank a == trace_rank b
+is_same_kind (Row a) (Row b) = trace_rank a == trace_rank b
+is_same_kind (Cell a) (Cell b) = trace_rank a == trace_rank b
+is_same_kind (Change a) (Change b) = prop_rank a == prop_rank b
+is_same_kind _ _ = false
+
+-- the moment is from the first on and before the second; without a moment it isn't
+abbrev pub is_within : ℤ → ℤ → Option ℤ → Bool
+is_within start end None = false
+is_within start end (Some moment) = int_le start moment && int_lt moment end
+
+-- The selection means this revision. A list of numbers means numbers, and is no test of revisions.
+abbrev pub selects : Selection → Revision → Bool
+selects all revision = true
+selects (numbers listed) revision = false
+selects (author name) revision = bytes_eq revision.author name
+selects (span start end) revision = is_within start end revision.seconds
+selects (kind of_kind) revision = is_same_kind revision.kind of_kind
+
+-- ---- the set of numbers that are chosen
+
+-- the revision with this number, if there is one; numbers count from 1
+abbrev pub revision_at : List Revision → ℕ → Option Revision
+revision_at revisions zero = None
+revision_at revisions (suc place) = slice_get revisions place
+
+-- The selection chooses this number: it is one of the listed ones, or the selection means the revision that has it.
+abbrev pub IsChosen : List Revision → Selection → ℕ → Type 0
+IsChosen revisions (numbers listed) number = Contains listed number
+IsChosen revisions selection number = IsSomeAnd (revision_at revisions number) (λ revision. IsTrue (selects selection revision))
+
+-- ---- the same numbers as a list
+
+-- the numbers of the revisions that the selection means, where the first of these has this number
+abbrev pub numbers_from : Selection → ℕ → List Revision → List ℕ
+numbers_from selection number [] = []
+numbers_from selection number (revision ∷ later) =
+    if selects selection revision then number ∷ numbers_from selection (number + 1) later else numbers_from selection (number + 1) later
+
+-- the numbers in their order, each once
+abbrev pub in_order : List ℕ → List ℕ
+in_order listed = fold (insert_key nat_cmp) [] listed
+
+-- the numbers that the selection chooses
+abbrev pub chosen : List Revision → Selection → List ℕ
+chosen revisions (numbers listed) = in_order listed
+chosen revisions selection = numbers_from selection 1 revisions

@@ -1,0 +1,4 @@
+pub mod Admissions
+pub mod Left
+pub mod SaysLaws
+pub mod Consistency

@@ -1,0 +1,4 @@
+pub mod Refusals
+pub mod Says
+pub mod Sessions
+pub mod Writing

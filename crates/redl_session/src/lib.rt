@@ -1,0 +1,18 @@
+//! Sessions: a package under the decisions of its reviewers, entry by entry.
+//! `Session::start` takes a sound package with its index; `admit` and `admit_many` put entries into its book or refuse them.
+//! The says are always those of the book's verdicts, and what is written is the pass under them: a sound package again.
+//! `redl_join` keeps the book, `redl_resolve` makes the pass; reading journals and telling of refusals is left to the crates above.
+#![tactic(auto)]
+
+mod admission;
+mod laws;
+mod locks;
+mod passing;
+mod refusal;
+mod says;
+mod session;
+
+pub use laws::{admissions_make_the_union, order_does_not_count};
+pub use locks::Locks;
+pub use refusal::{AdmitError, Refusal, SessionWriteError, Taken};
+pub use session::Session;

@@ -1,0 +1,56 @@
+//! The pass of a session's package, with a counter of steps that nobody reads.
+ghost use Rattle.std.specs.Prelude.{◌≡◌, ◌<◌, IfOk};
+ghost use Rattle.redl_tree.specs.Decisions.Packages.{pass_package};
+ghost use Rattle.redl_tree.specs.Model.View.{nodes_of};
+
+use redl_resolve::{Steps, into_passed, pass};
+use redl_tree::{Node, Say};
+use std::alloc::{AllocError, Global};
+use std::marker::Brand;
+use std::sync::ledger::{Blank, Ledger};
+
+/// The pass of these nodes under the says. `Err` means out of memory.
+pub(crate) fn passed(alloc: Global, nodes: &[Node], says: &[Say]) -> Result<Vec<Node>, AllocError>
+    ensures { IfOk result (λ passed. nodes_of passed.items ≡ pass_package says.now (nodes_of nodes.now)) }
+{
+    pass_counted::<Brand>(alloc, nodes, says, Blank::new(1))
+}
+
+fn pass_counted<L: Ledger>(
+    alloc: Global,
+    nodes: &[Node],
+    says: &[Say],
+    blank: Blank,
+) -> Result<Vec<Node>, AllocError>
+    requires name { blank.name ≡ L.name }
+    requires parts { blank.parts ≡ L.parts }
+    requires some { 0 < L.parts }
+    ensures { IfOk result (λ passed. nodes_of passed.items ≡ pass_package says.now (nodes_of nodes.now)) }
+{
+    pass(alloc, nodes, says, &mut Steps::<L>::new(blank))
+}
+
+/// The same for nodes that are given away: what stays is moved. `Err` means out of memory.
+pub(crate) fn pass_on(
+    alloc: Global,
+    nodes: Vec<Node>,
+    says: &[Say],
+) -> Result<Vec<Node>, AllocError>
+    ensures { IfOk result (λ passed. nodes_of passed.items ≡ pass_package says.now (nodes_of nodes.items)) }
+{
+    pass_on_counted::<Brand>(alloc, nodes, says, Blank::new(1))
+}
+
+fn pass_on_counted<L: Ledger>(
+    alloc: Global,
+    nodes: Vec<Node>,
+    says: &[Say],
+    blank: Blank,
+) -> Result<Vec<Node>, AllocError>
+    requires name { blank.name ≡ L.name }
+    requires parts { blank.parts ≡ L.parts }
+    requires some { 0 < L.parts }
+    ensures { IfOk result (λ passed. nodes_of passed.items ≡ pass_package says.now (nodes_of nodes.items)) }
+{
+    into_passed(alloc, nodes, says, &mut Steps::<L>::new(blank))
+}

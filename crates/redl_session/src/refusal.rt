@@ -1,0 +1,50 @@
+//! What becomes of an entry, and why it or a writing is refused.
+ghost use Rattle.std.specs.Prelude.{◌≡◌};
+
+use redl_io::Failed;
+use redl_journal::Entry;
+use std::alloc::AllocError;
+use thiserror::Error;
+
+/// How an entry was admitted.
+#[derive(Clone, Copy, Debug, PartialEq, Eq)]
+pub enum Taken {
+    /// The book has it now.
+    New,
+    /// The book had it before, and nothing changed.
+    Repeat,
+}
+
+/// Why an entry was refused.
+#[derive(Clone, Copy, Debug, PartialEq, Eq, Error)]
+pub enum AdmitError {
+    /// The package does not have the revision.
+    #[error("unknown revision")]
+    Unknown,
+    /// The author of the revision is locked.
+    #[error("locked author")]
+    Locked,
+    /// Out of memory.
+    #[error("out of memory")]
+    NoMemory,
+}
+
+/// An entry that was refused, and why.
+#[derive(Drop)]
+pub struct Refusal {
+    /// The entry, as it was given.
+    pub entry: Entry,
+    /// Why it was refused.
+    pub why: AdmitError,
+}
+
+/// Why a session was not written.
+#[derive(Clone, Copy, Debug, PartialEq, Eq, Error)]
+pub enum SessionWriteError {
+    /// The sink failed, and has only a prefix of the text.
+    #[error("cannot write")]
+    Failed,
+    /// Out of memory, before anything was put.
+    #[error("out of memory")]
+    NoMemory,
+}

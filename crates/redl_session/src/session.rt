@@ -1,0 +1,198 @@
+//! Sessions.
+ghost use Rattle.std.specs.Prelude.{◌≡◌, [], None, All, length, map, IfOk, IfErr, OnOk, OnErr, if◌then◌else◌};
+ghost use Rattle.redl_index.specs.Numbers.{numbered_package};
+ghost use Rattle.redl_index.specs.Revisions.{revisions_of};
+ghost use Rattle.redl_join.specs.Books.{has_entry, union, with_entry};
+ghost use Rattle.redl_join.specs.Verdicts.{verdict_at};
+ghost use Rattle.redl_journal.specs.Journals.{IsAllowed};
+ghost use Rattle.redl_rules.specs.Attributes.{broken_rule};
+ghost use Rattle.redl_session.specs.Refusals.{IsCause, admitted, cause_of, refusals};
+ghost use Rattle.redl_session.specs.Says.{verdicts_of};
+ghost use Rattle.redl_session.specs.declared.refusal.Taken.TheVariants.{New, Repeat};
+ghost use Rattle.redl_session.specs.Sessions.{StopsAfter, says};
+ghost use Rattle.redl_session.specs.Writing.{Writes};
+ghost use Rattle.redl_tree.specs.Decisions.Packages.{pass_package, stories};
+ghost use Rattle.redl_tree.specs.Decisions.Survivors.{survivors, text_pieces};
+ghost use Rattle.redl_tree.specs.Model.Text.{text};
+ghost use Rattle.redl_tree.specs.Model.View.{nodes_of};
+
+use crate::admission::{add_copy, cause, take_in};
+use crate::locks::Locks;
+use crate::passing::{pass_on, passed};
+use crate::refusal::{AdmitError, Refusal, SessionWriteError, Taken};
+use crate::says::{decide, say_of, verdicts};
+use redl_index::Index;
+use redl_io::Sink;
+use redl_join::{Book, Verdict};
+use redl_journal::Entry;
+use redl_opc::Package;
+use redl_tree::{Node, Say, write_nodes};
+use std::alloc::{AllocError, Global};
+use std::marker::Model;
+
+/// A sound package, its revisions, the locked authors, and the book of the entries that were admitted. Contracts see these
+/// four; the say of each revision is always that of the book's verdict.
+#[derive(Drop)]
+pub struct Session {
+    alloc: Global,
+    original: Package,
+    index: Index,
+    locks: Locks,
+    book: Book,
+    says: Vec<Say>,
+}
+
+impl Model for Session {
+    ghost use Rattle.std.specs.Coded.{codes};
+    ghost use Rattle.redl_session.specs.Sessions.{State, state_code, IsConsistent};
+
+    ghost Value = { State };
+
+    ghost coded = { state_code (Prim.hlevel codes) (Prim.hlevel codes) (Prim.hlevel codes) };
+
+    ghost view = { λ session. record { nodes = session.original; revisions = session.index; locks = session.locks; book = session.book } };
+
+    ghost invariant = { λ session. IsConsistent session.original session.index session.book session.says.items };
+}
+
+impl Session {
+    /// A session with no entries. `Err` means out of memory, and drops all three.
+    ///
+    /// The package has the kinds and numbers that its index gave it, and is sound.
+    pub fn start(
+        alloc: Global,
+        pkg: Package,
+        index: Index,
+        locks: Locks,
+    ) -> Result<Session, AllocError>
+        requires numbered { numbered_package pkg ≡ pkg }
+        requires index { index ≡ revisions_of pkg }
+        requires sound { broken_rule pkg ≡ None }
+        ensures { IfOk result (λ session. session ≡ record { nodes = pkg; revisions = index; locks = locks; book = [] }) }
+    {
+        let says = vec![in alloc; Say::Keep; index.count() as usize]?;
+        Ok(Session {
+            alloc,
+            original: pkg,
+            index,
+            locks,
+            book: Book::new(alloc),
+            says,
+        })
+    }
+
+    /// Admits the entry. A refusal hands it back and changes nothing.
+    ///
+    /// `Unknown` exactly if the package does not have its revision. Otherwise `Locked` exactly if the revision's author is
+    /// locked. Otherwise `Repeat` if the book has the entry, and nothing changes. `NoMemory` means out of memory.
+    pub fn admit(&mut self, entry: Entry) -> Result<Taken, Refusal>
+        requires { IsAllowed entry }
+        ensures admitted { OnOk result (cause_of self.old.revisions self.old.locks entry ≡ None) }
+        ensures taken { OnOk result (self.new ≡ record self.old { book = with_entry self.old.book entry }) }
+        ensures was_new { IfOk result (λ taken. taken ≡ (if has_entry self.old.book entry then Repeat else New)) }
+        ensures repeat { result ≡ Ok Repeat → self.new ≡ self.old }
+
+        // A refusal
+        ensures cause { IfErr result (λ refusal. IsCause refusal.why (cause_of self.old.revisions self.old.locks entry)) }
+        ensures returned { IfErr result (λ refusal. refusal.entry ≡ entry) }
+        ensures untouched { OnErr result (self.new ≡ self.old) }
+    {
+        if let Some(why) = cause(&self.index, &self.locks, &entry) {
+            return Err(Refusal { entry, why });
+        }
+        match add_copy(self.alloc, &mut self.book, &entry) {
+            Ok(true) => {
+                self.says[entry.rev as usize - 1] = say_of(self.book.verdict(entry.rev));
+                Ok(Taken::New)
+            }
+            Ok(false) => Ok(Taken::Repeat),
+            Err(_) => Err(Refusal {
+                entry,
+                why: AdmitError::NoMemory,
+            }),
+        }
+    }
+
+    /// Admits these entries, one after another, and gives the refused ones in their order. Each verdict is made once, after
+    /// all of them, so this is faster than `admit` for many entries.
+    ///
+    /// `Err` means out of memory: a first part of the entries was admitted, and the refused ones of it are lost.
+    pub fn admit_many(&mut self, entries: Vec<Entry>) -> Result<Vec<Refusal>, AllocError>
+        requires { All IsAllowed entries.items }
+        ensures admitted { OnOk result (self.new
+            ≡ record self.old { book = union self.old.book (admitted self.old.revisions self.old.locks entries.items) }) }
+        ensures refused { IfOk result (λ refused. refused.items ≡ refusals self.old.revisions self.old.locks entries.items) }
+        ensures stopped { OnErr result (StopsAfter self.old self.new entries.items) }
+    {
+        let refused = take_in(
+            self.alloc,
+            &self.index,
+            &self.locks,
+            &mut self.book,
+            entries,
+        );
+        decide(&self.book, &mut self.says, self.index.count());
+        refused
+    }
+
+    /// What the reviewers' words on the revision come to.
+    pub fn verdict(&self, rev: u32) -> Verdict
+        ensures { result ≡ verdict_at self.now.book rev }
+    {
+        self.book.verdict(rev)
+    }
+
+    /// The verdict on each revision, in the order of their numbers. `Err` means out of memory.
+    pub fn verdicts(&self) -> Result<Vec<Verdict>, AllocError>
+        ensures { IfOk result (λ verdicts. verdicts.items ≡ verdicts_of self.now.book (length self.now.revisions)) }
+    {
+        verdicts(self.alloc, &self.book, self.index.count())
+    }
+
+    /// The say of each revision, in the order of their numbers: that of its verdict.
+    pub fn says(&self) -> &[Say]
+        ensures { result.now ≡ says self.now }
+    {
+        &self.says
+    }
+
+    /// The entries that were admitted.
+    pub fn book(&self) -> &Book
+        ensures { result.now ≡ self.now.book }
+    {
+        &self.book
+    }
+
+    /// The revisions of the package.
+    pub fn index(&self) -> &Index
+        ensures { result.now ≡ self.now.revisions }
+    {
+        &self.index
+    }
+
+    /// Puts the text of the package under the says. `Failed` means that the sink failed and has only a prefix of the text.
+    /// `NoMemory` means out of memory, and nothing was put.
+    pub fn write<K: Sink>(&self, out: &mut K) -> Result<(), SessionWriteError>
+        ensures { Writes K.told K.faults K.settled K.lenders out.old out.new (text (pass_package (says self.now) self.now.nodes)) result }
+    {
+        let Ok(nodes) = passed(self.alloc, self.original.nodes(), &self.says) else {
+            return Err(SessionWriteError::NoMemory);
+        };
+        match write_nodes(&nodes, out) {
+            Ok(()) => Ok(()),
+            Err(_) => Err(SessionWriteError::Failed),
+        }
+    }
+
+    /// The nodes that are left of the package under the says. They are moved, so the original goes while they are made.
+    /// `Err` means out of memory.
+    pub fn into_passed(self) -> Result<Vec<Node>, AllocError>
+        ensures passed { IfOk result (λ passed. nodes_of passed.items ≡ pass_package (says self) self.nodes) }
+
+        // Exactly the text that survives is left, in a sound package.
+        ensures survival { IfOk result (λ passed. map text_pieces (stories (nodes_of passed.items)) ≡ map (survivors (says self)) (stories self.nodes)) }
+        ensures soundness { IfOk result (λ passed. broken_rule (nodes_of passed.items) ≡ None) }
+    {
+        pass_on(self.alloc, self.original.into_nodes(), &self.says)
+    }
+}

@@ -1,0 +1,420 @@
+-- Command lines: what was read is what the words are, and what the words are is read. So a list of words has one command at most.
+use Rattle.std.proofs.Common.{◌≡◌, ◌≢◌, ℕ, zero, suc, ◌<◌, ◌≤◌, get_or, lit<, Bool, true, false, cond, List, [], ◌∷◌, length, Option, Some, None, Result, Ok, Err, refl, sym, ap, subst, ◌∙◌, inl, inr, ◌⊎◌, arith, IsTrue, All, IsUtf8, IfOk}
+use Rattle.std.specs.Prelude.{◌&&◌, codes, decimal, option_to_list, option_map, IsErrOf}
+use Rattle.std.specs.List.{flat_map, list_all, AllByRecursion}
+use Rattle.std.specs.Str.{bytes_eq}
+use Rattle.std.proofs.lemmas.Option.{same_Some, cond_some}
+use Rattle.std.proofs.lemmas.List.Sums.{AllPass-from_list_all, list_all-from_AllPass}
+use Rattle.std.proofs.lemmas.List.Elements.{recursion_from_All, All-from_recursion}
+use Rattle.std.proofs.lemmas.Str.{IsUtf8-from_ascii}
+use Rattle.redl_journal.specs.declared.entry.Word.{Word}
+use Rattle.redl_journal.specs.Reading.{◌>>=◌, number_in, is_reviewer}
+use Rattle.redl_journal.proofs.Runs.{and-true}
+use Rattle.redl_journal.proofs.Parts.{bind_some, number_takes, number_again, reviewer_takes, reviewer_again}
+use Rattle.redl_select.specs.Selections.{Selection}
+use Rattle.redl_words.specs.declared.error.WordsError.{WordsError}
+use Rattle.redl_words.specs.declared.error.WordsError.TheVariants.{Usage, NoMemory}
+use Rattle.redl_words.specs.declared.options.Form.TheVariants as forms
+use Rattle.redl_words.specs.declared.verb.Verb.{Verb}
+use Rattle.redl_words.specs.declared.verb.Verb.TheVariants as verbs
+use Rattle.redl_words.specs.declared.command.Command as code
+use Rattle.redl_words.specs.Commands.{Command, settle, list, write, decide, join, check, sample, is_name, Item, format, lock, journal, named_journal, choice, item_words, Admits, of_list, of_write, of_decide, Form as Kind, formats_of, locks_of, journals_of, say_word, IsSettle, IsList, IsWrite, IsDecide, IsJoin, IsCheck, IsSample, IsCommand, HasNoCommand, HasUtf8}
+use Rattle.redl_words.specs.Views.{command_of}
+use Rattle.redl_words.specs.Reading.{Finds, Gathered, nothing, gathered, verb_in, say_in, settle_in, format_or_text, list_in, write_in, decide_with, decide_in, names_in, join_in, check_in, sample_in, command_with, command_in}
+use Rattle.redl_words.proofs.SelectionLaws.{bytes_same, map_some}
+use Rattle.redl_words.proofs.ItemLaws.{items_take, read_again}
+
+-- the first of several tests that holds
+pick : {A : Type 0} (P : A → Type 0) (t : Bool) (x : A) (rest : Option A) (y : A) → cond t (Some x) rest ≡ Some y → (t ≡ true → P x) → (rest ≡ Some y → P y) → P y
+pick P true x rest y e here later = subst P (same_Some x y e) (here refl)
+pick P false x rest y e here later = later e
+
+-- an answer that needs a test
+needs : {A : Type 0} (t : Bool) (x : Option A) (y : A) → cond t x None ≡ Some y → (t ≡ true) × (x ≡ Some y)
+needs true x y e = (refl, e)
+needs false x y e = absurd cc
+
+-- ---- verbs
+
+verb_text : Verb → List ℕ
+verb_text verbs.Settle = codes "settle"
+verb_text verbs.List = codes "list"
+verb_text verbs.Write = codes "write"
+verb_text verbs.Decide = codes "decide"
+verb_text verbs.Join = codes "join"
+verb_text verbs.Check = codes "check"
+verb_text verbs.Sample = codes "sample"
+
+verb_takes : (word : List ℕ) (v : Verb) → verb_in word ≡ Some v → word ≡ verb_text v
+unfolding verb_in verb_text
+verb_takes word v e =
+    pick P (bytes_eq word (codes "settle")) verbs.Settle _ v e (λ hit. bytes_same word (codes "settle") hit) (λ e.
+    pick P (bytes_eq word (codes "list")) verbs.List _ v e (λ hit. bytes_same word (codes "list") hit) (λ e.
+    pick P (bytes_eq word (codes "write")) verbs.Write _ v e (λ hit. bytes_same word (codes "write") hit) (λ e.
+    pick P (bytes_eq word (codes "decide")) verbs.Decide _ v e (λ hit. bytes_same word (codes "decide") hit) (λ e.
+    pick P (bytes_eq word (codes "join")) verbs.Join _ v e (λ hit. bytes_same word (codes "join") hit) (λ e.
+    pick P (bytes_eq word (codes "check")) verbs.Check _ v e (λ hit. bytes_same word (codes "check") hit) (λ e.
+    pick P (bytes_eq word (codes "sample")) verbs.Sample _ v e (λ hit. bytes_same word (codes "sample") hit) (λ e. absurd cc))))))) where
+      P : Verb → Type 0
+      P v = word ≡ verb_text v
+
+verb_again : (v : Verb) → verb_in (verb_text v) ≡ Some v
+unfolding verb_in verb_text
+verb_again verbs.Settle = refl
+verb_again verbs.List = refl
+verb_again verbs.Write = refl
+verb_again verbs.Decide = refl
+verb_again verbs.Join = refl
+verb_again verbs.Check = refl
+verb_again verbs.Sample = refl
+
+-- ---- settle
+
+say_takes : (word : List ℕ) (accept : Bool) → say_in word ≡ Some accept → word ≡ say_word accept
+unfolding say_in
+say_takes word accept e =
+    pick P (bytes_eq word (say_word true)) true _ accept e (λ hit. bytes_same word (say_word true) hit) (λ e.
+    pick P (bytes_eq word (say_word false)) false _ accept e (λ hit. bytes_same word (say_word false) hit) (λ e. absurd cc)) where
+      P : Bool → Type 0
+      P accept = word ≡ say_word accept
+
+settle_takes : (rest : List (List ℕ)) (c : Command) → settle_in rest ≡ Some c → IsCommand (codes "settle" ∷ rest) c
+unfolding settle_in
+settle_takes [] c e = absurd cc
+settle_takes (say ∷ []) c e = absurd cc
+settle_takes (say ∷ p ∷ []) c e =
+    let n = needs (is_name p) (option_map (λ accept. settle accept p) (say_in say)) c e in
+    let a = map_some (λ accept. settle accept p) (say_in say) c n.1 in
+    let means : IsSettle (codes "settle" ∷ say ∷ p ∷ []) a.0 p = record { written = ap (λ (w : List ℕ). codes "settle" ∷ w ∷ p ∷ []) (say_takes say a.0 a.1); name = n.0 } in
+    subst (IsCommand (codes "settle" ∷ say ∷ p ∷ [])) a.2 means
+settle_takes (say ∷ p ∷ other ∷ more) c e = absurd cc
+
+settle_again : (accept : Bool) (p : List ℕ) → is_name p ≡ true → settle_in (say_word accept ∷ p ∷ []) ≡ Some (settle accept p)
+unfolding settle_in say_in
+settle_again true p h = rw h refl
+settle_again false p h = rw h refl
+
+-- ---- list
+
+format_takes : (f : Option (List ℕ)) (formats : List (List ℕ)) → option_to_list f ≡ formats → ((formats ≡ []) × (format_or_text f ≡ codes "text")) ⊎ (formats ≡ format_or_text f ∷ [])
+format_takes None formats e = inl (sym e, refl)
+format_takes (Some name) formats e = inr (sym e)
+
+format_again : (f : Option (List ℕ)) (formats : List (List ℕ)) (name : List ℕ) → option_to_list f ≡ formats → ((formats ≡ []) × (name ≡ codes "text")) ⊎ (formats ≡ name ∷ []) → format_or_text f ≡ name
+format_again None formats name e (inl h) = sym h.1
+format_again None formats name e (inr h) = absurd (let wrong = e ∙ h in cc)
+format_again (Some other) formats name e (inl h) = absurd (let wrong = e ∙ h.0 in cc)
+format_again (Some other) formats name e (inr h) = let same = e ∙ h in cc
+
+list_takes : (rest : List (List ℕ)) (c : Command) → list_in rest ≡ Some c → IsCommand (codes "list" ∷ rest) c
+unfolding list_in
+list_takes [] c e = absurd cc
+list_takes (p ∷ rest) c e =
+    let n = needs (is_name p) (option_map (λ items. list p (format_or_text items.format) items.locks items.journals) (gathered forms.List nothing rest)) c e in
+    let g = map_some (λ (items : Gathered). list p (format_or_text items.format) items.locks items.journals) (gathered forms.List nothing rest) c n.1 in
+    let r = items_take forms.List rest nothing g.0 g.1 in
+    let means : IsList (codes "list" ∷ p ∷ rest) p (format_or_text g.0.format) g.0.locks g.0.journals = record {
+      items = r.items;
+      rest = rest;
+      written = refl;
+      package_name = n.0;
+      are_items = record { written = r.written; admitted = All-from_recursion (Admits of_list) r.items r.admitted };
+      format = format_takes g.0.format (formats_of r.items) r.says.format;
+      locks_are = r.says.locks;
+      journals_are = r.says.journals;
+    } in
+    subst (IsCommand (codes "list" ∷ p ∷ rest)) g.2 means
+
+one_format : (formats : List (List ℕ)) (name : List ℕ) → ((formats ≡ []) × (name ≡ codes "text")) ⊎ (formats ≡ name ∷ []) → length formats ≤ 1
+one_format formats name (inl h) = let short : length formats ≡ 0 = ap length h.0 in omega arith
+one_format formats name (inr h) = let short : length formats ≡ 1 = ap length h in omega arith
+
+list_again : (p name : List ℕ) (locks journals rest : List (List ℕ)) (items : List Item) → is_name p ≡ true → rest ≡ flat_map item_words items → All (Admits of_list) items
+    → ((formats_of items ≡ []) × (name ≡ codes "text")) ⊎ (formats_of items ≡ name ∷ []) → locks ≡ locks_of items → journals ≡ journals_of items
+    → list_in (p ∷ rest) ≡ Some (list p name locks journals)
+unfolding list_in
+list_again p name locks journals rest items h written admitted formats l j =
+    let r = read_again forms.List items rest written (recursion_from_All (Admits of_list) items admitted) (one_format (formats_of items) name formats) in
+    let f : format_or_text r.after.format ≡ name = format_again r.after.format (formats_of items) name r.format formats in
+    let ls : r.after.locks ≡ locks = r.locks ∙ sym l in
+    let js : r.after.journals ≡ journals = r.journals ∙ sym j in
+    rw (h, r.reads) (same_list (format_or_text r.after.format) name r.after.locks locks r.after.journals journals f ls js) where
+      same_list : (f name : List ℕ) (ls locks js journals : List (List ℕ)) → f ≡ name → ls ≡ locks → js ≡ journals → Some (list p f ls js) ≡ Some (list p name locks journals)
+      same_list f name ls locks js journals a b c = cc
+
+-- ---- write
+
+write_takes : (rest : List (List ℕ)) (c : Command) → write_in rest ≡ Some c → IsCommand (codes "write" ∷ rest) c
+unfolding write_in
+write_takes [] c e = absurd cc
+write_takes (p ∷ rest) c e =
+    let n = needs (is_name p) (option_map (λ items. write p items.locks items.journals) (gathered forms.Write nothing rest)) c e in
+    let g = map_some (λ (items : Gathered). write p items.locks items.journals) (gathered forms.Write nothing rest) c n.1 in
+    let r = items_take forms.Write rest nothing g.0 g.1 in
+    let means : IsWrite (codes "write" ∷ p ∷ rest) p g.0.locks g.0.journals = record {
+      items = r.items;
+      rest = rest;
+      written = refl;
+      package_name = n.0;
+      are_items = record { written = r.written; admitted = All-from_recursion (Admits of_write) r.items r.admitted };
+      locks_are = r.says.locks;
+      journals_are = r.says.journals;
+    } in
+    subst (IsCommand (codes "write" ∷ p ∷ rest)) g.2 means
+
+-- a command that admits no format has none
+unformatted : (k : Kind) → ((name : List ℕ) → Admits k (format name) → ⊥) → (items : List Item) → AllByRecursion (Admits k) items → length (formats_of items) ≤ 1
+unformatted k none [] h = omega arith
+unformatted k none (format name ∷ items) h = absurd (none name h.0)
+unformatted k none (lock author ∷ items) h = unformatted k none items h.1
+unformatted k none (journal name ∷ items) h = unformatted k none items h.1
+unformatted k none (named_journal name ∷ items) h = unformatted k none items h.1
+unformatted k none (choice word text selection ∷ items) h = unformatted k none items h.1
+
+write_again : (p : List ℕ) (locks journals rest : List (List ℕ)) (items : List Item) → is_name p ≡ true → rest ≡ flat_map item_words items → All (Admits of_write) items
+    → locks ≡ locks_of items → journals ≡ journals_of items → write_in (p ∷ rest) ≡ Some (write p locks journals)
+unfolding write_in
+write_again p locks journals rest items h written admitted l j =
+    let each = recursion_from_All (Admits of_write) items admitted in
+    let r = read_again forms.Write items rest written each (unformatted of_write (λ name h. h) items each) in
+    let ls : r.after.locks ≡ locks = r.locks ∙ sym l in
+    let js : r.after.journals ≡ journals = r.journals ∙ sym j in
+    rw (h, r.reads) (same_write r.after.locks locks r.after.journals journals ls js) where
+      same_write : (ls locks js journals : List (List ℕ)) → ls ≡ locks → js ≡ journals → Some (write p ls js) ≡ Some (write p locks journals)
+      same_write ls locks js journals a b = cc
+
+-- ---- decide
+
+decide_with_takes : (p reviewer : List ℕ) (journals locks : List (List ℕ)) (choices : List (Word × Selection)) (c : Command) → decide_with p reviewer journals locks choices ≡ Some c
+    → (choices ≢ []) × (decide p reviewer journals locks choices ≡ c)
+decide_with_takes p reviewer journals locks [] c e = absurd cc
+decide_with_takes p reviewer journals locks (first ∷ more) c e = (λ empty. cc, same_Some (decide p reviewer journals locks (first ∷ more)) c e)
+
+decide_with_again : (p reviewer : List ℕ) (journals locks : List (List ℕ)) (choices : List (Word × Selection)) → choices ≢ []
+    → decide_with p reviewer journals locks choices ≡ Some (decide p reviewer journals locks choices)
+decide_with_again p reviewer journals locks [] h = absurd (h refl)
+decide_with_again p reviewer journals locks (first ∷ more) h = refl
+
+decide_takes : (rest : List (List ℕ)) (c : Command) → decide_in rest ≡ Some c → IsCommand (codes "decide" ∷ rest) c
+unfolding decide_in
+decide_takes [] c e = absurd cc
+decide_takes (p ∷ []) c e = absurd cc
+decide_takes (p ∷ reviewer ∷ rest) c e =
+    let n = needs (is_name p && is_reviewer reviewer) (gathered forms.Decide nothing rest >>= λ items. decide_with p reviewer items.journals items.locks items.choices) c e in
+    let both = and-true (is_name p) (is_reviewer reviewer) n.0 in
+    let g = bind_some (gathered forms.Decide nothing rest) (λ (items : Gathered). decide_with p reviewer items.journals items.locks items.choices) c n.1 in
+    let d = decide_with_takes p reviewer g.0.journals g.0.locks g.0.choices c g.2 in
+    let r = items_take forms.Decide rest nothing g.0 g.1 in
+    let means : IsDecide (codes "decide" ∷ p ∷ reviewer ∷ rest) p reviewer g.0.journals g.0.locks g.0.choices = record {
+      items = r.items;
+      rest = rest;
+      written = refl;
+      package_name = both.0;
+      reviewer_name = reviewer_takes reviewer both.1;
+      are_items = record { written = r.written; admitted = All-from_recursion (Admits of_decide) r.items r.admitted };
+      journals_are = r.says.journals;
+      locks_are = r.says.locks;
+      choices_are = r.says.choices;
+      some = d.0;
+    } in
+    subst (IsCommand (codes "decide" ∷ p ∷ reviewer ∷ rest)) d.1 means
+
+decide_again : (words : List (List ℕ)) (p reviewer : List ℕ) (journals locks : List (List ℕ)) (choices : List (Word × Selection)) (h : IsDecide words p reviewer journals locks choices)
+    → decide_in (p ∷ reviewer ∷ h.rest) ≡ Some (decide p reviewer journals locks choices)
+unfolding decide_in
+decide_again words p reviewer journals locks choices h =
+    let each = recursion_from_All (Admits of_decide) h.items h.are_items.admitted in
+    let r = read_again forms.Decide h.items h.rest h.are_items.written each (unformatted of_decide (λ name h. h) h.items each) in
+    let js : r.after.journals ≡ journals = r.journals ∙ sym h.journals_are in
+    let ls : r.after.locks ≡ locks = r.locks ∙ sym h.locks_are in
+    let cs : r.after.choices ≡ choices = r.choices ∙ sym h.choices_are in
+    rw (h.package_name, reviewer_again reviewer h.reviewer_name, r.reads) (made r.after.journals r.after.locks r.after.choices js ls cs) where
+      made : (js ls : List (List ℕ)) (cs : List (Word × Selection)) → js ≡ journals → ls ≡ locks → cs ≡ choices → decide_with p reviewer js ls cs ≡ Some (decide p reviewer journals locks choices)
+      made js ls cs a b d = rw (a, b, d) (decide_with_again p reviewer journals locks choices h.some)
+
+-- ---- join, check, sample
+
+join_takes : (rest : List (List ℕ)) (c : Command) → join_in rest ≡ Some c → IsCommand (codes "join" ∷ rest) c
+unfolding join_in
+join_takes [] c e = absurd cc
+join_takes (name ∷ names) c e =
+    let j = map_some join (names_in (name ∷ names)) c e in
+    let n = cond_some (list_all is_name (name ∷ names)) (name ∷ names) j.0 j.1 in
+    let means : IsJoin (codes "join" ∷ name ∷ names) (name ∷ names) = record {
+      written = refl;
+      names = AllPass-from_list_all is_name (name ∷ names) n.0;
+      some = λ empty. cc;
+    } in
+    subst (IsCommand (codes "join" ∷ name ∷ names)) (ap join n.1 ∙ j.2) means
+
+join_again : (journals : List (List ℕ)) → journals ≢ [] → All (λ name. IsTrue (is_name name)) journals → join_in journals ≡ Some (join journals)
+unfolding join_in
+join_again [] some h = absurd (some refl)
+join_again (name ∷ names) some h =
+    let all : list_all is_name (name ∷ names) ≡ true = list_all-from_AllPass is_name (name ∷ names) h in
+    let read : names_in (name ∷ names) ≡ Some (name ∷ names) = rw all refl in
+    ap (option_map join) read
+
+check_takes : (rest : List (List ℕ)) (c : Command) → check_in rest ≡ Some c → IsCommand (codes "check" ∷ rest) c
+unfolding check_in
+check_takes [] c e = absurd cc
+check_takes (p ∷ []) c e =
+    let n = cond_some (is_name p) (check p) c e in
+    let means : IsCheck (codes "check" ∷ p ∷ []) p = record { written = refl; name = n.0 } in
+    subst (IsCommand (codes "check" ∷ p ∷ [])) n.1 means
+check_takes (p ∷ other ∷ more) c e = absurd cc
+
+check_again : (p : List ℕ) → is_name p ≡ true → check_in (p ∷ []) ≡ Some (check p)
+unfolding check_in
+check_again p h = rw h refl
+
+sample_takes : (rest : List (List ℕ)) (c : Command) → sample_in rest ≡ Some c → IsCommand (codes "sample" ∷ rest) c
+unfolding sample_in
+sample_takes [] c e = absurd cc
+sample_takes (digits ∷ []) c e =
+    let n = map_some sample (number_in digits) c e in
+    let t = number_takes digits n.0 n.1 in
+    let means : IsSample (codes "sample" ∷ digits ∷ []) n.0 = record { written = ap (λ (w : List ℕ). codes "sample" ∷ w ∷ []) (sym t.0); small = t.1 } in
+    subst (IsCommand (codes "sample" ∷ digits ∷ [])) n.2 means
+sample_takes (digits ∷ other ∷ more) c e = absurd cc
+
+sample_again : (number : ℕ) → number_in (decimal number) ≡ Some number → sample_in (decimal number ∷ []) ≡ Some (sample number)
+unfolding sample_in
+sample_again number h = ap (option_map sample) h
+
+-- ---- all
+
+with_takes : (v : Verb) (rest : List (List ℕ)) (c : Command) → command_with v rest ≡ Some c → IsCommand (verb_text v ∷ rest) c
+unfolding verb_text
+with_takes verbs.Settle rest c e = settle_takes rest c e
+with_takes verbs.List rest c e = list_takes rest c e
+with_takes verbs.Write rest c e = write_takes rest c e
+with_takes verbs.Decide rest c e = decide_takes rest c e
+with_takes verbs.Join rest c e = join_takes rest c e
+with_takes verbs.Check rest c e = check_takes rest c e
+with_takes verbs.Sample rest c e = sample_takes rest c e
+
+pub command_takes : (words : List (List ℕ)) (c : Command) → command_in words ≡ Some c → IsCommand words c
+unfolding command_in
+command_takes [] c e = absurd cc
+command_takes (word ∷ rest) c e =
+    let v = bind_some (verb_in word) (λ verb. command_with verb rest) c e in
+    subst (λ (w : List ℕ). IsCommand (w ∷ rest) c) (sym (verb_takes word v.0 v.1)) (with_takes v.0 rest c v.2)
+
+command_of_verb : (v : Verb) (rest : List (List ℕ)) → command_in (verb_text v ∷ rest) ≡ command_with v rest
+unfolding command_in
+command_of_verb v rest = rw (verb_again v) refl
+
+settle_line : (rest : List (List ℕ)) → command_in (codes "settle" ∷ rest) ≡ settle_in rest
+unfolding verb_text
+settle_line rest = command_of_verb verbs.Settle rest
+
+list_line : (rest : List (List ℕ)) → command_in (codes "list" ∷ rest) ≡ list_in rest
+unfolding verb_text
+list_line rest = command_of_verb verbs.List rest
+
+write_line : (rest : List (List ℕ)) → command_in (codes "write" ∷ rest) ≡ write_in rest
+unfolding verb_text
+write_line rest = command_of_verb verbs.Write rest
+
+decide_line : (rest : List (List ℕ)) → command_in (codes "decide" ∷ rest) ≡ decide_in rest
+unfolding verb_text
+decide_line rest = command_of_verb verbs.Decide rest
+
+join_line : (rest : List (List ℕ)) → command_in (codes "join" ∷ rest) ≡ join_in rest
+unfolding verb_text
+join_line rest = command_of_verb verbs.Join rest
+
+check_line : (rest : List (List ℕ)) → command_in (codes "check" ∷ rest) ≡ check_in rest
+unfolding verb_text
+check_line rest = command_of_verb verbs.Check rest
+
+sample_line : (rest : List (List ℕ)) → command_in (codes "sample" ∷ rest) ≡ sample_in rest
+unfolding verb_text
+sample_line rest = command_of_verb verbs.Sample rest
+
+pub command_again : (words : List (List ℕ)) (c : Command) → IsCommand words c → command_in words ≡ Some c
+command_again words (settle accept p) h = ap command_in h.written ∙ settle_line (say_word accept ∷ p ∷ []) ∙ settle_again accept p h.name
+command_again words (list p name locks journals) h =
+    ap command_in h.written ∙ list_line (p ∷ h.rest)
+    ∙ list_again p name locks journals h.rest h.items h.package_name h.are_items.written h.are_items.admitted h.format h.locks_are h.journals_are
+command_again words (write p locks journals) h =
+    ap command_in h.written ∙ write_line (p ∷ h.rest) ∙ write_again p locks journals h.rest h.items h.package_name h.are_items.written h.are_items.admitted h.locks_are h.journals_are
+command_again words (decide p reviewer journals locks choices) h =
+    ap command_in h.written ∙ decide_line (p ∷ reviewer ∷ h.rest) ∙ decide_again words p reviewer journals locks choices h
+command_again words (join journals) h = ap command_in h.written ∙ join_line journals ∙ join_again journals h.some h.names
+command_again words (check p) h = ap command_in h.written ∙ check_line (p ∷ []) ∙ check_again p h.name
+command_again words (sample number) h = ap command_in h.written ∙ sample_line (decimal number ∷ []) ∙ sample_again number (number_again number h.small)
+
+pub at_most_one : (words : List (List ℕ)) (one other : Command) → IsCommand words one → IsCommand words other → one ≡ other
+at_most_one words one other h g = same_Some one other (sym (command_again words one h) ∙ command_again words other g)
+
+no_command : (words : List (List ℕ)) → command_in words ≡ None → HasNoCommand words
+no_command words none c h = let e = command_again words c h in cc
+
+-- ---- texts
+
+-- the texts of items are words
+pub record AreUtf8 (items : List Item) : Type 0 where
+  pub formats : AllByRecursion IsUtf8 (formats_of items)
+  pub locks : AllByRecursion IsUtf8 (locks_of items)
+  pub journals : AllByRecursion IsUtf8 (journals_of items)
+
+items_utf8 : (items : List Item) → AllByRecursion IsUtf8 (flat_map item_words items) → AreUtf8 items
+items_utf8 [] h = record { formats = tt; locks = tt; journals = tt }
+items_utf8 (format name ∷ items) h = let r = items_utf8 items h.1.1 in record { formats = (h.1.0, r.formats); locks = r.locks; journals = r.journals }
+items_utf8 (lock author ∷ items) h = let r = items_utf8 items h.1.1 in record { formats = r.formats; locks = (h.1.0, r.locks); journals = r.journals }
+items_utf8 (journal name ∷ items) h = let r = items_utf8 items h.1 in record { formats = r.formats; locks = r.locks; journals = (h.0, r.journals) }
+items_utf8 (named_journal name ∷ items) h = let r = items_utf8 items h.1.1 in record { formats = r.formats; locks = r.locks; journals = (h.1.0, r.journals) }
+items_utf8 (choice word text selection ∷ items) h = let r = items_utf8 items h.1.1 in record { formats = r.formats; locks = r.locks; journals = r.journals }
+
+text_utf8 : IsUtf8 (codes "text")
+text_utf8 = IsUtf8-from_ascii (codes "text") low where
+  low : (i : ℕ) → get_or (codes "text") i 0 < 128
+  low zero = lit< tt
+  low (suc zero) = lit< tt
+  low (suc (suc zero)) = lit< tt
+  low (suc (suc (suc zero))) = lit< tt
+  low (suc (suc (suc (suc i)))) = lit< tt
+
+format_utf8 : (formats : List (List ℕ)) (name : List ℕ) → AllByRecursion IsUtf8 formats → ((formats ≡ []) × (name ≡ codes "text")) ⊎ (formats ≡ name ∷ []) → IsUtf8 name
+format_utf8 formats name h (inl e) = subst IsUtf8 (sym e.1) text_utf8
+format_utf8 formats name h (inr e) = let all : AllByRecursion IsUtf8 (name ∷ []) = subst (AllByRecursion IsUtf8) e h in all.0
+
+all_utf8 : (texts more : List (List ℕ)) → AllByRecursion IsUtf8 more → texts ≡ more → All IsUtf8 texts
+all_utf8 texts more h e = All-from_recursion IsUtf8 texts (subst (AllByRecursion IsUtf8) (sym e) h)
+
+pub command_utf8 : (words : List (List ℕ)) (c : Command) → IsCommand words c → AllByRecursion IsUtf8 words → HasUtf8 c
+command_utf8 words (settle accept p) h u =
+    let v : AllByRecursion IsUtf8 (codes "settle" ∷ say_word accept ∷ p ∷ []) = subst (AllByRecursion IsUtf8) h.written u in v.1.1.0
+command_utf8 words (list p name locks journals) h u =
+    let v : AllByRecursion IsUtf8 (codes "list" ∷ p ∷ h.rest) = subst (AllByRecursion IsUtf8) h.written u in
+    let i = items_utf8 h.items (subst (AllByRecursion IsUtf8) h.are_items.written v.1.1) in
+    (v.1.0, format_utf8 (formats_of h.items) name i.formats h.format, all_utf8 locks (locks_of h.items) i.locks h.locks_are, all_utf8 journals (journals_of h.items) i.journals h.journals_are)
+command_utf8 words (write p locks journals) h u =
+    let v : AllByRecursion IsUtf8 (codes "write" ∷ p ∷ h.rest) = subst (AllByRecursion IsUtf8) h.written u in
+    let i = items_utf8 h.items (subst (AllByRecursion IsUtf8) h.are_items.written v.1.1) in
+    (v.1.0, all_utf8 locks (locks_of h.items) i.locks h.locks_are, all_utf8 journals (journals_of h.items) i.journals h.journals_are)
+command_utf8 words (decide p reviewer journals locks choices) h u =
+    let v : AllByRecursion IsUtf8 (codes "decide" ∷ p ∷ reviewer ∷ h.rest) = subst (AllByRecursion IsUtf8) h.written u in
+    let i = items_utf8 h.items (subst (AllByRecursion IsUtf8) h.are_items.written v.1.1.1) in
+    (v.1.0, v.1.1.0, all_utf8 journals (journals_of h.items) i.journals h.journals_are, all_utf8 locks (locks_of h.items) i.locks h.locks_are)
+command_utf8 words (join journals) h u =
+    let v : AllByRecursion IsUtf8 (codes "join" ∷ journals) = subst (AllByRecursion IsUtf8) h.written u in All-from_recursion IsUtf8 journals v.1
+command_utf8 words (check p) h u = let v : AllByRecursion IsUtf8 (codes "check" ∷ p ∷ []) = subst (AllByRecursion IsUtf8) h.written u in v.1.0
+command_utf8 words (sample number) h u = tt
+
+-- ---- the same from the facts of the code
+
+pub found : (r : Result code.Command WordsError) (words : List (List ℕ)) → Finds command_of r (command_in words) → IfOk r (λ c. IsCommand words (command_of c))
+found (Ok c) words h = command_takes words (command_of c) h
+found (Err e) words h = tt
+
+pub usage : (r : Result code.Command WordsError) (words : List (List ℕ)) → Finds command_of r (command_in words) → IsErrOf r Usage → HasNoCommand words
+usage (Ok c) words h is = absurd cc
+usage (Err Usage) words h is = no_command words h
+usage (Err NoMemory) words h is = absurd (let same = is in cc)
+
+pub texts : (r : Result code.Command WordsError) (words : List (List ℕ)) → All IsUtf8 words → Finds command_of r (command_in words) → IfOk r (λ c. HasUtf8 (command_of c))
+texts (Ok c) words u h = command_utf8 words (command_of c) (command_takes words (command_of c) h) (recursion_from_All IsUtf8 words u)
+texts (Err e) words u h = tt

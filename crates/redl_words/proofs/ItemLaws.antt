@@ -1,0 +1,471 @@
+-- The items of a command: what was read is what the words are, and what the words are is read.
+use Rattle.std.proofs.Common.{◌≡◌, ℕ, ◌+◌, ◌≤◌, Bool, true, false, cond, List, [], ◌∷◌, ◌++◌, length, Option, Some, None, refl, sym, ap, subst, ◌∙◌, inl, inr, ◌⊎◌, arith, append-nil, append_assoc, All, IsUtf8, Bor, Result, Ok, Err}
+use Rattle.std.specs.Prelude.{codes, option_to_list, IsErrAnd}
+use Rattle.std.proofs.lemmas.List.Elements.{recursion_from_All, All-from_recursion}
+use Rattle.std.specs.List.{flat_map, AllByRecursion}
+use Rattle.std.specs.Str.{bytes_eq}
+use Rattle.std.proofs.lemmas.Option.{same_Some, cond_some}
+use Rattle.redl_journal.specs.declared.entry.Word.{Word}
+use Rattle.redl_journal.specs.declared.entry.Word.TheVariants.{Accept, Reject, Withdraw}
+use Rattle.redl_journal.specs.Reading.{◌>>=◌}
+use Rattle.redl_journal.proofs.Runs.{either}
+use Rattle.redl_journal.proofs.Parts.{bind_some}
+use Rattle.redl_select.specs.Selections.{Selection}
+use Rattle.redl_words.specs.Selections.{Means}
+use Rattle.redl_words.specs.Commands.{Item, format, lock, journal, named_journal, choice, item_words, Admits, of_list, of_write, of_decide, Form as Kind, formats_of, locks_of, journals_of, choices_of, is_name, option_of}
+use Rattle.redl_words.specs.declared.options.Form.{Form}
+use Rattle.redl_words.specs.declared.options.Form.TheVariants as forms
+use Rattle.redl_words.specs.declared.options.ItemOption.{ItemOption}
+use Rattle.redl_words.specs.declared.options.ItemOption.TheVariants as options
+use Rattle.redl_words.specs.declared.error.WordsError.{WordsError}
+use Rattle.redl_words.specs.declared.error.WordsError.TheVariants.{Usage, NoMemory}
+use Rattle.redl_words.specs.Reading.{Fails, Finds, Goes, Gathered, nothing, with_journal, with_plain_journal, has_plain_journals, deciding_option, own_option, option_in, with_format, with_option, with_word, gathered, selection_in}
+use Rattle.redl_words.proofs.SelectionLaws.{bytes_same, selection_takes, selection_again}
+
+-- the form of the definition
+abbrev pub form_of : Form → Kind
+form_of forms.List = of_list
+form_of forms.Write = of_write
+form_of forms.Decide = of_decide
+
+-- ---- one turn of the loop
+
+pub goes_plain : (form : Form) (items more : Gathered) (word : List ℕ) (later : List (List ℕ)) → is_name word ≡ true → with_plain_journal form word items ≡ Some more
+    → gathered form items (word ∷ later) ≡ gathered form more later
+unfolding gathered
+goes_plain form items more word [] name e = rw (name, e) refl
+goes_plain form items more word (value ∷ later) name e = rw (name, e) refl
+
+pub stops_plain : (form : Form) (items : Gathered) (word : List ℕ) (later : List (List ℕ)) → is_name word ≡ true → with_plain_journal form word items ≡ None
+    → gathered form items (word ∷ later) ≡ None
+unfolding gathered
+stops_plain form items word [] name e = rw (name, e) refl
+stops_plain form items word (value ∷ later) name e = rw (name, e) refl
+
+pub goes_pair : (form : Form) (items more : Gathered) (word value : List ℕ) (later : List (List ℕ)) → is_name word ≡ false → with_word form word value items ≡ Some more
+    → gathered form items (word ∷ value ∷ later) ≡ gathered form more later
+unfolding gathered
+goes_pair form items more word value later name e = rw (name, e) refl
+
+pub stops_pair : (form : Form) (items : Gathered) (word value : List ℕ) (later : List (List ℕ)) → is_name word ≡ false → with_word form word value items ≡ None
+    → gathered form items (word ∷ value ∷ later) ≡ None
+unfolding gathered
+stops_pair form items word value later name e = rw (name, e) refl
+
+pub stops_short : (form : Form) (items : Gathered) (word : List ℕ) → is_name word ≡ false → gathered form items (word ∷ []) ≡ None
+unfolding gathered
+stops_short form items word name = rw name refl
+
+pub no_words : (form : Form) (items : Gathered) → gathered form items [] ≡ Some items
+unfolding gathered
+no_words form items = refl
+
+-- ---- what is read
+
+-- the items say what was gathered after, on top of what was gathered before
+pub record Says (before after : Gathered) (items : List Item) : Type 0 where
+  pub format : option_to_list after.format ≡ option_to_list before.format ++ formats_of items
+  pub locks : after.locks ≡ before.locks ++ locks_of items
+  pub journals : after.journals ≡ before.journals ++ journals_of items
+  pub choices : after.choices ≡ before.choices ++ choices_of items
+
+-- the words are those of one item that the form admits
+pub record Turned (form : Form) (words : List (List ℕ)) (before after : Gathered) : Type 0 where
+  pub item : Item
+  pub written : words ≡ item_words item
+  pub admitted : Admits (form_of form) item
+  pub says : Says before after (item ∷ [])
+
+says_same : (before after other : Gathered) (items : List Item) → other ≡ after → Says before other items → Says before after items
+says_same before after other items e h = subst (λ (g : Gathered). Says before g items) e h
+
+plain_takes : (form : Form) (word : List ℕ) (before after : Gathered) → is_name word ≡ true → with_plain_journal form word before ≡ Some after → Turned form (word ∷ []) before after
+unfolding with_plain_journal
+plain_takes form word before after name e = of form e where
+  says : Says before (with_journal word before) (journal word ∷ [])
+  says = record { format = sym (append-nil _); locks = sym (append-nil _); journals = refl; choices = sym (append-nil _) }
+
+  of : (form : Form) → cond (has_plain_journals form) (Some (with_journal word before)) None ≡ Some after → Turned form (word ∷ []) before after
+  of forms.List e = record { item = journal word; written = refl; admitted = name; says = says_same before after (with_journal word before) (journal word ∷ []) (same_Some (with_journal word before) after e) says }
+  of forms.Write e = record { item = journal word; written = refl; admitted = name; says = says_same before after (with_journal word before) (journal word ∷ []) (same_Some (with_journal word before) after e) says }
+  of forms.Decide e = absurd cc
+
+-- the word is the text of the option, and the form has it
+abbrev Has : Form → List ℕ → ItemOption → Type 0
+Has forms.List word options.Format = word ≡ codes "--format"
+Has form word options.Lock = word ≡ codes "--lock"
+Has forms.Decide word options.Journal = word ≡ codes "--journal"
+Has forms.Decide word (options.Choice decision) = word ≡ option_of decision
+Has _ _ _ = ⊥
+
+deciding_takes : (word : List ℕ) (o : ItemOption) → deciding_option word ≡ Some o → Has forms.Decide word o
+deciding_takes word o e =
+    elim (either (bytes_eq word (codes "--journal"))) [
+      | inl hit ↦ let same : Some options.Journal ≡ Some o = rw hit at e in subst (Has forms.Decide word) (same_Some options.Journal o same) (bytes_same word (codes "--journal") hit)
+      | inr one ↦
+          elim (either (bytes_eq word (option_of Accept))) [
+            | inl hit ↦ let same : Some (options.Choice Accept) ≡ Some o = rw (one, hit) at e in subst (Has forms.Decide word) (same_Some (options.Choice Accept) o same) (bytes_same word (option_of Accept) hit)
+            | inr two ↦
+                elim (either (bytes_eq word (option_of Reject))) [
+                  | inl hit ↦ let same : Some (options.Choice Reject) ≡ Some o = rw (one, two, hit) at e in subst (Has forms.Decide word) (same_Some (options.Choice Reject) o same) (bytes_same word (option_of Reject) hit)
+                  | inr three ↦
+                      elim (either (bytes_eq word (option_of Withdraw))) [
+                        | inl hit ↦ let same : Some (options.Choice Withdraw) ≡ Some o = rw (one, two, three, hit) at e in subst (Has forms.Decide word) (same_Some (options.Choice Withdraw) o same) (bytes_same word (option_of Withdraw) hit)
+                        | inr four ↦ absurd (let none : None ≡ Some o = rw (one, two, three, four) at e in cc)
+                      ]
+                ]
+          ]
+    ]
+
+own_takes : (form : Form) (word : List ℕ) (o : ItemOption) → own_option form word ≡ Some o → Has form word o
+own_takes forms.List word o e =
+    let c = cond_some (bytes_eq word (codes "--format")) options.Format o e in
+    subst (Has forms.List word) c.1 (bytes_same word (codes "--format") c.0)
+own_takes forms.Write word o e = absurd cc
+own_takes forms.Decide word o e = deciding_takes word o e
+
+has_lock : (form : Form) (word : List ℕ) → word ≡ codes "--lock" → Has form word options.Lock
+has_lock forms.List word h = h
+has_lock forms.Write word h = h
+has_lock forms.Decide word h = h
+
+option_takes : (form : Form) (word : List ℕ) (o : ItemOption) → option_in form word ≡ Some o → Has form word o
+unfolding option_in
+option_takes form word o e =
+    elim (either (bytes_eq word (codes "--lock"))) [
+      | inl hit ↦
+          let same : Some options.Lock ≡ Some o = rw hit at e in
+          subst (Has form word) (same_Some options.Lock o same) (has_lock form word (bytes_same word (codes "--lock") hit))
+      | inr other ↦ own_takes form word o (rw other at e)
+    ]
+
+with_lock : List ℕ → Gathered → Gathered
+with_lock value items = record items { locks = items.locks ++ value ∷ [] }
+
+value_takes : (form : Form) (word value : List ℕ) (o : ItemOption) (before after : Gathered) → Has form word o → with_option o value before ≡ Some after → Turned form (word ∷ value ∷ []) before after
+unfolding with_option with_lock
+value_takes form word value options.Format before after has e = of form has before.format refl e where
+  of : (form : Form) → Has form word options.Format → (f : Option (List ℕ)) → before.format ≡ f → with_format value f before ≡ Some after → Turned form (word ∷ value ∷ []) before after
+  of forms.List has None is e = record {
+    item = format value;
+    written = ap (λ (w : List ℕ). w ∷ value ∷ []) has;
+    admitted = tt;
+    says = says_same before after (record before { format = Some value }) (format value ∷ []) (same_Some (record before { format = Some value }) after e) (record {
+      format = ap (λ (f : Option (List ℕ)). option_to_list f ++ value ∷ []) (sym is);
+      locks = sym (append-nil _);
+      journals = sym (append-nil _);
+      choices = sym (append-nil _);
+    });
+  }
+  of forms.List has (Some other) is e = absurd cc
+  of forms.Write has f is e = absurd has
+  of forms.Decide has f is e = absurd has
+value_takes form word value options.Lock before after has e = of form has where
+  turned : (form : Form) → word ≡ codes "--lock" → Admits (form_of form) (lock value) → Turned form (word ∷ value ∷ []) before after
+  turned form has admits = record {
+    item = lock value;
+    written = ap (λ (w : List ℕ). w ∷ value ∷ []) has;
+    admitted = admits;
+    says = says_same before after (with_lock value before) (lock value ∷ []) (same_Some (with_lock value before) after e) (record {
+      format = sym (append-nil _);
+      locks = refl;
+      journals = sym (append-nil _);
+      choices = sym (append-nil _);
+    });
+  }
+
+  of : (form : Form) → Has form word options.Lock → Turned form (word ∷ value ∷ []) before after
+  of forms.List has = turned forms.List has tt
+  of forms.Write has = turned forms.Write has tt
+  of forms.Decide has = turned forms.Decide has tt
+value_takes form word value options.Journal before after has e = of form has where
+  of : (form : Form) → Has form word options.Journal → Turned form (word ∷ value ∷ []) before after
+  of forms.List has = absurd has
+  of forms.Write has = absurd has
+  of forms.Decide has =
+      let c = cond_some (is_name value) (with_journal value before) after e in
+      record {
+        item = named_journal value;
+        written = ap (λ (w : List ℕ). w ∷ value ∷ []) has;
+        admitted = c.0;
+        says = says_same before after (with_journal value before) (named_journal value ∷ []) c.1 (record {
+          format = sym (append-nil _);
+          locks = sym (append-nil _);
+          journals = refl;
+          choices = sym (append-nil _);
+        });
+      }
+value_takes form word value (options.Choice decision) before after has e = of form has where
+  of : (form : Form) → Has form word (options.Choice decision) → Turned form (word ∷ value ∷ []) before after
+  of forms.List has = absurd has
+  of forms.Write has = absurd has
+  of forms.Decide has =
+      let s = bind_some (selection_in value) _ after e in
+      let made : Gathered = record before { choices = before.choices ++ (decision, s.0) ∷ [] } in
+      record {
+        item = choice decision value s.0;
+        written = ap (λ (w : List ℕ). w ∷ value ∷ []) has;
+        admitted = selection_takes value s.0 s.1;
+        says = says_same before after made (choice decision value s.0 ∷ []) (same_Some made after s.2) (record {
+          format = sym (append-nil _);
+          locks = sym (append-nil _);
+          journals = sym (append-nil _);
+          choices = refl;
+        });
+      }
+
+pair_takes : (form : Form) (word value : List ℕ) (before after : Gathered) → with_word form word value before ≡ Some after → Turned form (word ∷ value ∷ []) before after
+unfolding with_word
+pair_takes form word value before after e =
+    let o = bind_some (option_in form word) (λ option. with_option option value before) after e in
+    value_takes form word value o.0 before after (option_takes form word o.0 o.1) o.2
+
+-- the words are those of these items
+pub record Read (form : Form) (words : List (List ℕ)) (before after : Gathered) : Type 0 where
+  pub items : List Item
+  pub written : words ≡ flat_map item_words items
+  pub admitted : AllByRecursion (Admits (form_of form)) items
+  pub says : Says before after items
+
+-- what one item more says
+formats_more : (item : Item) (items : List Item) → formats_of (item ∷ items) ≡ formats_of (item ∷ []) ++ formats_of items
+formats_more (format name) items = refl
+formats_more (lock author) items = refl
+formats_more (journal name) items = refl
+formats_more (named_journal name) items = refl
+formats_more (choice word text selection) items = refl
+
+locks_more : (item : Item) (items : List Item) → locks_of (item ∷ items) ≡ locks_of (item ∷ []) ++ locks_of items
+locks_more (format name) items = refl
+locks_more (lock author) items = refl
+locks_more (journal name) items = refl
+locks_more (named_journal name) items = refl
+locks_more (choice word text selection) items = refl
+
+journals_more : (item : Item) (items : List Item) → journals_of (item ∷ items) ≡ journals_of (item ∷ []) ++ journals_of items
+journals_more (format name) items = refl
+journals_more (lock author) items = refl
+journals_more (journal name) items = refl
+journals_more (named_journal name) items = refl
+journals_more (choice word text selection) items = refl
+
+choices_more : (item : Item) (items : List Item) → choices_of (item ∷ items) ≡ choices_of (item ∷ []) ++ choices_of items
+choices_more (format name) items = refl
+choices_more (lock author) items = refl
+choices_more (journal name) items = refl
+choices_more (named_journal name) items = refl
+choices_more (choice word text selection) items = refl
+
+regroup : {A : Type 0} (before one more all between after : List A) → after ≡ between ++ more → between ≡ before ++ one → all ≡ one ++ more → after ≡ before ++ all
+regroup before one more all between after e f g = e ∙ ap (λ l. l ++ more) f ∙ append_assoc before one more ∙ ap (λ l. before ++ l) (sym g)
+
+one_more : (form : Form) (words later : List (List ℕ)) (before between after : Gathered) → Turned form words before between → Read form later between after → Read form (words ++ later) before after
+one_more form words later before between after t r = record {
+  items = t.item ∷ r.items;
+  written = ap (λ (w : List (List ℕ)). w ++ later) t.written ∙ ap (λ (l : List (List ℕ)). item_words t.item ++ l) r.written;
+  admitted = (t.admitted, r.admitted);
+  says = record {
+    format = regroup (option_to_list before.format) (formats_of (t.item ∷ [])) (formats_of r.items) (formats_of (t.item ∷ r.items)) (option_to_list between.format) (option_to_list after.format) r.says.format t.says.format (formats_more t.item r.items);
+    locks = regroup before.locks (locks_of (t.item ∷ [])) (locks_of r.items) (locks_of (t.item ∷ r.items)) between.locks after.locks r.says.locks t.says.locks (locks_more t.item r.items);
+    journals = regroup before.journals (journals_of (t.item ∷ [])) (journals_of r.items) (journals_of (t.item ∷ r.items)) between.journals after.journals r.says.journals t.says.journals (journals_more t.item r.items);
+    choices = regroup before.choices (choices_of (t.item ∷ [])) (choices_of r.items) (choices_of (t.item ∷ r.items)) between.choices after.choices r.says.choices t.says.choices (choices_more t.item r.items);
+  };
+}
+
+nothing_more : (form : Form) (before after : Gathered) → before ≡ after → Read form [] before after
+nothing_more form before after e = record {
+  items = [];
+  written = refl;
+  admitted = tt;
+  says = says_same before after before [] e (record { format = sym (append-nil _); locks = sym (append-nil _); journals = sym (append-nil _); choices = sym (append-nil _) });
+}
+
+pub items_take : (form : Form) (words : List (List ℕ)) (before after : Gathered) → gathered form before words ≡ Some after → Read form words before after
+unfolding gathered
+items_take form [] before after e = nothing_more form before after (same_Some before after e)
+items_take form (word ∷ []) before after e =
+    let c = cond_bind (is_name word) (with_plain_journal form word before) None after e in
+    elim c [
+      | inl h ↦ one_more form (word ∷ []) [] before after after (plain_takes form word before after h.0 h.1) (nothing_more form after after refl)
+      | inr h ↦ absurd (let none = h.1 in cc)
+    ] where
+      cond_bind : {A : Type 0} (t : Bool) (x y : Option A) (z : A) → cond t x y ≡ Some z → ((t ≡ true) × (x ≡ Some z)) ⊎ ((t ≡ false) × (y ≡ Some z))
+      cond_bind true x y z e = inl (refl, e)
+      cond_bind false x y z e = inr (refl, e)
+items_take form (word ∷ value ∷ later) before after e =
+    by (is_name word) refl e (λ more h. items_take form (value ∷ later) more after h) (λ more h. items_take form later more after h) where
+      by : (t : Bool) → is_name word ≡ t
+          → cond t (with_plain_journal form word before >>= λ more. gathered form more (value ∷ later)) (with_word form word value before >>= λ more. gathered form more later) ≡ Some after
+          → ((more : Gathered) → gathered form more (value ∷ later) ≡ Some after → Read form (value ∷ later) more after)
+          → ((more : Gathered) → gathered form more later ≡ Some after → Read form later more after)
+          → Read form (word ∷ value ∷ later) before after
+      by true name e plain pair =
+          let m = bind_some (with_plain_journal form word before) (λ more. gathered form more (value ∷ later)) after e in
+          one_more form (word ∷ []) (value ∷ later) before m.0 after (plain_takes form word before m.0 name m.1) (plain m.0 m.2)
+      by false name e plain pair =
+          let m = bind_some (with_word form word value before) (λ more. gathered form more later) after e in
+          one_more form (word ∷ value ∷ []) later before m.0 after (pair_takes form word value before m.0 m.1) (pair m.0 m.2)
+
+-- ---- what is read again
+
+-- what is gathered with an item more, its format aside
+abbrev with_item : Item → Gathered → Gathered
+with_item (format name) items = record items { format = Some name }
+with_item (lock author) items = record items { locks = items.locks ++ author ∷ [] }
+with_item (journal name) items = record items { journals = items.journals ++ name ∷ [] }
+with_item (named_journal name) items = record items { journals = items.journals ++ name ∷ [] }
+with_item (choice word text selection) items = record items { choices = items.choices ++ (word, selection) ∷ [] }
+
+-- what is gathered with items more
+abbrev pub with_items : List Item → Gathered → Gathered
+with_items [] items = items
+with_items (item ∷ more) items = with_items more (with_item item items)
+
+-- a format comes at most once
+abbrev pub Single : Gathered → List Item → Type 0
+Single before items = length (option_to_list before.format) + length (formats_of items) ≤ 1
+
+choice_option : (word : Word) (value : List ℕ) (items : Gathered) → with_word forms.Decide (option_of word) value items ≡ with_option (options.Choice word) value items
+unfolding with_word option_in
+choice_option Accept value items = refl
+choice_option Reject value items = refl
+choice_option Withdraw value items = refl
+
+is_no_name : (word : Word) → is_name (option_of word) ≡ false
+is_no_name Accept = refl
+is_no_name Reject = refl
+is_no_name Withdraw = refl
+
+with_choice : (word : Word) (text : List ℕ) (selection : Selection) (items : Gathered) → Means text selection
+    → with_option (options.Choice word) text items ≡ Some (with_item (choice word text selection) items)
+unfolding with_option
+with_choice word text selection items h = rw (selection_again text selection h) refl
+
+turn_again : (form : Form) (item : Item) (before : Gathered) (later : List (List ℕ)) → Admits (form_of form) item → length (option_to_list before.format) + length (formats_of (item ∷ [])) ≤ 1
+    → gathered form before (item_words item ++ later) ≡ gathered form (with_item item before) later
+unfolding with_plain_journal with_word option_in with_option
+turn_again forms.List (format name) before later h single = goes_pair forms.List before (with_item (format name) before) (codes "--format") name later refl (fresh before.format refl single) where
+  fresh : (f : Option (List ℕ)) → before.format ≡ f → length (option_to_list f) + 1 ≤ 1 → with_format name f before ≡ Some (with_item (format name) before)
+  fresh None is single = refl
+  fresh (Some other) is single = absurd (omega arith)
+turn_again forms.List (lock author) before later h single = goes_pair forms.List before (with_item (lock author) before) (codes "--lock") author later refl refl
+turn_again forms.List (journal name) before later h single = goes_plain forms.List before (with_item (journal name) before) name later h refl
+turn_again forms.List (named_journal name) before later h single = absurd h
+turn_again forms.List (choice word text selection) before later h single = absurd h
+turn_again forms.Write (format name) before later h single = absurd h
+turn_again forms.Write (lock author) before later h single = goes_pair forms.Write before (with_item (lock author) before) (codes "--lock") author later refl refl
+turn_again forms.Write (journal name) before later h single = goes_plain forms.Write before (with_item (journal name) before) name later h refl
+turn_again forms.Write (named_journal name) before later h single = absurd h
+turn_again forms.Write (choice word text selection) before later h single = absurd h
+turn_again forms.Decide (format name) before later h single = absurd h
+turn_again forms.Decide (lock author) before later h single = goes_pair forms.Decide before (with_item (lock author) before) (codes "--lock") author later refl refl
+turn_again forms.Decide (journal name) before later h single = absurd h
+turn_again forms.Decide (named_journal name) before later h single = goes_pair forms.Decide before (with_item (named_journal name) before) (codes "--journal") name later refl (rw h refl)
+turn_again forms.Decide (choice word text selection) before later h single =
+    goes_pair forms.Decide before (with_item (choice word text selection) before) (option_of word) text later (is_no_name word)
+    (choice_option word text before ∙ with_choice word text selection before h)
+
+single_first : (item : Item) (before : Gathered) (more : List Item) → Single before (item ∷ more) → length (option_to_list before.format) + length (formats_of (item ∷ [])) ≤ 1
+single_first (format name) before more h = omega arith
+single_first (lock author) before more h = omega arith
+single_first (journal name) before more h = omega arith
+single_first (named_journal name) before more h = omega arith
+single_first (choice word text selection) before more h = omega arith
+
+single_later : (item : Item) (before : Gathered) (more : List Item) → Single before (item ∷ more) → Single (with_item item before) more
+single_later (format name) before more h = omega arith
+single_later (lock author) before more h = h
+single_later (journal name) before more h = h
+single_later (named_journal name) before more h = h
+single_later (choice word text selection) before more h = h
+
+pub items_again : (form : Form) (items : List Item) (before : Gathered) → AllByRecursion (Admits (form_of form)) items → Single before items
+    → gathered form before (flat_map item_words items) ≡ Some (with_items items before)
+items_again form [] before h single = no_words form before
+items_again form (item ∷ items) before h single =
+    turn_again form item before (flat_map item_words items) h.0 (single_first item before items single)
+    ∙ items_again form items (with_item item before) h.1 (single_later item before items single)
+
+-- what items say on top of nothing
+says_items : (items : List Item) (before : Gathered) → Single before items → Says before (with_items items before) items
+says_items [] before single = record { format = sym (append-nil _); locks = sym (append-nil _); journals = sym (append-nil _); choices = sym (append-nil _) }
+says_items (item ∷ items) before single =
+    let first = says_item item before (single_first item before items single) in
+    let rest = says_items items (with_item item before) (single_later item before items single) in
+    record {
+      format = regroup (option_to_list before.format) (formats_of (item ∷ [])) (formats_of items) (formats_of (item ∷ items)) (option_to_list (with_item item before).format) (option_to_list (with_items (item ∷ items) before).format) rest.format first.format (formats_more item items);
+      locks = regroup before.locks (locks_of (item ∷ [])) (locks_of items) (locks_of (item ∷ items)) (with_item item before).locks (with_items (item ∷ items) before).locks rest.locks first.locks (locks_more item items);
+      journals = regroup before.journals (journals_of (item ∷ [])) (journals_of items) (journals_of (item ∷ items)) (with_item item before).journals (with_items (item ∷ items) before).journals rest.journals first.journals (journals_more item items);
+      choices = regroup before.choices (choices_of (item ∷ [])) (choices_of items) (choices_of (item ∷ items)) (with_item item before).choices (with_items (item ∷ items) before).choices rest.choices first.choices (choices_more item items);
+    } where
+      says_item : (item : Item) (before : Gathered) → length (option_to_list before.format) + length (formats_of (item ∷ [])) ≤ 1 → Says before (with_item item before) (item ∷ [])
+      says_item (format name) before single = record { format = fresh before.format single; locks = sym (append-nil _); journals = sym (append-nil _); choices = sym (append-nil _) } where
+        fresh : (f : Option (List ℕ)) → length (option_to_list f) + 1 ≤ 1 → name ∷ [] ≡ option_to_list f ++ name ∷ []
+        fresh None single = refl
+        fresh (Some other) single = absurd (omega arith)
+      says_item (lock author) before single = record { format = sym (append-nil _); locks = refl; journals = sym (append-nil _); choices = sym (append-nil _) }
+      says_item (journal name) before single = record { format = sym (append-nil _); locks = sym (append-nil _); journals = refl; choices = sym (append-nil _) }
+      says_item (named_journal name) before single = record { format = sym (append-nil _); locks = sym (append-nil _); journals = refl; choices = sym (append-nil _) }
+      says_item (choice word text selection) before single = record { format = sym (append-nil _); locks = sym (append-nil _); journals = sym (append-nil _); choices = refl }
+
+-- the words of items are read, and give what the items say
+pub record ReadAgain (form : Form) (words : List (List ℕ)) (items : List Item) : Type 0 where
+  pub after : Gathered
+  pub reads : gathered form nothing words ≡ Some after
+  pub format : option_to_list after.format ≡ formats_of items
+  pub locks : after.locks ≡ locks_of items
+  pub journals : after.journals ≡ journals_of items
+  pub choices : after.choices ≡ choices_of items
+
+pub read_again : (form : Form) (items : List Item) (words : List (List ℕ)) → words ≡ flat_map item_words items → AllByRecursion (Admits (form_of form)) items
+    → length (formats_of items) ≤ 1 → ReadAgain form words items
+read_again form items words e h single =
+    let one : Single nothing items = omega (arith, single) in
+    let says = says_items items nothing one in
+    record {
+      after = with_items items nothing;
+      reads = ap (gathered form nothing) e ∙ items_again form items nothing h one;
+      format = says.format;
+      locks = says.locks;
+      journals = says.journals;
+      choices = says.choices;
+    }
+
+-- ---- the same from the facts of the code
+
+pub fails_plain : (form : Form) (before : Gathered) (word : List ℕ) (later : List (List ℕ)) (e : WordsError) → is_name word ≡ true → Fails e (with_plain_journal form word before)
+    → Fails e (gathered form before (word ∷ later))
+fails_plain form before word later Usage name h = stops_plain form before word later name h
+fails_plain form before word later NoMemory name h = tt
+
+pub fails_pair : (form : Form) (before : Gathered) (word value : List ℕ) (later : List (List ℕ)) (e : WordsError) → is_name word ≡ false → Fails e (with_word form word value before)
+    → Fails e (gathered form before (word ∷ value ∷ later))
+fails_pair form before word value later Usage name h = stops_pair form before word value later name h
+fails_pair form before word value later NoMemory name h = tt
+
+-- an error that is passed on
+pub goes_fails : (form : Form) (before after : Gathered) (words : List (List ℕ)) (r : Result (Bor (List (List ℕ))) WordsError) (e : WordsError) → IsErrAnd r (λ x. x ≡ e)
+    → Fails e (gathered form before words) → Goes form before words after r
+goes_fails form before after words (Ok rest) e is h = absurd is
+goes_fails form before after words (Err x) e is h = subst (λ (y : WordsError). Fails y (gathered form before words)) (sym is) h
+
+pub finds_fails : {X Y : Type 0} (view : X → Y) (read : Option Y) (r : Result X WordsError) (e : WordsError) → IsErrAnd r (λ x. x ≡ e) → Fails e read → Finds view r read
+finds_fails view read (Ok x) e is h = absurd is
+finds_fails view read (Err x) e is h = subst (λ (y : WordsError). Fails y read) (sym is) h
+
+-- words after the first
+pub first_utf8 : (word : List ℕ) (later words : List (List ℕ)) → words ≡ word ∷ later → All IsUtf8 words → IsUtf8 word
+first_utf8 word later words e h = let all : AllByRecursion IsUtf8 (word ∷ later) = recursion_from_All IsUtf8 (word ∷ later) (subst (All IsUtf8) e h) in all.0
+
+pub later_utf8 : (word : List ℕ) (later words : List (List ℕ)) → words ≡ word ∷ later → All IsUtf8 words → All IsUtf8 later
+later_utf8 word later words e h =
+    let all : AllByRecursion IsUtf8 (word ∷ later) = recursion_from_All IsUtf8 (word ∷ later) (subst (All IsUtf8) e h) in
+    All-from_recursion IsUtf8 later all.1
+
+pub no_words_left : (form : Form) (items : Gathered) (words : List (List ℕ)) → length words ≡ 0 → gathered form items words ≡ Some items
+no_words_left form items [] e = no_words form items
+no_words_left form items (word ∷ words) e = absurd (omega arith)
+
+pub empty_list : {A : Type 0} (xs : List A) → length xs ≡ 0 → xs ≡ []
+empty_list [] e = refl
+empty_list (x ∷ xs) e = absurd (omega arith)

@@ -1,0 +1,4 @@
+pub mod DateLaws
+pub mod SelectionLaws
+pub mod ItemLaws
+pub mod CommandLaws

@@ -1,0 +1,4 @@
+pub mod Selections
+pub mod Commands
+pub mod Views
+pub mod Reading

@@ -1,0 +1,34 @@
+-- The texts of selections (our own rule).
+use Rattle.std.specs.Prelude.{◌≡◌, ◌≢◌, ◌^◌, ◌<◌, ℕ, ℤ, List, [], ◌++◌, All, IsTrue, Some, codes, decimal, map}
+use Rattle.std.specs.List.{join_with_byte}
+use Rattle.redl_stamp.specs.Moment.{moment_of}
+use Rattle.redl_index.specs.Kinds.{is_named}
+use Rattle.redl_index.specs.KindNames.{kind_name}
+use Rattle.redl_select.specs.Selections.{Selection, all, numbers, author, span, kind}
+
+-- `numbers:` and one or more numbers up to 4294967295 with commas between, in decimal digits without leading zeros
+pub record ListsNumbers (text : List ℕ) (listed : List ℕ) : Type 0 where
+  pub written : text ≡ codes "numbers:" ++ join_with_byte 44 (map decimal listed)
+  pub some : listed ≢ []
+  pub small : All (λ number. number < 2 ^ 32) listed
+
+-- `span:` and two dates with a slash between; the first is of the moment `start`, the second of `end`
+pub record GivesSpan (text : List ℕ) (start end : ℤ) : Type 0 where
+  pub first : List ℕ
+  pub second : List ℕ
+  pub written : text ≡ codes "span:" ++ (first ++ (codes "/" ++ second))
+  pub starts : moment_of first ≡ Some start
+  pub ends : moment_of second ≡ Some end
+
+-- `kind:` and the name of the kind
+pub record NamesKind (text : List ℕ) (of_kind : Rattle.redl_index.specs.declared.revision.RevKind.RevKind) : Type 0 where
+  pub written : text ≡ codes "kind:" ++ kind_name of_kind
+  pub named : IsTrue (is_named of_kind)
+
+-- the text means the selection
+abbrev pub Means : List ℕ → Selection → Type 0
+Means text all = text ≡ codes "all"
+Means text (numbers listed) = ListsNumbers text listed
+Means text (author name) = text ≡ codes "author:" ++ name
+Means text (span start end) = GivesSpan text start end
+Means text (kind of_kind) = NamesKind text of_kind

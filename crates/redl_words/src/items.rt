@@ -1,0 +1,174 @@
+//! Items: what stands behind the name of a package, in any order.
+
+ghost use Rattle.std.specs.Prelude.{◌≡◌, ◌≤◌, ◌∷◌, All, IfOk, IsUtf8, length};
+ghost use Rattle.redl_words.specs.Reading.{Finds, Goes, gathered, items_view, nothing, with_option, with_plain_journal, with_word};
+
+use crate::error::WordsError;
+use crate::names::{add_copy, is_file_name};
+use crate::options::{Form, ItemOption, read_option};
+use crate::selections::read_selection;
+use redl_io::Text;
+use redl_journal::Word;
+use redl_select::Selection;
+use std::alloc::Global;
+use std::str;
+
+/// What the items of a command say.
+#[derive(Drop)]
+pub(crate) struct Items {
+    pub format: Option<Text>,
+    pub locks: Vec<Text>,
+    pub journals: Vec<Text>,
+    pub choices: Vec<(Word, Selection)>,
+}
+
+impl Items {
+    /// What no items say.
+    fn nothing(alloc: Global) -> Items
+        ensures { items_view result ≡ nothing }
+    {
+        Items {
+            format: None,
+            locks: Vec::new(alloc),
+            journals: Vec::new(alloc),
+            choices: Vec::new(alloc),
+        }
+    }
+
+    /// Adds a journal that stands without an option.
+    #[tactic(auto, unfolding(crate::specs::Reading::with_plain_journal))]
+    fn add_plain_journal(
+        &mut self,
+        alloc: Global,
+        form: Form,
+        name: &Text,
+    ) -> Result<(), WordsError>
+        ensures { Finds (λ _. items_view self.new) result (with_plain_journal form name.now (items_view self.old)) }
+    {
+        match form {
+            Form::List | Form::Write => add_copy(alloc, &mut self.journals, name)?,
+            Form::Decide => return Err(WordsError::Usage),
+        }
+        Ok(())
+    }
+
+    /// Sets the format, which may come once.
+    #[tactic(auto, unfolding(crate::specs::Reading::with_option))]
+    fn set_format(&mut self, alloc: Global, name: &Text) -> Result<(), WordsError>
+        ensures { Finds (λ _. items_view self.new) result (with_option ItemOption.Format name.now (items_view self.old)) }
+    {
+        if self.format.is_some() {
+            return Err(WordsError::Usage);
+        }
+        self.format = Some(name.copy(alloc)?);
+        Ok(())
+    }
+
+    /// Adds a locked author.
+    #[tactic(auto, unfolding(crate::specs::Reading::with_option))]
+    fn add_lock(&mut self, alloc: Global, author: &Text) -> Result<(), WordsError>
+        ensures { Finds (λ _. items_view self.new) result (with_option ItemOption.Lock author.now (items_view self.old)) }
+    {
+        add_copy(alloc, &mut self.locks, author)?;
+        Ok(())
+    }
+
+    /// Adds a journal that an option names.
+    #[tactic(auto, unfolding(crate::specs::Reading::with_option))]
+    fn add_journal(&mut self, alloc: Global, name: &Text) -> Result<(), WordsError>
+        ensures { Finds (λ _. items_view self.new) result (with_option ItemOption.Journal name.now (items_view self.old)) }
+    {
+        if !is_file_name(name.as_bytes()) {
+            return Err(WordsError::Usage);
+        }
+        add_copy(alloc, &mut self.journals, name)?;
+        Ok(())
+    }
+
+    /// Adds what the reviewer decides on a selection.
+    #[tactic(auto, unfolding(crate::specs::Reading::with_option))]
+    fn add_choice(&mut self, alloc: Global, word: Word, text: &Text) -> Result<(), WordsError>
+        requires { IsUtf8 text.now }
+        ensures { Finds (λ _. items_view self.new) result (with_option (ItemOption.Choice word) text.now (items_view self.old)) }
+    {
+        let text = str::from_utf8(text.as_bytes()).unwrap();
+        let selection = read_selection(alloc, text)?;
+        self.choices.push((word, selection))?;
+        Ok(())
+    }
+
+    /// Adds what an option and its value say.
+    fn add_option(
+        &mut self,
+        alloc: Global,
+        option: ItemOption,
+        value: &Text,
+    ) -> Result<(), WordsError>
+        requires { IsUtf8 value.now }
+        ensures { Finds (λ _. items_view self.new) result (with_option option value.now (items_view self.old)) }
+    {
+        match option {
+            ItemOption::Format => self.set_format(alloc, value),
+            ItemOption::Lock => self.add_lock(alloc, value),
+            ItemOption::Journal => self.add_journal(alloc, value),
+            ItemOption::Choice(word) => self.add_choice(alloc, word, value),
+        }
+    }
+
+    /// Adds what a word says that is an option, with the word after it.
+    #[tactic(auto, unfolding(crate::specs::Reading::with_word))]
+    fn add_pair(
+        &mut self,
+        alloc: Global,
+        form: Form,
+        word: &Text,
+        value: &Text,
+    ) -> Result<(), WordsError>
+        requires { IsUtf8 value.now }
+        ensures { Finds (λ _. items_view self.new) result (with_word form word.now value.now (items_view self.old)) }
+    {
+        match read_option(form, word.as_bytes()) {
+            Some(option) => self.add_option(alloc, option, value),
+            None => Err(WordsError::Usage),
+        }
+    }
+
+    /// Adds what the first item says, which begins with this word, and gives the words after the item.
+    fn add_first<'a>(
+        &mut self,
+        alloc: Global,
+        form: Form,
+        word: &Text,
+        later: &'a [Text],
+    ) -> Result<&'a [Text], WordsError>
+        requires { All IsUtf8 later.now }
+        ensures gathered { Goes form (items_view self.old) (word.now ∷ later.now) (items_view self.new) result }
+        ensures shorter { IfOk result (λ rest. length rest.now ≤ length later.now) }
+        ensures utf8 { IfOk result (λ rest. All IsUtf8 rest.now) }
+    {
+        if is_file_name(word.as_bytes()) {
+            self.add_plain_journal(alloc, form, word)?;
+            return Ok(later);
+        }
+        match later.split_first() {
+            Some((value, after)) => {
+                self.add_pair(alloc, form, word, value)?;
+                Ok(after)
+            }
+            None => Err(WordsError::Usage),
+        }
+    }
+}
+
+/// What the items in these words say.
+pub(crate) fn read_items(alloc: Global, form: Form, words: &[Text]) -> Result<Items, WordsError>
+    requires { All IsUtf8 words.now }
+    ensures { Finds items_view result (gathered form nothing words.now) }
+{
+    let mut items = Items::nothing(alloc);
+    let mut rest = words;
+    while let Some((word, later)) = rest.split_first() {
+        rest = items.add_first(alloc, form, word, later)?;
+    }
+    Ok(items)
+}

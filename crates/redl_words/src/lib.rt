@@ -1,0 +1,20 @@
+//! The words of a command line, and the command that they are.
+//! `read_words` takes the words without the program's name, and gives the one command that they are the words of, or says that
+//! there is none. Which words each command has is a relation in `specs/Commands.antt`.
+//! What a command does is left to the crate above.
+#![tactic(auto)]
+
+mod command;
+mod error;
+mod items;
+mod laws;
+mod names;
+mod options;
+mod reading;
+mod selections;
+mod verb;
+
+pub use command::Command;
+pub use error::WordsError;
+pub use laws::one_command;
+pub use reading::read_words;

@@ -1,0 +1,205 @@
+//! Reading the words of a command line.
+
+ghost use Rattle.std.specs.Prelude.{◌≡◌, All, IfOk, IsErrOf, IsUtf8};
+ghost use Rattle.redl_words.specs.Commands.{HasNoCommand, HasUtf8, IsCommand};
+ghost use Rattle.redl_words.specs.Reading.{Finds, check_in, command_in, decide_in, format_or_text, join_in, list_in, sample_in, say_in, settle_in, write_in};
+ghost use Rattle.redl_words.specs.Views.{command_of};
+
+use crate::command::Command;
+use crate::error::WordsError;
+use crate::items::read_items;
+use crate::names::{is_file_name, read_names};
+use crate::options::Form;
+use crate::verb::{Verb, read_verb};
+use redl_io::Text;
+use redl_journal::{is_reviewer, read_number};
+use std::alloc::{AllocError, Global};
+
+/// The command that these words are the command line of. They come without the program's name.
+///
+/// Its texts are UTF-8; the name of a file is not empty and does not begin with a dash, a reviewer is one that a journal may hold,
+/// and `decide` has a choice. `Usage` comes exactly where the words are those of no command. `NoMemory` means out of memory, and says
+/// nothing of the words.
+pub fn read_words(alloc: Global, words: &[Text]) -> Result<Command, WordsError>
+    requires { All IsUtf8 words.now }
+    ensures found { IfOk result (λ command. IsCommand words.now (command_of command)) }
+    ensures usage { IsErrOf result WordsError.Usage → HasNoCommand words.now }
+    ensures utf8 { IfOk result (λ command. HasUtf8 (command_of command)) }
+{
+    read_command(alloc, words)
+}
+
+/// The same, in the words of reading.
+#[tactic(auto, unfolding(crate::specs::Reading::command_in))]
+fn read_command(alloc: Global, words: &[Text]) -> Result<Command, WordsError>
+    requires { All IsUtf8 words.now }
+    ensures { Finds command_of result (command_in words.now) }
+{
+    let [word, rest @ ..] = words else {
+        return Err(WordsError::Usage);
+    };
+    match read_verb(word.as_bytes()) {
+        Some(Verb::Settle) => read_settle(alloc, rest),
+        Some(Verb::List) => read_list(alloc, rest),
+        Some(Verb::Write) => read_write(alloc, rest),
+        Some(Verb::Decide) => read_decide(alloc, rest),
+        Some(Verb::Join) => read_join(alloc, rest),
+        Some(Verb::Check) => read_check(alloc, rest),
+        Some(Verb::Sample) => read_sample(rest),
+        None => Err(WordsError::Usage),
+    }
+}
+
+/// The words after `settle`.
+#[tactic(auto, unfolding(crate::specs::Reading::settle_in))]
+fn read_settle(alloc: Global, words: &[Text]) -> Result<Command, WordsError>
+    ensures { Finds command_of result (settle_in words.now) }
+{
+    let [say, package] = words else {
+        return Err(WordsError::Usage);
+    };
+    if !is_file_name(package.as_bytes()) {
+        return Err(WordsError::Usage);
+    }
+    let Some(accept) = read_say(say.as_bytes()) else {
+        return Err(WordsError::Usage);
+    };
+    let package = package.copy(alloc)?;
+    Ok(Command::Settle { accept, package })
+}
+
+/// Whether the word says accept. `None` where it says neither accept nor reject.
+#[tactic(auto, unfolding(crate::specs::Reading::say_in))]
+fn read_say(word: &[u8]) -> Option<bool>
+    ensures { result ≡ say_in word.now }
+{
+    if word == b"accept".as_slice() {
+        Some(true)
+    } else if word == b"reject".as_slice() {
+        Some(false)
+    } else {
+        None
+    }
+}
+
+/// The words after `list`.
+#[tactic(auto, unfolding(crate::specs::Reading::list_in))]
+fn read_list(alloc: Global, words: &[Text]) -> Result<Command, WordsError>
+    requires { All IsUtf8 words.now }
+    ensures { Finds command_of result (list_in words.now) }
+{
+    let [package, rest @ ..] = words else {
+        return Err(WordsError::Usage);
+    };
+    if !is_file_name(package.as_bytes()) {
+        return Err(WordsError::Usage);
+    }
+    let items = read_items(alloc, Form::List, rest)?;
+    let package = package.copy(alloc)?;
+    let format = format_or_text(alloc, items.format)?;
+    Ok(Command::List {
+        package,
+        format,
+        locks: items.locks,
+        journals: items.journals,
+    })
+}
+
+/// The format of this name, or `text` without one. `Err` means out of memory.
+fn format_or_text(alloc: Global, format: Option<Text>) -> Result<Text, AllocError>
+    ensures { IfOk result (λ name. name ≡ format_or_text format) }
+{
+    match format {
+        Some(name) => Ok(name),
+        None => Text::copy_of(alloc, b"text"),
+    }
+}
+
+/// The words after `write`.
+#[tactic(auto, unfolding(crate::specs::Reading::write_in))]
+fn read_write(alloc: Global, words: &[Text]) -> Result<Command, WordsError>
+    requires { All IsUtf8 words.now }
+    ensures { Finds command_of result (write_in words.now) }
+{
+    let [package, rest @ ..] = words else {
+        return Err(WordsError::Usage);
+    };
+    if !is_file_name(package.as_bytes()) {
+        return Err(WordsError::Usage);
+    }
+    let items = read_items(alloc, Form::Write, rest)?;
+    let package = package.copy(alloc)?;
+    Ok(Command::Write {
+        package,
+        locks: items.locks,
+        journals: items.journals,
+    })
+}
+
+/// The words after `decide`.
+#[tactic(auto, unfolding(crate::specs::Reading::decide_in))]
+fn read_decide(alloc: Global, words: &[Text]) -> Result<Command, WordsError>
+    requires { All IsUtf8 words.now }
+    ensures { Finds command_of result (decide_in words.now) }
+{
+    let [package, reviewer, rest @ ..] = words else {
+        return Err(WordsError::Usage);
+    };
+    if !is_file_name(package.as_bytes()) || !is_reviewer(reviewer.as_bytes()) {
+        return Err(WordsError::Usage);
+    }
+    let items = read_items(alloc, Form::Decide, rest)?;
+    if items.choices.is_empty() {
+        return Err(WordsError::Usage);
+    }
+    let package = package.copy(alloc)?;
+    let reviewer = reviewer.copy(alloc)?;
+    Ok(Command::Decide {
+        package,
+        reviewer,
+        journals: items.journals,
+        locks: items.locks,
+        choices: items.choices,
+    })
+}
+
+/// The words after `join`.
+#[tactic(auto, unfolding(crate::specs::Reading::join_in))]
+fn read_join(alloc: Global, words: &[Text]) -> Result<Command, WordsError>
+    ensures { Finds command_of result (join_in words.now) }
+{
+    if words.is_empty() {
+        return Err(WordsError::Usage);
+    }
+    let journals = read_names(alloc, words)?;
+    Ok(Command::Join { journals })
+}
+
+/// The words after `check`.
+#[tactic(auto, unfolding(crate::specs::Reading::check_in))]
+fn read_check(alloc: Global, words: &[Text]) -> Result<Command, WordsError>
+    ensures { Finds command_of result (check_in words.now) }
+{
+    let [package] = words else {
+        return Err(WordsError::Usage);
+    };
+    if !is_file_name(package.as_bytes()) {
+        return Err(WordsError::Usage);
+    }
+    let package = package.copy(alloc)?;
+    Ok(Command::Check { package })
+}
+
+/// The words after `sample`.
+#[tactic(auto, unfolding(crate::specs::Reading::sample_in))]
+fn read_sample(words: &[Text]) -> Result<Command, WordsError>
+    ensures { Finds command_of result (sample_in words.now) }
+{
+    let [digits] = words else {
+        return Err(WordsError::Usage);
+    };
+    match read_number(digits.as_bytes()) {
+        Some(number) => Ok(Command::Sample { number }),
+        None => Err(WordsError::Usage),
+    }
+}

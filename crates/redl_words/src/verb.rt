@@ -1,0 +1,40 @@
+//! Verbs: the first words of command lines.
+
+ghost use Rattle.std.specs.Prelude.{◌≡◌};
+ghost use Rattle.redl_words.specs.Reading.{verb_in};
+
+/// Which command the words ask for.
+#[derive(Clone, Copy)]
+pub(crate) enum Verb {
+    Settle,
+    List,
+    Write,
+    Decide,
+    Join,
+    Check,
+    Sample,
+}
+
+/// The verb that a word is.
+#[tactic(auto, unfolding(crate::specs::Reading::verb_in))]
+pub(crate) fn read_verb(word: &[u8]) -> Option<Verb>
+    ensures { result ≡ verb_in word.now }
+{
+    if word == b"settle".as_slice() {
+        Some(Verb::Settle)
+    } else if word == b"list".as_slice() {
+        Some(Verb::List)
+    } else if word == b"write".as_slice() {
+        Some(Verb::Write)
+    } else if word == b"decide".as_slice() {
+        Some(Verb::Decide)
+    } else if word == b"join".as_slice() {
+        Some(Verb::Join)
+    } else if word == b"check".as_slice() {
+        Some(Verb::Check)
+    } else if word == b"sample".as_slice() {
+        Some(Verb::Sample)
+    } else {
+        None
+    }
+}

@@ -1,0 +1,565 @@
+"""A second reading of docs/DEFINITIONS.md: what a package and its reviewers' journals come to.
+
+make.py works out by it what the program is to write of the examples. It shares no code with the program, was written from
+the definitions alone, and looks at each thing anew as often as it needs it, so it is slow and short. It expects a package
+that `check` calls sound.
+"""
+import datetime
+import hashlib
+import json
+import re
+
+W = {
+    "http://schemas.openxmlformats.org/wordprocessingml/2006/main",
+    "http://purl.oclc.org/ooxml/wordprocessingml/main",
+}
+M = {"http://schemas.openxmlformats.org/officeDocument/2006/math"}
+STORIES = {"document", "hdr", "ftr", "footnotes", "endnotes", "comments"}
+
+# Documents
+
+
+class Element:
+    """An element with its start tag as it is written, its kids, and its ancestors by `parent`."""
+
+    def __init__(self, name, tail, space, parent):
+        self.name, self.tail, self.space, self.parent = name, tail, space, parent
+        self.prefix, _, self.local = name.rpartition(":")
+        self.kids, self.close = [], "/>"
+        self.start = self.end = 0
+        self.role = self.trace = None
+        self.number = 0
+
+    def attribute(self, local):
+        """The decoded value of the first attribute with this local name, or None."""
+        for name, _, value in re.findall(r"""([\w:.-]+)\s*=\s*(["'])(.*?)\2""", self.tail, re.S):
+            if name.rpartition(":")[2] == local and name.partition(":")[0] != "xmlns":
+                return decoded(value)
+        return None
+
+    def is_w(self, *locals):
+        return self.space == "W" and self.local in locals
+
+    def ancestors(self):
+        """The ancestors in the story, the nearest first."""
+        found = []
+        while self.parent:
+            self = self.parent
+            found.append(self)
+        return found
+
+
+def decoded(value):
+    known = {"amp": "&", "lt": "<", "gt": ">", "quot": '"', "apos": "'"}
+
+    def character(found):
+        word = found.group(1)
+        if word in known:
+            return known[word]
+        return chr(int(word[2:], 16) if word[1] == "x" else int(word[1:]))
+
+    return re.sub(r"&(#x[0-9A-Fa-f]+|#[0-9]+|\w+);", character, re.sub(r"\r\n|[\t\r\n]", " ", value))
+
+
+TOKEN = re.compile(r"""<!--.*?-->|<\?.*?\?>|<!\[CDATA\[.*?\]\]>|<(?:[^>"']|"[^"]*"|'[^']*')*>|[^<]+""", re.S)
+
+
+def parse(text):
+    """The nodes of a text: elements, and the stretches between tags as strings."""
+    top, path, scopes = [], [], [{}]
+
+    def add(node):
+        kids = path[-1].kids if path else top
+        if isinstance(node, str) and kids and isinstance(kids[-1], str):
+            kids[-1] += node
+        else:
+            kids.append(node)
+
+    for token in TOKEN.findall(text):
+        if not token.startswith("<") or token.startswith(("<!", "<?")):
+            add(token)
+        elif token.startswith("</"):
+            path.pop().close = token
+            scopes.pop()
+        else:
+            name, tail, close = re.match(r"<([^\s/>]+)(.*?)(/?)>\Z", token, re.S).groups()
+            scope = dict(scopes[-1])
+            for prefix, _, value in re.findall(r"""\sxmlns:?([\w.-]*)\s*=\s*(["'])(.*?)\2""", tail, re.S):
+                scope[prefix] = decoded(value)
+            uri = scope.get(name.rpartition(":")[0], "")
+            element = Element(name, tail, "W" if uri in W else "M" if uri in M else "other", path[-1] if path else None)
+            add(element)
+            if close != "/":
+                path.append(element)
+                scopes.append(scope)
+    return top
+
+
+def text_of(nodes):
+    out = []
+    for node in nodes:
+        if isinstance(node, str):
+            out.append(node)
+        elif node.close == "/>":
+            out.append("<%s%s/>" % (node.name, node.tail))
+        else:
+            end = node.close[2:-1]
+            out.append("<%s%s>%s</%s>" % (node.name, node.tail, text_of(node.kids), node.name + end[len(end.rstrip()) :]))
+    return "".join(out)
+
+
+def elements(nodes):
+    """All elements at every depth, in the order of the text."""
+    for node in nodes:
+        if isinstance(node, Element):
+            yield node
+            yield from elements(node.kids)
+
+
+def kids_named(nodes, *locals):
+    return [kid for kid in nodes if isinstance(kid, Element) and kid.is_w(*locals)]
+
+
+# Roles
+
+CONTENT = {"ins": "inserted", "del": "deleted", "moveFrom": "from", "moveTo": "to"}
+MARKERS = ("moveFromRangeStart", "moveFromRangeEnd", "moveToRangeStart", "moveToRangeEnd")
+CHANGES = {
+    "rPrChange": "run-props",
+    "pPrChange": "para-props",
+    "sectPrChange": "sect-props",
+    "tblPrChange": "table-props",
+    "tblPrExChange": "except-props",
+    "trPrChange": "row-props",
+    "tcPrChange": "cell-props",
+}
+PROPERTIES = ("pPr", "rPr", "sectPr", "tblPr", "tblPrEx", "trPr", "tcPr", "sdtPr", "sdtEndPr", "tblGrid")
+
+
+def is_quiet(element):
+    return element.is_w(*PROPERTIES) or (element.space == "M" and element.local == "ctrlPr")
+
+
+def is_open(element):
+    return not any(is_quiet(above) for above in element.ancestors())
+
+
+def is_in_para_props(element):
+    """The element is in the properties of an open paragraph."""
+    above = element.ancestors()
+    return len(above) > 1 and above[0].is_w("pPr") and above[1].is_w("p") and is_open(above[1])
+
+
+def role_of(element):
+    """The role of an element, with its trace: content, mark, row, cell, or the name of a change."""
+    if element.space != "W":
+        return None, None
+    above = element.ancestors()
+    in_open = lambda props, *owners: len(above) > 1 and above[0].is_w(props) and above[1].is_w(*owners) and is_open(above[1])
+    if element.local in CONTENT and is_open(element):
+        return "content", CONTENT[element.local]
+    if element.local in CONTENT and above and above[0].is_w("rPr") and is_in_para_props(above[0]):
+        return "mark", CONTENT[element.local]
+    if element.local in ("ins", "del") and in_open("trPr", "tr"):
+        return "row", CONTENT[element.local]
+    if element.local in ("cellIns", "cellDel") and in_open("tcPr", "tc"):
+        return "cell", {"cellIns": "inserted", "cellDel": "deleted"}[element.local]
+    change = CHANGES.get(element.local)
+    is_one = {
+        "run-props": in_open("rPr", "r", "sdtPr", "sdtEndPr")
+        or (above and above[0].is_w("rPr") and is_in_para_props(above[0]))
+        or (len(above) > 1 and above[0].is_w("rPr") and above[1].space == "M" and above[1].local in ("r", "ctrlPr") and is_open(above[1])),
+        "para-props": in_open("pPr", "p"),
+        "sect-props": in_open("sectPr", "body") or (above and above[0].is_w("sectPr") and is_in_para_props(above[0])),
+        "table-props": in_open("tblPr", "tbl"),
+        "except-props": in_open("tblPrEx", "tr"),
+        "row-props": in_open("trPr", "tr"),
+        "cell-props": in_open("tcPr", "tc"),
+    }.get(change)
+    return (change, None) if is_one else (None, None)
+
+
+# Tables and lists
+
+
+def own(nodes, local):
+    """The own rows of a table or the own cells of a row, through content controls and custom XML."""
+    found = []
+    for kid in nodes:
+        if isinstance(kid, Element):
+            if kid.is_w(local):
+                found.append(kid)
+            elif kid.is_w("customXml"):
+                found += own(kid.kids, local)
+            elif kid.is_w("sdt"):
+                for content in kids_named(kid.kids, "sdtContent"):
+                    found += own(content.kids, local)
+    return found
+
+
+def list_of(element):
+    """What the kids of an element are: blocks, rows, cells, or None."""
+    if element is None or is_quiet(element) or not is_open(element):
+        return None
+    if element.is_w("body", "hdr", "ftr", "footnote", "endnote", "comment", "tc", "txbxContent"):
+        return "blocks"
+    if element.is_w("tbl", "tr"):
+        return {"tbl": "rows", "tr": "cells"}[element.local]
+    if element.is_w("customXml"):
+        return list_of(element.parent)
+    if element.is_w("sdtContent") and element.parent is not None and element.parent.is_w("sdt"):
+        return list_of(element.parent.parent)
+    return None
+
+
+def is_thick(node):
+    return isinstance(node, Element) and (node.is_w("p", "tbl", "sdt", "customXml", "altChunk") or node.space == "other")
+
+
+# Revisions
+
+
+class Revision:
+    def __init__(self, kind, author, date, part):
+        self.kind, self.author, self.date, self.part = kind, author or "", date, part
+        self.members = 0
+
+
+class Package:
+    """A package with its revisions numbered."""
+
+    def __init__(self, text):
+        self.text, self.nodes = text, parse(text)
+        self.revisions = []
+        for part in [element for element in elements(self.nodes) if element.local == "part"]:
+            for data in [kid for kid in part.kids if isinstance(kid, Element) and kid.local == "xmlData"]:
+                for root in [kid for kid in data.kids if isinstance(kid, Element)]:
+                    if root.is_w(*STORIES):
+                        root.parent = None
+                        self.number(root, part.attribute("name"))
+
+    def number(self, root, part):
+        story = list(elements([root]))
+        place(root, 0)
+        for element in story:
+            element.role, element.trace = role_of(element)
+        moves = paired(story)
+        found = {}
+        for element in story:
+            move = move_of(element, moves)
+            if move is None and element.role is None:
+                continue
+            first, of = (move[0], move) if move else (element, element)
+            if of not in found:
+                kind = "move" if move else kind_name(element)
+                self.revisions.append(Revision(kind, first.attribute("author"), moment(first.attribute("date")), part))
+                found[of] = len(self.revisions)
+            element.number = found[of]
+            if element.role is None:
+                element.role = "marker"
+            else:
+                self.revisions[element.number - 1].members += 1
+
+
+def place(element, at):
+    """Counts the start tags and end tags of a story."""
+    element.start = at
+    for kid in element.kids:
+        if isinstance(kid, Element):
+            at = place(kid, at + 1)
+    element.end = at + 1
+    return element.end
+
+
+def kind_name(element):
+    ends = {"inserted": "ins", "deleted": "del", "from": "from", "to": "to"}
+    if element.role == "content":
+        return {"from": "move-from", "to": "move-to"}.get(element.trace, ends[element.trace])
+    if element.role in ("mark", "row", "cell"):
+        return element.role + "-" + ends[element.trace]
+    return element.role
+
+
+def is_loose(marker):
+    for above in marker.ancestors():
+        if above.role == "content":
+            return True
+        for holder, props in (("tr", "trPr"), ("tc", "tcPr")):
+            if above.is_w(holder):
+                kids = [kid for prop in kids_named(above.kids, props) for kid in elements(prop.kids)]
+                if any(kid.role in ("row", "cell") for kid in kids):
+                    return True
+        for holder, item in (("tbl", "tr"), ("tr", "tc")):
+            if above.is_w(holder) and not any(it in marker.ancestors() for it in own(above.kids, item)):
+                return True
+    return False
+
+
+def paired(story):
+    """The paired moves of a story: source start, source end, target start, target end."""
+    markers = [it for it in story if it.is_w(*MARKERS) and is_open(it) and it.attribute("id") is not None]
+    kind = lambda local: [it for it in markers if it.local == local]
+    moves = []
+    for start in kind("moveFromRangeStart"):
+        name = start.attribute("name")
+        sides = []
+        for side in ("From", "To"):
+            starts = [it for it in kind("move%sRangeStart" % side) if name is not None and it.attribute("name") == name]
+            if len(starts) != 1:
+                break
+            same = [it for it in kind("move%sRangeStart" % side) if it.attribute("id") == starts[0].attribute("id")]
+            ends = [it for it in kind("move%sRangeEnd" % side) if it.attribute("id") == starts[0].attribute("id")]
+            if len(same) != 1 or len(ends) != 1 or ends[0].start < starts[0].start:
+                break
+            sides += [starts[0], ends[0]]
+        if len(sides) == 4 and not any(is_loose(it) for it in sides):
+            moves.append(tuple(sides))
+    return moves
+
+
+def move_of(element, moves):
+    """The paired move that an element is a marker or a member of."""
+    for move in moves:
+        if element in move:
+            return move
+    if element.role not in ("content", "mark") or element.trace not in ("from", "to"):
+        return None
+    at = element.start if element.role == "content" else element.parent.parent.parent.end
+    first = 0 if element.trace == "from" else 2
+    around = [move for move in moves if move[first].start < at < move[first + 1].start]
+    return max(around, key=lambda move: move[first].start) if around else None
+
+
+# The pass
+
+
+def decided(package, says):
+    """The text of the package where revision n is decided as says(n) tells: accept, reject or None."""
+    fate = lambda element: fate_of(element, says)
+
+    def passed(nodes, parent):
+        out, held = [], None
+        in_blocks = list_of(parent) == "blocks" if parent else False
+        for index, node in enumerate(nodes):
+            after = [other for other in nodes[index + 1 :] if is_thick(other)]
+            if isinstance(node, Element) and node.is_w("p") and in_blocks:
+                kids = kept_kids(node)
+                cut = any(fate(it) == "cut" for it in mark_members(node))
+                if held is not None:
+                    props = [kid for kid in kids if is_named(kid, "pPr")]
+                    kids = props + held + [kid for kid in kids if not is_named(kid, "pPr")]
+                if cut and after and after[0].is_w("p"):
+                    held = [kid for kid in kids if not is_named(kid, "pPr")]
+                    continue
+                rest = [kid for kid in kids if not is_named(kid, "pPr")]
+                if cut and after and not any(isinstance(kid, Element) for kid in rest):
+                    out += rest
+                else:
+                    out.append(like(node, kids, is_joined=held is not None))
+                held = None
+            elif held is not None:
+                held += [kid for kid in given(node) if not is_named(kid, "pPr")]
+            else:
+                out += given(node)
+        return out
+
+    def given(node):
+        """What a node gives by itself."""
+        if isinstance(node, str):
+            return [node]
+        what = fate(node)
+        if what == "free" and node.role == "content":
+            return passed(node.kids, node)
+        if what != "leave" or goes(node):
+            return []
+        return [like(node, kept_kids(node))]
+
+    def like(node, kids, is_joined=False):
+        made = Element(node.name, node.tail, node.space, None)
+        made.kids, made.close = kids, node.close
+        if node.is_w("delText", "delInstrText") and is_open(node):
+            fates = [fate(above) for above in node.ancestors() if above.role == "content" and above.trace in ("deleted", "from")]
+            if "free" in fates and "leave" not in fates:
+                made.local = {"delText": "t", "delInstrText": "instrText"}[node.local]
+                made.name = (node.prefix + ":" if node.prefix else "") + made.local
+        if made.close == "/>" and (kids or is_joined):
+            made.close = "</>"
+        return made
+
+    def kept_kids(node):
+        kids = passed(node.kids, node)
+        change = next((kid for kid in node.kids if isinstance(kid, Element) and kid.role in CHANGES.values() and fate(kid) == "restore"), None)
+        if change is None:
+            return kids
+        former = next((list(kid.kids) for kid in kids_named(change.kids, node.local)), [])
+        keeps = {
+            "rPr": ("ins", "del", "moveFrom", "moveTo"),
+            "pPr": ("rPr", "sectPr"),
+            "sectPr": ("headerReference", "footerReference"),
+            "trPr": ("ins", "del"),
+            "tcPr": ("cellIns", "cellDel", "cellMerge"),
+        }.get(node.local, ())
+        former = [kid for kid in former if not is_named(kid, *keeps)]
+        present = [kid for kid in kids if is_named(kid, *keeps)]
+        if node.local == "rPr":
+            return (present if is_in_para_props(node) else []) + former
+        return present + former if node.local == "sectPr" else former + present
+
+    def mark_members(para):
+        return [
+            it
+            for props in kids_named(para.kids, "pPr")
+            for run in kids_named(props.kids, "rPr")
+            for it in elements(run.kids)
+            if it.role == "mark"
+        ]
+
+    def is_cut(element, props, role):
+        return any(fate(it) == "cut" for prop in kids_named(element.kids, props) for it in elements(prop.kids) if it.role == role)
+
+    def all_go(items):
+        return bool(items) and all(goes(it) for it in items)
+
+    def goes(element):
+        if element.is_w("tc"):
+            return is_cut(element, "tcPr", "cell")
+        if element.is_w("tr"):
+            return is_cut(element, "trPr", "row") or all_go(own(element.kids, "tc"))
+        if element.is_w("tbl"):
+            return all_go(own(element.kids, "tr"))
+        around = list_of(element.parent) if element.parent else None
+        if element.is_w("sdt", "customXml") and around in ("rows", "cells"):
+            return all_go(own([element], {"rows": "tr", "cells": "tc"}[around]))
+        return False
+
+    def story(nodes):
+        """The nodes of the package, with the kids of each story's root passed."""
+        out = []
+        for node in nodes:
+            if isinstance(node, Element):
+                made = Element(node.name, node.tail, node.space, None)
+                is_root = node.is_w(*STORIES) and node.parent is None
+                made.kids, made.close = passed(node.kids, node) if is_root else story(node.kids), node.close
+                node = made
+            out.append(node)
+        return out
+
+    return text_of(story(package.nodes))
+
+
+def is_named(node, *locals):
+    return isinstance(node, Element) and node.is_w(*locals)
+
+
+def fate_of(element, says):
+    say = says(element.number) if element.number else None
+    if say is None:
+        return "leave"
+    if element.role == "marker":
+        return "drop"
+    if element.trace in ("inserted", "to"):
+        return "free" if say == "accept" else "cut"
+    if element.trace in ("deleted", "from"):
+        return "cut" if say == "accept" else "free"
+    return "clear" if say == "accept" else "restore"
+
+
+# Journals
+
+WORDS = ["accept", "reject", "withdraw"]
+
+
+def in_order(entries):
+    """A set of entries (reviewer, sequence, revision, word), in the order of entries."""
+    return sorted(set(entries), key=lambda it: (it[0].encode(), it[1], it[2], WORDS.index(it[3])))
+
+
+def verdict(number, entries):
+    """accept, reject, disputed or open."""
+    here = [entry for entry in set(entries) if entry[2] == number]
+    latest = {}
+    for who, sequence, _, _ in here:
+        latest[who] = max(sequence, latest.get(who, 0))
+    words = {word for who, sequence, _, word in here if sequence == latest[who]} - {"withdraw"}
+    return "open" if not words else words.pop() if len(words) == 1 else "disputed"
+
+
+def refusal(package, entry, locks):
+    """Why an entry is refused, or None."""
+    if not 1 <= entry[2] <= len(package.revisions):
+        return "unknown revision"
+    return "locked author" if package.revisions[entry[2] - 1].author in locks else None
+
+
+def admitted(package, entries, locks=()):
+    return in_order(entry for entry in entries if refusal(package, entry, locks) is None)
+
+
+def refused_lines(package, entries, locks=()):
+    lines = ""
+    for who, sequence, revision, word in in_order(entries):
+        cause = refusal(package, (who, sequence, revision, word), locks)
+        if cause:
+            lines += "redline: refused %d %d %s %s: %s\n" % (sequence, revision, word, who, cause)
+    return lines
+
+
+def written(package, entries, locks=()):
+    """The package under the joined verdicts."""
+    book = admitted(package, entries, locks)
+    word = lambda number: verdict(number, book)
+    return decided(package, lambda number: word(number) if word(number) in ("accept", "reject") else None)
+
+
+def journal(package, entries):
+    """The text of a journal with these entries as they stand."""
+    head = "redline-journal 1\ndocument %s\nrevisions %d\n"
+    lines = ["%d\t%d\t%s\t%s\n" % (sequence, revision, word, who) for who, sequence, revision, word in entries]
+    return head % (hashlib.sha256(package.text.encode()).hexdigest(), len(package.revisions)) + "".join(lines)
+
+
+def decide(package, reviewer, entries, choices, locks=()):
+    """The book after a reviewer's choices, each a word and the numbers that it is for; the last one that names a revision counts."""
+    book = admitted(package, entries, locks)
+    sequence = max([entry[1] for entry in book if entry[0] == reviewer], default=0) + 1
+    words = {number: word for word, numbers in choices for number in numbers}
+    new = [(reviewer, sequence, number, word) for number, word in words.items()]
+    return in_order(book + admitted(package, new, locks)), refused_lines(package, list(entries) + new, locks)
+
+
+# Listings
+
+
+def moment(text):
+    """The seconds of a date from 1970 on in UTC, or None."""
+    found = re.fullmatch(r"(\d{4}-\d\d-\d\dT\d\d:\d\d:\d\d)(?:\.\d{1,9})?(Z|[+-]\d\d:\d\d)?", text or "")
+    if not found:
+        return None
+    zone = found.group(2) or "Z"
+    try:
+        civil = datetime.datetime.fromisoformat(found.group(1) + ("+00:00" if zone == "Z" else zone))
+    except ValueError:
+        return None
+    return int(civil.timestamp())
+
+
+def listed(package, entries, form, locks=()):
+    """The listing of a package in the form text, tab or json."""
+    book = admitted(package, entries, locks)
+    rows = []
+    for number, it in enumerate(package.revisions, 1):
+        date = None
+        if it.date is not None:
+            date = datetime.datetime.fromtimestamp(it.date, datetime.timezone.utc).strftime("%Y-%m-%dT%H:%M:%SZ")
+        rows.append((number, it, verdict(number, book), date))
+    if form == "text":
+        plain = lambda author: re.sub("[\x00-\x1f\x7f]", "?", author)
+        return "".join("%7d %-12s %-8s %-20s %s\n" % (number, it.kind, word, date or "-", plain(it.author)) for number, it, word, date in rows)
+    if form == "tab":
+        plain = lambda text: text.replace("\\", "\\\\").replace("\t", "\\t").replace("\n", "\\n").replace("\r", "\\r")
+        line = lambda number, it, word, date: (str(number), it.kind, word, date or "-", str(it.members), plain(it.part), plain(it.author))
+        return "".join("\t".join(line(*row)) + "\n" for row in rows)
+    row = lambda number, it, word, date: {
+        "author": it.author, "date": date, "kind": it.kind, "members": it.members, "number": number, "part": it.part, "verdict": word,
+    }
+    return "[" + ",".join(json.dumps(row(*it), ensure_ascii=False, separators=(",", ":")) for it in rows) + "]\n"
