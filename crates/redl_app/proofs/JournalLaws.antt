@@ -1,10 +1,9 @@
 -- What a reader reads, by what the code read, and the entries of journals.
-use Rattle.std.proofs.Common.{◌≡◌, ◌≢◌, ◌<◌, ◌+◌, ◌-◌, ℕ, zero, suc, List, ◌∷◌, Bool, true, false, not, ◌==◌, Option, None, Some, Ok, Err, refl, sym, ap, ◌∙◌, arith}
+use Rattle.std.proofs.Common.{◌≡◌, ◌≢◌, ℕ, List, true, false, not, ◌==◌, Option, None, Some, Ok, Err, refl, ap, ◌∙◌}
 use Rattle.std.proofs.lemmas.Bool.{false_from_ne_true, eqb-true, eq-eqb}
-use Rattle.std.specs.List.{range_with_len}
 use Rattle.std.specs.Str.{bytes_eq}
 use Rattle.redl_app.proofs.FetchLaws.{if_true, if_false}
-use Rattle.redl_app.specs.Journals.{DocumentId, entries_of}
+use Rattle.redl_app.specs.Journals.{DocumentId, entries_in}
 use Rattle.redl_app.specs.Readers.{Reader, IsReader, IsJournalOf}
 use Rattle.redl_lines.specs.Failures.{caused, other_document, other_count}
 use Rattle.redl_journal.specs.Journals.{Journal, IsJournal, HasNoJournal}
@@ -29,26 +28,17 @@ reads_no_journal reader text is none = no_journal_by text (reader.journal text) 
 -- ---- the entries of one journal
 
 pub entries_other_document : (document : DocumentId) (name : List ℕ) (journal : Journal) → not (bytes_eq journal.digest document.digest) ≡ true
-    → entries_of document name (Some journal) ≡ Err (caused (other_document name journal.digest document.digest))
+    → entries_in document name journal ≡ Err (caused (other_document name journal.digest document.digest))
 entries_other_document document name journal differs = if_true (not (bytes_eq journal.digest document.digest)) _ _ differs
 
 pub entries_other_count : (document : DocumentId) (name : List ℕ) (journal : Journal) → not (bytes_eq journal.digest document.digest) ≡ false
-    → journal.count ≢ document.count → entries_of document name (Some journal) ≡ Err (caused (other_count name journal.count document.count))
+    → journal.count ≢ document.count → entries_in document name journal ≡ Err (caused (other_count name journal.count document.count))
 entries_other_count document name journal same differs =
     if_false (not (bytes_eq journal.digest document.digest)) _ _ same
     ∙ if_true (not (journal.count == document.count)) _ _ (ap not (false_from_ne_true (journal.count == document.count) (λ e. differs (eqb-true journal.count document.count e))))
 
 pub entries_of_it : (document : DocumentId) (name : List ℕ) (journal : Journal) → not (bytes_eq journal.digest document.digest) ≡ false
-    → journal.count ≡ document.count → entries_of document name (Some journal) ≡ Ok journal.entries
+    → journal.count ≡ document.count → entries_in document name journal ≡ Ok journal.entries
 entries_of_it document name journal same one =
     if_false (not (bytes_eq journal.digest document.digest)) _ _ same
     ∙ if_false (not (journal.count == document.count)) _ _ (ap not (ap (λ n. n == document.count) one ∙ eq-eqb document.count document.count refl))
-
--- ---- numbers in a row
-
-pub range-more : (a n : ℕ) → 0 < n → range_with_len a n ≡ a ∷ range_with_len (a + 1) (n - 1)
-range-more a zero some = absurd (omega (arith, some))
-range-more a (suc n) some = rw sub_one_suc refl
-  where
-    sub_one_suc : suc n - 1 ≡ n
-    sub_one_suc = omega arith

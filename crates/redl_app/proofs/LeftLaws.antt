@@ -5,23 +5,24 @@ use Rattle.std.specs.List.{list_all}
 use Rattle.redl_app.specs.Answers.{IsWritten}
 use Rattle.redl_app.specs.Left.{AreSays, IsLeft, LeavesSound, decided_package}
 use Rattle.redl_app.proofs.TopLaws.{by_cause}
-use Rattle.redl_app.specs.Admission.{admitted}
-use Rattle.redl_app.specs.Commands.Settle.{passed_text, same_says, settled}
-use Rattle.redl_app.specs.Commands.Write.{says_of, decided, written}
-use Rattle.redl_app.specs.Journals.{document_of}
-use Rattle.redl_app.specs.Outcome.{package_text, written_by, writing_of}
+use Rattle.redl_app.specs.Admission.{Admission, admission_with, no_admission, admission_of, opened}
+use Rattle.redl_app.specs.Commands.Settle.{passed_text, same_says, settling}
+use Rattle.redl_app.specs.Commands.Write.{decided}
+use Rattle.redl_app.specs.Journals.{document_of, gathered}
+use Rattle.redl_app.specs.Outcome.{written_by, writing_of}
 use Rattle.redl_app.specs.Packages.{package_file, package_in, tree_in, shaped, sound, sound_unless}
 use Rattle.redl_app.specs.Readers.{Reader}
 use Rattle.redl_app.specs.Steps.{◌>>=◌}
 use Rattle.redl_app.specs.Writing.{Writing, only_bytes, outcome_of}
-use Rattle.redl_app.specs.Words.{Command, settle, write, check, command_of}
+use Rattle.redl_words.specs.Commands.{Command, settle, list, write, decide, join, check, sample}
 use Rattle.redl_io.specs.Limits.{journal_bytes}
-use Rattle.redl_index.specs.Numbers.{package_revisions, numbered_package}
+use Rattle.redl_index.specs.Numbers.{numbered_package}
 use Rattle.redl_io.specs.Shelf.{Files}
 use Rattle.redl_lines.specs.Failures.{Failure, caused, unread, no_memory, failure_status}
 use Rattle.redl_lines.specs.declared.status.Status.{Status}
 use Rattle.redl_lines.specs.declared.status.Status.TheVariants as status
 use Rattle.redl_rules.specs.Attributes.{has_id, declares, rules, broken_rule}
+use Rattle.redl_session.specs.Sessions.{says}
 use Rattle.redl_stamp.specs.Attribute.{attribute_value}
 use Rattle.redl_tree.proofs.Indexed.{survival-package}
 use Rattle.redl_tree.proofs.NumberLaws.{numbered-indexed}
@@ -29,6 +30,7 @@ use Rattle.redl_tree.proofs.Soundness.{numbered_sound, soundness}
 use Rattle.redl_tree.specs.Model.Nodes.{Nodes}
 use Rattle.redl_tree.specs.Decisions.Packages.{stories, pass_package}
 use Rattle.redl_tree.specs.Rules.Sound.{Test, holds, first_broken, is_sound}
+use Rattle.redl_tree.specs.Model.Text.{text}
 use Rattle.redl_tree.specs.Model.View.{Parts}
 use Rattle.redl_tree.specs.declared.kinds.Say.{Say}
 
@@ -108,28 +110,47 @@ left_by reader files command name bytes whole nodes says file original decided w
       (numbered_sound attribute_value has_id declares nodes (sound_package reader whole nodes original));
 }
 
+leaves_settled : (reader : Reader) (files : Files) (accept : Bool) (name : List ℕ) (writing : Writing)
+    → writing_of reader files (Some (settle accept name)) ≡ Ok writing → IsLeft reader files (settle accept name) name writing.bytes
+leaves_settled reader files accept name writing is =
+    let text_ = both_ok (package_file files name) (written_by reader files (settle accept name)) writing is in
+    let read = both_ok (package_in reader text_.x) (λ nodes. Ok (only_bytes (passed_text (same_says (settling accept) nodes) nodes))) writing text_.second in
+    let made : writing ≡ only_bytes (passed_text (same_says (settling accept) read.x) read.x) = sym (same_ok read.second) in
+    left_by reader files (settle accept name) name writing.bytes text_.x read.x (same_says (settling accept) read.x)
+    text_.first read.first refl (ap (λ (w : Writing). w.bytes) made)
+
+-- a session is over the package with its numbers, whatever it admits
+opened_over : (reader : Reader) (files : Files) (locks journals : List (List ℕ)) (whole : List ℕ) (admission : Admission)
+    → opened reader files locks journals whole ≡ Ok admission → (nodes : Nodes) × (package_in reader whole ≡ Ok nodes) × (admission.state.nodes ≡ numbered_package nodes)
+opened_over reader files locks journals whole admission is =
+    let read = both_ok (package_in reader whole) (λ nodes. admission_of reader files (document_of whole nodes) (no_admission nodes locks) journal_bytes journals) admission is in
+    let entries = both_ok (gathered reader files (document_of whole read.x) journal_bytes journals) (λ entries. Ok (admission_with (no_admission read.x locks) entries)) admission read.second in
+    (read.x, read.first, ap (λ (a : Admission). a.state.nodes) (sym (same_ok entries.second)))
+
+leaves_written : (reader : Reader) (files : Files) (name : List ℕ) (locks journals : List (List ℕ)) (writing : Writing)
+    → writing_of reader files (Some (write name locks journals)) ≡ Ok writing → IsLeft reader files (write name locks journals) name writing.bytes
+leaves_written reader files name locks journals writing is =
+    let text_ = both_ok (package_file files name) (written_by reader files (write name locks journals)) writing is in
+    let made = both_ok (opened reader files locks journals text_.x) (λ admission. Ok (decided admission)) writing text_.second in
+    let over = opened_over reader files locks journals text_.x made.x made.first in
+    let bytes : writing.bytes ≡ (decided made.x).bytes = ap (λ (w : Writing). w.bytes) (sym (same_ok made.second)) in
+    left_by reader files (write name locks journals) name writing.bytes text_.x over.0 (says made.x.state)
+    text_.first over.1 (made.x, made.first, refl) (bytes ∙ ap (λ nodes. text (pass_package (says made.x.state) nodes)) over.2)
+
 leaves : (reader : Reader) (files : Files) (command : Command) (name : List ℕ) (writing : Writing) → decided_package command ≡ Some name
     → writing_of reader files (Some command) ≡ Ok writing → IsLeft reader files command name writing.bytes
-leaves reader files (settle say other) name writing named is =
-    let text_ = both_ok (package_file files other) (written_by reader files (settle say other)) writing is in
-    let read = both_ok (package_in reader text_.x) (λ nodes. Ok (only_bytes (passed_text (same_says say nodes) nodes))) writing text_.second in
-    let same : other ≡ name = same_some named in
-    let made : writing ≡ only_bytes (passed_text (same_says say read.x) read.x) = sym (same_ok read.second) in
-    left_by reader files (settle say other) name writing.bytes text_.x read.x (same_says say read.x)
-    (ap (package_file files) (sym same) ∙ text_.first) read.first refl (ap (λ (w : Writing). w.bytes) made)
-leaves reader files (write other journals) name writing named is =
-    let text_ = both_ok (package_file files other) (written_by reader files (write other journals)) writing is in
-    let read = both_ok (package_in reader text_.x)
-        (λ nodes. admitted reader files (document_of text_.x nodes) journal_bytes journals >>= (λ admission. Ok (decided admission nodes))) writing text_.second in
-    let entries = both_ok (admitted reader files (document_of text_.x read.x) journal_bytes journals) (λ admission. Ok (decided admission read.x)) writing read.second in
-    let same : other ≡ name = same_some named in
-    let made : writing ≡ decided entries.x read.x = sym (same_ok entries.second) in
-    left_by reader files (write other journals) name writing.bytes text_.x read.x (says_of entries.x.book (package_revisions read.x))
-    (ap (package_file files) (sym same) ∙ text_.first) read.first (entries.x, entries.first, refl) (ap (λ (w : Writing). w.bytes) made)
+leaves reader files (settle accept other) name writing named is =
+    subst (λ n. IsLeft reader files (settle accept other) n writing.bytes) (same_some named) (leaves_settled reader files accept other writing is)
+leaves reader files (write other locks journals) name writing named is =
+    subst (λ n. IsLeft reader files (write other locks journals) n writing.bytes) (same_some named) (leaves_written reader files other locks journals writing is)
+leaves reader files (list other format locks journals) name writing named is = absurd (cc named)
+leaves reader files (decide other reviewer journals locks choices) name writing named is = absurd (cc named)
+leaves reader files (join journals) name writing named is = absurd (cc named)
 leaves reader files (check other) name writing named is = absurd (cc named)
+leaves reader files (sample number) name writing named is = absurd (cc named)
 
 pub leaves_sound : (reader : Reader) (words : List (List ℕ)) (files : Files) → LeavesSound reader words files
 leaves_sound reader words files command name commands named written =
-    let made = is_made (writing_of reader files (command_of words)) written in
+    let made = is_made (writing_of reader files (reader.command words)) written in
     let by_command : writing_of reader files (Some command) ≡ Ok made.0 = ap (writing_of reader files) (sym commands) ∙ made.1 in
     subst (IsLeft reader files command name) (sym (ap (λ w. (outcome_of w).bytes) made.1)) (leaves reader files command name made.0 named by_command)

@@ -4,7 +4,9 @@ pub mod NameLaws
 pub mod JournalLaws
 pub mod GatherLaws
 pub mod AdmissionLaws
+pub mod OpenLaws
 pub mod PackageLaws
 pub mod TopLaws
+pub mod ReaderLaws
+pub mod WordLaws
 mod LeftLaws
-mod ReaderLaws

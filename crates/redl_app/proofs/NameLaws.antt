@@ -1,5 +1,5 @@
 -- Names among names, and texts that are UTF-8.
-use Rattle.std.proofs.Common.{◌≡◌, ℕ, zero, suc, List, [], ◌∷◌, Contains, None, Some, Result, Ok, Err, MatchResult, IsOk, refl, arith}
+use Rattle.std.proofs.Common.{◌≡◌, ℕ, zero, suc, List, [], ◌∷◌, Contains, Result, Ok, Err, MatchResult, IsOk, refl, arith}
 
 pub only_one : (x y : List ℕ) → Contains (x ∷ []) y → x ≡ y
 only_one x y (zero, within, is) = is
@@ -9,6 +9,3 @@ pub is_ok_unless : {T E : Type 0} (Good : T → Type 0) (Bad : E → Type 0) (He
     → MatchResult r Good (λ e. ¬ Held × Bad e) → Held → IsOk r
 is_ok_unless Good Bad Held (Ok x) h held = refl
 is_ok_unless Good Bad Held (Err e) h held = absurd (h.0 held)
-
-pub some_none : {X : Type 0} {x : X} → Some x ≡ None → ⊥
-some_none is = absurd (cc is)

@@ -81,7 +81,7 @@ tree_failed reader text xml.Depth is unreadable deep many = tree_too_deep reader
 tree_failed reader text xml.Nodes is unreadable deep many = tree_too_large reader text is (many refl)
 tree_failed reader text xml.NoMemory is unreadable deep many = tt
 
-xml_is_read : {Y : Type 0} (error : XmlError) → NeverUnread {Y = Y} (Err (xml_failure error))
+xml_is_read : (error : XmlError) → NeverUnread {Y = Nodes} (Err (xml_failure error))
 xml_is_read xml.Unreadable = tt
 xml_is_read xml.Depth = tt
 xml_is_read xml.Nodes = tt

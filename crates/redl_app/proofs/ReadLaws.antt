@@ -101,7 +101,7 @@ pub both : {P Q R : Files → Type 0} (told : Option Files) → ((files : Files)
 both None step p q = tt
 both (Some files) step p q = step files p q
 
-always : {P : Files → Type 0} (told : Option Files) → ((files : Files) → P files) → IfSome told P
+pub always : {P : Files → Type 0} (told : Option Files) → ((files : Files) → P files) → IfSome told P
 always None all = tt
 always (Some files) all = all files
 

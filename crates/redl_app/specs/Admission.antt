@@ -1,44 +1,49 @@
--- What becomes of the entries of journals: those that a package admits, and those that it refuses.
-use Rattle.std.specs.Prelude.{ℕ, List, [], filter, not, Result, Ok}
-use Rattle.redl_app.specs.Journals.{DocumentId, gathered}
+-- What becomes of the entries of journals: those that a session admits, and those that it refuses.
+use Rattle.std.specs.Prelude.{ℕ, List, [], Result, Ok}
+use Rattle.redl_app.specs.Journals.{DocumentId, document_of, gathered}
+use Rattle.redl_app.specs.Packages.{package_in}
 use Rattle.redl_app.specs.Readers.{Reader}
 use Rattle.redl_app.specs.Steps.{◌>>=◌}
+use Rattle.redl_index.specs.Numbers.{package_revisions, numbered_package}
+use Rattle.redl_index.specs.Revisions.{revisions_of}
+use Rattle.redl_io.specs.Limits.{journal_bytes}
 use Rattle.redl_io.specs.Shelf.{Files}
 use Rattle.redl_join.specs.Books.{union}
 use Rattle.redl_journal.specs.declared.entry.Entry.{Entry}
 use Rattle.redl_lines.specs.Ends.{RefusedEntries}
 use Rattle.redl_lines.specs.Failures.{Failure}
-use Rattle.redl_lines.specs.Lines.{is_known}
+use Rattle.redl_session.specs.Refusals.{admitted, refused}
+use Rattle.redl_session.specs.Sessions.{State}
+use Rattle.redl_tree.specs.Model.Nodes.{Nodes}
 
--- the set of the entries that were admitted, and of those that were refused
+-- a session, and the set of the entries that it refused
 pub record Admission : Type 0 where
-  pub book : List Entry
+  pub state : State
   pub refused : RefusedEntries
 
--- before any entry, in a package with so many revisions
-abbrev pub no_admission : ℕ → Admission
-no_admission count = record { book = []; refused = record { entries = []; count = count } }
+-- a session over this package with these locked authors, before any entry
+abbrev pub no_admission : Nodes → List (List ℕ) → Admission
+no_admission nodes locks = record {
+  state = record { nodes = numbered_package nodes; revisions = revisions_of nodes; locks = locks; book = [] };
+  refused = record { entries = []; count = package_revisions nodes };
+}
 
--- the entries of these that a package with so many revisions admits: those on its revisions
-abbrev pub admits : ℕ → List Entry → List Entry
-admits count entries = filter (is_known count) entries
-
--- and those that it refuses
-abbrev pub refuses : ℕ → List Entry → List Entry
-refuses count entries = filter (λ entry. not (is_known count entry)) entries
-
--- after these entries too
+-- After these entries too: the book has those that are not refused, and the refused ones are noted.
 abbrev pub admission_with : Admission → List Entry → Admission
 admission_with before entries = record {
-  book = union before.book (admits before.refused.count entries);
-  refused = record {
-    entries = union before.refused.entries (refuses before.refused.count entries);
-    count = before.refused.count;
-  };
+  state = record before.state { book = union before.state.book (admitted before.state.revisions before.state.locks entries) };
+  refused = record before.refused { entries = union before.refused.entries (refused before.state.revisions before.state.locks entries) };
 }
 
 -- what becomes of the entries of the journals of these names, of at most so many bytes together
-abbrev pub admitted : Reader → Files → DocumentId → ℕ → List (List ℕ) → Result Admission Failure
-admitted reader files document most names = do
+abbrev pub admission_of : Reader → Files → DocumentId → Admission → ℕ → List (List ℕ) → Result Admission Failure
+admission_of reader files document before most names = do
   entries ← gathered reader files document most names
-  Ok (admission_with (no_admission document.count) entries)
+  Ok (admission_with before entries)
+
+-- A session over the package with this text, with these locked authors, and what becomes of the entries of the journals of
+-- these names.
+abbrev pub opened : Reader → Files → List (List ℕ) → List (List ℕ) → List ℕ → Result Admission Failure
+opened reader files locks journals whole = do
+  nodes ← package_in reader whole
+  admission_of reader files (document_of whole nodes) (no_admission nodes locks) journal_bytes journals

@@ -1,3 +1,4 @@
 pub mod Settle
 pub mod Write
+pub mod Join
 pub mod Check

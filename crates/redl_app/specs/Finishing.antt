@@ -1,19 +1,18 @@
 -- What stands after what was prepared was written, or not.
-use Rattle.std.specs.Prelude.{◌≡◌, ◌⊎◌, ℕ, List, Option, Result, Ok, Err}
+use Rattle.std.specs.Prelude.{◌≡◌, ◌⊎◌, ℕ, List, Option, Some, Result, Ok, Err}
 use Rattle.std.specs.Io.KnownBytes.{append_known}
 use Rattle.redl_io.specs.Faults.{Rose}
 use Rattle.redl_io.specs.Sink.{GrowsByFront}
-use Rattle.redl_app.specs.Readers.{Reader}
+use Rattle.redl_app.specs.Readers.{Reader, IsReader}
 use Rattle.redl_app.specs.Reading.{ReadsFiles}
+use Rattle.redl_app.specs.Outcome.{writing_of}
 use Rattle.redl_app.specs.Writing.{Writing}
+use Rattle.redl_words.specs.Commands.{Command}
 use Rattle.redl_io.specs.Shelf.{Files}
 use Rattle.redl_lines.specs.Ends.{End, written, unwritten, failed}
-use Rattle.redl_lines.specs.Failures.{Failure}
-use Rattle.redl_lines.specs.Lines.{usage_line, no_memory_line}
-use Rattle.redl_lines.specs.declared.status.Status.{Status}
-use Rattle.redl_lines.specs.declared.status.Status.TheVariants as status
-use Rattle.redl_app.specs.declared.words.WordsError.{WordsError}
-use Rattle.redl_app.specs.declared.words.WordsError.TheVariants as error
+use Rattle.redl_lines.specs.Failures.{Failure, caused, usage, no_memory}
+use Rattle.redl_words.specs.declared.error.WordsError.{WordsError}
+use Rattle.redl_words.specs.declared.error.WordsError.TheVariants as error
 
 -- all of the text went out
 pub record WritesAll (old new : Option (List ℕ)) (before now : ℕ) (text : List ℕ) : Type 0 where
@@ -39,12 +38,15 @@ pub record Ends (old new : Option Files) (f f_new : ℕ) (out out_new : Option (
   pub reads : ReadsFiles old new f f_new names made due
   pub finishes : Finishes out out_new before now made end
 
--- ---- words that could not be had
+-- ---- the words
 
-abbrev pub words_status : WordsError → Status
-words_status error.Usage = status.Usage
-words_status error.NoMemory = status.NoMemory
+-- why a call ends whose words could not be had
+abbrev pub words_failure : WordsError → Failure
+words_failure error.Usage = caused usage
+words_failure error.NoMemory = no_memory
 
-abbrev pub words_line : WordsError → List ℕ
-words_line error.Usage = usage_line
-words_line error.NoMemory = no_memory_line
+-- What is due where words were read so: what their command writes, or that they have none. Where memory ran out, anything.
+abbrev pub IsWanted : Result Command WordsError → (Reader → Files → Result Writing Failure) → Type 0
+IsWanted (Ok command) due = (reader : Reader) (files : Files) → IsReader reader → due reader files ≡ writing_of reader files (Some command)
+IsWanted (Err error.Usage) due = (reader : Reader) (files : Files) → IsReader reader → due reader files ≡ Err (caused usage)
+IsWanted (Err error.NoMemory) due = Unit {0}

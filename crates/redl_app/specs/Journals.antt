@@ -21,13 +21,21 @@ pub record DocumentId : Type 0 where
 abbrev pub document_of : List ℕ → Nodes → DocumentId
 document_of whole nodes = record { digest = sha256 whole; count = package_revisions nodes }
 
--- the entries of a journal, where it is one of this document
-abbrev pub entries_of : DocumentId → List ℕ → Option Journal → Result (List Entry) Failure
-entries_of document name None = Err (caused (malformed name))
-entries_of document name (Some journal) =
+-- a journal, where the text has one
+abbrev pub journal_or_none : List ℕ → Option Journal → Result Journal Failure
+journal_or_none name None = Err (caused (malformed name))
+journal_or_none name (Some journal) = Ok journal
+
+-- the entries of a journal that is one of this document
+abbrev pub entries_in : DocumentId → List ℕ → Journal → Result (List Entry) Failure
+entries_in document name journal =
     if not (bytes_eq journal.digest document.digest) then Err (caused (other_document name journal.digest document.digest))
     else if not (journal.count == document.count) then Err (caused (other_count name journal.count document.count))
     else Ok journal.entries
+
+-- the entries of a text, where it is a journal of this document
+abbrev pub entries_of : DocumentId → List ℕ → Option Journal → Result (List Entry) Failure
+entries_of document name found = journal_or_none name found >>= entries_in document name
 
 -- the entries of the journal of this name, of at most `left` bytes, with the number of its bytes
 abbrev pub journal_at : Reader → Files → DocumentId → ℕ → List ℕ → Result (List Entry × ℕ) Failure

@@ -1,16 +1,14 @@
 -- What a call that decides revisions leaves of a package: exactly the text that survives, in a sound package.
 use Rattle.std.specs.Prelude.{◌≡◌, ℕ, List, true, Option, Some, None, Ok, map}
-use Rattle.redl_app.specs.Commands.Settle.{same_says}
-use Rattle.redl_app.specs.Admission.{Admission, admitted}
-use Rattle.redl_app.specs.Commands.Write.{says_of}
-use Rattle.redl_app.specs.Journals.{document_of}
+use Rattle.redl_app.specs.Commands.Settle.{same_says, settling}
+use Rattle.redl_app.specs.Admission.{Admission, opened}
+use Rattle.redl_session.specs.Sessions.{says as says_of}
 use Rattle.redl_app.specs.Outcome.{outcome}
 use Rattle.redl_app.specs.Packages.{package_file, package_in}
 use Rattle.redl_app.specs.Readers.{Reader}
 use Rattle.redl_app.specs.Answers.{IsWritten}
-use Rattle.redl_app.specs.Words.{Command, settle, write, check, command_of}
-use Rattle.redl_io.specs.Limits.{journal_bytes}
-use Rattle.redl_index.specs.Numbers.{package_revisions, numbered_package}
+use Rattle.redl_words.specs.Commands.{Command, settle, list, write, decide, join, check, sample}
+use Rattle.redl_index.specs.Numbers.{numbered_package}
 use Rattle.redl_io.specs.Shelf.{Files}
 use Rattle.redl_rules.specs.Attributes.{rules}
 use Rattle.redl_tree.specs.Model.Nodes.{Nodes}
@@ -22,18 +20,26 @@ use Rattle.redl_tree.specs.declared.kinds.Say.{Say}
 
 -- a command that decides revisions, and the name of its package
 abbrev pub decided_package : Command → Option (List ℕ)
-decided_package (settle say name) = Some name
-decided_package (write name journals) = Some name
+decided_package (settle accept name) = Some name
+decided_package (list name format locks journals) = None
+decided_package (write name locks journals) = Some name
+decided_package (decide name reviewer journals locks choices) = None
+decided_package (join journals) = None
 decided_package (check name) = None
+decided_package (sample number) = None
 
 -- These are the says of a command for the revisions of the package with this text and these nodes.
 abbrev pub AreSays : Reader → Files → Command → List ℕ → Nodes → List Say → Type 0
-AreSays reader files (settle say name) whole nodes says = says ≡ same_says say nodes
-AreSays reader files (write name journals) whole nodes says =
+AreSays reader files (settle accept name) whole nodes says = says ≡ same_says (settling accept) nodes
+AreSays reader files (list name format locks journals) whole nodes says = ⊥
+AreSays reader files (write name locks journals) whole nodes says =
     (admission : Admission)
-    × (admitted reader files (document_of whole nodes) journal_bytes journals ≡ Ok admission)
-    × (says ≡ says_of admission.book (package_revisions nodes))
+    × (opened reader files locks journals whole ≡ Ok admission)
+    × (says ≡ says_of admission.state)
+AreSays reader files (decide name reviewer journals locks choices) whole nodes says = ⊥
+AreSays reader files (join journals) whole nodes says = ⊥
 AreSays reader files (check name) whole nodes says = ⊥
+AreSays reader files (sample number) whole nodes says = ⊥
 
 -- The bytes are the text of what the command leaves of the package of this name.
 pub record IsLeft (reader : Reader) (files : Files) (command : Command) (name bytes : List ℕ) : Type 0 where
@@ -55,5 +61,5 @@ pub record IsLeft (reader : Reader) (files : Files) (command : Command) (name by
 -- Where a command decides revisions and all was written, what was written is left of its package.
 abbrev pub LeavesSound : Reader → List (List ℕ) → Files → Type 0
 LeavesSound reader words files =
-    (command : Command) (name : List ℕ) → command_of words ≡ Some command → decided_package command ≡ Some name
+    (command : Command) (name : List ℕ) → reader.command words ≡ Some command → decided_package command ≡ Some name
     → IsWritten (outcome reader words files).status → IsLeft reader files command name (outcome reader words files).bytes

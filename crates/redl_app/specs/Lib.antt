@@ -1,4 +1,3 @@
-pub mod Words
 pub mod Readers
 pub mod Steps
 pub mod Packages
@@ -6,6 +5,7 @@ pub mod Journals
 pub mod Admission
 pub mod Writing
 pub mod Commands
+pub mod Files
 pub mod Outcome
 pub mod Answers
 pub mod Left

@@ -1,58 +1,44 @@
-//! What becomes of the entries of journals: those that a package admits, and those that it refuses.
+//! What becomes of the entries of journals: those that a session admits, and those that it refuses.
 
-ghost use Rattle.std.specs.Prelude.{◌≡◌, All, IfOk, OnOk};
-ghost use Rattle.redl_app.specs.Admission.{Admission, no_admission, admission_with};
+ghost use Rattle.std.specs.Prelude.{◌≡◌, ◌++◌, All, None, IfOk, OnOk, map};
+ghost use Rattle.redl_app.specs.Admission.{Admission, admission_with};
 ghost use Rattle.redl_app.specs.Views.{admission_view};
+ghost use Rattle.redl_join.specs.Books.{union};
 ghost use Rattle.redl_journal.specs.Journals.{IsAllowed};
-ghost use Rattle.redl_lines.specs.Lines.{is_known as is_known_to};
 
 use redl_join::Book;
 use redl_journal::Entry;
 use redl_lines::RefusedEntries;
-use std::alloc::{AllocError, Global};
+use redl_session::{Refusal, Session};
+use std::alloc::AllocError;
 
-/// The entries that a package admitted, and those that it refused.
+/// A session, and the entries that it refused.
 #[derive(Drop)]
 pub(crate) struct Admitted {
-    /// The entries on its revisions.
-    pub book: Book,
-    /// The others.
+    /// The session.
+    pub session: Session,
+    /// The entries that it refused.
     pub refused: RefusedEntries,
 }
 
 impl Admitted {
-    /// Before any entry, in a package with so many revisions.
-    pub(crate) fn nothing(alloc: Global, count: u32) -> Admitted
-        ensures { admission_view result ≡ no_admission count }
-    {
-        Admitted {
-            book: Book::new(alloc),
-            refused: RefusedEntries {
-                entries: Book::new(alloc),
-                count,
-            },
-        }
-    }
-
     /// Takes these entries too. `Err` means out of memory, and some of them may be there.
     pub(crate) fn admit(&mut self, entries: Vec<Entry>) -> Result<(), AllocError>
         requires { All IsAllowed entries.items }
         ensures { OnOk result (admission_view self.new ≡ admission_with (admission_view self.old) entries.items) }
     {
-        for entry in entries {
-            if is_known(&entry, self.refused.count) {
-                self.book.add(entry)?;
-            } else {
-                self.refused.entries.add(entry)?;
-            }
-        }
-        Ok(())
+        let refused = self.session.admit_many(entries)?;
+        note(&mut self.refused.entries, refused)
     }
 }
 
-// Whether the entry is on one of the revisions 1 to `count`.
-fn is_known(entry: &Entry, count: u32) -> bool
-    ensures { result ≡ is_known_to count entry.now }
+// Adds the entries of these refusals to the book. `Err` means out of memory, and some of them may be there.
+fn note(book: &mut Book, refused: Vec<Refusal>) -> Result<(), AllocError>
+    requires { All (λ refusal. IsAllowed refusal.entry) refused.items }
+    ensures { OnOk result (book.new ≡ union book.old (map (λ refusal. refusal.entry) refused.items)) }
 {
-    1 <= entry.rev && entry.rev <= count
+    for refusal in refused {
+        book.add(refusal.entry)?;
+    }
+    Ok(())
 }

@@ -1,13 +1,22 @@
 //! Files from the shelf.
 
-ghost use Rattle.std.specs.Prelude.{◌≡◌, ◌<◌, ◌≤◌, ◌^◌, ◌∷◌, [], IfOk, length};
+ghost use Rattle.std.specs.Prelude.{◌≡◌, ◌<◌, ◌≤◌, ◌^◌, ◌∷◌, [], IfOk, IsUtf8, length};
 ghost use Rattle.redl_app.specs.Reading.{ReadsFiles, front_of};
 ghost use Rattle.redl_app.specs.Steps.{held, file};
 ghost use Rattle.redl_app.specs.Views.{result_view};
 
-use redl_io::{Shelf, ShelfError};
+use redl_io::{Shelf, ShelfError, Text};
 use redl_lines::{Cause, Failure, Limit};
 use std::alloc::Global;
+use std::str;
+
+/// The name of a file, as a shelf takes it.
+pub(crate) fn name_of(name: &Text) -> &str
+    requires { IsUtf8 name.now }
+    ensures { result.now ≡ name.now }
+{
+    str::from_utf8(name.as_bytes()).unwrap()
+}
 
 /// The text of the file of this name, of at most `most` bytes. A longer one is over the limit.
 ///

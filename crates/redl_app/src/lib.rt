@@ -11,6 +11,7 @@ mod document;
 mod fetch;
 mod journals;
 mod laws;
+mod open;
 mod output;
 mod package;
 mod top;
@@ -24,8 +25,6 @@ pub const JOURNALS_LIMIT: usize = 67_108_864;
 
 pub use laws::{a_reader, one_outcome, what_is_left_is_sound};
 pub use redl_lines::Status;
-pub use top::{refuse_words, run, run_surely};
-pub use words::{WordsError, add_word};
-
-#[cfg(test)]
-mod tests;
+pub use redl_words::WordsError;
+pub use top::{refuse_words, run, run_surely, tell_text};
+pub use words::add_word;

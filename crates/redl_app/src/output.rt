@@ -7,6 +7,7 @@ ghost use Rattle.redl_app.specs.Views.{output_text, writing_view};
 ghost use Rattle.redl_app.specs.Writing.{only_bytes};
 ghost use Rattle.redl_io.specs.Sink.{Puts, GrowsByFront, CountsPut};
 
+use crate::document::DocumentId;
 use itoa::Buffer;
 use redl_io::{Failed, Sink, Staged, put_pieces};
 use redl_join::Book;
@@ -21,6 +22,8 @@ pub(crate) enum Output {
     Package(Vec<Node>),
     /// That a package is sound, and has so many revisions.
     Count(u32),
+    /// The journal of this document with the book's entries.
+    Journal { document: DocumentId, book: Book },
 }
 
 /// What a call writes, and the entries that were refused.
@@ -64,6 +67,7 @@ fn put_output<K: Sink>(output: &Output, out: &mut K) -> Result<(), Failed>
     match output {
         Output::Package(nodes) => write_nodes(nodes, out),
         Output::Count(count) => write_sound(*count, out),
+        Output::Journal { document, book } => book.write(&document.digest, document.count, out),
     }
 }
 

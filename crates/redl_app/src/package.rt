@@ -1,11 +1,13 @@
 //! The package of a text: its parts with their numbers, or why it is refused, and what a pass leaves of it.
 
-ghost use Rattle.std.specs.Prelude.{◌≡◌, ◌<◌, IfOk};
+ghost use Rattle.std.specs.Prelude.{◌≡◌, ◌<◌, None, IfOk, length};
 ghost use Rattle.redl_app.specs.Packages.{tree_in, shaped, sound, package_in};
 ghost use Rattle.redl_app.specs.Reading.{Reads};
 ghost use Rattle.redl_app.specs.Views.{result_view};
 ghost use Rattle.redl_index.specs.Numbers.{numbered_package, package_revisions};
+ghost use Rattle.redl_index.specs.Revisions.{revisions_of};
 ghost use Rattle.redl_opc.specs.Tree.{IsTree};
+ghost use Rattle.redl_rules.specs.Attributes.{broken_rule};
 ghost use Rattle.redl_tree.specs.Decisions.Packages.{pass_package};
 ghost use Rattle.redl_tree.specs.Model.View.{nodes_of};
 
@@ -21,7 +23,8 @@ use std::sync::ledger::{Blank, Ledger};
 
 /// The package with this text.
 pub(crate) fn read_package<'a>(alloc: Global, bytes: &[u8]) -> Result<Package, Failure<'a>>
-    ensures { Reads (result_view (λ made. made) result) (λ reader. package_in reader bytes.now) }
+    ensures read { Reads (result_view (λ made. made) result) (λ reader. package_in reader bytes.now) }
+    ensures sound { IfOk result (λ made. broken_rule made ≡ None) }
 {
     let nodes = read_nodes(alloc, bytes)?;
     let package = shape(alloc, nodes)?;
@@ -47,29 +50,28 @@ fn shape<'a>(alloc: Global, nodes: Vec<Node>) -> Result<Package, Failure<'a>>
 
 // Whether the package keeps the rules of structure.
 fn check_rules<'a>(alloc: Global, package: &Package) -> Result<(), Failure<'a>>
-    ensures { Reads (result_view (λ _. «package».now) result) (λ _. sound «package».now) }
+    ensures read { Reads (result_view (λ _. «package».now) result) (λ _. sound «package».now) }
+    ensures sound { IfOk result (λ _. broken_rule «package».now ≡ None) }
 {
     Ok(check(alloc, package)?)
 }
 
-/// A package with the kinds and numbers of its revisions, and how many there are.
+/// A package with the kinds and numbers of its revisions, and the revisions.
 #[derive(Drop)]
 pub(crate) struct Numbered {
     pub package: Package,
-    pub count: u32,
+    pub index: Index,
 }
 
 /// The package with its numbers.
 pub(crate) fn number_package(alloc: Global, read: Package) -> Result<Numbered, AllocError>
     ensures numbered { IfOk result (λ made. made.«package» ≡ numbered_package read) }
-    ensures count { IfOk result (λ made. made.count ≡ package_revisions read) }
+    ensures index { IfOk result (λ made. made.index ≡ revisions_of read) }
+    ensures count { IfOk result (λ made. length made.index ≡ package_revisions read) }
 {
     let mut package = read;
     let index = Index::build(alloc, &mut package)?;
-    Ok(Numbered {
-        package,
-        count: index.count(),
-    })
+    Ok(Numbered { package, index })
 }
 
 /// What is left of a numbered package. Its own nodes go while it is made.

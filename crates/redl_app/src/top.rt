@@ -1,22 +1,30 @@
 //! The top call: from words and files to a status, bytes and lines.
 
-ghost use Rattle.std.specs.Prelude.{◌≡◌, ◌≢◌, ◌⊎◌, List, ℕ, None, Some, All, IsUtf8, IfSome, Result};
+ghost use Rattle.std.specs.Prelude.{◌≡◌, ◌≢◌, ◌⊎◌, List, ℕ, None, Some, All, IsUtf8, IfSome, IfOk, IfErr, Result};
 ghost use Rattle.redl_app.specs.Answers.{OfOutcome, IsAnswer, Writes, AreLines, TellsSome, MayFault};
-ghost use Rattle.redl_app.specs.Finishing.{Ends, Finishes, words_status, words_line};
+ghost use Rattle.redl_app.specs.Files.{files_of};
+ghost use Rattle.redl_app.specs.Finishing.{Ends, Finishes, IsWanted, words_failure};
 ghost use Rattle.redl_app.specs.Outcome.{outcome, writing_of};
 ghost use Rattle.redl_app.specs.Readers.{Reader, IsReader};
-ghost use Rattle.redl_app.specs.Views.{HasUtf8, command_view, result_view, writing_view};
-ghost use Rattle.redl_app.specs.Words.{command_of, files_of};
+ghost use Rattle.redl_app.specs.Views.{named_files, read_view, result_view, writing_view};
 ghost use Rattle.redl_io.specs.Faults.{Rose};
+ghost use Rattle.redl_app.specs.Writing.{Writing as WritingOf};
 ghost use Rattle.redl_io.specs.MemShelf.{file_named};
+ghost use Rattle.redl_io.specs.Shelf.{Files};
+ghost use Rattle.redl_io.specs.Sink.{GrowsByFront};
+ghost use Rattle.std.specs.Io.KnownBytes.{append_known};
 ghost use Rattle.redl_lines.specs.Ends.{Tells, end_view, failed};
-ghost use Rattle.redl_lines.specs.Failures.{caused, unbuilt};
+ghost use Rattle.redl_lines.specs.Failures.{Failure as FailureOf, failure_view, failure_status};
+ghost use Rattle.redl_lines.specs.Lines.{failure_line};
+ghost use Rattle.redl_words.specs.Commands.{HasNoCommand, HasUtf8};
+ghost use Rattle.redl_words.specs.Views.{command_of};
 
 use crate::commands::{fetch_package, make_writing};
 use crate::output::{Writing, write_output};
-use crate::words::{Command, WordsError, read_command};
 use redl_io::{NullSink, Shelf, Sink, SureShelf, Text};
-use redl_lines::{Cause, End, Failure, Status, tell};
+use redl_join::Book;
+use redl_lines::{Cause, End, Failure, RefusedEntries, Status, tell};
+use redl_words::{Command, WordsError, read_words};
 use std::alloc::Global;
 
 /// Does what the words ask: takes files from the shelf, puts bytes on `out` and lines on `err`.
@@ -38,9 +46,9 @@ pub fn run<F: Shelf, O: Sink, E: Sink>(
         (Rose (F.faults shelf.old) (F.faults shelf.new)) (Rose (O.faults out.old) (O.faults out.new))) }
 
     // Over every shelf.
-    ensures unbuilt { command_of words.now ≡ None → result ≡ Status.Unbuilt }
+    ensures usage { HasNoCommand words.now → (result ≡ Status.Usage) ⊎ (result ≡ Status.NoMemory) }
     ensures read { result ≡ Status.ReadFault
-        → MayFault (command_of words.now) (F.told shelf.old) (Rose (F.faults shelf.old) (F.faults shelf.new)) }
+        → MayFault words.now (F.told shelf.old) (Rose (F.faults shelf.old) (F.faults shelf.new)) }
     ensures write { result ≡ Status.WriteFault → Rose (O.faults out.old) (O.faults out.new) }
 
     // No fault is passed over, and nothing is taken from the shelf.
@@ -52,43 +60,53 @@ pub fn run<F: Shelf, O: Sink, E: Sink>(
     ensures bytes { OfOutcome (F.told shelf.old) words.now (λ outcome. Writes result (O.told out.old) (O.told out.new) outcome.bytes) }
     ensures untouched { result ≢ Status.Done → result ≢ Status.Refused → result ≢ Status.WriteFault → O.told out.new ≡ O.told out.old }
     ensures lines { OfOutcome (F.told shelf.old) words.now (λ outcome. TellsSome (E.told err.old) (E.told err.new) (E.faults err.old) (E.faults err.new)
-        (AreLines result outcome (command_of words.now) (Rose (F.faults shelf.old) (F.faults shelf.new)))) }
+        (AreLines result outcome words.now (Rose (F.faults shelf.old) (F.faults shelf.new)))) }
 {
-    let end = end_call(alloc, words, shelf, out);
+    let read = read_words(alloc, words);
+    let end = end_call(alloc, &read, shelf, out);
     tell(&end, err);
     end.status()
 }
 
-// How the call with these words ends.
+// How a call ends whose words were read so.
 fn end_call<'a, F: Shelf, O: Sink>(
     alloc: Global,
-    words: &'a [Text],
+    read: &'a Result<Command, WordsError>,
     shelf: &mut F,
     out: &mut O,
 ) -> End<'a>
-    requires { All IsUtf8 words.now }
-    ensures ends { Ends (F.told shelf.old) (F.told shelf.new) (F.faults shelf.old) (F.faults shelf.new)
-        (O.told out.old) (O.told out.new) (O.faults out.old) (O.faults out.new)
-        (files_of (command_of words.now)) (λ reader files. writing_of reader files (command_of words.now)) (end_view result) }
-    ensures unbuilt { command_of words.now ≡ None → end_view result ≡ failed (caused unbuilt) }
+    requires { IfOk read.now (λ command. HasUtf8 (command_of command)) }
+    ensures ends { (due : Reader → Files → Result WritingOf FailureOf) → IsWanted (read_view read.now) due
+        → Ends (F.told shelf.old) (F.told shelf.new) (F.faults shelf.old) (F.faults shelf.new)
+        (O.told out.old) (O.told out.new) (O.faults out.old) (O.faults out.new) (named_files read.now) due (end_view result) }
+    ensures words { IfErr read.now (λ error. end_view result ≡ failed (words_failure error)) }
 {
-    match read_command(words) {
-        Some(command) => carry_out(alloc, command, shelf, out),
-        None => End::Failed(Failure::Cause(Cause::Unbuilt)),
+    match read {
+        Ok(command) => carry_out(alloc, command, shelf, out),
+        Err(error) => End::Failed(failure_of(*error)),
+    }
+}
+
+fn failure_of(error: WordsError) -> Failure<'static>
+    ensures { failure_view result ≡ words_failure error }
+{
+    match error {
+        WordsError::Usage => Failure::Cause(Cause::Usage),
+        WordsError::NoMemory => Failure::NoMemory,
     }
 }
 
 // How a command ends. What is made of its package lives no longer than the package's text.
 fn carry_out<'a, F: Shelf, O: Sink>(
     alloc: Global,
-    command: Command<'a>,
+    command: &'a Command,
     shelf: &mut F,
     out: &mut O,
 ) -> End<'a>
-    requires { HasUtf8 command }
+    requires { HasUtf8 (command_of command.now) }
     ensures { Ends (F.told shelf.old) (F.told shelf.new) (F.faults shelf.old) (F.faults shelf.new)
         (O.told out.old) (O.told out.new) (O.faults out.old) (O.faults out.new)
-        (files_of (Some (command_view command))) (λ reader files. writing_of reader files (Some (command_view command))) (end_view result) }
+        (files_of (command_of command.now)) (λ reader files. writing_of reader files (Some (command_of command.now))) (end_view result) }
 {
     match fetch_package(alloc, command, shelf) {
         Ok(bytes) => finish(make_writing(alloc, command, &bytes, shelf), out),
@@ -111,12 +129,29 @@ fn finish<'a, O: Sink>(made: Result<Writing, Failure<'a>>, out: &mut O) -> End<'
 
 /// Tells why the words of a command line could not be had, and gives the status that the program ends with.
 pub fn refuse_words<E: Sink>(error: WordsError, err: &mut E) -> Status
-    ensures status { result ≡ words_status error }
-    ensures lines { Tells (E.told err.old) (E.told err.new) (E.faults err.old) (E.faults err.new) (words_line error) }
+    ensures status { result ≡ failure_status (words_failure error) }
+    ensures lines { Tells (E.told err.old) (E.told err.new) (E.faults err.old) (E.faults err.new) (failure_line (words_failure error)) }
 {
-    let end = match error {
-        WordsError::Usage => End::Failed(Failure::Cause(Cause::Usage)),
-        WordsError::NoMemory => End::Failed(Failure::NoMemory),
+    let end = End::Failed(failure_of(error));
+    tell(&end, err);
+    end.status()
+}
+
+/// Writes a text that the program tells of itself, and gives the status that the program ends with.
+pub fn tell_text<O: Sink, E: Sink>(alloc: Global, text: &str, out: &mut O, err: &mut E) -> Status
+    ensures status { (result ≡ Status.Done) ⊎ (result ≡ Status.WriteFault) }
+    ensures all { result ≡ Status.Done → O.told out.new ≡ append_known (O.told out.old) text.now }
+    ensures front { result ≡ Status.WriteFault → GrowsByFront (O.told out.old) (O.told out.new) text.now }
+    ensures cause { result ≡ Status.WriteFault → Rose (O.faults out.old) (O.faults out.new) }
+    ensures stands { result ≡ Status.Done → O.faults out.new ≡ O.faults out.old }
+{
+    let refused = RefusedEntries {
+        entries: Book::new(alloc),
+        count: 0,
+    };
+    let end = match out.put(text.as_bytes()) {
+        Ok(()) => End::Written(refused),
+        Err(_) => End::Unwritten(refused),
     };
     tell(&end, err);
     end.status()

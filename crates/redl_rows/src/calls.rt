@@ -31,15 +31,33 @@ pub fn call(alloc: Global, line: &str, files: Vec<(Text, Vec<u8>)>) -> Result<An
     })
 }
 
-// The words of a line, with one space between two.
+// The words of a line, with spaces between them. What stands between two quotes is one word.
 fn words_of(alloc: Global, line: &str) -> Result<Vec<Text>, AllocError>
     ensures { IfOk result (λ words. All IsUtf8 words.items) }
 {
     let mut words = Vec::new(alloc);
-    for word in line.split(' ') {
-        add_word(alloc, &mut words, word)?;
+    let mut is_quoted = false;
+    for piece in line.split('"') {
+        if is_quoted {
+            add_word(alloc, &mut words, piece)?;
+        } else {
+            add_words(alloc, &mut words, piece)?;
+        }
+        is_quoted = !is_quoted;
     }
     Ok(words)
+}
+
+fn add_words(alloc: Global, words: &mut Vec<Text>, piece: &str) -> Result<(), AllocError>
+    requires { All IsUtf8 words.old.items }
+    ensures { All IsUtf8 words.new.items }
+{
+    for word in piece.split(' ') {
+        if !word.is_empty() {
+            add_word(alloc, words, word)?;
+        }
+    }
+    Ok(())
 }
 
 /// The answer of a call over this package alone.

@@ -3,10 +3,12 @@
 //! A row is a block of lines with an empty line after it. Its first line is its title, `# ` and a rule in plain words.
 //! The other lines are these, in any order; a block without `words` is a heading.
 //!
-//! - `words: write P J K`: the words of the command line; `P` is the package, and the other names are journals
+//! - `words: write P --lock "Cy & Co" J`: the words of the command line, one of them in quotes; `P` is the package, and the
+//!   other names are journals
 //! - `P: <w:p/>`: the body of the package, which is a document with this one part
 //! - `text: ..`: the whole text of the package, in place of a body
 //! - `J: 1 1 accept Ann; 2 1 withdraw Ann`: the entries of the journal `J`: sequence number, revision, word, reviewer
+//! - `J text: ..`: the whole text of the journal `J`, in place of its entries
 //! - `revisions: 2`: the number of revisions that the journals tell; without it they tell the right one
 //! - `again: check P`: the words of a second call, for which what the first one wrote is the package
 //!

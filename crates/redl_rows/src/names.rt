@@ -8,7 +8,7 @@ pub const FRONT: &str = "{package}{document}";
 pub const BACK: &str = "{/document}{/package}";
 
 // Each name and its text. A text that holds another one comes first.
-const NAMES: [(&str, &str); 19] = [
+const NAMES: [(&str, &str); 20] = [
     (
         "{A}",
         " w:id=\"1\" w:author=\"Ann\" w:date=\"2024-05-06T07:08:09Z\"",
@@ -58,6 +58,7 @@ const NAMES: [(&str, &str); 19] = [
     ("{/comments}", "</w:comments></pkg:xmlData></pkg:part>"),
     ("{n}", "\n"),
     ("{r}", "\r"),
+    ("{t}", "\t"),
 ];
 
 /// The text with what its names stand for.

@@ -70,12 +70,27 @@ fn files_of(
 ) -> Result<Vec<(Text, Vec<u8>)>, AllocError> {
     let mut files = only_package(alloc, package)?;
     for name in words.split(' ').filter(|name| *name != "P") {
-        if let Some(entries) = field(row, name) {
-            let journal = journal_of(alloc, row, package, entries)?;
+        if let Some(journal) = file_of(alloc, row, package, name)? {
             add_file(alloc, &mut files, name, journal.as_bytes())?;
         }
     }
     Ok(files)
+}
+
+// The text of the journal of this name, where the row has one.
+fn file_of(
+    alloc: Global,
+    row: &str,
+    package: &[u8],
+    name: &str,
+) -> Result<Option<String>, AllocError> {
+    if let Some(text) = field(row, format!(in alloc; "{name} text")?.as_str()) {
+        return Ok(Some(spell_out(alloc, text)?));
+    }
+    match field(row, name) {
+        Some(entries) => Ok(Some(journal_of(alloc, row, package, entries)?)),
+        None => Ok(None),
+    }
 }
 
 // A journal of the package with these entries.
@@ -91,7 +106,7 @@ fn journal_of(
     let mut journal = format!(in alloc;
         "redline-journal 1\ndocument {digest}\nrevisions {revisions}\n"
     )?;
-    for entry in entries.split("; ") {
+    for entry in entries.split("; ").filter(|entry| !entry.is_empty()) {
         journal.push_str(entry.replacen(alloc, " ", "\t", 3)?.as_str())?;
         journal.push('\n')?;
     }

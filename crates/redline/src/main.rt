@@ -1,14 +1,18 @@
 //! The program: real files, standard output and standard error, and the words of the command line.
 //!
-//! All that it does is a call of `run`, whose clauses say what goes out and which exit status comes when.
+//! All that it does is a call of `run`, whose clauses say what goes out and which exit status comes when. Only where
+//! `--help` or `--version` is the one word, it writes a text of its own.
 //! The words are copied first; a word that isn't UTF-8 ends the program before the call.
 #![tactic(auto)]
+
+mod help;
 
 ghost use Rattle.std.specs.Prelude.{◌≡◌, drop, map, IfOk, All, IsUtf8};
 ghost use Rattle.std.specs.String.{string_bytes};
 ghost use Rattle.std.specs.Vec.Iter.{into_iter_items};
 
-use redl_app::{WordsError, add_word, refuse_words, run};
+use help::{HELP, VERSION};
+use redl_app::{WordsError, add_word, refuse_words, run, tell_text};
 use redl_io::{FileShelf, StdSink, Text};
 use std::alloc::{AllocError, Global};
 use std::env;
@@ -22,10 +26,22 @@ fn main(rt: HostRuntime) -> ExitCode {
     let mut out = StdSink::new(rt.stdout());
     let mut err = StdSink::new(rt.stderr());
     let status = match read_words(&rt) {
-        Ok(words) => run(rt.alloc(), &words, &mut shelf, &mut out, &mut err),
+        Ok(words) => match own_text(&words) {
+            Some(text) => tell_text(rt.alloc(), text, &mut out, &mut err),
+            None => run(rt.alloc(), &words, &mut shelf, &mut out, &mut err),
+        },
         Err(error) => refuse_words(error, &mut err),
     };
     ExitCode::from(status.code())
+}
+
+// What the program tells of itself, where the words ask for that alone.
+fn own_text(words: &[Text]) -> Option<&'static str> {
+    match words {
+        [word] if word.as_bytes() == b"--help".as_slice() => Some(HELP),
+        [word] if word.as_bytes() == b"--version".as_slice() => Some(VERSION),
+        _ => None,
+    }
 }
 
 // The words of the command line.

@@ -25,5 +25,5 @@ fn count_revisions(alloc: Global, read: Package) -> Result<Writing, AllocError>
     ensures { IfOk result (λ writing. writing_view writing ≡ only_bytes (sound_text (package_revisions read))) }
 {
     let numbered = number_package(alloc, read)?;
-    Ok(Writing::only(alloc, Output::Count(numbered.count)))
+    Ok(Writing::only(alloc, Output::Count(numbered.index.count())))
 }

@@ -1,7 +1,7 @@
 //! `settle accept P` and `settle reject P`.
 
 ghost use Rattle.std.specs.Prelude.{◌≡◌, IfOk};
-ghost use Rattle.redl_app.specs.Commands.Settle.{passed_text, same_says, settled};
+ghost use Rattle.redl_app.specs.Commands.Settle.{passed_text, same_says, settled, settling};
 ghost use Rattle.redl_app.specs.Reading.{Reads};
 ghost use Rattle.redl_app.specs.Views.{result_view, writing_view};
 ghost use Rattle.redl_app.specs.Writing.{only_bytes};
@@ -13,23 +13,25 @@ use redl_opc::Package;
 use redl_tree::Say;
 use std::alloc::{AllocError, Global};
 
-/// The package with this text under one say for all its revisions.
-pub(crate) fn settle<'a>(
-    alloc: Global,
-    say: Say,
-    bytes: &[u8],
-) -> Result<Writing, Failure<'a>>
-    ensures { Reads (result_view writing_view result) (λ reader. settled reader say bytes.now) }
+/// The package with this text, where each revision is accepted, or else each is rejected.
+pub(crate) fn settle<'a>(alloc: Global, accept: bool, bytes: &[u8]) -> Result<Writing, Failure<'a>>
+    ensures { Reads (result_view writing_view result) (λ reader. settled reader accept bytes.now) }
 {
     let package = read_package(alloc, bytes)?;
-    Ok(settle_package(alloc, say, package)?)
+    Ok(settle_package(alloc, say_of(accept), package)?)
+}
+
+fn say_of(accept: bool) -> Say
+    ensures { result ≡ settling accept }
+{
+    if accept { Say::Accept } else { Say::Reject }
 }
 
 fn settle_package(alloc: Global, say: Say, read: Package) -> Result<Writing, AllocError>
     ensures { IfOk result (λ writing. writing_view writing ≡ only_bytes (passed_text (same_says say read) read)) }
 {
     let numbered = number_package(alloc, read)?;
-    let says = vec![in alloc; say; numbered.count as usize]?;
+    let says = vec![in alloc; say; numbered.index.count() as usize]?;
     let nodes = pass_nodes(alloc, numbered.package, &says)?;
     Ok(Writing::only(alloc, Output::Package(nodes)))
 }

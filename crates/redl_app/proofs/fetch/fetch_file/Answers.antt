@@ -13,8 +13,8 @@ returns-in_err-bytes-clause-read g c =
     rw (p.1, p.2) (reads_stops (λ whole reader files. within c.args.most c.args.limit whole)
     (fetch_stops (c.args.most + 1) (λ reader files. held name (files name)) c.in_err-bytes.ensures) (λ one h. h))
 
-pub returns-then-clause-read : goal.returns-then-clause-read
-returns-then-clause-read g c =
+pub returns-then-len-most-clause-read : goal.returns-then-len-most-clause-read
+returns-then-len-most-clause-read g c =
     let name = c.args.name.now in
     reads_after (Err (caused (over c.args.limit))) (λ reader files. file files name c.args.most c.args.limit) c.in_ok-bytes.ensures tt
     (λ reader files is front. front_too_long c.args.most c.args.limit (held name (files name)) c.in_ok-bytes.bytes.items front (omega arith))

@@ -1,15 +1,15 @@
 use Rattle.std.proofs.Common.{◌≡◌, ◌≤◌, drop}
 use Rattle.redl_app.proofs.GatherLaws.{IsTaking}
-use Rattle.redl_app.specs.Admission.{admission_with, admitted}
+use Rattle.redl_app.specs.Admission.{admission_with, admission_of}
 use Rattle.redl_app.specs.Views.{admission_view, document_view}
 use Rattle.redl_app.proofs.journals.admit_journals.Given as goal
 
--- what becomes of the entries so far, and the journals that are left
+-- what was taken so far, and the journals that are left
 abbrev pub invariant-loop-journal : goal.invariant-loop-journal
 invariant-loop-journal g l = record {
   left : l.left ≤ l.limit;
   taking : IsTaking admission_with (g.F.Shelf.told l.initial.shelf) (document_view l.document)
-      (λ reader files. admitted reader files (document_view l.document) l.limit l.journals) (admission_view l.admitted) l.left (drop l.journal-index l.journals);
+      (λ reader files. admission_of reader files (document_view l.document) (admission_view l.fn.before) l.limit l.journals) (admission_view l.admitted) l.left (drop l.journal-index l.journals);
   told : g.F.Shelf.told l.shelf ≡ g.F.Shelf.told l.initial.shelf;
   stands : g.F.Shelf.faults l.shelf ≡ g.F.Shelf.faults l.initial.shelf;
 }

@@ -9,9 +9,9 @@ use Rattle.redl_app.proofs.commands.check.check.Goals as goal
 pub returns-in_err-package : goal.returns-in_err-package
 returns-in_err-package c =
     let p = err_from_is_err_and c.from_residual.result c.from_residual.ensures.1 in
-    rw (p.1, p.2) (takes_stops (λ nodes reader. Ok (only_bytes (sound_text (package_revisions nodes)))) c.in_err-package.ensures)
+    rw (p.1, p.2) (takes_stops (λ nodes reader. Ok (only_bytes (sound_text (package_revisions nodes)))) c.in_err-package.ensures.read)
 
 pub returns : goal.returns
 returns c =
-    takes_ok (λ nodes. Ok (only_bytes (sound_text (package_revisions nodes)))) c.in_ok-package.ensures
+    takes_ok (λ nodes. Ok (only_bytes (sound_text (package_revisions nodes)))) c.in_ok-package.ensures.read
     (ap Ok (sym c.in_ok-count_revisions.ensures))

@@ -1,6 +1,6 @@
 //! A shelf or a sink that fails, and words that can't be had.
 use super::calls::{INSERTED, INSERTED_LIVE, Want, call, expect_call, files_of, package};
-use crate::{Status, WordsError, refuse_words};
+use redl_app::{Status, WordsError, refuse_words};
 use redl_io::{MemShelf, MemSink};
 use std::test::Fail;
 
@@ -16,6 +16,8 @@ fn a_file_that_cannot_be_read_ends_the_call(rt: HostRuntime) -> Result<(), Fail>
         ("write P J K L", 4, "redline: cannot read L\n"),
         ("write Q J", 9, "redline: cannot read Q\n"),
         ("write P J Q R", 9, "redline: cannot read Q\n"),
+        ("join J K", 2, "redline: cannot read K\n"),
+        ("join Q J", 9, "redline: cannot read Q\n"),
     ] {
         let files = files_of(alloc, INSERTED, "1", ["", "", ""])?;
         let mut shelf = MemShelf::new(files, vec![in alloc; fails]?);
@@ -59,7 +61,7 @@ fn a_fault_of_the_lines_changes_no_status(rt: HostRuntime) -> Result<(), Fail> {
     let alloc = rt.alloc();
     for (line, status) in [
         ("settle accept Q", Status::ReadFault),
-        ("join J K", Status::Unbuilt),
+        ("join", Status::Usage),
         ("write P J", Status::Refused),
     ] {
         let files = files_of(alloc, INSERTED, "1", ["1\t2\taccept\tAnn\n", "", ""])?;

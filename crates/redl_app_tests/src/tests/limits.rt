@@ -2,7 +2,7 @@
 use super::calls::{
     BACK, FRONT, INSERTED, add_file, call, call_surely, digest_of, files_of, journal, package,
 };
-use crate::Status;
+use redl_app::Status;
 use redl_io::{MemShelf, MemSink, SureShelf, Text};
 use std::alloc::{AllocError, Global};
 use std::test::Fail;

@@ -1,7 +1,7 @@
 //! Packages, journals and calls by hand, for the tests of all commands.
 ghost use Rattle.std.specs.Prelude.{IfOk, All, IsUtf8};
 
-use crate::{Status, add_word, run, run_surely};
+use redl_app::{Status, add_word, run, run_surely};
 use redl_io::{MemShelf, MemSink, SureShelf, Text};
 use sha2::{Digest, Sha256};
 use std::alloc::{AllocError, Global};
@@ -19,10 +19,10 @@ pub(super) const INSERTED: &str = "<w:p><w:ins{A}><w:r><w:t>a</w:t></w:r></w:ins
 
 pub(super) const INSERTED_LIVE: &str = "<w:p><w:r><w:t>a</w:t></w:r></w:p>";
 
-pub(super) const UNBUILT: Want<'static> = Want {
-    status: Status::Unbuilt,
+pub(super) const USAGE: Want<'static> = Want {
+    status: Status::Usage,
     bytes: b"",
-    lines: "redline: not built yet\n",
+    lines: "redline: cannot read the command line\n",
 };
 
 /// The package of a body, in which `{A}` stands for the attributes of Ann's revision.

@@ -1,8 +1,8 @@
 //! Calls that come to a refusal: words that are no command, files that are no package, and no journal.
 use super::calls::{
-    BACK, FRONT, INSERTED, UNBUILT, Want, add_file, digest_of, expect_call, journal, package,
+    BACK, FRONT, INSERTED, USAGE, Want, add_file, digest_of, expect_call, journal, package,
 };
-use crate::Status;
+use redl_app::Status;
 use redl_io::{MemShelf, Text};
 use std::alloc::{AllocError, Global};
 use std::process::Abort;
@@ -27,16 +27,23 @@ fn words_of_no_command_fetch_nothing(rt: HostRuntime) -> Result<(), Fail> {
         "write -P",
         "write P -J",
         "write P J ",
-        "write P --lock Ann J",
-        "join J K",
-        "list P --format tab",
+        "write P --lock",
+        "write P --lock=Ann J",
+        "write P --format tab",
+        "write --lock Ann P",
+        "join",
+        "join J -K",
+        "decide P Dee",
+        "list P --format",
+        "sample",
+        "sample 01",
         "check",
         "check ",
         "check -P",
         "check P Q",
     ] {
         let mut shelf = MemShelf::new(Vec::new(alloc), vec![in alloc; 1]?);
-        expect_call(&rt, alloc, line, &mut shelf, &[], UNBUILT)?;
+        expect_call(&rt, alloc, line, &mut shelf, &[], USAGE)?;
     }
     Ok(())
 }

@@ -1,6 +1,6 @@
 //! How much a call fetches, and how much it puts at a time.
 use super::calls::{INSERTED, digest_of, journal, package, words_of};
-use crate::{Status, run};
+use redl_app::{Status, run};
 use redl_io::{Failed, NullSink, Shelf, ShelfError, Sink};
 use std::alloc::{AllocError, Global};
 use std::test::Fail;

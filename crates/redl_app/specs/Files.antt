@@ -1,0 +1,40 @@
+-- The files that a command names.
+use Rattle.std.specs.Prelude.{ℕ, List, [], ◌∷◌, ◌++◌, Result, Ok, Err}
+use Rattle.redl_app.specs.Packages.{package_file}
+use Rattle.redl_io.specs.Shelf.{Files}
+use Rattle.redl_lines.specs.Failures.{Failure, caused, unbuilt}
+use Rattle.redl_words.specs.Commands.{Command, settle, list, write, decide, join, check, sample}
+
+-- the name of a command's package, where it has one
+abbrev pub package_of : Command → List (List ℕ)
+package_of (settle accept p) = p ∷ []
+package_of (list p format locks journals) = p ∷ []
+package_of (write p locks journals) = p ∷ []
+package_of (decide p reviewer journals locks choices) = p ∷ []
+package_of (join journals) = []
+package_of (check p) = p ∷ []
+package_of (sample number) = []
+
+-- the names of its journals
+abbrev pub journals_of : Command → List (List ℕ)
+journals_of (settle accept p) = []
+journals_of (list p format locks journals) = journals
+journals_of (write p locks journals) = journals
+journals_of (decide p reviewer journals locks choices) = journals
+journals_of (join journals) = journals
+journals_of (check p) = []
+journals_of (sample number) = []
+
+-- the names of the files that a command asks for
+abbrev pub files_of : Command → List (List ℕ)
+files_of command = package_of command ++ journals_of command
+
+-- the text of a command's package; where it has none, no text
+abbrev pub package_text : Files → Command → Result (List ℕ) Failure
+package_text files (settle accept p) = package_file files p
+package_text files (list p format locks journals) = Err (caused unbuilt)
+package_text files (write p locks journals) = package_file files p
+package_text files (decide p reviewer journals locks choices) = Err (caused unbuilt)
+package_text files (join journals) = Ok []
+package_text files (check p) = package_file files p
+package_text files (sample number) = Err (caused unbuilt)

@@ -1,0 +1,76 @@
+//! A session over a package, with the entries of journals.
+
+ghost use Rattle.std.specs.Prelude.{◌≡◌, None, All, IsUtf8, IfOk};
+ghost use Rattle.redl_app.specs.Admission.{no_admission, opened};
+ghost use Rattle.redl_app.specs.Journals.{document_of};
+ghost use Rattle.redl_app.specs.Reading.{ReadsFiles};
+ghost use Rattle.redl_app.specs.Views.{admission_view, document_view, result_view};
+ghost use Rattle.redl_rules.specs.Attributes.{broken_rule};
+ghost use Rattle.sha2.specs.Sha256.{sha256};
+
+use crate::JOURNALS_LIMIT;
+use crate::admitted::Admitted;
+use crate::document::DocumentId;
+use crate::journals::admit_journals;
+use crate::package::{number_package, read_package};
+use redl_io::{Shelf, Text};
+use redl_join::Book;
+use redl_lines::{Failure, RefusedEntries};
+use redl_opc::Package;
+use redl_session::{Locks, Session};
+use sha2::{Digest, Sha256};
+use std::alloc::{AllocError, Global};
+
+/// A session over the package with this text, with the entries of the journals of these names and with these locked authors.
+pub(crate) fn open<'a, F: Shelf>(
+    alloc: Global,
+    locks: &[Text],
+    journals: &'a [Text],
+    bytes: &[u8],
+    shelf: &mut F,
+) -> Result<Admitted, Failure<'a>>
+    requires { All IsUtf8 journals.now }
+    ensures { ReadsFiles (F.told shelf.old) (F.told shelf.new) (F.faults shelf.old) (F.faults shelf.new) journals.now
+        (result_view admission_view result) (λ reader files. opened reader files locks.now journals.now bytes.now) }
+{
+    let package = read_package(alloc, bytes)?;
+    let started = start(alloc, package, locks)?;
+    let document = DocumentId {
+        digest: digest_of(bytes),
+        count: started.refused.count,
+    };
+    admit_journals(alloc, document, journals, JOURNALS_LIMIT, started, shelf)
+}
+
+// A session over this package, before any entry.
+fn start(alloc: Global, read: Package, locks: &[Text]) -> Result<Admitted, AllocError>
+    requires { broken_rule read ≡ None }
+    ensures { IfOk result (λ started. admission_view started ≡ no_admission read locks.now) }
+{
+    let numbered = number_package(alloc, read)?;
+    let count = numbered.index.count();
+    let locks = Locks::new(copy_texts(alloc, locks)?);
+    Ok(Admitted {
+        session: Session::start(alloc, numbered.package, numbered.index, locks)?,
+        refused: RefusedEntries {
+            entries: Book::new(alloc),
+            count,
+        },
+    })
+}
+
+fn copy_texts(alloc: Global, texts: &[Text]) -> Result<Vec<Text>, AllocError>
+    ensures { IfOk result (λ copies. copies.items ≡ texts.now) }
+{
+    let mut copies = Vec::with_capacity(alloc, texts.len())?;
+    for text in texts {
+        copies.push(text.copy(alloc)?)?;
+    }
+    Ok(copies)
+}
+
+fn digest_of(bytes: &[u8]) -> [u8; 32]
+    ensures { result ≡ sha256 bytes.now }
+{
+    Sha256::digest(bytes)
+}

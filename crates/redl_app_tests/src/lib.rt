@@ -1,0 +1,5 @@
+//! Tests of redl_app, which use its public calls alone.
+#![tactic(auto)]
+
+#[cfg(test)]
+mod tests;
