@@ -1,5 +1,7 @@
 """A second reading of docs/DEFINITIONS.md: what a package and its reviewers' journals come to.
 
+    python3 reading.py PACKAGE            the revisions with their numbers, kinds, dates and authors
+
 make.py works out by it what the program is to write of the examples. It shares no code with the program, was written from
 the definitions alone, and looks at each thing anew as often as it needs it, so it is slow and short. It expects a package
 that `check` calls sound.
@@ -8,6 +10,7 @@ import datetime
 import hashlib
 import json
 import re
+import sys
 
 W = {
     "http://schemas.openxmlformats.org/wordprocessingml/2006/main",
@@ -563,3 +566,8 @@ def listed(package, entries, form, locks=()):
         "author": it.author, "date": date, "kind": it.kind, "members": it.members, "number": number, "part": it.part, "verdict": word,
     }
     return "[" + ",".join(json.dumps(row(*it), ensure_ascii=False, separators=(",", ":")) for it in rows) + "]\n"
+
+
+if __name__ == "__main__":
+    with open(sys.argv[1], newline="", encoding="utf-8") as file:
+        print(listed(Package(file.read()), [], "text"), end="")
