@@ -38,14 +38,27 @@ fn words_of(alloc: Global, line: &str) -> Result<Vec<Text>, AllocError>
     let mut words = Vec::new(alloc);
     let mut is_quoted = false;
     for piece in line.split('"') {
-        if is_quoted {
-            add_word(alloc, &mut words, piece)?;
-        } else {
-            add_words(alloc, &mut words, piece)?;
-        }
+        add_piece(alloc, &mut words, piece, is_quoted)?;
         is_quoted = !is_quoted;
     }
     Ok(words)
+}
+
+// Adds what stands between two quotes as one word, and else the words of the piece.
+fn add_piece(
+    alloc: Global,
+    words: &mut Vec<Text>,
+    piece: &str,
+    is_quoted: bool,
+) -> Result<(), AllocError>
+    requires { All IsUtf8 words.old.items }
+    ensures { All IsUtf8 words.new.items }
+{
+    if is_quoted {
+        add_word(alloc, words, piece)
+    } else {
+        add_words(alloc, words, piece)
+    }
 }
 
 fn add_words(alloc: Global, words: &mut Vec<Text>, piece: &str) -> Result<(), AllocError>
