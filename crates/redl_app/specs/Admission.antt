@@ -35,7 +35,7 @@ admission_with before entries = record {
   refused = record before.refused { entries = union before.refused.entries (refused before.state.revisions before.state.locks entries) };
 }
 
--- what becomes of the entries of the journals of these names, of at most so many bytes together
+-- what becomes of the entries of the journals of these names, of at most `most` bytes together
 abbrev pub admission_of : Reader → Files → DocumentId → Admission → ℕ → List (List ℕ) → Result Admission Failure
 admission_of reader files document before most names = do
   entries ← gathered reader files document most names

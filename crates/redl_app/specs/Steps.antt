@@ -14,10 +14,10 @@ abbrev pub held : List ℕ → Option (List ℕ) → Result (List ℕ) Failure
 held name None = Err (unread name)
 held name (Some whole) = Ok whole
 
--- a text of at most so many bytes
+-- a text of at most `most` bytes
 abbrev pub within : ℕ → Limit → List ℕ → Result (List ℕ) Failure
 within most limit whole = if nat_lt most (length whole) then Err (caused (over limit)) else Ok whole
 
--- the text of the file of this name, of at most so many bytes
+-- the text of the file of this name, of at most `most` bytes
 abbrev pub file : Files → List ℕ → ℕ → Limit → Result (List ℕ) Failure
 file files name most limit = held name (files name) >>= within most limit

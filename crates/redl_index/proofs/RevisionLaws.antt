@@ -276,7 +276,7 @@ module _ (part : ℕ) (done : List Mention) (m : Mention) where
   others-stay (f ∷ ms) apart =
       ap (λ r. r ∷ map (revision_of part (done ++ m ∷ [])) ms) (before-after f apart.0) ∙ ap (λ rs. revision_of part done f ∷ rs) (others-stay ms apart.1)
 
-  -- a move that is new is none of the others
+  -- a new move is a different one from each of the others
   apart-new : (s : ℕ) → m.move ≡ Some s → (f : Mention) → is_of s f ≡ false → joins m f.move ≡ false
   apart-new s is f e = by f.move e
     where

@@ -1,5 +1,5 @@
 //! Tables of journals by hand: texts that are no journal, texts that are written again as they were read, and one journal's
-//! entries field by field. README, "A journal", describes the form.
+//! entries field by field. docs/PROGRAMS.md describes the form.
 use redl_io::MemSink;
 use redl_journal::{Entry, JournalError, Word, read, write};
 use std::alloc::{AllocError, Global};

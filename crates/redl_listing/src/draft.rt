@@ -24,7 +24,7 @@ impl Draft {
         }
     }
 
-    /// Adds a row and its piece of the text, and keeps room for so many bytes after it. `Err` means out of memory: the row is
+    /// Adds a row and its piece of the text, and keeps room for `room` more bytes. `Err` means out of memory: the row is
     /// dropped, and the rest is as before.
     pub(crate) fn add(&mut self, row: Row, piece: &[u8], room: u32) -> Result<(), AllocError>
         ensures rows { OnOk result (self.new.rows.items ≡ self.old.rows.items ++ row ∷ []) }

@@ -20,7 +20,7 @@ or-false : (s t : Bool) → (s || t) ≡ false → (s ≡ false) × (t ≡ false
 or-false true t e = absurd cc
 or-false false t e = (refl, e)
 
--- an element that is none of the properties that may hold a change
+-- an element other than the properties that may hold a change
 record IsNoProps (tag : Tag) : Type 0 where
   para : is "pPr" tag ≡ false
   run : is "rPr" tag ≡ false

@@ -301,7 +301,7 @@ fn push_times(text: &mut Vec<u8>, part: &str, times: u32) -> Result<(), AllocErr
     Ok(())
 }
 
-// Why a text with this many start tags, then `inner` so often, and then this many end tags is refused.
+// Why a text with this many start tags, then as many times `inner`, and then as many end tags, is refused.
 fn refused(
     alloc: Global,
     starts: u32,

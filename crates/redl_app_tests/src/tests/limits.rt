@@ -7,7 +7,7 @@ use redl_io::{MemShelf, MemSink, SureShelf, Text};
 use std::alloc::{AllocError, Global};
 use std::test::Fail;
 
-// A package of so many bytes, or a little more where that is few.
+// A package of `size` bytes, or of the least possible size if that is more.
 fn long_package(alloc: Global, size: usize) -> Result<Vec<u8>, AllocError> {
     let start = b"<w:p><w:r><w:t>";
     let end = b"</w:t></w:r></w:p>";
@@ -20,7 +20,7 @@ fn long_package(alloc: Global, size: usize) -> Result<Vec<u8>, AllocError> {
     Ok(text)
 }
 
-// A journal of `P` of so many bytes: of entries of 267 bytes each and a shorter one.
+// A journal of `P` with `size` bytes: entries of 267 bytes each and a shorter one.
 fn long_journal(alloc: Global, digest: &str, size: usize) -> Result<Vec<u8>, AllocError> {
     let mut text = journal(alloc, digest, "1", "")?;
     let reviewer = [b'x'; 255];
