@@ -1,0 +1,169 @@
+//! Sessions over a package of two revisions: which entries are new, repeated and refused, and what is left of the package.
+ghost use Rattle.std.specs.Prelude.{◌≡◌, All, IfOk};
+ghost use Rattle.redl_journal.specs.Journals.{IsAllowed};
+ghost use Rattle.redl_opc.specs.Tree.{IsTree};
+ghost use Rattle.redl_tree.specs.Model.View.{nodes_of};
+
+use redl_index::Index;
+use redl_io::{MemSink, Text};
+use redl_join::Verdict;
+use redl_journal::Entry;
+use redl_opc::Package;
+use redl_rules::check;
+use redl_session::{AdmitError, Locks, Refusal, Session, Taken};
+use redl_tree::{Node, Say, write_nodes};
+use std::alloc::Global;
+use std::test::Fail;
+
+const HEAD: &[u8] =
+    b"redline-journal 1\ndocument e3b0c44298fc1c149afbf4c8996fb92427ae41e4649b934ca495991b7852b855\nrevisions 2\n";
+
+// An insertion by Ann, and one by Cy & Co.
+const PACKAGE: &[u8] =
+    b"<pkg:package xmlns:pkg='http://schemas.microsoft.com/office/2006/xmlPackage'><pkg:part pkg:name='/d' pkg:contentType='x'><pkg:xmlData><w:document xmlns:w='http://schemas.openxmlformats.org/wordprocessingml/2006/main'><w:body><w:p><w:ins w:id='1' w:author='Ann'><w:r><w:t>a</w:t></w:r></w:ins><w:ins w:id='2' w:author='Cy &amp; Co'><w:r><w:t>g</w:t></w:r></w:ins></w:p></w:body></w:document></pkg:xmlData></pkg:part></pkg:package>";
+
+// The same with the first one accepted.
+const ACCEPTED: &[u8] =
+    b"<pkg:package xmlns:pkg='http://schemas.microsoft.com/office/2006/xmlPackage'><pkg:part pkg:name='/d' pkg:contentType='x'><pkg:xmlData><w:document xmlns:w='http://schemas.openxmlformats.org/wordprocessingml/2006/main'><w:body><w:p><w:r><w:t>a</w:t></w:r><w:ins w:id='2' w:author='Cy &amp; Co'><w:r><w:t>g</w:t></w:r></w:ins></w:p></w:body></w:document></pkg:xmlData></pkg:part></pkg:package>";
+
+// The entries of a journal with these lines.
+fn entries_of(alloc: Global, lines: &[u8]) -> Result<Vec<Entry>, Fail>
+    ensures { IfOk result (λ entries. All IsAllowed entries.items) }
+{
+    let mut text = Vec::from_slice(alloc, HEAD)?;
+    text.extend_from_slice(lines)?;
+    let journal = redl_journal::read(alloc, &text)?;
+    Ok(journal.entries)
+}
+
+fn tree_of(alloc: Global, text: &[u8]) -> Result<Vec<Node>, Fail>
+    ensures { IfOk result (λ nodes. IsTree (nodes_of nodes.items)) }
+{
+    Ok(redl_xml::read(alloc, text)?)
+}
+
+fn locks_of(alloc: Global, author: &[u8]) -> Result<Locks, Fail> {
+    let mut authors = Vec::new(alloc);
+    authors.push(Text::copy_of(alloc, author)?)?;
+    Ok(Locks::new(authors))
+}
+
+// A session over the package with one locked author.
+fn session_of(alloc: Global, author: &[u8]) -> Result<Session, Fail> {
+    let locks = locks_of(alloc, author)?;
+    let mut pkg = Package::make(alloc, tree_of(alloc, PACKAGE)?)?;
+    check(alloc, &pkg)?;
+    let index = Index::build(alloc, &mut pkg)?;
+    Ok(Session::start(alloc, pkg, index, locks)?)
+}
+
+// What becomes of an entry.
+fn answer(session: &mut Session, entry: Entry) -> Result<Taken, AdmitError>
+    requires { IsAllowed entry }
+{
+    match session.admit(entry) {
+        Ok(taken) => Ok(taken),
+        Err(Refusal { why, .. }) => Err(why),
+    }
+}
+
+// What becomes of the last of these entries, and the verdict on revision 1.
+fn last_answer(alloc: Global, lines: &[u8]) -> Result<(Result<Taken, AdmitError>, Verdict), Fail> {
+    let mut session = session_of(alloc, b"Cy & Co")?;
+    let mut last = Ok(Taken::New);
+    for entry in entries_of(alloc, lines)? {
+        last = answer(&mut session, entry);
+    }
+    Ok((last, session.verdict(1)))
+}
+
+#[test]
+fn entries_are_new_repeated_or_refused(rt: HostRuntime) -> Result<(), Fail> {
+    let unknown = Err(AdmitError::Unknown);
+    for (lines, answer, verdict) in [
+        (
+            b"1\t1\taccept\tAnn\n".as_slice(),
+            Ok(Taken::New),
+            Verdict::Accept,
+        ),
+        (
+            b"1\t1\taccept\tAnn\n1\t1\taccept\tAnn\n",
+            Ok(Taken::Repeat),
+            Verdict::Accept,
+        ),
+        (
+            b"1\t1\taccept\tAnn\n1\t1\treject\tBob\n",
+            Ok(Taken::New),
+            Verdict::Disputed,
+        ),
+        (b"1\t0\taccept\tAnn\n", unknown, Verdict::Undecided),
+        (b"1\t3\taccept\tAnn\n", unknown, Verdict::Undecided),
+        (
+            b"1\t1\treject\tAnn\n1\t2\taccept\tAnn\n",
+            Err(AdmitError::Locked),
+            Verdict::Reject,
+        ),
+    ] {
+        let found = last_answer(rt.alloc(), lines)?;
+        assert!(rt; found == (answer, verdict), "{found:?}");
+    }
+    Ok(())
+}
+
+// The verdicts and the says after these entries, and how many of them were refused.
+fn decided(
+    alloc: Global,
+    author: &[u8],
+    lines: &[u8],
+) -> Result<(usize, Vec<Verdict>, bool), Fail> {
+    let mut session = session_of(alloc, author)?;
+    let refused = session.admit_many(entries_of(alloc, lines)?)?;
+    let verdicts = session.verdicts()?;
+    let kept = session.says() == [Say::Accept, Say::Keep].as_slice();
+    Ok((refused.len(), verdicts, kept))
+}
+
+#[test]
+fn the_says_are_those_of_the_verdicts(rt: HostRuntime) -> Result<(), Fail> {
+    let lines = b"1\t1\taccept\tAnn\n1\t2\taccept\tAnn\n1\t9\taccept\tAnn\n".as_slice();
+    for (author, refused, second, kept) in [
+        (b"Cy & Co".as_slice(), 2, Verdict::Undecided, true),
+        (b"Cy", 1, Verdict::Accept, false),
+    ] {
+        let found = decided(rt.alloc(), author, lines)?;
+        let same = found.0 == refused
+            && found.1.as_slice() == [Verdict::Accept, second].as_slice()
+            && found.2 == kept;
+        assert!(rt; same, "{found:?}");
+    }
+    Ok(())
+}
+
+// Whether this is what a session writes, and the text of the nodes that it leaves.
+fn leaves(alloc: Global, lines: &[u8], text: &[u8]) -> Result<(bool, bool), Fail> {
+    let mut session = session_of(alloc, b"Cy & Co")?;
+    let _refused = session.admit_many(entries_of(alloc, lines)?)?;
+    let mut out = MemSink::new(alloc, 2_000, Vec::new(alloc))?;
+    session.write(&mut out)?;
+    let written = out.bytes() == text;
+    Ok((written, has_text(alloc, session, text)?))
+}
+
+fn has_text(alloc: Global, session: Session, text: &[u8]) -> Result<bool, Fail> {
+    let mut out = MemSink::new(alloc, 2_000, Vec::new(alloc))?;
+    write_nodes(&session.into_passed()?, &mut out)?;
+    Ok(out.bytes() == text)
+}
+
+#[test]
+fn the_package_is_left_under_the_says(rt: HostRuntime) -> Result<(), Fail> {
+    for (lines, text) in [
+        (b"".as_slice(), PACKAGE),
+        (b"1\t1\taccept\tAnn\n1\t2\taccept\tAnn\n", ACCEPTED),
+        (b"1\t1\taccept\tAnn\n1\t1\treject\tAnn\n", PACKAGE),
+    ] {
+        let left = leaves(rt.alloc(), lines, text)?;
+        assert!(rt; left == (true, true), "{left:?}");
+    }
+    Ok(())
+}
