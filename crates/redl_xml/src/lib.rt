@@ -12,8 +12,10 @@ mod element;
 mod error;
 mod laws;
 mod namespaces;
+mod open_element;
 mod scope;
 mod sizes;
+mod start;
 mod survey;
 
 /// The greatest depth of an element, with the root at depth 1.

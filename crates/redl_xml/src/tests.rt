@@ -15,7 +15,7 @@ const MATH: &str = "http://schemas.openxmlformats.org/officeDocument/2006/math";
 const PACKAGE: &str = "http://schemas.microsoft.com/office/2006/xmlPackage";
 
 // The last element of these nodes.
-fn last_element(nodes: &[Node]) -> Option<&Elem> {
+fn last_element<'n, 'a>(nodes: &'n [Node<'a>]) -> Option<&'n Elem<'a>> {
     let mut last = None;
     for node in nodes {
         if let Node::Elem(elem) = node {
@@ -28,7 +28,7 @@ fn last_element(nodes: &[Node]) -> Option<&Elem> {
 // How many nodes are at the top, and how many in the root.
 fn sizes(alloc: Global, text: &str) -> Option<(usize, usize)> {
     let nodes = read(alloc, text.as_bytes()).ok()?;
-    let kids = last_element(&nodes).map(|root| root.kids.len());
+    let kids = last_element(&nodes).map(|root| root.kids().len());
     Some((nodes.len(), kids?))
 }
 
@@ -99,8 +99,8 @@ fn spaces(
     let Some(root) = last_element(&nodes) else {
         return Ok((None, None));
     };
-    let inner = last_element(&root.kids).map(|elem| elem.space);
-    Ok((Some(root.space), inner))
+    let inner = last_element(root.kids()).map(|elem| elem.space());
+    Ok((Some(root.space()), inner))
 }
 
 // A namespace with the text before and after it, whether the last element in the root is meant, and its space.
