@@ -1,4 +1,3 @@
-pub mod ElementLaws
 pub mod PartLaws
 pub mod LabelLaws
 pub mod PlaceLaws

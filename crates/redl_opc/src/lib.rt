@@ -19,6 +19,3 @@ pub use error::OpcError;
 pub use label::Label;
 pub use laws::{each_story_has_a_part, numbering_keeps_parts, stories_are_of_parts};
 pub use package::Package;
-
-#[cfg(test)]
-mod tests;

@@ -3,11 +3,11 @@
 ghost use Rattle.std.specs.Prelude.{◌≡◌, ◌+◌, ◌^◌, ◌<◌, ◌≤◌, List, slice_get};
 ghost use Rattle.redl_tree.specs.Model.Nodes.{Tag};
 ghost use Rattle.redl_tree.specs.Decisions.Packages.{level_of};
-ghost use Rattle.redl_tree.specs.Model.View.{nodes_of, item_of, tag_of, kids_of};
+ghost use Rattle.redl_tree.specs.Model.View.{nodes_of, item_of, tag_of, kids_of, held_of, spaced_of};
 ghost use Rattle.redl_opc.specs.Labels.{elements, item_elements, relabelled_tag, relabelled, relabelled_item, kids_story_elements, item_story_elements, story_elements, labelled_kids, labelled_item, labelled_in};
 
 use crate::label::Label;
-use redl_tree::{Elem, Level, Node};
+use redl_tree::{Body, Elem, Level, Node, Spaced};
 
 /// Labels the elements below the roots of stories among nodes at a level, from the label at `at` on.
 #[cycle(stories)]
@@ -49,11 +49,40 @@ fn label_kids(elem: &mut Elem, level: Level, labels: &[Label], at: &mut usize)
         → kids_of elem.new ≡ labelled_kids labels.now at.old around (tag_of elem.old) (kids_of elem.old) }
 {
     if level.is_root(elem) {
-        set_labels(&mut elem.kids, labels, at);
+        set_in_body(&mut elem.body, labels, at);
     } else {
         let below = level.below(elem);
-        label_nodes(&mut elem.kids, below, labels, at);
+        label_body(&mut elem.body, below, labels, at);
     }
+}
+
+#[cycle(stories)]
+fn label_body(body: &mut Body, level: Level, labels: &[Label], at: &mut usize)
+    requires { at.old + elements (held_of body.old).kids < 2 ^ 64 }
+    ensures at_most { at.new ≤ at.old + elements (held_of body.old).kids }
+    ensures at { (around : List Tag) → level ≡ level_of around → at.new ≡ at.old + story_elements around (held_of body.old).kids }
+    ensures close { (held_of body.new).close ≡ (held_of body.old).close }
+    ensures kids { (around : List Tag) → level ≡ level_of around
+        → (held_of body.new).kids ≡ labelled_in labels.now at.old around (held_of body.old).kids }
+{
+    match body {
+        Body::Empty => {}
+        Body::Kids(kids) => label_nodes(kids, level, labels, at),
+        Body::Spaced(spaced) => label_spaced(spaced, level, labels, at),
+    }
+}
+
+// Apart from `label_body`, since a write through a box in a variant is proved in two steps.
+#[cycle(stories)]
+fn label_spaced(spaced: &mut Box<Spaced>, level: Level, labels: &[Label], at: &mut usize)
+    requires { at.old + elements (spaced_of spaced.old.value).kids < 2 ^ 64 }
+    ensures at_most { at.new ≤ at.old + elements (spaced_of spaced.old.value).kids }
+    ensures at { (around : List Tag) → level ≡ level_of around → at.new ≡ at.old + story_elements around (spaced_of spaced.old.value).kids }
+    ensures close { (spaced_of spaced.new.value).close ≡ (spaced_of spaced.old.value).close }
+    ensures kids { (around : List Tag) → level ≡ level_of around
+        → (spaced_of spaced.new.value).kids ≡ labelled_in labels.now at.old around (spaced_of spaced.old.value).kids }
+{
+    label_nodes(&mut spaced.kids, level, labels, at);
 }
 
 /// Gives the elements their labels, in the order of their start tags, from the label at `at` on.
@@ -89,9 +118,32 @@ fn set_in_elem(elem: &mut Elem, labels: &[Label], at: &mut usize)
     ensures kids { kids_of elem.new ≡ relabelled labels.now (at.old + 1) (kids_of elem.old) }
 {
     if let Some(label) = labels.get(*at) {
-        elem.kind = label.kind;
-        elem.rev = label.rev;
+        elem.tag.set_label(label.kind, label.rev);
     }
     *at += 1;
-    set_labels(&mut elem.kids, labels, at);
+    set_in_body(&mut elem.body, labels, at);
+}
+
+#[cycle(labels)]
+fn set_in_body(body: &mut Body, labels: &[Label], at: &mut usize)
+    requires { at.old + elements (held_of body.old).kids < 2 ^ 64 }
+    ensures at { at.new ≡ at.old + elements (held_of body.old).kids }
+    ensures close { (held_of body.new).close ≡ (held_of body.old).close }
+    ensures kids { (held_of body.new).kids ≡ relabelled labels.now at.old (held_of body.old).kids }
+{
+    match body {
+        Body::Empty => {}
+        Body::Kids(kids) => set_labels(kids, labels, at),
+        Body::Spaced(spaced) => set_in_spaced(spaced, labels, at),
+    }
+}
+
+#[cycle(labels)]
+fn set_in_spaced(spaced: &mut Box<Spaced>, labels: &[Label], at: &mut usize)
+    requires { at.old + elements (spaced_of spaced.old.value).kids < 2 ^ 64 }
+    ensures at { at.new ≡ at.old + elements (spaced_of spaced.old.value).kids }
+    ensures close { (spaced_of spaced.new.value).close ≡ (spaced_of spaced.old.value).close }
+    ensures kids { (spaced_of spaced.new.value).kids ≡ relabelled labels.now at.old (spaced_of spaced.old.value).kids }
+{
+    set_labels(&mut spaced.kids, labels, at);
 }
