@@ -45,7 +45,7 @@ impl<'a> Model for Tag<'a> {
     ghost invariant = { IsCutTag };
 }
 
-// The local name in a start tag with this text, whose prefix and name have so many bytes.
+// The local name in a start tag with this text, where the prefix has `prefix` bytes and the name `name` bytes.
 fn local_read(text: &[u8], prefix: u32, name: u32) -> &[u8]
     requires { IsCut text.now prefix name }
     ensures { result.now ≡ local_in text.now prefix name }

@@ -8,7 +8,7 @@ use redl_tree::{
 use std::alloc::{AllocError, Global};
 use std::test::Fail;
 
-// A start tag with this text, whose prefix and name have so many bytes.
+// A start tag with this text, where the prefix has `prefix` bytes and the name `name` bytes.
 fn tag(text: &str, prefix: u32, name: u32, space: Space) -> Option<Tag<'_>> {
     let text = text.as_bytes();
     if name as usize > text.len() {

@@ -13,11 +13,11 @@ pub record Start : Type 0 where
   pub kind : Kind
   pub rev : ℕ
 
--- how many bytes come before the local name, where a prefix has so many: the prefix and its colon
+-- how many bytes come before the local name, where the prefix has `prefix` bytes: these and its colon
 abbrev pub before_local : ℕ → ℕ
 before_local prefix = if prefix == 0 then 0 else prefix + 1
 
--- the local name in a start tag, where the prefix and the name have so many bytes
+-- the local name in a start tag, where the prefix has `prefix` bytes and the name `name` bytes
 abbrev pub local_in : List ℕ → ℕ → ℕ → List ℕ
 local_in text prefix name = drop (before_local prefix) (take name text)
 
