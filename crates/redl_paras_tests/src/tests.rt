@@ -12,7 +12,7 @@ use redl_tree::{Elem, Node, Space, Tag, write_nodes};
 use std::alloc::{AllocError, Global};
 use std::test::Fail;
 
-// A start tag with this text, whose name has so many bytes.
+// A start tag with this text, whose name has `name` bytes.
 fn tag(text: &[u8], name: u32) -> Option<Tag<'_>> {
     if name as usize > text.len() {
         return None;
