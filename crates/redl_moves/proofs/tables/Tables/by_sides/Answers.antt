@@ -3,7 +3,7 @@ use Rattle.redl_moves.specs.Marks.{markings, move_of}
 use Rattle.redl_moves.specs.Owners.{owner_over}
 use Rattle.redl_moves.specs.declared.marker.Move.{Move}
 use Rattle.redl_moves.proofs.StoryLaws.{tables-are}
-use Rattle.redl_moves.proofs.tables.Tables.of.Goals as goal
+use Rattle.redl_moves.proofs.tables.Tables.by_sides.Goals as goal
 
 pub returns : goal.returns
 returns c =
