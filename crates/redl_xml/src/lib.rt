@@ -27,6 +27,3 @@ pub const NODE_LIMIT: u32 = 2_097_152;
 pub use document::read;
 pub use error::XmlError;
 pub use laws::{one_tree, tails_are_legal};
-
-#[cfg(test)]
-mod tests;
