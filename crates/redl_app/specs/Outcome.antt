@@ -26,13 +26,16 @@ written_by reader files formats (join journals) whole = joined reader files jour
 written_by reader files formats (check p) whole = checked reader whole
 written_by reader files formats (sample number) whole = Err (caused unbuilt)
 
+-- what a command writes, where the format that it asks for is there
+abbrev pub writing_by : Reader → Files → List Format → Command → Result Writing Failure
+writing_by reader files formats command = package_text files command >>= written_by reader files formats command
+
 -- what is written, or why nothing is: the first cause, in the order of the words, the format, the package and the journals
 abbrev pub writing_of : Reader → Files → List Format → Option Command → Result Writing Failure
 writing_of reader files formats None = Err (caused usage)
 writing_of reader files formats (Some command) = do
   there ← has_format formats command
-  whole ← package_text files command
-  written_by reader files formats command whole
+  writing_by reader files formats command
 
 -- What a call with these words over these files and formats comes to.
 abbrev pub outcome : Reader → List (List ℕ) → Files → List Format → Outcome

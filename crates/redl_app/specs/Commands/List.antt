@@ -27,9 +27,14 @@ session_rows state = rows_of (part_names state.nodes) state.revisions (verdicts_
 abbrev pub listing : Admission → Format → Writing
 listing admission format = record { bytes = format.text (session_rows admission.state); refused = admission.refused }
 
--- what is written of the package with this text, in the first format that has the name
+-- the same in the first format that has the name
+abbrev pub listing_named : List Format → List ℕ → Admission → Result Writing Failure
+listing_named formats name admission = do
+  format ← format_named formats name
+  Ok (listing admission format)
+
+-- what is written of the package with this text
 abbrev pub listed : Reader → Files → List Format → List ℕ → List (List ℕ) → List (List ℕ) → List ℕ → Result Writing Failure
 listed reader files formats name locks journals whole = do
   admission ← opened reader files locks journals whole
-  format ← format_named formats name
-  Ok (listing admission format)
+  listing_named formats name admission
