@@ -1,5 +1,5 @@
 -- Formats by their names, and what is left of their list.
-use Rattle.std.proofs.Common.{◌≡◌, ◌⊎◌, ◌+◌, ◌<◌, ◌≤◌, inl, inr, ℕ, length, get_or, drop, List, [], ◌∷◌, ◌++◌, Bool, true, false, Option, None, Some, map, Result, Ok, Err, refl, sym, ap, ◌∙◌, subst, cond}
+use Rattle.std.proofs.Common.{◌≡◌, ◌+◌, ◌<◌, ◌≤◌, inl, inr, ℕ, length, get_or, drop, List, [], ◌∷◌, Bool, true, false, Option, None, Some, Result, Ok, Err, refl, sym, ap, ◌∙◌, subst, cond}
 use Rattle.std.proofs.lemmas.List.{drop_all}
 use Rattle.std.proofs.lemmas.List.FromFn.{length-map-range_with_len}
 use Rattle.std.specs.Option.{option_map}
@@ -10,17 +10,15 @@ use Rattle.redl_app.specs.Admission.{Admission}
 use Rattle.redl_app.specs.Commands.List.{listing, listing_named, part_names, session_rows}
 use Rattle.redl_app.specs.Files.{where_ok}
 use Rattle.redl_app.specs.Finishing.{Ends, Finishes}
-use Rattle.redl_app.specs.Formats.{Format, LeavesFormats, format_named, formats_by, found_format, has_format, whether, without_asked}
+use Rattle.redl_app.specs.Formats.{Format, LeavesFormats, format_named, formats_by, found_format, has_format, whether}
 use Rattle.redl_app.specs.Readers.{Reader}
-use Rattle.redl_app.specs.Reading.{IsMade, IsUnread, NeverUnread, ReadsFiles, Reads, UnlessUnread}
+use Rattle.redl_app.specs.Reading.{IsMade, IsUnread, NeverUnread, Reads, UnlessUnread}
 use Rattle.redl_app.specs.Steps.{◌>>=◌}
 use Rattle.redl_app.specs.Writing.{Writing, outcome_of}
 use Rattle.redl_io.specs.Shelf.{Files}
 use Rattle.redl_journal.specs.declared.entry.Entry.{Entry}
-use Rattle.redl_lines.specs.Ends.{End, RefusedEntries, end_status, failed, written_status}
+use Rattle.redl_lines.specs.Ends.{End, end_status, failed, written_status}
 use Rattle.redl_lines.specs.Failures.{Failure, caused, unread, no_memory, no_format, failure_status}
-use Rattle.redl_lines.specs.declared.status.Status.{Status}
-use Rattle.redl_lines.specs.declared.status.Status.TheVariants as status
 use Rattle.redl_listing.proofs.NameLaws.{named_here, named_later}
 use Rattle.redl_listing.specs.Formats.{IsListed, first_named}
 use Rattle.redl_index.specs.declared.revision.Revision.{Revision}
@@ -203,3 +201,10 @@ ends_at_once told f out count there names next failure is never = rw is (record 
   };
   finishes = (refl, refl, refl);
 })
+
+-- the format is there, and the call goes on
+pub ends_after : {told told_new : Option Files} {f f_new : ℕ} {out out_new : Option (List ℕ)} {before now : ℕ} (end : End) (there : Result (Unit {0}) Failure) (names : List (List ℕ))
+    (next : Reader → Files → Result Writing Failure) (found : Unit {0}) → there ≡ Ok found
+    → Ends told told_new f f_new out out_new before now names next end
+    → Ends told told_new f f_new out out_new before now (where_ok there names) (λ reader files. there >>= (λ one. next reader files)) end
+ends_after end there names next found is ends = rw is ends

@@ -1,10 +1,10 @@
 -- What a call answers and leaves behind, by how it ended.
-use Rattle.std.proofs.Common.{◌≡◌, ◌≢◌, inl, inr, ℕ, List, [], ◌∷◌, ◌++◌, Option, None, Some, Contains, Result, Ok, Err, refl, sym, ap, ◌∙◌, subst, arith}
+use Rattle.std.proofs.Common.{◌≡◌, ◌≢◌, inl, inr, ℕ, List, [], ◌∷◌, ◌++◌, Option, Contains, Result, Ok, Err, refl, sym, ap, ◌∙◌, subst}
 use Rattle.std.specs.Io.KnownBytes.{append_known}
 use Rattle.redl_app.proofs.ReadLaws.{if_some}
 use Rattle.redl_app.specs.Answers.{OfOutcome, IsAnswer, IsWritten, Writes, IsFileOf, AreLines, MayFault}
 use Rattle.redl_app.specs.Finishing.{Ends, Finishes}
-use Rattle.redl_app.specs.Formats.{Format, LeavesFormats}
+use Rattle.redl_app.specs.Formats.{Format}
 use Rattle.redl_app.specs.Readers.{Reader}
 use Rattle.redl_lines.specs.Ends.{End, end_status, end_lines, written_status, refused_lines}
 use Rattle.redl_app.specs.Outcome.{writing_of}

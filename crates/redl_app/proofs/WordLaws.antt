@@ -1,5 +1,5 @@
 -- How a call ends, by the words as they were read.
-use Rattle.std.proofs.Common.{◌≡◌, ◌⊎◌, inl, inr, ℕ, List, [], Option, Some, Contains, Result, Ok, Err, IfOk, IfErr, IsErrOf, refl, sym, ap, ◌∙◌, subst, arith}
+use Rattle.std.proofs.Common.{◌≡◌, ◌⊎◌, inl, inr, ℕ, List, [], Option, Result, Ok, Err, IfOk, IfErr, IsErrOf, refl, ap, subst, arith}
 use Rattle.redl_app.proofs.ReadLaws.{always, reads_when, reads_no_memory}
 use Rattle.redl_app.proofs.ReaderLaws.{reads_command, reads_no_command}
 use Rattle.redl_app.proofs.TopLaws.{AreNamed, due_by}

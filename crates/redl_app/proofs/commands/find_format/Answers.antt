@@ -1,4 +1,4 @@
-use Rattle.std.proofs.Common.{◌≡◌, arith, sym}
+use Rattle.std.proofs.Common.{arith, sym}
 use Rattle.redl_app.proofs.FormatLaws.{found_at, not_found_at, not_found}
 use Rattle.redl_app.proofs.commands.find_format.Goals as goal
 

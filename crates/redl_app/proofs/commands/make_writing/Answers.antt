@@ -8,7 +8,7 @@ pub list-requires-clause-utf8 : goal.list-requires-clause-utf8
 list-requires-clause-utf8 g c = rw c.deref-in-List.ensures.value (rw c.in-List.is at c.requires.utf8).3
 
 pub write-requires : goal.write-requires
-write-requires g c = rw c.deref-in-Write.ensures.value (rw c.in-Write.is at c.requires.utf8).2
+write-requires g c = rw c.deref-in-Write-2.ensures.value (rw c.in-Write.is at c.requires.utf8).2
 
 pub join-requires : goal.join-requires
 join-requires g c = rw c.deref-in-Join.ensures.value (rw c.in-Join.is at c.requires.utf8)
@@ -21,7 +21,7 @@ returns-in-List-clause-read g c =
     rw c.in-List.is (rw (c.name_of.ensures, c.deref.ensures.value, c.deref-in-List.ensures.value) at c.list.ensures.read)
 
 pub returns-in-Write-clause-read : goal.returns-in-Write-clause-read
-returns-in-Write-clause-read g c = rw c.in-Write.is (rw (c.deref.ensures.value, c.deref-in-Write.ensures.value) at c.write.ensures)
+returns-in-Write-clause-read g c = rw c.in-Write.is (rw (c.deref-in-Write.ensures.value, c.deref-in-Write-2.ensures.value) at c.write.ensures)
 
 pub returns-in-Join-clause-read : goal.returns-in-Join-clause-read
 returns-in-Join-clause-read g c = rw c.in-Join.is (rw c.deref-in-Join.ensures.value at c.join.ensures)

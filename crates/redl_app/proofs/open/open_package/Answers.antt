@@ -1,4 +1,4 @@
-use Rattle.std.proofs.Common.{◌≡◌, ◌∙◌, ap}
+use Rattle.std.proofs.Common.{ap}
 use Rattle.redl_app.proofs.OpenLaws.{same_document, opens}
 use Rattle.redl_app.specs.Admission.{Admission, no_admission}
 use Rattle.redl_app.specs.Journals.{document_of}

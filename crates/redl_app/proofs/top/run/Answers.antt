@@ -1,4 +1,4 @@
-use Rattle.std.proofs.Common.{◌≡◌, ◌∙◌, sym, ap, ◌⊎◌, inl, inr, ℕ, List}
+use Rattle.std.proofs.Common.{◌≡◌, ◌∙◌, sym, ℕ, List}
 use Rattle.redl_app.proofs.TopLaws.{due_by, answers, writes, tells, read_cause, write_cause, out_stands, untouched, shelf_stands}
 use Rattle.redl_app.proofs.WordLaws.{are_named, is_wanted, ends_as_usage, leaves_by_words, leaves_all}
 use Rattle.redl_lines.specs.Ends.{Tells, end_view}

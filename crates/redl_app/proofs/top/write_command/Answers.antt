@@ -1,4 +1,4 @@
-use Rattle.std.proofs.Common.{Err, Some, refl}
+use Rattle.std.proofs.Common.{Err, refl}
 use Rattle.std.proofs.lemmas.List.Elements.{Contains-append_left, Contains-append_right}
 use Rattle.redl_app.proofs.FormatLaws.{leaves_end, leaves_failed}
 use Rattle.redl_app.proofs.ReadLaws.{reads_then, reads_stops}

@@ -1,12 +1,10 @@
-use Rattle.std.proofs.Common.{◌≡◌, ◌∙◌, refl, sym, subst, All, IsUtf8}
+use Rattle.std.proofs.Common.{◌∙◌, sym, subst, All, IsUtf8}
 use Rattle.std.proofs.lemmas.Result.{err_from_is_err_and}
-use Rattle.redl_app.proofs.FormatLaws.{leaves_failed}
 use Rattle.redl_app.proofs.PartNameLaws.{session_names, revisions_named}
 use Rattle.redl_app.proofs.ReadLaws.{reads_stops, reads_then_takes, takes_stops_reads, takes_then_reads}
 use Rattle.redl_app.specs.Admission.{opened_over}
 use Rattle.redl_app.specs.Commands.List.{listing_named}
 use Rattle.redl_app.specs.Formats.{formats_by}
-use Rattle.redl_lines.specs.Failures.{failure_view}
 use Rattle.redl_app.proofs.commands.list.list.Goals as goal
 
 pub returns-in_err-package-clause-read : goal.returns-in_err-package-clause-read

@@ -1,4 +1,4 @@
-use Rattle.std.proofs.Common.{◌≡◌, ◌∙◌, ap, sym, length, true, rules}
+use Rattle.std.proofs.Common.{◌∙◌, ap, sym, length, true, rules}
 use Rattle.redl_app.proofs.FormatLaws.{reads_listing, reads_no_listing, verdicts_for}
 use Rattle.redl_app.specs.Views.{admission_view}
 use Rattle.redl_listing.specs.Rows.{rows_of}
