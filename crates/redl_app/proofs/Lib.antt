@@ -9,4 +9,6 @@ pub mod PackageLaws
 pub mod TopLaws
 pub mod ReaderLaws
 pub mod WordLaws
+pub mod FormatLaws
+pub mod PartNameLaws
 mod LeftLaws

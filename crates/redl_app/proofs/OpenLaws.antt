@@ -1,11 +1,10 @@
 -- A session over a package and its journals, and the union of journals.
-use Rattle.std.proofs.Common.{◌≡◌, ◌<◌, ◌≤◌, ◌-◌, ℕ, List, [], ◌∷◌, length, take, drop, get_or, Option, Result, Ok, Err, refl, sym, ap, ◌∙◌, subst, arith}
+use Rattle.std.proofs.Common.{◌≡◌, ◌<◌, ◌≤◌, ◌-◌, ℕ, List, [], ◌∷◌, length, take, drop, get_or, Option, Result, Err, refl, ap, ◌∙◌, subst, arith}
 use Rattle.std.proofs.lemmas.List.{take_all}
 use Rattle.redl_app.proofs.ReadLaws.{always}
-use Rattle.redl_app.specs.Admission.{Admission, no_admission, admission_of}
+use Rattle.redl_app.specs.Admission.{Admission, admission_of}
 use Rattle.redl_app.specs.Commands.Join.{joined}
 use Rattle.redl_app.specs.Journals.{DocumentId, document_of}
-use Rattle.redl_app.specs.Readers.{Reader}
 use Rattle.redl_app.specs.Reading.{ReadsFiles}
 use Rattle.redl_app.specs.Writing.{Writing}
 use Rattle.redl_index.specs.Numbers.{package_revisions}

@@ -1,9 +1,10 @@
 -- What a call answers and leaves behind, by how it ended.
-use Rattle.std.proofs.Common.{◌≡◌, ◌≢◌, inl, inr, ℕ, List, [], ◌∷◌, ◌++◌, Option, None, Some, Contains, Result, Ok, Err, refl, sym, ap, ◌∙◌, subst, arith}
+use Rattle.std.proofs.Common.{◌≡◌, ◌≢◌, inl, inr, ℕ, List, [], ◌∷◌, ◌++◌, Option, Contains, Result, Ok, Err, refl, sym, ap, ◌∙◌, subst}
 use Rattle.std.specs.Io.KnownBytes.{append_known}
 use Rattle.redl_app.proofs.ReadLaws.{if_some}
 use Rattle.redl_app.specs.Answers.{OfOutcome, IsAnswer, IsWritten, Writes, IsFileOf, AreLines, MayFault}
 use Rattle.redl_app.specs.Finishing.{Ends, Finishes}
+use Rattle.redl_app.specs.Formats.{Format}
 use Rattle.redl_app.specs.Readers.{Reader}
 use Rattle.redl_lines.specs.Ends.{End, end_status, end_lines, written_status, refused_lines}
 use Rattle.redl_app.specs.Outcome.{writing_of}
@@ -80,58 +81,58 @@ writes_by old new before now (Ok writing) end due failed (inr (is, front)) h =
 writes_by old new before now (Err failure) end due failed (is, told, stands) h =
     rw is (writes_nothing failure old new (outcome_of due).bytes told)
 
-lines_written : (refused : List Entry) (o : Outcome) (words : List (List ℕ)) (r : Type 0) (lines : List ℕ) → lines ≡ o.lines → AreLines (written_status refused) o words r lines
-lines_written [] o words r lines is = is
-lines_written (entry ∷ refused) o words r lines is = is
+lines_written : (refused : List Entry) (o : Outcome) (words : List (List ℕ)) (formats : List Format) (r : Type 0) (lines : List ℕ) → lines ≡ o.lines → AreLines (written_status refused) o words formats r lines
+lines_written [] o words formats r lines is = is
+lines_written (entry ∷ refused) o words formats r lines is = is
 
 -- these are names of files that the words ask for
-abbrev pub AreNamed : List (List ℕ) → List (List ℕ) → Type 0
-AreNamed words names = (name : List ℕ) → Contains names name → IsFileOf words name
+abbrev pub AreNamed : List (List ℕ) → List Format → List (List ℕ) → Type 0
+AreNamed words formats names = (name : List ℕ) → Contains names name → IsFileOf words formats name
 
-lines_failed : (failure : Failure) (due : Result Writing Failure) (words names : List (List ℕ)) (told : Option Files) (failed : Type 0) → AreNamed words names
+lines_failed : (failure : Failure) (due : Result Writing Failure) (words : List (List ℕ)) (formats : List Format) (names : List (List ℕ)) (told : Option Files) (failed : Type 0) → AreNamed words formats names
     → IsMade {Y = Writing} (Err failure) due failed → IsUnread {Y = Writing} (Err failure) names told failed
-    → AreLines (failure_status failure) (outcome_of due) words failed (failure_line failure)
-lines_failed no_memory due words names told failed named h u = refl
-lines_failed (unread name) due words names told failed named (inl h) (among, cause) = inr (h, (name, named name among, refl))
-lines_failed (unread name) due words names told failed named (inr h) u =
+    → AreLines (failure_status failure) (outcome_of due) words formats failed (failure_line failure)
+lines_failed no_memory due words formats names told failed named h u = refl
+lines_failed (unread name) due words formats names told failed named (inl h) (among, cause) = inr (h, (name, named name among, refl))
+lines_failed (unread name) due words formats names told failed named (inr h) u =
     inl (ap (λ d. (outcome_of d).status) h, sym (ap (λ d. (outcome_of d).lines) h))
-lines_failed (caused cause) due words names told failed named h u =
+lines_failed (caused cause) due words formats names told failed named h u =
     let is : failure_line (caused cause) ≡ (outcome_of due).lines = sym (ap (λ d. (outcome_of d).lines) h) in
-    by_cause (λ s. AreLines s (outcome_of due) words failed (failure_line (caused cause))) is is is is is is cause
+    by_cause (λ s. AreLines s (outcome_of due) words formats failed (failure_line (caused cause))) is is is is is is cause
 
-pub lines_by : (old new : Option (List ℕ)) (before now : ℕ) (made : Result Writing Failure) (end : End) (due : Result Writing Failure) (words names : List (List ℕ)) (told : Option Files) (failed : Type 0)
-    → AreNamed words names → Finishes old new before now made end → IsMade made due failed → IsUnread made names told failed
-    → AreLines (end_status end) (outcome_of due) words failed (end_lines end)
-lines_by old new before now (Ok writing) end due words names told failed named (inl (is, all)) h u =
-    rw is (lines_written writing.refused.entries (outcome_of due) words failed (refused_lines writing.refused) (sym (ap (λ d. (outcome_of d).lines) h)))
-lines_by old new before now (Ok writing) end due words names told failed named (inr (is, front)) h u =
+pub lines_by : (old new : Option (List ℕ)) (before now : ℕ) (made : Result Writing Failure) (end : End) (due : Result Writing Failure) (words : List (List ℕ)) (formats : List Format) (names : List (List ℕ)) (told : Option Files) (failed : Type 0)
+    → AreNamed words formats names → Finishes old new before now made end → IsMade made due failed → IsUnread made names told failed
+    → AreLines (end_status end) (outcome_of due) words formats failed (end_lines end)
+lines_by old new before now (Ok writing) end due words formats names told failed named (inl (is, all)) h u =
+    rw is (lines_written writing.refused.entries (outcome_of due) words formats failed (refused_lines writing.refused) (sym (ap (λ d. (outcome_of d).lines) h)))
+lines_by old new before now (Ok writing) end due words formats names told failed named (inr (is, front)) h u =
     rw is (ap (λ l. l ++ unwritten_line) (sym (ap (λ d. (outcome_of d).lines) h)))
-lines_by old new before now (Err failure) end due words names told failed named (is, same, stands) h u =
-    rw is (lines_failed failure due words names told failed named h u)
+lines_by old new before now (Err failure) end due words formats names told failed named (is, same, stands) h u =
+    rw is (lines_failed failure due words formats names told failed named h u)
 
 -- ---- whatever the shelf tells
 
 -- what is due by the words
-abbrev pub due_by : List (List ℕ) → Reader → Files → Result Writing Failure
-due_by words reader files = writing_of reader files (reader.command words)
+abbrev pub due_by : List (List ℕ) → List Format → Reader → Files → Result Writing Failure
+due_by words formats reader files = writing_of reader files formats (reader.command words)
 
-pub answers : {told told_new : Option Files} {f f_new : ℕ} {words names : List (List ℕ)} {old new : Option (List ℕ)} {before now : ℕ} {end : End}
-    → Ends told told_new f f_new old new before now names (due_by words) end → OfOutcome told words (λ o. IsAnswer (end_status end) o (Rose f f_new) (Rose before now))
-answers {told} {f = f} {f_new = f_new} {words = words} {old = old} {new = new} {before = before} {now = now} {end = end} ends =
-    if_some told (λ files h reader is. answer_by old new before now ends.made end (due_by words reader files) (Rose f f_new) ends.finishes (h reader is)) ends.reads.as_due
+pub answers : (formats : List Format) {told told_new : Option Files} {f f_new : ℕ} {words : List (List ℕ)} {names : List (List ℕ)} {old new : Option (List ℕ)} {before now : ℕ} {end : End}
+    → Ends told told_new f f_new old new before now names (due_by words formats) end → OfOutcome told words formats (λ o. IsAnswer (end_status end) o (Rose f f_new) (Rose before now))
+answers formats {told} {f = f} {f_new = f_new} {words = words} {old = old} {new = new} {before = before} {now = now} {end = end} ends =
+    if_some told (λ files h reader is. answer_by old new before now ends.made end (due_by words formats reader files) (Rose f f_new) ends.finishes (h reader is)) ends.reads.as_due
 
-pub writes : {told told_new : Option Files} {f f_new : ℕ} {words names : List (List ℕ)} {old new : Option (List ℕ)} {before now : ℕ} {end : End}
-    → Ends told told_new f f_new old new before now names (due_by words) end → OfOutcome told words (λ o. Writes (end_status end) old new o.bytes)
-writes {told} {f = f} {f_new = f_new} {words = words} {old = old} {new = new} {before = before} {now = now} {end = end} ends =
-    if_some told (λ files h reader is. writes_by old new before now ends.made end (due_by words reader files) (Rose f f_new) ends.finishes (h reader is)) ends.reads.as_due
+pub writes : (formats : List Format) {told told_new : Option Files} {f f_new : ℕ} {words : List (List ℕ)} {names : List (List ℕ)} {old new : Option (List ℕ)} {before now : ℕ} {end : End}
+    → Ends told told_new f f_new old new before now names (due_by words formats) end → OfOutcome told words formats (λ o. Writes (end_status end) old new o.bytes)
+writes formats {told} {f = f} {f_new = f_new} {words = words} {old = old} {new = new} {before = before} {now = now} {end = end} ends =
+    if_some told (λ files h reader is. writes_by old new before now ends.made end (due_by words formats reader files) (Rose f f_new) ends.finishes (h reader is)) ends.reads.as_due
 
-pub tells : (Told : List ℕ → Type 0) {told told_new : Option Files} {f f_new : ℕ} {words names : List (List ℕ)} {old new : Option (List ℕ)} {before now : ℕ} {end : End} → AreNamed words names
-    → Ends told told_new f f_new old new before now names (due_by words) end → Told (end_lines end)
-    → OfOutcome told words (λ o. (lines : List ℕ) × AreLines (end_status end) o words (Rose f f_new) lines × Told lines)
-tells Told {told} {f = f} {f_new = f_new} {words = words} {names = names} {old = old} {new = new} {before = before} {now = now} {end = end} named ends h =
+pub tells : (Told : List ℕ → Type 0) {told told_new : Option Files} {f f_new : ℕ} {words : List (List ℕ)} {formats : List Format} {names : List (List ℕ)} {old new : Option (List ℕ)} {before now : ℕ} {end : End} → AreNamed words formats names
+    → Ends told told_new f f_new old new before now names (due_by words formats) end → Told (end_lines end)
+    → OfOutcome told words formats (λ o. (lines : List ℕ) × AreLines (end_status end) o words formats (Rose f f_new) lines × Told lines)
+tells Told {told} {f = f} {f_new = f_new} {words = words} {formats = formats} {names = names} {old = old} {new = new} {before = before} {now = now} {end = end} named ends h =
     if_some told (λ files made_is reader is. (
       end_lines end,
-      lines_by old new before now ends.made end (due_by words reader files) words names told (Rose f f_new) named ends.finishes (made_is reader is) ends.reads.unread,
+      lines_by old new before now ends.made end (due_by words formats reader files) words formats names told (Rose f f_new) named ends.finishes (made_is reader is) ends.reads.unread,
       h,
     )) ends.reads.as_due
 
@@ -145,23 +146,23 @@ not_read_fault : {Holds : Type 0} (cause : Cause) → cause_status cause ≡ sta
 not_read_fault cause is =
     absurd (by_cause (λ s. s ≡ status.ReadFault → ⊥) (λ e. absurd (cc e)) (λ e. absurd (cc e)) (λ e. absurd (cc e)) (λ e. absurd (cc e)) (λ e. absurd (cc e)) (λ e. absurd (cc e)) cause is)
 
-may_fault : (failure : Failure) (words names : List (List ℕ)) (told : Option Files) (failed : Type 0) → AreNamed words names
-    → IsUnread {Y = Writing} (Err failure) names told failed → failure_status failure ≡ status.ReadFault → MayFault words told failed
-may_fault no_memory words names told failed named u is = absurd (cc is)
-may_fault (unread name) words names told failed named (among, h) is = (name, named name among, h)
-may_fault (caused cause) words names told failed named u is = not_read_fault cause is
+may_fault : (failure : Failure) (words : List (List ℕ)) (formats : List Format) (names : List (List ℕ)) (told : Option Files) (failed : Type 0) → AreNamed words formats names
+    → IsUnread {Y = Writing} (Err failure) names told failed → failure_status failure ≡ status.ReadFault → MayFault words formats told failed
+may_fault no_memory words formats names told failed named u is = absurd (cc is)
+may_fault (unread name) words formats names told failed named (among, h) is = (name, named name among, h)
+may_fault (caused cause) words formats names told failed named u is = not_read_fault cause is
 
-read_by : (old new : Option (List ℕ)) (before now : ℕ) (made : Result Writing Failure) (end : End) (words names : List (List ℕ)) (told : Option Files) (failed : Type 0) → AreNamed words names
-    → Finishes old new before now made end → IsUnread made names told failed → end_status end ≡ status.ReadFault → MayFault words told failed
-read_by old new before now (Ok writing) end words names told failed named (inl (is, all)) u fault = absurd (no_read_fault writing.refused.entries (sym (ap end_status is) ∙ fault))
-read_by old new before now (Ok writing) end words names told failed named (inr (is, front)) u fault = absurd (cc (sym (ap end_status is) ∙ fault))
-read_by old new before now (Err failure) end words names told failed named (is, same, stands) u fault =
-    may_fault failure words names told failed named u (sym (ap end_status is) ∙ fault)
+read_by : (old new : Option (List ℕ)) (before now : ℕ) (made : Result Writing Failure) (end : End) (words : List (List ℕ)) (formats : List Format) (names : List (List ℕ)) (told : Option Files) (failed : Type 0) → AreNamed words formats names
+    → Finishes old new before now made end → IsUnread made names told failed → end_status end ≡ status.ReadFault → MayFault words formats told failed
+read_by old new before now (Ok writing) end words formats names told failed named (inl (is, all)) u fault = absurd (no_read_fault writing.refused.entries (sym (ap end_status is) ∙ fault))
+read_by old new before now (Ok writing) end words formats names told failed named (inr (is, front)) u fault = absurd (cc (sym (ap end_status is) ∙ fault))
+read_by old new before now (Err failure) end words formats names told failed named (is, same, stands) u fault =
+    may_fault failure words formats names told failed named u (sym (ap end_status is) ∙ fault)
 
-pub read_cause : {told told_new : Option Files} {f f_new : ℕ} {words names : List (List ℕ)} {old new : Option (List ℕ)} {before now : ℕ} {end : End} {due : Reader → Files → Result Writing Failure}
-    → AreNamed words names → Ends told told_new f f_new old new before now names due end → end_status end ≡ status.ReadFault → MayFault words told (Rose f f_new)
-read_cause {told} {f = f} {f_new = f_new} {words = words} {names = names} {old = old} {new = new} {before = before} {now = now} {end = end} named ends fault =
-    read_by old new before now ends.made end words names told (Rose f f_new) named ends.finishes ends.reads.unread fault
+pub read_cause : {told told_new : Option Files} {f f_new : ℕ} {words : List (List ℕ)} {formats : List Format} {names : List (List ℕ)} {old new : Option (List ℕ)} {before now : ℕ} {end : End} {due : Reader → Files → Result Writing Failure}
+    → AreNamed words formats names → Ends told told_new f f_new old new before now names due end → end_status end ≡ status.ReadFault → MayFault words formats told (Rose f f_new)
+read_cause {told} {f = f} {f_new = f_new} {words = words} {formats = formats} {names = names} {old = old} {new = new} {before = before} {now = now} {end = end} named ends fault =
+    read_by old new before now ends.made end words formats names told (Rose f f_new) named ends.finishes ends.reads.unread fault
 
 no_write_fault : (refused : List Entry) → written_status refused ≡ status.WriteFault → ⊥
 no_write_fault [] is = absurd (cc is)

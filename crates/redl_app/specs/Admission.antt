@@ -41,9 +41,14 @@ admission_of reader files document before most names = do
   entries ← gathered reader files document most names
   Ok (admission_with before entries)
 
--- A session over the package with this text, with these locked authors, and what becomes of the entries of the journals of
--- these names.
+-- A session over the package with this text and these nodes, with these locked authors, and what becomes of the entries of
+-- the journals of these names.
+abbrev pub opened_over : Reader → Files → List (List ℕ) → List (List ℕ) → List ℕ → Nodes → Result Admission Failure
+opened_over reader files locks journals whole nodes =
+    admission_of reader files (document_of whole nodes) (no_admission nodes locks) journal_bytes journals
+
+-- the same over the package with this text
 abbrev pub opened : Reader → Files → List (List ℕ) → List (List ℕ) → List ℕ → Result Admission Failure
 opened reader files locks journals whole = do
   nodes ← package_in reader whole
-  admission_of reader files (document_of whole nodes) (no_admission nodes locks) journal_bytes journals
+  opened_over reader files locks journals whole nodes

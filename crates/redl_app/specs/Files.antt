@@ -1,5 +1,6 @@
 -- The files that a command names.
 use Rattle.std.specs.Prelude.{ℕ, List, [], ◌∷◌, ◌++◌, Result, Ok, Err}
+use Rattle.redl_app.specs.Formats.{Format, has_format}
 use Rattle.redl_app.specs.Packages.{package_file}
 use Rattle.redl_io.specs.Shelf.{Files}
 use Rattle.redl_lines.specs.Failures.{Failure, caused, unbuilt}
@@ -25,14 +26,19 @@ journals_of (join journals) = journals
 journals_of (check p) = []
 journals_of (sample number) = []
 
--- the names of the files that a command asks for
-abbrev pub files_of : Command → List (List ℕ)
-files_of command = package_of command ++ journals_of command
+-- these files, where the first step of a call went well
+abbrev pub where_ok : Result (Unit {0}) Failure → List (List ℕ) → List (List ℕ)
+where_ok (Ok there) names = names
+where_ok (Err failure) names = []
+
+-- the names of the files that a command asks for; none where the format that it asks for isn't there
+abbrev pub files_of : List Format → Command → List (List ℕ)
+files_of formats command = where_ok (has_format formats command) (package_of command ++ journals_of command)
 
 -- the text of a command's package; where it has none, no text
 abbrev pub package_text : Files → Command → Result (List ℕ) Failure
 package_text files (settle accept p) = package_file files p
-package_text files (list p format locks journals) = Err (caused unbuilt)
+package_text files (list p format locks journals) = package_file files p
 package_text files (write p locks journals) = package_file files p
 package_text files (decide p reviewer journals locks choices) = Err (caused unbuilt)
 package_text files (join journals) = Ok []

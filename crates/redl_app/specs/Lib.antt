@@ -4,6 +4,7 @@ pub mod Packages
 pub mod Journals
 pub mod Admission
 pub mod Writing
+pub mod Formats
 pub mod Commands
 pub mod Files
 pub mod Outcome

@@ -1,10 +1,12 @@
 //! What each command writes, or why it writes nothing.
 
-ghost use Rattle.std.specs.Prelude.{◌≡◌};
+ghost use Rattle.std.specs.Prelude.{◌≡◌, [], All, false, bytes_eq};
 ghost use Rattle.redl_app.specs.Files.{package_of, journals_of, package_text};
+ghost use Rattle.redl_app.specs.Formats.{LeavesFormats, format_named, formats_by, has_format, whether, without_asked};
 ghost use Rattle.redl_app.specs.Outcome.{written_by};
 ghost use Rattle.redl_app.specs.Reading.{ReadsFiles};
 ghost use Rattle.redl_app.specs.Views.{result_view, writing_view};
+ghost use Rattle.redl_app.specs.Writing.{outcome_of};
 ghost use Rattle.redl_words.specs.Commands.{HasUtf8};
 ghost use Rattle.redl_words.specs.Views.{command_of};
 
@@ -13,8 +15,10 @@ use crate::fetch::{fetch_file, name_of};
 use crate::output::Writing;
 use check::check;
 use join::join;
+use list::list;
 use redl_io::Shelf;
 use redl_lines::{Cause, Failure, Limit};
+use redl_listing::RowFormat;
 use redl_words::Command;
 use settle::settle;
 use std::alloc::Global;
@@ -22,8 +26,41 @@ use write::write;
 
 mod check;
 mod join;
+mod list;
 mod settle;
 mod write;
+
+/// Whether there is the format that the command asks for.
+pub(crate) fn check_format<'a>(
+    command: &'a Command,
+    formats: &[Box<dyn RowFormat>],
+) -> Result<(), Failure<'a>>
+    requires { HasUtf8 (command_of command.now) }
+    ensures { result_view (λ _. tt) result ≡ has_format (formats_by (λ format. format_name format) (λ format. text_for format) formats.now) (command_of command.now) }
+{
+    match command {
+        Command::List { format, .. } => find_format(name_of(format), formats),
+        _ => Ok(()),
+    }
+}
+
+// Whether there is a format of this name.
+fn find_format<'a>(name: &'a str, formats: &[Box<dyn RowFormat>]) -> Result<(), Failure<'a>>
+    ensures { result_view (λ _. tt) result ≡ whether (format_named (formats_by (λ format. format_name format) (λ format. text_for format) formats.now) name.now) }
+{
+    for format in formats {
+        if has_name(format, name) {
+            return Ok(());
+        }
+    }
+    Err(Failure::Cause(Cause::NoFormat(name)))
+}
+
+fn has_name(format: &Box<dyn RowFormat>, name: &str) -> bool
+    ensures { result ≡ bytes_eq (format_name format.now) name.now }
+{
+    format.name() == name
+}
 
 /// The text of the command's package. A command without one has the empty text.
 pub(crate) fn fetch_package<'a, F: Shelf>(
@@ -37,6 +74,7 @@ pub(crate) fn fetch_package<'a, F: Shelf>(
 {
     match command {
         Command::Settle { package, .. }
+        | Command::List { package, .. }
         | Command::Write { package, .. }
         | Command::Check { package } => fetch_file(
             alloc,
@@ -46,9 +84,7 @@ pub(crate) fn fetch_package<'a, F: Shelf>(
             shelf,
         ),
         Command::Join { .. } => Ok(Vec::new(alloc)),
-        Command::List { .. } | Command::Decide { .. } | Command::Sample { .. } => {
-            Err(Failure::Cause(Cause::Unbuilt))
-        }
+        Command::Decide { .. } | Command::Sample { .. } => { Err(Failure::Cause(Cause::Unbuilt)) }
     }
 }
 
@@ -58,13 +94,32 @@ pub(crate) fn make_writing<'a, F: Shelf>(
     command: &'a Command,
     bytes: &[u8],
     shelf: &mut F,
+    formats: &mut Vec<Box<dyn RowFormat>>,
 ) -> Result<Writing, Failure<'a>>
-    requires { HasUtf8 (command_of command.now) }
-    ensures { ReadsFiles (F.told shelf.old) (F.told shelf.new) (F.faults shelf.old) (F.faults shelf.new) (journals_of (command_of command.now))
-        (result_view writing_view result) (λ reader files. written_by reader files (command_of command.now) bytes.now) }
+    requires utf8 { HasUtf8 (command_of command.now) }
+    requires fresh { All (λ format. (is_closed format ≡ false) × (rows_so_far format ≡ [])) formats.old.items }
+    ensures read { ReadsFiles (F.told shelf.old) (F.told shelf.new) (F.faults shelf.old) (F.faults shelf.new) (journals_of (command_of command.now))
+        (result_view writing_view result) (λ reader files. written_by reader files
+        (formats_by (λ format. format_name format) (λ format. text_for format) formats.old.items) (command_of command.now) bytes.now) }
+    ensures formats { LeavesFormats (outcome_of (result_view writing_view result)).status
+        (without_asked (λ format. format_name format) (command_of command.now) formats.old.items) formats.old.items formats.new.items }
 {
     match command {
         Command::Settle { accept, .. } => settle(alloc, *accept, bytes),
+        Command::List {
+            format,
+            locks,
+            journals,
+            ..
+        } => list(
+            alloc,
+            name_of(format),
+            locks,
+            journals,
+            bytes,
+            shelf,
+            formats,
+        ),
         Command::Write {
             locks,
             journals,
@@ -72,8 +127,6 @@ pub(crate) fn make_writing<'a, F: Shelf>(
         } => write(alloc, locks, journals, bytes, shelf),
         Command::Join { journals } => join(alloc, journals, shelf),
         Command::Check { .. } => check(alloc, bytes),
-        Command::List { .. } | Command::Decide { .. } | Command::Sample { .. } => {
-            Err(Failure::Cause(Cause::Unbuilt))
-        }
+        Command::Decide { .. } | Command::Sample { .. } => { Err(Failure::Cause(Cause::Unbuilt)) }
     }
 }

@@ -30,8 +30,10 @@ pub(crate) fn admit_journals<'a, F: Shelf>(
 ) -> Result<Admitted, Failure<'a>>
     requires utf8 { All IsUtf8 journals.now }
     requires limit { limit < 2 ^ 32 }
-    ensures { ReadsFiles (F.told shelf.old) (F.told shelf.new) (F.faults shelf.old) (F.faults shelf.new) journals.now
+    ensures read { ReadsFiles (F.told shelf.old) (F.told shelf.new) (F.faults shelf.old) (F.faults shelf.new) journals.now
         (result_view admission_view result) (λ reader files. admission_of reader files (document_view document) (admission_view before) limit journals.now) }
+    ensures nodes { IfOk result (λ admitted. admitted.session.nodes ≡ before.session.nodes) }
+    ensures revisions { IfOk result (λ admitted. admitted.session.revisions ≡ before.session.revisions) }
 {
     let mut admitted = before;
     let mut left = limit;

@@ -1,6 +1,7 @@
 //! What holds of every outcome of a call, and of the readers that it is told by.
 
 ghost use Rattle.std.specs.Prelude.{◌≡◌, ℕ, List};
+ghost use Rattle.redl_app.specs.Formats.{Format};
 ghost use Rattle.redl_app.specs.Left.{LeavesSound};
 ghost use Rattle.redl_app.specs.Outcome.{outcome};
 ghost use Rattle.redl_app.specs.Readers.{Reader, IsReader};
@@ -13,7 +14,8 @@ pub fn a_reader()
 
 /// A call comes to one outcome, by whichever reader it is told.
 pub fn one_outcome()
-    ensures { (reader other : Reader) → IsReader reader → IsReader other → (words : List (List ℕ)) (files : Files) → outcome reader words files ≡ outcome other words files }
+    ensures { (reader other : Reader) → IsReader reader → IsReader other → (words : List (List ℕ)) (files : Files) (formats : List Format)
+        → outcome reader words files formats ≡ outcome other words files formats }
 {}
 
 /// What `settle` and `write` put out is the text of a sound package with exactly the text that survives.
@@ -22,5 +24,5 @@ pub fn one_outcome()
 /// pieces of the stories are those of the original that survive, in their order, and all nine rules of structure hold
 /// again. Nothing says that the text reads again as XML: where an element between `]]` and `>` goes, it does not.
 pub fn what_is_left_is_sound()
-    ensures { (reader : Reader) (words : List (List ℕ)) (files : Files) → LeavesSound reader words files }
+    ensures { (reader : Reader) (words : List (List ℕ)) (files : Files) (formats : List Format) → LeavesSound reader words files formats }
 {}

@@ -1,10 +1,12 @@
 //! A session over a package, with the entries of journals.
 
 ghost use Rattle.std.specs.Prelude.{◌≡◌, None, All, IsUtf8, IfOk};
-ghost use Rattle.redl_app.specs.Admission.{no_admission, opened};
+ghost use Rattle.redl_app.specs.Admission.{no_admission, opened, opened_over};
 ghost use Rattle.redl_app.specs.Journals.{document_of};
 ghost use Rattle.redl_app.specs.Reading.{ReadsFiles};
 ghost use Rattle.redl_app.specs.Views.{admission_view, document_view, result_view};
+ghost use Rattle.redl_index.specs.Numbers.{numbered_package};
+ghost use Rattle.redl_index.specs.Revisions.{revisions_of};
 ghost use Rattle.redl_rules.specs.Attributes.{broken_rule};
 ghost use Rattle.sha2.specs.Sha256.{sha256};
 
@@ -34,6 +36,26 @@ pub(crate) fn open<'a, F: Shelf>(
         (result_view admission_view result) (λ reader files. opened reader files locks.now journals.now bytes.now) }
 {
     let package = read_package(alloc, bytes)?;
+    open_package(alloc, package, locks, journals, bytes, shelf)
+}
+
+/// A session over this package, which has this text, with the entries of the journals of these names and with these locked
+/// authors.
+pub(crate) fn open_package<'a, F: Shelf>(
+    alloc: Global,
+    package: Package,
+    locks: &[Text],
+    journals: &'a [Text],
+    bytes: &[u8],
+    shelf: &mut F,
+) -> Result<Admitted, Failure<'a>>
+    requires utf8 { All IsUtf8 journals.now }
+    requires sound { broken_rule «package» ≡ None }
+    ensures read { ReadsFiles (F.told shelf.old) (F.told shelf.new) (F.faults shelf.old) (F.faults shelf.new) journals.now
+        (result_view admission_view result) (λ reader files. opened_over reader files locks.now journals.now bytes.now «package») }
+    ensures nodes { IfOk result (λ admitted. admitted.session.nodes ≡ numbered_package «package») }
+    ensures revisions { IfOk result (λ admitted. admitted.session.revisions ≡ revisions_of «package») }
+{
     let started = start(alloc, package, locks)?;
     let document = DocumentId {
         digest: digest_of(bytes),

@@ -9,7 +9,7 @@ ghost use Rattle.redl_io.specs.Sink.{Puts, GrowsByFront, CountsPut};
 
 use crate::document::DocumentId;
 use itoa::Buffer;
-use redl_io::{Failed, Sink, Staged, put_pieces};
+use redl_io::{Failed, Sink, Staged, put_piece, put_pieces};
 use redl_join::Book;
 use redl_lines::RefusedEntries;
 use redl_tree::{Node, write_nodes};
@@ -24,6 +24,8 @@ pub(crate) enum Output {
     Count(u32),
     /// The journal of this document with the book's entries.
     Journal { document: DocumentId, book: Book },
+    /// This text of a listing.
+    Listing(Vec<u8>),
 }
 
 /// What a call writes, and the entries that were refused.
@@ -68,6 +70,7 @@ fn put_output<K: Sink>(output: &Output, out: &mut K) -> Result<(), Failed>
         Output::Package(nodes) => write_nodes(nodes, out),
         Output::Count(count) => write_sound(*count, out),
         Output::Journal { document, book } => book.write(&document.digest, document.count, out),
+        Output::Listing(text) => put_piece(text, out),
     }
 }
 

@@ -1,4 +1,4 @@
-use Rattle.std.proofs.Common.{◌≡◌, ◌+◌, ◌-◌, ◌∷◌, drop, Contains, IsUtf8, arith, ap, sym, ◌∙◌, refl, rules, subst}
+use Rattle.std.proofs.Common.{◌≡◌, ◌+◌, ◌-◌, ◌∷◌, drop, Contains, IsUtf8, arith, ap, sym, ◌∙◌, refl, subst}
 use Rattle.std.proofs.lemmas.List.{drop_more, drop_all}
 use Rattle.std.proofs.lemmas.List.Elements.{All-get_or, Contains-get_or}
 use Rattle.std.proofs.lemmas.Result.{err_from_is_err_and}
@@ -19,10 +19,12 @@ loop-journal-init g c = record {
   taking = taking_begins admission_with (g.F.Shelf.told c.args.shelf.now) (document_view c.args.document) (admission_view c.args.before) c.args.limit c.args.journals.now;
   told = refl;
   stands = refl;
+  nodes = refl;
+  revisions = refl;
 }
 
-pub returns-in_err-entries : goal.returns-in_err-entries
-returns-in_err-entries g c =
+pub returns-in_err-entries-clause-read : goal.returns-in_err-entries-clause-read
+returns-in_err-entries-clause-read g c =
     let p = err_from_is_err_and c.from_residual.result c.from_residual.ensures.1 in
     let journals = c.args.journals.now in
     let index = c.loop-journal.journal-index in
@@ -55,10 +57,12 @@ loop-journal-preserved g c =
       taking = subst P (sym c.in_ok-admit.ensures) next;
       told = c.in_ok-entries.ensures.read.same_files ∙ c.loop-journal.invariant.told;
       stands = c.in_ok-entries.ensures.read.stands ∙ c.loop-journal.invariant.stands;
+      nodes = ap (λ (a : Admission). a.state.nodes) c.in_ok-admit.ensures ∙ c.loop-journal.invariant.nodes;
+      revisions = ap (λ (a : Admission). a.state.revisions) c.in_ok-admit.ensures ∙ c.loop-journal.invariant.revisions;
     }
 
-pub returns : goal.returns
-returns g c =
+pub returns-clause-read : goal.returns-clause-read
+returns-clause-read g c =
     let journals = c.args.journals.now in
     let none = drop_all c.loop-journal.journal-index journals (omega arith) in
     taking_ends admission_with admits_nothing _ (document_view c.args.document) (λ reader files. admission_of reader files (document_view c.args.document) (admission_view c.args.before) c.args.limit journals)

@@ -12,4 +12,6 @@ invariant-loop-journal g l = record {
       (λ reader files. admission_of reader files (document_view l.document) (admission_view l.fn.before) l.limit l.journals) (admission_view l.admitted) l.left (drop l.journal-index l.journals);
   told : g.F.Shelf.told l.shelf ≡ g.F.Shelf.told l.initial.shelf;
   stands : g.F.Shelf.faults l.shelf ≡ g.F.Shelf.faults l.initial.shelf;
+  nodes : l.admitted.session.nodes ≡ l.fn.before.session.nodes;
+  revisions : l.admitted.session.revisions ≡ l.fn.before.session.revisions;
 }

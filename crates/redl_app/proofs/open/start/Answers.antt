@@ -1,4 +1,4 @@
-use Rattle.std.proofs.Common.{◌≡◌, ◌∙◌, sym, ap}
+use Rattle.std.proofs.Common.{◌∙◌, sym, ap}
 use Rattle.redl_index.proofs.AgainLaws.{revisions-numbered}
 use Rattle.redl_index.specs.Revisions.{revisions_of}
 use Rattle.redl_rules.specs.Attributes.{has_id, declares, broken_rule}
