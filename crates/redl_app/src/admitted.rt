@@ -14,14 +14,14 @@ use std::alloc::AllocError;
 
 /// A session, and the entries that it refused.
 #[derive(Drop)]
-pub(crate) struct Admitted {
+pub(crate) struct Admitted<'b> {
     /// The session.
-    pub session: Session,
+    pub session: Session<'b>,
     /// The entries that it refused.
     pub refused: RefusedEntries,
 }
 
-impl Admitted {
+impl<'b> Admitted<'b> {
     /// Takes these entries too. `Err` means out of memory, and some of them may be there.
     pub(crate) fn admit(&mut self, entries: Vec<Entry>) -> Result<(), AllocError>
         requires { All IsAllowed entries.items }

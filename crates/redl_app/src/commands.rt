@@ -89,13 +89,13 @@ pub(crate) fn fetch_package<'a, F: Shelf>(
 }
 
 /// What the command writes, where its package has this text.
-pub(crate) fn make_writing<'a, F: Shelf>(
+pub(crate) fn make_writing<'a, 'b, F: Shelf>(
     alloc: Global,
     command: &'a Command,
-    bytes: &[u8],
+    bytes: &'b [u8],
     shelf: &mut F,
     formats: &mut Vec<Box<dyn RowFormat>>,
-) -> Result<Writing, Failure<'a>>
+) -> Result<Writing<'b>, Failure<'a>>
     requires utf8 { HasUtf8 (command_of command.now) }
     requires fresh { All (λ format. (is_closed format ≡ false) × (rows_so_far format ≡ [])) formats.old.items }
     ensures read { ReadsFiles (F.told shelf.old) (F.told shelf.new) (F.faults shelf.old) (F.faults shelf.new) (journals_of (command_of command.now))

@@ -24,13 +24,13 @@ use sha2::{Digest, Sha256};
 use std::alloc::{AllocError, Global};
 
 /// A session over the package with this text, with the entries of the journals of these names and with these locked authors.
-pub(crate) fn open<'a, F: Shelf>(
+pub(crate) fn open<'a, 'b, F: Shelf>(
     alloc: Global,
     locks: &[Text],
     journals: &'a [Text],
-    bytes: &[u8],
+    bytes: &'b [u8],
     shelf: &mut F,
-) -> Result<Admitted, Failure<'a>>
+) -> Result<Admitted<'b>, Failure<'a>>
     requires { All IsUtf8 journals.now }
     ensures { ReadsFiles (F.told shelf.old) (F.told shelf.new) (F.faults shelf.old) (F.faults shelf.new) journals.now
         (result_view admission_view result) (λ reader files. opened reader files locks.now journals.now bytes.now) }
@@ -41,20 +41,20 @@ pub(crate) fn open<'a, F: Shelf>(
 
 /// A session over this package, which has this text, with the entries of the journals of these names and with these locked
 /// authors.
-pub(crate) fn open_package<'a, F: Shelf>(
+pub(crate) fn open_package<'a, 'b, F: Shelf>(
     alloc: Global,
-    package: Package,
+    package: Package<'b>,
     locks: &[Text],
     journals: &'a [Text],
     bytes: &[u8],
     shelf: &mut F,
-) -> Result<Admitted, Failure<'a>>
+) -> Result<Admitted<'b>, Failure<'a>>
     requires utf8 { All IsUtf8 journals.now }
     requires sound { broken_rule «package» ≡ None }
     ensures read { ReadsFiles (F.told shelf.old) (F.told shelf.new) (F.faults shelf.old) (F.faults shelf.new) journals.now
-        (result_view admission_view result) (λ reader files. opened_over reader files locks.now journals.now bytes.now «package») }
-    ensures nodes { IfOk result (λ admitted. admitted.session.nodes ≡ numbered_package «package») }
-    ensures revisions { IfOk result (λ admitted. admitted.session.revisions ≡ revisions_of «package») }
+        (result_view admission_view result) (λ reader files. opened_over reader files locks.now journals.now bytes.now «package».entry) }
+    ensures nodes { IfOk result (λ admitted. admitted.session.nodes ≡ numbered_package «package».entry) }
+    ensures revisions { IfOk result (λ admitted. admitted.session.revisions ≡ revisions_of «package».entry) }
 {
     let started = start(alloc, package, locks)?;
     let document = DocumentId {
@@ -65,9 +65,9 @@ pub(crate) fn open_package<'a, F: Shelf>(
 }
 
 // A session over this package, before any entry.
-fn start(alloc: Global, read: Package, locks: &[Text]) -> Result<Admitted, AllocError>
+fn start<'b>(alloc: Global, read: Package<'b>, locks: &[Text]) -> Result<Admitted<'b>, AllocError>
     requires { broken_rule read ≡ None }
-    ensures { IfOk result (λ started. admission_view started ≡ no_admission read locks.now) }
+    ensures { IfOk result (λ started. admission_view started ≡ no_admission read.entry locks.now) }
 {
     let numbered = number_package(alloc, read)?;
     let count = numbered.index.count();

@@ -17,9 +17,9 @@ use std::alloc::Global;
 
 /// What goes out.
 #[derive(Drop)]
-pub(crate) enum Output {
+pub(crate) enum Output<'b> {
     /// The text of these nodes.
-    Package(Vec<Node>),
+    Package(Vec<Node<'b>>),
     /// That a package is sound, and has so many revisions.
     Count(u32),
     /// The journal of this document with the book's entries.
@@ -30,17 +30,17 @@ pub(crate) enum Output {
 
 /// What a call writes, and the entries that were refused.
 #[derive(Drop)]
-pub(crate) struct Writing {
+pub(crate) struct Writing<'b> {
     /// What goes out.
-    pub output: Output,
+    pub output: Output<'b>,
     /// The entries that were refused.
     pub refused: RefusedEntries,
 }
 
-impl Writing {
+impl<'b> Writing<'b> {
     /// Output alone, where no entry can be refused.
-    pub(crate) fn only(alloc: Global, output: Output) -> Writing
-        ensures { writing_view result ≡ only_bytes (output_text output) }
+    pub(crate) fn only(alloc: Global, output: Output<'b>) -> Writing<'b>
+        ensures { writing_view result ≡ only_bytes (output_text output.entry) }
     {
         Writing {
             output,

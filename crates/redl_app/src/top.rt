@@ -165,7 +165,7 @@ fn write_command<'a, F: Shelf, O: Sink>(
 }
 
 // Writes what was made.
-fn finish<'a, O: Sink>(made: Result<Writing, Failure<'a>>, out: &mut O) -> End<'a>
+fn finish<'a, 'b, O: Sink>(made: Result<Writing<'b>, Failure<'a>>, out: &mut O) -> End<'a>
     ensures { Finishes (O.told out.old) (O.told out.new) (O.faults out.old) (O.faults out.new) (result_view writing_view made.entry) (end_view result) }
 {
     match made {

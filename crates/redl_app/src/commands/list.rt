@@ -21,15 +21,15 @@ use std::alloc::{AllocError, Global};
 
 /// The listing of the package with this text, in the first format that has the name, under the joined verdicts of the journals
 /// of these names, with these locked authors. It takes that format out of the list.
-pub(crate) fn list<'a, F: Shelf>(
+pub(crate) fn list<'a, 'b, F: Shelf>(
     alloc: Global,
     name: &'a str,
     locks: &[Text],
     journals: &'a [Text],
-    bytes: &[u8],
+    bytes: &'b [u8],
     shelf: &mut F,
     formats: &mut Vec<Box<dyn RowFormat>>,
-) -> Result<Writing, Failure<'a>>
+) -> Result<Writing<'b>, Failure<'a>>
     requires utf8 { All IsUtf8 journals.now }
     requires fresh { All (λ format. (is_closed format ≡ false) × (rows_so_far format ≡ [])) formats.old.items }
     ensures read { ReadsFiles (F.told shelf.old) (F.told shelf.new) (F.faults shelf.old) (F.faults shelf.new) journals.now
@@ -56,7 +56,7 @@ fn part_names(alloc: Global, package: &Package) -> Result<Vec<Text>, AllocError>
 }
 
 // The name of one part.
-fn part_name(package: &Package, part: u32) -> &[u8]
+fn part_name<'n>(package: &'n Package, part: u32) -> &'n [u8]
     requires { part < length (parts_of «package».now) }
     ensures value { slice_get (part_names «package».now) part ≡ Some result.now }
     ensures utf8 { IsUtf8 result.now }
@@ -65,19 +65,19 @@ fn part_name(package: &Package, part: u32) -> &[u8]
 }
 
 // The listing of a session's revisions, where these are the names of the parts of its package.
-fn list_revisions<'a>(
+fn list_revisions<'a, 'b>(
     alloc: Global,
     name: &'a str,
     parts: &[Text],
-    admitted: Admitted,
+    admitted: Admitted<'b>,
     formats: &mut Vec<Box<dyn RowFormat>>,
-) -> Result<Writing, Failure<'a>>
+) -> Result<Writing<'b>, Failure<'a>>
     requires names { parts.now ≡ part_names admitted.session.nodes }
     requires utf8 { All IsUtf8 parts.now }
     requires parts { All (λ revision. revision.part < length parts.now) admitted.session.revisions }
     requires fresh { All (λ format. (is_closed format ≡ false) × (rows_so_far format ≡ [])) formats.old.items }
     ensures read { Reads (result_view writing_view result) (λ reader. listing_named
-        (formats_by (λ format. format_name format) (λ format. text_for format) formats.old.items) name.now (admission_view admitted)) }
+        (formats_by (λ format. format_name format) (λ format. text_for format) formats.old.items) name.now (admission_view admitted.entry)) }
     ensures formats { LeavesFormats (outcome_of (result_view writing_view result)).status
         (without_named (λ format. format_name format) name.now formats.old.items) formats.old.items formats.new.items }
 {
