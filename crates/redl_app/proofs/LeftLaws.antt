@@ -5,7 +5,7 @@ use Rattle.std.specs.List.{list_all}
 use Rattle.redl_app.specs.Answers.{IsWritten}
 use Rattle.redl_app.specs.Left.{AreSays, IsLeft, LeavesSound, decided_package}
 use Rattle.redl_app.proofs.TopLaws.{by_cause}
-use Rattle.redl_app.specs.Admission.{Admission, admission_with, no_admission, admission_of, opened}
+use Rattle.redl_app.specs.Admission.{Admission, admission_with, no_admission, opened_over, opened}
 use Rattle.redl_app.specs.Commands.Settle.{passed_text, same_says, settling}
 use Rattle.redl_app.specs.Commands.Write.{decided}
 use Rattle.redl_app.specs.Formats.{Format}
@@ -124,8 +124,8 @@ leaves_settled reader files formats accept name writing is =
 opened_nodes : (reader : Reader) (files : Files) (locks journals : List (List ℕ)) (whole : List ℕ) (admission : Admission)
     → opened reader files locks journals whole ≡ Ok admission → (nodes : Nodes) × (package_in reader whole ≡ Ok nodes) × (admission.state.nodes ≡ numbered_package nodes)
 opened_nodes reader files locks journals whole admission is =
-    let read = both_ok (package_in reader whole) (λ nodes. admission_of reader files (document_of whole nodes) (no_admission nodes locks) journal_bytes journals) admission is in
-    let entries = both_ok (gathered reader files (document_of whole read.x) journal_bytes journals) (λ entries. Ok (admission_with (no_admission read.x locks) entries)) admission read.second in
+    let read = both_ok (package_in reader whole) (λ nodes. opened_over reader files locks journals whole nodes) admission is in
+    let entries = both_ok (gathered reader files (document_of whole read.x) journal_bytes journals) (λ entries. Ok (admission_with (no_admission whole read.x locks) entries)) admission read.second in
     (read.x, read.first, ap (λ (a : Admission). a.state.nodes) (sym (same_ok entries.second)))
 
 leaves_written : (reader : Reader) (files : Files) (formats : List Format) (name : List ℕ) (locks journals : List (List ℕ)) (writing : Writing)

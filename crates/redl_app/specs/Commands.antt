@@ -3,3 +3,5 @@ pub mod List
 pub mod Write
 pub mod Join
 pub mod Check
+pub mod Decide
+pub mod Sample

@@ -3,7 +3,7 @@ use Rattle.std.specs.Prelude.{ℕ, List, [], ◌∷◌, ◌++◌, Result, Ok, Er
 use Rattle.redl_app.specs.Formats.{Format, has_format}
 use Rattle.redl_app.specs.Packages.{package_file}
 use Rattle.redl_io.specs.Shelf.{Files}
-use Rattle.redl_lines.specs.Failures.{Failure, caused, unbuilt}
+use Rattle.redl_lines.specs.Failures.{Failure}
 use Rattle.redl_words.specs.Commands.{Command, settle, list, write, decide, join, check, sample}
 
 -- the name of a command's package, where it has one
@@ -40,7 +40,7 @@ abbrev pub package_text : Files → Command → Result (List ℕ) Failure
 package_text files (settle accept p) = package_file files p
 package_text files (list p format locks journals) = package_file files p
 package_text files (write p locks journals) = package_file files p
-package_text files (decide p reviewer journals locks choices) = Err (caused unbuilt)
+package_text files (decide p reviewer journals locks choices) = package_file files p
 package_text files (join journals) = Ok []
 package_text files (check p) = package_file files p
-package_text files (sample number) = Err (caused unbuilt)
+package_text files (sample number) = Ok []

@@ -2,8 +2,10 @@
 -- texts are read.
 use Rattle.std.specs.Prelude.{ℕ, List, Option, None, Some, Result, Err}
 use Rattle.redl_app.specs.Commands.Check.{checked}
+use Rattle.redl_app.specs.Commands.Decide.{chosen_journal}
 use Rattle.redl_app.specs.Commands.Join.{joined}
 use Rattle.redl_app.specs.Commands.List.{listed}
+use Rattle.redl_app.specs.Commands.Sample.{sampled}
 use Rattle.redl_app.specs.Commands.Settle.{settled}
 use Rattle.redl_app.specs.Commands.Write.{written}
 use Rattle.redl_app.specs.Files.{package_text}
@@ -13,7 +15,7 @@ use Rattle.redl_app.specs.Steps.{◌>>=◌}
 use Rattle.redl_app.specs.Writing.{Writing, Outcome, outcome_of}
 use Rattle.redl_io.specs.Limits.{journal_bytes}
 use Rattle.redl_io.specs.Shelf.{Files}
-use Rattle.redl_lines.specs.Failures.{Failure, caused, usage, unbuilt}
+use Rattle.redl_lines.specs.Failures.{Failure, caused, usage}
 use Rattle.redl_words.specs.Commands.{Command, settle, list, write, decide, join, check, sample}
 
 -- what a command writes, where its package has this text
@@ -21,10 +23,10 @@ abbrev pub written_by : Reader → Files → List Format → Command → List �
 written_by reader files formats (settle accept p) whole = settled reader accept whole
 written_by reader files formats (list p name locks journals) whole = listed reader files formats name locks journals whole
 written_by reader files formats (write p locks journals) whole = written reader files locks journals whole
-written_by reader files formats (decide p reviewer journals locks choices) whole = Err (caused unbuilt)
+written_by reader files formats (decide p reviewer journals locks choices) whole = chosen_journal reader files reviewer locks journals choices whole
 written_by reader files formats (join journals) whole = joined reader files journal_bytes journals
 written_by reader files formats (check p) whole = checked reader whole
-written_by reader files formats (sample number) whole = Err (caused unbuilt)
+written_by reader files formats (sample number) whole = sampled reader number
 
 -- what a command writes, where the format that it asks for is there
 abbrev pub writing_by : Reader → Files → List Format → Command → Result Writing Failure

@@ -14,19 +14,23 @@ use crate::PACKAGE_LIMIT;
 use crate::fetch::{fetch_file, name_of};
 use crate::output::Writing;
 use check::check;
+use decide::decide;
 use join::join;
 use list::list;
 use redl_io::Shelf;
 use redl_lines::{Cause, Failure, Limit};
 use redl_listing::RowFormat;
 use redl_words::Command;
+use sample::sample;
 use settle::settle;
 use std::alloc::Global;
 use write::write;
 
 mod check;
+mod decide;
 mod join;
 mod list;
+mod sample;
 mod settle;
 mod write;
 
@@ -76,6 +80,7 @@ pub(crate) fn fetch_package<'a, F: Shelf>(
         Command::Settle { package, .. }
         | Command::List { package, .. }
         | Command::Write { package, .. }
+        | Command::Decide { package, .. }
         | Command::Check { package } => fetch_file(
             alloc,
             name_of(package),
@@ -83,8 +88,7 @@ pub(crate) fn fetch_package<'a, F: Shelf>(
             Limit::PackageBytes,
             shelf,
         ),
-        Command::Join { .. } => Ok(Vec::new(alloc)),
-        Command::Decide { .. } | Command::Sample { .. } => { Err(Failure::Cause(Cause::Unbuilt)) }
+        Command::Join { .. } | Command::Sample { .. } => Ok(Vec::new(alloc)),
     }
 }
 
@@ -125,8 +129,15 @@ pub(crate) fn make_writing<'a, 'b, F: Shelf>(
             journals,
             ..
         } => write(alloc, locks, journals, bytes, shelf),
+        Command::Decide {
+            reviewer,
+            journals,
+            locks,
+            choices,
+            ..
+        } => decide(alloc, reviewer, locks, journals, choices, bytes, shelf),
         Command::Join { journals } => join(alloc, journals, shelf),
         Command::Check { .. } => check(alloc, bytes),
-        Command::Decide { .. } | Command::Sample { .. } => { Err(Failure::Cause(Cause::Unbuilt)) }
+        Command::Sample { number } => sample(alloc, *number),
     }
 }

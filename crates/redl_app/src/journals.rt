@@ -22,7 +22,6 @@ use std::alloc::{AllocError, Global};
 /// What becomes of the entries of the journals of these names. All journals together have at most `limit` bytes.
 pub(crate) fn admit_journals<'a, 'b, F: Shelf>(
     alloc: Global,
-    document: DocumentId,
     journals: &'a [Text],
     limit: usize,
     before: Admitted<'b>,
@@ -31,10 +30,11 @@ pub(crate) fn admit_journals<'a, 'b, F: Shelf>(
     requires utf8 { All IsUtf8 journals.now }
     requires limit { limit < 2 ^ 32 }
     ensures read { ReadsFiles (F.told shelf.old) (F.told shelf.new) (F.faults shelf.old) (F.faults shelf.new) journals.now
-        (result_view admission_view result) (λ reader files. admission_of reader files (document_view document) (admission_view before.entry) limit journals.now) }
+        (result_view admission_view result) (λ reader files. admission_of reader files (admission_view before.entry) limit journals.now) }
     ensures nodes { IfOk result (λ admitted. admitted.session.nodes ≡ before.entry.session.nodes) }
     ensures revisions { IfOk result (λ admitted. admitted.session.revisions ≡ before.entry.session.revisions) }
 {
+    let document = before.document;
     let mut admitted = before;
     let mut left = limit;
     for journal in journals {

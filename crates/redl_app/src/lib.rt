@@ -6,6 +6,8 @@
 #![tactic(auto)]
 
 mod admitted;
+mod choices;
+mod collected;
 mod commands;
 mod document;
 mod fetch;

@@ -2,9 +2,8 @@
 
 ghost use Rattle.std.specs.Prelude.{◌≡◌, None, All, IsUtf8, IfOk};
 ghost use Rattle.redl_app.specs.Admission.{no_admission, opened, opened_over};
-ghost use Rattle.redl_app.specs.Journals.{document_of};
 ghost use Rattle.redl_app.specs.Reading.{ReadsFiles};
-ghost use Rattle.redl_app.specs.Views.{admission_view, document_view, result_view};
+ghost use Rattle.redl_app.specs.Views.{admission_view, result_view};
 ghost use Rattle.redl_index.specs.Numbers.{numbered_package};
 ghost use Rattle.redl_index.specs.Revisions.{revisions_of};
 ghost use Rattle.redl_rules.specs.Attributes.{broken_rule};
@@ -56,23 +55,28 @@ pub(crate) fn open_package<'a, 'b, F: Shelf>(
     ensures nodes { IfOk result (λ admitted. admitted.session.nodes ≡ numbered_package «package».entry) }
     ensures revisions { IfOk result (λ admitted. admitted.session.revisions ≡ revisions_of «package».entry) }
 {
-    let started = start(alloc, package, locks)?;
-    let document = DocumentId {
-        digest: digest_of(bytes),
-        count: started.refused.count,
-    };
-    admit_journals(alloc, document, journals, JOURNALS_LIMIT, started, shelf)
+    let started = start(alloc, package, locks, bytes)?;
+    admit_journals(alloc, journals, JOURNALS_LIMIT, started, shelf)
 }
 
-// A session over this package, before any entry.
-fn start<'b>(alloc: Global, read: Package<'b>, locks: &[Text]) -> Result<Admitted<'b>, AllocError>
+/// A session over this package, which has this text, before any entry.
+pub(crate) fn start<'b>(
+    alloc: Global,
+    read: Package<'b>,
+    locks: &[Text],
+    bytes: &[u8],
+) -> Result<Admitted<'b>, AllocError>
     requires { broken_rule read ≡ None }
-    ensures { IfOk result (λ started. admission_view started ≡ no_admission read.entry locks.now) }
+    ensures { IfOk result (λ started. admission_view started ≡ no_admission bytes.now read.entry locks.now) }
 {
     let numbered = number_package(alloc, read)?;
     let count = numbered.index.count();
     let locks = Locks::new(copy_texts(alloc, locks)?);
     Ok(Admitted {
+        document: DocumentId {
+            digest: digest_of(bytes),
+            count,
+        },
         session: Session::start(alloc, numbered.package, numbered.index, locks)?,
         refused: RefusedEntries {
             entries: Book::new(alloc),

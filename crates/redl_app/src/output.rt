@@ -12,6 +12,7 @@ use itoa::Buffer;
 use redl_io::{Failed, Sink, Staged, put_piece, put_pieces};
 use redl_join::Book;
 use redl_lines::RefusedEntries;
+use redl_sample::Summary;
 use redl_tree::{Node, write_nodes};
 use std::alloc::Global;
 
@@ -26,6 +27,8 @@ pub(crate) enum Output<'b> {
     Journal { document: DocumentId, book: Book },
     /// This text of a listing.
     Listing(Vec<u8>),
+    /// The summary of a sample.
+    Summary(Summary),
 }
 
 /// What a call writes, and the entries that were refused.
@@ -71,6 +74,7 @@ fn put_output<K: Sink>(output: &Output, out: &mut K) -> Result<(), Failed>
         Output::Count(count) => write_sound(*count, out),
         Output::Journal { document, book } => book.write(&document.digest, document.count, out),
         Output::Listing(text) => put_piece(text, out),
+        Output::Summary(summary) => summary.write(out),
     }
 }
 

@@ -1,5 +1,5 @@
 //! Books: sets of entries.
-ghost use Rattle.std.specs.Prelude.{◌≡◌, ◌^◌, ◌-◌, min, All, List, [], ℕ, length, not, IfOk, OnOk, OnErr, flat_map};
+ghost use Rattle.std.specs.Prelude.{◌≡◌, All, List, [], ℕ, length, not, IfOk, OnOk, OnErr, flat_map};
 ghost use Rattle.redl_io.specs.Sink.{Puts};
 ghost use Rattle.redl_journal.specs.Journals.{IsAllowed, entry_text, journal_text};
 ghost use Rattle.redl_join.specs.Books.{IsBook, has_entry, with_entry, without_entry};
@@ -105,9 +105,9 @@ impl Book {
         greatest
     }
 
-    /// The number of its entries, or `u64::MAX` if there are more.
+    /// The number of its entries.
     pub fn len(&self) -> u64
-        ensures { result ≡ min (length self.now) (2 ^ 64 - 1) }
+        ensures { result ≡ length self.now }
     {
         self.entries.len() as u64
     }

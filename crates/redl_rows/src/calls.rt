@@ -4,7 +4,7 @@ ghost use Rattle.std.specs.Prelude.{IfOk, All, IsUtf8};
 
 use redl_app::{Status, add_word, run};
 use redl_io::{MemShelf, MemSink, Text};
-use redl_listing::{JsonFormat, RowFormat, TabFormat, TextFormat};
+use redl_listing::{JsonFormat, TabFormat, TextFormat, add_format};
 use std::alloc::{AllocError, Global};
 
 /// What a call came to: its status, what was written, and the lines on standard error.
@@ -42,10 +42,10 @@ fn run_words(
 ) -> Result<Status, AllocError>
     requires { All IsUtf8 words.now }
 {
-    let mut formats: Vec<Box<dyn RowFormat>> = Vec::new(alloc);
-    formats.push(Box::new(alloc, TextFormat::new(alloc)?)?)?;
-    formats.push(Box::new(alloc, TabFormat::new(alloc)?)?)?;
-    formats.push(Box::new(alloc, JsonFormat::new(alloc)?)?)?;
+    let mut formats = Vec::new(alloc);
+    add_format(&mut formats, Box::new(alloc, TextFormat::new(alloc)?)?)?;
+    add_format(&mut formats, Box::new(alloc, TabFormat::new(alloc)?)?)?;
+    add_format(&mut formats, Box::new(alloc, JsonFormat::new(alloc)?)?)?;
     Ok(run(alloc, words, shelf, written, lines, &mut formats))
 }
 

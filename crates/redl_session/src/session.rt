@@ -170,6 +170,13 @@ impl<'a> Session<'a> {
         &self.index
     }
 
+    /// The entries that were admitted. The package goes.
+    pub fn into_book(self) -> Book
+        ensures { result ≡ self.entry.book }
+    {
+        self.book
+    }
+
     /// Puts the text of the package under the says. `Failed` means that the sink failed and has only a prefix of the text.
     /// `NoMemory` means out of memory, and nothing was put.
     pub fn write<K: Sink>(&self, out: &mut K) -> Result<(), SessionWriteError>

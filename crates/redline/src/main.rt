@@ -15,7 +15,7 @@ ghost use Rattle.std.specs.Vec.Iter.{into_iter_items};
 use help::{HELP, VERSION};
 use redl_app::{Status, WordsError, add_word, refuse_words, run, tell_text};
 use redl_io::{FileShelf, Shelf, Sink, StdSink, Text};
-use redl_listing::{JsonFormat, RowFormat, TabFormat, TextFormat};
+use redl_listing::{JsonFormat, TabFormat, TextFormat, add_format};
 use std::alloc::{AllocError, Global};
 use std::env;
 use std::env::Args;
@@ -63,10 +63,10 @@ fn run_with_formats<F: Shelf, O: Sink, E: Sink>(
 ) -> Result<Status, AllocError>
     requires { All IsUtf8 words.now }
 {
-    let mut formats: Vec<Box<dyn RowFormat>> = Vec::new(alloc);
-    formats.push(Box::new(alloc, TextFormat::new(alloc)?)?)?;
-    formats.push(Box::new(alloc, TabFormat::new(alloc)?)?)?;
-    formats.push(Box::new(alloc, JsonFormat::new(alloc)?)?)?;
+    let mut formats = Vec::new(alloc);
+    add_format(&mut formats, Box::new(alloc, TextFormat::new(alloc)?)?)?;
+    add_format(&mut formats, Box::new(alloc, TabFormat::new(alloc)?)?)?;
+    add_format(&mut formats, Box::new(alloc, JsonFormat::new(alloc)?)?)?;
     Ok(run(alloc, words, shelf, out, err, &mut formats))
 }
 

@@ -81,7 +81,9 @@ fn list_revisions<'a, 'b>(
     ensures formats { LeavesFormats (outcome_of (result_view writing_view result)).status
         (without_named (λ format. format_name format) name.now formats.old.items) formats.old.items formats.new.items }
 {
-    let Admitted { session, refused } = admitted;
+    let Admitted {
+        session, refused, ..
+    } = admitted;
     let verdicts = session.verdicts()?;
     let mut made = Vec::new(alloc);
     let found = redl_listing::list(

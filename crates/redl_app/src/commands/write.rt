@@ -32,7 +32,11 @@ pub(crate) fn write<'a, 'b, F: Shelf>(
 fn decide(admitted: Admitted) -> Result<Writing, AllocError>
     ensures { IfOk result (λ writing. writing_view writing ≡ decided (admission_view admitted.entry)) }
 {
-    let Admitted { session, refused } = admitted;
+    let Admitted {
+        session,
+        refused,
+        ..
+    } = admitted;
     let nodes = session.into_passed()?;
     Ok(Writing {
         output: Output::Package(nodes),

@@ -5,7 +5,7 @@ use super::calls::{INSERTED, Want, expect_call, files_of, words_of};
 use crate::count_format::CountFormat;
 use redl_app::{Status, run};
 use redl_io::{MemShelf, MemSink};
-use redl_listing::{RowFormat, TextFormat};
+use redl_listing::{RowFormat, TextFormat, add_format};
 use std::alloc::{AllocError, Global};
 use std::test::Fail;
 
@@ -30,17 +30,23 @@ fn listed(
 
 /// Three revisions in the tests' own format.
 fn counted(alloc: Global) -> Result<MemSink, AllocError> {
-    let mut formats: Vec<Box<dyn RowFormat>> = Vec::new(alloc);
-    formats.push(Box::new(alloc, TextFormat::new(alloc)?)?)?;
-    formats.push(Box::new(alloc, CountFormat::new(alloc, "count")?)?)?;
+    let mut formats = Vec::new(alloc);
+    add_format(&mut formats, Box::new(alloc, TextFormat::new(alloc)?)?)?;
+    add_format(
+        &mut formats,
+        Box::new(alloc, CountFormat::new(alloc, "count")?)?,
+    )?;
     listed(alloc, "list P --format count", THREE, &mut formats)
 }
 
-/// Whether of two formats named `text` the first one wrote, and whether the second one is left and writes then.
+/// Whether of two formats named `text` the first one wrote, and whether one is left.
 fn in_turn(alloc: Global) -> Result<(bool, bool), AllocError> {
-    let mut formats: Vec<Box<dyn RowFormat>> = Vec::new(alloc);
-    formats.push(Box::new(alloc, CountFormat::new(alloc, "text")?)?)?;
-    formats.push(Box::new(alloc, TextFormat::new(alloc)?)?)?;
+    let mut formats = Vec::new(alloc);
+    add_format(
+        &mut formats,
+        Box::new(alloc, CountFormat::new(alloc, "text")?)?,
+    )?;
+    add_format(&mut formats, Box::new(alloc, TextFormat::new(alloc)?)?)?;
     let first = listed(alloc, "list P", INSERTED, &mut formats)?;
     let left = formats.len();
     Ok((first.bytes() == b"#\n".as_slice(), left == 1))

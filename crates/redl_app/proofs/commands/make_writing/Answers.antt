@@ -28,3 +28,13 @@ returns-in-Join-clause-read g c = rw c.in-Join.is (rw c.deref-in-Join.ensures.va
 
 pub returns-in-Check-clause-read : goal.returns-in-Check-clause-read
 returns-in-Check-clause-read g c = rw c.in-Check.is (reads_nothing _ _ _ c.check.ensures)
+
+pub decide-requires-clause-journals : goal.decide-requires-clause-journals
+decide-requires-clause-journals g c = rw c.deref-in-Decide-2.ensures.value (rw c.in-Decide.is at c.requires.utf8).2
+
+pub returns-in-Decide-clause-read : goal.returns-in-Decide-clause-read
+returns-in-Decide-clause-read g c =
+    rw c.in-Decide.is (rw (c.deref-in-Decide.ensures.value, c.deref-in-Decide-2.ensures.value, c.deref-in-Decide-3.ensures.value) at c.decide.ensures)
+
+pub returns-in-Sample-clause-read : goal.returns-in-Sample-clause-read
+returns-in-Sample-clause-read g c = rw c.in-Sample.is (reads_nothing _ _ _ c.sample.ensures)

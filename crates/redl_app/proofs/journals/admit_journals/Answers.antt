@@ -16,7 +16,7 @@ name_of-requires g c =
 pub loop-journal-init : goal.loop-journal-init
 loop-journal-init g c = record {
   left = omega arith;
-  taking = taking_begins admission_with (g.F.Shelf.told c.args.shelf.now) (document_view c.args.document) (admission_view c.args.before) c.args.limit c.args.journals.now;
+  taking = taking_begins admission_with (g.F.Shelf.told c.args.shelf.now) (document_view c.args.before.document) (admission_view c.args.before) c.args.limit c.args.journals.now;
   told = refl;
   stands = refl;
   nodes = refl;
@@ -34,7 +34,7 @@ returns-in_err-entries-clause-read g c =
     drop_more journals index c.journal-item.result c.loop-journal-test.true ∙ ap (λ one. one ∷ drop (index + 1) journals) (sym c.journal-item.is ∙ sym is) in
     let among : Contains journals name =
     rw (is, c.journal-item.is) (Contains-get_or journals index c.journal-item.result c.loop-journal-test.true) in
-    rw (p.1, p.2) (taking_stops admission_with _ (document_view c.args.document) (λ reader files. admission_of reader files (document_view c.args.document) (admission_view c.args.before) c.args.limit journals)
+    rw (p.1, p.2) (taking_stops admission_with _ (document_view c.args.before.document) (λ reader files. admission_of reader files (admission_view c.args.before) c.args.limit journals)
     (admission_view c.loop-journal.admitted) c.loop-journal.left name (drop (index + 1) journals) journals _
     c.loop-journal.invariant.told c.loop-journal.invariant.stands (rw here at c.loop-journal.invariant.taking)
     (λ one h. subst (Contains journals) (only_one name one h) among) c.in_err-entries.ensures.read)
@@ -47,9 +47,9 @@ loop-journal-preserved g c =
     let is : name ≡ c.journal-item.result = c.name_of.ensures in
     let here : drop index journals ≡ name ∷ drop (index + 1) journals =
     drop_more journals index c.journal-item.result c.loop-journal-test.true ∙ ap (λ one. one ∷ drop (index + 1) journals) (sym c.journal-item.is ∙ sym is) in
-    let P : Admission → Type 0 = λ a. IsTaking admission_with (g.F.Shelf.told c.args.shelf.now) (document_view c.args.document) (λ reader files. admission_of reader files (document_view c.args.document) (admission_view c.args.before) c.args.limit journals)
+    let P : Admission → Type 0 = λ a. IsTaking admission_with (g.F.Shelf.told c.args.shelf.now) (document_view c.args.before.document) (λ reader files. admission_of reader files (admission_view c.args.before) c.args.limit journals)
     a (c.loop-journal.left - c.in_ok-entries.size) (drop (index + 1) journals) in
-    let next = taking_goes_on admission_with admits_in_steps (g.F.Shelf.told c.args.shelf.now) (document_view c.args.document) (λ reader files. admission_of reader files (document_view c.args.document) (admission_view c.args.before) c.args.limit journals)
+    let next = taking_goes_on admission_with admits_in_steps (g.F.Shelf.told c.args.shelf.now) (document_view c.args.before.document) (λ reader files. admission_of reader files (admission_view c.args.before) c.args.limit journals)
     (admission_view c.loop-journal.admitted) c.loop-journal.left name (drop (index + 1) journals)
     c.in_ok-entries.entries.items c.in_ok-entries.size c.loop-journal.invariant.told (rw here at c.loop-journal.invariant.taking) c.in_ok-entries.ensures.read in
     record {
@@ -65,6 +65,6 @@ pub returns-clause-read : goal.returns-clause-read
 returns-clause-read g c =
     let journals = c.args.journals.now in
     let none = drop_all c.loop-journal.journal-index journals (omega arith) in
-    taking_ends admission_with admits_nothing _ (document_view c.args.document) (λ reader files. admission_of reader files (document_view c.args.document) (admission_view c.args.before) c.args.limit journals)
+    taking_ends admission_with admits_nothing _ (document_view c.args.before.document) (λ reader files. admission_of reader files (admission_view c.args.before) c.args.limit journals)
     (admission_view c.loop-journal.admitted) c.loop-journal.left _ journals
     c.loop-journal.invariant.told c.loop-journal.invariant.stands (rw none at c.loop-journal.invariant.taking)
