@@ -82,7 +82,9 @@ fn list_revisions<'a>(
         (without_named (λ format. format_name format) name.now formats.old.items) formats.old.items formats.new.items }
 {
     let Admitted {
-        session, refused, ..
+        session,
+        refused,
+        ..
     } = admitted;
     let verdicts = session.verdicts()?;
     let mut made = Vec::new(alloc);
