@@ -140,7 +140,7 @@ leaves_written without old new (entry ∷ refused) is = is
 pub leaves_failed : {F : Type 0} (without old new : List F) (failure : Failure) → new ≡ old → LeavesFormats (failure_status failure) without old new
 leaves_failed without old new no_memory is = inl is
 leaves_failed without old new (unread name) is = is
-leaves_failed without old new (caused cause) is = by_cause (λ s. LeavesFormats s without old new) is is is is is is cause
+leaves_failed without old new (caused cause) is = by_cause (λ s. LeavesFormats s without old new) is is is is is cause
 
 taken_by : {F : Type 0} (without old new : List F) (refused : List Entry) → LeavesFormats (written_status refused) without old new → new ≡ without
 taken_by without old new [] is = is

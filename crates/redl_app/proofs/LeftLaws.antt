@@ -63,7 +63,7 @@ failed_is_not_written no_memory is = absurd (unwritten (λ e. cc e) (λ e. cc e)
 failed_is_not_written (unread name) is = absurd (unwritten (λ e. cc e) (λ e. cc e) is)
 failed_is_not_written (caused cause) is =
     by_cause (λ s. IsWritten s → ⊥) (unwritten (λ e. cc e) (λ e. cc e)) (unwritten (λ e. cc e) (λ e. cc e)) (unwritten (λ e. cc e) (λ e. cc e))
-    (unwritten (λ e. cc e) (λ e. cc e)) (unwritten (λ e. cc e) (λ e. cc e)) (unwritten (λ e. cc e) (λ e. cc e)) cause is
+    (unwritten (λ e. cc e) (λ e. cc e)) (unwritten (λ e. cc e) (λ e. cc e)) cause is
 
 is_made : (made : Result Writing Failure) → IsWritten (outcome_of made).status → (writing : Writing) × (made ≡ Ok writing)
 is_made (Ok writing) is = (writing, refl)

@@ -10,7 +10,7 @@ use Rattle.redl_lines.specs.Ends.{End, end_status, end_lines, written_status, re
 use Rattle.redl_app.specs.Outcome.{writing_of}
 use Rattle.redl_app.specs.Writing.{Outcome, Writing, outcome_of}
 use Rattle.redl_app.specs.Reading.{IsMade, IsUnread, UnlessUnread}
-use Rattle.redl_lines.specs.Failures.{Failure, Cause, usage, unbuilt, no_format, no_package, malformed, other_document, other_count, no_sequence, over, caused, unread, no_memory, failure_status, cause_status}
+use Rattle.redl_lines.specs.Failures.{Failure, Cause, usage, no_format, no_package, malformed, other_document, other_count, no_sequence, over, caused, unread, no_memory, failure_status, cause_status}
 use Rattle.redl_lines.specs.Lines.{failure_line, unwritten_line}
 use Rattle.redl_lines.specs.declared.status.Status.{Status}
 use Rattle.redl_lines.specs.declared.status.Status.TheVariants as status
@@ -21,18 +21,17 @@ use Rattle.redl_journal.specs.declared.entry.Entry.{Entry}
 
 -- ---- the status of a cause
 
--- what holds of the six statuses of causes holds of the status of each cause
-pub by_cause : (Holds : Status → Type 0) → Holds status.Usage → Holds status.Package → Holds status.Journal → Holds status.Limit → Holds status.Sequence → Holds status.Unbuilt
+-- what holds of the five statuses of causes holds of the status of each cause
+pub by_cause : (Holds : Status → Type 0) → Holds status.Usage → Holds status.Package → Holds status.Journal → Holds status.Limit → Holds status.Sequence
     → (cause : Cause) → Holds (cause_status cause)
-by_cause Holds words_ package_ journal limit sequence other usage = words_
-by_cause Holds words_ package_ journal limit sequence other unbuilt = other
-by_cause Holds words_ package_ journal limit sequence other (no_format name) = words_
-by_cause Holds words_ package_ journal limit sequence other (no_package fault) = package_
-by_cause Holds words_ package_ journal limit sequence other (malformed name) = journal
-by_cause Holds words_ package_ journal limit sequence other (other_document name found expected) = journal
-by_cause Holds words_ package_ journal limit sequence other (other_count name found expected) = journal
-by_cause Holds words_ package_ journal limit sequence other (no_sequence reviewer) = sequence
-by_cause Holds words_ package_ journal limit sequence other (over quantity) = limit
+by_cause Holds words_ package_ journal limit sequence usage = words_
+by_cause Holds words_ package_ journal limit sequence (no_format name) = words_
+by_cause Holds words_ package_ journal limit sequence (no_package fault) = package_
+by_cause Holds words_ package_ journal limit sequence (malformed name) = journal
+by_cause Holds words_ package_ journal limit sequence (other_document name found expected) = journal
+by_cause Holds words_ package_ journal limit sequence (other_count name found expected) = journal
+by_cause Holds words_ package_ journal limit sequence (no_sequence reviewer) = sequence
+by_cause Holds words_ package_ journal limit sequence (over quantity) = limit
 
 -- ---- the outcome of what was due
 
@@ -51,7 +50,7 @@ answer_failed (unread name) due failed w (inl h) = inl h
 answer_failed (unread name) due failed w (inr h) = inr (ap (λ d. (outcome_of d).status) h)
 answer_failed (caused cause) due failed w h =
     let o = outcome_of due in
-    by_cause (λ s. o.status ≡ s → IsAnswer s o failed w) (λ is. is) (λ is. is) (λ is. is) (λ is. is) (λ is. is) (λ is. is) cause (ap (λ d. (outcome_of d).status) h)
+    by_cause (λ s. o.status ≡ s → IsAnswer s o failed w) (λ is. is) (λ is. is) (λ is. is) (λ is. is) (λ is. is) cause (ap (λ d. (outcome_of d).status) h)
 
 pub answer_by : (old new : Option (List ℕ)) (before now : ℕ) (made : Result Writing Failure) (end : End) (due : Result Writing Failure) (failed : Type 0)
     → Finishes old new before now made end → IsMade made due failed → IsAnswer (end_status end) (outcome_of due) failed (Rose before now)
@@ -69,7 +68,7 @@ writes_written (entry ∷ refused) old new bytes is = is
 writes_nothing : (failure : Failure) (old new : Option (List ℕ)) (bytes : List ℕ) → new ≡ old → Writes (failure_status failure) old new bytes
 writes_nothing no_memory old new bytes is = is
 writes_nothing (unread name) old new bytes is = is
-writes_nothing (caused cause) old new bytes is = by_cause (λ s. Writes s old new bytes) is is is is is is cause
+writes_nothing (caused cause) old new bytes is = by_cause (λ s. Writes s old new bytes) is is is is is cause
 
 pub writes_by : (old new : Option (List ℕ)) (before now : ℕ) (made : Result Writing Failure) (end : End) (due : Result Writing Failure) (failed : Type 0)
     → Finishes old new before now made end → IsMade made due failed → Writes (end_status end) old new (outcome_of due).bytes
@@ -98,7 +97,7 @@ lines_failed (unread name) due words formats names told failed named (inr h) u =
     inl (ap (λ d. (outcome_of d).status) h, sym (ap (λ d. (outcome_of d).lines) h))
 lines_failed (caused cause) due words formats names told failed named h u =
     let is : failure_line (caused cause) ≡ (outcome_of due).lines = sym (ap (λ d. (outcome_of d).lines) h) in
-    by_cause (λ s. AreLines s (outcome_of due) words formats failed (failure_line (caused cause))) is is is is is is cause
+    by_cause (λ s. AreLines s (outcome_of due) words formats failed (failure_line (caused cause))) is is is is is cause
 
 pub lines_by : (old new : Option (List ℕ)) (before now : ℕ) (made : Result Writing Failure) (end : End) (due : Result Writing Failure) (words : List (List ℕ)) (formats : List Format) (names : List (List ℕ)) (told : Option Files) (failed : Type 0)
     → AreNamed words formats names → Finishes old new before now made end → IsMade made due failed → IsUnread made names told failed
@@ -144,7 +143,7 @@ no_read_fault (entry ∷ refused) is = absurd (cc is)
 
 not_read_fault : {Holds : Type 0} (cause : Cause) → cause_status cause ≡ status.ReadFault → Holds
 not_read_fault cause is =
-    absurd (by_cause (λ s. s ≡ status.ReadFault → ⊥) (λ e. absurd (cc e)) (λ e. absurd (cc e)) (λ e. absurd (cc e)) (λ e. absurd (cc e)) (λ e. absurd (cc e)) (λ e. absurd (cc e)) cause is)
+    absurd (by_cause (λ s. s ≡ status.ReadFault → ⊥) (λ e. absurd (cc e)) (λ e. absurd (cc e)) (λ e. absurd (cc e)) (λ e. absurd (cc e)) (λ e. absurd (cc e)) cause is)
 
 may_fault : (failure : Failure) (words : List (List ℕ)) (formats : List Format) (names : List (List ℕ)) (told : Option Files) (failed : Type 0) → AreNamed words formats names
     → IsUnread {Y = Writing} (Err failure) names told failed → failure_status failure ≡ status.ReadFault → MayFault words formats told failed
@@ -172,7 +171,7 @@ failed_no_write_fault : (failure : Failure) → failure_status failure ≡ statu
 failed_no_write_fault no_memory is = absurd (cc is)
 failed_no_write_fault (unread name) is = absurd (cc is)
 failed_no_write_fault (caused cause) is =
-    by_cause (λ s. s ≡ status.WriteFault → ⊥) (λ e. absurd (cc e)) (λ e. absurd (cc e)) (λ e. absurd (cc e)) (λ e. absurd (cc e)) (λ e. absurd (cc e)) (λ e. absurd (cc e)) cause is
+    by_cause (λ s. s ≡ status.WriteFault → ⊥) (λ e. absurd (cc e)) (λ e. absurd (cc e)) (λ e. absurd (cc e)) (λ e. absurd (cc e)) (λ e. absurd (cc e)) cause is
 
 pub write_cause : (old new : Option (List ℕ)) (before now : ℕ) (made : Result Writing Failure) (end : End)
     → Finishes old new before now made end → end_status end ≡ status.WriteFault → Rose before now
