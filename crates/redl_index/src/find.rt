@@ -30,10 +30,10 @@ use std::alloc::AllocError;
 /// Adds what is in the stories of a package to nothing. `Err` means out of memory.
 pub(crate) fn find_in_stories(pkg: &Package, found: &mut Found) -> Result<(), AllocError>
     requires index { found.old.index ≡ [] }
-    requires labels { found.old.labels.items ≡ [] }
+    requires labels { found.old.labels ≡ [] }
     ensures index { OnOk result (found.new.index ≡ revisions_of pkg.now) }
     ensures count { OnOk result (length found.new.index ≡ package_revisions pkg.now) }
-    ensures labels { OnOk result (found.new.labels.items ≡ labels_of 1 (stories pkg.now)) }
+    ensures labels { OnOk result (found.new.labels ≡ labels_of 1 (stories pkg.now)) }
 {
     for part in 0..pkg.parts() {
         let Some(root) = pkg.story(part) else {
@@ -53,7 +53,7 @@ fn find_in_story(root: &Elem, part: u32, found: &mut Found) -> Result<(), AllocE
     ensures at_most { OnOk result (length found.new.index ≤ length found.old.index + count (kids_of root.now)) }
     ensures index { OnOk result (found.new.index ≡ found.old.index
         ++ numbered (1 + length found.old.index) (story_revisions part (tag_of root.now) (kids_of root.now))) }
-    ensures labels { OnOk result (found.new.labels.items ≡ found.old.labels.items
+    ensures labels { OnOk result (found.new.labels ≡ found.old.labels
         ++ story_labels (1 + length found.old.index) (tag_of root.now) (kids_of root.now)) }
 {
     let markers = find_markers(found.alloc, root)?;

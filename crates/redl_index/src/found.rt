@@ -15,7 +15,7 @@ use crate::revision::{RevKind, Revision};
 use crate::story::{Sight, Story};
 use indexmap::IndexMap;
 use redl_moves::Start;
-use redl_opc::Label;
+use redl_opc::{Label, Labels};
 use redl_tree::{Elem, Kind};
 use std::alloc::{AllocError, Global};
 
@@ -25,7 +25,7 @@ use std::alloc::{AllocError, Global};
 pub(crate) struct Found {
     pub(crate) alloc: Global,
     pub(crate) index: Index,
-    pub(crate) labels: Vec<Label>,
+    pub(crate) labels: Labels,
     pub(crate) moves: IndexMap<u64, u32>,
 }
 
@@ -33,12 +33,12 @@ impl Found {
     /// Nothing is found yet. It takes no memory.
     pub(crate) fn nothing(alloc: Global) -> Found
         ensures index { result.index ≡ [] }
-        ensures labels { result.labels.items ≡ [] }
+        ensures labels { result.labels ≡ [] }
     {
         Found {
             alloc,
             index: Index::empty(alloc),
-            labels: Vec::new(alloc),
+            labels: Labels::empty(alloc),
             moves: IndexMap::new(alloc),
         }
     }
@@ -46,7 +46,7 @@ impl Found {
     /// Forgets the moves of the story before. It takes no memory.
     pub(crate) fn begin_story(&mut self)
         ensures index { self.new.index ≡ self.old.index }
-        ensures labels { self.new.labels.items ≡ self.old.labels.items }
+        ensures labels { self.new.labels ≡ self.old.labels }
         ensures moves { (start : ℕ) → get nat_eq self.new.moves start ≡ None }
     {
         self.moves = IndexMap::new(self.alloc);
@@ -79,8 +79,7 @@ impl Found {
         ensures at_most { OnOk result (length self.new.index ≡ length self.old.index) }
         ensures tally { OnOk result ((tally : Tally) → IsTally self.old tally → IsTally self.new (labelled kind rev tally)) }
     {
-        self.labels.push(Label { kind, rev })?;
-        Ok(())
+        self.labels.push(Label { kind, rev })
     }
 
     /// The number of the revision of an element, which is added where the element is the first of it.
@@ -154,7 +153,7 @@ impl Found {
         ensures index { OnOk result (self.new.index ≡ self.old.index ++ revision_of story.now.part
             (move_mention (tails_in story.now) start counts ∷ [])
             (move_mention (tails_in story.now) start counts) (1 + length self.old.index) ∷ []) }
-        ensures labels { OnOk result (self.new.labels.items ≡ self.old.labels.items) }
+        ensures labels { OnOk result (self.new.labels ≡ self.old.labels) }
         ensures moves { OnOk result ((other : ℕ) → get nat_eq self.new.moves other ≡ (if start.at == other then Some (1 + length self.old.index) else get nat_eq self.old.moves other)) }
     {
         let tail = story.tail(start.place);
@@ -176,7 +175,7 @@ impl Found {
         requires tail { IsUtf8 tail.now }
         ensures number { IfOk result (λ number. number ≡ 1 + length self.old.index) }
         ensures index { OnOk result (self.new.index ≡ self.old.index ++ revision_with part kind tail.now members (1 + length self.old.index) ∷ []) }
-        ensures labels { OnOk result (self.new.labels.items ≡ self.old.labels.items) }
+        ensures labels { OnOk result (self.new.labels ≡ self.old.labels) }
         ensures moves { OnOk result ((start : ℕ) → get nat_eq self.new.moves start ≡ get nat_eq self.old.moves start) }
     {
         let number = self.index.count() + 1;

@@ -16,7 +16,8 @@ ghost use Rattle.redl_opc.specs.Tree.{HasUtf8Tails, IsTree};
 
 use crate::elements::{element_at, only_element};
 use crate::error::OpcError;
-use crate::label::{Label, first_place, label_at};
+use crate::label::{first_place, label_at};
+use crate::labels::Labels;
 use crate::listing::list_parts;
 use crate::part::Part;
 use crate::shape::{are_parts, have_document, package_of, story_of};
@@ -176,11 +177,10 @@ impl<'a> Package<'a> {
     /// Labels the elements below the roots of all stories with these labels, in the order of their start tags.
     ///
     /// If there are fewer labels than elements, the remaining elements are unchanged. All else is unchanged.
-    pub fn label_stories(&mut self, labels: &[Label])
+    pub fn label_stories(&mut self, labels: &Labels)
         ensures nodes { self.new ≡ labelled_stories labels.now self.old }
         ensures text { text self.new ≡ text self.old }
     {
-        let mut at = 0;
-        label_nodes(&mut self.nodes, Level::Top, labels, &mut at);
+        label_nodes(&mut self.nodes, Level::Top, &mut labels.all());
     }
 }

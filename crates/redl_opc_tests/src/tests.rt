@@ -3,7 +3,7 @@ ghost use Rattle.std.specs.Prelude.{IfOk};
 ghost use Rattle.redl_opc.specs.Tree.{IsTree};
 ghost use Rattle.redl_tree.specs.Model.View.{nodes_of};
 
-use redl_opc::{Label, OpcError, Package};
+use redl_opc::{Label, Labels, OpcError, Package};
 use redl_tree::{Kind, Node, Trace};
 use std::alloc::{AllocError, Global};
 use std::test::Fail;
@@ -141,8 +141,8 @@ fn labelled(alloc: Global, nodes: &[Node]) -> Result<Vec<(usize, u32)>, AllocErr
 }
 
 // This many labels, numbered from 1.
-fn labels(alloc: Global, many: u32) -> Result<Vec<Label>, AllocError> {
-    let mut labels = Vec::new(alloc);
+fn labels(alloc: Global, many: u32) -> Result<Labels, AllocError> {
+    let mut labels = Labels::empty(alloc);
     for before in 0..many {
         labels.push(Label {
             kind: LABELLED,
