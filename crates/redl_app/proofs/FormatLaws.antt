@@ -4,7 +4,6 @@ use Rattle.std.proofs.lemmas.List.{drop_all}
 use Rattle.std.proofs.lemmas.List.FromFn.{length-map-range_with_len}
 use Rattle.std.specs.Option.{option_map}
 use Rattle.std.specs.Str.{bytes_eq}
-use Rattle.redl_app.proofs.ReadLaws.{always}
 use Rattle.redl_app.proofs.TopLaws.{by_cause}
 use Rattle.redl_app.specs.Admission.{Admission}
 use Rattle.redl_app.specs.Commands.List.{listing, listing_named, part_names, session_rows}
@@ -194,7 +193,7 @@ pub ends_at_once : (told : Option Files) (f : ℕ) (out : Option (List ℕ)) (co
 ends_at_once told f out count there names next failure is never = rw is (record {
   made = Err failure;
   reads = record {
-    as_due = always told (λ files reader reads. same_failure failure _);
+    as_due = λ files may reader reads. same_failure failure _;
     unread = never_file failure [] told _ never;
     same_files = refl;
     stands = stands_still failure (f ≡ f) refl;

@@ -1,7 +1,6 @@
 -- A session over a package and its journals, and the union of journals.
 use Rattle.std.proofs.Common.{◌≡◌, ◌<◌, ◌≤◌, ◌-◌, ℕ, List, [], ◌∷◌, length, take, drop, get_or, Option, Result, Err, refl, ap, ◌∙◌, subst, arith}
 use Rattle.std.proofs.lemmas.List.{take_all}
-use Rattle.redl_app.proofs.ReadLaws.{always}
 use Rattle.redl_app.specs.Admission.{Admission, admission_of}
 use Rattle.redl_app.specs.Commands.Join.{joined}
 use Rattle.redl_app.specs.Reading.{ReadsFiles}
@@ -38,7 +37,7 @@ joins_same {old} {new} {before} {now} {made} names others same step =
 pub joins_nothing : (told : Option Files) (count : ℕ) (names : List (List ℕ)) → length names < 1
     → ReadsFiles {Y = Writing} told told count count names (Err (caused usage)) (λ reader files. joined reader files journal_bytes names)
 joins_nothing told count [] none = record {
-  as_due = always told (λ files reader is. refl);
+  as_due = λ files may reader is. refl;
   unread = tt;
   same_files = refl;
   stands = refl;

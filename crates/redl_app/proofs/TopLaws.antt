@@ -1,15 +1,15 @@
 -- What a call answers and leaves behind, by how it ended.
-use Rattle.std.proofs.Common.{◌≡◌, ◌≢◌, inl, inr, ℕ, List, [], ◌∷◌, ◌++◌, Option, Contains, Result, Ok, Err, refl, sym, ap, ◌∙◌, subst}
+use Rattle.std.proofs.Common.{◌≡◌, ◌≢◌, ◌⊎◌, inl, inr, ℕ, List, [], ◌∷◌, ◌++◌, Option, Contains, Result, Ok, Err, refl, sym, ap, ◌∙◌, subst, arith}
 use Rattle.std.specs.Io.KnownBytes.{append_known}
-use Rattle.redl_app.proofs.ReadLaws.{if_some}
 use Rattle.redl_app.specs.Answers.{OfOutcome, IsAnswer, IsWritten, Writes, IsFileOf, AreLines, MayFault}
 use Rattle.redl_app.specs.Finishing.{Ends, Finishes}
 use Rattle.redl_app.specs.Formats.{Format}
-use Rattle.redl_app.specs.Readers.{Reader}
+use Rattle.redl_app.specs.Files.{asked_by}
+use Rattle.redl_app.specs.Readers.{Reader, IsReader}
 use Rattle.redl_lines.specs.Ends.{End, end_status, end_lines, written_status, refused_lines}
 use Rattle.redl_app.specs.Outcome.{writing_of}
 use Rattle.redl_app.specs.Writing.{Outcome, Writing, outcome_of}
-use Rattle.redl_app.specs.Reading.{IsMade, IsUnread, UnlessUnread}
+use Rattle.redl_app.specs.Reading.{IsMade, IsUnread, MayHold, UnlessUnread}
 use Rattle.redl_lines.specs.Failures.{Failure, Cause, usage, no_format, no_package, malformed, other_document, other_count, no_sequence, over, caused, unread, no_memory, failure_status, cause_status}
 use Rattle.redl_lines.specs.Lines.{failure_line, unwritten_line}
 use Rattle.redl_lines.specs.declared.status.Status.{Status}
@@ -111,29 +111,40 @@ lines_by old new before now (Err failure) end due words formats names told faile
 
 -- ---- whatever the shelf tells
 
+-- where the words ask for no file, none is named
+abbrev pub NamesWhatIsAsked : List (List ℕ) → List Format → List (List ℕ) → Type 0
+NamesWhatIsAsked words formats names = (reader : Reader) → IsReader reader → asked_by formats (reader.command words) ≡ [] → names ≡ []
+
+-- who asks for no file may be given any
+may_hold : {told : Option Files} {files : Files} {names other : List (List ℕ)} → (other ≡ [] → names ≡ []) → MayHold told other files → MayHold told names files
+may_hold none (inl tells) = inl tells
+may_hold none (inr nothing) = inr (none nothing)
+
 -- what is due by the words
 abbrev pub due_by : List (List ℕ) → List Format → Reader → Files → Result Writing Failure
 due_by words formats reader files = writing_of reader files formats (reader.command words)
 
 pub answers : (formats : List Format) {told told_new : Option Files} {f f_new : ℕ} {words : List (List ℕ)} {names : List (List ℕ)} {old new : Option (List ℕ)} {before now : ℕ} {end : End}
-    → Ends told told_new f f_new old new before now names (due_by words formats) end → OfOutcome told words formats (λ o. IsAnswer (end_status end) o (Rose f f_new) (Rose before now))
-answers formats {told} {f = f} {f_new = f_new} {words = words} {old = old} {new = new} {before = before} {now = now} {end = end} ends =
-    if_some told (λ files h reader is. answer_by old new before now ends.made end (due_by words formats reader files) (Rose f f_new) ends.finishes (h reader is)) ends.reads.as_due
+    → NamesWhatIsAsked words formats names → Ends told told_new f f_new old new before now names (due_by words formats) end → OfOutcome told words formats (λ o. IsAnswer (end_status end) o (Rose f f_new) (Rose before now))
+answers formats {told} {f = f} {f_new = f_new} {words = words} {old = old} {new = new} {before = before} {now = now} {end = end} asked ends =
+    λ files reader is may. answer_by old new before now ends.made end (due_by words formats reader files) (Rose f f_new) ends.finishes
+    (ends.reads.as_due files (may_hold (asked reader is) may) reader is)
 
 pub writes : (formats : List Format) {told told_new : Option Files} {f f_new : ℕ} {words : List (List ℕ)} {names : List (List ℕ)} {old new : Option (List ℕ)} {before now : ℕ} {end : End}
-    → Ends told told_new f f_new old new before now names (due_by words formats) end → OfOutcome told words formats (λ o. Writes (end_status end) old new o.bytes)
-writes formats {told} {f = f} {f_new = f_new} {words = words} {old = old} {new = new} {before = before} {now = now} {end = end} ends =
-    if_some told (λ files h reader is. writes_by old new before now ends.made end (due_by words formats reader files) (Rose f f_new) ends.finishes (h reader is)) ends.reads.as_due
+    → NamesWhatIsAsked words formats names → Ends told told_new f f_new old new before now names (due_by words formats) end → OfOutcome told words formats (λ o. Writes (end_status end) old new o.bytes)
+writes formats {told} {f = f} {f_new = f_new} {words = words} {old = old} {new = new} {before = before} {now = now} {end = end} asked ends =
+    λ files reader is may. writes_by old new before now ends.made end (due_by words formats reader files) (Rose f f_new) ends.finishes
+    (ends.reads.as_due files (may_hold (asked reader is) may) reader is)
 
 pub tells : (Told : List ℕ → Type 0) {told told_new : Option Files} {f f_new : ℕ} {words : List (List ℕ)} {formats : List Format} {names : List (List ℕ)} {old new : Option (List ℕ)} {before now : ℕ} {end : End} → AreNamed words formats names
-    → Ends told told_new f f_new old new before now names (due_by words formats) end → Told (end_lines end)
+    → NamesWhatIsAsked words formats names → Ends told told_new f f_new old new before now names (due_by words formats) end → Told (end_lines end)
     → OfOutcome told words formats (λ o. (lines : List ℕ) × AreLines (end_status end) o words formats (Rose f f_new) lines × Told lines)
-tells Told {told} {f = f} {f_new = f_new} {words = words} {formats = formats} {names = names} {old = old} {new = new} {before = before} {now = now} {end = end} named ends h =
-    if_some told (λ files made_is reader is. (
+tells Told {told} {f = f} {f_new = f_new} {words = words} {formats = formats} {names = names} {old = old} {new = new} {before = before} {now = now} {end = end} named asked ends h =
+    λ files reader is may. (
       end_lines end,
-      lines_by old new before now ends.made end (due_by words formats reader files) words formats names told (Rose f f_new) named ends.finishes (made_is reader is) ends.reads.unread,
+      lines_by old new before now ends.made end (due_by words formats reader files) words formats names told (Rose f f_new) named ends.finishes (ends.reads.as_due files (may_hold (asked reader is) may) reader is) ends.reads.unread,
       h,
-    )) ends.reads.as_due
+    )
 
 -- ---- causes
 
@@ -208,3 +219,23 @@ pub shelf_stands : (old new : Option (List ℕ)) (before now : ℕ) (made : Resu
 shelf_stands old new before now (Ok writing) end Holds finished h other = h
 shelf_stands old new before now (Err failure) end Holds (is, same, stands) h other =
     failed_stands failure Holds h (λ e. other (ap end_status is ∙ e))
+
+-- ---- where nothing can fail
+
+-- where neither the shelf nor the output can fail, the status is the outcome's, or memory ran out
+pub answered_surely : (answer : Status) (o : Outcome) (read_failed write_failed : Type 0) → (read_failed → ⊥) → (write_failed → ⊥)
+    → IsAnswer answer o read_failed write_failed → (answer ≡ o.status) ⊎ (answer ≡ status.NoMemory)
+answered_surely status.NoMemory o read_failed write_failed reads writes h = inr refl
+answered_surely status.ReadFault o read_failed write_failed reads writes (inl h) = absurd (reads h)
+answered_surely status.ReadFault o read_failed write_failed reads writes (inr h) = inl (sym h)
+answered_surely status.WriteFault o read_failed write_failed reads writes h = absurd (writes h.0)
+answered_surely status.Done o read_failed write_failed reads writes h = inl (sym h)
+answered_surely status.Refused o read_failed write_failed reads writes h = inl (sym h)
+answered_surely status.Usage o read_failed write_failed reads writes h = inl (sym h)
+answered_surely status.Package o read_failed write_failed reads writes h = inl (sym h)
+answered_surely status.Journal o read_failed write_failed reads writes h = inl (sym h)
+answered_surely status.Limit o read_failed write_failed reads writes h = inl (sym h)
+answered_surely status.Sequence o read_failed write_failed reads writes h = inl (sym h)
+
+pub never_rose : Rose 0 0 → ⊥
+never_rose rose = absurd (omega (arith, rose.more))

@@ -1,8 +1,9 @@
 -- How a call ends, by the words as they were read.
-use Rattle.std.proofs.Common.{◌≡◌, ◌⊎◌, inl, inr, ℕ, List, [], Option, Result, Ok, Err, IfOk, IfErr, IsErrOf, refl, ap, subst, arith}
+use Rattle.std.proofs.Common.{◌≡◌, ◌⊎◌, inl, inr, ℕ, List, [], Option, Result, Ok, Err, IfOk, IfErr, IsErrOf, refl, sym, ap, ◌∙◌, subst, arith}
 use Rattle.redl_app.proofs.ReadLaws.{always, reads_when, reads_no_memory}
 use Rattle.redl_app.proofs.ReaderLaws.{reads_command, reads_no_command}
-use Rattle.redl_app.proofs.TopLaws.{AreNamed, due_by}
+use Rattle.redl_app.proofs.TopLaws.{AreNamed, NamesWhatIsAsked, due_by}
+use Rattle.redl_app.specs.Files.{asked_by}
 use Rattle.redl_app.specs.Finishing.{Ends, IsWanted, words_failure}
 use Rattle.redl_app.specs.Formats.{Format, LeavesFormats, without_asked}
 use Rattle.redl_app.specs.Outcome.{writing_of}
@@ -25,6 +26,13 @@ pub are_named : (words : List (List ℕ)) (formats : List Format) (read : Result
 are_named words formats (Ok command) is name among = record { command = command_of command; reads = is; among = among }
 are_named words formats (Err error) is name (k, within, here) = absurd (omega (arith, within))
 
+-- where the words ask for no file, the command that was read names none
+pub names_asked : (words : List (List ℕ)) (formats : List Format) (read : Result Declared WordsError) → IfOk read (λ command. IsCommand words (command_of command))
+    → NamesWhatIsAsked words formats (named_files formats read)
+names_asked words formats (Ok command) is = λ reader reads none.
+    sym (ap (asked_by formats) (reads_command reader words (command_of command) reads is)) ∙ none
+names_asked words formats (Err error) is = λ reader reads none. refl
+
 -- what is due by the words is what is due by the command that was read
 pub is_wanted : (words : List (List ℕ)) (formats : List Format) (read : Result Declared WordsError) → IfOk read (λ command. IsCommand words (command_of command))
     → (IsErrOf read error.Usage → HasNoCommand words) → IsWanted formats (read_view read) (due_by words formats)
@@ -36,9 +44,9 @@ is_wanted words formats (Err error.NoMemory) is none = tt
 pub ends_when : {told told_new : Option Files} {f f_new : ℕ} {old new : Option (List ℕ)} {before now : ℕ} {names : List (List ℕ)} {end : End} {due : Reader → Files → Result Writing Failure}
     (later : Reader → Files → Result Writing Failure) → ((reader : Reader) (files : Files) → IsReader reader → later reader files ≡ due reader files)
     → Ends told told_new f f_new old new before now names due end → Ends told told_new f f_new old new before now names later end
-ends_when {told} later same ends = record {
+ends_when {told} {names = names} later same ends = record {
   made = ends.made;
-  reads = reads_when later (always told (λ files reader is. same reader files is)) ends.reads;
+  reads = reads_when later (always told names (λ files reader is. same reader files is)) ends.reads;
   finishes = ends.finishes;
 }
 
@@ -48,7 +56,7 @@ pub ends_unread : (formats : List Format) (told : Option Files) (f : ℕ) (out :
 ends_unread formats told f out count error.Usage due wanted = record {
   made = Err (caused usage);
   reads = record {
-    as_due = always told (λ files reader is. wanted reader files is);
+    as_due = λ files may reader is. wanted reader files is;
     unread = tt;
     same_files = refl;
     stands = refl;

@@ -1,23 +1,25 @@
 -- What a call answers and leaves behind, by its outcome.
-use Rattle.std.specs.Prelude.{◌≡◌, ◌⊎◌, ℕ, List, ◌++◌, Option, IfSome, Contains}
+use Rattle.std.specs.Prelude.{◌≡◌, ◌⊎◌, ℕ, List, ◌++◌, Option, Contains}
 use Rattle.std.specs.Io.KnownBytes.{append_known}
 use Rattle.redl_io.specs.Shelf.{Files, Lacks}
 use Rattle.redl_io.specs.Sink.{GrowsByFront}
 use Rattle.redl_app.specs.Outcome.{outcome}
 use Rattle.redl_app.specs.Readers.{Reader, IsReader}
+use Rattle.redl_app.specs.Reading.{MayHold}
 use Rattle.redl_app.specs.Writing.{Outcome}
 use Rattle.redl_lines.specs.Ends.{Tells}
 use Rattle.redl_lines.specs.Lines.{no_memory_line, unwritten_line, unread_line}
-use Rattle.redl_app.specs.Files.{files_of}
+use Rattle.redl_app.specs.Files.{asked_by, files_of}
 use Rattle.redl_app.specs.Formats.{Format}
 use Rattle.redl_words.specs.Commands.{Command, IsCommand}
 use Rattle.redl_lines.specs.declared.status.Status.{Status}
 use Rattle.redl_lines.specs.declared.status.Status.TheVariants as status
 
--- Where the shelf tells what it holds, this holds of the call's outcome.
+-- Where the shelf tells what it holds, or the words ask for no file, this holds of the call's outcome.
 abbrev pub OfOutcome : Option Files → List (List ℕ) → List Format → (Outcome → Type 0) → Type 0
 OfOutcome told words formats Holds =
-    IfSome told (λ files. (reader : Reader) → IsReader reader → Holds (outcome reader words files formats))
+    (files : Files) (reader : Reader) → IsReader reader → MayHold told (asked_by formats (reader.command words)) files
+    → Holds (outcome reader words files formats)
 
 -- a call with this outcome writes
 abbrev pub IsWritten : Status → Type 0

@@ -1,5 +1,5 @@
 -- The files that a command names.
-use Rattle.std.specs.Prelude.{ℕ, List, [], ◌∷◌, ◌++◌, Result, Ok, Err}
+use Rattle.std.specs.Prelude.{ℕ, List, [], ◌∷◌, ◌++◌, Option, None, Some, Result, Ok, Err}
 use Rattle.redl_app.specs.Formats.{Format, has_format}
 use Rattle.redl_app.specs.Packages.{package_file}
 use Rattle.redl_io.specs.Shelf.{Files}
@@ -34,6 +34,11 @@ where_ok (Err failure) names = []
 -- the names of the files that a command asks for; none where the format that it asks for isn't there
 abbrev pub files_of : List Format → Command → List (List ℕ)
 files_of formats command = where_ok (has_format formats command) (package_of command ++ journals_of command)
+
+-- the names of the files that words ask for, where they are this command or none
+abbrev pub asked_by : List Format → Option Command → List (List ℕ)
+asked_by formats None = []
+asked_by formats (Some command) = files_of formats command
 
 -- the text of a command's package; where it has none, no text
 abbrev pub package_text : Files → Command → Result (List ℕ) Failure

@@ -46,7 +46,7 @@ pub fn run<F: Shelf, O: Sink, E: Sink>(
     requires utf8 { All IsUtf8 words.now }
     requires fresh { All (λ format. (is_closed format ≡ false) × (rows_so_far format ≡ [])) formats.old.items }
 
-    // Where the shelf tells, the status is the outcome's, but for what the outside forces.
+    // Where the shelf tells, or the words ask for no file, the status is the outcome's, but for what the outside forces.
     ensures status { OfOutcome (F.told shelf.old) words.now
         (formats_by (λ format. format_name format) (λ format. text_for format) formats.old.items) (λ outcome. IsAnswer result outcome
         (Rose (F.faults shelf.old) (F.faults shelf.new)) (Rose (O.faults out.old) (O.faults out.new))) }

@@ -47,11 +47,14 @@ loop-journal-preserved g c =
     let is : name ≡ c.journal-item.result = c.name_of.ensures in
     let here : drop index journals ≡ name ∷ drop (index + 1) journals =
     drop_more journals index c.journal-item.result c.loop-journal-test.true ∙ ap (λ one. one ∷ drop (index + 1) journals) (sym c.journal-item.is ∙ sym is) in
-    let P : Admission → Type 0 = λ a. IsTaking admission_with (g.F.Shelf.told c.args.shelf.now) (document_view c.args.before.document) (λ reader files. admission_of reader files (admission_view c.args.before) c.args.limit journals)
+    let among : Contains journals name =
+    rw (is, c.journal-item.is) (Contains-get_or journals index c.journal-item.result c.loop-journal-test.true) in
+    let P : Admission → Type 0 = λ a. IsTaking admission_with (g.F.Shelf.told c.args.shelf.now) journals (document_view c.args.before.document) (λ reader files. admission_of reader files (admission_view c.args.before) c.args.limit journals)
     a (c.loop-journal.left - c.in_ok-entries.size) (drop (index + 1) journals) in
-    let next = taking_goes_on admission_with admits_in_steps (g.F.Shelf.told c.args.shelf.now) (document_view c.args.before.document) (λ reader files. admission_of reader files (admission_view c.args.before) c.args.limit journals)
+    let next = taking_goes_on admission_with admits_in_steps (g.F.Shelf.told c.args.shelf.now) journals (document_view c.args.before.document) (λ reader files. admission_of reader files (admission_view c.args.before) c.args.limit journals)
     (admission_view c.loop-journal.admitted) c.loop-journal.left name (drop (index + 1) journals)
-    c.in_ok-entries.entries.items c.in_ok-entries.size c.loop-journal.invariant.told (rw here at c.loop-journal.invariant.taking) c.in_ok-entries.ensures.read in
+    c.in_ok-entries.entries.items c.in_ok-entries.size c.loop-journal.invariant.told (rw here at c.loop-journal.invariant.taking)
+    (λ one h. subst (Contains journals) (only_one name one h) among) c.in_ok-entries.ensures.read in
     record {
       left = omega (arith, c.loop-journal.invariant.left);
       taking = subst P (sym c.in_ok-admit.ensures) next;

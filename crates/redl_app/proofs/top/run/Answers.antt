@@ -1,13 +1,13 @@
 use Rattle.std.proofs.Common.{◌≡◌, ◌∙◌, sym, ℕ, List}
 use Rattle.redl_app.proofs.TopLaws.{due_by, answers, writes, tells, read_cause, write_cause, out_stands, untouched, shelf_stands}
-use Rattle.redl_app.proofs.WordLaws.{are_named, is_wanted, ends_as_usage, leaves_by_words, leaves_all}
+use Rattle.redl_app.proofs.WordLaws.{are_named, is_wanted, ends_as_usage, leaves_by_words, leaves_all, names_asked}
 use Rattle.redl_lines.specs.Ends.{Tells, end_view}
 use Rattle.redl_app.proofs.top.run.Goals as goal
 
 pub returns-clause-status : goal.returns-clause-status
 returns-clause-status g c =
     let ends = c.end_call-end.ensures.ends (due_by c.args.words.now _) (is_wanted c.args.words.now _ c.read_words-read.result c.read_words-read.ensures.found c.read_words-read.ensures.usage) in
-    rw c.status.ensures (answers _ ends)
+    rw c.status.ensures (answers _ (names_asked c.args.words.now _ c.read_words-read.result c.read_words-read.ensures.found) ends)
 
 pub returns-clause-usage : goal.returns-clause-usage
 returns-clause-usage g c = λ none.
@@ -41,7 +41,7 @@ returns-clause-same_files g c =
 pub returns-clause-bytes : goal.returns-clause-bytes
 returns-clause-bytes g c =
     let ends = c.end_call-end.ensures.ends (due_by c.args.words.now _) (is_wanted c.args.words.now _ c.read_words-read.result c.read_words-read.ensures.found c.read_words-read.ensures.usage) in
-    rw c.status.ensures (writes _ ends)
+    rw c.status.ensures (writes _ (names_asked c.args.words.now _ c.read_words-read.result c.read_words-read.ensures.found) ends)
 
 pub returns-clause-untouched : goal.returns-clause-untouched
 returns-clause-untouched g c = λ not_done not_refused not_failed.
@@ -54,7 +54,7 @@ returns-clause-lines g c =
     let ends = c.end_call-end.ensures.ends (due_by c.args.words.now _) (is_wanted c.args.words.now _ c.read_words-read.result c.read_words-read.ensures.found c.read_words-read.ensures.usage) in
     rw c.status.ensures (tells
     (λ (lines : List ℕ). Tells (g.E.Sink.told c.args.err.now) (g.E.Sink.told c.tell.new.err) (g.E.Sink.faults c.args.err.now) (g.E.Sink.faults c.tell.new.err) lines)
-    (are_named c.args.words.now _ c.read_words-read.result c.read_words-read.ensures.found) ends c.tell.ensures)
+    (are_named c.args.words.now _ c.read_words-read.result c.read_words-read.ensures.found) (names_asked c.args.words.now _ c.read_words-read.result c.read_words-read.ensures.found) ends c.tell.ensures)
 
 pub returns-clause-taken : goal.returns-clause-taken
 returns-clause-taken g c = λ command reads.

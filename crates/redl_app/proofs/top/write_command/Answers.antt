@@ -14,7 +14,8 @@ returns-in-Ok-clause-ends g c =
     let command = command_of c.args.command.now in
     record {
       made = result_view writing_view c.make_writing.result;
-      reads = reads_then (λ whole reader files. written_by reader files _ command whole) c.in-Ok.ensures (Contains-append_right (package_of command) (journals_of command))
+      reads = reads_then (λ whole reader files. written_by reader files _ command whole) c.in-Ok.ensures (Contains-append_left (package_of command) (journals_of command))
+          (Contains-append_right (package_of command) (journals_of command))
           (rw c.deref.ensures.value at c.make_writing.ensures.read);
       finishes = c.finish.ensures;
     }

@@ -23,7 +23,7 @@ returns-in_err-book g c =
     let journal = journal_of c.in_ok-journal.journal in
     let joining = rw (c.in_ok-started.ensures.document, c.in_ok-started.ensures.book) at c.in_err-book.ensures in
     rw (p.1, p.2) (reads_then (λ first reader files. union_of reader files journal_bytes first others >>= (λ book. Ok (only_bytes (book_text (document_in first.0) book))))
-    c.in_ok-journal.ensures.read (Contains-append_right (c.args.name.now ∷ []) others)
+    c.in_ok-journal.ensures.read (Contains-append_left (c.args.name.now ∷ []) others) (Contains-append_right (c.args.name.now ∷ []) others)
     (reads_stops (λ book reader files. Ok (only_bytes (book_text (document_in journal) book))) joining (λ one h. h)))
 
 pub returns : goal.returns
@@ -34,7 +34,7 @@ returns g c =
     let view = c.only.ensures ∙ ap (λ d. only_bytes (book_text d c.in_ok-book.book)) c.in_ok-started.ensures.document in
     rw view
     (reads_then (λ first reader files. union_of reader files journal_bytes first others >>= (λ book. Ok (only_bytes (book_text (document_in first.0) book))))
-    c.in_ok-journal.ensures.read (Contains-append_right (c.args.name.now ∷ []) others)
+    c.in_ok-journal.ensures.read (Contains-append_left (c.args.name.now ∷ []) others) (Contains-append_right (c.args.name.now ∷ []) others)
     (reads_after (Ok (only_bytes (book_text (document_in journal) c.in_ok-book.book)))
     (λ reader files. union_of reader files journal_bytes (journal, c.in_ok-journal.size) others >>= (λ book. Ok (only_bytes (book_text (document_in journal) book))))
     joining tt (λ reader files is read. ap (λ made. made >>= (λ book. Ok (only_bytes (book_text (document_in journal) book)))) read)))
