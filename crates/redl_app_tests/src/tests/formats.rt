@@ -4,7 +4,7 @@ ghost use Rattle.std.specs.Prelude.{◌≡◌, All, [], false};
 use super::calls::{INSERTED, Want, expect_call, files_of, words_of};
 use crate::count_format::CountFormat;
 use redl_app::{Status, run};
-use redl_io::{MemShelf, MemSink};
+use redl_io::{MemShelf, MemSink, NullSink};
 use redl_listing::{RowFormat, TextFormat, add_format};
 use std::alloc::{AllocError, Global};
 use std::test::Fail;
@@ -20,12 +20,24 @@ fn listed(
 ) -> Result<MemSink, AllocError>
     requires { All (λ format. (is_closed format ≡ false) × (rows_so_far format ≡ [])) formats.old.items }
 {
-    let words = words_of(alloc, line)?;
     let mut shelf = MemShelf::new(files_of(alloc, body, "1", ["", "", ""])?, Vec::new(alloc));
     let mut out = MemSink::new(alloc, 2_000, Vec::new(alloc))?;
-    let mut err = MemSink::new(alloc, 2_000, Vec::new(alloc))?;
-    run(alloc, &words, &mut shelf, &mut out, &mut err, formats);
+    call_in(alloc, line, &mut shelf, &mut out, formats)?;
     Ok(out)
+}
+
+/// Calls with the words of this line, in these formats.
+fn call_in(
+    alloc: Global,
+    line: &str,
+    shelf: &mut MemShelf,
+    out: &mut MemSink,
+    formats: &mut Vec<Box<dyn RowFormat>>,
+) -> Result<Status, AllocError>
+    requires { All (λ format. (is_closed format ≡ false) × (rows_so_far format ≡ [])) formats.old.items }
+{
+    let words = words_of(alloc, line)?;
+    Ok(run(alloc, &words, shelf, out, &mut NullSink, formats))
 }
 
 /// Three revisions in the tests' own format.
