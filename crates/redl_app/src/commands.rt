@@ -1,6 +1,6 @@
 //! What each command writes, or why it writes nothing.
 
-ghost use Rattle.std.specs.Prelude.{◌≡◌, [], All, false, bytes_eq};
+ghost use Rattle.std.specs.Prelude.{◌≡◌, [], All, false};
 ghost use Rattle.redl_app.specs.Files.{package_of, journals_of, package_text};
 ghost use Rattle.redl_app.specs.Formats.{LeavesFormats, format_named, formats_by, has_format, whether, without_asked};
 ghost use Rattle.redl_app.specs.Outcome.{written_by};
@@ -19,7 +19,7 @@ use join::join;
 use list::list;
 use redl_io::Shelf;
 use redl_lines::{Cause, Failure, Limit};
-use redl_listing::RowFormat;
+use redl_listing::{RowFormat, has_name};
 use redl_words::Command;
 use sample::sample;
 use settle::settle;
@@ -58,12 +58,6 @@ fn find_format<'a>(name: &'a str, formats: &[Box<dyn RowFormat>]) -> Result<(), 
         }
     }
     Err(Failure::Cause(Cause::NoFormat(name)))
-}
-
-fn has_name(format: &Box<dyn RowFormat>, name: &str) -> bool
-    ensures { result ≡ bytes_eq (format_name format.now) name.now }
-{
-    format.name() == name
 }
 
 /// The text of the command's package. A command without one has the empty text.

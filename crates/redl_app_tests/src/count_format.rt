@@ -9,26 +9,28 @@ use std::marker::Model;
 #[derive(Drop)]
 pub(crate) struct CountFormat {
     alloc: Global,
-    title: &'static str,
+    title: String,
     rows: Vec<Row>,
     text: Vec<u8>,
     closed: bool,
 }
 
 impl Model for CountFormat {
+    ghost use Rattle.std.specs.String.{string_bytes};
     ghost use Rattle.redl_app_tests.specs.Counts.{Count, IsCountDraft};
 
     ghost Value = { Count };
 
-    ghost view = { λ format. record { title = format.title.now; rows = format.rows.items; closed = format.closed } };
+    ghost view = { λ format. record { title = string_bytes format.title; rows = format.rows.items; closed = format.closed } };
 
     ghost invariant = { λ format. IsCountDraft format.rows.items format.closed format.text };
 }
 
 impl CountFormat {
-    pub(crate) fn new(alloc: Global, title: &'static str) -> Result<CountFormat, AllocError>
+    pub(crate) fn new(alloc: Global, title: &str) -> Result<CountFormat, AllocError>
         ensures { IfOk result (λ format. format ≡ record { title = title.now; rows = []; closed = false }) }
     {
+        let title = String::from_str(alloc, title)?;
         let text = Vec::with_capacity(alloc, 1)?;
         Ok(CountFormat {
             alloc,
@@ -52,7 +54,7 @@ impl RowFormat for CountFormat {
     ghost text_for = { λ _. count_listing };
 
     fn name(&self) -> &str {
-        self.title
+        self.title.as_str()
     }
 
     fn row(&mut self, row: &Row) -> Result<(), RowError> {

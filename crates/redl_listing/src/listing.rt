@@ -85,7 +85,8 @@ fn take_named(formats: &mut Vec<Box<dyn RowFormat>>, name: &str) -> Option<Box<d
     None
 }
 
-fn has_name(format: &Box<dyn RowFormat>, name: &str) -> bool
+/// Whether the format has this name.
+pub fn has_name(format: &Box<dyn RowFormat>, name: &str) -> bool
     ensures { result ≡ bytes_eq (format_name format.now) name.now }
 {
     format.name() == name
