@@ -17,9 +17,8 @@ use Rattle.redl_markup.specs.Stretches.{IsStretch, no_head}
 use Rattle.redl_markup.specs.Tails.{Attribute, IsAttribute, IsTail, named_value}
 use Rattle.redl_markup.specs.declared.place.Place.TheVariants.{InElement}
 use Rattle.redl_sample_sound.proofs.Shapes.{Filled, Field, Shape, end, words, empty, full, attribute_of, attributes, filled_with, nodes_of, tag_with, tail_of}
-use Rattle.redl_tree.specs.Model.Nodes.{Nodes, no_nodes}
+use Rattle.redl_tree.specs.Model.Nodes.{Nodes, no_nodes, Close}
 use Rattle.redl_tree.specs.declared.kinds.Space.TheVariants.{W, Pkg}
-use Rattle.redl_tree.specs.declared.node.Close.{Close}
 use Rattle.redl_xml.proofs.Words.{same_bytes}
 use Rattle.redl_xml.specs.Readings.{AreLegal, IsTag}
 use Rattle.redl_xml.specs.Scopes.{Scope, scope_in, with_declarations, is_allowed, is_known, is_known_attribute, is_xml_prefix, is_xmlns}

@@ -10,11 +10,10 @@ use Rattle.redl_markup.specs.Stretches.{IsStretch, IsSetting, is_version}
 use Rattle.redl_markup.specs.Tails.{Attribute, IsAttribute, IsTail, attributes_then, named_value}
 use Rattle.redl_markup.specs.declared.place.Place.TheVariants.{BeforeRoot}
 use Rattle.redl_sample_sound.proofs.Legal.{all_weaker, body_scope, is_safe, is_word, no_quote, no_tag, safe_references, w_word, word_of}
-use Rattle.redl_tree.specs.Model.Nodes.{Tag, Nodes, no_nodes, element}
+use Rattle.redl_tree.specs.Model.Nodes.{Tag, Nodes, no_nodes, element, End}
 use Rattle.redl_tree.specs.declared.kinds.Kind.TheVariants.{Plain}
 use Rattle.redl_tree.specs.declared.kinds.Space.{Space}
 use Rattle.redl_tree.specs.declared.kinds.Space.TheVariants.{W, Pkg}
-use Rattle.redl_tree.specs.declared.node.Close.TheVariants.{End}
 use Rattle.redl_xml.specs.Readings.{AreLegal, IsTag}
 use Rattle.redl_xml.specs.Scopes.{Scope, scope_in, is_known, is_xml_prefix, is_xmlns, may_declare, space_named}
 

@@ -2,11 +2,9 @@
 use Rattle.std.proofs.Common.{◌≡◌, ℕ, Bool, true, false, List, [], ◌∷◌, ◌++◌, map, refl, ap, ◌∙◌, append_assoc}
 use Rattle.redl_markup.specs.Tails.{Attribute, attributes_then}
 use Rattle.redl_markup.proofs.Tags.{attributes_then-append}
-use Rattle.redl_tree.specs.Model.Nodes.{Tag, Nodes, no_nodes, bytes, element}
+use Rattle.redl_tree.specs.Model.Nodes.{Tag, Nodes, no_nodes, bytes, element, Close, Empty, End}
 use Rattle.redl_tree.specs.declared.kinds.Kind.TheVariants.{Plain}
 use Rattle.redl_tree.specs.declared.kinds.Space.TheVariants.{W}
-use Rattle.redl_tree.specs.declared.node.Close.{Close}
-use Rattle.redl_tree.specs.declared.node.Close.TheVariants.{Empty, End}
 use Rattle.redl_xml.proofs.Texts.{text_then}
 
 -- what stands before the digits of a number, and whether the digits are there
