@@ -178,6 +178,21 @@ def make_contract(folder):
     folder.save("contract.decided.journal", reading.journal(read, book))
 
 
+def make_round(folder):
+    """A round on the terms by the command line alone: two reviewers decide, their journals are joined, listed and written."""
+    with open(os.path.join(HERE, "terms.xml"), newline="", encoding="utf-8") as file:
+        read = reading.Package(file.read())
+    inserted = [number for number, it in enumerate(read.revisions, 1) if it.kind == "ins"]
+    everything = range(1, len(read.revisions) + 1)
+    legal, _ = reading.decide(read, "Legal", [], [("accept", inserted)])
+    finance, _ = reading.decide(read, "Finance", [], [("accept", everything), ("reject", [3])])
+    folder.save("terms.legal.journal", reading.journal(read, legal))
+    folder.save("terms.finance.journal", reading.journal(read, finance))
+    folder.save("terms.joined.journal", reading.journal(read, reading.in_order(legal + finance)))
+    folder.save("terms.joined.json", reading.listed(read, legal + finance, "json"))
+    folder.save("terms.clean.xml", reading.written(read, legal + finance))
+
+
 def check_by_hand():
     """The results that have been worked out by hand, against the reading."""
     failed = 0
@@ -196,6 +211,7 @@ def main():
     make_plain(folder)
     make_letter(folder)
     make_contract(folder)
+    make_round(folder)
     # a paragraph whose properties don't come first
     folder.save("unsound.xml", package("<w:p>%s<w:pPr/></w:p>" % text("Terms of sale")))
     return check_by_hand()

@@ -3,6 +3,7 @@ use Rattle.std.proofs.Common.{◌≡◌, ℕ, List, [], ◌∷◌, ◌++◌, map
 use Rattle.std.proofs.lemmas.List.Elements.{filter-append, All-nil, All-cons, All-head, All-tail}
 use Rattle.redl_app.proofs.GatherLaws.{TakesInSteps}
 use Rattle.redl_app.specs.Admission.{Admission, no_admission, admission_with}
+use Rattle.redl_app.specs.Journals.{DocumentId}
 use Rattle.redl_join.proofs.Unions.{union-append}
 use Rattle.redl_join.specs.Books.{union}
 use Rattle.redl_journal.specs.Journals.{IsAllowed}
@@ -15,6 +16,7 @@ use Rattle.redl_session.specs.Sessions.{State}
 use Rattle.redl_session.specs.declared.refusal.AdmitError.{AdmitError}
 use Rattle.redl_session.specs.declared.refusal.Refusal.{Refusal}
 use Rattle.redl_tree.specs.Model.Nodes.{Nodes}
+use Rattle.sha2.specs.Sha256.{sha256}
 
 -- ---- unions
 
@@ -26,7 +28,7 @@ filtered-append test first more book = sym (union-append book (filter test first
 
 -- an admission with other sets
 abbrev with_sets : Admission → List Entry → List Entry → Admission
-with_sets before book refused = record { state = record before.state { book = book }; refused = record before.refused { entries = refused } }
+with_sets before book refused = record before { state = record before.state { book = book }; refused = record before.refused { entries = refused } }
 
 pub admits_in_steps : TakesInSteps admission_with
 admits_in_steps before first more =
@@ -41,8 +43,8 @@ pub admits_nothing : (before : Admission) → admission_with before [] ≡ befor
 admits_nothing before = refl
 
 -- an admission of these parts
-abbrev pub with_parts : State → List Entry → ℕ → Admission
-with_parts state entries count = record { state = state; refused = record { entries = entries; count = count } }
+abbrev pub with_parts : DocumentId → State → List Entry → ℕ → Admission
+with_parts document state entries count = record { document = document; state = state; refused = record { entries = entries; count = count } }
 
 -- ---- refusals
 
@@ -78,10 +80,10 @@ pub admitted_all : (before : Admission) (entries : List Entry) (state : State) (
     → state ≡ record before.state { book = union before.state.book (admitted before.state.revisions before.state.locks entries) }
     → refused_ ≡ refusals before.state.revisions before.state.locks entries
     → book ≡ union before.refused.entries (map (λ (refusal : Refusal). refusal.entry) refused_)
-    → with_parts state book before.refused.count ≡ admission_with before entries
+    → with_parts before.document state book before.refused.count ≡ admission_with before entries
 admitted_all before entries state refused_ book is were noted =
-    ap (λ s. with_parts s book before.refused.count) is
-    ∙ ap (λ es. with_parts (record before.state { book = union before.state.book (admitted before.state.revisions before.state.locks entries) }) es before.refused.count)
+    ap (λ s. with_parts before.document s book before.refused.count) is
+    ∙ ap (λ es. with_parts before.document (record before.state { book = union before.state.book (admitted before.state.revisions before.state.locks entries) }) es before.refused.count)
     (noted ∙ ap (λ rs. union before.refused.entries (map (λ (refusal : Refusal). refusal.entry) rs)) were
     ∙ ap (union before.refused.entries) (entries-refusals before.state.revisions before.state.locks entries))
 
@@ -91,8 +93,8 @@ on_ok (Ok x) step h = step h
 on_ok (Err e) step h = h
 
 -- a session over a package, before any entry
-pub starts : (read : Nodes) (locks : List (List ℕ)) (nodes : Nodes) (revisions : List Revision) (held : List (List ℕ)) (state : State) (entries : List Entry) (count : ℕ)
-    → state ≡ record { nodes = nodes; revisions = revisions; locks = held; book = [] } → nodes ≡ numbered_package read → revisions ≡ revisions_of read → held ≡ locks
-    → entries ≡ [] → count ≡ package_revisions read → with_parts state entries count ≡ no_admission read locks
-starts read locks nodes revisions held state entries count is of_nodes of_revisions of_locks none counted =
-    rw (is, of_nodes, of_revisions, of_locks, none, counted) refl
+pub starts : (whole : List ℕ) (read : Nodes) (locks : List (List ℕ)) (digest : List ℕ) (nodes : Nodes) (revisions : List Revision) (held : List (List ℕ)) (state : State) (entries : List Entry) (count : ℕ)
+    → digest ≡ sha256 whole → state ≡ record { nodes = nodes; revisions = revisions; locks = held; book = [] } → nodes ≡ numbered_package read → revisions ≡ revisions_of read → held ≡ locks
+    → entries ≡ [] → count ≡ package_revisions read → let document : DocumentId = record { digest = digest; count = count } in with_parts document state entries count ≡ no_admission whole read locks
+starts whole read locks digest nodes revisions held state entries count of_text is of_nodes of_revisions of_locks none counted =
+    rw (of_text, is, of_nodes, of_revisions, of_locks, none, counted) refl

@@ -5,9 +5,10 @@ use Rattle.std.specs.List.{list_all}
 use Rattle.redl_app.specs.Answers.{IsWritten}
 use Rattle.redl_app.specs.Left.{AreSays, IsLeft, LeavesSound, decided_package}
 use Rattle.redl_app.proofs.TopLaws.{by_cause}
-use Rattle.redl_app.specs.Admission.{Admission, admission_with, no_admission, admission_of, opened}
+use Rattle.redl_app.specs.Admission.{Admission, admission_with, no_admission, opened_over, opened}
 use Rattle.redl_app.specs.Commands.Settle.{passed_text, same_says, settling}
 use Rattle.redl_app.specs.Commands.Write.{decided}
+use Rattle.redl_app.specs.Formats.{Format}
 use Rattle.redl_app.specs.Journals.{document_of, gathered}
 use Rattle.redl_app.specs.Outcome.{written_by, writing_of}
 use Rattle.redl_app.specs.Packages.{package_file, package_in, tree_in, shaped, sound, sound_unless}
@@ -62,7 +63,7 @@ failed_is_not_written no_memory is = absurd (unwritten (λ e. cc e) (λ e. cc e)
 failed_is_not_written (unread name) is = absurd (unwritten (λ e. cc e) (λ e. cc e) is)
 failed_is_not_written (caused cause) is =
     by_cause (λ s. IsWritten s → ⊥) (unwritten (λ e. cc e) (λ e. cc e)) (unwritten (λ e. cc e) (λ e. cc e)) (unwritten (λ e. cc e) (λ e. cc e))
-    (unwritten (λ e. cc e) (λ e. cc e)) (unwritten (λ e. cc e) (λ e. cc e)) (unwritten (λ e. cc e) (λ e. cc e)) cause is
+    (unwritten (λ e. cc e) (λ e. cc e)) (unwritten (λ e. cc e) (λ e. cc e)) cause is
 
 is_made : (made : Result Writing Failure) → IsWritten (outcome_of made).status → (writing : Writing) × (made ≡ Ok writing)
 is_made (Ok writing) is = (writing, refl)
@@ -110,47 +111,47 @@ left_by reader files command name bytes whole nodes says file original decided w
       (numbered_sound attribute_value has_id declares nodes (sound_package reader whole nodes original));
 }
 
-leaves_settled : (reader : Reader) (files : Files) (accept : Bool) (name : List ℕ) (writing : Writing)
-    → writing_of reader files (Some (settle accept name)) ≡ Ok writing → IsLeft reader files (settle accept name) name writing.bytes
-leaves_settled reader files accept name writing is =
-    let text_ = both_ok (package_file files name) (written_by reader files (settle accept name)) writing is in
+leaves_settled : (reader : Reader) (files : Files) (formats : List Format) (accept : Bool) (name : List ℕ) (writing : Writing)
+    → writing_of reader files formats (Some (settle accept name)) ≡ Ok writing → IsLeft reader files (settle accept name) name writing.bytes
+leaves_settled reader files formats accept name writing is =
+    let text_ = both_ok (package_file files name) (written_by reader files formats (settle accept name)) writing is in
     let read = both_ok (package_in reader text_.x) (λ nodes. Ok (only_bytes (passed_text (same_says (settling accept) nodes) nodes))) writing text_.second in
     let made : writing ≡ only_bytes (passed_text (same_says (settling accept) read.x) read.x) = sym (same_ok read.second) in
     left_by reader files (settle accept name) name writing.bytes text_.x read.x (same_says (settling accept) read.x)
     text_.first read.first refl (ap (λ (w : Writing). w.bytes) made)
 
 -- a session is over the package with its numbers, whatever it admits
-opened_over : (reader : Reader) (files : Files) (locks journals : List (List ℕ)) (whole : List ℕ) (admission : Admission)
+opened_nodes : (reader : Reader) (files : Files) (locks journals : List (List ℕ)) (whole : List ℕ) (admission : Admission)
     → opened reader files locks journals whole ≡ Ok admission → (nodes : Nodes) × (package_in reader whole ≡ Ok nodes) × (admission.state.nodes ≡ numbered_package nodes)
-opened_over reader files locks journals whole admission is =
-    let read = both_ok (package_in reader whole) (λ nodes. admission_of reader files (document_of whole nodes) (no_admission nodes locks) journal_bytes journals) admission is in
-    let entries = both_ok (gathered reader files (document_of whole read.x) journal_bytes journals) (λ entries. Ok (admission_with (no_admission read.x locks) entries)) admission read.second in
+opened_nodes reader files locks journals whole admission is =
+    let read = both_ok (package_in reader whole) (λ nodes. opened_over reader files locks journals whole nodes) admission is in
+    let entries = both_ok (gathered reader files (document_of whole read.x) journal_bytes journals) (λ entries. Ok (admission_with (no_admission whole read.x locks) entries)) admission read.second in
     (read.x, read.first, ap (λ (a : Admission). a.state.nodes) (sym (same_ok entries.second)))
 
-leaves_written : (reader : Reader) (files : Files) (name : List ℕ) (locks journals : List (List ℕ)) (writing : Writing)
-    → writing_of reader files (Some (write name locks journals)) ≡ Ok writing → IsLeft reader files (write name locks journals) name writing.bytes
-leaves_written reader files name locks journals writing is =
-    let text_ = both_ok (package_file files name) (written_by reader files (write name locks journals)) writing is in
+leaves_written : (reader : Reader) (files : Files) (formats : List Format) (name : List ℕ) (locks journals : List (List ℕ)) (writing : Writing)
+    → writing_of reader files formats (Some (write name locks journals)) ≡ Ok writing → IsLeft reader files (write name locks journals) name writing.bytes
+leaves_written reader files formats name locks journals writing is =
+    let text_ = both_ok (package_file files name) (written_by reader files formats (write name locks journals)) writing is in
     let made = both_ok (opened reader files locks journals text_.x) (λ admission. Ok (decided admission)) writing text_.second in
-    let over = opened_over reader files locks journals text_.x made.x made.first in
+    let over = opened_nodes reader files locks journals text_.x made.x made.first in
     let bytes : writing.bytes ≡ (decided made.x).bytes = ap (λ (w : Writing). w.bytes) (sym (same_ok made.second)) in
     left_by reader files (write name locks journals) name writing.bytes text_.x over.0 (says made.x.state)
     text_.first over.1 (made.x, made.first, refl) (bytes ∙ ap (λ nodes. text (pass_package (says made.x.state) nodes)) over.2)
 
-leaves : (reader : Reader) (files : Files) (command : Command) (name : List ℕ) (writing : Writing) → decided_package command ≡ Some name
-    → writing_of reader files (Some command) ≡ Ok writing → IsLeft reader files command name writing.bytes
-leaves reader files (settle accept other) name writing named is =
-    subst (λ n. IsLeft reader files (settle accept other) n writing.bytes) (same_some named) (leaves_settled reader files accept other writing is)
-leaves reader files (write other locks journals) name writing named is =
-    subst (λ n. IsLeft reader files (write other locks journals) n writing.bytes) (same_some named) (leaves_written reader files other locks journals writing is)
-leaves reader files (list other format locks journals) name writing named is = absurd (cc named)
-leaves reader files (decide other reviewer journals locks choices) name writing named is = absurd (cc named)
-leaves reader files (join journals) name writing named is = absurd (cc named)
-leaves reader files (check other) name writing named is = absurd (cc named)
-leaves reader files (sample number) name writing named is = absurd (cc named)
+leaves : (reader : Reader) (files : Files) (formats : List Format) (command : Command) (name : List ℕ) (writing : Writing) → decided_package command ≡ Some name
+    → writing_of reader files formats (Some command) ≡ Ok writing → IsLeft reader files command name writing.bytes
+leaves reader files formats (settle accept other) name writing named is =
+    subst (λ n. IsLeft reader files (settle accept other) n writing.bytes) (same_some named) (leaves_settled reader files formats accept other writing is)
+leaves reader files formats (write other locks journals) name writing named is =
+    subst (λ n. IsLeft reader files (write other locks journals) n writing.bytes) (same_some named) (leaves_written reader files formats other locks journals writing is)
+leaves reader files formats (list other format locks journals) name writing named is = absurd (cc named)
+leaves reader files formats (decide other reviewer journals locks choices) name writing named is = absurd (cc named)
+leaves reader files formats (join journals) name writing named is = absurd (cc named)
+leaves reader files formats (check other) name writing named is = absurd (cc named)
+leaves reader files formats (sample number) name writing named is = absurd (cc named)
 
-pub leaves_sound : (reader : Reader) (words : List (List ℕ)) (files : Files) → LeavesSound reader words files
-leaves_sound reader words files command name commands named written =
-    let made = is_made (writing_of reader files (reader.command words)) written in
-    let by_command : writing_of reader files (Some command) ≡ Ok made.0 = ap (writing_of reader files) (sym commands) ∙ made.1 in
-    subst (IsLeft reader files command name) (sym (ap (λ w. (outcome_of w).bytes) made.1)) (leaves reader files command name made.0 named by_command)
+pub leaves_sound : (reader : Reader) (words : List (List ℕ)) (files : Files) (formats : List Format) → LeavesSound reader words files formats
+leaves_sound reader words files formats command name commands named written =
+    let made = is_made (writing_of reader files formats (reader.command words)) written in
+    let by_command : writing_of reader files formats (Some command) ≡ Ok made.0 = ap (writing_of reader files formats) (sym commands) ∙ made.1 in
+    subst (IsLeft reader files command name) (sym (ap (λ w. (outcome_of w).bytes) made.1)) (leaves reader files formats command name made.0 named by_command)

@@ -8,7 +8,7 @@ use Rattle.redl_app.specs.Reading.{IsMade, Reads, NeverUnread}
 use Rattle.redl_app.specs.Views.{result_view}
 use Rattle.redl_io.specs.Limits.{depth as depth_limit, nodes as node_limit}
 use Rattle.redl_lines.specs.Causes.{xml_failure}
-use Rattle.redl_lines.specs.Failures.{Failure, failure_view, caused, unread, no_memory, over, no_package}
+use Rattle.redl_lines.specs.Failures.{Failure, failure_view, caused, over, no_package}
 use Rattle.redl_lines.specs.declared.failure.Failure.{Failure as Declared}
 use Rattle.redl_lines.specs.declared.failure.Limit.TheVariants.{Depth, Nodes as TooManyNodes}
 use Rattle.redl_lines.specs.declared.failure.PackageFault.TheVariants.{NotReadable}

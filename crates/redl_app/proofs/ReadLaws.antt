@@ -1,8 +1,8 @@
 -- Steps of a call, one after another.
-use Rattle.std.proofs.Common.{◌≡◌, ℕ, List, Option, None, Some, IfSome, Result, Ok, Err, Contains, inl, inr, refl, sym, ap, ◌∙◌, subst}
+use Rattle.std.proofs.Common.{◌≡◌, ℕ, zero, List, [], ◌∷◌, Option, Result, Ok, Err, Contains, inl, inr, refl, sym, ap, ◌∙◌, subst, arith}
 use Rattle.redl_app.proofs.FetchLaws.{front_failed}
 use Rattle.redl_app.specs.Readers.{Reader, IsReader}
-use Rattle.redl_app.specs.Reading.{IsMade, IsUnread, UnlessUnread, NeverUnread, ReadsFiles, Reads, front_of}
+use Rattle.redl_app.specs.Reading.{IsMade, IsUnread, MayHold, UnlessUnread, NeverUnread, ReadsFiles, Reads, front_of}
 use Rattle.redl_app.specs.Steps.{◌>>=◌}
 use Rattle.redl_io.specs.Faults.{Rose}
 use Rattle.redl_io.specs.Shelf.{Files}
@@ -93,27 +93,49 @@ takes_ok {due = due} next first is = record {
 
 -- ---- steps in a row
 
-pub if_some : {P Q : Files → Type 0} (told : Option Files) → ((files : Files) → P files → Q files) → IfSome told P → IfSome told Q
-if_some None step h = tt
-if_some (Some files) step h = step files h
+-- this holds of all files that the shelf may hold
+abbrev pub Known : Option Files → List (List ℕ) → (Files → Type 0) → Type 0
+Known told names P = (files : Files) → MayHold told names files → P files
 
-pub both : {P Q R : Files → Type 0} (told : Option Files) → ((files : Files) → P files → Q files → R files) → IfSome told P → IfSome told Q → IfSome told R
-both None step p q = tt
-both (Some files) step p q = step files p q
+nothing_in : (name : List ℕ) → Contains [] name → ⊥
+nothing_in name (k, within, is) = absurd (omega (arith, within))
 
-pub always : {P : Files → Type 0} (told : Option Files) → ((files : Files) → P files) → IfSome told P
-always None all = tt
-always (Some files) all = all files
+-- where all of these names are among none, there are none
+none_in : (names whole : List (List ℕ)) → ((name : List ℕ) → Contains names name → Contains whole name) → whole ≡ [] → names ≡ []
+none_in [] whole among none = refl
+none_in (name ∷ names) whole among none =
+    absurd (nothing_in name (subst (λ (ns : List (List ℕ)). Contains ns name) none (among name (zero, omega arith, refl))))
+
+-- who asks for more files knows less of them
+pub may_in : {told : Option Files} {files : Files} (names whole : List (List ℕ)) → ((name : List ℕ) → Contains names name → Contains whole name)
+    → MayHold told whole files → MayHold told names files
+may_in names whole among (inl tells) = inl tells
+may_in names whole among (inr none) = inr (none_in names whole among none)
+
+pub known_in : {P : Files → Type 0} (told : Option Files) (names whole : List (List ℕ)) → ((name : List ℕ) → Contains names name → Contains whole name)
+    → Known told names P → Known told whole P
+known_in told names whole among known = λ files may. known files (may_in names whole among may)
+
+pub if_known : {P Q : Files → Type 0} (told : Option Files) (names : List (List ℕ)) → ((files : Files) → P files → Q files) → Known told names P → Known told names Q
+if_known told names step known = λ files may. step files (known files may)
+
+pub both : {P Q R : Files → Type 0} (told : Option Files) (names : List (List ℕ)) → ((files : Files) → P files → Q files → R files)
+    → Known told names P → Known told names Q → Known told names R
+both told names step p q = λ files may. step files (p files may) (q files may)
+
+pub always : {P : Files → Type 0} (told : Option Files) (names : List (List ℕ)) → ((files : Files) → P files) → Known told names P
+always told names all = λ files may. all files
 
 from_here : {X Y : Type 0} (old new : Option Files) (before now : ℕ) (names more whole : List (List ℕ)) (x : X) (made : Result Y Failure)
     (due : Reader → Files → Result X Failure) (next : X → Reader → Files → Result Y Failure)
-    → IfSome old (λ files. (reader : Reader) → IsReader reader → due reader files ≡ Ok x)
+    → Known old whole (λ files. (reader : Reader) → IsReader reader → due reader files ≡ Ok x)
     → ((name : List ℕ) → Contains more name → Contains whole name)
     → ReadsFiles old new before now more made (next x)
     → ReadsFiles old new before now whole made (λ reader files. due reader files >>= (λ y. next y reader files))
 from_here old new before now names more whole x made due next first among rest = record {
-  as_due = both old
-      (λ files p q reader is. made_bind x made (due reader files) (λ y. next y reader files) (Rose before now) (p reader is) (q reader is)) first rest.as_due;
+  as_due = both old whole
+      (λ files p q reader is. made_bind x made (due reader files) (λ y. next y reader files) (Rose before now) (p reader is) (q reader is)) first
+      (known_in old more whole among rest.as_due);
   unread = unread_in made more whole old (Rose before now) among rest.unread;
   same_files = rest.same_files;
   stands = rest.stands;
@@ -123,11 +145,12 @@ from_here old new before now names more whole x made due next first among rest =
 pub reads_then : {X Y : Type 0} {old mid new : Option Files} {before between now : ℕ} {names more whole : List (List ℕ)} {x : X} {made : Result Y Failure}
     {due : Reader → Files → Result X Failure} (next : X → Reader → Files → Result Y Failure)
     → ReadsFiles old mid before between names (Ok x) due
+    → ((name : List ℕ) → Contains names name → Contains whole name)
     → ((name : List ℕ) → Contains more name → Contains whole name)
     → ReadsFiles mid new between now more made (next x)
     → ReadsFiles old new before now whole made (λ reader files. due reader files >>= (λ y. next y reader files))
-reads_then {old} {mid} {new} {before} {between} {now} {names} {more} {whole} {x} {made} {due} next first among rest =
-    from_here old new before now names more whole x made due next first.as_due among
+reads_then {old} {mid} {new} {before} {between} {now} {names} {more} {whole} {x} {made} {due} next first early among rest =
+    from_here old new before now names more whole x made due next (known_in old names whole early first.as_due) among
     (subst (λ told. ReadsFiles told new before now more made (next x)) first.same_files
     (subst (λ count. ReadsFiles mid new count now more made (next x)) first.stands rest))
 
@@ -138,7 +161,8 @@ pub reads_stops : {X Y : Type 0} {old new : Option Files} {before now : ℕ} {na
     → ((name : List ℕ) → Contains names name → Contains whole name)
     → ReadsFiles {Y = Y} old new before now whole (Err failure) (λ reader files. due reader files >>= (λ y. next y reader files))
 reads_stops {X} {Y} {old} {new} {before} {now} {names} {whole} {failure} {due} next step among = record {
-  as_due = if_some old (λ files h reader is. failed_bind failure (due reader files) (λ y. next y reader files) (Rose before now) (h reader is)) step.as_due;
+  as_due = known_in old names whole among
+      (if_known old names (λ files h reader is. failed_bind failure (due reader files) (λ y. next y reader files) (Rose before now) (h reader is)) step.as_due);
   unread = unread_in {Y = Y} (Err failure) names whole old (Rose before now) among (unread_as X Y failure names old (Rose before now) step.unread);
   same_files = step.same_files;
   stands = stands_as X Y failure (now ≡ before) step.stands;
@@ -148,7 +172,7 @@ reads_stops {X} {Y} {old} {new} {before} {now} {names} {whole} {failure} {due} n
 pub reads_nothing : {Y : Type 0} {made : Result Y Failure} {due : Reader → Result Y Failure} (told : Option Files) (count : ℕ) (names : List (List ℕ))
     → Reads made due → ReadsFiles told told count count names made (λ reader files. due reader)
 reads_nothing {made = made} {due = due} told count names step = record {
-  as_due = always told (λ files reader is. surely made (due reader) (Rose count count) (step.as_due reader is));
+  as_due = always told names (λ files reader is. surely made (due reader) (Rose count count) (step.as_due reader is));
   unread = never_is_not made names told (Rose count count) step.never_unread;
   same_files = refl;
   stands = stands_of made (count ≡ count) refl;
@@ -161,7 +185,7 @@ pub reads_after : {X Y : Type 0} {old new : Option Files} {before now : ℕ} {na
     → ((reader : Reader) (files : Files) → IsReader reader → due reader files ≡ Ok x → IsMade made (later reader files) (Rose before now))
     → ReadsFiles old new before now names made later
 reads_after {X} {Y} {old} {new} {before} {now} {names} {x} {due} made later first never step = record {
-  as_due = if_some old (λ files h reader is. step reader files is (h reader is)) first.as_due;
+  as_due = if_known old names (λ files h reader is. step reader files is (h reader is)) first.as_due;
   unread = never_is_not made names old (Rose before now) never;
   same_files = first.same_files;
   stands = stands_of made (now ≡ before) first.stands;
@@ -182,8 +206,8 @@ pub takes_then_reads : {X Y : Type 0} {old new : Option Files} {before now : ℕ
     {due : Reader → Result X Failure} (next : X → Reader → Files → Result Y Failure)
     → Reads (Ok x) due → ReadsFiles old new before now names made (next x)
     → ReadsFiles old new before now names made (λ reader files. due reader >>= (λ y. next y reader files))
-takes_then_reads {old = old} {before = before} {now = now} {x = x} {made = made} {due = due} next first rest = record {
-  as_due = if_some old
+takes_then_reads {old = old} {before = before} {now = now} {names = names} {x = x} {made = made} {due = due} next first rest = record {
+  as_due = if_known old names
       (λ files h reader is. made_bind x made (due reader) (λ y. next y reader files) (Rose before now) (first.as_due reader is) (h reader is)) rest.as_due;
   unread = rest.unread;
   same_files = rest.same_files;
@@ -195,7 +219,7 @@ pub takes_stops_reads : {X Y : Type 0} {failure : Failure} {due : Reader → Res
     (told : Option Files) (count : ℕ) (names : List (List ℕ))
     → Reads {Y = X} (Err failure) due → ReadsFiles {Y = Y} told told count count names (Err failure) (λ reader files. due reader >>= (λ y. next y reader files))
 takes_stops_reads {X} {Y} {failure} {due} next told count names step = record {
-  as_due = always told (λ files reader is. failed_bind failure (due reader) (λ y. next y reader files) (Rose count count)
+  as_due = always told names (λ files reader is. failed_bind failure (due reader) (λ y. next y reader files) (Rose count count)
       (surely {X = X} (Err failure) (due reader) (Rose count count) (step.as_due reader is)));
   unread = never_is_not {Y = Y} (Err failure) names told (Rose count count) (never_as X Y failure step.never_unread);
   same_files = refl;
@@ -205,10 +229,10 @@ takes_stops_reads {X} {Y} {failure} {due} next told count names step = record {
 -- ---- steps that were due by another name, and from another state
 
 pub reads_when : {Y : Type 0} {old new : Option Files} {before now : ℕ} {names : List (List ℕ)} {made : Result Y Failure} {due : Reader → Files → Result Y Failure}
-    (later : Reader → Files → Result Y Failure) → IfSome old (λ files. (reader : Reader) → IsReader reader → later reader files ≡ due reader files)
+    (later : Reader → Files → Result Y Failure) → Known old names (λ files. (reader : Reader) → IsReader reader → later reader files ≡ due reader files)
     → ReadsFiles old new before now names made due → ReadsFiles old new before now names made later
 reads_when {old} {new} {before} {now} {names} {made} {due} later same step = record {
-  as_due = both old (λ files e h reader is. subst (λ d. IsMade made d (Rose before now)) (sym (e reader is)) (h reader is)) same step.as_due;
+  as_due = both old names (λ files e h reader is. subst (λ d. IsMade made d (Rose before now)) (sym (e reader is)) (h reader is)) same step.as_due;
   unread = step.unread;
   same_files = step.same_files;
   stands = step.stands;
@@ -223,7 +247,7 @@ reads_from {old = old} {mid = mid} {new = new} {before = before} {now = now} {na
 pub reads_no_memory : {Y : Type 0} {old new : Option Files} {before now : ℕ} (names : List (List ℕ)) (due : Reader → Files → Result Y Failure)
     → new ≡ old → now ≡ before → ReadsFiles {Y = Y} old new before now names (Err no_memory) due
 reads_no_memory {old} names due told stands = record {
-  as_due = always old (λ files reader is. tt);
+  as_due = always old names (λ files reader is. tt);
   unread = tt;
   same_files = told;
   stands = stands;
@@ -234,7 +258,7 @@ pub fetch_stops : {old new : Option Files} {before now : ℕ} {names : List (Lis
     → ReadsFiles {Y = List ℕ} old new before now names (Err failure) (λ reader files. front_of cap (due reader files))
     → ReadsFiles {Y = List ℕ} old new before now names (Err failure) due
 fetch_stops {old} {new} {before} {now} {names} {failure} cap due step = record {
-  as_due = if_some old (λ files h reader is. front_failed cap (due reader files) failure (Rose before now) (h reader is)) step.as_due;
+  as_due = if_known old names (λ files h reader is. front_failed cap (due reader files) failure (Rose before now) (h reader is)) step.as_due;
   unread = step.unread;
   same_files = step.same_files;
   stands = step.stands;

@@ -1,6 +1,7 @@
 -- There is a reader, and a call comes to one outcome under all readers.
 use Rattle.std.proofs.Common.{◌≡◌, ℕ, List, refl, ap, ◌∙◌, Option, None, Some, ◌⊎◌, inl, inr}
 use Rattle.std.proofs.Math.Path.{fun_ext}
+use Rattle.redl_app.specs.Formats.{Format}
 use Rattle.redl_app.specs.Outcome.{outcome}
 use Rattle.redl_app.specs.Readers.{Reader, IsReader, IsTreeOf, IsJournalOf, IsCommandOf}
 use Rattle.redl_io.specs.Shelf.{Files}
@@ -73,9 +74,9 @@ one_reader reader other is too =
     ∙ ap (λ command. record { tree = other.tree; journal = other.journal; command = command }) commands
 
 -- What a call comes to doesn't hang on the reader.
-pub one_outcome : (reader other : Reader) → IsReader reader → IsReader other → (words : List (List ℕ)) (files : Files)
-    → outcome reader words files ≡ outcome other words files
-one_outcome reader other is too words files = ap (λ r. outcome r words files) (one_reader reader other is too)
+pub one_outcome : (reader other : Reader) → IsReader reader → IsReader other → (words : List (List ℕ)) (files : Files) (formats : List Format)
+    → outcome reader words files formats ≡ outcome other words files formats
+one_outcome reader other is too words files formats = ap (λ r. outcome r words files formats) (one_reader reader other is too)
 
 -- the command that a reader reads is the one of the words
 pub reads_command : (reader : Reader) (words : List (List ℕ)) (command : Command) → IsReader reader → IsCommand words command → reader.command words ≡ Some command

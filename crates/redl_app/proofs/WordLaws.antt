@@ -1,9 +1,11 @@
 -- How a call ends, by the words as they were read.
-use Rattle.std.proofs.Common.{◌≡◌, ◌⊎◌, inl, inr, ℕ, List, [], Option, Some, Contains, Result, Ok, Err, IfOk, IfErr, IsErrOf, refl, sym, ap, ◌∙◌, arith}
+use Rattle.std.proofs.Common.{◌≡◌, ◌⊎◌, inl, inr, ℕ, List, [], Option, Result, Ok, Err, IfOk, IfErr, IsErrOf, refl, sym, ap, ◌∙◌, subst, arith}
 use Rattle.redl_app.proofs.ReadLaws.{always, reads_when, reads_no_memory}
 use Rattle.redl_app.proofs.ReaderLaws.{reads_command, reads_no_command}
-use Rattle.redl_app.proofs.TopLaws.{AreNamed, due_by}
+use Rattle.redl_app.proofs.TopLaws.{AreNamed, NamesWhatIsAsked, due_by}
+use Rattle.redl_app.specs.Files.{asked_by}
 use Rattle.redl_app.specs.Finishing.{Ends, IsWanted, words_failure}
+use Rattle.redl_app.specs.Formats.{Format, LeavesFormats, without_asked}
 use Rattle.redl_app.specs.Outcome.{writing_of}
 use Rattle.redl_app.specs.Readers.{Reader, IsReader}
 use Rattle.redl_app.specs.Views.{read_view, named_files}
@@ -12,48 +14,56 @@ use Rattle.redl_io.specs.Shelf.{Files}
 use Rattle.redl_lines.specs.Ends.{End, failed, end_status}
 use Rattle.redl_lines.specs.Failures.{Failure, caused, usage}
 use Rattle.redl_lines.specs.declared.status.Status.TheVariants as status
-use Rattle.redl_words.specs.Commands.{IsCommand, HasNoCommand}
+use Rattle.redl_words.proofs.CommandLaws.{at_most_one}
+use Rattle.redl_words.specs.Commands.{Command, IsCommand, HasNoCommand}
 use Rattle.redl_words.specs.Views.{command_of}
 use Rattle.redl_words.specs.declared.command.Command.{Command as Declared}
 use Rattle.redl_words.specs.declared.error.WordsError.{WordsError}
 use Rattle.redl_words.specs.declared.error.WordsError.TheVariants as error
 
 -- the files of the command that was read are those of the words
-pub are_named : (words : List (List ℕ)) (read : Result Declared WordsError) → IfOk read (λ command. IsCommand words (command_of command)) → AreNamed words (named_files read)
-are_named words (Ok command) is name among = record { command = command_of command; reads = is; among = among }
-are_named words (Err error) is name (k, within, here) = absurd (omega (arith, within))
+pub are_named : (words : List (List ℕ)) (formats : List Format) (read : Result Declared WordsError) → IfOk read (λ command. IsCommand words (command_of command)) → AreNamed words formats (named_files formats read)
+are_named words formats (Ok command) is name among = record { command = command_of command; reads = is; among = among }
+are_named words formats (Err error) is name (k, within, here) = absurd (omega (arith, within))
+
+-- where the words ask for no file, the command that was read names none
+pub names_asked : (words : List (List ℕ)) (formats : List Format) (read : Result Declared WordsError) → IfOk read (λ command. IsCommand words (command_of command))
+    → NamesWhatIsAsked words formats (named_files formats read)
+names_asked words formats (Ok command) is = λ reader reads none.
+    sym (ap (asked_by formats) (reads_command reader words (command_of command) reads is)) ∙ none
+names_asked words formats (Err error) is = λ reader reads none. refl
 
 -- what is due by the words is what is due by the command that was read
-pub is_wanted : (words : List (List ℕ)) (read : Result Declared WordsError) → IfOk read (λ command. IsCommand words (command_of command))
-    → (IsErrOf read error.Usage → HasNoCommand words) → IsWanted (read_view read) (due_by words)
-is_wanted words (Ok command) is none = λ reader files reads. ap (writing_of reader files) (reads_command reader words (command_of command) reads is)
-is_wanted words (Err error.Usage) is none = λ reader files reads. ap (writing_of reader files) (reads_no_command reader words reads (none refl))
-is_wanted words (Err error.NoMemory) is none = tt
+pub is_wanted : (words : List (List ℕ)) (formats : List Format) (read : Result Declared WordsError) → IfOk read (λ command. IsCommand words (command_of command))
+    → (IsErrOf read error.Usage → HasNoCommand words) → IsWanted formats (read_view read) (due_by words formats)
+is_wanted words formats (Ok command) is none = λ reader files reads. ap (writing_of reader files formats) (reads_command reader words (command_of command) reads is)
+is_wanted words formats (Err error.Usage) is none = λ reader files reads. ap (writing_of reader files formats) (reads_no_command reader words reads (none refl))
+is_wanted words formats (Err error.NoMemory) is none = tt
 
 -- ends for one thing that is due are ends for the same by another name
 pub ends_when : {told told_new : Option Files} {f f_new : ℕ} {old new : Option (List ℕ)} {before now : ℕ} {names : List (List ℕ)} {end : End} {due : Reader → Files → Result Writing Failure}
     (later : Reader → Files → Result Writing Failure) → ((reader : Reader) (files : Files) → IsReader reader → later reader files ≡ due reader files)
     → Ends told told_new f f_new old new before now names due end → Ends told told_new f f_new old new before now names later end
-ends_when {told} later same ends = record {
+ends_when {told} {names = names} later same ends = record {
   made = ends.made;
-  reads = reads_when later (always told (λ files reader is. same reader files is)) ends.reads;
+  reads = reads_when later (always told names (λ files reader is. same reader files is)) ends.reads;
   finishes = ends.finishes;
 }
 
 -- a call ends with no more than a line where the words could not be had
-pub ends_unread : (told : Option Files) (f : ℕ) (out : Option (List ℕ)) (count : ℕ) (error : WordsError) (due : Reader → Files → Result Writing Failure) → IsWanted (Err error) due
+pub ends_unread : (formats : List Format) (told : Option Files) (f : ℕ) (out : Option (List ℕ)) (count : ℕ) (error : WordsError) (due : Reader → Files → Result Writing Failure) → IsWanted formats (Err error) due
     → Ends told told f f out out count count [] due (failed (words_failure error))
-ends_unread told f out count error.Usage due wanted = record {
+ends_unread formats told f out count error.Usage due wanted = record {
   made = Err (caused usage);
   reads = record {
-    as_due = always told (λ files reader is. wanted reader files is);
+    as_due = λ files may reader is. wanted reader files is;
     unread = tt;
     same_files = refl;
     stands = refl;
   };
   finishes = (refl, refl, refl);
 }
-ends_unread told f out count error.NoMemory due wanted = record {
+ends_unread formats told f out count error.NoMemory due wanted = record {
   made = Err (words_failure error.NoMemory);
   reads = reads_no_memory [] due refl refl;
   finishes = (refl, refl, refl);
@@ -68,3 +78,22 @@ pub ends_as_usage : (words : List (List ℕ)) (read : Result Declared WordsError
     → IfErr read (λ error. end ≡ failed (words_failure error)) → HasNoCommand words → (end_status end ≡ status.Usage) ⊎ (end_status end ≡ status.NoMemory)
 ends_as_usage words (Ok command) end is ends none = absurd (none (command_of command) is)
 ends_as_usage words (Err error) end is ends none = failure_ends error end ends
+
+-- ---- what is left of the formats
+
+-- the command of the words is the one that was read
+pub leaves_by_words : {F : Type 0} (name_of : F → List ℕ) (old new : List F) (words : List (List ℕ)) (read : Result Declared WordsError) (end : End)
+    → IfOk read (λ command. IsCommand words (command_of command)) → (IsErrOf read error.Usage → HasNoCommand words)
+    → IfOk read (λ command. LeavesFormats (end_status end) (without_asked name_of (command_of command) old) old new) → IfErr read (λ error. new ≡ old)
+    → IfErr read (λ error. end ≡ failed (words_failure error))
+    → (command : Command) → IsCommand words command → LeavesFormats (end_status end) (without_asked name_of command old) old new
+leaves_by_words name_of old new words (Ok found) end is none left same ends command reads =
+    subst (λ c. LeavesFormats (end_status end) (without_asked name_of c old) old new) (at_most_one words (command_of found) command is reads) left
+leaves_by_words name_of old new words (Err error.Usage) end is none left same ends command reads = absurd (none refl command reads)
+leaves_by_words name_of old new words (Err error.NoMemory) end is none left same ends command reads = rw ends (inl same)
+
+-- words of no command take no format
+pub leaves_all : {F : Type 0} (old new : List F) (words : List (List ℕ)) (read : Result Declared WordsError) → IfOk read (λ command. IsCommand words (command_of command))
+    → IfErr read (λ error. new ≡ old) → HasNoCommand words → new ≡ old
+leaves_all old new words (Ok command) is same none = absurd (none (command_of command) is)
+leaves_all old new words (Err error) is same none = same

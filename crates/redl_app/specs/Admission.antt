@@ -16,34 +16,40 @@ use Rattle.redl_session.specs.Refusals.{admitted, refused}
 use Rattle.redl_session.specs.Sessions.{State}
 use Rattle.redl_tree.specs.Model.Nodes.{Nodes}
 
--- a session, and the set of the entries that it refused
+-- a session over a package, the package as its journals know it, and the set of the entries that the session refused
 pub record Admission : Type 0 where
+  pub document : DocumentId
   pub state : State
   pub refused : RefusedEntries
 
--- a session over this package with these locked authors, before any entry
-abbrev pub no_admission : Nodes → List (List ℕ) → Admission
-no_admission nodes locks = record {
+-- a session over the package with this text and these nodes, with these locked authors, before any entry
+abbrev pub no_admission : List ℕ → Nodes → List (List ℕ) → Admission
+no_admission whole nodes locks = record {
+  document = document_of whole nodes;
   state = record { nodes = numbered_package nodes; revisions = revisions_of nodes; locks = locks; book = [] };
   refused = record { entries = []; count = package_revisions nodes };
 }
 
 -- After these entries too: the book has those that are not refused, and the refused ones are noted.
 abbrev pub admission_with : Admission → List Entry → Admission
-admission_with before entries = record {
+admission_with before entries = record before {
   state = record before.state { book = union before.state.book (admitted before.state.revisions before.state.locks entries) };
   refused = record before.refused { entries = union before.refused.entries (refused before.state.revisions before.state.locks entries) };
 }
 
 -- what becomes of the entries of the journals of these names, of at most `most` bytes together
-abbrev pub admission_of : Reader → Files → DocumentId → Admission → ℕ → List (List ℕ) → Result Admission Failure
-admission_of reader files document before most names = do
-  entries ← gathered reader files document most names
+abbrev pub admission_of : Reader → Files → Admission → ℕ → List (List ℕ) → Result Admission Failure
+admission_of reader files before most names = do
+  entries ← gathered reader files before.document most names
   Ok (admission_with before entries)
 
--- A session over the package with this text, with these locked authors, and what becomes of the entries of the journals of
--- these names.
+-- A session over the package with this text and these nodes, with these locked authors, and what becomes of the entries of
+-- the journals of these names.
+abbrev pub opened_over : Reader → Files → List (List ℕ) → List (List ℕ) → List ℕ → Nodes → Result Admission Failure
+opened_over reader files locks journals whole nodes = admission_of reader files (no_admission whole nodes locks) journal_bytes journals
+
+-- the same over the package with this text
 abbrev pub opened : Reader → Files → List (List ℕ) → List (List ℕ) → List ℕ → Result Admission Failure
 opened reader files locks journals whole = do
   nodes ← package_in reader whole
-  admission_of reader files (document_of whole nodes) (no_admission nodes locks) journal_bytes journals
+  opened_over reader files locks journals whole nodes

@@ -1,22 +1,25 @@
 -- What a call answers and leaves behind, by its outcome.
-use Rattle.std.specs.Prelude.{◌≡◌, ◌⊎◌, ℕ, List, ◌++◌, Option, IfSome, Contains}
+use Rattle.std.specs.Prelude.{◌≡◌, ◌⊎◌, ℕ, List, ◌++◌, Option, Contains}
 use Rattle.std.specs.Io.KnownBytes.{append_known}
 use Rattle.redl_io.specs.Shelf.{Files, Lacks}
 use Rattle.redl_io.specs.Sink.{GrowsByFront}
 use Rattle.redl_app.specs.Outcome.{outcome}
 use Rattle.redl_app.specs.Readers.{Reader, IsReader}
+use Rattle.redl_app.specs.Reading.{MayHold}
 use Rattle.redl_app.specs.Writing.{Outcome}
 use Rattle.redl_lines.specs.Ends.{Tells}
 use Rattle.redl_lines.specs.Lines.{no_memory_line, unwritten_line, unread_line}
-use Rattle.redl_app.specs.Files.{files_of}
+use Rattle.redl_app.specs.Files.{asked_by, files_of}
+use Rattle.redl_app.specs.Formats.{Format}
 use Rattle.redl_words.specs.Commands.{Command, IsCommand}
 use Rattle.redl_lines.specs.declared.status.Status.{Status}
 use Rattle.redl_lines.specs.declared.status.Status.TheVariants as status
 
--- Where the shelf tells what it holds, this holds of the call's outcome.
-abbrev pub OfOutcome : Option Files → List (List ℕ) → (Outcome → Type 0) → Type 0
-OfOutcome told words Holds =
-    IfSome told (λ files. (reader : Reader) → IsReader reader → Holds (outcome reader words files))
+-- Where the shelf tells what it holds, or the words ask for no file, this holds of the call's outcome.
+abbrev pub OfOutcome : Option Files → List (List ℕ) → List Format → (Outcome → Type 0) → Type 0
+OfOutcome told words formats Holds =
+    (files : Files) (reader : Reader) → IsReader reader → MayHold told (asked_by formats (reader.command words)) files
+    → Holds (outcome reader words files formats)
 
 -- a call with this outcome writes
 abbrev pub IsWritten : Status → Type 0
@@ -36,30 +39,30 @@ Writes status.Refused old new bytes = new ≡ append_known old bytes
 Writes status.WriteFault old new bytes = GrowsByFront old new bytes
 Writes _ old new bytes = new ≡ old
 
--- the words are those of a command, and this is the name of one of its files
-pub record IsFileOf (words : List (List ℕ)) (name : List ℕ) : Type 0 where
+-- the words are those of a command, the format that it asks for is there, and this is the name of one of its files
+pub record IsFileOf (words : List (List ℕ)) (formats : List Format) (name : List ℕ) : Type 0 where
   pub command : Command
   pub reads : IsCommand words command
-  pub among : Contains (files_of command) name
+  pub among : Contains (files_of formats command) name
 
 -- a read fault's line: the outcome's, where that is a read fault itself, or that of some file of the command where a fetch
 -- failed
-abbrev pub IsUnreadLine : Outcome → List (List ℕ) → Type 0 → List ℕ → Type 0
-IsUnreadLine outcome words read_failed lines =
+abbrev pub IsUnreadLine : Outcome → List (List ℕ) → List Format → Type 0 → List ℕ → Type 0
+IsUnreadLine outcome words formats read_failed lines =
     ((outcome.status ≡ status.ReadFault) × (lines ≡ outcome.lines))
-    ⊎ (read_failed × ((name : List ℕ) × IsFileOf words name × (lines ≡ unread_line name)))
+    ⊎ (read_failed × ((name : List ℕ) × IsFileOf words formats name × (lines ≡ unread_line name)))
 
 -- The lines are the outcome's, but for what the outside forces.
-abbrev pub AreLines : Status → Outcome → List (List ℕ) → Type 0 → List ℕ → Type 0
-AreLines status.NoMemory outcome words read_failed lines = lines ≡ no_memory_line
-AreLines status.ReadFault outcome words read_failed lines = IsUnreadLine outcome words read_failed lines
-AreLines status.WriteFault outcome words read_failed lines = lines ≡ outcome.lines ++ unwritten_line
-AreLines _ outcome words read_failed lines = lines ≡ outcome.lines
+abbrev pub AreLines : Status → Outcome → List (List ℕ) → List Format → Type 0 → List ℕ → Type 0
+AreLines status.NoMemory outcome words formats read_failed lines = lines ≡ no_memory_line
+AreLines status.ReadFault outcome words formats read_failed lines = IsUnreadLine outcome words formats read_failed lines
+AreLines status.WriteFault outcome words formats read_failed lines = lines ≡ outcome.lines ++ unwritten_line
+AreLines _ outcome words formats read_failed lines = lines ≡ outcome.lines
 
 -- some lines went out of which this holds
 abbrev pub TellsSome : Option (List ℕ) → Option (List ℕ) → ℕ → ℕ → (List ℕ → Type 0) → Type 0
 TellsSome old new before now Holds = (lines : List ℕ) × Holds lines × Tells old new before now lines
 
 -- why a read fault may be answered: the words ask for files, and the shelf failed or lacks one of them
-abbrev pub MayFault : List (List ℕ) → Option Files → Type 0 → Type 0
-MayFault words told failed = (name : List ℕ) × IsFileOf words name × (failed ⊎ Lacks told name)
+abbrev pub MayFault : List (List ℕ) → List Format → Option Files → Type 0 → Type 0
+MayFault words formats told failed = (name : List ℕ) × IsFileOf words formats name × (failed ⊎ Lacks told name)

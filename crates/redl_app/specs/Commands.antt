@@ -1,4 +1,7 @@
 pub mod Settle
+pub mod List
 pub mod Write
 pub mod Join
 pub mod Check
+pub mod Decide
+pub mod Sample

@@ -1,8 +1,9 @@
 -- The files that a command names.
-use Rattle.std.specs.Prelude.{ℕ, List, [], ◌∷◌, ◌++◌, Result, Ok, Err}
+use Rattle.std.specs.Prelude.{ℕ, List, [], ◌∷◌, ◌++◌, Option, None, Some, Result, Ok, Err}
+use Rattle.redl_app.specs.Formats.{Format, has_format}
 use Rattle.redl_app.specs.Packages.{package_file}
 use Rattle.redl_io.specs.Shelf.{Files}
-use Rattle.redl_lines.specs.Failures.{Failure, caused, unbuilt}
+use Rattle.redl_lines.specs.Failures.{Failure}
 use Rattle.redl_words.specs.Commands.{Command, settle, list, write, decide, join, check, sample}
 
 -- the name of a command's package, where it has one
@@ -25,16 +26,26 @@ journals_of (join journals) = journals
 journals_of (check p) = []
 journals_of (sample number) = []
 
--- the names of the files that a command asks for
-abbrev pub files_of : Command → List (List ℕ)
-files_of command = package_of command ++ journals_of command
+-- these files, where the first step of a call went well
+abbrev pub where_ok : Result (Unit {0}) Failure → List (List ℕ) → List (List ℕ)
+where_ok (Ok there) names = names
+where_ok (Err failure) names = []
+
+-- the names of the files that a command asks for; none where the format that it asks for isn't there
+abbrev pub files_of : List Format → Command → List (List ℕ)
+files_of formats command = where_ok (has_format formats command) (package_of command ++ journals_of command)
+
+-- the names of the files that words ask for, where they are this command or none
+abbrev pub asked_by : List Format → Option Command → List (List ℕ)
+asked_by formats None = []
+asked_by formats (Some command) = files_of formats command
 
 -- the text of a command's package; where it has none, no text
 abbrev pub package_text : Files → Command → Result (List ℕ) Failure
 package_text files (settle accept p) = package_file files p
-package_text files (list p format locks journals) = Err (caused unbuilt)
+package_text files (list p format locks journals) = package_file files p
 package_text files (write p locks journals) = package_file files p
-package_text files (decide p reviewer journals locks choices) = Err (caused unbuilt)
+package_text files (decide p reviewer journals locks choices) = package_file files p
 package_text files (join journals) = Ok []
 package_text files (check p) = package_file files p
-package_text files (sample number) = Err (caused unbuilt)
+package_text files (sample number) = Ok []

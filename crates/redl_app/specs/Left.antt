@@ -3,6 +3,7 @@ use Rattle.std.specs.Prelude.{◌≡◌, ℕ, List, true, Option, Some, None, Ok
 use Rattle.redl_app.specs.Commands.Settle.{same_says, settling}
 use Rattle.redl_app.specs.Admission.{Admission, opened}
 use Rattle.redl_session.specs.Sessions.{says as says_of}
+use Rattle.redl_app.specs.Formats.{Format}
 use Rattle.redl_app.specs.Outcome.{outcome}
 use Rattle.redl_app.specs.Packages.{package_file, package_in}
 use Rattle.redl_app.specs.Readers.{Reader}
@@ -59,7 +60,7 @@ pub record IsLeft (reader : Reader) (files : Files) (command : Command) (name by
   pub sound : is_sound rules left ≡ true
 
 -- Where a command decides revisions and all was written, what was written is left of its package.
-abbrev pub LeavesSound : Reader → List (List ℕ) → Files → Type 0
-LeavesSound reader words files =
+abbrev pub LeavesSound : Reader → List (List ℕ) → Files → List Format → Type 0
+LeavesSound reader words files formats =
     (command : Command) (name : List ℕ) → reader.command words ≡ Some command → decided_package command ≡ Some name
-    → IsWritten (outcome reader words files).status → IsLeft reader files command name (outcome reader words files).bytes
+    → IsWritten (outcome reader words files formats).status → IsLeft reader files command name (outcome reader words files formats).bytes

@@ -3,7 +3,9 @@ pub mod Steps
 pub mod Packages
 pub mod Journals
 pub mod Admission
+pub mod Choices
 pub mod Writing
+pub mod Formats
 pub mod Commands
 pub mod Files
 pub mod Outcome

@@ -1,5 +1,5 @@
 -- What a step of a call does that takes files from the shelf.
-use Rattle.std.specs.Prelude.{◌≡◌, ◌⊎◌, ℕ, List, Option, IfSome, Result, Ok, Err, Contains, take}
+use Rattle.std.specs.Prelude.{◌≡◌, ◌⊎◌, ℕ, List, [], Option, Some, Result, Ok, Err, Contains, take}
 use Rattle.redl_app.specs.Readers.{Reader, IsReader}
 use Rattle.redl_io.specs.Faults.{Rose}
 use Rattle.redl_io.specs.Shelf.{Files, Lacks}
@@ -22,10 +22,14 @@ abbrev pub UnlessUnread : {Y : Type 0} → Result Y Failure → Type 0 → Type 
 UnlessUnread (Err (unread name)) Holds = Unit {0}
 UnlessUnread made Holds = Holds
 
+-- These may be the files of a shelf: it tells that they are, or it is asked for no file.
+abbrev pub MayHold : Option Files → List (List ℕ) → Files → Type 0
+MayHold told names files = (told ≡ Some files) ⊎ (names ≡ [])
+
 -- A step took files of these names from the shelf, and made what was due.
 pub record ReadsFiles {Y : Type 0} (old new : Option Files) (before now : ℕ) (names : List (List ℕ)) (made : Result Y Failure)
     (due : Reader → Files → Result Y Failure) : Type 0 where
-  pub as_due : IfSome old (λ files. (reader : Reader) → IsReader reader → IsMade made (due reader files) (Rose before now))
+  pub as_due : (files : Files) → MayHold old names files → (reader : Reader) → IsReader reader → IsMade made (due reader files) (Rose before now)
   pub unread : IsUnread made names old (Rose before now)
   pub same_files : new ≡ old
   pub stands : UnlessUnread made (now ≡ before)

@@ -11,9 +11,11 @@ use Rattle.redl_app.specs.declared.output.Output.{Output}
 use Rattle.redl_app.specs.declared.output.Output.TheVariants as output
 use Rattle.redl_app.specs.declared.output.Writing.{Writing as DeclaredWriting}
 use Rattle.redl_app.specs.Files.{files_of}
+use Rattle.redl_app.specs.Formats.{Format}
 use Rattle.redl_lines.specs.Ends.{entries_view}
 use Rattle.redl_lines.specs.Failures.{Failure, failure_view}
 use Rattle.redl_lines.specs.declared.failure.Failure.{Failure as DeclaredFailure}
+use Rattle.redl_sample.specs.Summaries.{summary_text}
 use Rattle.redl_tree.specs.Model.Text.{text}
 use Rattle.redl_tree.specs.Model.View.{nodes_of}
 use Rattle.redl_words.specs.Commands.{Command}
@@ -30,13 +32,15 @@ abbrev pub document_view : DeclaredDocument → DocumentId
 document_view document = record { digest = document.digest; count = document.count }
 
 abbrev pub admission_view : Admitted → Admission
-admission_view admitted = record { state = admitted.session; refused = entries_view admitted.refused }
+admission_view admitted = record { document = document_view admitted.document; state = admitted.session; refused = entries_view admitted.refused }
 
 -- what goes out
 abbrev pub output_text : Output → List ℕ
 output_text (output.Package nodes) = text (nodes_of nodes.items)
 output_text (output.Count count) = sound_text count
 output_text (output.Journal document book) = book_text (document_view document) book
+output_text (output.Listing text) = text.items
+output_text (output.Summary summary) = summary_text summary
 
 abbrev pub writing_view : DeclaredWriting → Writing
 writing_view writing = record { bytes = output_text writing.output; refused = entries_view writing.refused }
@@ -47,6 +51,6 @@ read_view (Ok command) = Ok (command_of command)
 read_view (Err error) = Err error
 
 -- the names of the files of the command, where the words are one
-abbrev pub named_files : Result DeclaredCommand WordsError → List (List ℕ)
-named_files (Ok command) = files_of (command_of command)
-named_files (Err error) = []
+abbrev pub named_files : List Format → Result DeclaredCommand WordsError → List (List ℕ)
+named_files formats (Ok command) = files_of formats (command_of command)
+named_files formats (Err error) = []

@@ -6,22 +6,25 @@ ghost use Rattle.redl_app.specs.Views.{admission_view};
 ghost use Rattle.redl_join.specs.Books.{union};
 ghost use Rattle.redl_journal.specs.Journals.{IsAllowed};
 
+use crate::document::DocumentId;
 use redl_join::Book;
 use redl_journal::Entry;
 use redl_lines::RefusedEntries;
 use redl_session::{Refusal, Session};
 use std::alloc::AllocError;
 
-/// A session, and the entries that it refused.
+/// A session over a package, and the entries that it refused.
 #[derive(Drop)]
-pub(crate) struct Admitted {
+pub(crate) struct Admitted<'b> {
+    /// The package, as its journals know it.
+    pub document: DocumentId,
     /// The session.
-    pub session: Session,
+    pub session: Session<'b>,
     /// The entries that it refused.
     pub refused: RefusedEntries,
 }
 
-impl Admitted {
+impl<'b> Admitted<'b> {
     /// Takes these entries too. `Err` means out of memory, and some of them may be there.
     pub(crate) fn admit(&mut self, entries: Vec<Entry>) -> Result<(), AllocError>
         requires { All IsAllowed entries.items }

@@ -20,19 +20,21 @@ use redl_lines::{Cause, Failure, Limit};
 use std::alloc::{AllocError, Global};
 
 /// What becomes of the entries of the journals of these names. All journals together have at most `limit` bytes.
-pub(crate) fn admit_journals<'a, F: Shelf>(
+pub(crate) fn admit_journals<'a, 'b, F: Shelf>(
     alloc: Global,
-    document: DocumentId,
     journals: &'a [Text],
     limit: usize,
-    before: Admitted,
+    before: Admitted<'b>,
     shelf: &mut F,
-) -> Result<Admitted, Failure<'a>>
+) -> Result<Admitted<'b>, Failure<'a>>
     requires utf8 { All IsUtf8 journals.now }
     requires limit { limit < 2 ^ 32 }
-    ensures { ReadsFiles (F.told shelf.old) (F.told shelf.new) (F.faults shelf.old) (F.faults shelf.new) journals.now
-        (result_view admission_view result) (λ reader files. admission_of reader files (document_view document) (admission_view before) limit journals.now) }
+    ensures read { ReadsFiles (F.told shelf.old) (F.told shelf.new) (F.faults shelf.old) (F.faults shelf.new) journals.now
+        (result_view admission_view result) (λ reader files. admission_of reader files (admission_view before.entry) limit journals.now) }
+    ensures nodes { IfOk result (λ admitted. admitted.session.nodes ≡ before.entry.session.nodes) }
+    ensures revisions { IfOk result (λ admitted. admitted.session.revisions ≡ before.entry.session.revisions) }
 {
+    let document = before.document;
     let mut admitted = before;
     let mut left = limit;
     for journal in journals {

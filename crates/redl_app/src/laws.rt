@@ -1,10 +1,15 @@
 //! What holds of every outcome of a call, and of the readers that it is told by.
 
-ghost use Rattle.std.specs.Prelude.{◌≡◌, ℕ, List};
+ghost use Rattle.std.specs.Prelude.{◌≡◌, ◌≤◌, ℕ, List};
+ghost use Rattle.redl_app.specs.Formats.{Format};
 ghost use Rattle.redl_app.specs.Left.{LeavesSound};
 ghost use Rattle.redl_app.specs.Outcome.{outcome};
 ghost use Rattle.redl_app.specs.Readers.{Reader, IsReader};
 ghost use Rattle.redl_io.specs.Shelf.{Files};
+ghost use Rattle.redl_lines.specs.Lines.{sample_paragraphs};
+ghost use Rattle.redl_words.specs.Commands.{IsCommand, sample};
+
+use redl_lines::Status;
 
 /// There is a reader: each text has a body or none, and a journal or none.
 pub fn a_reader()
@@ -13,7 +18,8 @@ pub fn a_reader()
 
 /// A call comes to one outcome, by whichever reader it is told.
 pub fn one_outcome()
-    ensures { (reader other : Reader) → IsReader reader → IsReader other → (words : List (List ℕ)) (files : Files) → outcome reader words files ≡ outcome other words files }
+    ensures { (reader other : Reader) → IsReader reader → IsReader other → (words : List (List ℕ)) (files : Files) (formats : List Format)
+        → outcome reader words files formats ≡ outcome other words files formats }
 {}
 
 /// What `settle` and `write` put out is the text of a sound package with exactly the text that survives.
@@ -22,5 +28,11 @@ pub fn one_outcome()
 /// pieces of the stories are those of the original that survive, in their order, and all nine rules of structure hold
 /// again. Nothing says that the text reads again as XML: where an element between `]]` and `>` goes, it does not.
 pub fn what_is_left_is_sound()
-    ensures { (reader : Reader) (words : List (List ℕ)) (files : Files) → LeavesSound reader words files }
+    ensures { (reader : Reader) (words : List (List ℕ)) (files : Files) (formats : List Format) → LeavesSound reader words files formats }
+{}
+
+/// A call for a sample that is within its limit comes to its summary: the sample is a sound package.
+pub fn samples_are_written()
+    ensures { (reader : Reader) → IsReader reader → (words : List (List ℕ)) (files : Files) (formats : List Format) (number : ℕ)
+        → IsCommand words (sample number) → number ≤ sample_paragraphs → (outcome reader words files formats).status ≡ Status.Done }
 {}

@@ -6,6 +6,8 @@
 #![tactic(auto)]
 
 mod admitted;
+mod choices;
+mod collected;
 mod commands;
 mod document;
 mod fetch;
@@ -23,7 +25,7 @@ pub const PACKAGE_LIMIT: usize = 67_108_864;
 /// The most bytes that all journals of a call may have together.
 pub const JOURNALS_LIMIT: usize = 67_108_864;
 
-pub use laws::{a_reader, one_outcome, what_is_left_is_sound};
+pub use laws::{a_reader, one_outcome, samples_are_written, what_is_left_is_sound};
 pub use redl_lines::Status;
 pub use redl_words::WordsError;
 pub use top::{refuse_words, run, run_surely, tell_text};

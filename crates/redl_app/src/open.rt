@@ -1,10 +1,11 @@
 //! A session over a package, with the entries of journals.
 
 ghost use Rattle.std.specs.Prelude.{◌≡◌, None, All, IsUtf8, IfOk};
-ghost use Rattle.redl_app.specs.Admission.{no_admission, opened};
-ghost use Rattle.redl_app.specs.Journals.{document_of};
+ghost use Rattle.redl_app.specs.Admission.{no_admission, opened, opened_over};
 ghost use Rattle.redl_app.specs.Reading.{ReadsFiles};
-ghost use Rattle.redl_app.specs.Views.{admission_view, document_view, result_view};
+ghost use Rattle.redl_app.specs.Views.{admission_view, result_view};
+ghost use Rattle.redl_index.specs.Numbers.{numbered_package};
+ghost use Rattle.redl_index.specs.Revisions.{revisions_of};
 ghost use Rattle.redl_rules.specs.Attributes.{broken_rule};
 ghost use Rattle.sha2.specs.Sha256.{sha256};
 
@@ -22,35 +23,60 @@ use sha2::{Digest, Sha256};
 use std::alloc::{AllocError, Global};
 
 /// A session over the package with this text, with the entries of the journals of these names and with these locked authors.
-pub(crate) fn open<'a, F: Shelf>(
+pub(crate) fn open<'a, 'b, F: Shelf>(
     alloc: Global,
     locks: &[Text],
     journals: &'a [Text],
-    bytes: &[u8],
+    bytes: &'b [u8],
     shelf: &mut F,
-) -> Result<Admitted, Failure<'a>>
+) -> Result<Admitted<'b>, Failure<'a>>
     requires { All IsUtf8 journals.now }
     ensures { ReadsFiles (F.told shelf.old) (F.told shelf.new) (F.faults shelf.old) (F.faults shelf.new) journals.now
         (result_view admission_view result) (λ reader files. opened reader files locks.now journals.now bytes.now) }
 {
     let package = read_package(alloc, bytes)?;
-    let started = start(alloc, package, locks)?;
-    let document = DocumentId {
-        digest: digest_of(bytes),
-        count: started.refused.count,
-    };
-    admit_journals(alloc, document, journals, JOURNALS_LIMIT, started, shelf)
+    open_package(alloc, package, locks, journals, bytes, shelf)
 }
 
-// A session over this package, before any entry.
-fn start(alloc: Global, read: Package, locks: &[Text]) -> Result<Admitted, AllocError>
+/// A session over this package, which has this text, with the entries of the journals of these names and with these locked
+/// authors.
+pub(crate) fn open_package<'a, 'b, F: Shelf>(
+    alloc: Global,
+    package: Package<'b>,
+    locks: &[Text],
+    journals: &'a [Text],
+    bytes: &[u8],
+    shelf: &mut F,
+) -> Result<Admitted<'b>, Failure<'a>>
+    requires utf8 { All IsUtf8 journals.now }
+    requires sound { broken_rule «package» ≡ None }
+    ensures read { ReadsFiles (F.told shelf.old) (F.told shelf.new) (F.faults shelf.old) (F.faults shelf.new) journals.now
+        (result_view admission_view result) (λ reader files. opened_over reader files locks.now journals.now bytes.now «package».entry) }
+    ensures nodes { IfOk result (λ admitted. admitted.session.nodes ≡ numbered_package «package».entry) }
+    ensures revisions { IfOk result (λ admitted. admitted.session.revisions ≡ revisions_of «package».entry) }
+{
+    let started = start(alloc, package, locks, bytes)?;
+    admit_journals(alloc, journals, JOURNALS_LIMIT, started, shelf)
+}
+
+/// A session over this package, which has this text, before any entry.
+pub(crate) fn start<'b>(
+    alloc: Global,
+    read: Package<'b>,
+    locks: &[Text],
+    bytes: &[u8],
+) -> Result<Admitted<'b>, AllocError>
     requires { broken_rule read ≡ None }
-    ensures { IfOk result (λ started. admission_view started ≡ no_admission read locks.now) }
+    ensures { IfOk result (λ started. admission_view started ≡ no_admission bytes.now read.entry locks.now) }
 {
     let numbered = number_package(alloc, read)?;
     let count = numbered.index.count();
     let locks = Locks::new(copy_texts(alloc, locks)?);
     Ok(Admitted {
+        document: DocumentId {
+            digest: digest_of(bytes),
+            count,
+        },
         session: Session::start(alloc, numbered.package, numbered.index, locks)?,
         refused: RefusedEntries {
             entries: Book::new(alloc),

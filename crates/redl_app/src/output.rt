@@ -9,36 +9,41 @@ ghost use Rattle.redl_io.specs.Sink.{Puts, GrowsByFront, CountsPut};
 
 use crate::document::DocumentId;
 use itoa::Buffer;
-use redl_io::{Failed, Sink, Staged, put_pieces};
+use redl_io::{Failed, Sink, Staged, put_piece, put_pieces};
 use redl_join::Book;
 use redl_lines::RefusedEntries;
+use redl_sample::Summary;
 use redl_tree::{Node, write_nodes};
 use std::alloc::Global;
 
 /// What goes out.
 #[derive(Drop)]
-pub(crate) enum Output {
+pub(crate) enum Output<'b> {
     /// The text of these nodes.
-    Package(Vec<Node>),
+    Package(Vec<Node<'b>>),
     /// That a package is sound, and has so many revisions.
     Count(u32),
     /// The journal of this document with the book's entries.
     Journal { document: DocumentId, book: Book },
+    /// This text of a listing.
+    Listing(Vec<u8>),
+    /// The summary of a sample.
+    Summary(Summary),
 }
 
 /// What a call writes, and the entries that were refused.
 #[derive(Drop)]
-pub(crate) struct Writing {
+pub(crate) struct Writing<'b> {
     /// What goes out.
-    pub output: Output,
+    pub output: Output<'b>,
     /// The entries that were refused.
     pub refused: RefusedEntries,
 }
 
-impl Writing {
+impl<'b> Writing<'b> {
     /// Output alone, where no entry can be refused.
-    pub(crate) fn only(alloc: Global, output: Output) -> Writing
-        ensures { writing_view result ≡ only_bytes (output_text output) }
+    pub(crate) fn only(alloc: Global, output: Output<'b>) -> Writing<'b>
+        ensures { writing_view result ≡ only_bytes (output_text output.entry) }
     {
         Writing {
             output,
@@ -68,6 +73,8 @@ fn put_output<K: Sink>(output: &Output, out: &mut K) -> Result<(), Failed>
         Output::Package(nodes) => write_nodes(nodes, out),
         Output::Count(count) => write_sound(*count, out),
         Output::Journal { document, book } => book.write(&document.digest, document.count, out),
+        Output::Listing(text) => put_piece(text, out),
+        Output::Summary(summary) => summary.write(out),
     }
 }
 

@@ -22,7 +22,10 @@ use std::marker::Brand;
 use std::sync::ledger::{Blank, Ledger};
 
 /// The package with this text.
-pub(crate) fn read_package<'a>(alloc: Global, bytes: &[u8]) -> Result<Package, Failure<'a>>
+pub(crate) fn read_package<'a, 'b>(
+    alloc: Global,
+    bytes: &'b [u8],
+) -> Result<Package<'b>, Failure<'a>>
     ensures read { Reads (result_view (λ made. made) result) (λ reader. package_in reader bytes.now) }
     ensures sound { IfOk result (λ made. broken_rule made ≡ None) }
 {
@@ -33,7 +36,7 @@ pub(crate) fn read_package<'a>(alloc: Global, bytes: &[u8]) -> Result<Package, F
 }
 
 // The tree of this text.
-fn read_nodes<'a>(alloc: Global, bytes: &[u8]) -> Result<Vec<Node>, Failure<'a>>
+fn read_nodes<'a, 'b>(alloc: Global, bytes: &'b [u8]) -> Result<Vec<Node<'b>>, Failure<'a>>
     ensures read { Reads (result_view (λ nodes. nodes_of nodes.items) result) (λ reader. tree_in (reader.tree bytes.now)) }
     ensures tree { IfOk result (λ nodes. IsTree (nodes_of nodes.items)) }
 {
@@ -41,9 +44,9 @@ fn read_nodes<'a>(alloc: Global, bytes: &[u8]) -> Result<Vec<Node>, Failure<'a>>
 }
 
 // The package that the nodes are.
-fn shape<'a>(alloc: Global, nodes: Vec<Node>) -> Result<Package, Failure<'a>>
+fn shape<'a, 'b>(alloc: Global, nodes: Vec<Node<'b>>) -> Result<Package<'b>, Failure<'a>>
     requires { IsTree (nodes_of nodes.items) }
-    ensures { Reads (result_view (λ made. made) result) (λ _. shaped (nodes_of nodes.items)) }
+    ensures { Reads (result_view (λ made. made) result) (λ _. shaped (nodes_of nodes.entry.items)) }
 {
     Ok(Package::make(alloc, nodes)?)
 }
@@ -58,16 +61,16 @@ fn check_rules<'a>(alloc: Global, package: &Package) -> Result<(), Failure<'a>>
 
 /// A package with the kinds and numbers of its revisions, and the revisions.
 #[derive(Drop)]
-pub(crate) struct Numbered {
-    pub package: Package,
+pub(crate) struct Numbered<'b> {
+    pub package: Package<'b>,
     pub index: Index,
 }
 
 /// The package with its numbers.
 pub(crate) fn number_package(alloc: Global, read: Package) -> Result<Numbered, AllocError>
-    ensures numbered { IfOk result (λ made. made.«package» ≡ numbered_package read) }
-    ensures index { IfOk result (λ made. made.index ≡ revisions_of read) }
-    ensures count { IfOk result (λ made. length made.index ≡ package_revisions read) }
+    ensures numbered { IfOk result (λ made. made.«package» ≡ numbered_package read.entry) }
+    ensures index { IfOk result (λ made. made.index ≡ revisions_of read.entry) }
+    ensures count { IfOk result (λ made. length made.index ≡ package_revisions read.entry) }
 {
     let mut package = read;
     let index = Index::build(alloc, &mut package)?;
@@ -75,27 +78,27 @@ pub(crate) fn number_package(alloc: Global, read: Package) -> Result<Numbered, A
 }
 
 /// What is left of a numbered package. Its own nodes go while it is made.
-pub(crate) fn pass_nodes(
+pub(crate) fn pass_nodes<'b>(
     alloc: Global,
-    package: Package,
+    package: Package<'b>,
     says: &[Say],
-) -> Result<Vec<Node>, AllocError>
-    ensures { IfOk result (λ passed. nodes_of passed.items ≡ pass_package says.now «package») }
+) -> Result<Vec<Node<'b>>, AllocError>
+    ensures { IfOk result (λ passed. nodes_of passed.items ≡ pass_package says.now «package».entry) }
 {
     pass_counted::<Brand>(alloc, package.into_nodes(), says, Blank::new(1))
 }
 
 // The pass with a counter of its own, which nobody reads.
-fn pass_counted<L: Ledger>(
+fn pass_counted<'b, L: Ledger>(
     alloc: Global,
-    nodes: Vec<Node>,
+    nodes: Vec<Node<'b>>,
     says: &[Say],
     blank: Blank,
-) -> Result<Vec<Node>, AllocError>
+) -> Result<Vec<Node<'b>>, AllocError>
     requires name { blank.name ≡ L.name }
     requires parts { blank.parts ≡ L.parts }
     requires some { 0 < L.parts }
-    ensures { IfOk result (λ passed. nodes_of passed.items ≡ pass_package says.now (nodes_of nodes.items)) }
+    ensures { IfOk result (λ passed. nodes_of passed.items ≡ pass_package says.now (nodes_of nodes.entry.items)) }
 {
     into_passed(alloc, nodes, says, &mut Steps::<L>::new(blank))
 }

@@ -1,10 +1,11 @@
 //! The top call: from words and files to a status, bytes and lines.
 
-ghost use Rattle.std.specs.Prelude.{◌≡◌, ◌≢◌, ◌⊎◌, List, ℕ, None, Some, All, IsUtf8, IfSome, IfOk, IfErr, Result};
+ghost use Rattle.std.specs.Prelude.{◌≡◌, ◌≢◌, ◌⊎◌, ◌++◌, [], List, ℕ, false, None, Some, All, IsUtf8, IfSome, IfOk, IfErr, Result};
 ghost use Rattle.redl_app.specs.Answers.{OfOutcome, IsAnswer, Writes, AreLines, TellsSome, MayFault};
-ghost use Rattle.redl_app.specs.Files.{files_of};
+ghost use Rattle.redl_app.specs.Files.{files_of, journals_of, package_of};
+ghost use Rattle.redl_app.specs.Formats.{LeavesFormats, formats_by, without_asked};
 ghost use Rattle.redl_app.specs.Finishing.{Ends, Finishes, IsWanted, words_failure};
-ghost use Rattle.redl_app.specs.Outcome.{outcome, writing_of};
+ghost use Rattle.redl_app.specs.Outcome.{outcome, writing_by, writing_of};
 ghost use Rattle.redl_app.specs.Readers.{Reader, IsReader};
 ghost use Rattle.redl_app.specs.Views.{named_files, read_view, result_view, writing_view};
 ghost use Rattle.redl_io.specs.Faults.{Rose};
@@ -13,22 +14,24 @@ ghost use Rattle.redl_io.specs.MemShelf.{file_named};
 ghost use Rattle.redl_io.specs.Shelf.{Files};
 ghost use Rattle.redl_io.specs.Sink.{GrowsByFront};
 ghost use Rattle.std.specs.Io.KnownBytes.{append_known};
-ghost use Rattle.redl_lines.specs.Ends.{Tells, end_view, failed};
+ghost use Rattle.redl_lines.specs.Ends.{Tells, end_status, end_view, failed};
 ghost use Rattle.redl_lines.specs.Failures.{Failure as FailureOf, failure_view, failure_status};
 ghost use Rattle.redl_lines.specs.Lines.{failure_line};
-ghost use Rattle.redl_words.specs.Commands.{HasNoCommand, HasUtf8};
+ghost use Rattle.redl_words.specs.Commands.{Command as CommandOf, HasNoCommand, HasUtf8, IsCommand};
 ghost use Rattle.redl_words.specs.Views.{command_of};
 
-use crate::commands::{fetch_package, make_writing};
+use crate::commands::{check_format, fetch_package, make_writing};
 use crate::output::{Writing, write_output};
 use redl_io::{NullSink, Shelf, Sink, SureShelf, Text};
 use redl_join::Book;
 use redl_lines::{Cause, End, Failure, RefusedEntries, Status, tell};
+use redl_listing::RowFormat;
 use redl_words::{Command, WordsError, read_words};
 use std::alloc::Global;
 
 /// Does what the words ask: takes files from the shelf, puts bytes on `out` and lines on `err`.
 ///
+/// `list` takes the first format that has its name out of the list, and no format of the list is closed or has a row.
 /// `out` gains the bytes of the call's outcome with `Done` and `Refused`, a front of them with `WriteFault`, and nothing
 /// with any other status. A fault of `err` changes no status. An allocation may fail wherever memory is taken, and then
 /// nothing was put on `out`.
@@ -38,17 +41,21 @@ pub fn run<F: Shelf, O: Sink, E: Sink>(
     shelf: &mut F,
     out: &mut O,
     err: &mut E,
+    formats: &mut Vec<Box<dyn RowFormat>>,
 ) -> Status
-    requires { All IsUtf8 words.now }
+    requires utf8 { All IsUtf8 words.now }
+    requires fresh { All (λ format. (is_closed format ≡ false) × (rows_so_far format ≡ [])) formats.old.items }
 
-    // Where the shelf tells, the status is the outcome's, but for what the outside forces.
-    ensures status { OfOutcome (F.told shelf.old) words.now (λ outcome. IsAnswer result outcome
+    // Where the shelf tells, or the words ask for no file, the status is the outcome's, but for what the outside forces.
+    ensures status { OfOutcome (F.told shelf.old) words.now
+        (formats_by (λ format. format_name format) (λ format. text_for format) formats.old.items) (λ outcome. IsAnswer result outcome
         (Rose (F.faults shelf.old) (F.faults shelf.new)) (Rose (O.faults out.old) (O.faults out.new))) }
 
     // Over every shelf.
     ensures usage { HasNoCommand words.now → (result ≡ Status.Usage) ⊎ (result ≡ Status.NoMemory) }
     ensures read { result ≡ Status.ReadFault
-        → MayFault words.now (F.told shelf.old) (Rose (F.faults shelf.old) (F.faults shelf.new)) }
+        → MayFault words.now (formats_by (λ format. format_name format) (λ format. text_for format) formats.old.items)
+        (F.told shelf.old) (Rose (F.faults shelf.old) (F.faults shelf.new)) }
     ensures write { result ≡ Status.WriteFault → Rose (O.faults out.old) (O.faults out.new) }
 
     // No fault is passed over, and nothing is taken from the shelf.
@@ -56,14 +63,22 @@ pub fn run<F: Shelf, O: Sink, E: Sink>(
     ensures out_stands { result ≢ Status.WriteFault → O.faults out.new ≡ O.faults out.old }
     ensures same_files { F.told shelf.new ≡ F.told shelf.old }
 
+    // The list of formats loses at most the one that `list` takes.
+    ensures taken { (command : CommandOf) → IsCommand words.now command → LeavesFormats result
+        (without_asked (λ format. format_name format) command formats.old.items) formats.old.items formats.new.items }
+    ensures no_format { HasNoCommand words.now → formats.new.items ≡ formats.old.items }
+
     // What went out.
-    ensures bytes { OfOutcome (F.told shelf.old) words.now (λ outcome. Writes result (O.told out.old) (O.told out.new) outcome.bytes) }
+    ensures bytes { OfOutcome (F.told shelf.old) words.now
+        (formats_by (λ format. format_name format) (λ format. text_for format) formats.old.items) (λ outcome. Writes result (O.told out.old) (O.told out.new) outcome.bytes) }
     ensures untouched { result ≢ Status.Done → result ≢ Status.Refused → result ≢ Status.WriteFault → O.told out.new ≡ O.told out.old }
-    ensures lines { OfOutcome (F.told shelf.old) words.now (λ outcome. TellsSome (E.told err.old) (E.told err.new) (E.faults err.old) (E.faults err.new)
-        (AreLines result outcome words.now (Rose (F.faults shelf.old) (F.faults shelf.new)))) }
+    ensures lines { OfOutcome (F.told shelf.old) words.now
+        (formats_by (λ format. format_name format) (λ format. text_for format) formats.old.items) (λ outcome. TellsSome (E.told err.old) (E.told err.new) (E.faults err.old) (E.faults err.new)
+        (AreLines result outcome words.now (formats_by (λ format. format_name format) (λ format. text_for format) formats.old.items)
+        (Rose (F.faults shelf.old) (F.faults shelf.new)))) }
 {
     let read = read_words(alloc, words);
-    let end = end_call(alloc, &read, shelf, out);
+    let end = end_call(alloc, &read, shelf, out, formats);
     tell(&end, err);
     end.status()
 }
@@ -74,15 +89,21 @@ fn end_call<'a, F: Shelf, O: Sink>(
     read: &'a Result<Command, WordsError>,
     shelf: &mut F,
     out: &mut O,
+    formats: &mut Vec<Box<dyn RowFormat>>,
 ) -> End<'a>
-    requires { IfOk read.now (λ command. HasUtf8 (command_of command)) }
-    ensures ends { (due : Reader → Files → Result WritingOf FailureOf) → IsWanted (read_view read.now) due
+    requires utf8 { IfOk read.now (λ command. HasUtf8 (command_of command)) }
+    requires fresh { All (λ format. (is_closed format ≡ false) × (rows_so_far format ≡ [])) formats.old.items }
+    ensures ends { (due : Reader → Files → Result WritingOf FailureOf) → IsWanted (formats_by (λ format. format_name format) (λ format. text_for format) formats.old.items) (read_view read.now) due
         → Ends (F.told shelf.old) (F.told shelf.new) (F.faults shelf.old) (F.faults shelf.new)
-        (O.told out.old) (O.told out.new) (O.faults out.old) (O.faults out.new) (named_files read.now) due (end_view result) }
+        (O.told out.old) (O.told out.new) (O.faults out.old) (O.faults out.new)
+        (named_files (formats_by (λ format. format_name format) (λ format. text_for format) formats.old.items) read.now) due (end_view result) }
     ensures words { IfErr read.now (λ error. end_view result ≡ failed (words_failure error)) }
+    ensures taken { IfOk read.now (λ command. LeavesFormats (end_status (end_view result))
+        (without_asked (λ format. format_name format) (command_of command) formats.old.items) formats.old.items formats.new.items) }
+    ensures no_format { IfErr read.now (λ _. formats.new.items ≡ formats.old.items) }
 {
     match read {
-        Ok(command) => carry_out(alloc, command, shelf, out),
+        Ok(command) => carry_out(alloc, command, shelf, out, formats),
         Err(error) => End::Failed(failure_of(*error)),
     }
 }
@@ -96,26 +117,55 @@ fn failure_of(error: WordsError) -> Failure<'static>
     }
 }
 
-// How a command ends. What is made of its package lives no longer than the package's text.
+// How a command ends.
 fn carry_out<'a, F: Shelf, O: Sink>(
     alloc: Global,
     command: &'a Command,
     shelf: &mut F,
     out: &mut O,
+    formats: &mut Vec<Box<dyn RowFormat>>,
 ) -> End<'a>
-    requires { HasUtf8 (command_of command.now) }
-    ensures { Ends (F.told shelf.old) (F.told shelf.new) (F.faults shelf.old) (F.faults shelf.new)
+    requires utf8 { HasUtf8 (command_of command.now) }
+    requires fresh { All (λ format. (is_closed format ≡ false) × (rows_so_far format ≡ [])) formats.old.items }
+    ensures ends { Ends (F.told shelf.old) (F.told shelf.new) (F.faults shelf.old) (F.faults shelf.new)
         (O.told out.old) (O.told out.new) (O.faults out.old) (O.faults out.new)
-        (files_of (command_of command.now)) (λ reader files. writing_of reader files (Some (command_of command.now))) (end_view result) }
+        (files_of (formats_by (λ format. format_name format) (λ format. text_for format) formats.old.items) (command_of command.now))
+        (λ reader files. writing_of reader files (formats_by (λ format. format_name format) (λ format. text_for format) formats.old.items) (Some (command_of command.now)))
+        (end_view result) }
+    ensures taken { LeavesFormats (end_status (end_view result))
+        (without_asked (λ format. format_name format) (command_of command.now) formats.old.items) formats.old.items formats.new.items }
+{
+    match check_format(command, formats) {
+        Ok(()) => write_command(alloc, command, shelf, out, formats),
+        Err(failure) => End::Failed(failure),
+    }
+}
+
+// How a command ends whose format is there. What is made of its package lives no longer than the package's text.
+fn write_command<'a, F: Shelf, O: Sink>(
+    alloc: Global,
+    command: &'a Command,
+    shelf: &mut F,
+    out: &mut O,
+    formats: &mut Vec<Box<dyn RowFormat>>,
+) -> End<'a>
+    requires utf8 { HasUtf8 (command_of command.now) }
+    requires fresh { All (λ format. (is_closed format ≡ false) × (rows_so_far format ≡ [])) formats.old.items }
+    ensures ends { Ends (F.told shelf.old) (F.told shelf.new) (F.faults shelf.old) (F.faults shelf.new)
+        (O.told out.old) (O.told out.new) (O.faults out.old) (O.faults out.new)
+        (package_of (command_of command.now) ++ journals_of (command_of command.now))
+        (λ reader files. writing_by reader files (formats_by (λ format. format_name format) (λ format. text_for format) formats.old.items) (command_of command.now)) (end_view result) }
+    ensures taken { LeavesFormats (end_status (end_view result))
+        (without_asked (λ format. format_name format) (command_of command.now) formats.old.items) formats.old.items formats.new.items }
 {
     match fetch_package(alloc, command, shelf) {
-        Ok(bytes) => finish(make_writing(alloc, command, &bytes, shelf), out),
+        Ok(bytes) => finish(make_writing(alloc, command, &bytes, shelf, formats), out),
         Err(failure) => End::Failed(failure),
     }
 }
 
 // Writes what was made.
-fn finish<'a, O: Sink>(made: Result<Writing, Failure<'a>>, out: &mut O) -> End<'a>
+fn finish<'a, 'b, O: Sink>(made: Result<Writing<'b>, Failure<'a>>, out: &mut O) -> End<'a>
     ensures { Finishes (O.told out.old) (O.told out.new) (O.faults out.old) (O.faults out.new) (result_view writing_view made.entry) (end_view result) }
 {
     match made {
@@ -163,10 +213,13 @@ pub fn run_surely<E: Sink>(
     words: &[Text],
     shelf: &mut SureShelf,
     err: &mut E,
+    formats: &mut Vec<Box<dyn RowFormat>>,
 ) -> Status
-    requires { All IsUtf8 words.now }
+    requires utf8 { All IsUtf8 words.now }
+    requires fresh { All (λ format. (is_closed format ≡ false) × (rows_so_far format ≡ [])) formats.old.items }
     ensures { (reader : Reader) → IsReader reader
-        → (result ≡ (outcome reader words.now (file_named shelf.old)).status) ⊎ (result ≡ Status.NoMemory) }
+        → (result ≡ (outcome reader words.now (file_named shelf.old) (formats_by (λ format. format_name format) (λ format. text_for format) formats.old.items)).status)
+        ⊎ (result ≡ Status.NoMemory) }
 {
-    run(alloc, words, shelf, &mut NullSink, err)
+    run(alloc, words, shelf, &mut NullSink, err, formats)
 }

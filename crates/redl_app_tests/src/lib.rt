@@ -2,4 +2,6 @@
 #![tactic(auto)]
 
 #[cfg(test)]
+mod count_format;
+#[cfg(test)]
 mod tests;

@@ -2,6 +2,7 @@
 
 mod calls;
 mod faults;
+mod formats;
 mod limits;
 mod refusals;
 mod sizes;

@@ -1,5 +1,6 @@
 -- Revisions don't depend on labels: a numbered package has the revisions of the original, and as many.
-use Rattle.std.proofs.Common.{◌≡◌, ◌∙◌, refl, ap, sym, ℕ, zero, suc, ◌+◌, List, [], ◌∷◌, ◌++◌, cond, filter, filter_map, map, not, slice_get, Option, Some, None, is_some, option_map}
+use Rattle.std.proofs.Common.{◌≡◌, ◌∙◌, refl, ap, sym, ℕ, ◌+◌, List, [], ◌∷◌, ◌++◌, filter_map, map, Option, Some, None, option_map}
+use Rattle.std.specs.List.{cons_option}
 use Rattle.redl_tree.specs.Model.Nodes.{Tag, Nodes}
 use Rattle.redl_tree.specs.Model.Seen.{Seen, seen}
 use Rattle.redl_tree.specs.Model.View.{Parts}
@@ -8,64 +9,38 @@ use Rattle.redl_tree.specs.Revisions.Labels.{unlabelled_tag, unlabelled}
 use Rattle.redl_tree.specs.Revisions.Markers.{marker_of, move_of, whole_role}
 use Rattle.redl_tree.specs.Revisions.Moves.{Marking, pairs}
 use Rattle.redl_tree.specs.Revisions.Numbers.{labelled_story, next_after_story}
-use Rattle.redl_tree.specs.declared.kinds.Kind.{Kind}
 use Rattle.redl_tree.proofs.NumberLaws.{bare_seen, seen-bare, marker_of-bare, markers-bare, move_of-bare, whole_role-bare, unlabelled-story, unlabelled-numbered, story_next-bare, numbered_stories, next_after_stories, next_after-stories, stories-numbered}
 use Rattle.redl_opc.specs.Elements.{Element}
 use Rattle.redl_opc.specs.Shape.{elements_in, parts_of, package_of, story_of}
 use Rattle.redl_opc.proofs.LabelLaws.{plain, elements-unlabelled, package_of-unlabelled, story_of-plain}
 use Rattle.redl_stamp.specs.Attribute.{attribute_value}
 use Rattle.redl_moves.specs.Starts.{start_in}
-use Rattle.redl_moves.specs.declared.start.Start.{Start}
-use Rattle.redl_markers.specs.Found.{is_found, markers_of, marker_tags}
-use Rattle.redl_index.specs.Kinds.{kind_of, is_marker_kind}
-use Rattle.redl_index.specs.Mentions.{tail_of, Sight, sight_by, sight_in, mentions}
+use Rattle.redl_markers.specs.Found.{markers_of, marker_tail, marker_tails}
+use Rattle.redl_index.specs.Mentions.{Sight, sight_by, sight_in, mentions}
 use Rattle.redl_index.specs.Numbers.{package_revisions, numbered_package}
 use Rattle.redl_index.specs.Revisions.{firsts, revision_of, story_revisions, revisions_in, revisions_from, numbered, revisions_of}
-use Rattle.redl_index.specs.declared.revision.RevKind.TheVariants.{Move}
 
 -- ---- the mentions in a story
 
-found-bare : (xs : List Seen) → map (λ (x : Seen). x.own.tag) (filter is_found (map bare_seen xs)) ≡ map unlabelled_tag (map (λ (x : Seen). x.own.tag) (filter is_found xs))
-found-bare [] = refl
-found-bare (x ∷ xs) =
-    ap (λ o. map (λ (y : Seen). y.own.tag) (cond (is_some o) (bare_seen x ∷ filter is_found (map bare_seen xs)) (filter is_found (map bare_seen xs)))) (marker_of-bare attribute_value x)
-    ∙ by (marker_of attribute_value x) (found-bare xs)
-  where
-    by : (o : Option Marking) → map (λ (y : Seen). y.own.tag) (filter is_found (map bare_seen xs)) ≡ map unlabelled_tag (map (λ (y : Seen). y.own.tag) (filter is_found xs))
-        → map (λ (y : Seen). y.own.tag) (cond (is_some o) (bare_seen x ∷ filter is_found (map bare_seen xs)) (filter is_found (map bare_seen xs)))
-        ≡ map unlabelled_tag (map (λ (y : Seen). y.own.tag) (cond (is_some o) (x ∷ filter is_found xs) (filter is_found xs)))
-    by None ih = ih
-    by (Some mark) ih = ap (λ ts. unlabelled_tag x.own.tag ∷ ts) ih
+tails-bare : (xs : List Seen) → filter_map marker_tail (map bare_seen xs) ≡ filter_map marker_tail xs
+tails-bare [] = refl
+tails-bare (x ∷ xs) =
+    ap (λ o. cons_option (option_map (λ mark. x.own.tag.tail) o) (filter_map marker_tail (map bare_seen xs))) (marker_of-bare attribute_value x)
+    ∙ ap (cons_option (marker_tail x)) (tails-bare xs)
 
-tail-bare : (tags : List Tag) (k : ℕ) → tail_of (slice_get (map unlabelled_tag tags) k) ≡ tail_of (slice_get tags k)
-tail-bare [] k = refl
-tail-bare (tag ∷ tags) zero = refl
-tail-bare (tag ∷ tags) (suc k) = tail-bare tags k
-
-sight-tags : (tags : List Tag) (tail : List ℕ) (kind : Kind) (start : Option Start) → sight_by (map unlabelled_tag tags) tail kind start ≡ sight_by tags tail kind start
-sight-tags tags tail kind None = refl
-sight-tags tags tail kind (Some start) =
-    ap
-    (λ there. record {
-      kind = kind;
-      mention = option_map (λ named. record { kind = Move; move = Some start.at; counts = not (is_marker_kind kind); tail = there }) (kind_of kind);
-    })
-    (tail-bare tags start.place)
-
-sight-bare : (marks : List Marking) (tags : List Tag) (x : Seen) → sight_in marks (map unlabelled_tag tags) (bare_seen x) ≡ sight_in marks tags x
-sight-bare marks tags x =
+sight-bare : (marks : List Marking) (tails : List (List ℕ)) (x : Seen) → sight_in marks tails (bare_seen x) ≡ sight_in marks tails x
+sight-bare marks tails x =
     let tail = x.own.tag.tail in
-    ap (λ kind. sight_by (map unlabelled_tag tags) tail kind (option_map (start_in marks) (move_of attribute_value (pairs marks) (bare_seen x))))
+    ap (λ kind. sight_by tails tail kind (option_map (start_in marks) (move_of attribute_value (pairs marks) (bare_seen x))))
     (whole_role-bare attribute_value (pairs marks) x)
-    ∙ ap (λ move. sight_by (map unlabelled_tag tags) tail (whole_role attribute_value (pairs marks) x) (option_map (start_in marks) move))
+    ∙ ap (λ move. sight_by tails tail (whole_role attribute_value (pairs marks) x) (option_map (start_in marks) move))
     (move_of-bare attribute_value (pairs marks) x)
-    ∙ sight-tags tags tail (whole_role attribute_value (pairs marks) x) (option_map (start_in marks) (move_of attribute_value (pairs marks) x))
 
-sights-bare : (marks : List Marking) (tags : List Tag) (xs : List Seen) → map (sight_in marks (map unlabelled_tag tags)) (map bare_seen xs) ≡ map (sight_in marks tags) xs
-sights-bare marks tags [] = refl
-sights-bare marks tags (x ∷ xs) =
-    ap (λ s. s ∷ map (sight_in marks (map unlabelled_tag tags)) (map bare_seen xs)) (sight-bare marks tags x)
-    ∙ ap (λ ss. sight_in marks tags x ∷ ss) (sights-bare marks tags xs)
+sights-bare : (marks : List Marking) (tails : List (List ℕ)) (xs : List Seen) → map (sight_in marks tails) (map bare_seen xs) ≡ map (sight_in marks tails) xs
+sights-bare marks tails [] = refl
+sights-bare marks tails (x ∷ xs) =
+    ap (λ s. s ∷ map (sight_in marks tails) (map bare_seen xs)) (sight-bare marks tails x)
+    ∙ ap (λ ss. sight_in marks tails x ∷ ss) (sights-bare marks tails xs)
 
 mentions-bare : (root : Tag) (kids : Nodes) → mentions (unlabelled_tag root) (unlabelled kids) ≡ mentions root kids
 mentions-bare root kids =
@@ -73,13 +48,13 @@ mentions-bare root kids =
     let bare_kids = unlabelled kids in
     let marks : markers_of bare_root bare_kids ≡ markers_of root kids =
     ap (filter_map (marker_of attribute_value)) (seen-bare root kids) ∙ markers-bare attribute_value (seen root kids) in
-    let tags : marker_tags bare_root bare_kids ≡ map unlabelled_tag (marker_tags root kids) =
-    ap (λ xs. map (λ (x : Seen). x.own.tag) (filter is_found xs)) (seen-bare root kids) ∙ found-bare (seen root kids) in
+    let tails : marker_tails bare_root bare_kids ≡ marker_tails root kids =
+    ap (filter_map marker_tail) (seen-bare root kids) ∙ tails-bare (seen root kids) in
     ap (filter_map (λ (sight : Sight). sight.mention))
-    (ap (map (sight_in (markers_of bare_root bare_kids) (marker_tags bare_root bare_kids))) (seen-bare root kids)
-    ∙ ap (λ ms. map (sight_in ms (marker_tags bare_root bare_kids)) (map bare_seen (seen root kids))) marks
-    ∙ ap (λ ts. map (sight_in (markers_of root kids) ts) (map bare_seen (seen root kids))) tags
-    ∙ sights-bare (markers_of root kids) (marker_tags root kids) (seen root kids))
+    (ap (map (sight_in (markers_of bare_root bare_kids) (marker_tails bare_root bare_kids))) (seen-bare root kids)
+    ∙ ap (λ ms. map (sight_in ms (marker_tails bare_root bare_kids)) (map bare_seen (seen root kids))) marks
+    ∙ ap (λ ts. map (sight_in (markers_of root kids) ts) (map bare_seen (seen root kids))) tails
+    ∙ sights-bare (markers_of root kids) (marker_tails root kids) (seen root kids))
 
 -- ---- the revisions of a package
 

@@ -15,7 +15,7 @@ use Rattle.redl_tree.specs.declared.kinds.Kind.TheVariants.{Content, Mark, Row, 
 use Rattle.redl_opc.specs.declared.label.Label.{Label}
 use Rattle.redl_stamp.specs.Attribute.{attribute_value}
 use Rattle.redl_moves.specs.Starts.{start_in}
-use Rattle.redl_markers.specs.Found.{markers_of, marker_tags}
+use Rattle.redl_markers.specs.Found.{markers_of, marker_tails}
 use Rattle.redl_markers.specs.Free.{Every}
 use Rattle.redl_markers.proofs.StoryLaws.{seen-count}
 use Rattle.redl_opc.specs.Elements.{Element}
@@ -524,21 +524,21 @@ abbrev in_mention : Option Mention → Membership
 in_mention None = in_none
 in_mention (Some m) = in_its m.move
 
-mention-in : (marks : List Marking) (tags : List Tag) (tail : List ℕ) (kind : Kind) (p : Option Pair) →
-    in_mention (mention_by tags tail kind (option_map (start_in marks) p)) ≡ membership kind p
-mention-in marks tags tail Plain p = refl
-mention-in marks tags tail (Content x) None = refl
-mention-in marks tags tail (Content x) (Some pair) = refl
-mention-in marks tags tail (Mark x) None = refl
-mention-in marks tags tail (Mark x) (Some pair) = refl
-mention-in marks tags tail (Row x) None = refl
-mention-in marks tags tail (Row x) (Some pair) = refl
-mention-in marks tags tail (Cell x) None = refl
-mention-in marks tags tail (Cell x) (Some pair) = refl
-mention-in marks tags tail (Change x) None = refl
-mention-in marks tags tail (Change x) (Some pair) = refl
-mention-in marks tags tail Marker None = refl
-mention-in marks tags tail Marker (Some pair) = refl
+mention-in : (marks : List Marking) (tails : List (List ℕ)) (tail : List ℕ) (kind : Kind) (p : Option Pair) →
+    in_mention (mention_by tails tail kind (option_map (start_in marks) p)) ≡ membership kind p
+mention-in marks tails tail Plain p = refl
+mention-in marks tails tail (Content x) None = refl
+mention-in marks tails tail (Content x) (Some pair) = refl
+mention-in marks tails tail (Mark x) None = refl
+mention-in marks tails tail (Mark x) (Some pair) = refl
+mention-in marks tails tail (Row x) None = refl
+mention-in marks tails tail (Row x) (Some pair) = refl
+mention-in marks tails tail (Cell x) None = refl
+mention-in marks tails tail (Cell x) (Some pair) = refl
+mention-in marks tails tail (Change x) None = refl
+mention-in marks tails tail (Change x) (Some pair) = refl
+mention-in marks tails tail Marker None = refl
+mention-in marks tails tail Marker (Some pair) = refl
 
 -- the moves that have a number are those that these mentions are of
 abbrev IsKnown : Numbering → List Mention → Type 0
@@ -595,9 +595,9 @@ counted-mention s done m known = by m.move refl
         at None had = counted-new s done m t known is had
         at (Some n) had = counted-again s done m t n known is had
 
-module _ (marks : List Marking) (tags : List Tag) where
+module _ (marks : List Marking) (tails : List (List ℕ)) where
   abbrev mentions_in : List Seen → List Mention
-  mentions_in xs = filter_map (λ sight. sight.mention) (map (sight_in marks tags) xs)
+  mentions_in xs = filter_map (λ sight. sight.mention) (map (sight_in marks tails) xs)
 
   abbrev Counted : List Seen → Type 0
   Counted xs = (s : Numbering) (d : List Mention) → IsKnown s d → (counted_all (pairs marks) s xs).next ≡ s.next + length (firsts d (mentions_in xs))
@@ -607,8 +607,8 @@ module _ (marks : List Marking) (tags : List Tag) where
   counted-next s done [] known = omega arith
   counted-next s done (x ∷ xs) known =
       ap (λ i. (counted_all (pairs marks) (counted i s) xs).next)
-      (sym (mention-in marks tags x.own.tag.tail (whole_role attribute_value (pairs marks) x) (move_of attribute_value (pairs marks) x)))
-      ∙ by (sight_in marks tags x).mention (λ s d. counted-next s d xs)
+      (sym (mention-in marks tails x.own.tag.tail (whole_role attribute_value (pairs marks) x) (move_of attribute_value (pairs marks) x)))
+      ∙ by (sight_in marks tails x).mention (λ s d. counted-next s d xs)
     where
       firsts-more : (b : Bool) (m : Mention) (ms : List Mention) → length (if b then m ∷ ms else ms) ≡ length (first-of b m) + length ms
       firsts-more true m ms = omega arith
@@ -625,7 +625,7 @@ length-story : (part next : ℕ) (root : Tag) (kids : Nodes) → next + length (
 length-story part next root kids =
     ap (λ n. next + n) (length-map (revision_of part (mentions root kids)) (firsts [] (mentions root kids)))
     ∙ sym (ap (λ (n : Numbering). n.next) (numbering-fold (pairs (markers_of root kids)) (root_spots root kids) 1 (start_with next) kids)
-    ∙ counted-next (markers_of root kids) (marker_tags root kids) (start_with next) [] (seen root kids) (λ k. refl))
+    ∙ counted-next (markers_of root kids) (marker_tails root kids) (start_with next) [] (seen root kids) (λ k. refl))
 
 -- ---- how many a package has
 
@@ -705,27 +705,27 @@ module _ (nodes : Nodes) (number : ℕ) (within : number < length (parts_of node
 module _ (part : ℕ) (base : List Revision) (labels : List Label) (root : Tag) (kids : Nodes) where
   abbrev pub story_tally : Tally
   story_tally =
-      noted_all part (record { index = base; labels = labels; moves = [] }) (map (sight_in (markers_of root kids) (marker_tags root kids)) (seen root kids))
+      noted_all part (record { index = base; labels = labels; moves = [] }) (map (sight_in (markers_of root kids) (marker_tails root kids)) (seen root kids))
 
   pub story-index : count kids < 2 ^ 32 → story_tally.index ≡ base ++ numbered (1 + length base) (story_revisions part root kids)
   story-index few =
-      let sights = map (sight_in (markers_of root kids) (marker_tags root kids)) (seen root kids) in
+      let sights = map (sight_in (markers_of root kids) (marker_tails root kids)) (seen root kids) in
       let start : IsSoFar part base [] (record { index = base; labels = labels; moves = [] }) = record { index = sym (append-nil base); moves = λ s. refl } in
       (so-far-all part base [] (record { index = base; labels = labels; moves = [] }) sights start
-      (omega (arith, few, map-length (sight_in (markers_of root kids) (marker_tags root kids)) (seen root kids), seen-count (root_spots root kids) 1 kids))).index
+      (omega (arith, few, map-length (sight_in (markers_of root kids) (marker_tails root kids)) (seen root kids), seen-count (root_spots root kids) 1 kids))).index
     where
       map-length : (f : Seen → Sight) (xs : List Seen) → length (map f xs) ≡ length xs
       map-length f [] = refl
       map-length f (x ∷ xs) = ap suc (map-length f xs)
 
   pub story-labels : story_tally.labels ≡ labels ++ story_labels (1 + length base) root kids
-  story-labels = labels-noted part (record { index = base; labels = labels; moves = [] }) (markers_of root kids) (marker_tags root kids) (seen root kids)
+  story-labels = labels-noted part (record { index = base; labels = labels; moves = [] }) (markers_of root kids) (marker_tails root kids) (seen root kids)
 
   -- the tally by what the first walk found
-  pub told-tally : (marks : List Marking) (tags : List Tag) (ns : Nodes) → marks ≡ markers_of root kids → tags ≡ marker_tags root kids → ns ≡ kids →
-      noted_all part (record { index = base; labels = labels; moves = [] }) (map (sight_in marks tags) (seen_from (root_spots root kids) 1 ns)) ≡ story_tally
-  told-tally marks tags ns is_marks is_tags is_kids =
+  pub told-tally : (marks : List Marking) (tails : List (List ℕ)) (ns : Nodes) → marks ≡ markers_of root kids → tails ≡ marker_tails root kids → ns ≡ kids →
+      noted_all part (record { index = base; labels = labels; moves = [] }) (map (sight_in marks tails) (seen_from (root_spots root kids) 1 ns)) ≡ story_tally
+  told-tally marks tails ns is_marks is_tails is_kids =
       let start : Tally = record { index = base; labels = labels; moves = [] } in
-      ap (λ ns. noted_all part start (map (sight_in marks tags) (seen_from (root_spots root kids) 1 ns))) is_kids
-      ∙ ap (λ marks. noted_all part start (map (sight_in marks tags) (seen root kids))) is_marks
-      ∙ ap (λ tags. noted_all part start (map (sight_in (markers_of root kids) tags) (seen root kids))) is_tags
+      ap (λ ns. noted_all part start (map (sight_in marks tails) (seen_from (root_spots root kids) 1 ns))) is_kids
+      ∙ ap (λ marks. noted_all part start (map (sight_in marks tails) (seen root kids))) is_marks
+      ∙ ap (λ tails. noted_all part start (map (sight_in (markers_of root kids) tails) (seen root kids))) is_tails

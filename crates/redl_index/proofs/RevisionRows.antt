@@ -1,11 +1,10 @@
 -- A worked row of revisions. What attributes say is worked out in redl_stamp, and moves in redl_tree.
 use Prim.Native.String.{String}
 use Rattle.std.proofs.Common.{◌≡◌, ℕ, List, [], ◌∷◌, map, refl}
-use Rattle.redl_tree.specs.Model.Nodes.{Nodes, no_nodes, ◌⊕◌}
+use Rattle.redl_tree.specs.Model.Nodes.{Nodes, no_nodes, End, ◌⊕◌}
 use Rattle.redl_tree.specs.declared.kinds.Prop.TheVariants.{Run}
 use Rattle.redl_tree.specs.declared.kinds.Space.TheVariants.{Pkg}
 use Rattle.redl_tree.specs.declared.kinds.Trace.TheVariants.{Ins, Del}
-use Rattle.redl_tree.specs.declared.node.Close.TheVariants.{End}
 use Rattle.redl_tree.proofs.Build.{tag_in, one, opened, words}
 use Rattle.redl_index.specs.declared.revision.RevKind.{RevKind}
 use Rattle.redl_index.specs.declared.revision.RevKind.TheVariants.{Content, Mark, Change}

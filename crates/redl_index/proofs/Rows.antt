@@ -1,13 +1,12 @@
 -- Worked rows of the numbers of revisions.
 use Prim.Native.String.{String}
 use Rattle.std.proofs.Common.{◌≡◌, ℕ, List, [], ◌∷◌, refl}
-use Rattle.redl_tree.specs.Model.Nodes.{Nodes, no_nodes, ◌⊕◌}
+use Rattle.redl_tree.specs.Model.Nodes.{Nodes, no_nodes, End, ◌⊕◌}
 use Rattle.redl_tree.specs.declared.kinds.Kind.{Kind}
 use Rattle.redl_tree.specs.declared.kinds.Kind.TheVariants.{Mark, Row, Cell, Change}
 use Rattle.redl_tree.specs.declared.kinds.Prop.TheVariants.{Run, Para, Sect, Table, Except, Row as RowProp, Cell as CellProp}
 use Rattle.redl_tree.specs.declared.kinds.Space.TheVariants.{W, M, Pkg, Other}
 use Rattle.redl_tree.specs.declared.kinds.Trace.TheVariants.{Ins, Del, From, To}
-use Rattle.redl_tree.specs.declared.node.Close.TheVariants.{End}
 use Rattle.redl_tree.proofs.Build.{tag_in, one, opened, opened_with, content, member, words, run, deleted_run}
 use Rattle.redl_stamp.specs.Attribute.{attribute_value}
 use Rattle.redl_tree.specs.Revisions.Numbers.{labelled, start_with, numbering_after}

@@ -1,7 +1,7 @@
 -- What has been found after the elements of a story: the numbering and the labels.
 use Rattle.std.proofs.Common.{◌≡◌, ◌∙◌, refl, ap, sym, ℕ, ◌+◌, ◌-◌, ◌==◌, ◌&&◌, not, List, [], ◌∷◌, ◌++◌, Bool, true, false, map, length, slice_get, Option, Some, None, option_map, append_assoc, length-append, arith, if◌then◌else◌}
 use Rattle.std.proofs.lemmas.List.{length-set, append-nil, map-append}
-use Rattle.redl_tree.specs.Model.Nodes.{Tag, Nodes, Item, in_front}
+use Rattle.redl_tree.specs.Model.Nodes.{Nodes, Item, in_front}
 use Rattle.redl_tree.specs.Model.Seen.{Spot, Seen, seen_from}
 use Rattle.redl_tree.specs.Revisions.Moves.{Marking, Pair, pairs}
 use Rattle.redl_tree.specs.Revisions.Markers.{whole_role, move_of}
@@ -95,63 +95,63 @@ module _ (part : ℕ) (t : Tally) where
       ap (λ o. numbering_of (mentioned part t m (known_number t.moves o))) is
       ∙ move-numbering m start (number_of_move t.moves start) is
 
-  named-numbering : (marks : List Marking) (tags : List Tag) (tail : List ℕ) (kind : Kind) (named : RevKind) (p : Option Pair) →
-      numbering_of (mentioned_by part t (mention_as tags tail kind named (option_map (start_in marks) p))) ≡ counted (in_revision p) (numbering_of t)
-  named-numbering marks tags tail kind named None = own-numbering (mention_as tags tail kind named None) refl
-  named-numbering marks tags tail kind named (Some pair) =
-      moved-numbering (mention_as tags tail kind named (Some (start_in marks pair))) pair.source.start.at refl
+  named-numbering : (marks : List Marking) (tails : List (List ℕ)) (tail : List ℕ) (kind : Kind) (named : RevKind) (p : Option Pair) →
+      numbering_of (mentioned_by part t (mention_as tails tail kind named (option_map (start_in marks) p))) ≡ counted (in_revision p) (numbering_of t)
+  named-numbering marks tails tail kind named None = own-numbering (mention_as tails tail kind named None) refl
+  named-numbering marks tails tail kind named (Some pair) =
+      moved-numbering (mention_as tails tail kind named (Some (start_in marks pair))) pair.source.start.at refl
 
-  numbering-by : (marks : List Marking) (tags : List Tag) (tail : List ℕ) (kind : Kind) (p : Option Pair) →
-      numbering_of (noted_by part t kind (mention_by tags tail kind (option_map (start_in marks) p))) ≡ counted (membership kind p) (numbering_of t)
-  numbering-by marks tags tail Plain p = refl
-  numbering-by marks tags tail (Content x) p = named-numbering marks tags tail (Content x) (rev.Content x) p ∙ ap (λ i. counted i (numbering_of t)) (sym (in-revision (Content x) (rev.Content x) refl p))
-  numbering-by marks tags tail (Mark x) p = named-numbering marks tags tail (Mark x) (rev.Mark x) p ∙ ap (λ i. counted i (numbering_of t)) (sym (in-revision (Mark x) (rev.Mark x) refl p))
-  numbering-by marks tags tail (Row x) p = named-numbering marks tags tail (Row x) (rev.Row x) p ∙ ap (λ i. counted i (numbering_of t)) (sym (in-revision (Row x) (rev.Row x) refl p))
-  numbering-by marks tags tail (Cell x) p = named-numbering marks tags tail (Cell x) (rev.Cell x) p ∙ ap (λ i. counted i (numbering_of t)) (sym (in-revision (Cell x) (rev.Cell x) refl p))
-  numbering-by marks tags tail (Change x) p = named-numbering marks tags tail (Change x) (rev.Change x) p ∙ ap (λ i. counted i (numbering_of t)) (sym (in-revision (Change x) (rev.Change x) refl p))
-  numbering-by marks tags tail Marker p = named-numbering marks tags tail Marker rev.Move p ∙ ap (λ i. counted i (numbering_of t)) (sym (in-revision Marker rev.Move refl p))
+  numbering-by : (marks : List Marking) (tails : List (List ℕ)) (tail : List ℕ) (kind : Kind) (p : Option Pair) →
+      numbering_of (noted_by part t kind (mention_by tails tail kind (option_map (start_in marks) p))) ≡ counted (membership kind p) (numbering_of t)
+  numbering-by marks tails tail Plain p = refl
+  numbering-by marks tails tail (Content x) p = named-numbering marks tails tail (Content x) (rev.Content x) p ∙ ap (λ i. counted i (numbering_of t)) (sym (in-revision (Content x) (rev.Content x) refl p))
+  numbering-by marks tails tail (Mark x) p = named-numbering marks tails tail (Mark x) (rev.Mark x) p ∙ ap (λ i. counted i (numbering_of t)) (sym (in-revision (Mark x) (rev.Mark x) refl p))
+  numbering-by marks tails tail (Row x) p = named-numbering marks tails tail (Row x) (rev.Row x) p ∙ ap (λ i. counted i (numbering_of t)) (sym (in-revision (Row x) (rev.Row x) refl p))
+  numbering-by marks tails tail (Cell x) p = named-numbering marks tails tail (Cell x) (rev.Cell x) p ∙ ap (λ i. counted i (numbering_of t)) (sym (in-revision (Cell x) (rev.Cell x) refl p))
+  numbering-by marks tails tail (Change x) p = named-numbering marks tails tail (Change x) (rev.Change x) p ∙ ap (λ i. counted i (numbering_of t)) (sym (in-revision (Change x) (rev.Change x) refl p))
+  numbering-by marks tails tail Marker p = named-numbering marks tails tail Marker rev.Move p ∙ ap (λ i. counted i (numbering_of t)) (sym (in-revision Marker rev.Move refl p))
 
   -- the numbering goes on as the definition says
-  pub numbering-noted : (marks : List Marking) (tags : List Tag) (x : Seen) →
-      numbering_of (noted part t (sight_in marks tags x)) ≡ counted (revision_of_element (pairs marks) x) (numbering_of t)
-  numbering-noted marks tags x =
-      numbering-by marks tags x.own.tag.tail (whole_role attribute_value (pairs marks) x) (move_of attribute_value (pairs marks) x)
+  pub numbering-noted : (marks : List Marking) (tails : List (List ℕ)) (x : Seen) →
+      numbering_of (noted part t (sight_in marks tails x)) ≡ counted (revision_of_element (pairs marks) x) (numbering_of t)
+  numbering-noted marks tails x =
+      numbering-by marks tails x.own.tag.tail (whole_role attribute_value (pairs marks) x) (move_of attribute_value (pairs marks) x)
 
   -- ---- the label of an element
 
-  named-number : (marks : List Marking) (tags : List Tag) (tail : List ℕ) (kind : Kind) (named : RevKind) (p : Option Pair) →
-      number_of t (mention_as tags tail kind named (option_map (start_in marks) p)) ≡ number_for (in_revision p) (numbering_of t)
-  named-number marks tags tail kind named None = refl
-  named-number marks tags tail kind named (Some pair) = refl
+  named-number : (marks : List Marking) (tails : List (List ℕ)) (tail : List ℕ) (kind : Kind) (named : RevKind) (p : Option Pair) →
+      number_of t (mention_as tails tail kind named (option_map (start_in marks) p)) ≡ number_for (in_revision p) (numbering_of t)
+  named-number marks tails tail kind named None = refl
+  named-number marks tails tail kind named (Some pair) = refl
 
-  label-by : (marks : List Marking) (tags : List Tag) (tail : List ℕ) (kind : Kind) (p : Option Pair) →
-      (noted_by part t kind (mention_by tags tail kind (option_map (start_in marks) p))).labels
+  label-by : (marks : List Marking) (tails : List (List ℕ)) (tail : List ℕ) (kind : Kind) (p : Option Pair) →
+      (noted_by part t kind (mention_by tails tail kind (option_map (start_in marks) p))).labels
       ≡ t.labels ++ record { kind = kind; rev = number_for (membership kind p) (numbering_of t) } ∷ []
-  label-by marks tags tail Plain p = refl
-  label-by marks tags tail (Content x) p = labelled-as (Content x) (mention_as tags tail (Content x) (rev.Content x) (option_map (start_in marks) p)) _ (named-number marks tags tail (Content x) (rev.Content x) p ∙ ap (λ i. number_for i (numbering_of t)) (sym (in-revision (Content x) (rev.Content x) refl p)))
-  label-by marks tags tail (Mark x) p = labelled-as (Mark x) (mention_as tags tail (Mark x) (rev.Mark x) (option_map (start_in marks) p)) _ (named-number marks tags tail (Mark x) (rev.Mark x) p ∙ ap (λ i. number_for i (numbering_of t)) (sym (in-revision (Mark x) (rev.Mark x) refl p)))
-  label-by marks tags tail (Row x) p = labelled-as (Row x) (mention_as tags tail (Row x) (rev.Row x) (option_map (start_in marks) p)) _ (named-number marks tags tail (Row x) (rev.Row x) p ∙ ap (λ i. number_for i (numbering_of t)) (sym (in-revision (Row x) (rev.Row x) refl p)))
-  label-by marks tags tail (Cell x) p = labelled-as (Cell x) (mention_as tags tail (Cell x) (rev.Cell x) (option_map (start_in marks) p)) _ (named-number marks tags tail (Cell x) (rev.Cell x) p ∙ ap (λ i. number_for i (numbering_of t)) (sym (in-revision (Cell x) (rev.Cell x) refl p)))
-  label-by marks tags tail (Change x) p = labelled-as (Change x) (mention_as tags tail (Change x) (rev.Change x) (option_map (start_in marks) p)) _ (named-number marks tags tail (Change x) (rev.Change x) p ∙ ap (λ i. number_for i (numbering_of t)) (sym (in-revision (Change x) (rev.Change x) refl p)))
-  label-by marks tags tail Marker p = labelled-as Marker (mention_as tags tail Marker rev.Move (option_map (start_in marks) p)) _ (named-number marks tags tail Marker rev.Move p ∙ ap (λ i. number_for i (numbering_of t)) (sym (in-revision Marker rev.Move refl p)))
+  label-by marks tails tail Plain p = refl
+  label-by marks tails tail (Content x) p = labelled-as (Content x) (mention_as tails tail (Content x) (rev.Content x) (option_map (start_in marks) p)) _ (named-number marks tails tail (Content x) (rev.Content x) p ∙ ap (λ i. number_for i (numbering_of t)) (sym (in-revision (Content x) (rev.Content x) refl p)))
+  label-by marks tails tail (Mark x) p = labelled-as (Mark x) (mention_as tails tail (Mark x) (rev.Mark x) (option_map (start_in marks) p)) _ (named-number marks tails tail (Mark x) (rev.Mark x) p ∙ ap (λ i. number_for i (numbering_of t)) (sym (in-revision (Mark x) (rev.Mark x) refl p)))
+  label-by marks tails tail (Row x) p = labelled-as (Row x) (mention_as tails tail (Row x) (rev.Row x) (option_map (start_in marks) p)) _ (named-number marks tails tail (Row x) (rev.Row x) p ∙ ap (λ i. number_for i (numbering_of t)) (sym (in-revision (Row x) (rev.Row x) refl p)))
+  label-by marks tails tail (Cell x) p = labelled-as (Cell x) (mention_as tails tail (Cell x) (rev.Cell x) (option_map (start_in marks) p)) _ (named-number marks tails tail (Cell x) (rev.Cell x) p ∙ ap (λ i. number_for i (numbering_of t)) (sym (in-revision (Cell x) (rev.Cell x) refl p)))
+  label-by marks tails tail (Change x) p = labelled-as (Change x) (mention_as tails tail (Change x) (rev.Change x) (option_map (start_in marks) p)) _ (named-number marks tails tail (Change x) (rev.Change x) p ∙ ap (λ i. number_for i (numbering_of t)) (sym (in-revision (Change x) (rev.Change x) refl p)))
+  label-by marks tails tail Marker p = labelled-as Marker (mention_as tails tail Marker rev.Move (option_map (start_in marks) p)) _ (named-number marks tails tail Marker rev.Move p ∙ ap (λ i. number_for i (numbering_of t)) (sym (in-revision Marker rev.Move refl p)))
 
 -- the labels of the elements are those of the definition
-pub labels-noted : (part : ℕ) (t : Tally) (marks : List Marking) (tags : List Tag) (xs : List Seen) →
-    (noted_all part t (map (sight_in marks tags) xs)).labels ≡ t.labels ++ labels_over (pairs marks) (numbering_of t) xs
-labels-noted part t marks tags [] = sym (append-nil t.labels)
-labels-noted part t marks tags (x ∷ xs) =
-    let here = sight_in marks tags x in
+pub labels-noted : (part : ℕ) (t : Tally) (marks : List Marking) (tails : List (List ℕ)) (xs : List Seen) →
+    (noted_all part t (map (sight_in marks tails) xs)).labels ≡ t.labels ++ labels_over (pairs marks) (numbering_of t) xs
+labels-noted part t marks tails [] = sym (append-nil t.labels)
+labels-noted part t marks tails (x ∷ xs) =
+    let here = sight_in marks tails x in
     let one = label_of (pairs marks) (numbering_of t) x in
-    labels-noted part (noted part t here) marks tags xs
+    labels-noted part (noted part t here) marks tails xs
     ∙ ap (λ (ls : List Label). ls ++ labels_over (pairs marks) (numbering_of (noted part t here)) xs)
-    (label-by part t marks tags x.own.tag.tail (whole_role attribute_value (pairs marks) x) (move_of attribute_value (pairs marks) x))
-    ∙ ap (λ n. (t.labels ++ one ∷ []) ++ labels_over (pairs marks) n xs) (numbering-noted part t marks tags x)
+    (label-by part t marks tails x.own.tag.tail (whole_role attribute_value (pairs marks) x) (move_of attribute_value (pairs marks) x))
+    ∙ ap (λ n. (t.labels ++ one ∷ []) ++ labels_over (pairs marks) n xs) (numbering-noted part t marks tails x)
     ∙ append_assoc t.labels (one ∷ []) (labels_over (pairs marks) (counted (revision_of_element (pairs marks) x) (numbering_of t)) xs)
 
 -- ---- a node at a time
 
-pub sight-is : (tags : List Tag) (tail : List ℕ) {k kind : Kind} {s start : Option Start} → k ≡ kind → s ≡ start → sight_by tags tail k s ≡ sight_by tags tail kind start
-sight-is tags tail {kind = kind} {s = s} is_kind is_start = ap (λ k. sight_by tags tail k s) is_kind ∙ ap (λ s. sight_by tags tail kind s) is_start
+pub sight-is : (tails : List (List ℕ)) (tail : List ℕ) {k kind : Kind} {s start : Option Start} → k ≡ kind → s ≡ start → sight_by tails tail k s ≡ sight_by tails tail kind start
+sight-is tails tail {kind = kind} {s = s} is_kind is_start = ap (λ k. sight_by tails tail k s) is_kind ∙ ap (λ s. sight_by tails tail kind s) is_start
 
 module _ (at next : ℕ) (x : Item) (rest nodes : Nodes) (moved : next ≡ at + item_tags x) (splits : nodes ≡ in_front x rest) (above : List Spot) where
   pub noted-step : (part : ℕ) (sight : Seen → Sight) (t : Tally) →

@@ -87,5 +87,5 @@ noted_all part tally (sight ∷ sights) = noted_all part (noted part tally sight
 -- what code has found is that
 pub record IsTally (found : Found) (tally : Tally) : Type 0 where
   pub index : found.index ≡ tally.index
-  pub labels : found.labels.items ≡ tally.labels
+  pub labels : found.labels ≡ tally.labels
   pub moves : (start : ℕ) → get nat_eq found.moves start ≡ number_of_move tally.moves start

@@ -1,6 +1,6 @@
 //! The walk that finds the revisions in the stories of a package, and the labels of the elements.
 
-ghost use Rattle.std.specs.Prelude.{◌≡◌, ◌+◌, ◌^◌, ◌<◌, ◌≤◌, ◌++◌, ℕ, IsTrue, List, OnOk, length, map, []};
+ghost use Rattle.std.specs.Prelude.{◌≡◌, ◌+◌, ◌^◌, ◌<◌, ◌≤◌, ◌++◌, ℕ, IsTrue, List, All, OnOk, length, map, []};
 ghost use Rattle.std.specs.Str.{IsUtf8};
 ghost use Rattle.redl_tree.specs.Model.Count.{count, item_count};
 ghost use Rattle.redl_tree.specs.Model.Nodes.{no_nodes, in_front};
@@ -15,7 +15,7 @@ ghost use Rattle.redl_index.specs.Contexts.{context_of};
 ghost use Rattle.redl_index.specs.Labels.{story_labels, labels_of};
 ghost use Rattle.redl_index.specs.Numbers.{package_revisions};
 ghost use Rattle.redl_index.specs.Revisions.{numbered, story_revisions, revisions_of};
-ghost use Rattle.redl_index.specs.Stories.{tags_in, HaveUtf8Tails, sight_of};
+ghost use Rattle.redl_index.specs.Stories.{tails_in, sight_of};
 ghost use Rattle.redl_index.specs.Tallies.{Tally, noted_all, IsTally};
 
 use crate::context::{Context, Walk};
@@ -30,10 +30,10 @@ use std::alloc::AllocError;
 /// Adds what is in the stories of a package to nothing. `Err` means out of memory.
 pub(crate) fn find_in_stories(pkg: &Package, found: &mut Found) -> Result<(), AllocError>
     requires index { found.old.index ≡ [] }
-    requires labels { found.old.labels.items ≡ [] }
+    requires labels { found.old.labels ≡ [] }
     ensures index { OnOk result (found.new.index ≡ revisions_of pkg.now) }
     ensures count { OnOk result (length found.new.index ≡ package_revisions pkg.now) }
-    ensures labels { OnOk result (found.new.labels.items ≡ labels_of 1 (stories pkg.now)) }
+    ensures labels { OnOk result (found.new.labels ≡ labels_of 1 (stories pkg.now)) }
 {
     for part in 0..pkg.parts() {
         let Some(root) = pkg.story(part) else {
@@ -53,7 +53,7 @@ fn find_in_story(root: &Elem, part: u32, found: &mut Found) -> Result<(), AllocE
     ensures at_most { OnOk result (length found.new.index ≤ length found.old.index + count (kids_of root.now)) }
     ensures index { OnOk result (found.new.index ≡ found.old.index
         ++ numbered (1 + length found.old.index) (story_revisions part (tag_of root.now) (kids_of root.now))) }
-    ensures labels { OnOk result (found.new.labels.items ≡ found.old.labels.items
+    ensures labels { OnOk result (found.new.labels ≡ found.old.labels
         ++ story_labels (1 + length found.old.index) (tag_of root.now) (kids_of root.now)) }
 {
     let markers = find_markers(found.alloc, root)?;
@@ -61,7 +61,7 @@ fn find_in_story(root: &Elem, part: u32, found: &mut Found) -> Result<(), AllocE
     let story = Story {
         part,
         moves,
-        elems: markers.elems,
+        tails: markers.tails,
     };
     let mut walk = Walk {
         at: 1,
@@ -72,7 +72,7 @@ fn find_in_story(root: &Elem, part: u32, found: &mut Found) -> Result<(), AllocE
         para_end: 0,
     };
     found.begin_story();
-    find_in_nodes(&story, &root.kids, here, &mut walk, found)
+    find_in_nodes(&story, root.kids(), here, &mut walk, found)
 }
 
 /// Adds what is among nodes of a story. `Err` means out of memory.
@@ -88,7 +88,7 @@ fn find_in_nodes(
     requires few { length found.old.index + count (nodes_of nodes.now) < 2 ^ 32 }
     requires fits { walk.old.at + tags (nodes_of nodes.now) < 2 ^ 64 }
     requires tails { HasUtf8Tails (nodes_of nodes.now) }
-    requires marker_tails { HaveUtf8Tails (tags_in story.now) }
+    requires marker_tails { All IsUtf8 (tails_in story.now) }
     ensures at_most { OnOk result (length found.new.index ≤ length found.old.index + count (nodes_of nodes.now)) }
     ensures at { OnOk result (walk.new.at ≡ walk.old.at + tags (nodes_of nodes.now)) }
     ensures ends { OnOk result ((later : List ℕ) → walk.old.ends.now ≡ ends_from walk.old.at (nodes_of nodes.now) ++ later → walk.new.ends.now ≡ later) }
@@ -115,7 +115,7 @@ fn find_in_node(
     requires few { length found.old.index + item_count (item_of node.now) < 2 ^ 32 }
     requires fits { walk.old.at + item_tags (item_of node.now) < 2 ^ 64 }
     requires tails { HasUtf8Tails (in_front (item_of node.now) no_nodes) }
-    requires marker_tails { HaveUtf8Tails (tags_in story.now) }
+    requires marker_tails { All IsUtf8 (tails_in story.now) }
     ensures at_most { OnOk result (length found.new.index ≤ length found.old.index + item_count (item_of node.now)) }
     ensures at { OnOk result (walk.new.at ≡ walk.old.at + item_tags (item_of node.now)) }
     ensures ends { OnOk result ((later : List ℕ) → walk.old.ends.now ≡ item_ends walk.old.at (item_of node.now) ++ later → walk.new.ends.now ≡ later) }
@@ -143,7 +143,7 @@ fn find_in_elem(
     requires fits { walk.old.at + (2 + tags (kids_of elem.now)) < 2 ^ 64 }
     requires tail { IsUtf8 ((tag_of elem.now).tail) }
     requires tails { HasUtf8Tails (kids_of elem.now) }
-    requires marker_tails { HaveUtf8Tails (tags_in story.now) }
+    requires marker_tails { All IsUtf8 (tails_in story.now) }
     ensures at_most { OnOk result (length found.new.index ≤ length found.old.index + (1 + count (kids_of elem.now))) }
     ensures at { OnOk result (walk.new.at ≡ walk.old.at + (2 + tags (kids_of elem.now))) }
     ensures ends { OnOk result ((later : List ℕ) → walk.old.ends.now ≡ element_ends walk.old.at (tag_of elem.now) (kids_of elem.now) ++ later → walk.new.ends.now ≡ later) }
@@ -157,7 +157,7 @@ fn find_in_elem(
     found.add(story, elem, sight)?;
     let inside = walk.inside(elem, here);
     walk.at += 1;
-    find_in_nodes(story, &elem.kids, inside, walk, found)?;
+    find_in_nodes(story, elem.kids(), inside, walk, found)?;
     walk.at += 1;
     Ok(())
 }

@@ -1,13 +1,13 @@
 //! What is found in the stories of a package.
 
-ghost use Rattle.std.specs.Prelude.{◌≡◌, ◌+◌, ◌^◌, ◌<◌, ◌≤◌, ◌++◌, ◌∷◌, ◌==◌, ℕ, [], Some, None, nat_eq, length, if◌then◌else◌, IfOk, IfSome, IsTrue, OnOk};
+ghost use Rattle.std.specs.Prelude.{◌≡◌, ◌+◌, ◌^◌, ◌<◌, ◌≤◌, ◌++◌, ◌∷◌, ◌==◌, ℕ, [], Some, None, nat_eq, length, if◌then◌else◌, All, IfOk, IfSome, IsTrue, OnOk};
 ghost use Rattle.std.specs.Str.{IsUtf8};
 ghost use Rattle.indexmap.specs.IndexMap.{get};
 ghost use Rattle.redl_tree.specs.Model.View.{tag_of};
 ghost use Rattle.redl_index.specs.Kinds.{kind_of, is_named};
 ghost use Rattle.redl_index.specs.Mentions.{mention_as, move_mention, sight_by};
 ghost use Rattle.redl_index.specs.Revisions.{revision_of, revision_with};
-ghost use Rattle.redl_index.specs.Stories.{tags_in, HaveUtf8Tails};
+ghost use Rattle.redl_index.specs.Stories.{tails_in};
 ghost use Rattle.redl_index.specs.Tallies.{Tally, number_of, labelled, mentioned_by, noted, IsTally};
 
 use crate::index::Index;
@@ -15,7 +15,7 @@ use crate::revision::{RevKind, Revision};
 use crate::story::{Sight, Story};
 use indexmap::IndexMap;
 use redl_moves::Start;
-use redl_opc::Label;
+use redl_opc::{Label, Labels};
 use redl_tree::{Elem, Kind};
 use std::alloc::{AllocError, Global};
 
@@ -25,7 +25,7 @@ use std::alloc::{AllocError, Global};
 pub(crate) struct Found {
     pub(crate) alloc: Global,
     pub(crate) index: Index,
-    pub(crate) labels: Vec<Label>,
+    pub(crate) labels: Labels,
     pub(crate) moves: IndexMap<u64, u32>,
 }
 
@@ -33,12 +33,12 @@ impl Found {
     /// Nothing is found yet. It takes no memory.
     pub(crate) fn nothing(alloc: Global) -> Found
         ensures index { result.index ≡ [] }
-        ensures labels { result.labels.items ≡ [] }
+        ensures labels { result.labels ≡ [] }
     {
         Found {
             alloc,
             index: Index::empty(alloc),
-            labels: Vec::new(alloc),
+            labels: Labels::empty(alloc),
             moves: IndexMap::new(alloc),
         }
     }
@@ -46,7 +46,7 @@ impl Found {
     /// Forgets the moves of the story before. It takes no memory.
     pub(crate) fn begin_story(&mut self)
         ensures index { self.new.index ≡ self.old.index }
-        ensures labels { self.new.labels.items ≡ self.old.labels.items }
+        ensures labels { self.new.labels ≡ self.old.labels }
         ensures moves { (start : ℕ) → get nat_eq self.new.moves start ≡ None }
     {
         self.moves = IndexMap::new(self.alloc);
@@ -61,11 +61,11 @@ impl Found {
     ) -> Result<(), AllocError>
         requires few { length self.old.index + 1 < 2 ^ 32 }
         requires tail { IsUtf8 ((tag_of elem.now).tail) }
-        requires tails { HaveUtf8Tails (tags_in story.now) }
+        requires tails { All IsUtf8 (tails_in story.now) }
         requires named { IfSome (kind_of sight.kind) (λ named. IsTrue (is_named named)) }
         ensures at_most { OnOk result (length self.new.index ≤ length self.old.index + 1) }
         ensures tally { OnOk result ((tally : Tally) → IsTally self.old tally
-            → IsTally self.new (noted story.now.part tally (sight_by (tags_in story.now) (tag_of elem.now).tail sight.kind sight.start))) }
+            → IsTally self.new (noted story.now.part tally (sight_by (tails_in story.now) (tag_of elem.now).tail sight.kind sight.start))) }
     {
         let Some(named) = RevKind::of(sight.kind) else {
             return self.label(sight.kind, 0);
@@ -79,8 +79,7 @@ impl Found {
         ensures at_most { OnOk result (length self.new.index ≡ length self.old.index) }
         ensures tally { OnOk result ((tally : Tally) → IsTally self.old tally → IsTally self.new (labelled kind rev tally)) }
     {
-        self.labels.push(Label { kind, rev })?;
-        Ok(())
+        self.labels.push(Label { kind, rev })
     }
 
     /// The number of the revision of an element, which is added where the element is the first of it.
@@ -93,17 +92,17 @@ impl Found {
     ) -> Result<u32, AllocError>
         requires few { length self.old.index + 1 < 2 ^ 32 }
         requires tail { IsUtf8 ((tag_of elem.now).tail) }
-        requires tails { HaveUtf8Tails (tags_in story.now) }
+        requires tails { All IsUtf8 (tails_in story.now) }
         requires named { IsTrue (is_named named) }
         ensures at_most { OnOk result (length self.new.index ≤ length self.old.index + 1) }
         ensures number { IfOk result (λ number. (tally : Tally) → IsTally self.old tally
-            → number ≡ number_of tally (mention_as (tags_in story.now) (tag_of elem.now).tail sight.kind named sight.start)) }
+            → number ≡ number_of tally (mention_as (tails_in story.now) (tag_of elem.now).tail sight.kind named sight.start)) }
         ensures tally { OnOk result ((tally : Tally) → IsTally self.old tally
-            → IsTally self.new (mentioned_by story.now.part tally (mention_as (tags_in story.now) (tag_of elem.now).tail sight.kind named sight.start))) }
+            → IsTally self.new (mentioned_by story.now.part tally (mention_as (tails_in story.now) (tag_of elem.now).tail sight.kind named sight.start))) }
     {
         match sight.start {
             Some(start) => self.mention_move(story, start, sight.kind != Kind::Marker),
-            None => self.first(story.part, named, elem.tail.as_bytes(), 1),
+            None => self.first(story.part, named, elem.tail(), 1),
         }
     }
 
@@ -115,12 +114,12 @@ impl Found {
         counts: bool,
     ) -> Result<u32, AllocError>
         requires few { length self.old.index + 1 < 2 ^ 32 }
-        requires tails { HaveUtf8Tails (tags_in story.now) }
+        requires tails { All IsUtf8 (tails_in story.now) }
         ensures at_most { OnOk result (length self.new.index ≤ length self.old.index + 1) }
         ensures number { IfOk result (λ number. (tally : Tally) → IsTally self.old tally
-            → number ≡ number_of tally (move_mention (tags_in story.now) start counts)) }
+            → number ≡ number_of tally (move_mention (tails_in story.now) start counts)) }
         ensures tally { OnOk result ((tally : Tally) → IsTally self.old tally
-            → IsTally self.new (mentioned_by story.now.part tally (move_mention (tags_in story.now) start counts))) }
+            → IsTally self.new (mentioned_by story.now.part tally (move_mention (tails_in story.now) start counts))) }
     {
         match self.known_number(start.at) {
             Some(number) => {
@@ -149,12 +148,12 @@ impl Found {
         counts: bool,
     ) -> Result<u32, AllocError>
         requires few { length self.old.index + 1 < 2 ^ 32 }
-        requires tails { HaveUtf8Tails (tags_in story.now) }
+        requires tails { All IsUtf8 (tails_in story.now) }
         ensures number { IfOk result (λ number. number ≡ 1 + length self.old.index) }
         ensures index { OnOk result (self.new.index ≡ self.old.index ++ revision_of story.now.part
-            (move_mention (tags_in story.now) start counts ∷ [])
-            (move_mention (tags_in story.now) start counts) (1 + length self.old.index) ∷ []) }
-        ensures labels { OnOk result (self.new.labels.items ≡ self.old.labels.items) }
+            (move_mention (tails_in story.now) start counts ∷ [])
+            (move_mention (tails_in story.now) start counts) (1 + length self.old.index) ∷ []) }
+        ensures labels { OnOk result (self.new.labels ≡ self.old.labels) }
         ensures moves { OnOk result ((other : ℕ) → get nat_eq self.new.moves other ≡ (if start.at == other then Some (1 + length self.old.index) else get nat_eq self.old.moves other)) }
     {
         let tail = story.tail(start.place);
@@ -176,7 +175,7 @@ impl Found {
         requires tail { IsUtf8 tail.now }
         ensures number { IfOk result (λ number. number ≡ 1 + length self.old.index) }
         ensures index { OnOk result (self.new.index ≡ self.old.index ++ revision_with part kind tail.now members (1 + length self.old.index) ∷ []) }
-        ensures labels { OnOk result (self.new.labels.items ≡ self.old.labels.items) }
+        ensures labels { OnOk result (self.new.labels ≡ self.old.labels) }
         ensures moves { OnOk result ((start : ℕ) → get nat_eq self.new.moves start ≡ get nat_eq self.old.moves start) }
     {
         let number = self.index.count() + 1;

@@ -19,6 +19,3 @@ pub use index::Index;
 pub use kind_names::one_kind_for_a_name;
 pub use laws::{each_revision_has_a_part, numbering_keeps_revisions, revisions_are_numbered};
 pub use revision::{RevKind, Revision};
-
-#[cfg(test)]
-mod tests;

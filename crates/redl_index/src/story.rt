@@ -1,6 +1,6 @@
 //! One story: which move its elements are in.
 
-ghost use Rattle.std.specs.Prelude.{◌≡◌, List, find, option_map, slice_get, IfSome, IsTrue};
+ghost use Rattle.std.specs.Prelude.{◌≡◌, [], List, find, get_or, option_map, IfSome, IsTrue};
 ghost use Rattle.redl_tree.specs.Model.Nodes.{Nodes};
 ghost use Rattle.redl_tree.specs.Revisions.Moves.{pairs};
 ghost use Rattle.redl_tree.specs.Revisions.Markers.{move_at, move_of, move_of_marker, whole_role};
@@ -13,20 +13,19 @@ ghost use Rattle.redl_moves.specs.Starts.{start_in};
 ghost use Rattle.redl_markers.specs.Free.{IsFree};
 ghost use Rattle.redl_index.specs.Contexts.{context_of, move_by, IsApartAs, is_marker_by};
 ghost use Rattle.redl_index.specs.Kinds.{kind_of, is_named};
-ghost use Rattle.redl_index.specs.Mentions.{tail_of};
-ghost use Rattle.redl_index.specs.Stories.{tags_in};
+ghost use Rattle.redl_index.specs.Stories.{tails_in};
 
 use crate::context::Context;
 use redl_moves::{Half, Moves, Start};
 use redl_stamp::has_attribute;
 use redl_tree::{Around, Elem, Kind, Trace, is_range_edge};
 
-/// A story whose markers are known: the number of its part, its moves, and the elements that are its markers.
+/// A story whose markers are known: the number of its part, its moves, and the attributes of its markers.
 #[derive(Drop)]
 pub(crate) struct Story<'a> {
     pub(crate) part: u32,
     pub(crate) moves: Moves,
-    pub(crate) elems: Vec<&'a Elem>,
+    pub(crate) tails: Vec<&'a [u8]>,
 }
 
 /// The kind of an element, and where the move starts that it is in.
@@ -38,11 +37,11 @@ pub(crate) struct Sight {
 
 impl<'a> Story<'a> {
     /// The attributes of the marker at a place among the markers.
-    pub(crate) fn tail(&self, place: u32) -> &[u8]
-        ensures { result.now ≡ tail_of (slice_get (tags_in self.now) place) }
+    pub(crate) fn tail(&self, place: u32) -> &'a [u8]
+        ensures { result.now ≡ get_or (tails_in self.now) place [] }
     {
-        match self.elems.get(place as usize) {
-            Some(elem) => elem.tail.as_bytes(),
+        match self.tails.get(place as usize) {
+            Some(tail) => tail,
             None => b"",
         }
     }
@@ -109,5 +108,5 @@ impl<'a> Story<'a> {
 fn is_marker(elem: &Elem, around: Around) -> bool
     ensures { result ≡ is_marker_by around (tag_of elem.now) }
 {
-    !around.quiet && is_range_edge(elem) && has_attribute(elem.tail.as_bytes(), b"id")
+    !around.quiet && is_range_edge(elem) && has_attribute(elem.tail(), b"id")
 }

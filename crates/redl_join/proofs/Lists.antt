@@ -56,17 +56,6 @@ module _ {K : Type 0} {R : K → K → Ordering} (o : IsTotalOrder R) where
     by Equal same h rec = refl
     by Greater more h rec = ap (λ (l : List K). x ∷ l) (rec h)
 
-  -- an element that is put in and taken out again
-  pub remove_inserted : (xs : List K) (e : K) → list_any (λ y. is_eq (R e y)) xs ≡ false → remove_key (λ y. is_eq (R e y)) (insert_key R xs e) ≡ xs
-  remove_inserted [] e lacks = rw (tied_itself o e) refl
-  remove_inserted (x ∷ xs) e lacks = by (R e x) refl lacks (remove_inserted xs e) where
-    by : (r : Ordering) → R e x ≡ r → (is_eq r || list_any (λ y. is_eq (R e y)) xs) ≡ false
-        → (list_any (λ y. is_eq (R e y)) xs ≡ false → remove_key (λ y. is_eq (R e y)) (insert_key R xs e) ≡ xs)
-        → remove_key (λ y. is_eq (R e y)) (match_ordering r (e ∷ x ∷ xs) (x ∷ xs) (x ∷ insert_key R xs e)) ≡ x ∷ xs
-    by Less less h rec = rw (tied_itself o e) refl
-    by Equal same h rec = absurd cc
-    by Greater more h rec = rw more (ap (λ (l : List K). x ∷ l) (rec h))
-
   insert_below : (xs : List K) (e : K) → AllByRecursion (λ z. R e z ≡ Less) xs → insert_key R xs e ≡ e ∷ xs
   insert_below [] e h = refl
   insert_below (x ∷ xs) e h = rw h.0 refl

@@ -1,11 +1,12 @@
 -- Books by hand, with their verdicts.
-use Rattle.std.proofs.Common.{◌≡◌, ℕ, List, [], ◌∷◌, refl}
+use Rattle.std.proofs.Common.{◌≡◌, ℕ, List, [], ◌∷◌, true, false, refl}
 use Rattle.std.specs.Prelude.{codes}
 use Rattle.redl_journal.specs.declared.entry.Entry.{Entry}
 use Rattle.redl_journal.specs.declared.entry.Word.{Word}
 use Rattle.redl_journal.specs.declared.entry.Word.TheVariants as word
 use Rattle.redl_join.specs.declared.verdict.Verdict.TheVariants as verdict
 use Rattle.redl_join.specs.Books.{union, without_entry}
+use Rattle.redl_join.specs.Latest.{latest_words}
 use Rattle.redl_join.specs.Verdicts.{verdict_at, greatest_seq}
 
 abbrev says : List ℕ → ℕ → ℕ → Word → Entry
@@ -65,6 +66,19 @@ row_same_seq = refl
 -- what is said of another revision with a greater seq doesn't count here
 row_other_revision : verdict_at (says ann 1 1 word.Accept ∷ says ann 2 2 word.Reject ∷ []) 1 ≡ verdict.Accept
 row_other_revision = refl
+
+-- ---- the words of a reviewer that count
+
+-- of two seqs the greater one, and all words with it
+row_latest : latest_words (says ann 1 1 word.Accept ∷ says ann 2 1 word.Accept ∷ says ann 2 1 word.Reject ∷ says bob 3 1 word.Reject ∷ []) 1 ann ≡ record { seq = 2; accepted = true; rejected = true }
+row_latest = refl
+
+-- a withdrawal, and no words on another revision
+row_latest_withdrawn : latest_words (says ann 1 1 word.Accept ∷ says ann 2 1 word.Withdraw ∷ []) 1 ann ≡ record { seq = 2; accepted = false; rejected = false }
+row_latest_withdrawn = refl
+
+row_no_latest : latest_words (says ann 1 1 word.Accept ∷ []) 2 ann ≡ record { seq = 0; accepted = false; rejected = false }
+row_no_latest = refl
 
 -- ---- greatest numbers
 

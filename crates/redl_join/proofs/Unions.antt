@@ -1,5 +1,5 @@
 -- Books and their unions.
-use Rattle.std.proofs.Common.{◌≡◌, ℕ, Bool, true, false, cond, eqb, List, [], ◌∷◌, Ordering, Less, Equal, Greater, refl, sym, ap, ◌∙◌, Contains, arith, filter, map, ◌++◌, append-nil, append_assoc}
+use Rattle.std.proofs.Common.{◌≡◌, ℕ, Bool, true, false, cond, List, [], ◌∷◌, Ordering, Less, Equal, Greater, refl, sym, ap, ◌∙◌, Contains, filter, map, ◌++◌, append-nil, append_assoc}
 use Rattle.std.proofs.lemmas.List.{map_push}
 use Rattle.std.proofs.lemmas.List.Concat.{flat_map-append}
 use Rattle.std.specs.Prelude.{◌||◌, ◌&&◌, ◌↔◌, not}
@@ -7,15 +7,13 @@ use Rattle.std.specs.List.{flat_map}
 use Rattle.std.specs.List.Sorted.{IsStrictlySortedBy}
 use Rattle.std.specs.Cmp.{eq_by_cmp_equiv}
 use Rattle.std.specs.Ordering.{is_eq}
-use Rattle.std.specs.BTreeMap.{BTreeMap}
-use Rattle.std.specs.BTreeSet.{BTreeSet}
-use Rattle.std.proofs.lemmas.Map.Views.{Contains-from_any, list_any-from_Contains, tells_apart, All-insert_key, All-remove_key}
+use Rattle.std.proofs.lemmas.Map.Views.{Contains-from_any, list_any-from_Contains, tells_apart}
 use Rattle.redl_journal.specs.declared.entry.Entry.{Entry}
-use Rattle.redl_journal.specs.Journals.{IsAllowed, entry_text}
+use Rattle.redl_journal.specs.Journals.{entry_text}
 use Rattle.redl_journal.specs.Order.{entry_order}
 use Rattle.redl_journal.proofs.EntryOrder.{entry_order-total, entry_order-exact}
-use Rattle.redl_join.specs.Books.{IsBook, is_same, has_entry, with_entry, without_entry, union, is_on, entries_at, IsIndexed, IsKept}
-use Rattle.redl_join.proofs.Lists.{insert_present, remove_inserted, filter_insert, filter_remove, sorted_insert, any_insert, same_sorted}
+use Rattle.redl_join.specs.Books.{IsBook, is_same, has_entry, with_entry, union, is_on}
+use Rattle.redl_join.proofs.Lists.{insert_present, sorted_insert, any_insert, same_sorted}
 
 equal : (r : Ordering) → is_eq r ≡ true → r ≡ Equal
 equal Equal h = refl
@@ -89,98 +87,21 @@ has_entry-filter test (x ∷ xs) q = by (test x) refl (is_same q x) refl (has_en
   by false fails true same rest = let own : test q ≡ false = ap test (entry_order-exact q x (equal (entry_order q x) same)) ∙ fails in rw (same, own) (rw own at rest)
   by false fails false same rest = rw same rest
 
--- ---- the entries of each revision
+-- ---- one revision, one entry
 
 pub is_on-same : (rev : ℕ) (a b : Entry) → entry_order a b ≡ Equal → is_on rev a ≡ is_on rev b
 is_on-same rev a b same = ap (is_on rev) (entry_order-exact a b same)
 
-eqb_turned : (m n : ℕ) → eqb m n ≡ eqb n m
-eqb_turned m n = grind arith
-
-pub indexed-with : (book : List Entry) (old new : BTreeMap ℕ (BTreeSet Entry)) (e : Entry) → IsBook book → IsIndexed book old
-    → ((rev : ℕ) → entries_at new rev ≡ cond (eqb rev e.rev) (with_entry (entries_at old rev) e) (entries_at old rev))
-    → IsIndexed (with_entry book e) new
-indexed-with book old new e sorted indexed h rev =
-    h rev ∙ rw (indexed rev, eqb_turned rev e.rev) (sym (filter_insert entry_order-total (is_on rev) (is_on-same rev) book e sorted))
-
-pub indexed-without : (book : List Entry) (old new : BTreeMap ℕ (BTreeSet Entry)) (e : Entry) → IsIndexed book old
-    → ((rev : ℕ) → entries_at new rev ≡ cond (eqb rev e.rev) (without_entry (entries_at old rev) e) (entries_at old rev))
-    → IsIndexed (without_entry book e) new
-indexed-without book old new e indexed h rev =
-    h rev ∙ rw (indexed rev, eqb_turned rev e.rev) (sym (filter_remove entry_order-total (is_on rev) (is_on-same rev) book e))
-
--- ---- the invariant of a book
-
 pub kept-present : (book : List Entry) (e : Entry) → IsBook book → has_entry book e ≡ true → with_entry book e ≡ book
 kept-present book e sorted has = insert_present entry_order-total book e sorted has
-
-pub kept-with : (book : List Entry) (old new : BTreeMap ℕ (BTreeSet Entry)) (e : Entry) → IsKept book old → IsAllowed e
-    → ((rev : ℕ) → entries_at new rev ≡ cond (eqb rev e.rev) (with_entry (entries_at old rev) e) (entries_at old rev))
-    → IsKept (with_entry book e) new
-kept-with book old new e kept allowed h = record {
-  ordered = sorted_insert entry_order-total book e kept.ordered;
-  indexed = indexed-with book old new e kept.ordered kept.indexed h;
-  allowed = All-insert_key entry_order e IsAllowed book kept.allowed allowed;
-}
-
-pub kept-without : (book : List Entry) (old new : BTreeMap ℕ (BTreeSet Entry)) (e : Entry) → IsKept book old → IsBook (without_entry book e)
-    → ((rev : ℕ) → entries_at new rev ≡ cond (eqb rev e.rev) (without_entry (entries_at old rev) e) (entries_at old rev))
-    → IsKept (without_entry book e) new
-kept-without book old new e kept ordered h = record {
-  ordered = ordered;
-  indexed = indexed-without book old new e kept.indexed h;
-  allowed = All-remove_key (is_same e) IsAllowed book kept.allowed;
-}
-
--- an entry that was listed and removed again
-pub kept-back : (book : List Entry) (old mid new : BTreeMap ℕ (BTreeSet Entry)) (e : Entry) → IsKept book old → has_entry book e ≡ false
-    → ((rev : ℕ) → entries_at mid rev ≡ cond (eqb rev e.rev) (with_entry (entries_at old rev) e) (entries_at old rev))
-    → ((rev : ℕ) → entries_at new rev ≡ cond (eqb rev e.rev) (without_entry (entries_at mid rev) e) (entries_at mid rev))
-    → IsKept book new
-kept-back book old mid new e kept lacks h g =
-    let back : without_entry (with_entry book e) e ≡ book = remove_inserted entry_order-total book e lacks in
-    record {
-      ordered = kept.ordered;
-      indexed = rw back at (indexed-without (with_entry book e) mid new e (indexed-with book old mid e kept.ordered kept.indexed h) g);
-      allowed = kept.allowed;
-    }
-
-or_grows : (a b c : Bool) → (b ≡ true → c ≡ true) → (a || b) ≡ true → (a || c) ≡ true
-or_grows true b c grows h = refl
-or_grows false b c grows h = grows h
-
-or_after : (a b : Bool) → b ≡ true → (a || b) ≡ true
-or_after true b h = refl
-or_after false b h = h
-
--- an entry that is listed at a revision is in the book
-pub has_entry-listed : (book : List Entry) (rev : ℕ) (e : Entry) → has_entry (filter (is_on rev) book) e ≡ true → has_entry book e ≡ true
-has_entry-listed [] rev e has = has
-has_entry-listed (x ∷ xs) rev e has = by (is_on rev x) has (has_entry-listed xs rev e) where
-  by : (on : Bool) → has_entry (cond on (x ∷ filter (is_on rev) xs) (filter (is_on rev) xs)) e ≡ true
-      → (has_entry (filter (is_on rev) xs) e ≡ true → has_entry xs e ≡ true) → (is_same e x || has_entry xs e) ≡ true
-  by true h rec = or_grows (is_same e x) (has_entry (filter (is_on rev) xs) e) (has_entry xs e) rec h
-  by false h rec = or_after (is_same e x) (has_entry xs e) (rec h)
 
 pub not_false : (b : Bool) → false ≡ not b → b ≡ true
 not_false true h = refl
 not_false false h = h
 
--- an entry that was listed before is in the book, so listing it again changes nothing
-pub listed-before : (book : List Entry) (old : BTreeMap ℕ (BTreeSet Entry)) (e : Entry) → IsKept book old → false ≡ not (has_entry (entries_at old e.rev) e) → has_entry book e ≡ true
-listed-before book old e kept listed =
-    has_entry-listed book e.rev e (ap (λ (l : List Entry). has_entry l e) (sym (kept.indexed e.rev)) ∙ not_false (has_entry (entries_at old e.rev) e) listed)
-
-pub kept-again : (book : List Entry) (old new : BTreeMap ℕ (BTreeSet Entry)) (e : Entry) → IsKept book old → IsAllowed e
-    → ((rev : ℕ) → entries_at new rev ≡ cond (eqb rev e.rev) (with_entry (entries_at old rev) e) (entries_at old rev))
-    → has_entry book e ≡ true → IsKept book new
-kept-again book old new e kept allowed h has =
-    let same = kept-present book e kept.ordered has in
-    rw same at (kept-with book old new e kept allowed h)
-
-pub kept-as : (book same : List Entry) (old new : BTreeMap ℕ (BTreeSet Entry)) → IsKept book old → same ≡ book
-    → ((rev : ℕ) → entries_at new rev ≡ entries_at old rev) → IsKept same new
-kept-as book same old new kept e h = rw e (record { ordered = kept.ordered; indexed = λ rev. h rev ∙ kept.indexed rev; allowed = kept.allowed })
+pub not_true : (b : Bool) → true ≡ not b → b ≡ false
+not_true true h = absurd cc
+not_true false h = refl
 
 -- ---- texts
 

@@ -1,13 +1,11 @@
 -- Books: sets of entries. Contracts see a book as the list of its entries in their order, each once.
-use Rattle.std.specs.Prelude.{◌≡◌, ◌==◌, ℕ, Bool, List, [], ◌∷◌, filter, Option, Some, None, All}
+use Rattle.std.specs.Prelude.{◌==◌, ℕ, Bool, List, [], ◌∷◌}
 use Rattle.std.specs.List.{list_any}
 use Rattle.std.specs.List.Sorted.{IsStrictlySortedBy}
-use Rattle.std.specs.Ordering.{is_eq, nat_cmp}
+use Rattle.std.specs.Ordering.{is_eq}
 use Rattle.std.specs.Set.{remove_key}
-use Rattle.std.specs.BTreeSet.{BTreeSet, insert_key}
-use Rattle.std.specs.BTreeMap.{BTreeMap, get}
+use Rattle.std.specs.BTreeSet.{insert_key}
 use Rattle.redl_journal.specs.declared.entry.Entry.{Entry}
-use Rattle.redl_journal.specs.Journals.{IsAllowed}
 use Rattle.redl_journal.specs.Order.{entry_order}
 
 -- The entries are in their order, each once.
@@ -35,27 +33,6 @@ abbrev pub union : List Entry → List Entry → List Entry
 union book [] = book
 union book (entry ∷ entries) = union (with_entry book entry) entries
 
--- ---- the entries of one revision
-
 -- the entry is on the revision
 abbrev pub is_on : ℕ → Entry → Bool
 is_on rev entry = entry.rev == rev
-
--- the entries of a list, if there is one
-abbrev pub listed : Option (BTreeSet Entry) → List Entry
-listed None = []
-listed (Some entries) = entries.keys
-
--- the entries that are listed at a revision
-abbrev pub entries_at : BTreeMap ℕ (BTreeSet Entry) → ℕ → List Entry
-entries_at by_revision rev = listed (get nat_cmp by_revision rev)
-
--- Each revision lists exactly its entries.
-abbrev pub IsIndexed : List Entry → BTreeMap ℕ (BTreeSet Entry) → Type 0
-IsIndexed entries by_revision = (rev : ℕ) → entries_at by_revision rev ≡ filter (is_on rev) entries
-
--- The invariant of a book: its entries are in order, each revision lists its own, and a journal may hold each.
-pub record IsKept (entries : List Entry) (by_revision : BTreeMap ℕ (BTreeSet Entry)) : Type 0 where
-  pub ordered : IsBook entries
-  pub indexed : IsIndexed entries by_revision
-  pub allowed : All IsAllowed entries

@@ -1,3 +1,6 @@
 pub mod Books
 pub mod Verdicts
-pub mod Tallies
+pub mod Latest
+pub mod Blocks
+pub mod Places
+pub mod Numbers

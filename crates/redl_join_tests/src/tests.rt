@@ -117,3 +117,34 @@ fn a_removed_entry_no_longer_counts(rt: HostRuntime) -> Result<(), Fail> {
     }
     Ok(())
 }
+
+// A book of 601 entries with the seqs 1 to 601, which come out of order.
+fn long_book(alloc: Global) -> Result<Book, Fail> {
+    let mut book = Book::new(alloc);
+    for i in 0..601_u32 {
+        let line = format!(in alloc; "{}\t1\taccept\tAnn\n", 1 + i * 7 % 601)?;
+        for entry in entries_of(alloc, line.as_bytes())? {
+            book.add(entry)?;
+        }
+    }
+    Ok(book)
+}
+
+// The seqs of the entries are 1, 2 and so on up to this one.
+fn has_seqs_to(book: &Book, last: u32) -> bool {
+    let mut seq = 0_u32;
+    for entry in book.entries() {
+        seq = seq.saturating_add(1);
+        if entry.seq != seq {
+            return false;
+        }
+    }
+    seq == last
+}
+
+#[test]
+fn many_entries_in_any_order(rt: HostRuntime) -> Result<(), Fail> {
+    let book = long_book(rt.alloc())?;
+    assert!(rt; has_seqs_to(&book, 601));
+    Ok(())
+}

@@ -13,8 +13,6 @@ use Rattle.redl_lines.specs.declared.status.Status.TheVariants as status
 pub data Cause : Type 0 where
   -- the words are no command
   usage : Cause
-  -- the words are a command that is not built yet
-  unbuilt : Cause
   -- no listing format has this name
   no_format : List ℕ → Cause
   -- the file is no package
@@ -41,7 +39,6 @@ pub data Failure : Type 0 where
 -- what a clause sees of the code's causes
 abbrev pub cause_view : DeclaredCause → Cause
 cause_view cause.Usage = usage
-cause_view cause.Unbuilt = unbuilt
 cause_view (cause.NoFormat name) = no_format name.now
 cause_view (cause.Package fault) = no_package fault
 cause_view (cause.Malformed name) = malformed name.now
@@ -57,7 +54,6 @@ failure_view failure.NoMemory = no_memory
 
 abbrev pub cause_status : Cause → Status
 cause_status usage = status.Usage
-cause_status unbuilt = status.Unbuilt
 cause_status (no_format name) = status.Usage
 cause_status (no_package fault) = status.Package
 cause_status (malformed name) = status.Journal

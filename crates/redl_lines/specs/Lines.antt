@@ -4,7 +4,7 @@ use Rattle.hex.specs.Hex.{encode_lower}
 use Rattle.redl_io.specs.Limits.{package_bytes, journal_bytes, depth, nodes}
 use Rattle.redl_journal.specs.declared.entry.Entry.{Entry}
 use Rattle.redl_journal.specs.Journals.{word_text}
-use Rattle.redl_lines.specs.Failures.{Cause, usage, unbuilt, no_format, no_package, malformed, other_document, other_count, no_sequence, over, Failure, caused, unread, no_memory}
+use Rattle.redl_lines.specs.Failures.{Cause, usage, no_format, no_package, malformed, other_document, other_count, no_sequence, over, Failure, caused, unread, no_memory}
 use Rattle.redl_lines.specs.declared.failure.Limit.{Limit}
 use Rattle.redl_lines.specs.declared.failure.Limit.TheVariants.{PackageBytes, JournalBytes, Depth, Nodes, Sample}
 use Rattle.redl_lines.specs.declared.failure.PackageFault.{PackageFault}
@@ -17,9 +17,6 @@ newline = 10 ∷ []
 
 abbrev pub usage_line : List ℕ
 usage_line = codes "redline: cannot read the command line" ++ newline
-
-abbrev pub unbuilt_line : List ℕ
-unbuilt_line = codes "redline: not built yet" ++ newline
 
 abbrev pub no_format_line : List ℕ → List ℕ
 no_format_line name = codes "redline: no format " ++ (name ++ newline)
@@ -70,7 +67,6 @@ limit_line Sample = codes "redline: limit sample " ++ decimal sample_paragraphs 
 
 abbrev pub cause_line : Cause → List ℕ
 cause_line usage = usage_line
-cause_line unbuilt = unbuilt_line
 cause_line (no_format name) = no_format_line name
 cause_line (no_package fault) = fault_line fault
 cause_line (malformed name) = malformed_line name

@@ -26,7 +26,6 @@ fn write_cause<K: Sink>(cause: &Cause<'_>, err: &mut K) -> Result<(), Failed>
 {
     match cause {
         Cause::Usage => put_piece(b"redline: cannot read the command line\n", err),
-        Cause::Unbuilt => put_piece(b"redline: not built yet\n", err),
         Cause::NoFormat(name) => write_no_format(name, err),
         Cause::Package(fault) => write_fault(*fault, err),
         Cause::Malformed(journal) => write_malformed(journal, err),

@@ -43,8 +43,6 @@ pub enum Limit {
 pub enum Cause<'a> {
     /// The words are no command.
     Usage,
-    /// The words are a command that is not built yet.
-    Unbuilt,
     /// No listing format has this name.
     NoFormat(&'a str),
     /// The file is no package.
@@ -78,7 +76,6 @@ impl Cause<'_> {
     {
         match self {
             Cause::Usage | Cause::NoFormat(_) => Status::Usage,
-            Cause::Unbuilt => Status::Unbuilt,
             Cause::Package(_) => Status::Package,
             Cause::Malformed(_) | Cause::OtherDocument { .. } | Cause::OtherCount { .. } =>
                 Status::Journal,

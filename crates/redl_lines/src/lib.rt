@@ -11,9 +11,6 @@ mod failure;
 mod lines;
 mod status;
 
-/// The most paragraphs of a sample.
-pub const SAMPLE_LIMIT: u32 = 20_000;
-
 pub use end::{End, RefusedEntries};
 pub use failure::{Cause, Failure, Limit, PackageFault};
 pub use lines::tell;

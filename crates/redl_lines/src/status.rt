@@ -9,7 +9,7 @@ pub enum Status {
     Done = 0,
     /// All was written, and some entry of a journal was refused.
     Refused = 1,
-    /// The words are no command.
+    /// The words are no command, or no listing format has the name.
     Usage = 2,
     /// The file is no package that can be read, or breaks a structure rule.
     Package = 3,
@@ -25,8 +25,6 @@ pub enum Status {
     NoMemory = 8,
     /// A reviewer has no sequence number left.
     Sequence = 9,
-    /// The words are no command that is built yet.
-    Unbuilt = 10,
 }
 
 impl Status {

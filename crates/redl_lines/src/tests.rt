@@ -95,7 +95,6 @@ fn a_cause_has_its_status_and_line(rt: HostRuntime) -> Result<(), Fail> {
         (Cause::Usage, 2, "redline: cannot read the command line\n"),
         (Cause::NoFormat("pdf"), 2, "redline: no format pdf\n"),
         (Cause::NoFormat(""), 2, "redline: no format \n"),
-        (Cause::Unbuilt, 10, "redline: not built yet\n"),
         (Cause::Malformed("J"), 4, "redline: journal J: malformed\n"),
         (
             document,

@@ -18,7 +18,7 @@ mod text_format;
 
 pub use format::{RowError, RowFormat};
 pub use json_format::JsonFormat;
-pub use listing::list;
+pub use listing::{add_format, has_name, list};
 pub use row::Row;
 pub use tab_format::TabFormat;
 pub use text_format::TextFormat;

@@ -15,6 +15,21 @@ use redl_io::Text;
 use redl_join::Verdict;
 use std::alloc::{AllocError, Global};
 
+/// Adds a format after the others. None of them is closed or has a row. `Err` means out of memory.
+pub fn add_format(
+    formats: &mut Vec<Box<dyn RowFormat>>,
+    format: Box<dyn RowFormat>,
+) -> Result<(), AllocError>
+    requires fresh { (is_closed format ≡ false) × (rows_so_far format ≡ []) }
+    requires others { All (λ format. (is_closed format ≡ false) × (rows_so_far format ≡ [])) formats.old.items }
+    ensures added { OnOk result (formats.new.items ≡ formats.old.items ++ format ∷ []) }
+    ensures kept { OnErr result (formats.new.items ≡ formats.old.items) }
+    ensures fresh { All (λ format. (is_closed format ≡ false) × (rows_so_far format ≡ [])) formats.new.items }
+{
+    formats.push(format)?;
+    Ok(())
+}
+
 /// Makes the listing of the revisions in the format with this name, and says whether there is one.
 ///
 /// It takes the first format with the name out of the list, gives it a row for each revision in the order of their numbers,
@@ -70,7 +85,8 @@ fn take_named(formats: &mut Vec<Box<dyn RowFormat>>, name: &str) -> Option<Box<d
     None
 }
 
-fn has_name(format: &Box<dyn RowFormat>, name: &str) -> bool
+/// Whether the format has this name.
+pub fn has_name(format: &Box<dyn RowFormat>, name: &str) -> bool
     ensures { result ≡ bytes_eq (format_name format.now) name.now }
 {
     format.name() == name

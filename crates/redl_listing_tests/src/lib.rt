@@ -2,8 +2,6 @@
 #![tactic(auto)]
 
 #[cfg(test)]
-mod count_format;
-#[cfg(test)]
 mod packages;
 #[cfg(test)]
 mod tests;

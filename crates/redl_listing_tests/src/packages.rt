@@ -32,7 +32,7 @@ fn has_utf8_tails(node: &Node) -> bool
     ensures { IsTrue result → HasUtf8Tails (in_front (item_of node.now) no_nodes) }
 {
     match node {
-        Node::Elem(elem) => from_utf8(elem.tail.as_bytes()).is_ok() && have_utf8_tails(&elem.kids),
+        Node::Elem(elem) => from_utf8(elem.tail()).is_ok() && have_utf8_tails(elem.kids()),
         Node::Bytes(_) => true,
     }
 }

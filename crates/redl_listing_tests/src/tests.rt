@@ -2,11 +2,10 @@
 
 ghost use Rattle.std.specs.Prelude.{◌≡◌, All, [], false};
 
-use crate::count_format::CountFormat;
 use crate::packages::{are_named, are_utf8, index_of};
 use redl_io::Text;
 use redl_join::Verdict;
-use redl_listing::{JsonFormat, RowFormat, TabFormat, TextFormat, list};
+use redl_listing::{JsonFormat, RowFormat, TabFormat, TextFormat, add_format, list};
 use std::alloc::{AllocError, Global};
 use std::test::Fail;
 
@@ -17,9 +16,6 @@ const BACK: &str = "</w:body></w:document></pkg:xmlData></pkg:part></pkg:package
 
 const INSERTED: &str =
     "<w:p><w:ins w:id=\"1\" w:author=\"Ann\" w:date=\"2024-05-06T07:08:09Z\"><w:r><w:t>a</w:t></w:r></w:ins></w:p>";
-
-const THREE: &str =
-    "<w:p><w:ins w:id=\"1\" w:author=\"Ann\"/><w:del w:id=\"2\" w:author=\"Bob\"/><w:ins w:id=\"3\"/></w:p>";
 
 fn package_text(alloc: Global, body: &str) -> Result<Vec<u8>, AllocError> {
     let mut text = Vec::from_slice(alloc, FRONT.as_bytes())?;
@@ -66,7 +62,7 @@ fn by_format(
     requires { (is_closed format ≡ false) × (rows_so_far format ≡ []) }
 {
     let mut formats = Vec::new(alloc);
-    formats.push(format)?;
+    add_format(&mut formats, format)?;
     listed(alloc, &mut formats, name, body)
 }
 
@@ -83,11 +79,6 @@ fn by_tab(alloc: Global, body: &str) -> Result<Vec<u8>, Fail> {
 fn by_json(alloc: Global, body: &str) -> Result<Vec<u8>, Fail> {
     let format = Box::new(alloc, JsonFormat::new(alloc)?)?;
     by_format(alloc, format, "json", body)
-}
-
-fn by_count(alloc: Global, body: &str) -> Result<Vec<u8>, Fail> {
-    let format = Box::new(alloc, CountFormat::new(alloc)?)?;
-    by_format(alloc, format, "count", body)
 }
 
 #[test]
@@ -119,9 +110,8 @@ fn the_texts_of_an_insertion(rt: HostRuntime) -> Result<(), Fail> {
 fn listings_of_other_bodies(rt: HostRuntime) -> Result<(), Fail> {
     let alloc = rt.alloc();
     let nothing = by_json(alloc, "")?;
-    let three = by_count(alloc, THREE)?;
     let absent = by_text(alloc, "pdf", INSERTED)?;
-    for (made, want) in [(&nothing, "[]\n"), (&three, "###\n"), (&absent, "none")] {
+    for (made, want) in [(&nothing, "[]\n"), (&absent, "none")] {
         assert!(rt; made.as_slice() == want.as_bytes(), "{want}: {made:?}");
     }
     Ok(())
@@ -129,9 +119,9 @@ fn listings_of_other_bodies(rt: HostRuntime) -> Result<(), Fail> {
 
 /// How many formats are left of two of one name, where the first is taken.
 fn left_of_two(alloc: Global) -> Result<usize, Fail> {
-    let mut formats: Vec<Box<dyn RowFormat>> = Vec::new(alloc);
-    formats.push(Box::new(alloc, TextFormat::new(alloc)?)?)?;
-    formats.push(Box::new(alloc, TextFormat::new(alloc)?)?)?;
+    let mut formats = Vec::new(alloc);
+    add_format(&mut formats, Box::new(alloc, TextFormat::new(alloc)?)?)?;
+    add_format(&mut formats, Box::new(alloc, TextFormat::new(alloc)?)?)?;
     listed(alloc, &mut formats, "text", INSERTED)?;
     Ok(formats.len())
 }

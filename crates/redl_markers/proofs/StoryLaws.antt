@@ -1,13 +1,9 @@
 -- How much a story has of what is found, by the number of its nodes.
-use Rattle.std.proofs.Common.{◌≡◌, ◌∙◌, refl, ap, cond, ℕ, ◌+◌, ◌≤◌, List, [], ◌∷◌, ◌++◌, Option, Some, None, is_some, option_map, filter, filter_map, map, length, length-append, arith}
+use Rattle.std.proofs.Common.{◌≡◌, ◌∙◌, ap, ℕ, ◌+◌, ◌≤◌, List, [], ◌∷◌, ◌++◌, Option, Some, None, filter_map, map, length, length-append, arith}
 use Rattle.std.specs.List.{cons_option}
 use Rattle.redl_tree.specs.Model.Nodes.{Nodes, no_nodes, bytes, element}
 use Rattle.redl_tree.specs.Model.Count.{count}
 use Rattle.redl_tree.specs.Model.Seen.{Spot, spot, Seen, seen_from, tags}
-use Rattle.redl_tree.specs.Revisions.Moves.{Marking}
-use Rattle.redl_tree.specs.Revisions.Markers.{marker_of}
-use Rattle.redl_stamp.specs.Attribute.{attribute_value}
-use Rattle.redl_markers.specs.Found.{is_found, marker_tag}
 
 -- an element has two tags
 pub tags-count : (nodes : Nodes) → tags nodes ≤ count nodes + count nodes
@@ -35,16 +31,6 @@ found-few {Y = Y} find (x ∷ xs) = by (find x) (found-few find xs)
 -- what is found among nodes is at most as much as the nodes
 pub few-found : {X : Type 0} (find : Seen → Option X) (above : List Spot) (at : ℕ) (nodes : Nodes) → length (filter_map find (seen_from above at nodes)) ≤ count nodes
 few-found find above at nodes = omega (arith, found-few find (seen_from above at nodes), seen-count above at nodes)
-
--- the tags of the markers, found one by one
-pub tags-found : (xs : List Seen) → filter_map marker_tag xs ≡ map (λ (x : Seen). x.own.tag) (filter is_found xs)
-tags-found [] = refl
-tags-found (x ∷ xs) = by (marker_of attribute_value x) (tags-found xs)
-  where
-    by : (o : Option Marking) → filter_map marker_tag xs ≡ map (λ (x : Seen). x.own.tag) (filter is_found xs) →
-        cons_option (option_map (λ mark. x.own.tag) o) (filter_map marker_tag xs) ≡ map (λ (x : Seen). x.own.tag) (cond (is_some o) (x ∷ filter is_found xs) (filter is_found xs))
-    by None h = h
-    by (Some mark) h = ap (λ ts. x.own.tag ∷ ts) h
 
 -- where nothing was found before
 pub from-none : {X Y : Type 0} (f : X → Y) (old : List X) (all more : List Y) → old ≡ [] → all ≡ map f old ++ more → all ≡ more

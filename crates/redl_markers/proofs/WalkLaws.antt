@@ -7,26 +7,9 @@ use Prim.Native.String.{String}
 use Rattle.redl_tree.specs.Roles.Names.{is}
 use Rattle.redl_tree.specs.Model.Kids.{some_element, kids_of_all}
 use Rattle.redl_tree.specs.Model.Seen.{Spot, spot, Seen, seen_one, seen_from, tags}
-use Rattle.redl_tree.specs.Revisions.Markers.{marker_of}
 use Rattle.redl_markers.specs.Ends.{one_end, ends_from}
-use Rattle.redl_markers.specs.Found.{marker_tag}
-use Rattle.redl_markers.specs.Trails.{trail_of, inside_trail, makes_revised}
-use Rattle.redl_markers.specs.Walks.{marker_by, tag_by, item_tags, item_seen, item_ends, element_seen, element_ends}
-use Rattle.redl_stamp.specs.Attribute.{attribute_value}
-
--- ---- the trail
-
-pub trail-inside : (at : ℕ) (tag : Tag) (kids : Nodes) (above : List Spot) →
-    inside_trail tag kids (trail_of above) ≡ trail_of (spot at tag kids ∷ above)
-trail-inside at tag kids above = refl
-
-pub marker-here : (above : List Spot) (at : ℕ) (tag : Tag) (kids : Nodes) →
-    marker_of attribute_value (seen_one above at tag kids) ≡ marker_by (trail_of above) at tag
-marker-here above at tag kids = refl
-
-pub tag-here : (above : List Spot) (at : ℕ) (tag : Tag) (kids : Nodes) →
-    marker_tag (seen_one above at tag kids) ≡ tag_by (trail_of above) at tag
-tag-here above at tag kids = refl
+use Rattle.redl_markers.specs.Trails.{makes_revised}
+use Rattle.redl_markers.specs.Walks.{item_tags, item_seen, item_ends, element_seen, element_ends}
 
 -- ---- a node in front of others
 

@@ -25,9 +25,9 @@ marker_by here at tag =
     then option_and_then (λ edge. option_map (marking_by here at tag edge) (attribute_value tag.tail (codes "id"))) (edge_of tag)
     else None
 
--- the tag of an element, where it is a marker
-abbrev pub tag_by : Trail → ℕ → Tag → Option Tag
-tag_by here at tag = option_map (λ mark. tag) (marker_by here at tag)
+-- the attributes of an element, where it is a marker
+abbrev pub tail_by : Trail → ℕ → Tag → Option (List ℕ)
+tail_by here at tag = option_map (λ mark. tag.tail) (marker_by here at tag)
 
 abbrev pub item_tags : Item → ℕ
 item_tags (bytes_item b) = 0

@@ -1,7 +1,7 @@
 //! The markers of moves in one story, and where its paragraphs end.
 //!
 //! Read `find_markers` first. It goes once through the elements below a story's root and lists the markers with their positions,
-//! the elements that they were found at, and the positions of the paragraphs' end tags (ECMA-376 Part 1, 17.13.5.23 to
+//! their attributes, and the positions of the paragraphs' end tags (ECMA-376 Part 1, 17.13.5.23 to
 //! 17.13.5.28).
 //! What it lists is what `redl_moves` pairs, and `specs/Free.antt` says which positions are free of markers, as that asks for.
 //! Roles, numbers and the revisions themselves are left to the crates above.
@@ -13,6 +13,3 @@ mod revised;
 mod trail;
 
 pub use markers::{StoryMarkers, find_markers};
-
-#[cfg(test)]
-mod tests;

@@ -2,16 +2,15 @@
 
 ghost use Rattle.std.specs.Prelude.{◌≡◌, ◌+◌, ◌^◌, ◌<◌, ◌++◌, List, IfOk, OnOk, length, option_map, option_to_list, filter_map, map};
 ghost use Rattle.redl_tree.specs.Model.Count.{count};
-ghost use Rattle.redl_tree.specs.Model.Nodes.{Tag};
 ghost use Rattle.redl_tree.specs.Model.View.{nodes_of, item_of, tag_of, kids_of};
 ghost use Rattle.redl_tree.specs.Model.Seen.{Spot, tags, seen_from};
 ghost use Rattle.redl_tree.specs.Revisions.Markers.{edge_of as edge_of_tag, marker_of};
 ghost use Rattle.redl_stamp.specs.Attribute.{attribute_value};
 ghost use Rattle.redl_moves.specs.Marks.{marking_of, markings, edge_of, RisesFrom};
 ghost use Rattle.redl_markers.specs.Ends.{ends_from};
-ghost use Rattle.redl_markers.specs.Found.{markers_of, marker_tags, marker_tag};
+ghost use Rattle.redl_markers.specs.Found.{markers_of, marker_tails, marker_tail};
 ghost use Rattle.redl_markers.specs.Trails.{trail_of};
-ghost use Rattle.redl_markers.specs.Walks.{marker_by, tag_by, item_tags, item_seen, item_ends, element_seen, element_ends};
+ghost use Rattle.redl_markers.specs.Walks.{marker_by, tail_by, item_tags, item_seen, item_ends, element_seen, element_ends};
 
 use crate::ends::{mend_end, note_end};
 use crate::trail::Trail;
@@ -25,8 +24,8 @@ use std::alloc::{AllocError, Global};
 pub struct StoryMarkers<'a> {
     /// The markers, in the order of their start tags.
     pub marks: Vec<Marker>,
-    /// The element of each marker, in the same order.
-    pub elems: Vec<&'a Elem>,
+    /// The attributes of each marker, in the same order.
+    pub tails: Vec<&'a [u8]>,
     /// The positions of the end tags of the paragraphs below the root, in the order of their start tags.
     pub ends: Vec<u64>,
 }
@@ -36,10 +35,10 @@ pub struct StoryMarkers<'a> {
 /// Markers are the open starts and ends of ranges that have an `id`, of any prefix but that of declarations (ECMA-376 Part 1,
 /// 17.13.5.23 to 17.13.5.28). Positions number the start tags and end tags of the story in the order of its text, and the root's
 /// start tag has 0. Each element is looked at once, and the properties of rows and cells twice. `Err` means out of memory.
-pub fn find_markers<'a>(alloc: Global, root: &'a Elem) -> Result<StoryMarkers<'a>, AllocError>
+pub fn find_markers<'a>(alloc: Global, root: &Elem<'a>) -> Result<StoryMarkers<'a>, AllocError>
     requires few { count (kids_of root.now) < 2 ^ 32 }
     ensures marks { IfOk result (λ found. markings found.marks.items ≡ markers_of (tag_of root.now) (kids_of root.now)) }
-    ensures elems { IfOk result (λ found. map (λ elem. tag_of elem.now) found.elems.items ≡ marker_tags (tag_of root.now) (kids_of root.now)) }
+    ensures tails { IfOk result (λ found. map (λ tail. tail.now) found.tails.items ≡ marker_tails (tag_of root.now) (kids_of root.now)) }
     ensures ends { IfOk result (λ found. found.ends.items ≡ ends_from 1 (kids_of root.now)) }
 
     // what `redl_moves` asks for
@@ -48,10 +47,10 @@ pub fn find_markers<'a>(alloc: Global, root: &'a Elem) -> Result<StoryMarkers<'a
 {
     let mut found = StoryMarkers {
         marks: Vec::new(alloc),
-        elems: Vec::new(alloc),
+        tails: Vec::new(alloc),
         ends: Vec::new(alloc),
     };
-    find_in_nodes(alloc, &root.kids, Trail::top().inside(root), 1, &mut found)?;
+    find_in_nodes(alloc, root.kids(), Trail::top().inside(root), 1, &mut found)?;
     Ok(found)
 }
 
@@ -60,7 +59,7 @@ pub fn find_markers<'a>(alloc: Global, root: &'a Elem) -> Result<StoryMarkers<'a
 #[cycle(markers)]
 fn find_in_nodes<'a>(
     alloc: Global,
-    nodes: &'a [Node],
+    nodes: &[Node<'a>],
     trail: Trail,
     first: u64,
     found: &mut StoryMarkers<'a>,
@@ -70,8 +69,8 @@ fn find_in_nodes<'a>(
     ensures ends { OnOk result (found.new.ends.items ≡ found.old.ends.items ++ ends_from first (nodes_of nodes.now)) }
     ensures marks { OnOk result ((above : List Spot) → trail ≡ trail_of above
         → markings found.new.marks.items ≡ markings found.old.marks.items ++ filter_map (marker_of attribute_value) (seen_from above first (nodes_of nodes.now))) }
-    ensures elems { OnOk result ((above : List Spot) → trail ≡ trail_of above
-        → map (λ elem. tag_of elem.now) found.new.elems.items ≡ map (λ elem. tag_of elem.now) found.old.elems.items ++ filter_map marker_tag (seen_from above first (nodes_of nodes.now))) }
+    ensures tails { OnOk result ((above : List Spot) → trail ≡ trail_of above
+        → map (λ tail. tail.now) found.new.tails.items ≡ map (λ tail. tail.now) found.old.tails.items ++ filter_map marker_tail (seen_from above first (nodes_of nodes.now))) }
 {
     let mut at = first;
     for node in nodes {
@@ -83,7 +82,7 @@ fn find_in_nodes<'a>(
 #[cycle(markers)]
 fn find_in_node<'a>(
     alloc: Global,
-    node: &'a Node,
+    node: &Node<'a>,
     trail: Trail,
     at: u64,
     found: &mut StoryMarkers<'a>,
@@ -93,8 +92,8 @@ fn find_in_node<'a>(
     ensures ends { OnOk result (found.new.ends.items ≡ found.old.ends.items ++ item_ends at (item_of node.now)) }
     ensures marks { OnOk result ((above : List Spot) → trail ≡ trail_of above
         → markings found.new.marks.items ≡ markings found.old.marks.items ++ filter_map (marker_of attribute_value) (item_seen above at (item_of node.now))) }
-    ensures elems { OnOk result ((above : List Spot) → trail ≡ trail_of above
-        → map (λ elem. tag_of elem.now) found.new.elems.items ≡ map (λ elem. tag_of elem.now) found.old.elems.items ++ filter_map marker_tag (item_seen above at (item_of node.now))) }
+    ensures tails { OnOk result ((above : List Spot) → trail ≡ trail_of above
+        → map (λ tail. tail.now) found.new.tails.items ≡ map (λ tail. tail.now) found.old.tails.items ++ filter_map marker_tail (item_seen above at (item_of node.now))) }
 {
     match node {
         Node::Elem(elem) => find_in_elem(alloc, elem, trail, at, found),
@@ -105,7 +104,7 @@ fn find_in_node<'a>(
 #[cycle(markers)]
 fn find_in_elem<'a>(
     alloc: Global,
-    elem: &'a Elem,
+    elem: &Elem<'a>,
     trail: Trail,
     at: u64,
     found: &mut StoryMarkers<'a>,
@@ -115,13 +114,13 @@ fn find_in_elem<'a>(
     ensures ends { OnOk result (found.new.ends.items ≡ found.old.ends.items ++ element_ends at (tag_of elem.now) (kids_of elem.now)) }
     ensures marks { OnOk result ((above : List Spot) → trail ≡ trail_of above
         → markings found.new.marks.items ≡ markings found.old.marks.items ++ filter_map (marker_of attribute_value) (element_seen above at (tag_of elem.now) (kids_of elem.now))) }
-    ensures elems { OnOk result ((above : List Spot) → trail ≡ trail_of above
-        → map (λ elem. tag_of elem.now) found.new.elems.items ≡ map (λ elem. tag_of elem.now) found.old.elems.items ++ filter_map marker_tag (element_seen above at (tag_of elem.now) (kids_of elem.now))) }
+    ensures tails { OnOk result ((above : List Spot) → trail ≡ trail_of above
+        → map (λ tail. tail.now) found.new.tails.items ≡ map (λ tail. tail.now) found.old.tails.items ++ filter_map marker_tail (element_seen above at (tag_of elem.now) (kids_of elem.now))) }
 {
     found.add_marker(alloc, elem, trail, at)?;
     let place = found.ends.len();
     note_end(&mut found.ends, elem, at)?;
-    let end = find_in_nodes(alloc, &elem.kids, trail.inside(elem), at + 1, found)?;
+    let end = find_in_nodes(alloc, elem.kids(), trail.inside(elem), at + 1, found)?;
     mend_end(&mut found.ends, elem, place, end);
     Ok(end + 1)
 }
@@ -131,18 +130,18 @@ impl<'a> StoryMarkers<'a> {
     fn add_marker(
         &mut self,
         alloc: Global,
-        elem: &'a Elem,
+        elem: &Elem<'a>,
         trail: Trail,
         at: u64,
     ) -> Result<(), AllocError>
         ensures marks { OnOk result (markings self.new.marks.items ≡ markings self.old.marks.items ++ option_to_list (marker_by trail at (tag_of elem.now))) }
-        ensures elems { OnOk result (map (λ elem. tag_of elem.now) self.new.elems.items ≡ map (λ elem. tag_of elem.now) self.old.elems.items ++ option_to_list (tag_by trail at (tag_of elem.now))) }
+        ensures tails { OnOk result (map (λ tail. tail.now) self.new.tails.items ≡ map (λ tail. tail.now) self.old.tails.items ++ option_to_list (tail_by trail at (tag_of elem.now))) }
         ensures ends { OnOk result (self.new.ends.items ≡ self.old.ends.items) }
     {
         match marker(alloc, elem, trail, at)? {
             Some(marker) => {
                 self.marks.push(marker)?;
-                self.elems.push(elem)?;
+                self.tails.push(elem.tail())?;
                 Ok(())
             }
             None => Ok(()),
@@ -160,10 +159,10 @@ fn marker(alloc: Global, elem: &Elem, trail: Trail, at: u64) -> Result<Option<Ma
     let Some(kind) = kind_of(elem) else {
         return Ok(None);
     };
-    let Some(id) = attribute(alloc, elem.tail.as_bytes(), b"id")? else {
+    let Some(id) = attribute(alloc, elem.tail(), b"id")? else {
         return Ok(None);
     };
-    let name = attribute(alloc, elem.tail.as_bytes(), b"name")?;
+    let name = attribute(alloc, elem.tail(), b"name")?;
     Ok(Some(Marker {
         kind,
         id,

@@ -14,8 +14,8 @@ pub(crate) fn is_revised(elem: &Elem) -> bool
     ensures { result ≡ is_revised_by (tag_of elem.now) (kids_of elem.now) }
 {
     trace_of(elem).is_some()
-        || (is_named(elem, b"tr") && is_row_revision(&elem.kids))
-        || (is_named(elem, b"tc") && is_cell_revision(&elem.kids))
+        || (is_named(elem, b"tr") && is_row_revision(elem.kids()))
+        || (is_named(elem, b"tc") && is_cell_revision(elem.kids()))
 }
 
 /// Whether a row with these kids is a revision itself.
@@ -75,7 +75,7 @@ fn makes_row_revision(node: &Node) -> bool
     ensures { result ≡ makes_revised "trPr" (λ tag. is_some (row_trace_of_tag tag)) (item_of node.now) }
 {
     match node {
-        Node::Elem(elem) => is_named(elem, b"trPr") && has_row_trace(&elem.kids),
+        Node::Elem(elem) => is_named(elem, b"trPr") && has_row_trace(elem.kids()),
         Node::Bytes(_) => false,
     }
 }
@@ -85,7 +85,7 @@ fn makes_cell_revision(node: &Node) -> bool
     ensures { result ≡ makes_revised "tcPr" (λ tag. is_some (cell_trace_of_tag tag)) (item_of node.now) }
 {
     match node {
-        Node::Elem(elem) => is_named(elem, b"tcPr") && has_cell_trace(&elem.kids),
+        Node::Elem(elem) => is_named(elem, b"tcPr") && has_cell_trace(elem.kids()),
         Node::Bytes(_) => false,
     }
 }

@@ -56,15 +56,3 @@ module _ (marks : List Marking) where
             option_map (start_of_move marks) (open_in half tables (before at marks)) ≡ option_map (start_in marks) (pair_at (side_of half) at (pairs marks))
         by From at apart = opens-start From tables.sources.items sources at apart
         by To at apart = opens-start To tables.targets.items targets at apart
-
--- a story without markers has no moves
-pub no-tables : (tables : Tables) → tables.sources.items ≡ [] → tables.targets.items ≡ [] → ((at : ℕ) → get nat_eq tables.owners at ≡ None) → IsTables [] tables
-no-tables tables sources targets owners = record {
-  opens = by;
-  owners = owners;
-}
-  where
-    by : (half : Half) (at : ℕ) → IsApart at [] →
-        option_map (start_of_move []) (open_in half tables (before at [])) ≡ option_map (start_in []) (pair_at (side_of half) at (pairs []))
-    by From at apart = ap (λ (os : List (Option Move)). option_map (start_of_move []) (item_of (slice_get os 0))) sources
-    by To at apart = ap (λ (os : List (Option Move)). option_map (start_of_move []) (item_of (slice_get os 0))) targets

@@ -21,7 +21,11 @@ pub fn pair(alloc: Global, marks: &[Marker]) -> Result<Vec<Move>, AllocError>
     ensures { IfOk result (λ moves. map move_of moves.items ≡ paired_moves (markings marks.now)) }
 {
     let sides = Sides::of(alloc, marks)?;
-    paired(alloc, marks, &sides)
+    let moves = paired(alloc, marks, &sides);
+
+    // The call has its proof once, and the end of a scope has one in each function.
+    drop(sides);
+    moves
 }
 
 /// The paired moves of markers whose sides are these. `Err` means out of memory.

@@ -3,6 +3,7 @@
 ghost use Rattle.std.specs.Prelude.{◌≡◌, ◌^◌, ◌<◌, [], length, nat_eq, slice_get, IfOk};
 ghost use Rattle.indexmap.specs.IndexMap.{get};
 ghost use Rattle.redl_moves.specs.Marks.{markings, RisesFrom};
+ghost use Rattle.redl_moves.specs.Sides.{IsSides};
 ghost use Rattle.redl_moves.specs.Stories.{IsTables, open_in};
 
 use crate::marker::{Marker, Move};
@@ -33,10 +34,28 @@ impl Tables {
             return Ok(Tables::empty(alloc));
         }
         let sides = Sides::of(alloc, marks)?;
-        let moves = paired(alloc, marks, &sides)?;
+        let tables = Tables::by_sides(alloc, marks, &sides);
+
+        // The call has its proof once, and the end of a scope has one in each function.
+        drop(sides);
+        tables
+    }
+
+    /// The tables of markers whose sides are these. `Err` means out of memory.
+    fn by_sides<'a>(
+        alloc: Global,
+        marks: &'a [Marker],
+        sides: &Sides<'a>,
+    ) -> Result<Tables, AllocError>
+        requires few { length marks.now < 2 ^ 32 }
+        requires rising { RisesFrom 0 (markings marks.now) }
+        requires sides { IsSides (markings marks.now) sides.now }
+        ensures { IfOk result (IsTables (markings marks.now)) }
+    {
+        let moves = paired(alloc, marks, sides)?;
         Ok(Tables {
-            sources: open_moves(alloc, marks, &sides, Half::From)?,
-            targets: open_moves(alloc, marks, &sides, Half::To)?,
+            sources: open_moves(alloc, marks, sides, Half::From)?,
+            targets: open_moves(alloc, marks, sides, Half::To)?,
             owners: owners(alloc, marks, &moves)?,
         })
     }

@@ -1,10 +1,7 @@
 -- Labels are not part of the shape of a package.
-use Rattle.std.proofs.Common.{◌≡◌, ◌+◌, ◌<◌, ◌≤◌, ◌&&◌, ◌||◌, ℕ, arith, zero, suc, length, get_or, drop, slice_get, List, [], ◌∷◌, map, Option, Some, None, Bool, true, false, cond, is_some, option_map, refl, sym, ap, ◌∙◌, codes, subst}
+use Rattle.std.proofs.Common.{◌≡◌, ◌+◌, ◌&&◌, ◌||◌, ℕ, arith, zero, suc, drop, slice_get, List, [], ◌∷◌, map, Option, Some, None, Bool, true, false, cond, is_some, option_map, refl, sym, ap, ◌∙◌, codes, subst}
 use Rattle.std.specs.List.{list_all, list_any}
-use Rattle.std.proofs.lemmas.List.{drop_more}
 use Rattle.redl_tree.specs.Model.Nodes.{Tag, Nodes, no_nodes, bytes, element, Item, bytes_item, element_item, in_front, ◌⊕◌}
-use Rattle.redl_tree.specs.Model.View.{item_of, nodes_of}
-use Rattle.redl_tree.specs.declared.node.Node.{Node}
 use Rattle.redl_tree.specs.Model.Count.{count}
 use Rattle.redl_tree.specs.Model.Text.{text}
 use Rattle.redl_tree.specs.Revisions.Labels.{unlabelled}
@@ -171,18 +168,7 @@ pub elements-in_front : (x : Item) (ys : Nodes) → elements (in_front x ys) ≡
 elements-in_front (bytes_item b) ys = omega arith
 elements-in_front (element_item tag kids) ys = refl
 
--- no more elements than nodes
-pub elements_at_most : (ns : Nodes) → elements ns ≤ count ns
-elements_at_most no_nodes = omega arith
-elements_at_most (bytes b rest) = omega (arith, elements_at_most rest)
-elements_at_most (element tag kids rest) = omega (arith, elements_at_most kids, elements_at_most rest)
-
--- a node has no more elements than the nodes from it on
-pub elements_here : (xs : List Node) (i : ℕ) (d : Node) → i < length xs → item_elements (item_of (get_or xs i d)) ≤ elements (nodes_of (drop i xs))
-elements_here xs i d within =
-    omega (arith, ap (λ ns. elements (nodes_of ns)) (drop_more xs i d within), elements-in_front (item_of (get_or xs i d)) (nodes_of (drop (i + 1) xs)))
-
-pub relabelled-in_front : (labels : List Label) (at : ℕ) (x : Item) (ys : Nodes)
+relabelled-in_front : (labels : List Label) (at : ℕ) (x : Item) (ys : Nodes)
     → relabelled labels at (in_front x ys) ≡ in_front (relabelled_item labels at x) no_nodes ⊕ relabelled labels (at + item_elements x) ys
 relabelled-in_front labels at (bytes_item b) ys =
     let same : at ≡ at + 0 = omega arith in
@@ -194,13 +180,81 @@ pub story_elements-in_front : (around : List Tag) (x : Item) (ys : Nodes)
 story_elements-in_front around (bytes_item b) ys = omega arith
 story_elements-in_front around (element_item tag kids) ys = refl
 
-pub labelled_in-in_front : (labels : List Label) (at : ℕ) (around : List Tag) (x : Item) (ys : Nodes)
+labelled_in-in_front : (labels : List Label) (at : ℕ) (around : List Tag) (x : Item) (ys : Nodes)
     → labelled_in labels at around (in_front x ys)
     ≡ in_front (labelled_item labels at around x) no_nodes ⊕ labelled_in labels (at + item_story_elements around x) around ys
 labelled_in-in_front labels at around (bytes_item b) ys =
     let same : at ≡ at + 0 = omega arith in
     ap (λ m. bytes b (labelled_in labels m around ys)) same
 labelled_in-in_front labels at around (element_item tag kids) ys = refl
+
+-- ---- the labels that are left
+
+get-left : (labels : List Label) (n at : ℕ) → slice_get labels (n + at) ≡ slice_get (drop n labels) at
+get-left labels zero at = ap (slice_get labels) (omega arith)
+get-left [] (suc n) at = none (suc n + at) ∙ sym (none at)
+  where
+    none : (k : ℕ) → slice_get {X = Label} [] k ≡ None
+    none zero = refl
+    none (suc k) = refl
+get-left (label ∷ labels) (suc n) at =
+    let more : suc n + at ≡ suc (n + at) = omega arith in
+    ap (slice_get (label ∷ labels)) more ∙ get-left labels n at
+
+relabelled-from : (labels : List Label) (n at : ℕ) (ns : Nodes) → relabelled labels (n + at) ns ≡ relabelled (drop n labels) at ns
+relabelled-from labels n at no_nodes = refl
+relabelled-from labels n at (bytes b rest) = ap (bytes b) (relabelled-from labels n at rest)
+relabelled-from labels n at (element tag kids rest) =
+    let in_kids : (n + at) + 1 ≡ n + (at + 1) = omega arith in
+    let in_rest : (n + at) + (1 + elements kids) ≡ n + (at + (1 + elements kids)) = omega arith in
+    rw (
+      get-left labels n at,
+      in_kids,
+      in_rest,
+      relabelled-from labels n (at + 1) kids,
+      relabelled-from labels n (at + (1 + elements kids)) rest,
+    ) refl
+
+labelled_in-from : (labels : List Label) (n at : ℕ) (around : List Tag) (ns : Nodes) → labelled_in labels (n + at) around ns ≡ labelled_in (drop n labels) at around ns
+labelled_in-from labels n at around no_nodes = refl
+labelled_in-from labels n at around (bytes b rest) = ap (bytes b) (labelled_in-from labels n at around rest)
+labelled_in-from labels n at around (element tag kids rest) =
+    let in_rest : (n + at) + kids_story_elements around tag kids ≡ n + (at + kids_story_elements around tag kids) = omega arith in
+    rw (
+      relabelled-from labels n at kids,
+      labelled_in-from labels n at (tag ∷ around) kids,
+      in_rest,
+      labelled_in-from labels n (at + kids_story_elements around tag kids) around rest,
+    ) refl
+
+-- behind the elements that have had their labels
+pub relabelled_left : (labels : List Label) (n : ℕ) (ns : Nodes) → relabelled labels n ns ≡ relabelled (drop n labels) 0 ns
+relabelled_left labels n ns =
+    let same : n ≡ n + 0 = omega arith in
+    ap (λ m. relabelled labels m ns) same ∙ relabelled-from labels n 0 ns
+
+labelled_in-left : (labels : List Label) (n : ℕ) (around : List Tag) (ns : Nodes) → labelled_in labels n around ns ≡ labelled_in (drop n labels) 0 around ns
+labelled_in-left labels n around ns =
+    let same : n ≡ n + 0 = omega arith in
+    ap (λ m. labelled_in labels m around ns) same ∙ labelled_in-from labels n 0 around ns
+
+-- a node, and those after it with the labels that are left
+pub relabelled-first : (labels : List Label) (x : Item) (ys : Nodes)
+    → relabelled labels 0 (in_front x ys) ≡ in_front (relabelled_item labels 0 x) no_nodes ⊕ relabelled (drop (item_elements x) labels) 0 ys
+relabelled-first labels x ys =
+    let same : 0 + item_elements x ≡ item_elements x = omega arith in
+    relabelled-in_front labels 0 x ys
+    ∙ ap (λ m. in_front (relabelled_item labels 0 x) no_nodes ⊕ relabelled labels m ys) same
+    ∙ ap (λ ns. in_front (relabelled_item labels 0 x) no_nodes ⊕ ns) (relabelled_left labels (item_elements x) ys)
+
+pub labelled_in-first : (labels : List Label) (around : List Tag) (x : Item) (ys : Nodes)
+    → labelled_in labels 0 around (in_front x ys)
+    ≡ in_front (labelled_item labels 0 around x) no_nodes ⊕ labelled_in (drop (item_story_elements around x) labels) 0 around ys
+labelled_in-first labels around x ys =
+    let same : 0 + item_story_elements around x ≡ item_story_elements around x = omega arith in
+    labelled_in-in_front labels 0 around x ys
+    ∙ ap (λ m. in_front (labelled_item labels 0 around x) no_nodes ⊕ labelled_in labels m around ys) same
+    ∙ ap (λ ns. in_front (labelled_item labels 0 around x) no_nodes ⊕ ns) (labelled_in-left labels (item_story_elements around x) around ys)
 
 -- ---- labelling all stories changes only labels
 

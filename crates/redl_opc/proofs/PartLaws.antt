@@ -1,5 +1,5 @@
 -- Laws of the parts of a package.
-use Rattle.std.proofs.Common.{◌≡◌, ◌≤◌, ◌<◌, ◌+◌, ℕ, zero, suc, List, [], ◌∷◌, ◌++◌, length, Option, Some, None, Bool, true, false, refl, sym, ap, ◌∙◌, arith, append_assoc, slice_get, option_map, option_and_then, length-append, cond, codes, get_or, drop, add-one, subst, IfSome}
+use Rattle.std.proofs.Common.{Bor, ◌≡◌, ◌≤◌, ◌<◌, ◌+◌, ℕ, zero, suc, List, [], ◌∷◌, ◌++◌, length, Option, Some, None, Bool, true, false, refl, sym, ap, ◌∙◌, arith, append_assoc, slice_get, option_map, option_and_then, length-append, cond, codes, get_or, drop, add-one, subst, IfSome}
 use Rattle.redl_tree.specs.Model.Nodes.{Nodes, no_nodes, bytes, element, Item, bytes_item, element_item, in_front, items_of}
 use Rattle.redl_tree.specs.Model.Count.{count}
 use Rattle.redl_tree.specs.Model.View.{item_of, nodes_of, tag_of, kids_of}
@@ -126,7 +126,7 @@ name-places_of ns k = name-places_in (package_of ns) k
 -- ---- one node among the kids of the root
 
 pub tails-element : (nodes : List Node) (i : ℕ) (x : Node) (e : Elem) → i < length nodes → x ≡ get_or nodes i x → x ≡ node.Elem e
-    → HasUtf8Tails (nodes_of (drop i nodes)) → IsUtf8 e.tail
+    → HasUtf8Tails (nodes_of (drop i nodes)) → IsUtf8 (tag_of e).tail
 tails-element nodes i x e within is elem tails =
     let here : nodes_of (drop i nodes) ≡ element (tag_of e) (kids_of e) (nodes_of (drop (i + 1) nodes)) =
     nodes_here nodes i x within is ∙ ap (λ y. in_front y (nodes_of (drop (i + 1) nodes))) (ap item_of elem ∙ item_of-Elem e) in
@@ -149,10 +149,10 @@ places-element nodes i x e within is elem =
     nodes_here nodes i x within is ∙ ap (λ y. in_front y (nodes_of (drop (i + 1) nodes))) (ap item_of elem ∙ item_of-Elem e) in
     rw here (rw add-one refl)
 
-pub places-bytes : (nodes : List Node) (i : ℕ) (x : Node) (b : List ℕ) → i < length nodes → x ≡ get_or nodes i x → x ≡ node.Bytes b
+pub places-bytes : (nodes : List Node) (i : ℕ) (x : Node) (b : Bor (List ℕ)) → i < length nodes → x ≡ get_or nodes i x → x ≡ node.Bytes b
     → places_from i (nodes_of (drop i nodes)) ≡ places_from (i + 1) (nodes_of (drop (i + 1) nodes))
 places-bytes nodes i x b within is text =
-    let here : nodes_of (drop i nodes) ≡ bytes b (nodes_of (drop (i + 1) nodes)) =
+    let here : nodes_of (drop i nodes) ≡ bytes b.now (nodes_of (drop (i + 1) nodes)) =
     nodes_here nodes i x within is ∙ ap (λ y. in_front y (nodes_of (drop (i + 1) nodes))) (ap item_of text ∙ item_of-Bytes b) in
     rw here (rw add-one refl)
 

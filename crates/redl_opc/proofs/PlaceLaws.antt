@@ -1,5 +1,5 @@
 -- Changes of the node at a place.
-use Rattle.std.proofs.Common.{◌≡◌, ◌<◌, ◌≤◌, ◌+◌, ℕ, zero, suc, List, [], ◌∷◌, length, get_or, set, drop, refl, sym, ap, ◌∙◌, arith}
+use Rattle.std.proofs.Common.{Bor, ◌≡◌, ◌<◌, ◌≤◌, ◌+◌, ℕ, zero, suc, List, [], ◌∷◌, length, get_or, set, drop, refl, sym, ap, ◌∙◌, arith}
 use Rattle.redl_tree.specs.Model.Nodes.{Nodes, Item, bytes_item, element_item, in_front}
 use Rattle.redl_tree.specs.Model.View.{item_of, nodes_of}
 use Rattle.redl_tree.specs.declared.node.Node.{Node}
@@ -39,7 +39,7 @@ pub first-element : (xs : List Node) (i : ℕ) (x : Node) (e : Elem) → i < len
 first-element xs i x e within at_i is =
     ap first_place (nodes_here xs i x within at_i ∙ ap (λ y. in_front y (nodes_of (drop (i + 1) xs))) (ap item_of is ∙ item_of-Elem e))
 
-pub first-bytes : (xs : List Node) (i : ℕ) (x : Node) (b : List ℕ) → i < length xs → x ≡ get_or xs i x → x ≡ node.Bytes b
+pub first-bytes : (xs : List Node) (i : ℕ) (x : Node) (b : Bor (List ℕ)) → i < length xs → x ≡ get_or xs i x → x ≡ node.Bytes b
     → first_place (nodes_of (drop i xs)) ≡ suc (first_place (nodes_of (drop (i + 1) xs)))
 first-bytes xs i x b within at_i is =
     ap first_place (nodes_here xs i x within at_i ∙ ap (λ y. in_front y (nodes_of (drop (i + 1) xs))) (ap item_of is ∙ item_of-Bytes b))

@@ -4,5 +4,6 @@ pub mod Shape
 pub mod Tree
 pub mod Parts
 pub mod Labels
+pub mod Runs
 pub mod PartView
 pub mod Stories

@@ -1,11 +1,11 @@
 //! Labels of elements.
 
 ghost use Rattle.std.specs.Prelude.{◌≡◌, ◌++◌};
-ghost use Rattle.redl_tree.specs.Model.View.{nodes_of, item_of};
+ghost use Rattle.redl_tree.specs.Model.View.{nodes_of, item_of, held_of, spaced_of};
 ghost use Rattle.redl_opc.specs.Elements.{element_of};
 ghost use Rattle.redl_opc.specs.Labels.{changed_at, changed_item, labelled, first_place};
 
-use redl_tree::{Elem, Kind, Node};
+use redl_tree::{Body, Elem, Kind, Node, Spaced};
 
 /// The label of an element: its kind and the number of its revision.
 #[derive(Clone, Copy, Debug, PartialEq, Eq)]
@@ -20,13 +20,41 @@ pub(crate) fn label_below(elem: &mut Elem, way: &[usize], path: &[u32], kind: Ki
     ensures { element_of elem.new ≡ labelled kind rev (way.now ++ path.now) (element_of elem.old) }
 {
     if let Some((place, rest)) = way.split_first() {
-        label_at(&mut elem.kids, *place, rest, path, kind, rev);
+        label_in(&mut elem.body, *place, rest, path, kind, rev);
     } else if let Some((place, rest)) = path.split_first() {
-        label_at(&mut elem.kids, *place as usize, &[], rest, kind, rev);
+        label_in(&mut elem.body, *place as usize, &[], rest, kind, rev);
     } else {
-        elem.kind = kind;
-        elem.rev = rev;
+        elem.set_label(kind, rev);
     }
+}
+
+/// The same from the element at a place among the kids of a body.
+#[cycle(label)]
+fn label_in(body: &mut Body, place: usize, way: &[usize], path: &[u32], kind: Kind, rev: u32)
+    ensures kids { (held_of body.new).kids ≡ changed_at place (labelled kind rev (way.now ++ path.now)) (held_of body.old).kids }
+    ensures close { (held_of body.new).close ≡ (held_of body.old).close }
+{
+    match body {
+        Body::Empty => {}
+        Body::Kids(kids) => label_at(kids, place, way, path, kind, rev),
+        Body::Spaced(spaced) => label_spaced(spaced, place, way, path, kind, rev),
+    }
+}
+
+// Apart from `label_in`, since a write through a box in a variant is proved in two steps.
+#[cycle(label)]
+fn label_spaced(
+    spaced: &mut Box<Spaced>,
+    place: usize,
+    way: &[usize],
+    path: &[u32],
+    kind: Kind,
+    rev: u32,
+)
+    ensures kids { (spaced_of spaced.new.value).kids ≡ changed_at place (labelled kind rev (way.now ++ path.now)) (spaced_of spaced.old.value).kids }
+    ensures close { (spaced_of spaced.new.value).close ≡ (spaced_of spaced.old.value).close }
+{
+    label_at(&mut spaced.kids, place, way, path, kind, rev);
 }
 
 /// The same from the element at a place among nodes. If there is no element at it, nothing is labelled.

@@ -7,6 +7,7 @@
 mod elements;
 mod error;
 mod label;
+mod labels;
 mod laws;
 mod listing;
 mod package;
@@ -17,8 +18,6 @@ mod stories;
 pub use elements::only_element;
 pub use error::OpcError;
 pub use label::Label;
+pub use labels::Labels;
 pub use laws::{each_story_has_a_part, numbering_keeps_parts, stories_are_of_parts};
 pub use package::Package;
-
-#[cfg(test)]
-mod tests;

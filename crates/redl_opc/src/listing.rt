@@ -16,9 +16,9 @@ use std::alloc::{AllocError, Global};
 /// The decoded name in a part's tag. Without a name it is the empty text.
 fn name_of(alloc: Global, elem: &Elem) -> Result<Text, AllocError>
     ensures value { IfOk result (λ name. name ≡ name_in (tag_of elem.now)) }
-    ensures utf8 { IsUtf8 elem.now.tail → IfOk result IsUtf8 }
+    ensures utf8 { IsUtf8 (tag_of elem.now).tail → IfOk result IsUtf8 }
 {
-    match attribute(alloc, elem.tail.as_bytes(), b"name")? {
+    match attribute(alloc, elem.tail(), b"name")? {
         Some(name) => Ok(name),
         None => Text::copy_of(alloc, b""),
     }

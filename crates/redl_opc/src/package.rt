@@ -16,7 +16,8 @@ ghost use Rattle.redl_opc.specs.Tree.{HasUtf8Tails, IsTree};
 
 use crate::elements::{element_at, only_element};
 use crate::error::OpcError;
-use crate::label::{Label, first_place, label_at};
+use crate::label::{first_place, label_at};
+use crate::labels::Labels;
 use crate::listing::list_parts;
 use crate::part::Part;
 use crate::shape::{are_parts, have_document, package_of, story_of};
@@ -27,12 +28,12 @@ use std::marker::Model;
 
 /// A package, which contracts see as its nodes. Its parts are numbered from 0, in order.
 #[derive(Drop)]
-pub struct Package {
-    nodes: Vec<Node>,
+pub struct Package<'a> {
+    nodes: Vec<Node<'a>>,
     parts: Vec<Part>,
 }
 
-impl Model for Package {
+impl<'a> Model for Package<'a> {
     ghost use Rattle.std.specs.Prelude.{map};
     ghost use Rattle.std.specs.Coded.{codes};
     ghost use Rattle.redl_tree.specs.Model.Nodes.{Nodes};
@@ -60,13 +61,13 @@ fn parts_in(alloc: Global, nodes: &[Node]) -> Result<Vec<Part>, OpcError>
     let Some(root) = package_of(nodes) else {
         return Err(OpcError::NotPackage);
     };
-    if !are_parts(&root.kids) {
+    if !are_parts(root.kids()) {
         return Err(OpcError::PartShape);
     }
-    if !have_document(&root.kids) {
+    if !have_document(root.kids()) {
         return Err(OpcError::NoDocument);
     }
-    Ok(list_parts(alloc, &root.kids)?)
+    Ok(list_parts(alloc, root.kids())?)
 }
 
 fn part_at(parts: &[Part], number: u32) -> Option<&Part>
@@ -75,7 +76,7 @@ fn part_at(parts: &[Part], number: u32) -> Option<&Part>
     parts.get(number as usize)
 }
 
-impl Package {
+impl<'a> Package<'a> {
     /// The package with these nodes.
     ///
     /// The nodes are those of a text that was read: the tail of each element is UTF-8, and there are fewer than 2^32 nodes.
@@ -83,18 +84,18 @@ impl Package {
     /// element of the root is not a part with a name, a content type, and one `binaryData` or one `xmlData` with one element.
     /// Otherwise `NoDocument` exactly if no part has the root `document`. `NoMemory` means out of memory. A refusal drops the
     /// nodes.
-    pub fn make(alloc: Global, nodes: Vec<Node>) -> Result<Package, OpcError>
+    pub fn make(alloc: Global, nodes: Vec<Node<'a>>) -> Result<Package<'a>, OpcError>
         requires { IsTree (nodes_of nodes.items) }
-        ensures nodes { IfOk result (λ pkg. pkg ≡ nodes_of nodes.items) }
+        ensures nodes { IfOk result (λ pkg. pkg ≡ nodes_of nodes.entry.items) }
         ensures shape { IfOk result (λ pkg. refusal pkg ≡ None) }
-        ensures cause { IfErr result (λ error. IsCause error (nodes_of nodes.items)) }
+        ensures cause { IfErr result (λ error. IsCause error (nodes_of nodes.entry.items)) }
     {
         let parts = parts_in(alloc, &nodes)?;
         Ok(Package { nodes, parts })
     }
 
     /// All nodes, with the text before and after the root.
-    pub fn nodes(&self) -> &[Node]
+    pub fn nodes(&self) -> &[Node<'a>]
         ensures nodes { nodes_of result.now ≡ self.now }
         ensures shape { refusal self.now ≡ None }
         ensures tails { HasUtf8Tails self.now }
@@ -104,8 +105,8 @@ impl Package {
     }
 
     /// The nodes of the package, with their labels.
-    pub fn into_nodes(self) -> Vec<Node>
-        ensures nodes { nodes_of result.items ≡ self }
+    pub fn into_nodes(self) -> Vec<Node<'a>>
+        ensures nodes { nodes_of result.items ≡ self.entry }
         ensures shape { refusal (nodes_of result.items) ≡ None }
         ensures tails { HasUtf8Tails (nodes_of result.items) }
         ensures few { count (nodes_of result.items) < 2 ^ 32 }
@@ -134,14 +135,14 @@ impl Package {
     /// The root of a story. `None` exactly if no part has this number, or the part is not a story.
     ///
     /// To go over all stories, ask for those of the parts from 0 to `parts() - 1`.
-    pub fn story(&self, part: u32) -> Option<&Elem>
+    pub fn story(&self, part: u32) -> Option<&Elem<'a>>
         ensures value { Gives (λ root. element_of root.now) result (story self.now part) }
         ensures root { IfSome result (λ root. IsTrue (is_story_root (tag_of root.now))) }
         ensures tails { IfSome result (λ root. HasUtf8Tails (kids_of root.now)) }
     {
         let part = part_at(&self.parts, part)?;
         let root = package_of(&self.nodes)?;
-        let part = element_at(&root.kids, part.place)?;
+        let part = element_at(root.kids(), part.place)?;
         story_of(part)
     }
 
@@ -152,10 +153,10 @@ impl Package {
         let part = part_at(&self.parts, part)?;
         let place = part.place;
         let root = package_of(&self.nodes)?;
-        let part = element_at(&root.kids, place)?;
-        let held = only_element(&part.kids)?;
+        let part = element_at(root.kids(), place)?;
+        let held = only_element(part.kids())?;
         story_of(part)?;
-        Some([place, first_place(&part.kids), first_place(&held.kids)])
+        Some([place, first_place(part.kids()), first_place(held.kids())])
     }
 
     /// Labels one element of a story: sets its kind and the number of its revision. All else is unchanged.
@@ -176,11 +177,10 @@ impl Package {
     /// Labels the elements below the roots of all stories with these labels, in the order of their start tags.
     ///
     /// If there are fewer labels than elements, the remaining elements are unchanged. All else is unchanged.
-    pub fn label_stories(&mut self, labels: &[Label])
+    pub fn label_stories(&mut self, labels: &Labels)
         ensures nodes { self.new ≡ labelled_stories labels.now self.old }
         ensures text { text self.new ≡ text self.old }
     {
-        let mut at = 0;
-        label_nodes(&mut self.nodes, Level::Top, labels, &mut at);
+        label_nodes(&mut self.nodes, Level::Top, &mut labels.all());
     }
 }

@@ -7,7 +7,7 @@ ghost use Rattle.redl_tree.specs.Model.View.{nodes_of};
 ghost use Rattle.redl_opc.specs.Elements.{element_of, elements_of};
 ghost use Rattle.redl_opc.specs.Shape.{is_data, is_part, story_of, is_document, package_of};
 
-use crate::elements::{first_element, only_element};
+use crate::elements::only_element;
 use redl_stamp::has_attribute;
 use redl_tree::{Elem, Node, is_named, is_named_pkg, is_story_root};
 
@@ -15,29 +15,29 @@ fn is_data(elem: &Elem) -> bool
     ensures { result ≡ is_data (element_of elem.now) }
 {
     is_named_pkg(elem, b"binaryData")
-        || is_named_pkg(elem, b"xmlData") && only_element(&elem.kids).is_some()
+        || is_named_pkg(elem, b"xmlData") && only_element(elem.kids()).is_some()
 }
 
 /// Whether an element is a part, with a name, a content type and one element of data.
 fn is_part(elem: &Elem) -> bool
     ensures { result ≡ is_part (element_of elem.now) }
 {
-    let tail = elem.tail.as_bytes();
+    let tail = elem.tail();
     is_named_pkg(elem, b"part")
         && has_attribute(tail, b"name")
         && has_attribute(tail, b"contentType")
-        && only_element(&elem.kids).is_some_and(|data| is_data(data))
+        && only_element(elem.kids()).is_some_and(|data| is_data(data))
 }
 
 /// The root of a part, if it is a story.
-pub(crate) fn story_of(part: &Elem) -> Option<&Elem>
+pub(crate) fn story_of<'n, 'a>(part: &'n Elem<'a>) -> Option<&'n Elem<'a>>
     ensures { Gives (λ root. element_of root.now) result (story_of (element_of part.now)) }
 {
-    let data = only_element(&part.kids)?;
+    let data = only_element(part.kids())?;
     if !is_named_pkg(data, b"xmlData") {
         return None;
     }
-    let root = only_element(&data.kids)?;
+    let root = only_element(data.kids())?;
     if is_story_root(root) {
         Some(root)
     } else {
@@ -55,7 +55,7 @@ fn is_document(part: &Elem) -> bool
 }
 
 /// The root, if it is `package`.
-pub(crate) fn package_of(nodes: &[Node]) -> Option<&Elem>
+pub(crate) fn package_of<'n, 'a>(nodes: &'n [Node<'a>]) -> Option<&'n Elem<'a>>
     ensures { Gives (λ root. element_of root.now) result (package_of (nodes_of nodes.now)) }
 {
     let root = only_element(nodes)?;
@@ -70,12 +70,12 @@ pub(crate) fn package_of(nodes: &[Node]) -> Option<&Elem>
 pub(crate) fn are_parts(nodes: &[Node]) -> bool
     ensures { result ≡ list_all is_part (elements_of (nodes_of nodes.now)) }
 {
-    let mut left = nodes;
-    while let Some((part, rest)) = first_element(left) {
-        if !is_part(part) {
-            return false;
+    for node in nodes {
+        if let Node::Elem(part) = node {
+            if !is_part(part) {
+                return false;
+            }
         }
-        left = rest;
     }
     true
 }
@@ -84,12 +84,12 @@ pub(crate) fn are_parts(nodes: &[Node]) -> bool
 pub(crate) fn have_document(nodes: &[Node]) -> bool
     ensures { result ≡ list_any is_document (elements_of (nodes_of nodes.now)) }
 {
-    let mut left = nodes;
-    while let Some((part, rest)) = first_element(left) {
-        if is_document(part) {
-            return true;
+    for node in nodes {
+        if let Node::Elem(part) = node {
+            if is_document(part) {
+                return true;
+            }
         }
-        left = rest;
     }
     false
 }

@@ -23,18 +23,22 @@ use std::alloc::{AllocError, Global};
 /// the last one, and with all that they hold and all that is between them. A last paragraph that is cut has no such one:
 /// it stays, but before another block its bytes alone stay where it holds no element besides its properties. Nodes
 /// are moved, never copied. `Err` means out of memory, and the chain is dropped.
-pub fn group(alloc: Global, chain: Vec<Piece>, next: Next) -> Result<Vec<Node>, AllocError>
-    ensures whole { IfOk result (λ nodes. nodes_of nodes.items ≡ grouped (is_other next) (pieces_of chain.items)) }
+pub fn group<'a>(
+    alloc: Global,
+    chain: Vec<Piece<'a>>,
+    next: Next,
+) -> Result<Vec<Node<'a>>, AllocError>
+    ensures whole { IfOk result (λ nodes. nodes_of nodes.items ≡ grouped (is_other next) (pieces_of chain.entry.items)) }
 
     // The bytes beside the properties of the paragraphs come in their order.
-    ensures bytes { are_named (pieces_of chain.items) ≡ true
-        → IfOk result (λ nodes. bytes_beside (nodes_of nodes.items) ≡ bytes_of_each (pieces_of chain.items)) }
+    ensures bytes { are_named (pieces_of chain.entry.items) ≡ true
+        → IfOk result (λ nodes. bytes_beside (nodes_of nodes.items) ≡ bytes_of_each (pieces_of chain.entry.items)) }
 
     // A paragraph is left where the last one isn't cut, or no other block comes next; and where one is left, the last
     // block is one.
-    ensures left { is_chain (pieces_of chain.items) ≡ true → keeps_last (is_other next) (pieces_of chain.items) ≡ true
+    ensures left { is_chain (pieces_of chain.entry.items) ≡ true → keeps_last (is_other next) (pieces_of chain.entry.items) ≡ true
         → IfOk result (λ nodes. some_element (is "p") (nodes_of nodes.items) ≡ true) }
-    ensures end { is_chain (pieces_of chain.items) ≡ true
+    ensures end { is_chain (pieces_of chain.entry.items) ≡ true
         → IfOk result (λ nodes. some_element (is "p") (nodes_of nodes.items) ≡ true → end_of Direct (nodes_of nodes.items) ≡ Some true) }
 {
     let mut made = Vec::new(alloc);
@@ -69,17 +73,17 @@ fn paras_in(piece: &Piece) -> usize
 
 // Adds what a piece gives by itself, and gives what the next paragraph is to take up. `more`: a paragraph comes later in
 // the chain.
-fn add(
+fn add<'a>(
     alloc: Global,
-    piece: Piece,
-    held: Option<Vec<Node>>,
+    piece: Piece<'a>,
+    held: Option<Vec<Node<'a>>>,
     more: bool,
     next: Next,
-    made: &mut Vec<Node>,
-) -> Result<Option<Vec<Node>>, AllocError>
+    made: &mut Vec<Node<'a>>,
+) -> Result<Option<Vec<Node<'a>>>, AllocError>
     ensures made { IfOk result (λ _. nodes_of made.new.items ≡ nodes_of made.old.items
-        ⊕ given (piece_of piece) (held_of held) (is_cut (piece_of piece) && more) (more || is_other next)) }
-    ensures held { IfOk result (λ later. held_of later ≡ held_by (piece_of piece) (held_of held) (is_cut (piece_of piece) && more)) }
+        ⊕ given (piece_of piece.entry) (held_of held.entry) (is_cut (piece_of piece.entry) && more) (more || is_other next)) }
+    ensures held { IfOk result (λ later. held_of later ≡ held_by (piece_of piece.entry) (held_of held.entry) (is_cut (piece_of piece.entry) && more)) }
 {
     match piece {
         Piece::Thin(node) => match held {
@@ -91,19 +95,19 @@ fn add(
         },
         Piece::Para { elem, cut } => {
             if cut && more {
-                return Ok(Some(take_up(alloc, held, elem.kids)?));
+                return Ok(Some(take_up(alloc, held, elem.into_kids(alloc))?));
             }
             let para = joined(alloc, held, elem)?;
-            settle(made, para, cut && next == Next::Other)?;
+            settle(alloc, made, para, cut && next == Next::Other)?;
             Ok(None)
         }
     }
 }
 
 fn one(alloc: Global, node: Node) -> Result<Vec<Node>, AllocError>
-    ensures { IfOk result (λ nodes. nodes_of nodes.items ≡ nodes_of (node ∷ [])) }
+    ensures { IfOk result (λ nodes. nodes_of nodes.items ≡ nodes_of (node.entry ∷ [])) }
 {
-    let mut nodes = Vec::new(alloc);
+    let mut nodes = Vec::with_capacity(alloc, 1)?;
     nodes.push(node)?;
     Ok(nodes)
 }

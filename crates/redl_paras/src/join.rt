@@ -2,16 +2,14 @@
 
 ghost use Rattle.std.specs.Prelude.{◌≡◌, ◌∷◌, [], ◌&&◌, not, IfOk, OnOk, Some};
 ghost use Rattle.redl_paras.specs.Pieces.{held_of};
-ghost use Rattle.redl_tree.specs.Decisions.Groups.{taken, ended as ended_close, joined_tag, joined_kids, settled};
+ghost use Rattle.redl_tree.specs.Decisions.Groups.{taken, joined_tag, joined_kids, settled};
 ghost use Rattle.redl_tree.specs.Model.Kids.{only, without, has_element, item_is};
 ghost use Rattle.redl_tree.specs.Roles.Names.{is};
 ghost use Rattle.redl_tree.specs.Model.Nodes.{◌⊕◌};
 ghost use Rattle.redl_tree.specs.Model.View.{nodes_of, item_of, tag_of, kids_of};
 
-use redl_io::Text;
-use redl_tree::{Close, Elem, Node, is_named};
+use redl_tree::{Elem, Node, is_named};
 use std::alloc::{AllocError, Global};
-use std::mem;
 
 // Whether a node is the properties of a paragraph.
 fn is_props(node: &Node) -> bool
@@ -24,8 +22,8 @@ fn is_props(node: &Node) -> bool
 }
 
 // Adds those of the nodes that are no properties of a paragraph.
-fn add_bare(all: &mut Vec<Node>, nodes: Vec<Node>) -> Result<(), AllocError>
-    ensures { OnOk result (nodes_of all.new.items ≡ nodes_of all.old.items ⊕ without (is "pPr") (nodes_of nodes.items)) }
+fn add_bare<'a>(all: &mut Vec<Node<'a>>, nodes: Vec<Node<'a>>) -> Result<(), AllocError>
+    ensures { OnOk result (nodes_of all.new.items ≡ nodes_of all.old.items ⊕ without (is "pPr") (nodes_of nodes.entry.items)) }
 {
     let mut bare = nodes;
     bare.retain(|node| !is_props(node));
@@ -34,12 +32,12 @@ fn add_bare(all: &mut Vec<Node>, nodes: Vec<Node>) -> Result<(), AllocError>
 }
 
 /// What the next paragraph is to take up: what is held for it already, and then these nodes without properties.
-pub(crate) fn take_up(
+pub(crate) fn take_up<'a>(
     alloc: Global,
-    held: Option<Vec<Node>>,
-    nodes: Vec<Node>,
-) -> Result<Vec<Node>, AllocError>
-    ensures { IfOk result (λ all. nodes_of all.items ≡ taken (held_of held) (nodes_of nodes.items)) }
+    held: Option<Vec<Node<'a>>>,
+    nodes: Vec<Node<'a>>,
+) -> Result<Vec<Node<'a>>, AllocError>
+    ensures { IfOk result (λ all. nodes_of all.items ≡ taken (held_of held.entry) (nodes_of nodes.entry.items)) }
 {
     let mut all = match held {
         Some(all) => all,
@@ -50,9 +48,13 @@ pub(crate) fn take_up(
 }
 
 // Adds the properties among a paragraph's kids to the first list, and the other kids to the second.
-fn part(kids: Vec<Node>, props: &mut Vec<Node>, others: &mut Vec<Node>) -> Result<(), AllocError>
-    ensures props { OnOk result (nodes_of props.new.items ≡ nodes_of props.old.items ⊕ only (is "pPr") (nodes_of kids.items)) }
-    ensures others { OnOk result (nodes_of others.new.items ≡ nodes_of others.old.items ⊕ without (is "pPr") (nodes_of kids.items)) }
+fn part<'a>(
+    kids: Vec<Node<'a>>,
+    props: &mut Vec<Node<'a>>,
+    others: &mut Vec<Node<'a>>,
+) -> Result<(), AllocError>
+    ensures props { OnOk result (nodes_of props.new.items ≡ nodes_of props.old.items ⊕ only (is "pPr") (nodes_of kids.entry.items)) }
+    ensures others { OnOk result (nodes_of others.new.items ≡ nodes_of others.old.items ⊕ without (is "pPr") (nodes_of kids.entry.items)) }
 {
     for kid in kids {
         put(kid, props, others)?;
@@ -61,9 +63,13 @@ fn part(kids: Vec<Node>, props: &mut Vec<Node>, others: &mut Vec<Node>) -> Resul
 }
 
 // Adds a kid of a paragraph to the first list where it is properties, else to the second.
-fn put(kid: Node, props: &mut Vec<Node>, others: &mut Vec<Node>) -> Result<(), AllocError>
-    ensures props { OnOk result (nodes_of props.new.items ≡ nodes_of props.old.items ⊕ only (is "pPr") (nodes_of (kid ∷ []))) }
-    ensures others { OnOk result (nodes_of others.new.items ≡ nodes_of others.old.items ⊕ without (is "pPr") (nodes_of (kid ∷ []))) }
+fn put<'a>(
+    kid: Node<'a>,
+    props: &mut Vec<Node<'a>>,
+    others: &mut Vec<Node<'a>>,
+) -> Result<(), AllocError>
+    ensures props { OnOk result (nodes_of props.new.items ≡ nodes_of props.old.items ⊕ only (is "pPr") (nodes_of (kid.entry ∷ []))) }
+    ensures others { OnOk result (nodes_of others.new.items ≡ nodes_of others.old.items ⊕ without (is "pPr") (nodes_of (kid.entry ∷ []))) }
 {
     if is_props(&kid) {
         props.push(kid)?;
@@ -74,8 +80,12 @@ fn put(kid: Node, props: &mut Vec<Node>, others: &mut Vec<Node>) -> Result<(), A
 }
 
 // The kids of a paragraph that takes up what is held for it.
-fn kids_with(alloc: Global, held: Vec<Node>, kids: Vec<Node>) -> Result<Vec<Node>, AllocError>
-    ensures { IfOk result (λ all. nodes_of all.items ≡ joined_kids (Some (nodes_of held.items)) (nodes_of kids.items)) }
+fn kids_with<'a>(
+    alloc: Global,
+    held: Vec<Node<'a>>,
+    kids: Vec<Node<'a>>,
+) -> Result<Vec<Node<'a>>, AllocError>
+    ensures { IfOk result (λ all. nodes_of all.items ≡ joined_kids (Some (nodes_of held.entry.items)) (nodes_of kids.entry.items)) }
 {
     let mut all = Vec::new(alloc);
     let mut others = held;
@@ -84,33 +94,23 @@ fn kids_with(alloc: Global, held: Vec<Node>, kids: Vec<Node>) -> Result<Vec<Node
     Ok(all)
 }
 
-// The end tag of a paragraph with kids: one without white space, where it had none.
-fn ended(alloc: Global, close: Close) -> Result<Close, AllocError>
-    ensures { IfOk result (λ c. c ≡ ended_close close) }
-{
-    match close {
-        Close::Empty => Ok(Close::End(Text::copy_of(alloc, b"")?)),
-        Close::End(space) => Ok(Close::End(space)),
-    }
-}
-
 /// The paragraph with what is held for it: its properties first, then what is held, then its other kids.
-pub(crate) fn joined(alloc: Global, held: Option<Vec<Node>>, elem: Elem) -> Result<Elem, AllocError>
-    ensures tag { IfOk result (λ para. tag_of para ≡ joined_tag (held_of held) (tag_of elem)) }
-    ensures kids { IfOk result (λ para. kids_of para ≡ joined_kids (held_of held) (kids_of elem)) }
+pub(crate) fn joined<'a>(
+    alloc: Global,
+    held: Option<Vec<Node<'a>>>,
+    elem: Elem<'a>,
+) -> Result<Elem<'a>, AllocError>
+    ensures tag { IfOk result (λ para. tag_of para ≡ joined_tag (held_of held.entry) (tag_of elem.entry)) }
+    ensures kids { IfOk result (λ para. kids_of para ≡ joined_kids (held_of held.entry) (kids_of elem.entry)) }
 {
     match held {
         None => Ok(elem),
-        Some(held) => Ok(Elem {
-            prefix: elem.prefix,
-            local: elem.local,
-            space: elem.space,
-            tail: elem.tail,
-            kids: kids_with(alloc, held, elem.kids)?,
-            close: ended(alloc, elem.close)?,
-            kind: elem.kind,
-            rev: elem.rev,
-        }),
+        Some(held) => {
+            let mut elem = elem;
+            let kids = elem.take_kids(alloc);
+            elem.put_kids(kids_with(alloc, held, kids)?);
+            Ok(elem)
+        }
     }
 }
 
@@ -140,15 +140,20 @@ fn is_held(node: &Node) -> bool
 fn is_emptied(elem: &Elem, ends: bool) -> bool
     ensures { result ≡ ends && not (has_element (without (is "pPr") (kids_of elem.now))) }
 {
-    ends && !holds_element(&elem.kids)
+    ends && !holds_element(elem.kids())
 }
 
 /// Adds a paragraph that is joined with no later one. `ends`: it is cut, and another block comes next.
-pub(crate) fn settle(made: &mut Vec<Node>, elem: Elem, ends: bool) -> Result<(), AllocError>
-    ensures { OnOk result (nodes_of made.new.items ≡ nodes_of made.old.items ⊕ settled ends (tag_of elem) (kids_of elem)) }
+pub(crate) fn settle<'a>(
+    alloc: Global,
+    made: &mut Vec<Node<'a>>,
+    elem: Elem<'a>,
+    ends: bool,
+) -> Result<(), AllocError>
+    ensures { OnOk result (nodes_of made.new.items ≡ nodes_of made.old.items ⊕ settled ends (tag_of elem.entry) (kids_of elem.entry)) }
 {
     if is_emptied(&elem, ends) {
-        return add_bare(made, elem.kids);
+        return add_bare(made, elem.into_kids(alloc));
     }
     made.push(Node::Elem(elem))?;
     Ok(())

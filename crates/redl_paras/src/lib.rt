@@ -11,6 +11,3 @@ mod piece;
 
 pub use grouping::group;
 pub use piece::{Next, Piece};
-
-#[cfg(test)]
-mod tests;

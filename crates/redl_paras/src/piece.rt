@@ -11,7 +11,7 @@ pub enum Next {
 
 /// A piece of a chain, already passed: a paragraph, whose mark is cut or not, or a node that counts as no block.
 #[derive(Drop)]
-pub enum Piece {
-    Para { elem: Elem, cut: bool },
-    Thin(Node),
+pub enum Piece<'a> {
+    Para { elem: Elem<'a>, cut: bool },
+    Thin(Node<'a>),
 }

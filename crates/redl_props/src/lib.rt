@@ -10,6 +10,3 @@ mod uncovered;
 
 pub use properties::restore;
 pub use uncovered::without_marks;
-
-#[cfg(test)]
-mod tests;

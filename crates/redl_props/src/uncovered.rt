@@ -12,7 +12,7 @@ use std::alloc::{AllocError, Global};
 ///
 /// All other kids stay, in their order. It takes no memory.
 pub fn without_marks(kids: Vec<Node>) -> Vec<Node>
-    ensures { nodes_of result.items ≡ without (outlasts_tag Prop.Run) (nodes_of kids.items) }
+    ensures { nodes_of result.items ≡ without (outlasts_tag Prop.Run) (nodes_of kids.entry.items) }
 {
     let mut kids = kids;
     kids.retain(|node| !node_outlasts(node, Prop::Run));
@@ -21,7 +21,7 @@ pub fn without_marks(kids: Vec<Node>) -> Vec<Node>
 
 /// The present kids that no change of these properties covers.
 pub(crate) fn retained(current: Vec<Node>, what: Prop) -> Vec<Node>
-    ensures { nodes_of result.items ≡ only (outlasts_tag what) (nodes_of current.items) }
+    ensures { nodes_of result.items ≡ only (outlasts_tag what) (nodes_of current.entry.items) }
 {
     let mut kids = current;
     kids.retain(|node| node_outlasts(node, what));
@@ -29,7 +29,11 @@ pub(crate) fn retained(current: Vec<Node>, what: Prop) -> Vec<Node>
 }
 
 /// A copy of the former kids, without those that no change of these properties covers.
-pub(crate) fn copied(alloc: Global, former: &[Node], what: Prop) -> Result<Vec<Node>, AllocError>
+pub(crate) fn copied<'a>(
+    alloc: Global,
+    former: &[Node<'a>],
+    what: Prop,
+) -> Result<Vec<Node<'a>>, AllocError>
     ensures { IfOk result (λ kids. nodes_of kids.items ≡ without (outlasts_tag what) (nodes_of former.now)) }
 {
     let mut copied = Vec::with_capacity(alloc, former.len())?;

@@ -1,14 +1,13 @@
 -- Worked rows of the pass of a package, and of the number of its nodes.
 use Rattle.std.proofs.Common.{◌≡◌, List, [], ◌∷◌, ℕ, codes, refl}
 use Rattle.redl_tree.specs.Model.Count.{count}
-use Rattle.redl_tree.specs.Model.Nodes.{Nodes, ◌⊕◌}
+use Rattle.redl_tree.specs.Model.Nodes.{Nodes, ◌⊕◌, End}
 use Rattle.redl_tree.specs.Decisions.Packages.{pass_package}
 use Rattle.redl_tree.specs.Model.Text.{text}
 use Rattle.redl_tree.specs.declared.kinds.Kind.TheVariants.{Content}
 use Rattle.redl_tree.specs.declared.kinds.Say.{Say}
 use Rattle.redl_tree.specs.declared.kinds.Say.TheVariants.{Keep, Accept, Reject}
 use Rattle.redl_tree.specs.declared.kinds.Trace.TheVariants.{Ins, Del}
-use Rattle.redl_tree.specs.declared.node.Close.TheVariants.{End}
 use Rattle.redl_tree.proofs.Build.{opened, member, content, run, deleted_run, packaged, part_of, package_of}
 
 -- the text of a package of one document after the pass

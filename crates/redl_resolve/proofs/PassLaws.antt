@@ -234,3 +234,9 @@ passed_each-pass says around (element tag kids rest) stay =
     (sym (leave_of (fate_of says tag) (is_content tag.kind) passed (if goes_at says around tag kids then no_nodes else stays) left.0
     ∙ if_false (goes_at says around tag kids) no_nodes stays goes))
     ∙ sym (pass-apart says around tag kids rest (not_true cut apart.1))
+
+-- what has no more nodes than none has none
+pub none-left : (given made : Nodes) → given ≡ no_nodes → count made ≤ count given → made ≡ no_nodes
+none-left given no_nodes none few = refl
+none-left given (bytes b rest) none few = absurd (omega (arith, few, ap count none))
+none-left given (element tag kids rest) none few = absurd (omega (arith, few, ap count none))

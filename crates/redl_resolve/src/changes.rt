@@ -18,19 +18,19 @@ use std::sync::ledger::Ledger;
 
 /// A change of properties that is rejected.
 #[derive(Drop)]
-pub(crate) struct Former {
+pub(crate) struct Former<'a> {
     /// Which properties were changed.
     pub prop: Prop,
     /// What they held before.
-    pub kids: Vec<Node>,
+    pub kids: Vec<Node<'a>>,
 }
 
 /// The first rejected change among some kids, copied before the kids are passed.
-pub(crate) fn rejected(
+pub(crate) fn rejected<'a>(
     alloc: Global,
-    kids: &[Node],
+    kids: &[Node<'a>],
     says: &[Say],
-) -> Result<Option<Former>, AllocError>
+) -> Result<Option<Former<'a>>, AllocError>
     ensures { IfOk result (λ found. former_of found ≡ rejected_by says.now (nodes_of kids.now)) }
 {
     for kid in kids {
@@ -41,7 +41,11 @@ pub(crate) fn rejected(
     Ok(None)
 }
 
-fn rejected_node(alloc: Global, node: &Node, says: &[Say]) -> Result<Option<Former>, AllocError>
+fn rejected_node<'a>(
+    alloc: Global,
+    node: &Node<'a>,
+    says: &[Say],
+) -> Result<Option<Former<'a>>, AllocError>
     ensures { IfOk result (λ found. former_of found ≡ item_rejected says.now (item_of node.now)) }
 {
     match node {
@@ -50,23 +54,31 @@ fn rejected_node(alloc: Global, node: &Node, says: &[Say]) -> Result<Option<Form
     }
 }
 
-fn rejected_elem(alloc: Global, elem: &Elem, says: &[Say]) -> Result<Option<Former>, AllocError>
+fn rejected_elem<'a>(
+    alloc: Global,
+    elem: &Elem<'a>,
+    says: &[Say],
+) -> Result<Option<Former<'a>>, AllocError>
     ensures { IfOk result (λ found. former_of found ≡ elem_rejected says.now (tag_of elem.now) (kids_of elem.now)) }
 {
     if fate_of(says, elem) != Fate::Restore {
         return Ok(None);
     }
-    match elem.kind {
+    match elem.kind() {
         Kind::Change(prop) => Ok(Some(Former {
             prop,
-            kids: copy_former(alloc, &elem.kids, prop)?,
+            kids: copy_former(alloc, elem.kids(), prop)?,
         })),
         _ => Ok(None),
     }
 }
 
 // Copies of what the former properties among the kids of a change hold.
-fn copy_former(alloc: Global, kids: &[Node], prop: Prop) -> Result<Vec<Node>, AllocError>
+fn copy_former<'a>(
+    alloc: Global,
+    kids: &[Node<'a>],
+    prop: Prop,
+) -> Result<Vec<Node<'a>>, AllocError>
     ensures { IfOk result (λ copies. nodes_of copies.items ≡ former_kids (props_name prop) (nodes_of kids.now)) }
 {
     for kid in kids {
@@ -77,13 +89,17 @@ fn copy_former(alloc: Global, kids: &[Node], prop: Prop) -> Result<Vec<Node>, Al
     Ok(Vec::new(alloc))
 }
 
-fn copy_if_former(alloc: Global, node: &Node, prop: Prop) -> Result<Option<Vec<Node>>, AllocError>
+fn copy_if_former<'a>(
+    alloc: Global,
+    node: &Node<'a>,
+    prop: Prop,
+) -> Result<Option<Vec<Node<'a>>>, AllocError>
     ensures { IfOk result (λ copies. copies_of copies ≡ item_former (props_name prop) (item_of node.now)) }
 {
     match node {
         Node::Elem(elem) => {
             if is_former(elem, prop) {
-                return Ok(Some(copy_nodes(alloc, &elem.kids)?));
+                return Ok(Some(copy_nodes(alloc, elem.kids())?));
             }
             Ok(None)
         }
@@ -108,16 +124,16 @@ fn is_former(elem: &Elem, prop: Prop) -> bool
 
 /// The passed kids of an element, with the properties of a rejected change given back. A step is counted for each node
 /// that is given back.
-pub(crate) fn after_change<L: Ledger>(
+pub(crate) fn after_change<'a, L: Ledger>(
     alloc: Global,
-    former: Option<Former>,
+    former: Option<Former<'a>>,
     elem: &Elem,
-    passed: Vec<Node>,
+    passed: Vec<Node<'a>>,
     round: Round,
     steps: &mut Steps<L>,
-) -> Result<Vec<Node>, AllocError>
-    ensures kids { IfOk result (λ kids. nodes_of kids.items ≡ after_in round (tag_of elem.now) (former_of former) (nodes_of passed.items)) }
-    ensures steps { steps.new ≡ steps.old + former_count (former_of former) }
+) -> Result<Vec<Node<'a>>, AllocError>
+    ensures kids { IfOk result (λ kids. nodes_of kids.items ≡ after_in round (tag_of elem.now) (former_of former.entry) (nodes_of passed.entry.items)) }
+    ensures steps { steps.new ≡ steps.old + former_count (former_of former.entry) }
 {
     match former {
         Some(former) => {
@@ -134,8 +150,8 @@ pub(crate) fn after_change<L: Ledger>(
 }
 
 // What a change may leave of the passed kids: of all `rPr` only that of a paragraph's mark has revisions to keep.
-fn present(elem: &Elem, kids: Vec<Node>, round: Round) -> Vec<Node>
-    ensures { nodes_of result.items ≡ present_in round (tag_of elem.now) (nodes_of kids.items) }
+fn present<'a>(elem: &Elem, kids: Vec<Node<'a>>, round: Round) -> Vec<Node<'a>>
+    ensures { nodes_of result.items ≡ present_in round (tag_of elem.now) (nodes_of kids.entry.items) }
 {
     if is_named(elem, b"rPr") && !round.para_props {
         return without_marks(kids);

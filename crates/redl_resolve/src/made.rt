@@ -15,18 +15,18 @@ use std::mem;
 
 /// What is made of a list so far.
 #[derive(Drop)]
-pub(crate) struct Made {
+pub(crate) struct Made<'a> {
     /// The nodes that are final.
-    pub passed: Vec<Node>,
+    pub passed: Vec<Node<'a>>,
     /// What follows them, from a cut paragraph on, which the next paragraph may be joined to. Mostly it is empty.
-    pub chain: Vec<Piece>,
+    pub chain: Vec<Piece<'a>>,
 }
 
-impl Made {
+impl<'a> Made<'a> {
     /// The start of a list that is added to these nodes.
-    pub fn onto(alloc: Global, passed: Vec<Node>) -> Made
-        ensures whole { (rest : List GroupPiece) → whole result rest ≡ nodes_of passed.items ⊕ grouped false rest }
-        ensures weight { weight result ≡ count (nodes_of passed.items) }
+    pub fn onto(alloc: Global, passed: Vec<Node<'a>>) -> Made<'a>
+        ensures whole { (rest : List GroupPiece) → whole result rest ≡ nodes_of passed.entry.items ⊕ grouped false rest }
+        ensures weight { weight result ≡ count (nodes_of passed.entry.items) }
     {
         Made {
             passed,
@@ -35,9 +35,9 @@ impl Made {
     }
 
     /// Adds a thin node.
-    pub fn give(&mut self, node: Node) -> Result<(), AllocError>
-        ensures whole { OnOk result (AddsPiece self.old self.new (thin (nodes_of (node ∷ [])))) }
-        ensures weight { OnOk result (weight self.new ≡ weight self.old + item_count (item_of node)) }
+    pub fn give(&mut self, node: Node<'a>) -> Result<(), AllocError>
+        ensures whole { OnOk result (AddsPiece self.old self.new (thin (nodes_of (node.entry ∷ [])))) }
+        ensures weight { OnOk result (weight self.new ≡ weight self.old + item_count (item_of node.entry)) }
     {
         if self.has_no_chain() {
             self.passed.push(node)?;
@@ -48,9 +48,9 @@ impl Made {
     }
 
     /// Adds an element as a thin node, unless it is gone.
-    pub fn give_unless(&mut self, elem: Elem, gone: bool) -> Result<(), AllocError>
-        ensures whole { OnOk result (AddsPiece self.old self.new (thin (if gone then no_nodes else element (tag_of elem) (kids_of elem) no_nodes))) }
-        ensures weight { OnOk result (weight self.new ≤ weight self.old + (1 + count (kids_of elem))) }
+    pub fn give_unless(&mut self, elem: Elem<'a>, gone: bool) -> Result<(), AllocError>
+        ensures whole { OnOk result (AddsPiece self.old self.new (thin (if gone then no_nodes else element (tag_of elem.entry) (kids_of elem.entry) no_nodes))) }
+        ensures weight { OnOk result (weight self.new ≤ weight self.old + (1 + count (kids_of elem.entry))) }
     {
         if gone {
             return Ok(());
@@ -68,9 +68,9 @@ impl Made {
     }
 
     /// Adds several nodes in the place of a thin one.
-    pub fn give_all(&mut self, nodes: Vec<Node>) -> Result<(), AllocError>
-        ensures whole { OnOk result (AddsPiece self.old self.new (thin (nodes_of nodes.items))) }
-        ensures weight { OnOk result (weight self.new ≡ weight self.old + count (nodes_of nodes.items)) }
+    pub fn give_all(&mut self, nodes: Vec<Node<'a>>) -> Result<(), AllocError>
+        ensures whole { OnOk result (AddsPiece self.old self.new (thin (nodes_of nodes.entry.items))) }
+        ensures weight { OnOk result (weight self.new ≡ weight self.old + count (nodes_of nodes.entry.items)) }
     {
         for node in nodes {
             self.give(node)?;
@@ -79,9 +79,9 @@ impl Made {
     }
 
     /// Adds a paragraph of a block list.
-    pub fn give_para(&mut self, alloc: Global, elem: Elem, cut: bool) -> Result<(), AllocError>
-        ensures whole { OnOk result (AddsPiece self.old self.new (para (tag_of elem) cut (kids_of elem))) }
-        ensures weight { OnOk result (weight self.new ≤ weight self.old + (1 + count (kids_of elem))) }
+    pub fn give_para(&mut self, alloc: Global, elem: Elem<'a>, cut: bool) -> Result<(), AllocError>
+        ensures whole { OnOk result (AddsPiece self.old self.new (para (tag_of elem.entry) cut (kids_of elem.entry))) }
+        ensures weight { OnOk result (weight self.new ≤ weight self.old + (1 + count (kids_of elem.entry))) }
     {
         if cut {
             self.chain.push(Piece::Para { elem, cut })?;
@@ -106,9 +106,9 @@ impl Made {
     }
 
     /// The whole list.
-    pub fn close(self, alloc: Global) -> Result<Vec<Node>, AllocError>
-        ensures whole { IfOk result (λ nodes. nodes_of nodes.items ≡ whole self []) }
-        ensures weight { IfOk result (λ nodes. count (nodes_of nodes.items) ≤ weight self) }
+    pub fn close(self, alloc: Global) -> Result<Vec<Node<'a>>, AllocError>
+        ensures whole { IfOk result (λ nodes. nodes_of nodes.items ≡ whole self.entry []) }
+        ensures weight { IfOk result (λ nodes. count (nodes_of nodes.items) ≤ weight self.entry) }
     {
         let mut made = self;
         made.flush(alloc, Next::End)?;

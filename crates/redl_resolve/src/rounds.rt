@@ -75,13 +75,13 @@ fn is_quiet_inside(round: Round, elem: &Elem) -> bool
 fn is_freed_inside(round: Round, elem: &Elem, fate: Fate) -> bool
     ensures { (says : List Say) → fate ≡ fate_by says (tag_of elem.now) → result ≡ (frees says (tag_of elem.now) || round.freed) }
 {
-    (is_old_content(elem.kind) && fate == Fate::Free) || round.freed
+    (is_old_content(elem.kind()) && fate == Fate::Free) || round.freed
 }
 
 fn is_left_inside(round: Round, elem: &Elem, fate: Fate) -> bool
     ensures { (says : List Say) → fate ≡ fate_by says (tag_of elem.now) → result ≡ (leaves says (tag_of elem.now) || round.left) }
 {
-    (is_old_content(elem.kind) && fate == Fate::Leave) || round.left
+    (is_old_content(elem.kind()) && fate == Fate::Leave) || round.left
 }
 
 fn is_para_inside(round: Round, elem: &Elem) -> bool

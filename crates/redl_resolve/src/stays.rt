@@ -40,5 +40,5 @@ fn elem_stays(elem: &Elem, says: &[Say], round: Round) -> bool
 {
     fate_of(says, elem) == Fate::Leave
         && !may_go(elem, round)
-        && !(is_block_para(elem, says, round) && para_is_cut(&elem.kids, says))
+        && !(is_block_para(elem, says, round) && para_is_cut(elem.kids(), says))
 }

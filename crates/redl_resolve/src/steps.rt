@@ -60,7 +60,7 @@ impl<L: Ledger> Steps<L> {
     {
         self.tick();
         match node {
-            Node::Elem(elem) => self.tick_each(&elem.kids),
+            Node::Elem(elem) => self.tick_each(elem.kids()),
             Node::Bytes(_) => {}
         }
     }

@@ -33,17 +33,17 @@ use std::sync::ledger::Ledger;
 /// The pass of the kids of an element, given a summary of their ancestors. What the nearest table or row asks of the kids
 /// is answered in the same walk.
 #[cycle(pass)]
-pub(crate) fn pass_kids<L: Ledger>(
+pub(crate) fn pass_kids<'a, L: Ledger>(
     alloc: Global,
-    kids: Vec<Node>,
+    kids: Vec<Node<'a>>,
     says: &[Say],
     round: Round,
     steps: &mut Steps<L>,
-) -> Result<(Vec<Node>, Finding), AllocError>
+) -> Result<(Vec<Node<'a>>, Finding), AllocError>
     ensures passed { IfOk result (λ r. (around : List Tag) → round ≡ round_of says.now around
-        → nodes_of r.0.items ≡ pass says.now around (nodes_of kids.items)) }
-    ensures answer { IfOk result (λ r. r.1 ≡ answer says.now round.asked (nodes_of kids.items)) }
-    ensures entered { steps.new + skipped says.now (nodes_of kids.items) ≤ steps.old + count (nodes_of kids.items) }
+        → nodes_of r.0.items ≡ pass says.now around (nodes_of kids.entry.items)) }
+    ensures answer { IfOk result (λ r. r.1 ≡ answer says.now round.asked (nodes_of kids.entry.items)) }
+    ensures entered { steps.new + skipped says.now (nodes_of kids.entry.items) ≤ steps.old + count (nodes_of kids.entry.items) }
     ensures made { IfOk result (λ r. steps.old + count (nodes_of r.0.items) ≤ steps.new) }
 {
     let mut kids = kids;
@@ -119,12 +119,13 @@ fn pass_left<L: Ledger>(
     ensures entered { steps.new ≤ steps.old + count (kids_of elem.old) }
     ensures made { IfOk result (λ _. steps.old + count (kids_of elem.new) ≤ steps.new) }
 {
-    let former = rejected(alloc, &elem.kids, says)?;
+    let former = rejected(alloc, elem.kids(), says)?;
     let inner = inside(round, elem, fate_of(says, elem));
-    let kids = mem::replace(&mut elem.kids, Vec::new(alloc));
+    let kids = elem.take_kids(alloc);
     let (passed, below) = pass_kids(alloc, kids, says, inner, steps)?;
-    elem.kids = after_change(alloc, former, elem, passed, round, steps)?;
-    rename(alloc, elem, round)?;
+    let kept = after_change(alloc, former, elem, passed, round, steps)?;
+    elem.return_kids(kept);
+    rename(elem, round);
     Ok(below)
 }
 
@@ -156,18 +157,18 @@ fn pass_answering<L: Ledger>(
 
 // Adds the pass of the nodes to a list that was made before them.
 #[cycle(pass)]
-fn pass_onto<L: Ledger>(
+fn pass_onto<'a, L: Ledger>(
     alloc: Global,
-    nodes: Vec<Node>,
+    nodes: Vec<Node<'a>>,
     says: &[Say],
     round: Round,
-    passed: &mut Vec<Node>,
+    passed: &mut Vec<Node<'a>>,
     steps: &mut Steps<L>,
 ) -> Result<Finding, AllocError>
     ensures passed { IfOk result (λ _. (around : List Tag) → round ≡ round_of says.now around
-        → nodes_of passed.new.items ≡ nodes_of passed.old.items ⊕ pass says.now around (nodes_of nodes.items)) }
-    ensures answer { IfOk result (λ found. found ≡ answer says.now round.asked (nodes_of nodes.items)) }
-    ensures entered { steps.new + skipped says.now (nodes_of nodes.items) ≤ steps.old + count (nodes_of nodes.items) }
+        → nodes_of passed.new.items ≡ nodes_of passed.old.items ⊕ pass says.now around (nodes_of nodes.entry.items)) }
+    ensures answer { IfOk result (λ found. found ≡ answer says.now round.asked (nodes_of nodes.entry.items)) }
+    ensures entered { steps.new + skipped says.now (nodes_of nodes.entry.items) ≤ steps.old + count (nodes_of nodes.entry.items) }
     ensures made { IfOk result (λ _. steps.old + count (nodes_of passed.new.items) ≤ steps.new + count (nodes_of passed.old.items)) }
 {
     let mut made = Made::onto(alloc, mem::replace(passed, Vec::new(alloc)));
@@ -181,17 +182,17 @@ fn pass_onto<L: Ledger>(
 }
 
 #[cycle(pass)]
-fn pass_node<L: Ledger>(
+fn pass_node<'a, L: Ledger>(
     alloc: Global,
-    node: Node,
+    node: Node<'a>,
     says: &[Say],
     round: Round,
-    made: &mut Made,
+    made: &mut Made<'a>,
     steps: &mut Steps<L>,
 ) -> Result<Finding, AllocError>
-    ensures passed { IfOk result (λ _. Adds says.now round made.old made.new (λ around. item_piece says.now around (item_of node))) }
-    ensures answer { IfOk result (λ found. found ≡ item_answer says.now round.asked (item_of node)) }
-    ensures entered { steps.new + item_skipped says.now (item_of node) ≤ steps.old + item_count (item_of node) }
+    ensures passed { IfOk result (λ _. Adds says.now round made.old made.new (λ around. item_piece says.now around (item_of node.entry))) }
+    ensures answer { IfOk result (λ found. found ≡ item_answer says.now round.asked (item_of node.entry)) }
+    ensures entered { steps.new + item_skipped says.now (item_of node.entry) ≤ steps.old + item_count (item_of node.entry) }
     ensures made { IfOk result (λ _. steps.old + weight made.new ≤ steps.new + weight made.old) }
 {
     steps.tick();
@@ -206,17 +207,17 @@ fn pass_node<L: Ledger>(
 
 // The step of the element itself was counted by the caller.
 #[cycle(pass)]
-fn pass_elem<L: Ledger>(
+fn pass_elem<'a, L: Ledger>(
     alloc: Global,
-    elem: Elem,
+    elem: Elem<'a>,
     says: &[Say],
     round: Round,
-    made: &mut Made,
+    made: &mut Made<'a>,
     steps: &mut Steps<L>,
 ) -> Result<Finding, AllocError>
-    ensures passed { IfOk result (λ _. Adds says.now round made.old made.new (λ around. elem_piece says.now around (tag_of elem) (kids_of elem))) }
-    ensures answer { IfOk result (λ found. found ≡ elem_answer says.now round.asked (tag_of elem) (kids_of elem)) }
-    ensures entered { steps.new + item_skipped says.now (element_item (tag_of elem) (kids_of elem)) ≤ steps.old + count (kids_of elem) }
+    ensures passed { IfOk result (λ _. Adds says.now round made.old made.new (λ around. elem_piece says.now around (tag_of elem.entry) (kids_of elem.entry))) }
+    ensures answer { IfOk result (λ found. found ≡ elem_answer says.now round.asked (tag_of elem.entry) (kids_of elem.entry)) }
+    ensures entered { steps.new + item_skipped says.now (element_item (tag_of elem.entry) (kids_of elem.entry)) ≤ steps.old + count (kids_of elem.entry) }
     ensures made { IfOk result (λ _. steps.old + weight made.new ≤ steps.new + 1 + weight made.old) }
 {
     if is_block_para(&elem, says, round) {
@@ -229,20 +230,20 @@ fn pass_elem<L: Ledger>(
 }
 
 #[cycle(pass)]
-fn pass_para<L: Ledger>(
+fn pass_para<'a, L: Ledger>(
     alloc: Global,
-    elem: Elem,
+    elem: Elem<'a>,
     says: &[Say],
     round: Round,
-    made: &mut Made,
+    made: &mut Made<'a>,
     steps: &mut Steps<L>,
 ) -> Result<Finding, AllocError>
-    ensures passed { IfOk result (λ _. Adds says.now round made.old made.new (λ around. para_piece says.now around (tag_of elem) (kids_of elem))) }
-    ensures answer { IfOk result (λ found. found ≡ elem_answer says.now round.asked (tag_of elem) (kids_of elem)) }
-    ensures entered { steps.new ≤ steps.old + count (kids_of elem) }
+    ensures passed { IfOk result (λ _. Adds says.now round made.old made.new (λ around. para_piece says.now around (tag_of elem.entry) (kids_of elem.entry))) }
+    ensures answer { IfOk result (λ found. found ≡ elem_answer says.now round.asked (tag_of elem.entry) (kids_of elem.entry)) }
+    ensures entered { steps.new ≤ steps.old + count (kids_of elem.entry) }
     ensures made { IfOk result (λ _. steps.old + weight made.new ≤ steps.new + 1 + weight made.old) }
 {
-    let cut = para_is_cut(&elem.kids, says);
+    let cut = para_is_cut(elem.kids(), says);
     let mut elem = elem;
     let answer = pass_answering(alloc, &mut elem, says, round, steps)?;
     made.give_para(alloc, elem, cut)?;
@@ -251,17 +252,17 @@ fn pass_para<L: Ledger>(
 
 // An element that isn't a paragraph of a chain. What goes takes all that it holds with it, and no further step is counted.
 #[cycle(pass)]
-fn pass_other<L: Ledger>(
+fn pass_other<'a, L: Ledger>(
     alloc: Global,
-    elem: Elem,
+    elem: Elem<'a>,
     says: &[Say],
     round: Round,
-    made: &mut Made,
+    made: &mut Made<'a>,
     steps: &mut Steps<L>,
 ) -> Result<Finding, AllocError>
-    ensures passed { IfOk result (λ _. Adds says.now round made.old made.new (λ around. other_piece says.now around (tag_of elem) (kids_of elem))) }
-    ensures answer { IfOk result (λ found. found ≡ elem_answer says.now round.asked (tag_of elem) (kids_of elem)) }
-    ensures entered { steps.new + item_skipped says.now (element_item (tag_of elem) (kids_of elem)) ≤ steps.old + count (kids_of elem) }
+    ensures passed { IfOk result (λ _. Adds says.now round made.old made.new (λ around. other_piece says.now around (tag_of elem.entry) (kids_of elem.entry))) }
+    ensures answer { IfOk result (λ found. found ≡ elem_answer says.now round.asked (tag_of elem.entry) (kids_of elem.entry)) }
+    ensures entered { steps.new + item_skipped says.now (element_item (tag_of elem.entry) (kids_of elem.entry)) ≤ steps.old + count (kids_of elem.entry) }
     ensures made { IfOk result (λ _. steps.old + weight made.new ≤ steps.new + 1 + weight made.old) }
 {
     let fate = fate_of(says, &elem);
@@ -269,9 +270,9 @@ fn pass_other<L: Ledger>(
         Fate::Leave => pass_staying(alloc, elem, says, round, made, steps),
         Fate::Free => {
             let answer = round.asked.answer_of(&elem, says);
-            if elem.kind.is_content() {
+            if elem.kind().is_content() {
                 let inner = inside(round, &elem, fate);
-                pass_freed(alloc, elem.kids, says, inner, made, steps)?;
+                pass_freed(alloc, elem.into_kids(alloc), says, inner, made, steps)?;
                 return Ok(answer);
             }
             Ok(answer)
@@ -282,17 +283,17 @@ fn pass_other<L: Ledger>(
 
 // An element that is left. Whether a table or a shell goes is known once its kids are passed, so no row is looked at twice.
 #[cycle(pass)]
-fn pass_staying<L: Ledger>(
+fn pass_staying<'a, L: Ledger>(
     alloc: Global,
-    elem: Elem,
+    elem: Elem<'a>,
     says: &[Say],
     round: Round,
-    made: &mut Made,
+    made: &mut Made<'a>,
     steps: &mut Steps<L>,
 ) -> Result<Finding, AllocError>
-    ensures passed { IfOk result (λ _. Adds says.now round made.old made.new (λ around. left_piece says.now around (tag_of elem) (kids_of elem))) }
-    ensures answer { IfOk result (λ found. found ≡ elem_answer says.now round.asked (tag_of elem) (kids_of elem)) }
-    ensures entered { steps.new ≤ steps.old + count (kids_of elem) }
+    ensures passed { IfOk result (λ _. Adds says.now round made.old made.new (λ around. left_piece says.now around (tag_of elem.entry) (kids_of elem.entry))) }
+    ensures answer { IfOk result (λ found. found ≡ elem_answer says.now round.asked (tag_of elem.entry) (kids_of elem.entry)) }
+    ensures entered { steps.new ≤ steps.old + count (kids_of elem.entry) }
     ensures made { IfOk result (λ _. steps.old + weight made.new ≤ steps.new + 1 + weight made.old) }
 {
     if !is_wide(&elem, round) {
@@ -307,17 +308,17 @@ fn pass_staying<L: Ledger>(
 
 // An element that is left and is neither a table nor a shell, so that its own kids show whether it goes.
 #[cycle(pass)]
-fn pass_narrow<L: Ledger>(
+fn pass_narrow<'a, L: Ledger>(
     alloc: Global,
-    elem: Elem,
+    elem: Elem<'a>,
     says: &[Say],
     round: Round,
-    made: &mut Made,
+    made: &mut Made<'a>,
     steps: &mut Steps<L>,
 ) -> Result<Finding, AllocError>
-    ensures passed { IfOk result (λ _. Adds says.now round made.old made.new (λ around. left_piece says.now around (tag_of elem) (kids_of elem))) }
-    ensures answer { IfOk result (λ found. found ≡ elem_answer says.now round.asked (tag_of elem) (kids_of elem)) }
-    ensures entered { steps.new ≤ steps.old + count (kids_of elem) }
+    ensures passed { IfOk result (λ _. Adds says.now round made.old made.new (λ around. left_piece says.now around (tag_of elem.entry) (kids_of elem.entry))) }
+    ensures answer { IfOk result (λ found. found ≡ elem_answer says.now round.asked (tag_of elem.entry) (kids_of elem.entry)) }
+    ensures entered { steps.new ≤ steps.old + count (kids_of elem.entry) }
     ensures made { IfOk result (λ _. steps.old + weight made.new ≤ steps.new + 1 + weight made.old) }
 {
     if goes_at(&elem, says, round) {
@@ -331,16 +332,16 @@ fn pass_narrow<L: Ledger>(
 
 // Adds the pass of the kids of content that is freed. Where no chain is open they go straight to the end of the list.
 #[cycle(pass)]
-fn pass_freed<L: Ledger>(
+fn pass_freed<'a, L: Ledger>(
     alloc: Global,
-    kids: Vec<Node>,
+    kids: Vec<Node<'a>>,
     says: &[Say],
     round: Round,
-    made: &mut Made,
+    made: &mut Made<'a>,
     steps: &mut Steps<L>,
 ) -> Result<(), AllocError>
-    ensures passed { OnOk result (Adds says.now round made.old made.new (λ around. thin (pass says.now around (nodes_of kids.items)))) }
-    ensures entered { steps.new ≤ steps.old + count (nodes_of kids.items) }
+    ensures passed { OnOk result (Adds says.now round made.old made.new (λ around. thin (pass says.now around (nodes_of kids.entry.items)))) }
+    ensures entered { steps.new ≤ steps.old + count (nodes_of kids.entry.items) }
     ensures made { OnOk result (steps.old + weight made.new ≤ steps.new + weight made.old) }
 {
     if made.has_no_chain() {

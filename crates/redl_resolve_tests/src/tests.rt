@@ -2,9 +2,9 @@
 //! through the pass. The wanted texts follow from ECMA-376 Part 1, 17.13.5.
 ghost use Rattle.std.specs.Prelude.{◌≡◌, ◌<◌};
 
-use redl_io::{MemSink, Text};
+use redl_io::MemSink;
 use redl_resolve::{Steps, into_passed, pass};
-use redl_tree::{Close, Elem, Kind, Node, Prop, Say, Space, Trace, write_nodes};
+use redl_tree::{Elem, Kind, Node, Prop, Say, Space, Tag, Trace, write_nodes};
 use std::alloc::{AllocError, Global};
 use std::marker::Brand;
 use std::sync::ledger::{Blank, Ledger};
@@ -36,38 +36,49 @@ fn space_of(word: &str) -> Space {
     }
 }
 
-// The element that a word of a path means. Each member belongs to revision 1.
-fn element(alloc: Global, word: &str, kids: Vec<Node>) -> Result<Node, AllocError> {
-    Ok(Node::Elem(Elem {
-        prefix: Text::copy_of(alloc, b"")?,
-        local: Text::copy_of(alloc, name_of(word).as_bytes())?,
-        space: space_of(word),
-        tail: Text::copy_of(alloc, b"")?,
-        kids,
-        close: Close::End(Text::copy_of(alloc, b"")?),
-        kind: kind_of(word),
-        rev: 1,
-    }))
+fn tag_of(word: &str) -> Option<Tag<'_>> {
+    let name = name_of(word);
+    let end = u32::try_from(name.len()).ok()?;
+    Some(Tag::new(name.as_bytes(), 0, end, space_of(word)))
+}
+
+// One node: the element that a word of a path means, with these kids. Each member belongs to revision 1.
+fn element<'a>(
+    alloc: Global,
+    word: &'a str,
+    kids: Vec<Node<'a>>,
+) -> Result<Vec<Node<'a>>, AllocError> {
+    let mut nodes = Vec::with_capacity(alloc, 1)?;
+    if let Some(tag) = tag_of(word) {
+        let mut elem = Elem::with_kids(tag, kids);
+        elem.set_label(kind_of(word), 1);
+        nodes.push(Node::Elem(elem))?;
+    }
+    Ok(nodes)
 }
 
 // One node: elements in one another, the outermost first, with these kids in the innermost.
-fn nested(alloc: Global, path: &str, kids: Vec<Node>) -> Result<Vec<Node>, AllocError> {
+fn nested<'a>(
+    alloc: Global,
+    path: &'a str,
+    kids: Vec<Node<'a>>,
+) -> Result<Vec<Node<'a>>, AllocError> {
     let mut nodes = kids;
     for word in path.rsplit(' ') {
-        let node = element(alloc, word, nodes)?;
-        nodes = vec![in alloc; node]?;
+        nodes = element(alloc, word, nodes)?;
     }
     Ok(nodes)
 }
 
 // One node, with these words in its innermost element.
-fn block(alloc: Global, path: &str, words: &str) -> Result<Vec<Node>, AllocError> {
-    let words = Node::Bytes(Text::copy_of(alloc, words.as_bytes())?);
-    nested(alloc, path, vec![in alloc; words]?)
+fn block<'a>(alloc: Global, path: &'a str, words: &'a str) -> Result<Vec<Node<'a>>, AllocError> {
+    let mut kids = Vec::with_capacity(alloc, 1)?;
+    kids.push(Node::Bytes(words.as_bytes()))?;
+    nested(alloc, path, kids)
 }
 
 // A package with content that was inserted and deleted, changed properties, and a deleted paragraph mark and row.
-fn package(alloc: Global) -> Result<Vec<Node>, AllocError> {
+fn package(alloc: Global) -> Result<Vec<Node<'static>>, AllocError> {
     let mut body = Vec::new(alloc);
     for (path, words) in [
         ("p ins t", "a"),
@@ -83,12 +94,12 @@ fn package(alloc: Global) -> Result<Vec<Node>, AllocError> {
     nested(alloc, "package part xmlData document body", body)
 }
 
-fn into_passed_counted<L: Ledger>(
+fn into_passed_counted<'a, L: Ledger>(
     alloc: Global,
-    nodes: Vec<Node>,
+    nodes: Vec<Node<'a>>,
     says: &[Say],
     blank: Blank,
-) -> Result<Vec<Node>, AllocError>
+) -> Result<Vec<Node<'a>>, AllocError>
     requires name { blank.name ≡ L.name }
     requires parts { blank.parts ≡ L.parts }
     requires some { 0 < L.parts }
@@ -96,12 +107,12 @@ fn into_passed_counted<L: Ledger>(
     into_passed(alloc, nodes, says, &mut Steps::<L>::new(blank))
 }
 
-fn pass_counted<L: Ledger>(
+fn pass_counted<'a, L: Ledger>(
     alloc: Global,
-    nodes: &[Node],
+    nodes: &[Node<'a>],
     says: &[Say],
     blank: Blank,
-) -> Result<Vec<Node>, AllocError>
+) -> Result<Vec<Node<'a>>, AllocError>
     requires name { blank.name ≡ L.name }
     requires parts { blank.parts ≡ L.parts }
     requires some { 0 < L.parts }
@@ -110,16 +121,24 @@ fn pass_counted<L: Ledger>(
 }
 
 // The passes with a counter that nobody reads.
-fn passed(alloc: Global, nodes: Vec<Node>, says: &[Say]) -> Result<Vec<Node>, AllocError> {
+fn passed<'a>(
+    alloc: Global,
+    nodes: Vec<Node<'a>>,
+    says: &[Say],
+) -> Result<Vec<Node<'a>>, AllocError> {
     into_passed_counted::<Brand>(alloc, nodes, says, Blank::new(1))
 }
 
-fn passed_copy(alloc: Global, nodes: &[Node], says: &[Say]) -> Result<Vec<Node>, AllocError> {
+fn passed_copy<'a>(
+    alloc: Global,
+    nodes: &[Node<'a>],
+    says: &[Say],
+) -> Result<Vec<Node<'a>>, AllocError> {
     pass_counted::<Brand>(alloc, nodes, says, Blank::new(1))
 }
 
 // The package under one say, passed itself or as a copy.
-fn resolved(alloc: Global, say: Say, is_copied: bool) -> Result<Vec<Node>, AllocError> {
+fn resolved(alloc: Global, say: Say, is_copied: bool) -> Result<Vec<Node<'static>>, AllocError> {
     let nodes = package(alloc)?;
     if is_copied {
         return passed_copy(alloc, &nodes, &[say]);

@@ -4,6 +4,7 @@ ghost use Rattle.std.specs.Prelude.{IfOk, All, IsUtf8};
 
 use redl_app::{Status, add_word, run};
 use redl_io::{MemShelf, MemSink, Text};
+use redl_listing::{JsonFormat, TabFormat, TextFormat, add_format};
 use std::alloc::{AllocError, Global};
 
 /// What a call came to: its status, what was written, and the lines on standard error.
@@ -23,12 +24,29 @@ pub fn call(alloc: Global, line: &str, files: Vec<(Text, Vec<u8>)>) -> Result<An
     let mut written = MemSink::new(alloc, ROOM, Vec::new(alloc))?;
     let mut lines = MemSink::new(alloc, ROOM, Vec::new(alloc))?;
     let mut shelf = MemShelf::new(files, Vec::new(alloc));
-    let status = run(alloc, &words, &mut shelf, &mut written, &mut lines);
+    let status = run_words(alloc, &words, &mut shelf, &mut written, &mut lines)?;
     Ok(Answer {
         status,
         written,
         lines,
     })
+}
+
+// Makes the program's formats, and does the call.
+fn run_words(
+    alloc: Global,
+    words: &[Text],
+    shelf: &mut MemShelf,
+    written: &mut MemSink,
+    lines: &mut MemSink,
+) -> Result<Status, AllocError>
+    requires { All IsUtf8 words.now }
+{
+    let mut formats = Vec::new(alloc);
+    add_format(&mut formats, Box::new(alloc, TextFormat::new(alloc)?)?)?;
+    add_format(&mut formats, Box::new(alloc, TabFormat::new(alloc)?)?)?;
+    add_format(&mut formats, Box::new(alloc, JsonFormat::new(alloc)?)?)?;
+    Ok(run(alloc, words, shelf, written, lines, &mut formats))
 }
 
 // The words of a line, with spaces between them. What stands between two quotes is one word.

@@ -13,6 +13,7 @@
 //! - `again: check P`: the words of a second call, for which what the first one wrote is the package
 //!
 //! Names in braces stand for longer texts, which `names.rt` lists: `{A}` for the attributes of a revision of Ann's.
+//! What is printed also has `{digest}`, for the SHA-256 of the package.
 //! What is printed of a row is its title, the status, what was written, and the lines on standard error, with the same
 //! names, and only the body where all else is that of a document with one part. The wanted output, in `stdout`, is
 //! written by hand from docs/DEFINITIONS.md and the standard, and never taken from what the program printed.

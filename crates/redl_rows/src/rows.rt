@@ -33,12 +33,13 @@ fn print_calls(
     printed: &mut String,
 ) -> Result<(), AllocError> {
     let package = package_of(alloc, row)?;
+    let digest = digest_of(alloc, package.as_bytes())?;
     let files = files_of(alloc, row, words, package.as_bytes())?;
     let first = call(alloc, words, files)?;
-    print_answer(alloc, &first, printed)?;
+    print_answer(alloc, &first, digest.as_str(), printed)?;
     if let Some(words) = field(row, "again") {
         let again = call_over(alloc, words, first.written.bytes())?;
-        print_answer(alloc, &again, printed)?;
+        print_answer(alloc, &again, digest.as_str(), printed)?;
     }
     Ok(())
 }
@@ -100,8 +101,7 @@ fn journal_of(
     package: &[u8],
     entries: &str,
 ) -> Result<String, AllocError> {
-    let digest = Sha256::digest(package);
-    let digest = hex::encode(alloc, digest.as_slice())?;
+    let digest = digest_of(alloc, package)?;
     let revisions = revisions_of(alloc, row, package)?;
     let mut journal = format!(in alloc;
         "redline-journal 1\ndocument {digest}\nrevisions {revisions}\n"
@@ -111,6 +111,12 @@ fn journal_of(
         journal.push('\n')?;
     }
     Ok(journal)
+}
+
+// The SHA-256 of the package, as journals have it.
+fn digest_of(alloc: Global, package: &[u8]) -> Result<String, AllocError> {
+    let digest = Sha256::digest(package);
+    hex::encode(alloc, digest.as_slice())
 }
 
 // The number of revisions that the row gives, or else the one that a check tells.
@@ -123,12 +129,18 @@ fn revisions_of(alloc: Global, row: &str, package: &[u8]) -> Result<String, Allo
     String::from_str(alloc, told)
 }
 
-// Prints the status, what was written if something was, and the lines.
-fn print_answer(alloc: Global, answer: &Answer, printed: &mut String) -> Result<(), AllocError> {
+// Prints the status, what was written if something was, and the lines. The digest of the row's package has a name.
+fn print_answer(
+    alloc: Global,
+    answer: &Answer,
+    digest: &str,
+    printed: &mut String,
+) -> Result<(), AllocError> {
     let status = answer.status.code();
     print_line(printed, format!(in alloc; "status {status}")?.as_str())?;
     if !answer.written.bytes().is_empty() {
         let written = name_parts(alloc, text_of(&answer.written))?;
+        let written = written.replace(alloc, digest, "{digest}")?;
         print_line(printed, format!(in alloc; "written {written}")?.as_str())?;
     }
     printed.push_str(text_of(&answer.lines))

@@ -7,24 +7,22 @@ ghost use Rattle.redl_markup.specs.Views.{attribute_view};
 ghost use Rattle.redl_rules.specs.Attributes.{has_id as has_id_tail, is_declaration, declares};
 
 use bstr::ByteSlice;
-use redl_io::Text;
 use redl_markup::{Attribute, next_attribute};
 use redl_stamp::has_attribute;
 
 /// Whether a tag has an `id`.
-pub fn has_id(tail: &Text) -> bool
+pub fn has_id(tail: &[u8]) -> bool
     ensures { result ≡ has_id_tail tail.now }
 {
-    has_attribute(tail.as_bytes(), b"id")
+    has_attribute(tail, b"id")
 }
 
 /// Whether a tag declares a namespace.
 #[tactic(auto, using(crate::proofs::DeclarationLaws::no_declaration))]
-pub fn declares_names(tail: &Text) -> bool
+pub fn declares_names(tail: &[u8]) -> bool
     ensures { result ≡ declares tail.now }
 {
-    let bytes = tail.as_bytes();
-    has_x(bytes) && has_declaration(bytes)
+    has_x(tail) && has_declaration(tail)
 }
 
 /// Whether there is an `x` in a tail. Most have none, and so no `xmlns`: their attributes aren't read.

@@ -42,7 +42,7 @@ fn end_of_elem(elem: &Elem, reach: Reach) -> Option<bool>
             if is_named(elem, b"p") {
                 Some(true)
             } else if is_wrapper(elem) {
-                Some(is_so_end(end_of_nodes(&elem.kids, reach.into(elem))))
+                Some(is_so_end(end_of_nodes(elem.kids(), reach.into(elem))))
             } else if is_thick(elem) {
                 Some(false)
             } else {
@@ -51,7 +51,7 @@ fn end_of_elem(elem: &Elem, reach: Reach) -> Option<bool>
         }
         Reach::Control => {
             if is_named(elem, b"sdtContent") {
-                end_of_nodes(&elem.kids, Reach::Direct)
+                end_of_nodes(elem.kids(), Reach::Direct)
             } else {
                 None
             }
@@ -123,7 +123,7 @@ fn elem_holds_cell(elem: &Elem, reach: Reach) -> bool
     }
     match reach.into(elem) {
         Reach::Beyond => false,
-        inner => has_own_cell(&elem.kids, inner),
+        inner => has_own_cell(elem.kids(), inner),
     }
 }
 

@@ -27,7 +27,7 @@ pub fn keeps_1(elem: &Elem, round: Round) -> bool
     ensures { (above : List Tag) → round ≡ round_of above → result ≡ test_1 above (tag_of elem.now) (kids_of elem.now) }
 {
     if is_named(elem, b"tc") && !round.around.quiet {
-        is_so_end(end_of_nodes(&elem.kids, Reach::Direct))
+        is_so_end(end_of_nodes(elem.kids(), Reach::Direct))
     } else {
         true
     }
@@ -38,7 +38,7 @@ pub fn keeps_2(elem: &Elem, round: Round) -> bool
     ensures { (above : List Tag) → round ≡ round_of above → result ≡ test_2 above (tag_of elem.now) (kids_of elem.now) }
 {
     if is_named(elem, b"tr") && !round.around.quiet {
-        has_own_cell(&elem.kids, Reach::Direct)
+        has_own_cell(elem.kids(), Reach::Direct)
     } else {
         true
     }
@@ -69,7 +69,7 @@ fn is_thin_among_blocks(elem: &Elem, kind: Kind, round: Round) -> bool
     ensures { result ≡ implies (is_content kind && round.among_blocks)
         (not (some_element is_thick (kids_of elem.now))) }
 {
-    !is_content_among_blocks(kind, round) || !has_thick(&elem.kids)
+    !is_content_among_blocks(kind, round) || !has_thick(elem.kids())
 }
 
 fn is_content_among_blocks(kind: Kind, round: Round) -> bool
@@ -104,7 +104,7 @@ pub fn keeps_4(elem: &Elem, inner: Around) -> bool
     ensures { (above : List Tag) → inner ≡ around_of (tag_of elem.now ∷ above)
         → result ≡ test_4 above (tag_of elem.now) (kids_of elem.now) }
 {
-    changes_are_last(&elem.kids, inner)
+    changes_are_last(elem.kids(), inner)
 }
 
 /// Marks stand once (rule 5). `inner` is round the kids.
@@ -120,25 +120,25 @@ pub fn keeps_5(elem: &Elem, inner: Around) -> bool
 fn keeps_mark_props(elem: &Elem, inner: Around) -> bool
     ensures { result ≡ implies inner.para_props (once "rPr" (kids_of elem.now)) }
 {
-    !inner.para_props || is_once(&elem.kids, b"rPr")
+    !inner.para_props || is_once(elem.kids(), b"rPr")
 }
 
 fn keeps_mark(elem: &Elem, inner: Around) -> bool
     ensures { result ≡ implies inner.mark_props (each_once ("ins" ∷ "del" ∷ "moveFrom" ∷ "moveTo" ∷ []) (kids_of elem.now)) }
 {
-    !inner.mark_props || mark_is_once(&elem.kids)
+    !inner.mark_props || mark_is_once(elem.kids())
 }
 
 fn keeps_row_marks(elem: &Elem, inner: Around) -> bool
     ensures { result ≡ implies inner.row_props (each_once ("ins" ∷ "del" ∷ []) (kids_of elem.now)) }
 {
-    !inner.row_props || row_is_once(&elem.kids)
+    !inner.row_props || row_is_once(elem.kids())
 }
 
 fn keeps_cell_marks(elem: &Elem, inner: Around) -> bool
     ensures { result ≡ implies inner.cell_props (each_once ("cellIns" ∷ "cellDel" ∷ []) (kids_of elem.now)) }
 {
-    !inner.cell_props || cell_is_once(&elem.kids)
+    !inner.cell_props || cell_is_once(elem.kids())
 }
 
 fn mark_is_once(kids: &[Node]) -> bool
@@ -179,31 +179,31 @@ pub fn keeps_6(elem: &Elem, round: Round) -> bool
 fn keeps_para(elem: &Elem) -> bool
     ensures { result ≡ implies (is "p" (tag_of elem.now)) (only_first (is "pPr") (kids_of elem.now)) }
 {
-    !is_named(elem, b"p") || is_only_first(&elem.kids, b"pPr")
+    !is_named(elem, b"p") || is_only_first(elem.kids(), b"pPr")
 }
 
 fn keeps_row(elem: &Elem) -> bool
     ensures { result ≡ implies (is "tr" (tag_of elem.now)) (once "trPr" (kids_of elem.now)) }
 {
-    !is_named(elem, b"tr") || is_once(&elem.kids, b"trPr")
+    !is_named(elem, b"tr") || is_once(elem.kids(), b"trPr")
 }
 
 fn keeps_cell(elem: &Elem) -> bool
     ensures { result ≡ implies (is "tc" (tag_of elem.now)) (once "tcPr" (kids_of elem.now)) }
 {
-    !is_named(elem, b"tc") || is_once(&elem.kids, b"tcPr")
+    !is_named(elem, b"tc") || is_once(elem.kids(), b"tcPr")
 }
 
 fn keeps_body(elem: &Elem) -> bool
     ensures { result ≡ implies (is "body" (tag_of elem.now)) (only_last (is "sectPr") (kids_of elem.now)) }
 {
-    !is_named(elem, b"body") || is_only_last(&elem.kids, b"sectPr")
+    !is_named(elem, b"body") || is_only_last(elem.kids(), b"sectPr")
 }
 
 fn keeps_control(elem: &Elem) -> bool
     ensures { result ≡ implies (is "sdt" (tag_of elem.now)) (once "sdtContent" (kids_of elem.now)) }
 {
-    !is_named(elem, b"sdt") || is_once(&elem.kids, b"sdtContent")
+    !is_named(elem, b"sdt") || is_once(elem.kids(), b"sdtContent")
 }
 
 /// A marker of a move holds no element (rule 7).
@@ -214,7 +214,7 @@ pub fn keeps_7(elem: &Elem, round: Round) -> bool
     if round.around.quiet || !is_range_edge(elem) {
         return true;
     }
-    !has_id(&elem.tail) || !has_elements(&elem.kids)
+    !has_id(elem.tail()) || !has_elements(elem.kids())
 }
 
 /// Former properties hold no change element and no block (rule 8).
@@ -239,13 +239,13 @@ fn is_banned_below_change(elem: &Elem) -> bool
 pub fn keeps_9(elem: &Elem, kind: Kind, round: Round) -> bool
     ensures { result ≡ by_round_9 round.around kind (tag_of elem.now) (kids_of elem.now) }
 {
-    keeps_own_tag(elem, round, kind) && !change_declares(kind, &elem.kids)
+    keeps_own_tag(elem, round, kind) && !change_declares(kind, elem.kids())
 }
 
 fn keeps_own_tag(elem: &Elem, round: Round, kind: Kind) -> bool
     ensures { result ≡ implies (loses_tags_of round.around kind (tag_of elem.now)) (not (declares (tag_of elem.now).tail)) }
 {
-    !loses_tags(elem, round, kind) || !declares_names(&elem.tail)
+    !loses_tags(elem, round, kind) || !declares_names(elem.tail())
 }
 
 /// Whether some decision takes the tags of an element and leaves its kids.
@@ -290,7 +290,7 @@ fn former_declares_names(name: &[u8], kids: &[Node]) -> bool
     for node in kids {
         if let Node::Elem(elem) = node {
             if is_named(elem, name) {
-                return declares_names(&elem.tail);
+                return declares_names(elem.tail());
             }
         }
     }

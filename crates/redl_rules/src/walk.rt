@@ -50,7 +50,7 @@ fn kept_by_elem(elem: &Elem, round: Round) -> Kept
     let kind = round.around.role(elem);
     let inner = round.inside(elem, kind);
     let here = kept_here(elem, kind, round, inner);
-    here.and(kept_by_nodes(&elem.kids, inner))
+    here.and(kept_by_nodes(elem.kids(), inner))
 }
 
 /// Which rules hold of an element with this role by itself. `inner` is round its kids.

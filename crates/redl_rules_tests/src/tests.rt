@@ -1,58 +1,27 @@
 //! A check of whole packages answers the rule that each of them breaks: tables of bodies that break a rule, and of near ones
 //! that break none.
-ghost use Rattle.std.specs.Prelude.{◌≡◌, IsTrue};
-ghost use Rattle.redl_tree.specs.Model.Nodes.{no_nodes, in_front};
-ghost use Rattle.redl_tree.specs.Model.View.{nodes_of, item_of};
-ghost use Rattle.redl_opc.specs.Tree.{HasUtf8Tails, IsTree};
+ghost use Rattle.std.specs.Prelude.{IfOk};
+ghost use Rattle.redl_opc.specs.Tree.{IsTree};
+ghost use Rattle.redl_tree.specs.Model.View.{nodes_of};
 
-use redl_io::Text;
 use redl_opc::Package;
 use redl_rules::{RuleError, check};
-use redl_tree::{Close, Elem, Kind, Node, Space, count_nodes};
-use std::alloc::Global;
-use std::str::from_utf8;
+use redl_tree::Node;
+use std::alloc::{AllocError, Global};
 use std::test::Fail;
 
-/// Whether each tail is UTF-8.
-#[cycle(tails)]
-fn have_utf8_tails(nodes: &[Node]) -> bool
-    ensures { IsTrue result → HasUtf8Tails (nodes_of nodes.now) }
-{
-    for node in nodes {
-        if !has_utf8_tails(node) {
-            return false;
-        }
-    }
-    true
-}
+// A package with one document, up to the body of that, then up to what a further part holds, and then all that is left.
+const FRONT: &str =
+    "<pkg:package xmlns:pkg='http://schemas.microsoft.com/office/2006/xmlPackage' xmlns:w='http://schemas.openxmlformats.org/wordprocessingml/2006/main' xmlns:o='o' xmlns:q='q'><pkg:part pkg:name='/a' pkg:contentType='x/y'><pkg:xmlData><w:document xmlns:v='v'><w:body>";
 
-#[cycle(tails)]
-fn has_utf8_tails(node: &Node) -> bool
-    ensures { IsTrue result → HasUtf8Tails (in_front (item_of node.now) no_nodes) }
-{
-    match node {
-        Node::Elem(elem) => from_utf8(elem.tail.as_bytes()).is_ok() && have_utf8_tails(&elem.kids),
-        Node::Bytes(_) => true,
-    }
-}
+const MIDDLE: &str =
+    "</w:body></w:document></pkg:xmlData></pkg:part><pkg:part pkg:name='/b' pkg:contentType='x/y'><pkg:xmlData>";
 
-fn is_tree(nodes: &[Node]) -> bool
-    ensures { IsTrue result → IsTree (nodes_of nodes.now) }
-{
-    have_utf8_tails(nodes) && count_nodes(nodes) < 1_000
-}
+const BACK: &str = "</pkg:xmlData></pkg:part></pkg:package>";
 
-fn elem(alloc: Global, space: Space, local: &str, tail: &str) -> Result<Elem, Fail> {
-    Ok(Elem {
-        prefix: Text::copy_of(alloc, b"w")?,
-        local: Text::copy_of(alloc, local.as_bytes())?,
-        space,
-        tail: Text::copy_of(alloc, tail.as_bytes())?,
-        kids: Vec::new(alloc),
-        close: Close::End(Text::copy_of(alloc, b"")?),
-        kind: Kind::Plain,
-        rev: 0,
-    })
+fn push_text(text: &mut Vec<u8>, more: &str) -> Result<(), AllocError> {
+    text.extend_from_slice(more.as_bytes())?;
+    Ok(())
 }
 
 /// The attributes that a word stands for.
@@ -67,102 +36,81 @@ fn tail_of(word: &str) -> &'static str {
     }
 }
 
-/// An element by its name. A leading `o-` or `m-` gives another namespace than WordprocessingML, and a `/` attributes.
-fn named(alloc: Global, word: &str) -> Result<Elem, Fail> {
-    let (name, tail) = match word.split_once('/') {
+/// The name and the attributes in a word of an outline.
+fn parts_of(word: &str) -> (&str, &'static str) {
+    match word.split_once('/') {
         Some((name, attributes)) => (name, tail_of(attributes)),
         None => (word, ""),
-    };
-    match name.split_once('-') {
-        Some(("m", local)) => elem(alloc, Space::M, local, tail),
-        Some((_, local)) => elem(alloc, Space::Other, local, tail),
-        None => elem(alloc, Space::W, name, tail),
     }
 }
 
-/// Closes the last open element.
-fn close(open: &mut Vec<Elem>, done: &mut Vec<Node>) -> Result<(), Fail> {
-    let Some(elem) = open.pop() else {
-        return Ok(());
+/// A name in its namespace: that of WordprocessingML, or another one where it begins with `o-`.
+fn push_name(text: &mut Vec<u8>, name: &str) -> Result<(), AllocError> {
+    let (prefix, local) = match name.strip_prefix("o-") {
+        Some(local) => ("o:", local),
+        None => ("w:", name),
     };
-    match open.last_mut() {
-        Some(parent) => parent.kids.push(Node::Elem(elem))?,
-        None => done.push(Node::Elem(elem))?,
-    }
-    Ok(())
+    push_text(text, prefix)?;
+    push_text(text, local)
+}
+
+fn push_start(text: &mut Vec<u8>, word: &str) -> Result<(), AllocError> {
+    let (name, tail) = parts_of(word);
+    push_text(text, "<")?;
+    push_name(text, name)?;
+    push_text(text, tail)?;
+    push_text(text, ">")
+}
+
+fn push_end(text: &mut Vec<u8>, word: &str) -> Result<(), AllocError> {
+    let (name, _) = parts_of(word);
+    push_text(text, "</")?;
+    push_name(text, name)?;
+    push_text(text, ">")
 }
 
 /// Closes elements until only so many are open.
-fn close_to(depth: usize, open: &mut Vec<Elem>, done: &mut Vec<Node>) -> Result<(), Fail> {
+fn close_to(depth: usize, open: &mut Vec<&str>, text: &mut Vec<u8>) -> Result<(), AllocError> {
     for _ in depth..open.len() {
-        close(open, done)?;
+        if let Some(word) = open.pop() {
+            push_end(text, word)?;
+        }
     }
     Ok(())
 }
 
-/// The nodes of an outline: words in the order of start tags, each with a dot for each element that it stands in.
-fn outline(alloc: Global, words: &str) -> Result<Vec<Node>, Fail> {
+/// Adds the text of an outline: words in the order of start tags, each with a dot for each element that it stands in.
+fn push_outline(alloc: Global, words: &str, text: &mut Vec<u8>) -> Result<(), AllocError> {
     let mut open = Vec::new(alloc);
-    let mut done = Vec::new(alloc);
     for word in words.split_whitespace() {
         let name = word.trim_start_matches('.');
-        close_to(word.len().saturating_sub(name.len()), &mut open, &mut done)?;
-        open.push(named(alloc, name)?)?;
+        close_to(word.len().saturating_sub(name.len()), &mut open, text)?;
+        push_start(text, name)?;
+        open.push(name)?;
     }
-    close_to(0, &mut open, &mut done)?;
-    Ok(done)
-}
-
-/// An element that holds these.
-fn holding(
-    alloc: Global,
-    space: Space,
-    name: &str,
-    tail: &str,
-    kids: Vec<Node>,
-) -> Result<Vec<Node>, Fail> {
-    let mut whole = elem(alloc, space, name, tail)?;
-    whole.kids = kids;
-    let mut nodes = Vec::new(alloc);
-    nodes.push(Node::Elem(whole))?;
-    Ok(nodes)
-}
-
-/// A part with these data.
-fn part(alloc: Global, data: Vec<Node>) -> Result<Vec<Node>, Fail> {
-    let data = holding(alloc, Space::Pkg, "xmlData", "", data)?;
-    holding(
-        alloc,
-        Space::Pkg,
-        "part",
-        " pkg:name='/a' pkg:contentType='x/y'",
-        data,
-    )
-}
-
-/// A part with a document that has this body.
-fn document(alloc: Global, body: &str) -> Result<Vec<Node>, Fail> {
-    let body = holding(alloc, Space::W, "body", "", outline(alloc, body)?)?;
-    part(
-        alloc,
-        holding(alloc, Space::W, "document", " xmlns:w='u'", body)?,
-    )
+    close_to(0, &mut open, text)
 }
 
 /// A package with a document that has this body, and a further part with these data.
-fn package(alloc: Global, body: &str, further: &str) -> Result<Package, Fail> {
-    let mut parts = document(alloc, body)?;
-    parts.append(&mut part(alloc, outline(alloc, further)?)?)?;
-    let nodes = holding(alloc, Space::Pkg, "package", "", parts)?;
-    if !is_tree(&nodes) {
-        return Err(Fail::new("no tree"));
-    }
-    Ok(Package::make(alloc, nodes)?)
+fn package(alloc: Global, body: &str, further: &str) -> Result<Vec<u8>, AllocError> {
+    let mut text = Vec::from_slice(alloc, FRONT.as_bytes())?;
+    push_outline(alloc, body, &mut text)?;
+    push_text(&mut text, MIDDLE)?;
+    push_outline(alloc, further, &mut text)?;
+    push_text(&mut text, BACK)?;
+    Ok(text)
+}
+
+fn tree_of(alloc: Global, text: &[u8]) -> Result<Vec<Node>, Fail>
+    ensures { IfOk result (λ nodes. IsTree (nodes_of nodes.items)) }
+{
+    Ok(redl_xml::read(alloc, text)?)
 }
 
 /// What a check of that package answers.
 fn answer(alloc: Global, body: &str, further: &str) -> Result<Result<(), RuleError>, Fail> {
-    let pkg = package(alloc, body, further)?;
+    let text = package(alloc, body, further)?;
+    let pkg = Package::make(alloc, tree_of(alloc, &text)?)?;
     Ok(check(alloc, &pkg))
 }
 

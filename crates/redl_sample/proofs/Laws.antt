@@ -14,7 +14,7 @@ use Rattle.redl_sample.specs.Packages.{blocks_text}
 use Rattle.redl_sample.specs.Journals.{decides, entries_of, entry_on, reviewer_name}
 
 -- one more number
-range_more : (a n j : ℕ) → a + n ≡ j → range_with_len a (n + 1) ≡ range_with_len a n ++ j ∷ []
+pub range_more : (a n j : ℕ) → a + n ≡ j → range_with_len a (n + 1) ≡ range_with_len a n ++ j ∷ []
 range_more a n j e =
     sym (map-id (range_with_len a (n + 1))) ∙ map-range_with_len_more (λ (x : ℕ). x) a n j e
     ∙ ap (λ (l : List ℕ). l ++ j ∷ []) (map-id (range_with_len a n))

@@ -10,18 +10,22 @@ use std::marker::Brand;
 use std::sync::ledger::{Blank, Ledger};
 
 /// The pass of these nodes under the says. `Err` means out of memory.
-pub(crate) fn passed(alloc: Global, nodes: &[Node], says: &[Say]) -> Result<Vec<Node>, AllocError>
+pub(crate) fn passed<'a>(
+    alloc: Global,
+    nodes: &[Node<'a>],
+    says: &[Say],
+) -> Result<Vec<Node<'a>>, AllocError>
     ensures { IfOk result (λ passed. nodes_of passed.items ≡ pass_package says.now (nodes_of nodes.now)) }
 {
     pass_counted::<Brand>(alloc, nodes, says, Blank::new(1))
 }
 
-fn pass_counted<L: Ledger>(
+fn pass_counted<'a, L: Ledger>(
     alloc: Global,
-    nodes: &[Node],
+    nodes: &[Node<'a>],
     says: &[Say],
     blank: Blank,
-) -> Result<Vec<Node>, AllocError>
+) -> Result<Vec<Node<'a>>, AllocError>
     requires name { blank.name ≡ L.name }
     requires parts { blank.parts ≡ L.parts }
     requires some { 0 < L.parts }
@@ -31,26 +35,26 @@ fn pass_counted<L: Ledger>(
 }
 
 /// The same for nodes that are given away: what stays is moved. `Err` means out of memory.
-pub(crate) fn pass_on(
+pub(crate) fn pass_on<'a>(
     alloc: Global,
-    nodes: Vec<Node>,
+    nodes: Vec<Node<'a>>,
     says: &[Say],
-) -> Result<Vec<Node>, AllocError>
-    ensures { IfOk result (λ passed. nodes_of passed.items ≡ pass_package says.now (nodes_of nodes.items)) }
+) -> Result<Vec<Node<'a>>, AllocError>
+    ensures { IfOk result (λ passed. nodes_of passed.items ≡ pass_package says.now (nodes_of nodes.entry.items)) }
 {
     pass_on_counted::<Brand>(alloc, nodes, says, Blank::new(1))
 }
 
-fn pass_on_counted<L: Ledger>(
+fn pass_on_counted<'a, L: Ledger>(
     alloc: Global,
-    nodes: Vec<Node>,
+    nodes: Vec<Node<'a>>,
     says: &[Say],
     blank: Blank,
-) -> Result<Vec<Node>, AllocError>
+) -> Result<Vec<Node<'a>>, AllocError>
     requires name { blank.name ≡ L.name }
     requires parts { blank.parts ≡ L.parts }
     requires some { 0 < L.parts }
-    ensures { IfOk result (λ passed. nodes_of passed.items ≡ pass_package says.now (nodes_of nodes.items)) }
+    ensures { IfOk result (λ passed. nodes_of passed.items ≡ pass_package says.now (nodes_of nodes.entry.items)) }
 {
     into_passed(alloc, nodes, says, &mut Steps::<L>::new(blank))
 }

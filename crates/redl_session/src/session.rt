@@ -33,16 +33,16 @@ use std::marker::Model;
 /// A sound package, its revisions, the locked authors, and the book of the entries that were admitted. Contracts see these
 /// four; the say of each revision is always that of the book's verdict.
 #[derive(Drop)]
-pub struct Session {
+pub struct Session<'a> {
     alloc: Global,
-    original: Package,
+    original: Package<'a>,
     index: Index,
     locks: Locks,
     book: Book,
     says: Vec<Say>,
 }
 
-impl Model for Session {
+impl<'a> Model for Session<'a> {
     ghost use Rattle.std.specs.Coded.{codes};
     ghost use Rattle.redl_session.specs.Sessions.{State, state_code, IsConsistent};
 
@@ -55,20 +55,20 @@ impl Model for Session {
     ghost invariant = { λ session. IsConsistent session.original session.index session.book session.says.items };
 }
 
-impl Session {
+impl<'a> Session<'a> {
     /// A session with no entries. `Err` means out of memory, and drops all three.
     ///
     /// The package has the kinds and numbers that its index gave it, and is sound.
     pub fn start(
         alloc: Global,
-        pkg: Package,
+        pkg: Package<'a>,
         index: Index,
         locks: Locks,
-    ) -> Result<Session, AllocError>
+    ) -> Result<Session<'a>, AllocError>
         requires numbered { numbered_package pkg ≡ pkg }
         requires index { index ≡ revisions_of pkg }
         requires sound { broken_rule pkg ≡ None }
-        ensures { IfOk result (λ session. session ≡ record { nodes = pkg; revisions = index; locks = locks; book = [] }) }
+        ensures { IfOk result (λ session. session ≡ record { nodes = pkg.entry; revisions = index; locks = locks; book = [] }) }
     {
         let says = vec![in alloc; Say::Keep; index.count() as usize]?;
         Ok(Session {
@@ -170,6 +170,13 @@ impl Session {
         &self.index
     }
 
+    /// The entries that were admitted. The package goes.
+    pub fn into_book(self) -> Book
+        ensures { result ≡ self.entry.book }
+    {
+        self.book
+    }
+
     /// Puts the text of the package under the says. `Failed` means that the sink failed and has only a prefix of the text.
     /// `NoMemory` means out of memory, and nothing was put.
     pub fn write<K: Sink>(&self, out: &mut K) -> Result<(), SessionWriteError>
@@ -186,11 +193,11 @@ impl Session {
 
     /// The nodes that are left of the package under the says. They are moved, so the original goes while they are made.
     /// `Err` means out of memory.
-    pub fn into_passed(self) -> Result<Vec<Node>, AllocError>
-        ensures passed { IfOk result (λ passed. nodes_of passed.items ≡ pass_package (says self) self.nodes) }
+    pub fn into_passed(self) -> Result<Vec<Node<'a>>, AllocError>
+        ensures passed { IfOk result (λ passed. nodes_of passed.items ≡ pass_package (says self.entry) self.entry.nodes) }
 
         // Exactly the text that survives is left, in a sound package.
-        ensures survival { IfOk result (λ passed. map text_pieces (stories (nodes_of passed.items)) ≡ map (survivors (says self)) (stories self.nodes)) }
+        ensures survival { IfOk result (λ passed. map text_pieces (stories (nodes_of passed.items)) ≡ map (survivors (says self.entry)) (stories self.entry.nodes)) }
         ensures soundness { IfOk result (λ passed. broken_rule (nodes_of passed.items) ≡ None) }
     {
         pass_on(self.alloc, self.original.into_nodes(), &self.says)

@@ -36,7 +36,7 @@ fn entries_of(alloc: Global, lines: &[u8]) -> Result<Vec<Entry>, Fail>
     Ok(journal.entries)
 }
 
-fn tree_of(alloc: Global, text: &[u8]) -> Result<Vec<Node>, Fail>
+fn tree_of(alloc: Global, text: &[u8]) -> Result<Vec<Node<'_>>, Fail>
     ensures { IfOk result (λ nodes. IsTree (nodes_of nodes.items)) }
 {
     Ok(redl_xml::read(alloc, text)?)
@@ -49,7 +49,7 @@ fn locks_of(alloc: Global, author: &[u8]) -> Result<Locks, Fail> {
 }
 
 // A session over the package with one locked author.
-fn session_of(alloc: Global, author: &[u8]) -> Result<Session, Fail> {
+fn session_of(alloc: Global, author: &[u8]) -> Result<Session<'static>, Fail> {
     let locks = locks_of(alloc, author)?;
     let mut pkg = Package::make(alloc, tree_of(alloc, PACKAGE)?)?;
     check(alloc, &pkg)?;

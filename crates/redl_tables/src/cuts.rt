@@ -37,7 +37,7 @@ fn cuts_para(kid: &Node, says: &[Say]) -> bool
     ensures { result ≡ item_cuts_para says.now (item_of kid.now) }
 {
     match kid {
-        Node::Elem(elem) => is_named(elem, b"pPr") && is_cut(&elem.kids, Line::Mark, says),
+        Node::Elem(elem) => is_named(elem, b"pPr") && is_cut(elem.kids(), Line::Mark, says),
         Node::Bytes(_) => false,
     }
 }
@@ -59,7 +59,7 @@ fn cuts_below(kid: &Node, line: Line, says: &[Say]) -> bool
     ensures { result ≡ item_cuts_below line says.now (item_of kid.now) }
 {
     match kid {
-        Node::Elem(elem) => holds_members(elem, line) && has_cut_member(&elem.kids, line, says),
+        Node::Elem(elem) => holds_members(elem, line) && has_cut_member(elem.kids(), line, says),
         Node::Bytes(_) => false,
     }
 }
@@ -92,7 +92,7 @@ fn cuts(node: &Node, line: Line, says: &[Say]) -> bool
     ensures { result ≡ item_cuts line says.now (item_of node.now) }
 {
     match node {
-        Node::Elem(elem) => is_member(elem.kind, line) && fate_of(says, elem) == Fate::Cut,
+        Node::Elem(elem) => is_member(elem.kind(), line) && fate_of(says, elem) == Fate::Cut,
         Node::Bytes(_) => false,
     }
 }

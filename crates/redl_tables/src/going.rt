@@ -31,15 +31,15 @@ pub fn goes(elem: &Elem, in_row: bool, says: &[Say]) -> bool
         → list_all (unit_goes (shell_unit in_row) says.now) (own (unit_name (shell_unit in_row)) (into Direct (tag_of elem.now)) (kids_of elem.now)) ≡ false }
 {
     if is_named(elem, b"tc") {
-        goes_itself(&elem.kids, Unit::Cell, says)
+        goes_itself(elem.kids(), Unit::Cell, says)
     } else if is_named(elem, b"tr") {
-        goes_itself(&elem.kids, Unit::Row, says)
+        goes_itself(elem.kids(), Unit::Row, says)
     } else if is_named(elem, b"tbl") {
-        all_go(&elem.kids, Unit::Row, Reach::Direct, says)
+        all_go(elem.kids(), Unit::Row, Reach::Direct, says)
     } else if in_row {
-        all_go(&elem.kids, Unit::Cell, Reach::Direct.into(elem), says)
+        all_go(elem.kids(), Unit::Cell, Reach::Direct.into(elem), says)
     } else {
-        all_go(&elem.kids, Unit::Row, Reach::Direct.into(elem), says)
+        all_go(elem.kids(), Unit::Row, Reach::Direct.into(elem), says)
     }
 }
 

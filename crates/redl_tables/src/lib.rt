@@ -19,6 +19,3 @@ pub use going::goes;
 pub use owned::{Finding, Unit};
 pub use questions::Question;
 pub use says::fate_of;
-
-#[cfg(test)]
-mod tests;

@@ -86,7 +86,7 @@ pub(crate) fn found_at(elem: &Elem, unit: Unit, reach: Reach, says: &[Say]) -> F
     if is_own(elem, unit, reach) {
         return found_itself(elem, unit, says);
     }
-    found_further(&elem.kids, unit, reach.into(elem), says)
+    found_further(elem.kids(), unit, reach.into(elem), says)
 }
 
 // What is found of an own row or cell.
@@ -94,7 +94,7 @@ pub(crate) fn found_at(elem: &Elem, unit: Unit, reach: Reach, says: &[Say]) -> F
 fn found_itself(elem: &Elem, unit: Unit, says: &[Say]) -> Finding
     ensures { result ≡ (if unit_goes unit says.now (kids_of elem.now) then Finding.Gone else Finding.Living) }
 {
-    if goes_itself(&elem.kids, unit, says) {
+    if goes_itself(elem.kids(), unit, says) {
         Finding::Gone
     } else {
         Finding::Living

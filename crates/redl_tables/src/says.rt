@@ -13,7 +13,7 @@ use redl_tree::{Elem, Fate, Say};
 pub fn fate_of(says: &[Say], elem: &Elem) -> Fate
     ensures { result ≡ fate_by says.now (tag_of elem.now) }
 {
-    fate(elem.kind, say_at(says, elem.rev))
+    fate(elem.kind(), say_at(says, elem.rev()))
 }
 
 // The say on the revision with this number. Numbers count from 1.

@@ -12,7 +12,7 @@ use Rattle.redl_tree.specs.declared.lists.Reach.TheVariants.{Direct, Control, Be
 use Rattle.redl_tree.specs.Decisions.Fates.{live_name, renamed, is_revived}
 use Rattle.redl_tree.specs.declared.kinds.Say.{Say}
 use Rattle.redl_tree.specs.declared.kinds.Space.TheVariants.{W}
-use Rattle.redl_tree.specs.declared.node.Close.{Close}
+use Rattle.redl_tree.specs.Model.Nodes.{Close}
 use Rattle.redl_tree.proofs.Named.{named, by_name}
 
 -- a name that the pass never changes or gives

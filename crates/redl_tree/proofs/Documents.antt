@@ -10,7 +10,7 @@ use Rattle.redl_tree.specs.Rules.Sound.{tests, broken}
 use Rattle.redl_tree.specs.Decisions.Survivors.{text_pieces, survivors}
 use Rattle.redl_tree.specs.declared.kinds.Say.{Say}
 use Rattle.redl_tree.specs.declared.kinds.Space.TheVariants.{W, Pkg, Other}
-use Rattle.redl_tree.specs.declared.node.Close.TheVariants.{Empty, End}
+use Rattle.redl_tree.specs.Model.Nodes.{Empty, End}
 use Rattle.redl_tree.proofs.Build.{tag_in, one}
 use Rattle.redl_tree.proofs.Tails.{value, has_id, declares}
 

@@ -20,8 +20,8 @@ use Rattle.redl_tree.specs.declared.lists.Place.{Place}
 use Rattle.redl_tree.specs.declared.lists.Lot.TheVariants.{Blocks, Rows, Cells}
 use Rattle.redl_tree.specs.declared.lists.Reach.{Reach}
 use Rattle.redl_tree.specs.declared.lists.Reach.TheVariants.{Direct, Control, Beyond}
-use Rattle.redl_tree.specs.declared.node.Close.{Close}
-use Rattle.redl_tree.specs.declared.node.Close.TheVariants.{Empty, End}
+use Rattle.redl_tree.specs.Model.Nodes.{Close}
+use Rattle.redl_tree.specs.Model.Nodes.{Empty, End}
 
 -- Text
 

@@ -21,7 +21,7 @@ use Rattle.redl_tree.specs.declared.kinds.Kind.TheVariants.{Plain, Content, Mark
 use Rattle.redl_tree.specs.declared.kinds.Say.{Say}
 use Rattle.redl_tree.specs.declared.kinds.Fate.{Fate}
 use Rattle.redl_tree.specs.declared.kinds.Fate.TheVariants.{Leave, Free, Cut, Clear, Restore, Drop}
-use Rattle.redl_tree.specs.declared.node.Close.{Close}
+use Rattle.redl_tree.specs.Model.Nodes.{Close}
 use Rattle.redl_tree.proofs.Build.{one}
 use Rattle.redl_tree.proofs.Named.{by_name, by_trace}
 use Rattle.redl_tree.proofs.Fits.{Fits, open_∷, open_tail, true_false, not_props}

@@ -398,7 +398,7 @@ command_utf8 words (write p locks journals) h u =
 command_utf8 words (decide p reviewer journals locks choices) h u =
     let v : AllByRecursion IsUtf8 (codes "decide" ∷ p ∷ reviewer ∷ h.rest) = subst (AllByRecursion IsUtf8) h.written u in
     let i = items_utf8 h.items (subst (AllByRecursion IsUtf8) h.are_items.written v.1.1.1) in
-    (v.1.0, v.1.1.0, all_utf8 journals (journals_of h.items) i.journals h.journals_are, all_utf8 locks (locks_of h.items) i.locks h.locks_are)
+    (v.1.0, h.reviewer_name, all_utf8 journals (journals_of h.items) i.journals h.journals_are, all_utf8 locks (locks_of h.items) i.locks h.locks_are)
 command_utf8 words (join journals) h u =
     let v : AllByRecursion IsUtf8 (codes "join" ∷ journals) = subst (AllByRecursion IsUtf8) h.written u in All-from_recursion IsUtf8 journals v.1
 command_utf8 words (check p) h u = let v : AllByRecursion IsUtf8 (codes "check" ∷ p ∷ []) = subst (AllByRecursion IsUtf8) h.written u in v.1.0

@@ -179,12 +179,12 @@ IsCommand words (sample number) = IsSample words number
 abbrev pub HasNoCommand : List (List ℕ) → Type 0
 HasNoCommand words = (command : Command) → IsCommand words command → ⊥
 
--- the texts of the command are UTF-8
+-- the texts of the command are UTF-8, and its reviewer is one that a journal may hold
 abbrev pub HasUtf8 : Command → Type 0
 HasUtf8 (settle accept p) = IsUtf8 p
 HasUtf8 (list p name locks journals) = IsUtf8 p × IsUtf8 name × All IsUtf8 locks × All IsUtf8 journals
 HasUtf8 (write p locks journals) = IsUtf8 p × All IsUtf8 locks × All IsUtf8 journals
-HasUtf8 (decide p reviewer journals locks choices) = IsUtf8 p × IsUtf8 reviewer × All IsUtf8 journals × All IsUtf8 locks
+HasUtf8 (decide p reviewer journals locks choices) = IsUtf8 p × IsReviewer reviewer × All IsUtf8 journals × All IsUtf8 locks
 HasUtf8 (join journals) = All IsUtf8 journals
 HasUtf8 (check p) = IsUtf8 p
 HasUtf8 (sample number) = Unit {0}

@@ -4,17 +4,24 @@ use Rattle.std.specs.Prelude.{not}
 use Rattle.std.proofs.lemmas.List.{map_push, reverse-append, length-map, length-reverse}
 use Rattle.std.proofs.lemmas.Simd.{map-map}
 use Rattle.redl_tree.specs.declared.kinds.Space.{Space}
-use Rattle.redl_tree.specs.declared.node.Close.TheVariants.{Empty, End}
-use Rattle.redl_tree.specs.Model.Nodes.{Nodes, no_nodes, bytes, Item, in_front, ◌⊕◌}
-use Rattle.redl_tree.specs.Model.View.{item_of, nodes_of}
+use Rattle.redl_tree.specs.Model.Nodes.{Empty, End}
+use Rattle.redl_tree.specs.declared.kinds.Kind.{Kind}
+use Rattle.redl_tree.specs.declared.kinds.Kind.TheVariants.{Plain}
+use Rattle.redl_tree.specs.Model.Starts.{Start}
+use Rattle.redl_tree.specs.Model.Nodes.{Close, Tag, Nodes, no_nodes, bytes, Item, element_item, in_front, ◌⊕◌}
+use Rattle.redl_tree.specs.Model.View.{tagged, kids_of, item_of, nodes_of}
+use Rattle.redl_tree.specs.Model.View as tree
 use Rattle.redl_tree.specs.declared.node.Node.{Node}
-use Rattle.redl_tree.proofs.Laws.{nodes_of-push}
+use Rattle.redl_tree.specs.declared.node.Node.TheVariants as node
+use Rattle.redl_tree.specs.declared.node.Elem.{Elem}
+use Rattle.redl_tree.proofs.Laws.{nodes_of-push, item_of-Elem}
 use Rattle.redl_markup.specs.Names.{Name, name_eq}
 use Rattle.redl_markup.specs.Pieces.{empty_tag}
-use Rattle.redl_xml.specs.declared.building.OpenElement.{OpenElement}
+use Rattle.redl_xml.specs.declared.open_element.OpenElement.{OpenElement}
 use Rattle.redl_xml.specs.declared.building.Building.{Building}
+use Rattle.redl_xml.specs.declared.survey.OpenTag.{OpenTag}
 use Rattle.redl_xml.specs.Scopes.{Scope}
-use Rattle.redl_xml.specs.Elements.{Frame, State, one_element, entered, declared_in, closed, stretched, placed, finished_by, finished}
+use Rattle.redl_xml.specs.Elements.{Frame, State, plain_start, plain_tag, one_element, entered, declared_in, closed, stretched, placed, finished_by, finished}
 use Rattle.redl_xml.specs.Surveys.{tag_of}
 use Rattle.redl_xml.specs.Buildings.{frame_view, building_view}
 use Rattle.redl_xml.specs.OpenTags.{tag_view}
@@ -22,6 +29,17 @@ use Rattle.redl_xml.proofs.Scoping.{left_entered}
 
 pub pushed : (old now : List Node) (n : Node) (i : Item) → now ≡ old ++ n ∷ [] → item_of n ≡ i → nodes_of now ≡ nodes_of old ⊕ in_front i no_nodes
 pushed old now n i e h = ap nodes_of e ∙ nodes_of-push old n ∙ ap (λ (j : Item). nodes_of old ⊕ in_front j no_nodes) h
+
+-- an element with this start tag, which is in no revision
+pub elem_is : (e : Elem) (start : Start) (close : Close) (kids : Nodes) (name : Name) (space : Space) (tail : List ℕ) → tree.tag_of e ≡ tagged start close → kids_of e ≡ kids → start ≡ plain_start name space tail → item_of (node.Elem e) ≡ element_item (plain_tag name space tail close) kids
+elem_is e start close kids name space tail t k p =
+    item_of-Elem e ∙ ap (λ (x : Tag). element_item x (kids_of e)) (t ∙ ap (λ (x : Start). tagged x close) p) ∙ ap (element_item (plain_tag name space tail close)) k
+
+pub is_plain_start : (s : Start) → s.kind ≡ Plain → s.rev ≡ 0 → s ≡ plain_start (record { prefix = s.prefix; local = s.local }) s.space s.tail
+is_plain_start s k r =
+    ap (λ (kind : Kind). made kind s.rev) k ∙ ap (made Plain) r where
+      made : Kind → ℕ → Start
+      made kind rev = record { prefix = s.prefix; local = s.local; space = s.space; tail = s.tail; kind = kind; rev = rev }
 
 pub not-false : (t : Bool) → not t ≡ false → t ≡ true
 not-false true e = refl
@@ -50,7 +68,7 @@ empty_at s name tail x kids scope e k l =
     rw e (ap (λ (n : Nodes). Some (state s.open_elements n s.scope)) (sym k) ∙ ap (λ (sc : Scope). Some (state s.open_elements kids sc)) same)
 
 pub closed_at : (fs rest : List OpenElement) (f : OpenElement) (kids : Nodes) (scope : Scope) (name : Name) (space : List ℕ) → fs ≡ rest ++ f ∷ [] → name_eq (frame_view f).name name ≡ true
-    → closed (frames fs) kids scope name space ≡ Some (state (frames rest) (nodes_of f.before.items ⊕ one_element (frame_view f).name f.space f.tail.now (End space) kids) (drop f.tag.declared scope))
+    → closed (frames fs) kids scope name space ≡ Some (state (frames rest) (nodes_of f.before.items ⊕ one_element (frame_view f).name f.start.space f.start.tail (End space) kids) (drop f.declared scope))
 closed_at fs rest f kids scope name space e same =
     ap (λ (x : List Frame). closed x kids scope name space) (ap frames e ∙ frames-push rest f) ∙ rw same refl
 
@@ -73,5 +91,5 @@ map-reverse f [] = refl
 map-reverse f (x ∷ xs) = ap (map f) (reverse-append (x ∷ []) xs) ∙ map_push f (reverse xs) x ∙ ap (λ l. l ++ f x ∷ []) (map-reverse f xs) ∙ sym (reverse-append (f x ∷ []) (map f xs))
 
 -- the tags of the open elements are those of the frames
-pub tags-frames : (fs : List OpenElement) → reverse (map tag_view (map (λ f. f.tag) fs)) ≡ map tag_of (frames fs)
-tags-frames fs = ap reverse (map-map tag_view (λ f. f.tag) fs) ∙ ap reverse (sym (map-map tag_of frame_view fs)) ∙ sym (map-reverse tag_of (map frame_view fs))
+pub tags-frames : (ts : List OpenTag) (fs : List OpenElement) → map tag_view ts ≡ map (λ f. tag_of (frame_view f)) fs → reverse (map tag_view ts) ≡ map tag_of (frames fs)
+tags-frames ts fs e = ap reverse (e ∙ sym (map-map tag_of frame_view fs)) ∙ sym (map-reverse tag_of (map frame_view fs))

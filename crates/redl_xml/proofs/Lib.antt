@@ -8,6 +8,7 @@ pub mod Loops
 pub mod Surveys
 pub mod Parts
 pub mod TreeTexts
+pub mod Starts
 pub mod Sound
 pub mod Complete
 pub mod Measures

@@ -7,7 +7,7 @@ use Rattle.std.proofs.lemmas.List.{length-map}
 use Rattle.redl_tree.specs.Model.Nodes.{Nodes, no_nodes, bytes, element, ◌⊕◌}
 use Rattle.redl_tree.specs.Model.Count.{count}
 use Rattle.redl_tree.specs.declared.kinds.Space.{Space}
-use Rattle.redl_tree.specs.declared.node.Close.TheVariants.{Empty, End}
+use Rattle.redl_tree.specs.Model.Nodes.{Empty, End}
 use Rattle.redl_markup.specs.declared.place.Place.TheVariants.{InElement}
 use Rattle.redl_markup.specs.Reading.{◌>>=◌, Turn, done, next, turn, turns}
 use Rattle.redl_markup.specs.Names.{Name, name_eq}

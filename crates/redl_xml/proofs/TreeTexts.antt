@@ -3,8 +3,7 @@ use Rattle.std.proofs.Common.{◌≡◌, ℕ, List, [], ◌∷◌, ◌++◌, ref
 use Rattle.redl_tree.specs.Model.Nodes.{Tag, Nodes, no_nodes, bytes, element, ◌⊕◌}
 use Rattle.redl_tree.specs.Model.Text.{text}
 use Rattle.redl_tree.specs.Model.Text as tree
-use Rattle.redl_tree.specs.declared.node.Close.{Close}
-use Rattle.redl_tree.specs.declared.node.Close.TheVariants.{Empty, End}
+use Rattle.redl_tree.specs.Model.Nodes.{Close, Empty, End}
 use Rattle.redl_markup.specs.Names.{Name, name_text}
 use Rattle.redl_xml.specs.Readings.{name_of}
 use Rattle.redl_xml.proofs.Texts.{closing_then, text_then, text-then}
@@ -19,7 +18,7 @@ tree_then no_nodes y = y
 tree_then (bytes b rest) y = b ++ tree_then rest y
 tree_then (element tag kids rest) y = 60 ∷ (name_text (name_of tag) ++ (tag.tail ++ close_then tag tag.close (tree_then kids) (tree_then rest y)))
 
-same_name_text : (prefix local : List ℕ) → (let name : Name = record { prefix = prefix; local = local } in tree.name_text prefix local ≡ name_text name)
+pub same_name_text : (prefix local : List ℕ) → (let name : Name = record { prefix = prefix; local = local } in tree.name_text prefix local ≡ name_text name)
 same_name_text [] local = refl
 same_name_text (p ∷ ps) local = append_assoc (p ∷ ps) (58 ∷ []) local
 

@@ -2,10 +2,10 @@
 use Rattle.std.specs.Prelude.{ℕ, suc, ◌&&◌, List, [], ◌∷◌, length, drop, Option, Some, None, if◌then◌else◌}
 use Rattle.std.specs.List.{list_all}
 use Rattle.redl_tree.specs.Model.Nodes.{Tag, Nodes, no_nodes, bytes, element, ◌⊕◌}
+use Rattle.redl_tree.specs.Model.Starts.{Start}
 use Rattle.redl_tree.specs.declared.kinds.Space.{Space}
 use Rattle.redl_tree.specs.declared.kinds.Kind.TheVariants.{Plain}
-use Rattle.redl_tree.specs.declared.node.Close.{Close}
-use Rattle.redl_tree.specs.declared.node.Close.TheVariants.{Empty, End}
+use Rattle.redl_tree.specs.Model.Nodes.{Close, Empty, End}
 use Rattle.redl_markup.specs.declared.place.Place.TheVariants.{InElement}
 use Rattle.redl_markup.specs.Reading.{◌>>=◌, Turn, done, next, turns}
 use Rattle.redl_markup.specs.References.{is_there}
@@ -57,6 +57,17 @@ pub record State : Type 0 where
   pub open_elements : List Frame
   pub kids : Nodes
   pub scope : Scope
+
+-- the start tag of an element in no revision
+abbrev pub plain_start : Name → Space → List ℕ → Start
+plain_start name space tail = record {
+  prefix = name.prefix;
+  local = name.local;
+  space = space;
+  tail = tail;
+  kind = Plain;
+  rev = 0;
+}
 
 -- the tag of an element in no revision
 abbrev pub plain_tag : Name → Space → List ℕ → Close → Tag

@@ -1,79 +1,67 @@
 //! The open elements, and the nodes in them so far.
 
 ghost use Rattle.std.specs.Prelude.{◌≡◌, IfOk, OnOk, IsErrOf, Some, None, map};
-ghost use Rattle.redl_tree.specs.Model.Nodes.{element_item, bytes_item};
+ghost use Rattle.redl_tree.specs.Model.Nodes.{no_nodes, in_front, ◌⊕◌};
 ghost use Rattle.redl_tree.specs.Model.View.{item_of, nodes_of};
 ghost use Rattle.redl_markup.specs.Views.{name_view};
 ghost use Rattle.redl_markup.specs.PieceViews.{piece_view};
 ghost use Rattle.redl_markup.specs.Pieces.{start_tag, empty_tag, end_tag, stretch};
-ghost use Rattle.redl_xml.specs.Elements.{plain_tag, placed, nothing_yet};
-ghost use Rattle.redl_xml.specs.Surveys.{survey_of};
-ghost use Rattle.redl_xml.specs.Buildings.{building_view};
-ghost use Rattle.redl_xml.specs.OpenTags.{survey_view};
+ghost use Rattle.redl_xml.specs.Elements.{placed, nothing_yet};
+ghost use Rattle.redl_xml.specs.Surveys.{tag_of, survey_of};
+ghost use Rattle.redl_xml.specs.Buildings.{frame_view, building_view};
+ghost use Rattle.redl_xml.specs.OpenTags.{tag_view, survey_view};
 
 use crate::namespaces::enter;
+use crate::open_element::OpenElement;
 use crate::scope::Scopes;
 use crate::sizes::Sizes;
+use crate::start::kept;
 use crate::survey::{OpenTag, Survey};
-use redl_io::Text;
 use redl_markup::{MarkupError, Name, Piece, StartTag};
-use redl_tree::{Close, Elem, Kind, Node, Space};
+use redl_tree::{Elem, Node};
 use std::alloc::{AllocError, Global};
 use std::mem;
-
-/// An open element, and its siblings before it.
-#[derive(Drop)]
-pub(crate) struct OpenElement<'a> {
-    pub(crate) tag: OpenTag<'a>,
-    pub(crate) tail: &'a [u8],
-    pub(crate) space: Space,
-    pub(crate) before: Vec<Node>,
-}
 
 /// The open elements, the innermost last, the nodes so far in that one, and the declarations in its scope.
 #[derive(Drop)]
 pub(crate) struct Building<'a> {
     pub(crate) open: Vec<OpenElement<'a>>,
-    pub(crate) kids: Vec<Node>,
+    pub(crate) kids: Vec<Node<'a>>,
     pub(crate) scopes: Scopes<'a>,
 }
 
-fn element(
-    alloc: Global,
-    name: Name<'_>,
-    space: Space,
-    tail: &[u8],
-    kids: Vec<Node>,
-    close: Close,
-) -> Result<Node, AllocError>
-    ensures { IfOk result (λ n. item_of n ≡ element_item (plain_tag (name_view name.entry) space tail.now close) (nodes_of kids.items)) }
+/// Adds a node. Most elements have one alone, so the first one takes memory for no more.
+pub(crate) fn push_node<'a>(nodes: &mut Vec<Node<'a>>, node: Node<'a>) -> Result<(), AllocError>
+    ensures { OnOk result (nodes_of nodes.new.items ≡ nodes_of nodes.old.items ⊕ in_front (item_of node.entry) no_nodes) }
 {
-    Ok(Node::Elem(Elem {
-        prefix: Text::copy_of(alloc, name.prefix)?,
-        local: Text::copy_of(alloc, name.local)?,
-        space,
-        tail: Text::copy_of(alloc, tail)?,
-        kids,
-        close,
-        kind: Kind::Plain,
-        rev: 0,
-    }))
+    if nodes.is_empty() {
+        nodes.reserve_exact(1)?;
+    }
+    nodes.push(node)?;
+    Ok(())
 }
 
-/// A node of these bytes.
-pub(crate) fn bytes_node(alloc: Global, bytes: &[u8]) -> Result<Node, AllocError>
-    ensures { IfOk result (λ n. item_of n ≡ bytes_item bytes.now) }
+/// The name of an open element, and how many declarations it has.
+fn open_tag<'a>(opened: &OpenElement<'a>) -> OpenTag<'a>
+    ensures { tag_view result ≡ tag_of (frame_view opened.now) }
 {
-    Ok(Node::Bytes(Text::copy_of(alloc, bytes)?))
+    let name = Name {
+        prefix: opened.start.prefix(),
+        local: opened.start.local(),
+    };
+    OpenTag {
+        name,
+        declared: opened.declared,
+    }
 }
 
 /// The tags of open elements.
 fn tags_of<'a>(alloc: Global, elements: &[OpenElement<'a>]) -> Result<Vec<OpenTag<'a>>, AllocError>
-    ensures { IfOk result (λ tags. tags.items ≡ map (λ opened. opened.tag) elements.now) }
+    ensures { IfOk result (λ tags. map tag_view tags.items ≡ map (λ opened. tag_of (frame_view opened)) elements.now) }
 {
     let mut tags = Vec::new(alloc);
     for opened in elements {
-        tags.push(opened.tag)?;
+        tags.push(open_tag(opened))?;
     }
     Ok(tags)
 }
@@ -94,14 +82,11 @@ impl<'a> Building<'a> {
         ensures unreadable { IsErrOf result MarkupError.Unreadable → placed (start_tag tag.now.name tag.now.tail) (building_view self.old) ≡ None }
     {
         let entered = enter(&mut self.scopes, alloc, tag)?;
+        let start = kept(tag, entered.space)?;
         let before = mem::replace(&mut self.kids, Vec::new(alloc));
         self.open.push(OpenElement {
-            tag: OpenTag {
-                name: tag.name(),
-                declared: entered.declared,
-            },
-            tail: tag.tail(),
-            space: entered.space,
+            start,
+            declared: entered.declared,
             before,
         })?;
         Ok(())
@@ -113,53 +98,38 @@ impl<'a> Building<'a> {
     {
         let entered = enter(&mut self.scopes, alloc, tag)?;
         self.scopes.forget(entered.declared);
-        let node = element(
-            alloc,
-            tag.name(),
-            entered.space,
-            tag.tail(),
-            Vec::new(alloc),
-            Close::Empty,
-        )?;
-        self.kids.push(node)?;
+        let elem = Elem::empty(kept(tag, entered.space)?);
+        push_node(&mut self.kids, Node::Elem(elem))?;
         Ok(())
     }
 
-    fn stretch(&mut self, alloc: Global, bytes: &[u8]) -> Result<(), MarkupError>
-        ensures ok { OnOk result (placed (stretch bytes.now) (building_view self.old) ≡ Some (building_view self.new)) }
-        ensures unreadable { IsErrOf result MarkupError.Unreadable → placed (stretch bytes.now) (building_view self.old) ≡ None }
+    fn stretch(&mut self, bytes: &'a [u8]) -> Result<(), MarkupError>
+        ensures ok { OnOk result (placed (stretch bytes.entry.now) (building_view self.old) ≡ Some (building_view self.new)) }
+        ensures unreadable { IsErrOf result MarkupError.Unreadable → placed (stretch bytes.entry.now) (building_view self.old) ≡ None }
     {
         if self.open.is_empty() {
             return Err(MarkupError::Unreadable);
         }
-        let node = bytes_node(alloc, bytes)?;
-        self.kids.push(node)?;
+        push_node(&mut self.kids, Node::Bytes(bytes))?;
         Ok(())
     }
 
-    fn end(&mut self, alloc: Global, name: Name<'a>, space: &[u8]) -> Result<(), MarkupError>
-        ensures ok { OnOk result (placed (end_tag (name_view name.entry) space.now) (building_view self.old) ≡ Some (building_view self.new)) }
-        ensures unreadable { IsErrOf result MarkupError.Unreadable → placed (end_tag (name_view name.entry) space.now) (building_view self.old) ≡ None }
+    fn end(&mut self, alloc: Global, name: Name<'a>, space: &'a [u8]) -> Result<(), MarkupError>
+        ensures ok { OnOk result (placed (end_tag (name_view name.entry) space.entry.now) (building_view self.old) ≡ Some (building_view self.new)) }
+        ensures unreadable { IsErrOf result MarkupError.Unreadable → placed (end_tag (name_view name.entry) space.entry.now) (building_view self.old) ≡ None }
     {
         let Some(opened) = self.open.pop() else {
             return Err(MarkupError::Unreadable);
         };
-        if opened.tag.name != name {
+        if open_tag(&opened).name != name {
             return Err(MarkupError::Unreadable);
         }
-        self.scopes.forget(opened.tag.declared);
-        let close = Close::End(Text::copy_of(alloc, space)?);
-        let mut kids = mem::replace(&mut self.kids, opened.before);
+        self.scopes.forget(opened.declared);
+        let OpenElement { start, before, .. } = opened;
+        let mut kids = mem::replace(&mut self.kids, before);
         kids.shrink_to_fit();
-        let node = element(
-            alloc,
-            opened.tag.name,
-            opened.space,
-            opened.tail,
-            kids,
-            close,
-        )?;
-        self.kids.push(node)?;
+        let elem = Elem::with_space(alloc, start, kids, space)?;
+        push_node(&mut self.kids, Node::Elem(elem))?;
         Ok(())
     }
 
@@ -171,7 +141,7 @@ impl<'a> Building<'a> {
         match piece {
             Piece::Start(tag) => self.start(alloc, &tag),
             Piece::Empty(tag) => self.empty(alloc, &tag),
-            Piece::Stretch(bytes) => self.stretch(alloc, bytes),
+            Piece::Stretch(bytes) => self.stretch(bytes),
             Piece::End(name, space) => self.end(alloc, name, space),
         }
     }

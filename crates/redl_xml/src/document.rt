@@ -10,7 +10,6 @@ ghost use Rattle.redl_xml.specs.Shapes.{depth_of};
 ghost use Rattle.redl_xml.specs.Documents.{stretch_in, bytes_or_none, document_at, counted, sizes_at};
 ghost use Rattle.redl_xml.specs.Readings.{IsReading, HasReading, HasNoReading};
 
-use crate::building::bytes_node;
 use crate::element::read_element;
 use crate::error::XmlError;
 use crate::sizes::{Limits, Sizes};
@@ -21,8 +20,8 @@ use std::alloc::{AllocError, Global};
 
 /// The nodes of a document, how deep they go, and how many there are, counted up to one above a limit.
 #[derive(Drop)]
-struct Document {
-    nodes: Vec<Node>,
+struct Document<'a> {
+    nodes: Vec<Node<'a>>,
     sizes: Sizes,
 }
 
@@ -39,31 +38,30 @@ fn stretch(alloc: Global, bytes: &[u8], place: Place) -> Result<(&[u8], &[u8]), 
 }
 
 /// Adds the bytes as a node, if there are any.
-fn push_bytes(nodes: &mut Vec<Node>, alloc: Global, bytes: &[u8]) -> Result<(), AllocError>
-    ensures { OnOk result (nodes_of nodes.new.items ≡ nodes_of nodes.old.items ⊕ bytes_or_none bytes.now) }
+fn push_bytes<'a>(nodes: &mut Vec<Node<'a>>, bytes: &'a [u8]) -> Result<(), AllocError>
+    ensures { OnOk result (nodes_of nodes.new.items ≡ nodes_of nodes.old.items ⊕ bytes_or_none bytes.entry.now) }
 {
     if bytes.is_empty() {
         return Ok(());
     }
-    let node = bytes_node(alloc, bytes)?;
-    nodes.push(node)?;
+    nodes.push(Node::Bytes(bytes))?;
     Ok(())
 }
 
 /// The nodes at the top: the stretch before the root, the root, and the stretch after it.
-fn top_nodes(
+fn top_nodes<'a>(
     alloc: Global,
-    before: &[u8],
-    root: Vec<Node>,
-    after: &[u8],
-) -> Result<Vec<Node>, AllocError>
-    ensures { IfOk result (λ v. nodes_of v.items ≡ bytes_or_none before.now ⊕ (nodes_of root.items ⊕ bytes_or_none after.now)) }
+    before: &'a [u8],
+    root: Vec<Node<'a>>,
+    after: &'a [u8],
+) -> Result<Vec<Node<'a>>, AllocError>
+    ensures { IfOk result (λ v. nodes_of v.items ≡ bytes_or_none before.entry.now ⊕ (nodes_of root.entry.items ⊕ bytes_or_none after.entry.now)) }
 {
     let mut root = root;
     let mut nodes = Vec::new(alloc);
-    push_bytes(&mut nodes, alloc, before)?;
+    push_bytes(&mut nodes, before)?;
     nodes.append(&mut root)?;
-    push_bytes(&mut nodes, alloc, after)?;
+    push_bytes(&mut nodes, after)?;
     Ok(nodes)
 }
 
@@ -78,7 +76,7 @@ fn count_bytes(sizes: &mut Sizes, limit: u32, bytes: &[u8])
 }
 
 /// The document that the bytes are. `Unreadable` exactly if they are not one. Past a limit its nodes are incomplete.
-fn read_document(alloc: Global, limits: Limits, bytes: &[u8]) -> Result<Document, MarkupError>
+fn read_document(alloc: Global, limits: Limits, bytes: &[u8]) -> Result<Document<'_>, MarkupError>
     ensures sizes { Finds (λ d. (d.sizes.deepest, d.sizes.nodes)) result (sizes_at limits.nodes bytes.now) }
     ensures nodes { IfOk result (λ d. d.sizes.deepest ≤ limits.depth → d.sizes.nodes ≤ limits.nodes → document_at bytes.now ≡ Some (nodes_of d.nodes.items)) }
 {

@@ -17,7 +17,7 @@ use std::alloc::Global;
 /// An element that was read, and the bytes after it. Past a limit there are no nodes.
 #[derive(Drop)]
 pub(crate) struct Element<'a> {
-    pub(crate) nodes: Vec<Node>,
+    pub(crate) nodes: Vec<Node<'a>>,
     pub(crate) sizes: Sizes,
     pub(crate) rest: &'a [u8],
 }

@@ -12,8 +12,10 @@ mod element;
 mod error;
 mod laws;
 mod namespaces;
+mod open_element;
 mod scope;
 mod sizes;
+mod start;
 mod survey;
 
 /// The greatest depth of an element, with the root at depth 1.
@@ -25,6 +27,3 @@ pub const NODE_LIMIT: u32 = 2_097_152;
 pub use document::read;
 pub use error::XmlError;
 pub use laws::{one_tree, tails_are_legal};
-
-#[cfg(test)]
-mod tests;

@@ -7,22 +7,31 @@ pub const VERSION: &str = "redline 0.3.0\nlogic dac8208d650f15bf\n";
 pub const HELP: &str =
     "Redline decides the tracked changes of a document by its reviewers' journals.
 
-  redline check P           whether P can be decided, and how many changes it has
-  redline write P ITEM ..   writes P with the changes decided as its reviewers agree
-  redline settle accept P   writes P with each change accepted
-  redline settle reject P   writes P with each change rejected
-  redline join J ..         writes the journal of several journals together
+  redline check P               whether P can be decided, and how many changes it has
+  redline list P ITEM ..        lists the changes, with what the journals come to on each
+  redline decide P WHO ITEM ..  writes the journal of what the reviewer WHO decides
+  redline write P ITEM ..       writes P with the changes decided as its reviewers agree
+  redline settle accept P       writes P with each change accepted
+  redline settle reject P       writes P with each change rejected
+  redline join J ..             writes the journal of several journals together
+  redline sample N              decides a made-up document of N paragraphs, and tells what came out
 
 P is a document that Word saved as \"Word XML Document (*.xml)\".
 J is a journal: the text file of what reviewers decided.
-ITEM is a journal, or --lock AUTHOR: nobody decides the changes of this author.
+ITEM is --lock AUTHOR: nobody decides the changes of this author;
+  for list and write also J, and for decide --journal J;
+  for list also --format text, tab or json;
+  for decide also --accept CHANGES, --reject CHANGES or --withdraw CHANGES, once at least.
+CHANGES is all, numbers:3,7, \"author:Ann Gray\", kind:ins, or a span of time with its two
+  ends, as span:2026-11-01T00:00:00Z/2026-11-02T00:00:00Z, the second not included.
 
 Exit status: 0 done, 1 done and some entries refused, 2 usage, 3 package, 4 journal,
 5 a file can't be read, 6 the output failed, 7 a limit is passed, 8 out of memory,
-10 the command is not built yet.
+9 no sequence number is left for the reviewer.
 
 A whole round:
-  redline check contract.xml
+  redline list contract.xml
+  redline decide contract.xml Ann --accept all --reject numbers:4 > ann.journal
   redline join ann.journal bob.journal > all.journal
   redline write contract.xml all.journal > decided.xml
 ";

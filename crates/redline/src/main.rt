@@ -2,7 +2,8 @@
 //!
 //! All that it does is a call of `run`, whose clauses say what goes out and which exit status comes when. Only where
 //! `--help` or `--version` is the one word, it writes a text of its own.
-//! The words are copied first; a word that isn't UTF-8 ends the program before the call.
+//! The words are copied first; a word that isn't UTF-8 ends the program before the call. Then the formats of listings are
+//! made; where memory runs out there, the program ends as it does for the words.
 #![tactic(auto)]
 
 mod help;
@@ -12,8 +13,9 @@ ghost use Rattle.std.specs.String.{string_bytes};
 ghost use Rattle.std.specs.Vec.Iter.{into_iter_items};
 
 use help::{HELP, VERSION};
-use redl_app::{WordsError, add_word, refuse_words, run, tell_text};
-use redl_io::{FileShelf, StdSink, Text};
+use redl_app::{Status, WordsError, add_word, refuse_words, run, tell_text};
+use redl_io::{FileShelf, Shelf, Sink, StdSink, Text};
+use redl_listing::{JsonFormat, TabFormat, TextFormat, add_format};
 use std::alloc::{AllocError, Global};
 use std::env;
 use std::env::Args;
@@ -28,11 +30,44 @@ fn main(rt: HostRuntime) -> ExitCode {
     let status = match read_words(&rt) {
         Ok(words) => match own_text(&words) {
             Some(text) => tell_text(rt.alloc(), text, &mut out, &mut err),
-            None => run(rt.alloc(), &words, &mut shelf, &mut out, &mut err),
+            None => run_words(rt.alloc(), &words, &mut shelf, &mut out, &mut err),
         },
         Err(error) => refuse_words(error, &mut err),
     };
     ExitCode::from(status.code())
+}
+
+// Does what the words ask, with the formats of listings.
+fn run_words<F: Shelf, O: Sink, E: Sink>(
+    alloc: Global,
+    words: &[Text],
+    shelf: &mut F,
+    out: &mut O,
+    err: &mut E,
+) -> Status
+    requires { All IsUtf8 words.now }
+{
+    match run_with_formats(alloc, words, shelf, out, err) {
+        Ok(status) => status,
+        Err(_) => refuse_words(WordsError::NoMemory, err),
+    }
+}
+
+// Makes the formats and does what the words ask. `Err` means that memory ran out before.
+fn run_with_formats<F: Shelf, O: Sink, E: Sink>(
+    alloc: Global,
+    words: &[Text],
+    shelf: &mut F,
+    out: &mut O,
+    err: &mut E,
+) -> Result<Status, AllocError>
+    requires { All IsUtf8 words.now }
+{
+    let mut formats = Vec::new(alloc);
+    add_format(&mut formats, Box::new(alloc, TextFormat::new(alloc)?)?)?;
+    add_format(&mut formats, Box::new(alloc, TabFormat::new(alloc)?)?)?;
+    add_format(&mut formats, Box::new(alloc, JsonFormat::new(alloc)?)?)?;
+    Ok(run(alloc, words, shelf, out, err, &mut formats))
 }
 
 // What the program tells of itself, where the words ask for that alone.

@@ -6,13 +6,16 @@ use Rattle.redl_app.specs.Steps.{◌>>=◌}
 use Rattle.redl_app.specs.Writing.{Writing}
 use Rattle.redl_io.specs.Shelf.{Files}
 use Rattle.redl_lines.specs.Failures.{Failure}
-use Rattle.redl_session.specs.Sessions.{says}
+use Rattle.redl_session.specs.Sessions.{State, says}
 use Rattle.redl_tree.specs.Decisions.Packages.{pass_package}
 use Rattle.redl_tree.specs.Model.Text.{text}
 
--- the text of the package under the says of the session's verdicts
+-- the text of the session's package under the says of its verdicts
+abbrev pub left_text : State → List ℕ
+left_text state = text (pass_package (says state) state.nodes)
+
 abbrev pub decided : Admission → Writing
-decided admission = record { bytes = text (pass_package (says admission.state) admission.state.nodes); refused = admission.refused }
+decided admission = record { bytes = left_text admission.state; refused = admission.refused }
 
 -- what is written of the package with this text
 abbrev pub written : Reader → Files → List (List ℕ) → List (List ℕ) → List ℕ → Result Writing Failure

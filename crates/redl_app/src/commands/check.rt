@@ -14,7 +14,7 @@ use redl_opc::Package;
 use std::alloc::{AllocError, Global};
 
 /// That the package with this text is sound, and how many revisions it has.
-pub(crate) fn check<'a>(alloc: Global, bytes: &[u8]) -> Result<Writing, Failure<'a>>
+pub(crate) fn check<'a, 'b>(alloc: Global, bytes: &'b [u8]) -> Result<Writing<'b>, Failure<'a>>
     ensures { Reads (result_view writing_view result) (λ reader. checked reader bytes.now) }
 {
     let package = read_package(alloc, bytes)?;
@@ -22,7 +22,7 @@ pub(crate) fn check<'a>(alloc: Global, bytes: &[u8]) -> Result<Writing, Failure<
 }
 
 fn count_revisions(alloc: Global, read: Package) -> Result<Writing, AllocError>
-    ensures { IfOk result (λ writing. writing_view writing ≡ only_bytes (sound_text (package_revisions read))) }
+    ensures { IfOk result (λ writing. writing_view writing ≡ only_bytes (sound_text (package_revisions read.entry))) }
 {
     let numbered = number_package(alloc, read)?;
     Ok(Writing::only(alloc, Output::Count(numbered.index.count())))

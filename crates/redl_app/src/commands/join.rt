@@ -21,11 +21,11 @@ use redl_lines::{Cause, Failure};
 use std::alloc::{AllocError, Global};
 
 /// The journal of the union of the journals of these names, which are of the first one's document.
-pub(crate) fn join<'a, F: Shelf>(
+pub(crate) fn join<'a, 'b, F: Shelf>(
     alloc: Global,
     journals: &'a [Text],
     shelf: &mut F,
-) -> Result<Writing, Failure<'a>>
+) -> Result<Writing<'b>, Failure<'a>>
     requires { All IsUtf8 journals.now }
     ensures { ReadsFiles (F.told shelf.old) (F.told shelf.new) (F.faults shelf.old) (F.faults shelf.new) journals.now
         (result_view writing_view result) (λ reader files. joined reader files journal_bytes journals.now) }
@@ -37,12 +37,12 @@ pub(crate) fn join<'a, F: Shelf>(
 }
 
 // The journal of the union of the journal of this name with the others.
-fn join_to<'a, F: Shelf>(
+fn join_to<'a, 'b, F: Shelf>(
     alloc: Global,
     name: &'a str,
     others: &'a [Text],
     shelf: &mut F,
-) -> Result<Writing, Failure<'a>>
+) -> Result<Writing<'b>, Failure<'a>>
     requires { All IsUtf8 others.now }
     ensures { ReadsFiles (F.told shelf.old) (F.told shelf.new) (F.faults shelf.old) (F.faults shelf.new) (name.now ∷ others.now)
         (result_view writing_view result) (λ reader files. joined reader files journal_bytes (name.now ∷ others.now)) }

@@ -14,7 +14,11 @@ use redl_tree::Say;
 use std::alloc::{AllocError, Global};
 
 /// The package with this text, where each revision is accepted, or else each is rejected.
-pub(crate) fn settle<'a>(alloc: Global, accept: bool, bytes: &[u8]) -> Result<Writing, Failure<'a>>
+pub(crate) fn settle<'a, 'b>(
+    alloc: Global,
+    accept: bool,
+    bytes: &'b [u8],
+) -> Result<Writing<'b>, Failure<'a>>
     ensures { Reads (result_view writing_view result) (λ reader. settled reader accept bytes.now) }
 {
     let package = read_package(alloc, bytes)?;
@@ -28,7 +32,7 @@ fn say_of(accept: bool) -> Say
 }
 
 fn settle_package(alloc: Global, say: Say, read: Package) -> Result<Writing, AllocError>
-    ensures { IfOk result (λ writing. writing_view writing ≡ only_bytes (passed_text (same_says say read) read)) }
+    ensures { IfOk result (λ writing. writing_view writing ≡ only_bytes (passed_text (same_says say read.entry) read.entry)) }
 {
     let numbered = number_package(alloc, read)?;
     let says = vec![in alloc; say; numbered.index.count() as usize]?;

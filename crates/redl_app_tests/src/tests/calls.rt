@@ -108,7 +108,7 @@ pub(super) struct Want<'a> {
     pub(super) lines: &'a str,
 }
 
-/// Calls with the words of this line.
+/// Calls with the words of this line, and without formats.
 pub(super) fn call(
     alloc: Global,
     line: &str,
@@ -117,10 +117,10 @@ pub(super) fn call(
     err: &mut MemSink,
 ) -> Result<Status, AllocError> {
     let words = words_of(alloc, line)?;
-    Ok(run(alloc, &words, shelf, out, err))
+    Ok(run(alloc, &words, shelf, out, err, &mut Vec::new(alloc)))
 }
 
-/// Calls over a shelf that never fails, and drops the output.
+/// Calls over a shelf that never fails, without formats, and drops the output.
 pub(super) fn call_surely(
     alloc: Global,
     line: &str,
@@ -128,7 +128,7 @@ pub(super) fn call_surely(
     err: &mut MemSink,
 ) -> Result<Status, AllocError> {
     let words = words_of(alloc, line)?;
-    Ok(run_surely(alloc, &words, shelf, err))
+    Ok(run_surely(alloc, &words, shelf, err, &mut Vec::new(alloc)))
 }
 
 /// Does the call with the words of this line over this shelf.

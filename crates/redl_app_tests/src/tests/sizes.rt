@@ -79,7 +79,14 @@ fn call(
     out: &mut NotingSink,
 ) -> Result<Status, AllocError> {
     let words = words_of(alloc, line)?;
-    Ok(run(alloc, &words, shelf, out, &mut NullSink))
+    Ok(run(
+        alloc,
+        &words,
+        shelf,
+        out,
+        &mut NullSink,
+        &mut Vec::new(alloc),
+    ))
 }
 
 #[test]

@@ -4,8 +4,8 @@ use Rattle.std.specs.Prelude.{List, [], ◌∷◌, ◌&&◌, ◌||◌, not, Bool
 use Rattle.redl_tree.specs.Model.Nodes.{Tag, Nodes, no_nodes, element, ◌⊕◌}
 use Rattle.redl_tree.specs.Roles.Names.{is}
 use Rattle.redl_tree.specs.Model.Kids.{only, without, has_element}
-use Rattle.redl_tree.specs.declared.node.Close.{Close}
-use Rattle.redl_tree.specs.declared.node.Close.TheVariants.{Empty, End}
+use Rattle.redl_tree.specs.Model.Nodes.{Close}
+use Rattle.redl_tree.specs.Model.Nodes.{Empty, End}
 
 -- What a node of a list gives by itself: a paragraph among blocks, with its tag, whether it is cut, and its passed kids; or
 -- the nodes that another thin or thick node gives, which may be none.

@@ -1,8 +1,8 @@
 -- The text of nodes.
 use Rattle.std.specs.Prelude.{ℕ, List, [], ◌∷◌, ◌++◌}
 use Rattle.redl_tree.specs.Model.Nodes.{Tag, Nodes, no_nodes, bytes, element, Item, bytes_item, element_item}
-use Rattle.redl_tree.specs.declared.node.Close.{Close}
-use Rattle.redl_tree.specs.declared.node.Close.TheVariants.{Empty, End}
+use Rattle.redl_tree.specs.Model.Nodes.{Close}
+use Rattle.redl_tree.specs.Model.Nodes.{Empty, End}
 
 -- a prefix and its colon, or nothing where there is no prefix
 abbrev pub prefix_text : List ℕ → List ℕ

@@ -1,20 +1,40 @@
 use Rattle.redl_app.proofs.ReadLaws.{reads_nothing}
 use Rattle.redl_app.proofs.commands.make_writing.Goals as goal
 
+pub name_of-requires : goal.name_of-requires
+name_of-requires g c = (rw c.in-List.is at c.requires.utf8).1
+
+pub list-requires-clause-utf8 : goal.list-requires-clause-utf8
+list-requires-clause-utf8 g c = rw c.deref-in-List.ensures.value (rw c.in-List.is at c.requires.utf8).3
+
 pub write-requires : goal.write-requires
-write-requires g c = rw c.deref-in-Write.ensures.value (rw c.in-Write.is at c.requires).2
+write-requires g c = rw c.deref-in-Write-2.ensures.value (rw c.in-Write.is at c.requires.utf8).2
 
 pub join-requires : goal.join-requires
-join-requires g c = rw c.deref-in-Join.ensures.value (rw c.in-Join.is at c.requires)
+join-requires g c = rw c.deref-in-Join.ensures.value (rw c.in-Join.is at c.requires.utf8)
 
-pub returns-in-Settle : goal.returns-in-Settle
-returns-in-Settle g c = rw c.in-Settle.is (reads_nothing _ _ _ c.settle.ensures)
+pub returns-in-Settle-clause-read : goal.returns-in-Settle-clause-read
+returns-in-Settle-clause-read g c = rw c.in-Settle.is (reads_nothing _ _ _ c.settle.ensures)
 
-pub returns-in-Write : goal.returns-in-Write
-returns-in-Write g c = rw c.in-Write.is (rw (c.deref.ensures.value, c.deref-in-Write.ensures.value) at c.write.ensures)
+pub returns-in-List-clause-read : goal.returns-in-List-clause-read
+returns-in-List-clause-read g c =
+    rw c.in-List.is (rw (c.name_of.ensures, c.deref.ensures.value, c.deref-in-List.ensures.value) at c.list.ensures.read)
 
-pub returns-in-Join : goal.returns-in-Join
-returns-in-Join g c = rw c.in-Join.is (rw c.deref-in-Join.ensures.value at c.join.ensures)
+pub returns-in-Write-clause-read : goal.returns-in-Write-clause-read
+returns-in-Write-clause-read g c = rw c.in-Write.is (rw (c.deref-in-Write.ensures.value, c.deref-in-Write-2.ensures.value) at c.write.ensures)
 
-pub returns-in-Check : goal.returns-in-Check
-returns-in-Check g c = rw c.in-Check.is (reads_nothing _ _ _ c.check.ensures)
+pub returns-in-Join-clause-read : goal.returns-in-Join-clause-read
+returns-in-Join-clause-read g c = rw c.in-Join.is (rw c.deref-in-Join.ensures.value at c.join.ensures)
+
+pub returns-in-Check-clause-read : goal.returns-in-Check-clause-read
+returns-in-Check-clause-read g c = rw c.in-Check.is (reads_nothing _ _ _ c.check.ensures)
+
+pub decide-requires-clause-journals : goal.decide-requires-clause-journals
+decide-requires-clause-journals g c = rw c.deref-in-Decide-2.ensures.value (rw c.in-Decide.is at c.requires.utf8).2
+
+pub returns-in-Decide-clause-read : goal.returns-in-Decide-clause-read
+returns-in-Decide-clause-read g c =
+    rw c.in-Decide.is (rw (c.deref-in-Decide.ensures.value, c.deref-in-Decide-2.ensures.value, c.deref-in-Decide-3.ensures.value) at c.decide.ensures)
+
+pub returns-in-Sample-clause-read : goal.returns-in-Sample-clause-read
+returns-in-Sample-clause-read g c = rw c.in-Sample.is (reads_nothing _ _ _ c.sample.ensures)

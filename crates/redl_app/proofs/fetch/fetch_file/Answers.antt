@@ -1,4 +1,4 @@
-use Rattle.std.proofs.Common.{◌≡◌, ◌+◌, Ok, Err, arith, length}
+use Rattle.std.proofs.Common.{◌+◌, Ok, Err, arith}
 use Rattle.std.proofs.lemmas.Result.{err_from_is_err_and}
 use Rattle.redl_app.proofs.FetchLaws.{front_too_long, front_whole}
 use Rattle.redl_app.proofs.ReadLaws.{reads_after, reads_stops, fetch_stops}

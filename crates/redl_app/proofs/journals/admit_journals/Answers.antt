@@ -1,4 +1,4 @@
-use Rattle.std.proofs.Common.{◌≡◌, ◌+◌, ◌-◌, ◌∷◌, drop, Contains, IsUtf8, arith, ap, sym, ◌∙◌, refl, rules, subst}
+use Rattle.std.proofs.Common.{◌≡◌, ◌+◌, ◌-◌, ◌∷◌, drop, Contains, IsUtf8, arith, ap, sym, ◌∙◌, refl, subst}
 use Rattle.std.proofs.lemmas.List.{drop_more, drop_all}
 use Rattle.std.proofs.lemmas.List.Elements.{All-get_or, Contains-get_or}
 use Rattle.std.proofs.lemmas.Result.{err_from_is_err_and}
@@ -16,13 +16,15 @@ name_of-requires g c =
 pub loop-journal-init : goal.loop-journal-init
 loop-journal-init g c = record {
   left = omega arith;
-  taking = taking_begins admission_with (g.F.Shelf.told c.args.shelf.now) (document_view c.args.document) (admission_view c.args.before) c.args.limit c.args.journals.now;
+  taking = taking_begins admission_with (g.F.Shelf.told c.args.shelf.now) (document_view c.args.before.document) (admission_view c.args.before) c.args.limit c.args.journals.now;
   told = refl;
   stands = refl;
+  nodes = refl;
+  revisions = refl;
 }
 
-pub returns-in_err-entries : goal.returns-in_err-entries
-returns-in_err-entries g c =
+pub returns-in_err-entries-clause-read : goal.returns-in_err-entries-clause-read
+returns-in_err-entries-clause-read g c =
     let p = err_from_is_err_and c.from_residual.result c.from_residual.ensures.1 in
     let journals = c.args.journals.now in
     let index = c.loop-journal.journal-index in
@@ -32,7 +34,7 @@ returns-in_err-entries g c =
     drop_more journals index c.journal-item.result c.loop-journal-test.true ∙ ap (λ one. one ∷ drop (index + 1) journals) (sym c.journal-item.is ∙ sym is) in
     let among : Contains journals name =
     rw (is, c.journal-item.is) (Contains-get_or journals index c.journal-item.result c.loop-journal-test.true) in
-    rw (p.1, p.2) (taking_stops admission_with _ (document_view c.args.document) (λ reader files. admission_of reader files (document_view c.args.document) (admission_view c.args.before) c.args.limit journals)
+    rw (p.1, p.2) (taking_stops admission_with _ (document_view c.args.before.document) (λ reader files. admission_of reader files (admission_view c.args.before) c.args.limit journals)
     (admission_view c.loop-journal.admitted) c.loop-journal.left name (drop (index + 1) journals) journals _
     c.loop-journal.invariant.told c.loop-journal.invariant.stands (rw here at c.loop-journal.invariant.taking)
     (λ one h. subst (Contains journals) (only_one name one h) among) c.in_err-entries.ensures.read)
@@ -45,22 +47,27 @@ loop-journal-preserved g c =
     let is : name ≡ c.journal-item.result = c.name_of.ensures in
     let here : drop index journals ≡ name ∷ drop (index + 1) journals =
     drop_more journals index c.journal-item.result c.loop-journal-test.true ∙ ap (λ one. one ∷ drop (index + 1) journals) (sym c.journal-item.is ∙ sym is) in
-    let P : Admission → Type 0 = λ a. IsTaking admission_with (g.F.Shelf.told c.args.shelf.now) (document_view c.args.document) (λ reader files. admission_of reader files (document_view c.args.document) (admission_view c.args.before) c.args.limit journals)
+    let among : Contains journals name =
+    rw (is, c.journal-item.is) (Contains-get_or journals index c.journal-item.result c.loop-journal-test.true) in
+    let P : Admission → Type 0 = λ a. IsTaking admission_with (g.F.Shelf.told c.args.shelf.now) journals (document_view c.args.before.document) (λ reader files. admission_of reader files (admission_view c.args.before) c.args.limit journals)
     a (c.loop-journal.left - c.in_ok-entries.size) (drop (index + 1) journals) in
-    let next = taking_goes_on admission_with admits_in_steps (g.F.Shelf.told c.args.shelf.now) (document_view c.args.document) (λ reader files. admission_of reader files (document_view c.args.document) (admission_view c.args.before) c.args.limit journals)
+    let next = taking_goes_on admission_with admits_in_steps (g.F.Shelf.told c.args.shelf.now) journals (document_view c.args.before.document) (λ reader files. admission_of reader files (admission_view c.args.before) c.args.limit journals)
     (admission_view c.loop-journal.admitted) c.loop-journal.left name (drop (index + 1) journals)
-    c.in_ok-entries.entries.items c.in_ok-entries.size c.loop-journal.invariant.told (rw here at c.loop-journal.invariant.taking) c.in_ok-entries.ensures.read in
+    c.in_ok-entries.entries.items c.in_ok-entries.size c.loop-journal.invariant.told (rw here at c.loop-journal.invariant.taking)
+    (λ one h. subst (Contains journals) (only_one name one h) among) c.in_ok-entries.ensures.read in
     record {
       left = omega (arith, c.loop-journal.invariant.left);
       taking = subst P (sym c.in_ok-admit.ensures) next;
       told = c.in_ok-entries.ensures.read.same_files ∙ c.loop-journal.invariant.told;
       stands = c.in_ok-entries.ensures.read.stands ∙ c.loop-journal.invariant.stands;
+      nodes = ap (λ (a : Admission). a.state.nodes) c.in_ok-admit.ensures ∙ c.loop-journal.invariant.nodes;
+      revisions = ap (λ (a : Admission). a.state.revisions) c.in_ok-admit.ensures ∙ c.loop-journal.invariant.revisions;
     }
 
-pub returns : goal.returns
-returns g c =
+pub returns-clause-read : goal.returns-clause-read
+returns-clause-read g c =
     let journals = c.args.journals.now in
     let none = drop_all c.loop-journal.journal-index journals (omega arith) in
-    taking_ends admission_with admits_nothing _ (document_view c.args.document) (λ reader files. admission_of reader files (document_view c.args.document) (admission_view c.args.before) c.args.limit journals)
+    taking_ends admission_with admits_nothing _ (document_view c.args.before.document) (λ reader files. admission_of reader files (admission_view c.args.before) c.args.limit journals)
     (admission_view c.loop-journal.admitted) c.loop-journal.left _ journals
     c.loop-journal.invariant.told c.loop-journal.invariant.stands (rw none at c.loop-journal.invariant.taking)

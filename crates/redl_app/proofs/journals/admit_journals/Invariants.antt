@@ -8,8 +8,10 @@ use Rattle.redl_app.proofs.journals.admit_journals.Given as goal
 abbrev pub invariant-loop-journal : goal.invariant-loop-journal
 invariant-loop-journal g l = record {
   left : l.left ≤ l.limit;
-  taking : IsTaking admission_with (g.F.Shelf.told l.initial.shelf) (document_view l.document)
-      (λ reader files. admission_of reader files (document_view l.document) (admission_view l.fn.before) l.limit l.journals) (admission_view l.admitted) l.left (drop l.journal-index l.journals);
+  taking : IsTaking admission_with (g.F.Shelf.told l.initial.shelf) l.journals (document_view l.fn.before.document)
+      (λ reader files. admission_of reader files (admission_view l.fn.before) l.limit l.journals) (admission_view l.admitted) l.left (drop l.journal-index l.journals);
   told : g.F.Shelf.told l.shelf ≡ g.F.Shelf.told l.initial.shelf;
   stands : g.F.Shelf.faults l.shelf ≡ g.F.Shelf.faults l.initial.shelf;
+  nodes : l.admitted.session.nodes ≡ l.fn.before.session.nodes;
+  revisions : l.admitted.session.revisions ≡ l.fn.before.session.revisions;
 }

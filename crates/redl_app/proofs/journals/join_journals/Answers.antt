@@ -1,4 +1,4 @@
-use Rattle.std.proofs.Common.{◌≡◌, ◌+◌, ◌∷◌, drop, Contains, IsUtf8, arith, ap, sym, ◌∙◌, refl, rules, subst}
+use Rattle.std.proofs.Common.{◌≡◌, ◌+◌, ◌∷◌, drop, Contains, IsUtf8, arith, ap, sym, ◌∙◌, refl, subst}
 use Rattle.std.proofs.lemmas.List.{drop_more, drop_all}
 use Rattle.std.proofs.lemmas.List.Elements.{All-get_or, Contains-get_or}
 use Rattle.std.proofs.lemmas.Result.{err_from_is_err_and}
@@ -46,9 +46,12 @@ loop-journal-preserved g c =
     let is : name ≡ c.journal-item.result = c.name_of.ensures in
     let here : drop index journals ≡ name ∷ drop (index + 1) journals =
     drop_more journals index c.journal-item.result c.loop-journal-test.true ∙ ap (λ one. one ∷ drop (index + 1) journals) (sym c.journal-item.is ∙ sym is) in
-    let next = taking_goes_on union (λ state first more. sym (union-append state first more)) _ (document_view c.args.document) (λ reader files. union_with reader files (document_view c.args.document) c.args.limit c.args.before journals)
+    let among : Contains journals name =
+    rw (is, c.journal-item.is) (Contains-get_or journals index c.journal-item.result c.loop-journal-test.true) in
+    let next = taking_goes_on union (λ state first more. sym (union-append state first more)) _ journals (document_view c.args.document) (λ reader files. union_with reader files (document_view c.args.document) c.args.limit c.args.before journals)
     (c.loop-journal.book) c.loop-journal.left name (drop (index + 1) journals)
-    c.in_ok-entries.entries.items c.in_ok-entries.size c.loop-journal.invariant.told (rw here at c.loop-journal.invariant.taking) c.in_ok-entries.ensures.read in
+    c.in_ok-entries.entries.items c.in_ok-entries.size c.loop-journal.invariant.told (rw here at c.loop-journal.invariant.taking)
+    (λ one h. subst (Contains journals) (only_one name one h) among) c.in_ok-entries.ensures.read in
     record {
       left = omega (arith, c.loop-journal.invariant.left);
       taking = rw c.in_ok-add_entries.ensures next;

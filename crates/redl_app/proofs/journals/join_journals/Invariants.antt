@@ -9,7 +9,7 @@ use Rattle.redl_app.proofs.journals.join_journals.Given as goal
 abbrev pub invariant-loop-journal : goal.invariant-loop-journal
 invariant-loop-journal g l = record {
   left : l.left ≤ l.limit;
-  taking : IsTaking union (g.F.Shelf.told l.initial.shelf) (document_view l.document)
+  taking : IsTaking union (g.F.Shelf.told l.initial.shelf) l.journals (document_view l.document)
       (λ reader files. union_with reader files (document_view l.document) l.limit l.fn.before l.journals) (l.book) l.left (drop l.journal-index l.journals);
   told : g.F.Shelf.told l.shelf ≡ g.F.Shelf.told l.initial.shelf;
   stands : g.F.Shelf.faults l.shelf ≡ g.F.Shelf.faults l.initial.shelf;

@@ -1,5 +1,5 @@
 use Rattle.std.proofs.Common.{ap}
-use Rattle.redl_app.proofs.JournalLaws.{reads_journal, reads_no_journal}
+use Rattle.redl_app.proofs.JournalLaws.{reads_journal}
 use Rattle.redl_app.specs.Journals.{journal_or_none}
 use Rattle.redl_journal.specs.Views.{journal_of}
 use Rattle.redl_app.proofs.journals.parse.Goals as goal

@@ -1,4 +1,4 @@
-use Rattle.std.proofs.Common.{sym, ◌∙◌, ap}
+use Rattle.std.proofs.Common.{sym}
 use Rattle.std.proofs.lemmas.Result.{err_from_is_err_and}
 use Rattle.redl_app.proofs.JournalLaws.{entries_other_document, entries_other_count, entries_of_it}
 use Rattle.redl_app.proofs.ReadLaws.{takes_stops, takes_then}

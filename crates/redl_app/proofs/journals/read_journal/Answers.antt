@@ -1,4 +1,4 @@
-use Rattle.std.proofs.Common.{◌≡◌, arith, Ok, Err, length, refl}
+use Rattle.std.proofs.Common.{◌≡◌, arith, Ok, length, refl}
 use Rattle.std.proofs.lemmas.Result.{err_from_is_err_and}
 use Rattle.redl_app.proofs.ReadLaws.{reads_stops, reads_then_takes, takes_stops, takes_ok}
 use Rattle.redl_app.specs.Journals.{entries_of}

@@ -1,4 +1,4 @@
-use Rattle.std.proofs.Common.{◌≡◌, ◌∙◌, sym, ap}
+use Rattle.std.proofs.Common.{◌∙◌, sym, ap}
 use Rattle.redl_index.proofs.AgainLaws.{revisions-numbered}
 use Rattle.redl_index.specs.Revisions.{revisions_of}
 use Rattle.redl_rules.specs.Attributes.{has_id, declares, broken_rule}
@@ -18,6 +18,6 @@ start-requires c =
 
 pub returns : goal.returns
 returns c =
-    starts c.args.read c.args.locks.now c.in_ok-numbered.numbered.«package» c.in_ok-numbered.numbered.index c.new-locks.result c.in_ok-start.field-0 c.new.result c.count-count.result
-    c.in_ok-start.ensures c.in_ok-numbered.ensures.numbered c.in_ok-numbered.ensures.index (c.new-locks.ensures ∙ c.in_ok-copy_texts.ensures)
+    starts c.args.bytes.now c.args.read c.args.locks.now c.digest_of.result c.in_ok-numbered.numbered.«package» c.in_ok-numbered.numbered.index c.new-locks.result c.in_ok-start.field-0 c.new.result c.count-count.result
+    c.digest_of.ensures c.in_ok-start.ensures c.in_ok-numbered.ensures.numbered c.in_ok-numbered.ensures.index (c.new-locks.ensures ∙ c.in_ok-copy_texts.ensures)
     c.new.ensures (c.count-count.ensures ∙ c.in_ok-numbered.ensures.count)

@@ -1,13 +1,13 @@
-use Rattle.std.proofs.Common.{◌≡◌, ◌∙◌, sym, ap, ◌⊎◌, inl, inr, ℕ, List}
+use Rattle.std.proofs.Common.{◌≡◌, ◌∙◌, sym, ℕ, List}
 use Rattle.redl_app.proofs.TopLaws.{due_by, answers, writes, tells, read_cause, write_cause, out_stands, untouched, shelf_stands}
-use Rattle.redl_app.proofs.WordLaws.{are_named, is_wanted, ends_as_usage}
+use Rattle.redl_app.proofs.WordLaws.{are_named, is_wanted, ends_as_usage, leaves_by_words, leaves_all, names_asked}
 use Rattle.redl_lines.specs.Ends.{Tells, end_view}
 use Rattle.redl_app.proofs.top.run.Goals as goal
 
 pub returns-clause-status : goal.returns-clause-status
 returns-clause-status g c =
-    let ends = c.end_call-end.ensures.ends (due_by c.args.words.now) (is_wanted c.args.words.now c.read_words-read.result c.read_words-read.ensures.found c.read_words-read.ensures.usage) in
-    rw c.status.ensures (answers ends)
+    let ends = c.end_call-end.ensures.ends (due_by c.args.words.now _) (is_wanted c.args.words.now _ c.read_words-read.result c.read_words-read.ensures.found c.read_words-read.ensures.usage) in
+    rw c.status.ensures (answers _ (names_asked c.args.words.now _ c.read_words-read.result c.read_words-read.ensures.found) ends)
 
 pub returns-clause-usage : goal.returns-clause-usage
 returns-clause-usage g c = λ none.
@@ -15,43 +15,52 @@ returns-clause-usage g c = λ none.
 
 pub returns-clause-read : goal.returns-clause-read
 returns-clause-read g c = λ fault.
-    let ends = c.end_call-end.ensures.ends (due_by c.args.words.now) (is_wanted c.args.words.now c.read_words-read.result c.read_words-read.ensures.found c.read_words-read.ensures.usage) in
-    read_cause (are_named c.args.words.now c.read_words-read.result c.read_words-read.ensures.found) ends (sym c.status.ensures ∙ fault)
+    let ends = c.end_call-end.ensures.ends (due_by c.args.words.now _) (is_wanted c.args.words.now _ c.read_words-read.result c.read_words-read.ensures.found c.read_words-read.ensures.usage) in
+    read_cause (are_named c.args.words.now _ c.read_words-read.result c.read_words-read.ensures.found) ends (sym c.status.ensures ∙ fault)
 
 pub returns-clause-write : goal.returns-clause-write
 returns-clause-write g c = λ fault.
-    let ends = c.end_call-end.ensures.ends (due_by c.args.words.now) (is_wanted c.args.words.now c.read_words-read.result c.read_words-read.ensures.found c.read_words-read.ensures.usage) in
+    let ends = c.end_call-end.ensures.ends (due_by c.args.words.now _) (is_wanted c.args.words.now _ c.read_words-read.result c.read_words-read.ensures.found c.read_words-read.ensures.usage) in
     write_cause _ _ _ _ ends.made _ ends.finishes (sym c.status.ensures ∙ fault)
 
 pub returns-clause-shelf_stands : goal.returns-clause-shelf_stands
 returns-clause-shelf_stands g c = λ other.
-    let ends = c.end_call-end.ensures.ends (due_by c.args.words.now) (is_wanted c.args.words.now c.read_words-read.result c.read_words-read.ensures.found c.read_words-read.ensures.usage) in
+    let ends = c.end_call-end.ensures.ends (due_by c.args.words.now _) (is_wanted c.args.words.now _ c.read_words-read.result c.read_words-read.ensures.found c.read_words-read.ensures.usage) in
     shelf_stands _ _ _ _ ends.made (end_view c.end_call-end.result) (g.F.Shelf.faults c.end_call-end.new.shelf ≡ g.F.Shelf.faults c.args.shelf.now) ends.finishes ends.reads.stands (λ e. other (c.status.ensures ∙ e))
 
 pub returns-clause-out_stands : goal.returns-clause-out_stands
 returns-clause-out_stands g c = λ other.
-    let ends = c.end_call-end.ensures.ends (due_by c.args.words.now) (is_wanted c.args.words.now c.read_words-read.result c.read_words-read.ensures.found c.read_words-read.ensures.usage) in
+    let ends = c.end_call-end.ensures.ends (due_by c.args.words.now _) (is_wanted c.args.words.now _ c.read_words-read.result c.read_words-read.ensures.found c.read_words-read.ensures.usage) in
     out_stands _ _ _ _ ends.made (end_view c.end_call-end.result) ends.finishes (λ e. other (c.status.ensures ∙ e))
 
 pub returns-clause-same_files : goal.returns-clause-same_files
 returns-clause-same_files g c =
-    let ends = c.end_call-end.ensures.ends (due_by c.args.words.now) (is_wanted c.args.words.now c.read_words-read.result c.read_words-read.ensures.found c.read_words-read.ensures.usage) in
+    let ends = c.end_call-end.ensures.ends (due_by c.args.words.now _) (is_wanted c.args.words.now _ c.read_words-read.result c.read_words-read.ensures.found c.read_words-read.ensures.usage) in
     ends.reads.same_files
 
 pub returns-clause-bytes : goal.returns-clause-bytes
 returns-clause-bytes g c =
-    let ends = c.end_call-end.ensures.ends (due_by c.args.words.now) (is_wanted c.args.words.now c.read_words-read.result c.read_words-read.ensures.found c.read_words-read.ensures.usage) in
-    rw c.status.ensures (writes ends)
+    let ends = c.end_call-end.ensures.ends (due_by c.args.words.now _) (is_wanted c.args.words.now _ c.read_words-read.result c.read_words-read.ensures.found c.read_words-read.ensures.usage) in
+    rw c.status.ensures (writes _ (names_asked c.args.words.now _ c.read_words-read.result c.read_words-read.ensures.found) ends)
 
 pub returns-clause-untouched : goal.returns-clause-untouched
 returns-clause-untouched g c = λ not_done not_refused not_failed.
-    let ends = c.end_call-end.ensures.ends (due_by c.args.words.now) (is_wanted c.args.words.now c.read_words-read.result c.read_words-read.ensures.found c.read_words-read.ensures.usage) in
+    let ends = c.end_call-end.ensures.ends (due_by c.args.words.now _) (is_wanted c.args.words.now _ c.read_words-read.result c.read_words-read.ensures.found c.read_words-read.ensures.usage) in
     untouched _ _ _ _ ends.made (end_view c.end_call-end.result) ends.finishes
     (λ e. not_done (c.status.ensures ∙ e)) (λ e. not_refused (c.status.ensures ∙ e)) (λ e. not_failed (c.status.ensures ∙ e))
 
 pub returns-clause-lines : goal.returns-clause-lines
 returns-clause-lines g c =
-    let ends = c.end_call-end.ensures.ends (due_by c.args.words.now) (is_wanted c.args.words.now c.read_words-read.result c.read_words-read.ensures.found c.read_words-read.ensures.usage) in
+    let ends = c.end_call-end.ensures.ends (due_by c.args.words.now _) (is_wanted c.args.words.now _ c.read_words-read.result c.read_words-read.ensures.found c.read_words-read.ensures.usage) in
     rw c.status.ensures (tells
     (λ (lines : List ℕ). Tells (g.E.Sink.told c.args.err.now) (g.E.Sink.told c.tell.new.err) (g.E.Sink.faults c.args.err.now) (g.E.Sink.faults c.tell.new.err) lines)
-    (are_named c.args.words.now c.read_words-read.result c.read_words-read.ensures.found) ends c.tell.ensures)
+    (are_named c.args.words.now _ c.read_words-read.result c.read_words-read.ensures.found) (names_asked c.args.words.now _ c.read_words-read.result c.read_words-read.ensures.found) ends c.tell.ensures)
+
+pub returns-clause-taken : goal.returns-clause-taken
+returns-clause-taken g c = λ command reads.
+    rw c.status.ensures (leaves_by_words _ _ _ c.args.words.now c.read_words-read.result (end_view c.end_call-end.result) c.read_words-read.ensures.found c.read_words-read.ensures.usage
+    c.end_call-end.ensures.taken c.end_call-end.ensures.no_format c.end_call-end.ensures.words command reads)
+
+pub returns-clause-no_format : goal.returns-clause-no_format
+returns-clause-no_format g c = λ none.
+    leaves_all _ _ c.args.words.now c.read_words-read.result c.read_words-read.ensures.found c.end_call-end.ensures.no_format none

@@ -4,7 +4,6 @@ use Rattle.redl_tree.specs.Model.Count.{count}
 use Rattle.redl_tree.specs.Model.Nodes.{Nodes, Item, element_item}
 use Rattle.redl_tree.specs.Model.Seen.{Spot, spot, seen_one, seen_from, tags}
 use Rattle.redl_tree.specs.Model.View.{tag_of, kids_of, item_of, nodes_of}
-use Rattle.redl_tree.specs.declared.node.Node.{Node}
 use Rattle.redl_tree.proofs.Laws.{item_of-Elem, nodes_here, nodes_end, count-in_front}
 use Rattle.redl_opc.proofs.PartLaws.{tails-more}
 use Rattle.redl_markers.specs.Ends.{one_end, ends_from}
@@ -14,7 +13,7 @@ use Rattle.redl_markers.proofs.FreeLaws.{every-step}
 use Rattle.redl_markers.proofs.WalkLaws.{tags-step}
 use Rattle.redl_index.specs.Contexts.{context_of, inside_context}
 use Rattle.redl_index.specs.Mentions.{Sight}
-use Rattle.redl_index.specs.Stories.{tags_in, sight_of}
+use Rattle.redl_index.specs.Stories.{tails_in, sight_of}
 use Rattle.redl_index.specs.Tallies.{Tally, noted, noted_all, IsTally}
 use Rattle.redl_index.proofs.TallyLaws.{sight-is, noted-step, ends-left}
 use Rattle.redl_index.proofs.find.+members.Goals as goal
@@ -31,13 +30,13 @@ find_in_elem-returns-clause-found t c = λ above later tally here ends free had.
     let left = ends_from (at + 1) kids ++ later in
     let split = ends ∙ append_assoc (one_end tag end) (ends_from (at + 1) kids) later in
     let next = c.inside-inside.new.self.at + 1 in
-    let below = nodes_of c.deref.result.now in
+    let below = nodes_of c.kids.result.now in
     let moved : at + 1 ≡ next = ap (λ n. n + 1) (sym c.inside-inside.ensures.at) in
-    let same : kids ≡ below = ap (λ (ns : List Node). nodes_of ns) (sym c.deref.ensures.value) in
+    let same : kids ≡ below = sym c.kids.ensures.kids in
     let one = noted story.part tally (sight_of story x) in
     let Noted : Sight → Type 0 = λ sight. IsTally c.add.new.self (noted story.part tally sight) in
     let added : IsTally c.add.new.self one =
-    subst Noted (sight-is (tags_in story) tag.tail (c.sight-sight.ensures.kind above kids here free.0) (c.sight-sight.ensures.start above kids here free.0))
+    subst Noted (sight-is (tails_in story) tag.tail (c.sight-sight.ensures.kind above kids here free.0) (c.sight-sight.ensures.start above kids here free.0))
     (c.in_ok-add.ensures.tally tally had) in
     let Ends : ℕ → Nodes → Type 0 = λ n ns. c.inside-inside.new.self.ends.now ≡ ends_from n ns ++ later in
     let Free : ℕ → Nodes → Type 0 = λ n ns. Every (IsFree story.moves) (seen_from up n ns) in

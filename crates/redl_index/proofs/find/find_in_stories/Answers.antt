@@ -18,7 +18,7 @@ loop-part-init c =
     record {
       at_most = omega (arith, ap length c.requires.index, count_from-start pkg);
       index = ap (λ (rs : List Revision). rs ++ numbered (1 + length rs) (revisions_from 0 (parts_of pkg))) c.requires.index;
-      labels = ap (λ (rs : List Revision). c.args.found.now.labels.items ++ labels_of (1 + length rs) (stories_from 0 pkg)) c.requires.index
+      labels = ap (λ (rs : List Revision). c.args.found.now.labels ++ labels_of (1 + length rs) (stories_from 0 pkg)) c.requires.index
           ∙ ap (λ (ls : List Label). ls ++ labels_of 1 (stories_from 0 pkg)) c.requires.labels
           ∙ ap (labels_of 1) (stories_from-start pkg c.parts-part-end.ensures.shape);
     }
@@ -28,20 +28,20 @@ loop-part-preserved c =
     let pkg = c.args.pkg.now in
     let part = c.loop-part.part in
     let old = c.loop-part.found.index in
-    let had = c.loop-part.found.labels.items in
+    let had = c.loop-part.found.labels in
     let found = c.find_in_story.new.found in
     let root = element_of c.in-Some.root.now in
     let is_story : story pkg part ≡ Some root = c.in-Some.ensures.value in
     let within : part < length (parts_of pkg) = omega (arith, c.parts-part-end.ensures.value) in
     let found_is : found.index ≡ old ++ numbered (1 + length old) (revisions_in part (story pkg part)) =
     c.in_ok-find_in_story.ensures.index ∙ ap (λ o. old ++ numbered (1 + length old) (revisions_in part o)) (sym is_story) in
-    let labels_are : found.labels.items ≡ had ++ labels_of (1 + length old) (stories_of_part pkg part) =
+    let labels_are : found.labels ≡ had ++ labels_of (1 + length old) (stories_of_part pkg part) =
     c.in_ok-find_in_story.ensures.labels ∙ ap (λ ls. had ++ ls) (sym (append-nil (story_labels (1 + length old) root.tag root.kids)))
     ∙ ap (λ o. had ++ labels_of (1 + length old) (option_to_list (option_map story_view o))) (sym is_story) in
     record {
       at_most = omega (arith, c.in_ok-find_in_story.ensures.at_most, count_from-story pkg part root within is_story, c.loop-part.invariant.at_most);
       index = found-part pkg part within old found.index found_is ∙ c.loop-part.invariant.index;
-      labels = labelled-part pkg part within old found.index found_is had found.labels.items labels_are ∙ c.loop-part.invariant.labels;
+      labels = labelled-part pkg part within old found.index found_is had found.labels labels_are ∙ c.loop-part.invariant.labels;
     }
 
 pub loop-part-preserved-in_default : goal.loop-part-preserved-in_default
@@ -49,7 +49,7 @@ loop-part-preserved-in_default c =
     let pkg = c.args.pkg.now in
     let part = c.loop-part.part in
     let old = c.loop-part.found.index in
-    let had = c.loop-part.found.labels.items in
+    let had = c.loop-part.found.labels in
     let none : story pkg part ≡ None = c.in_default.ensures.value in
     let within : part < length (parts_of pkg) = omega (arith, c.parts-part-end.ensures.value) in
     let found_is : old ≡ old ++ numbered (1 + length old) (revisions_in part (story pkg part)) =
@@ -81,6 +81,6 @@ returns c =
     record {
       index = index;
       count = ap length index ∙ length-revisions_of pkg c.parts-part-end.ensures.shape;
-      labels = sym (append-nil c.loop-part.found.labels.items)
-          ∙ ap (λ ss. c.loop-part.found.labels.items ++ labels_of (1 + length old) ss) (sym (stories_from-end pkg part past)) ∙ c.loop-part.invariant.labels;
+      labels = sym (append-nil c.loop-part.found.labels)
+          ∙ ap (λ ss. c.loop-part.found.labels ++ labels_of (1 + length old) ss) (sym (stories_from-end pkg part past)) ∙ c.loop-part.invariant.labels;
     }

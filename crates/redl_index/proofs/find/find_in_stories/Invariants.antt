@@ -13,5 +13,5 @@ abbrev pub invariant-loop-part : goal.invariant-loop-part
 invariant-loop-part l = record {
   at_most : length l.found.index + count_from l.part l.pkg ≤ count l.pkg;
   index : l.found.index ++ numbered (1 + length l.found.index) (revisions_from l.part (drop l.part (parts_of l.pkg))) ≡ revisions_of l.pkg;
-  labels : l.found.labels.items ++ labels_of (1 + length l.found.index) (stories_from l.part l.pkg) ≡ labels_of 1 (stories l.pkg);
+  labels : l.found.labels ++ labels_of (1 + length l.found.index) (stories_from l.part l.pkg) ≡ labels_of 1 (stories l.pkg);
 }

@@ -1,18 +1,18 @@
-use Rattle.std.proofs.Common.{◌≡◌, ◌∙◌, ◌++◌, [], ap, sym, subst, arith, List, slice_get}
+use Rattle.std.proofs.Common.{◌≡◌, ◌∙◌, ◌++◌, [], ap, sym, subst, arith, List, All}
+use Rattle.std.specs.Str.{IsUtf8}
 use Rattle.std.proofs.lemmas.List.{append-nil}
 use Rattle.std.proofs.lemmas.Result.{on_ok_weaker}
 use Rattle.redl_tree.specs.Roles.Arounds.{inside_of}
 use Rattle.redl_tree.specs.Revisions.Moves.{Marking}
-use Rattle.redl_tree.specs.Model.Nodes.{Tag, Nodes}
+use Rattle.redl_tree.specs.Model.Nodes.{Nodes}
 use Rattle.redl_tree.specs.Model.Seen.{tags, root_spots, seen_from}
 use Rattle.redl_tree.specs.Model.View.{nodes_of, tag_of, kids_of}
-use Rattle.redl_tree.specs.declared.node.Node.{Node}
 use Rattle.redl_markers.specs.Ends.{ends_from}
 use Rattle.redl_markers.specs.Found.{markers_of}
 use Rattle.redl_markers.specs.Free.{Every, IsFree}
 use Rattle.redl_markers.proofs.FreeLaws.{story-free}
 use Rattle.redl_markers.proofs.StoryLaws.{tags-count}
-use Rattle.redl_markers.proofs.TailLaws.{utf8-tags}
+use Rattle.redl_markers.proofs.TailLaws.{utf8-tails}
 use Rattle.redl_index.specs.Tallies.{Tally, IsTally}
 use Rattle.redl_index.proofs.ContextLaws.{context-root, root-no_p}
 use Rattle.redl_index.proofs.RevisionLaws.{story-index, story-labels, told-tally}
@@ -20,23 +20,21 @@ use Rattle.redl_index.proofs.find.find_in_story.Goals as goal
 
 pub find_in_nodes-requires-clause-fits : goal.find_in_nodes-requires-clause-fits
 find_in_nodes-requires-clause-fits c =
-    let same = ap (λ (ns : List Node). tags (nodes_of ns)) c.deref-2.ensures.value in
-    omega (arith, same, tags-count (kids_of c.args.root.now), c.requires.few)
+    omega (arith, ap tags c.kids.ensures.kids, tags-count (kids_of c.args.root.now), c.requires.few)
 
 pub find_in_nodes-requires-clause-marker_tails : goal.find_in_nodes-requires-clause-marker_tails
-find_in_nodes-requires-clause-marker_tails c = λ i tag is.
-    utf8-tags (tag_of c.args.root.now) (kids_of c.args.root.now) c.requires.tails i tag
-    (ap (λ (tags : List Tag). slice_get tags i) (sym c.in_ok-markers.ensures.elems) ∙ is)
+find_in_nodes-requires-clause-marker_tails c =
+    subst (All IsUtf8) (sym c.in_ok-markers.ensures.tails) (utf8-tails (tag_of c.args.root.now) (kids_of c.args.root.now) c.requires.tails)
 
 pub returns-clause-index : goal.returns-clause-index
 returns-clause-index c =
     let root = tag_of c.args.root.now in
     let kids = kids_of c.args.root.now in
     let base = c.args.found.now.index in
-    let labels = c.args.found.now.labels.items in
+    let labels = c.args.found.now.labels in
     let marks = c.in_ok-moves.moves in
-    let below = nodes_of c.deref-2.result.now in
-    let same : below ≡ kids = ap (λ (ns : List Node). nodes_of ns) c.deref-2.ensures.value in
+    let below = nodes_of c.kids.result.now in
+    let same : below ≡ kids = c.kids.ensures.kids in
     let is_marks : marks ≡ markers_of root kids = c.in_ok-moves.ensures ∙ c.in_ok-markers.ensures.marks in
     let here = context-root root kids c.inside.result (c.inside.ensures ∙ ap (inside_of root) c.top.ensures) (root-no_p root c.requires.root) in
     let ends = c.deref.ensures.value ∙ c.in_ok-markers.ensures.ends ∙ sym (append-nil (ends_from 1 kids)) ∙ ap (λ ns. ends_from 1 ns ++ []) (sym same) in
@@ -47,7 +45,7 @@ returns-clause-index c =
     on_ok_weaker c.find_in_nodes.result
     (λ found.
     (found (root_spots root kids) [] (record { index = base; labels = labels; moves = [] }) here ends free begun).index
-    ∙ ap (λ (t : Tally). t.index) (told-tally c.args.part base labels root kids marks _ below is_marks c.in_ok-markers.ensures.elems same)
+    ∙ ap (λ (t : Tally). t.index) (told-tally c.args.part base labels root kids marks _ below is_marks c.in_ok-markers.ensures.tails same)
     ∙ story-index c.args.part base labels root kids (omega (arith, c.requires.few)))
     c.find_in_nodes.ensures.found
 
@@ -56,10 +54,10 @@ returns-clause-labels c =
     let root = tag_of c.args.root.now in
     let kids = kids_of c.args.root.now in
     let base = c.args.found.now.index in
-    let labels = c.args.found.now.labels.items in
+    let labels = c.args.found.now.labels in
     let marks = c.in_ok-moves.moves in
-    let below = nodes_of c.deref-2.result.now in
-    let same : below ≡ kids = ap (λ (ns : List Node). nodes_of ns) c.deref-2.ensures.value in
+    let below = nodes_of c.kids.result.now in
+    let same : below ≡ kids = c.kids.ensures.kids in
     let is_marks : marks ≡ markers_of root kids = c.in_ok-moves.ensures ∙ c.in_ok-markers.ensures.marks in
     let here = context-root root kids c.inside.result (c.inside.ensures ∙ ap (inside_of root) c.top.ensures) (root-no_p root c.requires.root) in
     let ends = c.deref.ensures.value ∙ c.in_ok-markers.ensures.ends ∙ sym (append-nil (ends_from 1 kids)) ∙ ap (λ ns. ends_from 1 ns ++ []) (sym same) in
@@ -70,6 +68,6 @@ returns-clause-labels c =
     on_ok_weaker c.find_in_nodes.result
     (λ found.
     (found (root_spots root kids) [] (record { index = base; labels = labels; moves = [] }) here ends free begun).labels
-    ∙ ap (λ (t : Tally). t.labels) (told-tally c.args.part base labels root kids marks _ below is_marks c.in_ok-markers.ensures.elems same)
+    ∙ ap (λ (t : Tally). t.labels) (told-tally c.args.part base labels root kids marks _ below is_marks c.in_ok-markers.ensures.tails same)
     ∙ story-labels c.args.part base labels root kids)
     c.find_in_nodes.ensures.found

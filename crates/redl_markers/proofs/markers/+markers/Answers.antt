@@ -1,15 +1,14 @@
 use Rattle.std.proofs.Common.{◌∙◌, ℕ, ◌+◌, ap, arith, drop, ◌++◌, ◌∷◌, set, if◌then◌else◌, List, filter_map, map}
 use Rattle.redl_tree.specs.Roles.Names.{is}
-use Rattle.redl_tree.specs.declared.node.Node.{Node}
 use Rattle.redl_markers.specs.Ends.{ends_from}
 use Rattle.redl_markers.specs.Trails.{inside_trail}
-use Rattle.redl_markers.specs.Walks.{marker_by, tag_by, element_ends}
+use Rattle.redl_markers.specs.Walks.{marker_by, tail_by, element_ends}
 use Rattle.redl_tree.specs.Model.View.{nodes_of, item_of, tag_of, kids_of}
 use Rattle.redl_tree.specs.Model.Seen.{spot, tags, seen_from}
 use Rattle.redl_tree.proofs.Laws.{nodes_here}
 use Rattle.redl_tree.specs.Revisions.Markers.{marker_of}
 use Rattle.redl_stamp.specs.Attribute.{attribute_value}
-use Rattle.redl_markers.specs.Found.{marker_tag}
+use Rattle.redl_markers.specs.Found.{marker_tail}
 use Rattle.redl_moves.specs.Marks.{markings}
 use Rattle.redl_markers.proofs.WalkLaws.{tags-step, ends-step, seen-step, ends-element, seen-element}
 use Rattle.redl_markers.proofs.markers.+markers.Goals as goal
@@ -25,8 +24,8 @@ find_in_elem-returns-clause-ends t c =
     c.mend_end.ensures
     ∙ ap (λ place. if is "p" tag then set all place end else all) (omega (arith, c.add_marker.new.self.ends.ok.0))
     ∙ ends-element at end tag kids old c.note_end.new.ends.items all c.in_ok-note_end.ensures
-    (c.in_ok-end.ensures.ends ∙ ap (λ (ns : List Node). c.note_end.new.ends.items ++ ends_from (at + 1) (nodes_of ns)) c.deref.ensures.value)
-    (c.in_ok-end.ensures.after ∙ ap (λ (ns : List Node). (at + 1) + tags (nodes_of ns)) c.deref.ensures.value)
+    (c.in_ok-end.ensures.ends ∙ ap (λ ns. c.note_end.new.ends.items ++ ends_from (at + 1) ns) c.kids.ensures.kids)
+    (c.in_ok-end.ensures.after ∙ ap (λ ns. (at + 1) + tags ns) c.kids.ensures.kids)
     ∙ ap (λ (xs : List ℕ). xs ++ element_ends at tag kids) c.in_ok-add_marker.ensures.ends
 
 pub find_in_elem-returns-clause-marks : goal.find_in_elem-returns-clause-marks
@@ -39,19 +38,19 @@ find_in_elem-returns-clause-marks t c = λ above is.
     (markings c.args.found.now.marks.items) mid (markings c.find_in_nodes.new.found.marks.items)
     (ap (λ trail. marker_by trail at tag) is) c.in_ok-add_marker.ensures.marks
     (c.in_ok-end.ensures.marks (spot at tag kids ∷ above) (c.inside.ensures ∙ ap (inside_trail tag kids) is)
-    ∙ ap (λ (ns : List Node). mid ++ filter_map (marker_of attribute_value) (seen_from (spot at tag kids ∷ above) (at + 1) (nodes_of ns))) c.deref.ensures.value)
+    ∙ ap (λ ns. mid ++ filter_map (marker_of attribute_value) (seen_from (spot at tag kids ∷ above) (at + 1) ns)) c.kids.ensures.kids)
 
-pub find_in_elem-returns-clause-elems : goal.find_in_elem-returns-clause-elems
-find_in_elem-returns-clause-elems t c = λ above is.
+pub find_in_elem-returns-clause-tails : goal.find_in_elem-returns-clause-tails
+find_in_elem-returns-clause-tails t c = λ above is.
     let at = c.args.at in
     let tag = tag_of c.args.elem.now in
     let kids = kids_of c.args.elem.now in
-    let mid = map (λ elem. tag_of elem.now) c.add_marker.new.self.elems.items in
-    seen-element marker_tag above at tag kids (tag_by c.args.trail at tag)
-    (map (λ elem. tag_of elem.now) c.args.found.now.elems.items) mid (map (λ elem. tag_of elem.now) c.find_in_nodes.new.found.elems.items)
-    (ap (λ trail. tag_by trail at tag) is) c.in_ok-add_marker.ensures.elems
-    (c.in_ok-end.ensures.elems (spot at tag kids ∷ above) (c.inside.ensures ∙ ap (inside_trail tag kids) is)
-    ∙ ap (λ (ns : List Node). mid ++ filter_map marker_tag (seen_from (spot at tag kids ∷ above) (at + 1) (nodes_of ns))) c.deref.ensures.value)
+    let mid = map (λ tail. tail.now) c.add_marker.new.self.tails.items in
+    seen-element marker_tail above at tag kids (tail_by c.args.trail at tag)
+    (map (λ tail. tail.now) c.args.found.now.tails.items) mid (map (λ tail. tail.now) c.find_in_nodes.new.found.tails.items)
+    (ap (λ trail. tail_by trail at tag) is) c.in_ok-add_marker.ensures.tails
+    (c.in_ok-end.ensures.tails (spot at tag kids ∷ above) (c.inside.ensures ∙ ap (inside_trail tag kids) is)
+    ∙ ap (λ ns. mid ++ filter_map marker_tail (seen_from (spot at tag kids ∷ above) (at + 1) ns)) c.kids.ensures.kids)
 
 pub find_in_nodes-loop-node-preserved : goal.find_in_nodes-loop-node-preserved
 find_in_nodes-loop-node-preserved t c =
@@ -72,9 +71,9 @@ find_in_nodes-loop-node-preserved t c =
           seen-step at next (item_of x) rest left c.in_ok-at.ensures.after here (marker_of attribute_value) above
           (markings c.loop-node.found.marks.items) (markings c.find_in_node.new.found.marks.items) (c.in_ok-at.ensures.marks above is)
           ∙ c.loop-node.invariant.marks above is;
-      elems = λ above is.
-          seen-step at next (item_of x) rest left c.in_ok-at.ensures.after here marker_tag above
-          (map (λ elem. tag_of elem.now) c.loop-node.found.elems.items) (map (λ elem. tag_of elem.now) c.find_in_node.new.found.elems.items)
-          (c.in_ok-at.ensures.elems above is)
-          ∙ c.loop-node.invariant.elems above is;
+      tails = λ above is.
+          seen-step at next (item_of x) rest left c.in_ok-at.ensures.after here marker_tail above
+          (map (λ tail. tail.now) c.loop-node.found.tails.items) (map (λ tail. tail.now) c.find_in_node.new.found.tails.items)
+          (c.in_ok-at.ensures.tails above is)
+          ∙ c.loop-node.invariant.tails above is;
     }

@@ -1,10 +1,10 @@
 use Rattle.std.proofs.Common.{◌≡◌, ◌+◌, ◌++◌, List, drop, filter_map, map}
-use Rattle.redl_tree.specs.Model.View.{nodes_of, tag_of}
+use Rattle.redl_tree.specs.Model.View.{nodes_of}
 use Rattle.redl_tree.specs.Model.Seen.{Spot, tags, seen_from}
 use Rattle.redl_tree.specs.Revisions.Markers.{marker_of}
 use Rattle.redl_stamp.specs.Attribute.{attribute_value}
 use Rattle.redl_moves.specs.Marks.{markings}
-use Rattle.redl_markers.specs.Found.{marker_tag}
+use Rattle.redl_markers.specs.Found.{marker_tail}
 use Rattle.redl_markers.specs.Ends.{ends_from}
 use Rattle.redl_markers.specs.Trails.{trail_of}
 use Rattle.redl_markers.proofs.markers.+markers.Given as goal
@@ -17,7 +17,7 @@ invariant-find_in_nodes-loop-node l = record {
   marks : (above : List Spot) → l.trail ≡ trail_of above
       → markings l.found.marks.items ++ filter_map (marker_of attribute_value) (seen_from above l.at (nodes_of (drop l.node-index l.nodes)))
       ≡ markings l.initial.found.marks.items ++ filter_map (marker_of attribute_value) (seen_from above l.first (nodes_of l.nodes));
-  elems : (above : List Spot) → l.trail ≡ trail_of above
-      → map (λ elem. tag_of elem.now) l.found.elems.items ++ filter_map marker_tag (seen_from above l.at (nodes_of (drop l.node-index l.nodes)))
-      ≡ map (λ elem. tag_of elem.now) l.initial.found.elems.items ++ filter_map marker_tag (seen_from above l.first (nodes_of l.nodes));
+  tails : (above : List Spot) → l.trail ≡ trail_of above
+      → map (λ tail. tail.now) l.found.tails.items ++ filter_map marker_tail (seen_from above l.at (nodes_of (drop l.node-index l.nodes)))
+      ≡ map (λ tail. tail.now) l.initial.found.tails.items ++ filter_map marker_tail (seen_from above l.first (nodes_of l.nodes));
 }

@@ -10,7 +10,7 @@ use Rattle.redl_opc.proofs.listing.list_parts.Goals.{in-Elem+in_ok-name+in_ok-pu
 
 pub invariant_of-push : goal.invariant_of-push
 invariant_of-push c =
-    let tail : IsUtf8 c.in-Elem.elem.tail =
+    let tail : IsUtf8 (tag_of c.in-Elem.elem).tail =
     tails-element c.args.nodes.now c.loop-place.place c.index-nodes-place.result c.in-Elem.elem c.loop-place-test.true c.index-nodes-place.is c.in-Elem.is c.loop-place.invariant.tails in
     let name : IsUtf8 c.in_ok-name.name = c.in_ok-name.ensures.utf8 tail in
     record { utf8 = ∣ name ∣₁ }

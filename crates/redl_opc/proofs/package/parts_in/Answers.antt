@@ -7,5 +7,5 @@ use Rattle.redl_opc.proofs.package.parts_in.Goals as goal
 
 pub list_parts-requires : goal.list_parts-requires
 list_parts-requires c =
-    subst (λ nodes. HasUtf8Tails (nodes_of nodes)) (sym c.deref-3.ensures.value)
+    subst HasUtf8Tails (sym c.kids-3.ensures.kids)
     (tails-root (nodes_of c.args.nodes.now) (element_of c.in-Some.root.now) c.in-Some.ensures c.requires.tails)

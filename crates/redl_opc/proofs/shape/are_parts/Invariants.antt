@@ -1,12 +1,9 @@
-use Rattle.std.proofs.Common.{◌≡◌, length}
+use Rattle.std.proofs.Common.{◌≡◌, drop}
 use Rattle.std.specs.List.{list_all}
 use Rattle.redl_tree.specs.Model.View.{nodes_of}
 use Rattle.redl_opc.specs.Elements.{elements_of}
 use Rattle.redl_opc.specs.Shape.{is_part}
 use Rattle.redl_opc.proofs.shape.are_parts.Given as goal
 
-abbrev pub invariant-loop-part : goal.invariant-loop-part
-invariant-loop-part l = list_all is_part (elements_of (nodes_of l.left)) ≡ list_all is_part (elements_of (nodes_of l.nodes))
-
-abbrev pub decreases-loop-part : goal.decreases-loop-part
-decreases-loop-part l = length l.left
+abbrev pub invariant-loop-node : goal.invariant-loop-node
+invariant-loop-node l = list_all is_part (elements_of (nodes_of (drop l.node-index l.nodes))) ≡ list_all is_part (elements_of (nodes_of l.nodes))

@@ -1,4 +1,4 @@
-use Rattle.std.proofs.Common.{◌≡◌, ◌≢◌, ◌<◌, ◌≤◌, ◌+◌, [], ◌∷◌, ◌++◌, true, false, length, take, drop, sym, ap, ◌∙◌, arith, if◌then◌else◌}
+use Rattle.std.proofs.Common.{◌≡◌, ◌≢◌, ◌<◌, ◌≤◌, ◌+◌, [], ◌∷◌, ◌++◌, true, false, length, take, drop, None, sym, ap, ◌∙◌, arith, if◌then◌else◌}
 use Rattle.std.proofs.lemmas.List.{nil_from_length, take_at, take_more_set, drop-set-lt, take_all, length-set, get_or-set_other}
 use Rattle.std.specs.Vec.Iter.{into_iter_items}
 use Rattle.redl_paras.specs.Pieces.{pieces_of}
@@ -6,11 +6,12 @@ use Rattle.redl_tables.proofs.AskedLaws.{answer-more, wide-goes}
 use Rattle.redl_tables.specs.Asked.{answer, asked_inside}
 use Rattle.redl_tables.specs.Lines.{and_then, is_gone}
 use Rattle.redl_resolve.proofs.ChainLaws.{passed_more, thin_none, count-push}
-use Rattle.redl_resolve.proofs.PassLaws.{pieces-in_front, skipped-in_front, skipped-few, rejected-skipped, after-count, by_fate-gone, by_fate-remark, no_restore, skipped-one, skipped-none, passed_each-in_front, passed_each-pass}
+use Rattle.redl_resolve.proofs.PassLaws.{pieces-in_front, skipped-in_front, skipped-few, rejected-skipped, after-count, by_fate-gone, by_fate-remark, no_restore, skipped-one, skipped-none, passed_each-in_front, passed_each-pass, none-left}
 use Rattle.redl_resolve.specs.Stays.{all_stay, passed_each, item_passed_each}
-use Rattle.redl_resolve.specs.Changes.{former_of}
+use Rattle.redl_resolve.specs.Changes.{former_of, after_in}
 use Rattle.redl_resolve.specs.Chains.{whole, item_answer}
 use Rattle.redl_resolve.specs.Counts.{skipped, former_count}
+use Rattle.redl_tree.proofs.Held.{closed_is_bare}
 use Rattle.redl_tree.proofs.Laws.{count-in_front, built_more, nodes_here, nodes_end, nodes_of-push, ⊕-no_nodes}
 use Rattle.redl_tree.specs.Model.Count.{count, item_count}
 use Rattle.redl_tree.specs.declared.kinds.Fate.TheVariants.{Leave, Free}
@@ -18,7 +19,7 @@ use Rattle.redl_tree.specs.Decisions.Fates.{fate_of, renamed}
 use Rattle.redl_tree.specs.Decisions.Tables.{goes_at}
 use Rattle.redl_tree.proofs.PassLaws.{if_true}
 use Rattle.redl_tree.specs.Decisions.Groups.{thin, grouped}
-use Rattle.redl_tree.specs.Roles.Kinds.{is_restore}
+use Rattle.redl_tree.specs.Roles.Kinds.{is_content, is_restore}
 use Rattle.redl_tree.specs.Model.Nodes.{no_nodes, element, in_front, ◌⊕◌}
 use Rattle.redl_tree.specs.Decisions.Pass.{pass, pieces, kept_kids}
 use Rattle.redl_tree.specs.Decisions.Restored.{rejected}
@@ -46,34 +47,19 @@ pass_freed-returns-then-has_no_chain-clause-passed g t c =
 pub pass_kids-returns-in_err-passed-clause-entered : goal.pass_kids-returns-in_err-passed-clause-entered
 pass_kids-returns-in_err-passed-clause-entered g t c = omega (arith, skipped-few c.args.says.now (nodes_of c.args.kids.items))
 
-pub pass_left-returns-in_err-elem-clause-entered : goal.pass_left-returns-in_err-elem-clause-entered
-pass_left-returns-in_err-elem-clause-entered g t c =
+pub pass_left-returns-in_err-kept-clause-entered : goal.pass_left-returns-in_err-kept-clause-entered
+pass_left-returns-in_err-kept-clause-entered g t c =
     let says = c.args.says.now in
     let kids = kids_of c.args.elem.now in
     omega (
       arith,
       c.after_change.ensures.steps,
       ap former_count c.in_ok-former.ensures,
-      ap (λ xs. former_count (rejected says (nodes_of xs))) c.deref.ensures.value,
+      ap (λ ns. former_count (rejected says ns)) c.kids.ensures.kids,
       rejected-skipped says kids,
       c.pass_kids.ensures.entered,
-      ap (λ v. skipped says (nodes_of v.items)) c.replace-kids.ensures.value,
-      ap (λ v. count (nodes_of v.items)) c.replace-kids.ensures.value,
-    )
-
-pub pass_left-returns-in_err-rename-clause-entered : goal.pass_left-returns-in_err-rename-clause-entered
-pass_left-returns-in_err-rename-clause-entered g t c =
-    let says = c.args.says.now in
-    let kids = kids_of c.args.elem.now in
-    omega (
-      arith,
-      c.after_change.ensures.steps,
-      ap former_count c.in_ok-former.ensures,
-      ap (λ xs. former_count (rejected says (nodes_of xs))) c.deref.ensures.value,
-      rejected-skipped says kids,
-      c.pass_kids.ensures.entered,
-      ap (λ v. skipped says (nodes_of v.items)) c.replace-kids.ensures.value,
-      ap (λ v. count (nodes_of v.items)) c.replace-kids.ensures.value,
+      ap (skipped says) c.take_kids-kids.ensures.kids,
+      ap count c.take_kids-kids.ensures.kids,
     )
 
 pub pass_left-returns-clause-entered : goal.pass_left-returns-clause-entered
@@ -84,18 +70,28 @@ pass_left-returns-clause-entered g t c =
       arith,
       c.after_change.ensures.steps,
       ap former_count c.in_ok-former.ensures,
-      ap (λ xs. former_count (rejected says (nodes_of xs))) c.deref.ensures.value,
+      ap (λ ns. former_count (rejected says ns)) c.kids.ensures.kids,
       rejected-skipped says kids,
       c.pass_kids.ensures.entered,
-      ap (λ v. skipped says (nodes_of v.items)) c.replace-kids.ensures.value,
-      ap (λ v. count (nodes_of v.items)) c.replace-kids.ensures.value,
+      ap (skipped says) c.take_kids-kids.ensures.kids,
+      ap count c.take_kids-kids.ensures.kids,
     )
+
+-- what is closed in its start tag has no kids, so there is no change among them, and their pass has none
+pub pass_left-return_kids-requires : goal.pass_left-return_kids-requires
+pass_left-return_kids-requires g t c = λ closed.
+    let given = nodes_of c.take_kids-kids.result.items in
+    let passed = nodes_of c.in_ok-passed.passed.items in
+    let bare = closed_is_bare c.args.elem.now (ap (λ tag. tag.close) (sym c.take_kids-kids.ensures.tag) ∙ closed) in
+    let former : former_of c.in_ok-former.former ≡ None = c.in_ok-former.ensures ∙ ap (rejected c.args.says.now) (c.kids.ensures.kids ∙ bare) in
+    c.in_ok-kept.ensures.kids ∙ ap (λ change. after_in c.args.round (tag_of c.take_kids-kids.new.self) change passed) former
+    ∙ none-left given passed (c.take_kids-kids.ensures.kids ∙ bare) (omega (arith, c.pass_kids.ensures.entered, c.in_ok-passed.ensures.made))
 
 pub pass_left-returns-clause-made : goal.pass_left-returns-clause-made
 pass_left-returns-clause-made g t c =
-    let k : count (kids_of c.rename.new.elem) ≡ count (nodes_of c.in_ok-elem.field-0.items) = ap count c.rename.ensures.kids in
-    let kept = ap count c.in_ok-elem.ensures.kids in
-    let few = after-count c.args.round (tag_of c.args.elem.now) (former_of c.in_ok-former.former) (nodes_of c.in_ok-passed.passed.items) in
+    let k : count (kids_of c.rename.new.elem) ≡ count (nodes_of c.in_ok-kept.kept.items) = ap count (c.rename.ensures.kids ∙ c.return_kids.ensures.kids) in
+    let kept = ap count c.in_ok-kept.ensures.kids in
+    let few = after-count c.args.round (tag_of c.take_kids-kids.new.self) (former_of c.in_ok-former.former) (nodes_of c.in_ok-passed.passed.items) in
     omega (arith, k, kept, few, c.in_ok-passed.ensures.made, c.after_change.ensures.steps)
 
 pub pass_onto-loop-node-preserved : goal.pass_onto-loop-node-preserved
@@ -165,7 +161,7 @@ pass_other-returns-else-is_content-clause-passed g t c = λ around round_is rest
     let freed : fate_of c.args.says.now (tag_of c.args.elem) ≡ Free = sym c.fate_of-fate.ensures ∙ c.in-Free.is in
     let made = c.args.made.now in
     ap (λ n. nodes_of made.passed.items ⊕ n) (thin_none (pieces_of made.chain.items) rest)
-    ∙ ap (λ n. whole made (thin n ∷ rest)) (sym (by_fate-remark _ _ _ _ freed (sym c.is_content.ensures ∙ c.if-is_content.false)))
+    ∙ ap (λ n. whole made (thin n ∷ rest)) (sym (by_fate-remark _ _ _ _ freed (sym (ap is_content c.kind.ensures) ∙ sym c.is_content.ensures ∙ c.if-is_content.false)))
 
 pub pass_other-returns-in_default : goal.pass_other-returns-in_default
 pass_other-returns-in_default g t c =

@@ -1,5 +1,6 @@
 use Rattle.std.proofs.Common.{◌≡◌, ◌≢◌, ◌∙◌, length, arith}
 use Rattle.redl_tree.specs.Model.View.{nodes_of}
+use Rattle.redl_tree.proofs.Laws.{item_of-Bytes}
 use Rattle.redl_xml.proofs.Buildings.{pushed}
 use Rattle.redl_xml.proofs.Parts.{pushed_none, pushed_some}
 use Rattle.redl_xml.proofs.document.push_bytes.Goals as goal
@@ -12,4 +13,4 @@ returns-then-is_empty c =
 pub returns : goal.returns
 returns c =
     let some : length c.args.bytes.now ≢ 0 = grind (arith, c.is_empty.ensures, c.if-is_empty.false) in
-    pushed _ _ _ _ c.in_ok-push.ensures.items c.in_ok-node.ensures ∙ pushed_some (nodes_of c.args.nodes.now.items) c.args.bytes.now some
+    pushed _ _ _ _ c.in_ok-push.ensures.items (item_of-Bytes c.args.bytes) ∙ pushed_some (nodes_of c.args.nodes.now.items) c.args.bytes.now some

@@ -1,4 +1,4 @@
-use Rattle.std.proofs.Common.{◌≡◌, ◌∷◌, ◌-◌, All, IsUtf8, length, take, drop, sym, ap, ◌∙◌, subst, arith}
+use Rattle.std.proofs.Common.{◌∷◌, ◌-◌, All, IsUtf8, length, take, drop, sym, ap, ◌∙◌, subst, arith}
 use Rattle.std.proofs.lemmas.List.Elements.{All-get_or, All-tail}
 use Rattle.redl_app.proofs.OpenLaws.{first_rest, joins_same, joins_nothing}
 use Rattle.redl_app.proofs.commands.join.join.Goals as goal

@@ -1,14 +1,11 @@
-use Rattle.std.proofs.Common.{◌≡◌, ◌∷◌, [], Contains, Ok, refl, ap, sym, ◌∙◌, subst, length, List, ℕ}
+use Rattle.std.proofs.Common.{◌∷◌, [], Ok, ap, ◌∙◌}
 use Rattle.std.proofs.lemmas.List.Elements.{Contains-append_left, Contains-append_right}
 use Rattle.std.proofs.lemmas.Result.{err_from_is_err_and}
 use Rattle.redl_app.proofs.ReadLaws.{reads_then, reads_stops, reads_after}
 use Rattle.redl_app.specs.Commands.Join.{document_in, book_text, union_of}
-use Rattle.redl_app.specs.Journals.{gathered}
 use Rattle.redl_app.specs.Steps.{◌>>=◌}
-use Rattle.redl_app.specs.Views.{document_view, writing_view}
 use Rattle.redl_app.specs.Writing.{only_bytes}
 use Rattle.redl_io.specs.Limits.{journal_bytes}
-use Rattle.redl_join.specs.Books.{union}
 use Rattle.redl_journal.specs.Views.{journal_of}
 use Rattle.redl_app.proofs.commands.join.join_to.Goals as goal
 
@@ -26,7 +23,7 @@ returns-in_err-book g c =
     let journal = journal_of c.in_ok-journal.journal in
     let joining = rw (c.in_ok-started.ensures.document, c.in_ok-started.ensures.book) at c.in_err-book.ensures in
     rw (p.1, p.2) (reads_then (λ first reader files. union_of reader files journal_bytes first others >>= (λ book. Ok (only_bytes (book_text (document_in first.0) book))))
-    c.in_ok-journal.ensures.read (Contains-append_right (c.args.name.now ∷ []) others)
+    c.in_ok-journal.ensures.read (Contains-append_left (c.args.name.now ∷ []) others) (Contains-append_right (c.args.name.now ∷ []) others)
     (reads_stops (λ book reader files. Ok (only_bytes (book_text (document_in journal) book))) joining (λ one h. h)))
 
 pub returns : goal.returns
@@ -37,7 +34,7 @@ returns g c =
     let view = c.only.ensures ∙ ap (λ d. only_bytes (book_text d c.in_ok-book.book)) c.in_ok-started.ensures.document in
     rw view
     (reads_then (λ first reader files. union_of reader files journal_bytes first others >>= (λ book. Ok (only_bytes (book_text (document_in first.0) book))))
-    c.in_ok-journal.ensures.read (Contains-append_right (c.args.name.now ∷ []) others)
+    c.in_ok-journal.ensures.read (Contains-append_left (c.args.name.now ∷ []) others) (Contains-append_right (c.args.name.now ∷ []) others)
     (reads_after (Ok (only_bytes (book_text (document_in journal) c.in_ok-book.book)))
     (λ reader files. union_of reader files journal_bytes (journal, c.in_ok-journal.size) others >>= (λ book. Ok (only_bytes (book_text (document_in journal) book))))
     joining tt (λ reader files is read. ap (λ made. made >>= (λ book. Ok (only_bytes (book_text (document_in journal) book)))) read)))

@@ -12,9 +12,10 @@ use Rattle.redl_index.proofs.index.Index.build.Goals as goal
 pub returns-clause-nodes : goal.returns-clause-nodes
 returns-clause-nodes c =
     let nodes = c.args.pkg.now in
-    let labels_are : c.deref.result.now ≡ labels_of 1 (stories nodes) ++ [] =
-    c.deref.ensures.value ∙ c.in_ok-find_in_stories.ensures.labels ∙ sym (append-nil (labels_of 1 (stories nodes))) in
-    c.label_stories.ensures.nodes ∙ labelled_in-labels_of [] 1 c.deref.result.now 0 [] nodes [] labels_are refl
+    let labels = c.find_in_stories.new.found.labels in
+    let labels_are : labels ≡ labels_of 1 (stories nodes) ++ [] =
+    c.in_ok-find_in_stories.ensures.labels ∙ sym (append-nil (labels_of 1 (stories nodes))) in
+    c.label_stories.ensures.nodes ∙ labelled_in-labels_of [] 1 labels 0 [] nodes [] labels_are refl
 
 pub returns-clause-stories : goal.returns-clause-stories
 returns-clause-stories c =

@@ -3,15 +3,10 @@ use Rattle.std.proofs.lemmas.List.{take_at}
 use Rattle.redl_tree.specs.Model.Text.{text}
 use Rattle.redl_tree.specs.Model.View.{nodes_of}
 use Rattle.redl_tree.specs.Revisions.Labels.{unlabelled}
-use Rattle.redl_opc.specs.Labels.{elements, labelled_in}
+use Rattle.redl_opc.specs.Labels.{labelled_in}
 use Rattle.redl_opc.specs.PartView.{part_view}
-use Rattle.redl_opc.proofs.LabelLaws.{kept-labelled, stories_alone, elements_at_most, text-labelled}
+use Rattle.redl_opc.proofs.LabelLaws.{kept-labelled, stories_alone, text-labelled}
 use Rattle.redl_opc.proofs.package.Package.label_stories.Goals as goal
-
-pub label_nodes-requires : goal.label_nodes-requires
-label_nodes-requires c =
-    let same = ap (λ xs. elements (nodes_of xs)) c.deref_mut.ensures.value in
-    omega (arith, same, elements_at_most (nodes_of c.self.inside.nodes.items), c.self.invariant.few)
 
 pub invariant_of-self : goal.invariant_of-self
 invariant_of-self c =
@@ -19,7 +14,7 @@ invariant_of-self c =
     let as_long : length c.label_nodes.new.nodes ≡ c.self.inside.nodes.len = omega (arith, c.label_nodes.auto.nodes, c.deref_mut.ensures.len) in
     kept-labelled nodes _ (map part_view c.self.inside.parts.items)
     (ap (λ xs. unlabelled (nodes_of xs)) (take_at c.label_nodes.new.nodes _ _ as_long)
-    ∙ ap unlabelled (c.label_nodes.ensures.nodes [] refl ∙ ap (λ xs. labelled_in c.args.labels.now 0 [] (nodes_of xs)) c.deref_mut.ensures.value)
+    ∙ ap unlabelled (c.label_nodes.ensures.nodes [] refl ∙ ap (λ labels. labelled_in labels 0 [] (nodes_of c.deref_mut.result.now)) c.all.ensures ∙ ap (λ xs. labelled_in c.args.labels.now 0 [] (nodes_of xs)) c.deref_mut.ensures.value)
     ∙ stories_alone c.args.labels.now 0 [] nodes) c.self.invariant
 
 pub returns-clause-text : goal.returns-clause-text
@@ -28,6 +23,6 @@ returns-clause-text c =
     let as_long : length c.label_nodes.new.nodes ≡ c.self.inside.nodes.len = omega (arith, c.label_nodes.auto.nodes, c.deref_mut.ensures.len) in
     text-labelled nodes _
     (ap (λ xs. unlabelled (nodes_of xs)) (take_at c.label_nodes.new.nodes _ _ as_long)
-    ∙ ap unlabelled (c.label_nodes.ensures.nodes [] refl ∙ ap (λ xs. labelled_in c.args.labels.now 0 [] (nodes_of xs)) c.deref_mut.ensures.value)
+    ∙ ap unlabelled (c.label_nodes.ensures.nodes [] refl ∙ ap (λ labels. labelled_in labels 0 [] (nodes_of c.deref_mut.result.now)) c.all.ensures ∙ ap (λ xs. labelled_in c.args.labels.now 0 [] (nodes_of xs)) c.deref_mut.ensures.value)
     ∙ stories_alone c.args.labels.now 0 [] nodes)
     ∙ ap text c.self.view_is

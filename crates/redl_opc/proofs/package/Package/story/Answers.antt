@@ -23,7 +23,7 @@ returns-in_err-part-2-clause-value c =
     let is_root : package_of (nodes_of c.self.inside.nodes.items) ≡ Some (element_of c.in_ok-root.root.now) = rw c.deref-2.ensures.value at c.in_ok-root.ensures in
     gives_none _ _ _ c.from_residual-in_err-part-2.ensures
     (story-part (nodes_of c.self.inside.nodes.items) c.args.self.now (map part_view c.self.inside.parts.items) c.args.part _ (element_of c.in_ok-root.root.now) None c.self.view_is c.self.invariant.parts
-    (rw c.deref.ensures.value at c.in_ok-part.ensures) is_root (rw c.deref-3.ensures.value at c.in_err-part-2.ensures))
+    (rw c.deref.ensures.value at c.in_ok-part.ensures) is_root (rw c.kids.ensures.kids at c.in_err-part-2.ensures))
 
 pub returns-clause-value : goal.returns-clause-value
 returns-clause-value c =
@@ -31,7 +31,7 @@ returns-clause-value c =
     let part = element_of c.in_ok-part-2.part.now in
     let is_story : story c.args.self.now c.args.part ≡ story_of part =
     story-part (nodes_of c.self.inside.nodes.items) c.args.self.now (map part_view c.self.inside.parts.items) c.args.part _ (element_of c.in_ok-root.root.now) (Some part) c.self.view_is c.self.invariant.parts
-    (rw c.deref.ensures.value at c.in_ok-part.ensures) is_root (rw c.deref-3.ensures.value at c.in_ok-part-2.ensures) in
+    (rw c.deref.ensures.value at c.in_ok-part.ensures) is_root (rw c.kids.ensures.kids at c.in_ok-part-2.ensures) in
     subst (λ read. Gives (λ root. element_of root.now) c.story_of.result read) (sym is_story) c.story_of.ensures
 
 pub returns-clause-root : goal.returns-clause-root

@@ -1,0 +1,209 @@
+-- Formats by their names, and what is left of their list.
+use Rattle.std.proofs.Common.{◌≡◌, ◌+◌, ◌<◌, ◌≤◌, inl, inr, ℕ, length, get_or, drop, List, [], ◌∷◌, Bool, true, false, Option, None, Some, Result, Ok, Err, refl, sym, ap, ◌∙◌, subst, cond}
+use Rattle.std.proofs.lemmas.List.{drop_all}
+use Rattle.std.proofs.lemmas.List.FromFn.{length-map-range_with_len}
+use Rattle.std.specs.Option.{option_map}
+use Rattle.std.specs.Str.{bytes_eq}
+use Rattle.redl_app.proofs.TopLaws.{by_cause}
+use Rattle.redl_app.specs.Admission.{Admission}
+use Rattle.redl_app.specs.Commands.List.{listing, listing_named, part_names, session_rows}
+use Rattle.redl_app.specs.Files.{where_ok}
+use Rattle.redl_app.specs.Finishing.{Ends, Finishes}
+use Rattle.redl_app.specs.Formats.{Format, LeavesFormats, format_named, formats_by, found_format, has_format, whether}
+use Rattle.redl_app.specs.Readers.{Reader}
+use Rattle.redl_app.specs.Reading.{IsMade, IsUnread, NeverUnread, Reads, UnlessUnread}
+use Rattle.redl_app.specs.Steps.{◌>>=◌}
+use Rattle.redl_app.specs.Writing.{Writing, outcome_of}
+use Rattle.redl_io.specs.Shelf.{Files}
+use Rattle.redl_journal.specs.declared.entry.Entry.{Entry}
+use Rattle.redl_lines.specs.Ends.{End, end_status, failed, written_status}
+use Rattle.redl_lines.specs.Failures.{Failure, caused, unread, no_memory, no_format, failure_status}
+use Rattle.redl_listing.proofs.NameLaws.{named_here, named_later}
+use Rattle.redl_listing.specs.Formats.{IsListed, first_named}
+use Rattle.redl_index.specs.declared.revision.Revision.{Revision}
+use Rattle.redl_join.specs.Verdicts.{verdict_at}
+use Rattle.redl_join.specs.declared.verdict.Verdict.{Verdict}
+use Rattle.redl_listing.specs.Rows.{rows_of}
+use Rattle.redl_listing.specs.declared.row.Row.{Row}
+use Rattle.redl_session.specs.Says.{verdicts_of}
+use Rattle.redl_words.specs.Commands.{Command, settle, list, write, decide, join, check, sample}
+
+-- ---- the first format of a name
+
+-- a format, by its name and by the text that it gives
+abbrev pub format_by : {F : Type 0} → (F → List ℕ) → (F → List Row → Bool → List ℕ) → F → Format
+format_by name_of text_of format = record { name = name_of format; text = λ rows. text_of format rows true }
+
+first_named-by : {F : Type 0} (name_of : F → List ℕ) (text_of : F → List Row → Bool → List ℕ) (name : List ℕ) (formats : List F)
+    → first_named (λ (format : Format). format.name) name (formats_by name_of text_of formats) ≡ option_map (format_by name_of text_of) (first_named name_of name formats)
+first_named-by name_of text_of name [] = refl
+first_named-by name_of text_of name (format ∷ more) =
+    elim (bytes_eq (name_of format) name) as (λ test.
+    cond test (Some (format_by name_of text_of format)) (first_named (λ (one : Format). one.name) name (formats_by name_of text_of more))
+    ≡ option_map (format_by name_of text_of) (cond test (Some format) (first_named name_of name more))) [
+      | true ↦ refl
+      | false ↦ first_named-by name_of text_of name more
+    ]
+
+-- what the search for a format gives, by what it found among the formats
+pub named-by : {F : Type 0} (name_of : F → List ℕ) (text_of : F → List Row → Bool → List ℕ) (name : List ℕ) (formats : List F)
+    → format_named (formats_by name_of text_of formats) name ≡ found_format name (option_map (format_by name_of text_of) (first_named name_of name formats))
+named-by name_of text_of name formats = ap (found_format name) (first_named-by name_of text_of name formats)
+
+-- the format at this place has the name, and none before it does
+pub found_at : {F : Type 0} (name_of : F → List ℕ) (text_of : F → List Row → Bool → List ℕ) (name : List ℕ) (formats : List F) (i : ℕ) (x : F) → i < length formats → x ≡ get_or formats i x
+    → bytes_eq (name_of x) name ≡ true → first_named name_of name (drop i formats) ≡ first_named name_of name formats
+    → whether (format_named (formats_by name_of text_of formats) name) ≡ Ok tt
+found_at name_of text_of name formats i x within at here so_far =
+    let first : first_named name_of name formats ≡ Some x = sym so_far ∙ (named_here name_of name formats i x within at here).0 in
+    ap whether (named-by name_of text_of name formats) ∙ ap (λ found. whether (found_format name (option_map (format_by name_of text_of) found))) first
+
+-- the format at this place has another name
+pub not_found_at : {F : Type 0} (name_of : F → List ℕ) (name : List ℕ) (formats : List F) (i : ℕ) (x : F) → i < length formats → x ≡ get_or formats i x
+    → bytes_eq (name_of x) name ≡ false → first_named name_of name (drop i formats) ≡ first_named name_of name formats
+    → first_named name_of name (drop (i + 1) formats) ≡ first_named name_of name formats
+not_found_at name_of name formats i x within at other so_far = (named_later name_of name formats i x within at other).0 ∙ so_far
+
+-- no format has the name
+pub not_found : {F : Type 0} (name_of : F → List ℕ) (text_of : F → List Row → Bool → List ℕ) (name : List ℕ) (formats : List F) (i : ℕ) → length formats ≤ i
+    → first_named name_of name (drop i formats) ≡ first_named name_of name formats
+    → whether (format_named (formats_by name_of text_of formats) name) ≡ Err (caused (no_format name))
+not_found name_of text_of name formats i past so_far =
+    let none : first_named name_of name formats ≡ None = sym so_far ∙ ap (first_named name_of name) (drop_all i formats past) in
+    ap whether (named-by name_of text_of name formats) ∙ ap (λ found. whether (found_format name (option_map (format_by name_of text_of) found))) none
+
+-- ---- a listing
+
+-- a listing with this text, by an admission
+abbrev pub made_by : Admission → List ℕ → Writing
+made_by admission bytes = record { bytes = bytes; refused = admission.refused }
+
+listed_by : {F : Type 0} (name_of : F → List ℕ) (text_of : F → List Row → Bool → List ℕ) (name : List ℕ) (admission : Admission) (made : List ℕ) (first : Option F)
+    → IsListed first (λ format. text_of format (session_rows admission.state) true) true made
+    → found_format name (option_map (format_by name_of text_of) first) >>= (λ format. Ok (listing admission format)) ≡ Ok (made_by admission made)
+listed_by name_of text_of name admission made None (found, is) = absurd (cc found)
+listed_by name_of text_of name admission made (Some format) (found, is) = ap (λ bytes. Ok (made_by admission bytes)) (sym is)
+
+-- the format was found
+pub listed_text : {F : Type 0} (name_of : F → List ℕ) (text_of : F → List Row → Bool → List ℕ) (name : List ℕ) (admission : Admission) (made : List ℕ) (formats : List F)
+    → IsListed (first_named name_of name formats) (λ format. text_of format (session_rows admission.state) true) true made
+    → listing_named (formats_by name_of text_of formats) name admission ≡ Ok (made_by admission made)
+listed_text name_of text_of name admission made formats is =
+    ap (λ found. found >>= (λ format. Ok (listing admission format))) (named-by name_of text_of name formats)
+    ∙ listed_by name_of text_of name admission made (first_named name_of name formats) is
+
+unlisted_by : {F : Type 0} (name_of : F → List ℕ) (text_of : F → List Row → Bool → List ℕ) (text : F → List ℕ) (name : List ℕ) (admission : Admission) (made : List ℕ) (first : Option F)
+    → IsListed first text false made
+    → found_format name (option_map (format_by name_of text_of) first) >>= (λ format. Ok (listing admission format)) ≡ Err (caused (no_format name))
+unlisted_by name_of text_of text name admission made None is = refl
+unlisted_by name_of text_of text name admission made (Some format) (found, is) = absurd (cc found)
+
+-- no format was found
+pub unlisted : {F : Type 0} (name_of : F → List ℕ) (text_of : F → List Row → Bool → List ℕ) (text : F → List ℕ) (name : List ℕ) (admission : Admission) (made : List ℕ) (formats : List F)
+    → IsListed (first_named name_of name formats) text false made → listing_named (formats_by name_of text_of formats) name admission ≡ Err (caused (no_format name))
+unlisted name_of text_of text name admission made formats is =
+    ap (λ found. found >>= (λ format. Ok (listing admission format))) (named-by name_of text_of name formats)
+    ∙ unlisted_by name_of text_of text name admission made (first_named name_of name formats) is
+
+-- as many verdicts as revisions
+pub verdicts_for : (book : List Entry) (count : ℕ) (verdicts : List Verdict) → verdicts ≡ verdicts_of book count → length verdicts ≡ count
+verdicts_for book count verdicts is = ap length is ∙ length-map-range_with_len (verdict_at book) 1 count
+
+-- the format that was found made the listing
+pub reads_listing : {F : Type 0} (name_of : F → List ℕ) (text_of : F → List Row → Bool → List ℕ) (name : List ℕ) (admission : Admission) (formats : List F)
+    (parts : List (List ℕ)) (revisions : List Revision) (verdicts : List Verdict) (found : Bool) (made : List ℕ)
+    → parts ≡ part_names admission.state.nodes → revisions ≡ admission.state.revisions → verdicts ≡ verdicts_of admission.state.book (length admission.state.revisions) → found ≡ true
+    → IsListed (first_named name_of name formats) (λ format. text_of format (rows_of parts revisions verdicts) true) found made
+    → Reads (Ok (made_by admission made)) (λ reader. listing_named (formats_by name_of text_of formats) name admission)
+reads_listing name_of text_of name admission formats parts revisions verdicts found made of_parts of_revisions of_verdicts is listed =
+    record {
+      as_due = λ reader reads. listed_text name_of text_of name admission made formats (rw (of_parts, of_revisions, of_verdicts, is) at listed);
+      never_unread = tt;
+    }
+
+-- without a format there is no listing
+pub reads_no_listing : {F : Type 0} (name_of : F → List ℕ) (text_of : F → List Row → Bool → List ℕ) (text : F → List ℕ) (name : List ℕ) (admission : Admission) (formats : List F) (found : Bool) (made : List ℕ)
+    → found ≡ false → IsListed (first_named name_of name formats) text found made
+    → Reads {Y = Writing} (Err (caused (no_format name))) (λ reader. listing_named (formats_by name_of text_of formats) name admission)
+reads_no_listing name_of text_of text name admission formats found made is listed = record {
+  as_due = λ reader reads. unlisted name_of text_of text name admission made formats (rw is at listed);
+  never_unread = tt;
+}
+
+-- ---- what is left of the formats
+
+pub leaves_written : {F : Type 0} (without old new : List F) (refused : List Entry) → new ≡ without → LeavesFormats (written_status refused) without old new
+leaves_written without old new [] is = is
+leaves_written without old new (entry ∷ refused) is = is
+
+pub leaves_failed : {F : Type 0} (without old new : List F) (failure : Failure) → new ≡ old → LeavesFormats (failure_status failure) without old new
+leaves_failed without old new no_memory is = inl is
+leaves_failed without old new (unread name) is = is
+leaves_failed without old new (caused cause) is = by_cause (λ s. LeavesFormats s without old new) is is is is is cause
+
+taken_by : {F : Type 0} (without old new : List F) (refused : List Entry) → LeavesFormats (written_status refused) without old new → new ≡ without
+taken_by without old new [] is = is
+taken_by without old new (entry ∷ refused) is = is
+
+-- what was made leaves the formats as its end does
+pub leaves_end : {F : Type 0} (without old new : List F) (out out_new : Option (List ℕ)) (before now : ℕ) (made : Result Writing Failure) (end : End)
+    → Finishes out out_new before now made end → LeavesFormats (outcome_of made).status without old new → LeavesFormats (end_status end) without old new
+leaves_end without old new out out_new before now (Ok writing) end (inl (is, all)) left = rw is left
+leaves_end without old new out out_new before now (Ok writing) end (inr (is, front)) left = rw is (taken_by without old new writing.refused.entries left)
+leaves_end without old new out out_new before now (Err failure) end (is, same, stands) left = rw is left
+
+-- ---- the step before the package
+
+-- whether a format was found says no more than this
+found_whether : (name : List ℕ) (found : Option Format) (failure : Failure) → whether (found_format name found) ≡ Err failure → NeverUnread {Y = Unit {0}} (Err failure)
+found_whether name None failure is =
+    let same : caused (no_format name) ≡ failure = cc is in
+    subst (λ (f : Failure). NeverUnread {Y = Unit {0}} (Err f)) same tt
+found_whether name (Some format) failure is = absurd (cc is)
+
+-- a missing format is no missing file
+pub format_is_no_file : (formats : List Format) (command : Command) (failure : Failure) → has_format formats command ≡ Err failure → NeverUnread {Y = Unit {0}} (Err failure)
+format_is_no_file formats (settle accept p) failure is = absurd (cc is)
+format_is_no_file formats (list p name locks journals) failure is = found_whether name (first_named (λ format. format.name) name formats) failure is
+format_is_no_file formats (write p locks journals) failure is = absurd (cc is)
+format_is_no_file formats (decide p reviewer journals locks choices) failure is = absurd (cc is)
+format_is_no_file formats (join journals) failure is = absurd (cc is)
+format_is_no_file formats (check p) failure is = absurd (cc is)
+format_is_no_file formats (sample number) failure is = absurd (cc is)
+
+same_failure : (failure : Failure) (fault : Type 0) → IsMade {Y = Writing} (Err failure) (Err failure) fault
+same_failure no_memory fault = tt
+same_failure (unread name) fault = inr refl
+same_failure (caused cause) fault = refl
+
+never_file : (failure : Failure) (names : List (List ℕ)) (told : Option Files) (fault : Type 0) → NeverUnread {Y = Unit {0}} (Err failure) → IsUnread {Y = Writing} (Err failure) names told fault
+never_file no_memory names told fault never = tt
+never_file (unread name) names told fault never = absurd never
+never_file (caused cause) names told fault never = tt
+
+stands_still : (failure : Failure) (Holds : Type 0) → Holds → UnlessUnread {Y = Writing} (Err failure) Holds
+stands_still no_memory Holds h = h
+stands_still (unread name) Holds h = tt
+stands_still (caused cause) Holds h = h
+
+-- a call ends before it asks for a file
+pub ends_at_once : (told : Option Files) (f : ℕ) (out : Option (List ℕ)) (count : ℕ) (there : Result (Unit {0}) Failure) (names : List (List ℕ)) (next : Reader → Files → Result Writing Failure) (failure : Failure)
+    → there ≡ Err failure → NeverUnread {Y = Unit {0}} (Err failure)
+    → Ends told told f f out out count count (where_ok there names) (λ reader files. there >>= (λ found. next reader files)) (failed failure)
+ends_at_once told f out count there names next failure is never = rw is (record {
+  made = Err failure;
+  reads = record {
+    as_due = λ files may reader reads. same_failure failure _;
+    unread = never_file failure [] told _ never;
+    same_files = refl;
+    stands = stands_still failure (f ≡ f) refl;
+  };
+  finishes = (refl, refl, refl);
+})
+
+-- the format is there, and the call goes on
+pub ends_after : {told told_new : Option Files} {f f_new : ℕ} {out out_new : Option (List ℕ)} {before now : ℕ} (end : End) (there : Result (Unit {0}) Failure) (names : List (List ℕ))
+    (next : Reader → Files → Result Writing Failure) (found : Unit {0}) → there ≡ Ok found
+    → Ends told told_new f f_new out out_new before now names next end
+    → Ends told told_new f f_new out out_new before now (where_ok there names) (λ reader files. there >>= (λ one. next reader files)) end
+ends_after end there names next found is ends = rw is ends

@@ -1,0 +1,51 @@
+-- The entries of the sample's reviewers, one reviewer after another, and that a sample is written.
+use Rattle.std.proofs.Common.{◌≡◌, ◌+◌, ◌≤◌, ℕ, nat_lt, false, List, [], ◌∷◌, ◌++◌, Option, Result, Ok, ap, ◌∙◌, append-nil, arith, refl}
+use Rattle.std.proofs.lemmas.Bool.{le-ltb}
+use Rattle.std.proofs.lemmas.Grind.{flat_map-append}
+use Rattle.std.specs.List.{flat_map, range_with_len}
+use Rattle.redl_app.proofs.PackageLaws.{tree_read}
+use Rattle.redl_app.proofs.ReaderLaws.{reads_command}
+use Rattle.redl_app.specs.Formats.{Format}
+use Rattle.redl_app.specs.Outcome.{outcome, writing_of}
+use Rattle.redl_app.specs.Packages.{package_in, shaped, sound}
+use Rattle.redl_app.specs.Readers.{Reader, IsReader}
+use Rattle.redl_app.specs.Steps.{◌>>=◌}
+use Rattle.redl_app.specs.Writing.{outcome_of}
+use Rattle.redl_io.specs.Shelf.{Files}
+use Rattle.redl_journal.specs.declared.entry.Entry.{Entry}
+use Rattle.redl_lines.specs.Failures.{Failure}
+use Rattle.redl_lines.specs.Lines.{sample_paragraphs}
+use Rattle.redl_lines.specs.declared.status.Status.TheVariants as status
+use Rattle.redl_sample.proofs.Laws.{range_more}
+use Rattle.redl_sample.specs.Journals.{sample_journal}
+use Rattle.redl_sample.specs.Packages.{package_text}
+use Rattle.redl_sample_sound.proofs.Samples.{sound_sample}
+use Rattle.redl_tree.specs.Model.Nodes.{Nodes}
+use Rattle.redl_words.specs.Commands.{Command, IsCommand, sample}
+
+-- the entries of the first reviewers
+abbrev pub first_entries : ℕ → ℕ → List Entry
+first_entries number count = flat_map (λ reviewer. (sample_journal number reviewer).entries) (range_with_len 0 count)
+
+pub entries_more : (number count : ℕ) → first_entries number (count + 1) ≡ first_entries number count ++ (sample_journal number count).entries
+entries_more number count =
+    ap (flat_map (λ reviewer. (sample_journal number reviewer).entries)) (range_more 0 count count (omega arith))
+    ∙ flat_map-append (λ reviewer. (sample_journal number reviewer).entries) (range_with_len 0 count) (count ∷ [])
+    ∙ ap (λ (es : List Entry). first_entries number count ++ es) (append-nil (sample_journal number count).entries)
+
+-- ---- a sample is written
+
+-- a sample within the limit is a package
+sample_is_package : (reader : Reader) → IsReader reader → (number : ℕ) → number ≤ sample_paragraphs → (nodes : Nodes) × (package_in reader (package_text number) ≡ Ok nodes)
+sample_is_package reader is number few =
+    let it = sound_sample number few in
+    let read = tree_read reader (package_text number) it.nodes is it.reading it.shallow it.few in
+    (it.nodes, ap (λ (tree : Result Nodes Failure). tree >>= (λ nodes. shaped nodes >>= sound)) read ∙ rw (it.shape, it.sound) refl)
+
+pub sample_is_written : (reader : Reader) → IsReader reader → (words : List (List ℕ)) (files : Files) (formats : List Format) (number : ℕ)
+    → IsCommand words (sample number) → number ≤ sample_paragraphs → (outcome reader words files formats).status ≡ status.Done
+sample_is_written reader is words files formats number command few =
+    let package_ = sample_is_package reader is number few in
+    let within : nat_lt sample_paragraphs number ≡ false = le-ltb sample_paragraphs number few in
+    ap (λ (c : Option Command). (outcome_of (writing_of reader files formats c)).status) (reads_command reader words (sample number) is command)
+    ∙ rw (within, package_.1) refl

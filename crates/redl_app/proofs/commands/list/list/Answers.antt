@@ -1,0 +1,42 @@
+use Rattle.std.proofs.Common.{◌∙◌, sym, subst, All, IsUtf8}
+use Rattle.std.proofs.lemmas.Result.{err_from_is_err_and}
+use Rattle.redl_app.proofs.PartNameLaws.{session_names, revisions_named}
+use Rattle.redl_app.proofs.ReadLaws.{reads_stops, reads_then_takes, takes_stops_reads, takes_then_reads}
+use Rattle.redl_app.specs.Admission.{opened_over}
+use Rattle.redl_app.specs.Commands.List.{listing_named}
+use Rattle.redl_app.specs.Formats.{formats_by}
+use Rattle.redl_app.proofs.commands.list.list.Goals as goal
+
+pub returns-in_err-package-clause-read : goal.returns-in_err-package-clause-read
+returns-in_err-package-clause-read g c =
+    let p = err_from_is_err_and c.from_residual.result c.from_residual.ensures.1 in
+    let journals = c.args.journals.now in
+    let formats = formats_by (λ b. (goal.RowFormat-dyn g (b.vtable, b.value)).format_name b.value) (λ b. (goal.RowFormat-dyn g (b.vtable, b.value)).text_for b.value) c.args.formats.now.items in
+    rw (p.1, p.2) (reads_stops (λ admission reader files. listing_named formats c.args.name.now admission)
+    (takes_stops_reads (λ nodes reader files. opened_over reader files c.args.locks.now journals c.args.bytes.now nodes) _ _ journals c.in_err-package.ensures.read) (λ one h. h))
+
+pub returns-in_err-admitted-clause-read : goal.returns-in_err-admitted-clause-read
+returns-in_err-admitted-clause-read g c =
+    let p = err_from_is_err_and c.from_residual-in_err-admitted.result c.from_residual-in_err-admitted.ensures.1 in
+    let formats = formats_by (λ b. (goal.RowFormat-dyn g (b.vtable, b.value)).format_name b.value) (λ b. (goal.RowFormat-dyn g (b.vtable, b.value)).text_for b.value) c.args.formats.now.items in
+    rw (p.1, p.2) (reads_stops (λ admission reader files. listing_named formats c.args.name.now admission)
+    (takes_then_reads (λ nodes reader files. opened_over reader files c.args.locks.now c.args.journals.now c.args.bytes.now nodes)
+    c.in_ok-package.ensures.read c.in_err-admitted.ensures.read) (λ one h. h))
+
+pub returns-clause-read : goal.returns-clause-read
+returns-clause-read g c =
+    let formats = formats_by (λ b. (goal.RowFormat-dyn g (b.vtable, b.value)).format_name b.value) (λ b. (goal.RowFormat-dyn g (b.vtable, b.value)).text_for b.value) c.args.formats.now.items in
+    reads_then_takes (λ admission reader. listing_named formats c.args.name.now admission)
+    (takes_then_reads (λ nodes reader files. opened_over reader files c.args.locks.now c.args.journals.now c.args.bytes.now nodes)
+    c.in_ok-package.ensures.read c.in_ok-admitted.ensures.read) c.list_revisions.ensures.read
+
+pub list_revisions-requires-clause-names : goal.list_revisions-requires-clause-names
+list_revisions-requires-clause-names g c =
+    session_names c.in_ok-package.«package» c.in_ok-admitted.admitted.session.nodes c.deref.result.now (c.deref.ensures.value ∙ c.in_ok-names.ensures.names) c.in_ok-admitted.ensures.nodes
+
+pub list_revisions-requires-clause-parts : goal.list_revisions-requires-clause-parts
+list_revisions-requires-clause-parts g c =
+    revisions_named c.in_ok-package.«package» c.deref.result.now c.in_ok-admitted.admitted.session.revisions (c.deref.ensures.value ∙ c.in_ok-names.ensures.names) c.in_ok-admitted.ensures.revisions
+
+pub list_revisions-requires-clause-utf8 : goal.list_revisions-requires-clause-utf8
+list_revisions-requires-clause-utf8 g c = subst (All IsUtf8) (sym c.deref.ensures.value) c.in_ok-names.ensures.utf8

@@ -1,0 +1,30 @@
+-- The entries that a reviewer's choices make on the revisions of a package (our own rule).
+use Rattle.std.specs.Prelude.{ℕ, ◌==◌, Bool, List, reverse, Option, find, flat_map, filter_map}
+use Rattle.std.specs.List.{list_any}
+use Rattle.std.specs.Option.{option_map}
+use Rattle.redl_index.specs.declared.revision.Revision.{Revision}
+use Rattle.redl_journal.specs.declared.entry.Entry.{Entry}
+use Rattle.redl_journal.specs.declared.entry.Word.{Word}
+use Rattle.redl_select.specs.Selections.{Selection, chosen, in_order}
+
+-- the number is one of these
+abbrev pub is_among : List ℕ → ℕ → Bool
+is_among numbers number = list_any (λ one. one == number) numbers
+
+-- the numbers that some choice chooses, in their order, each once
+abbrev pub chosen_numbers : List Revision → List (Word × Selection) → List ℕ
+chosen_numbers revisions choices = in_order (flat_map (λ choice. chosen revisions choice.1) choices)
+
+-- the word on a number: that of the last choice that chooses it
+abbrev pub word_on : List Revision → List (Word × Selection) → ℕ → Option Word
+word_on revisions choices number =
+    option_map (λ choice. choice.0) (find (λ choice. is_among (chosen revisions choice.1) number) (reverse choices))
+
+-- an entry of this reviewer with this sequence number
+abbrev pub entry_with : List ℕ → ℕ → ℕ → Word → Entry
+entry_with reviewer seq rev word = record { reviewer = reviewer; seq = seq; rev = rev; word = word }
+
+-- the reviewer's entries on the numbers that the choices choose, all with this sequence number
+abbrev pub chosen_entries : List ℕ → ℕ → List Revision → List (Word × Selection) → List Entry
+chosen_entries reviewer seq revisions choices =
+    filter_map (λ number. option_map (entry_with reviewer seq number) (word_on revisions choices number)) (chosen_numbers revisions choices)

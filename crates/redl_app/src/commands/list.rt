@@ -1,0 +1,107 @@
+//! `list P` with a format, journals and locked authors.
+
+ghost use Rattle.std.specs.Prelude.{◌≡◌, ◌<◌, [], false, length, slice_get, Some, All, IsUtf8, IfOk};
+ghost use Rattle.redl_app.specs.Commands.List.{listed, listing_named, part_names};
+ghost use Rattle.redl_app.specs.Formats.{LeavesFormats, formats_by};
+ghost use Rattle.redl_app.specs.Reading.{ReadsFiles, Reads};
+ghost use Rattle.redl_app.specs.Views.{admission_view, result_view, writing_view};
+ghost use Rattle.redl_app.specs.Writing.{outcome_of};
+ghost use Rattle.redl_listing.specs.Formats.{without_named};
+ghost use Rattle.redl_opc.specs.Shape.{parts_of};
+
+use crate::admitted::Admitted;
+use crate::open::open_package;
+use crate::output::{Output, Writing};
+use crate::package::read_package;
+use redl_io::{Shelf, Text};
+use redl_lines::{Cause, Failure};
+use redl_listing::RowFormat;
+use redl_opc::Package;
+use std::alloc::{AllocError, Global};
+
+/// The listing of the package with this text, in the first format that has the name, under the joined verdicts of the journals
+/// of these names, with these locked authors. It takes that format out of the list.
+pub(crate) fn list<'a, 'b, F: Shelf>(
+    alloc: Global,
+    name: &'a str,
+    locks: &[Text],
+    journals: &'a [Text],
+    bytes: &'b [u8],
+    shelf: &mut F,
+    formats: &mut Vec<Box<dyn RowFormat>>,
+) -> Result<Writing<'b>, Failure<'a>>
+    requires utf8 { All IsUtf8 journals.now }
+    requires fresh { All (λ format. (is_closed format ≡ false) × (rows_so_far format ≡ [])) formats.old.items }
+    ensures read { ReadsFiles (F.told shelf.old) (F.told shelf.new) (F.faults shelf.old) (F.faults shelf.new) journals.now
+        (result_view writing_view result) (λ reader files. listed reader files (formats_by (λ format. format_name format) (λ format. text_for format) formats.old.items) name.now locks.now journals.now bytes.now) }
+    ensures formats { LeavesFormats (outcome_of (result_view writing_view result)).status
+        (without_named (λ format. format_name format) name.now formats.old.items) formats.old.items formats.new.items }
+{
+    let package = read_package(alloc, bytes)?;
+    let names = part_names(alloc, &package)?;
+    let admitted = open_package(alloc, package, locks, journals, bytes, shelf)?;
+    list_revisions(alloc, name, &names, admitted, formats)
+}
+
+// The names of the parts of a package.
+fn part_names(alloc: Global, package: &Package) -> Result<Vec<Text>, AllocError>
+    ensures names { IfOk result (λ names. names.items ≡ part_names «package».now) }
+    ensures utf8 { IfOk result (λ names. All IsUtf8 names.items) }
+{
+    let mut names = Vec::new(alloc);
+    for part in 0..package.parts() {
+        names.push(Text::copy_of(alloc, part_name(package, part))?)?;
+    }
+    Ok(names)
+}
+
+// The name of one part.
+fn part_name<'n>(package: &'n Package, part: u32) -> &'n [u8]
+    requires { part < length (parts_of «package».now) }
+    ensures value { slice_get (part_names «package».now) part ≡ Some result.now }
+    ensures utf8 { IsUtf8 result.now }
+{
+    package.part_name(part).unwrap()
+}
+
+// The listing of a session's revisions, where these are the names of the parts of its package.
+fn list_revisions<'a, 'b>(
+    alloc: Global,
+    name: &'a str,
+    parts: &[Text],
+    admitted: Admitted<'b>,
+    formats: &mut Vec<Box<dyn RowFormat>>,
+) -> Result<Writing<'b>, Failure<'a>>
+    requires names { parts.now ≡ part_names admitted.session.nodes }
+    requires utf8 { All IsUtf8 parts.now }
+    requires parts { All (λ revision. revision.part < length parts.now) admitted.session.revisions }
+    requires fresh { All (λ format. (is_closed format ≡ false) × (rows_so_far format ≡ [])) formats.old.items }
+    ensures read { Reads (result_view writing_view result) (λ reader. listing_named
+        (formats_by (λ format. format_name format) (λ format. text_for format) formats.old.items) name.now (admission_view admitted.entry)) }
+    ensures formats { LeavesFormats (outcome_of (result_view writing_view result)).status
+        (without_named (λ format. format_name format) name.now formats.old.items) formats.old.items formats.new.items }
+{
+    let Admitted {
+        session,
+        refused,
+        ..
+    } = admitted;
+    let verdicts = session.verdicts()?;
+    let mut made = Vec::new(alloc);
+    let found = redl_listing::list(
+        alloc,
+        formats,
+        name,
+        parts,
+        session.index(),
+        &verdicts,
+        &mut made,
+    )?;
+    if !found {
+        return Err(Failure::Cause(Cause::NoFormat(name)));
+    }
+    Ok(Writing {
+        output: Output::Listing(made),
+        refused,
+    })
+}

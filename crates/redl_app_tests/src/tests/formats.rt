@@ -1,0 +1,100 @@
+//! Lists of formats: one of the tests' own, two of one name, and none.
+ghost use Rattle.std.specs.Prelude.{◌≡◌, All, [], false};
+
+use super::calls::{INSERTED, Want, expect_call, files_of, words_of};
+use crate::count_format::CountFormat;
+use redl_app::{Status, run};
+use redl_io::{MemShelf, MemSink, NullSink};
+use redl_listing::{RowFormat, TextFormat, add_format};
+use std::alloc::{AllocError, Global};
+use std::test::Fail;
+
+const THREE: &str = "<w:p><w:ins{A}/><w:del{A}/><w:ins{A}/></w:p>";
+
+/// What a call with the words of this line writes of a package with this body, in these formats.
+fn listed(
+    alloc: Global,
+    line: &str,
+    body: &str,
+    formats: &mut Vec<Box<dyn RowFormat>>,
+) -> Result<MemSink, AllocError>
+    requires { All (λ format. (is_closed format ≡ false) × (rows_so_far format ≡ [])) formats.old.items }
+{
+    let mut shelf = MemShelf::new(files_of(alloc, body, "1", ["", "", ""])?, Vec::new(alloc));
+    let mut out = MemSink::new(alloc, 2_000, Vec::new(alloc))?;
+    call_in(alloc, line, &mut shelf, &mut out, formats)?;
+    Ok(out)
+}
+
+/// Calls with the words of this line, in these formats.
+fn call_in(
+    alloc: Global,
+    line: &str,
+    shelf: &mut MemShelf,
+    out: &mut MemSink,
+    formats: &mut Vec<Box<dyn RowFormat>>,
+) -> Result<Status, AllocError>
+    requires { All (λ format. (is_closed format ≡ false) × (rows_so_far format ≡ [])) formats.old.items }
+{
+    let words = words_of(alloc, line)?;
+    Ok(run(alloc, &words, shelf, out, &mut NullSink, formats))
+}
+
+/// Three revisions in the tests' own format.
+fn counted(alloc: Global) -> Result<MemSink, AllocError> {
+    let mut formats = Vec::new(alloc);
+    add_format(&mut formats, Box::new(alloc, TextFormat::new(alloc)?)?)?;
+    add_format(
+        &mut formats,
+        Box::new(alloc, CountFormat::new(alloc, "count")?)?,
+    )?;
+    listed(alloc, "list P --format count", THREE, &mut formats)
+}
+
+/// Whether of two formats named `text` the first one wrote, and whether one is left.
+fn in_turn(alloc: Global) -> Result<(bool, bool), AllocError> {
+    let mut formats = Vec::new(alloc);
+    add_format(
+        &mut formats,
+        Box::new(alloc, CountFormat::new(alloc, "text")?)?,
+    )?;
+    add_format(&mut formats, Box::new(alloc, TextFormat::new(alloc)?)?)?;
+    let first = listed(alloc, "list P", INSERTED, &mut formats)?;
+    let left = formats.len();
+    Ok((first.bytes() == b"#\n".as_slice(), left == 1))
+}
+
+#[test]
+fn a_format_of_the_callers_own_is_taken(rt: HostRuntime) -> Result<(), Fail> {
+    let made = counted(rt.alloc())?;
+    let bytes = made.bytes();
+    assert!(rt; bytes == b"###\n".as_slice(), "{bytes:?}");
+    Ok(())
+}
+
+#[test]
+fn of_two_formats_of_one_name_the_first_is_taken(rt: HostRuntime) -> Result<(), Fail> {
+    let (first, left) = in_turn(rt.alloc())?;
+    assert!(rt; first && left, "{first} {left}");
+    Ok(())
+}
+
+// The shelf fails at once, so nothing was fetched.
+#[test]
+fn without_a_format_nothing_is_fetched(rt: HostRuntime) -> Result<(), Fail> {
+    let alloc = rt.alloc();
+    for (line, lines) in [
+        ("list P", "redline: no format text\n"),
+        ("list P J --format pdf", "redline: no format pdf\n"),
+        ("list P --format ", "redline: no format \n"),
+    ] {
+        let mut shelf = MemShelf::new(Vec::new(alloc), vec![in alloc; 1]?);
+        let want = Want {
+            status: Status::Usage,
+            bytes: b"",
+            lines,
+        };
+        expect_call(&rt, alloc, line, &mut shelf, &[], want)?;
+    }
+    Ok(())
+}

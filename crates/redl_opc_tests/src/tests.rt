@@ -1,0 +1,218 @@
+//! Tables of packages: whether the shape is the one meant, the order of causes, and that calls succeed with ample memory.
+ghost use Rattle.std.specs.Prelude.{IfOk};
+ghost use Rattle.redl_opc.specs.Tree.{IsTree};
+ghost use Rattle.redl_tree.specs.Model.View.{nodes_of};
+
+use redl_opc::{Label, Labels, OpcError, Package};
+use redl_tree::{Kind, Node, Trace};
+use std::alloc::{AllocError, Global};
+use std::test::Fail;
+
+const NAMESPACES: &str =
+    " xmlns:pkg='http://schemas.microsoft.com/office/2006/xmlPackage' xmlns:w='http://schemas.openxmlformats.org/wordprocessingml/2006/main'>";
+
+// A text whose root has this name and holds these elements.
+fn text_of(alloc: Global, root: &str, inside: &str) -> Result<Vec<u8>, AllocError> {
+    let mut text = Vec::new(alloc);
+    for piece in ["<", root, NAMESPACES, inside, "</", root, ">\n"] {
+        text.extend_from_slice(piece.as_bytes())?;
+    }
+    Ok(text)
+}
+
+fn tree_of(alloc: Global, text: &[u8]) -> Result<Vec<Node>, Fail>
+    ensures { IfOk result (λ nodes. IsTree (nodes_of nodes.items)) }
+{
+    Ok(redl_xml::read(alloc, text)?)
+}
+
+// Why a text with this root is refused.
+fn refused(alloc: Global, root: &str, inside: &str) -> Result<Option<OpcError>, Fail> {
+    let text = text_of(alloc, root, inside)?;
+    let nodes = tree_of(alloc, &text)?;
+    Ok(Package::make(alloc, nodes).err())
+}
+
+const PART: &str =
+    "<pkg:part pkg:name='/a' pkg:contentType='x/y'><pkg:xmlData> <w:document/> </pkg:xmlData></pkg:part>";
+
+#[test]
+fn another_root_is_no_package(rt: HostRuntime) -> Result<(), Fail> {
+    for (root, inside, want) in [
+        ("pkg:package", PART, None),
+        ("pkg:a", "<pkg:b/>", Some(OpcError::NotPackage)),
+        ("w:package", PART, Some(OpcError::NotPackage)),
+    ] {
+        let got = refused(rt.alloc(), root, inside)?;
+        assert!(rt; got == want, "{root} {inside}: {got:?}");
+    }
+    Ok(())
+}
+
+// What a package may not hold.
+const OTHER_SHAPES: &[&str] = &[
+    "<pkg:b pkg:name='/a' pkg:contentType='x/y'><pkg:xmlData><w:document/></pkg:xmlData></pkg:b>",
+    "<pkg:part pkg:name='/a'><pkg:binaryData/></pkg:part>",
+    "<pkg:part pkg:contentType='x/y'><pkg:binaryData/></pkg:part>",
+    "<pkg:part pkg:name='/a' pkg:contentType='x/y'><pkg:data/></pkg:part>",
+    "<pkg:part pkg:name='/a' pkg:contentType='x/y'><pkg:xmlData/></pkg:part>",
+    "<pkg:part pkg:name='/a' pkg:contentType='x/y'><pkg:xmlData><w:document/><w:hdr/></pkg:xmlData></pkg:part>",
+    "<pkg:part pkg:name='/a' pkg:contentType='x/y'><pkg:binaryData/><pkg:binaryData/></pkg:part>",
+];
+
+// Parts without a document.
+const OTHER_PARTS: &[&str] = &[
+    "",
+    "<pkg:part pkg:name='/a' pkg:contentType='x/y'><pkg:binaryData><w:document/></pkg:binaryData></pkg:part>",
+    "<pkg:part pkg:name='/a' pkg:contentType='x/y'><pkg:xmlData><w:hdr/></pkg:xmlData></pkg:part>",
+];
+
+#[test]
+fn another_shape_is_refused_for_its_first_cause(rt: HostRuntime) -> Result<(), Fail> {
+    for (rows, want) in [
+        (OTHER_SHAPES, OpcError::PartShape),
+        (OTHER_PARTS, OpcError::NoDocument),
+    ] {
+        for inside in rows {
+            let got = refused(rt.alloc(), "pkg:package", inside)?;
+            assert!(rt; got == Some(want), "{inside}: {got:?}");
+        }
+    }
+    Ok(())
+}
+
+// Whether the first part has this name, and the root of its story this local name.
+fn first_is(made: &Package, name: &[u8], story: &[u8]) -> bool {
+    let Some(root) = made.story(0) else {
+        return false;
+    };
+    made.part_name(0) == Some(name) && root.local() == story
+}
+
+const NAMED: &str =
+    "\n<pkg:part pkg:name='/a&amp;b' pkg:contentType='x/y'><pkg:xmlData><w:document/></pkg:xmlData></pkg:part>\n";
+
+#[test]
+fn parts_have_names_and_stories(rt: HostRuntime) -> Result<(), Fail> {
+    let text = text_of(rt.alloc(), "pkg:package", NAMED)?;
+    let made = Package::make(rt.alloc(), tree_of(rt.alloc(), &text)?)?;
+    let sizes = (made.nodes().len(), made.parts());
+    let named = first_is(&made, b"/a&b", b"document");
+    assert!(rt; sizes == (2, 1) && named, "{sizes:?} {named}");
+    Ok(())
+}
+
+const LABELLED: Kind = Kind::Row(Trace::Ins);
+
+// Adds the places of the labelled elements in the order of all start tags, which count from 0, with their numbers.
+#[cycle(labelled)]
+fn add_labelled(
+    nodes: &[Node],
+    place: &mut usize,
+    labelled: &mut Vec<(usize, u32)>,
+) -> Result<(), AllocError> {
+    for node in nodes {
+        add_labelled_in(node, place, labelled)?;
+    }
+    Ok(())
+}
+
+#[cycle(labelled)]
+fn add_labelled_in(
+    node: &Node,
+    place: &mut usize,
+    labelled: &mut Vec<(usize, u32)>,
+) -> Result<(), AllocError> {
+    let Node::Elem(elem) = node else {
+        return Ok(());
+    };
+    if elem.kind() == LABELLED {
+        labelled.push((*place, elem.rev()))?;
+    }
+    *place = place.saturating_add(1);
+    add_labelled(elem.kids(), place, labelled)
+}
+
+fn labelled(alloc: Global, nodes: &[Node]) -> Result<Vec<(usize, u32)>, AllocError> {
+    let mut labelled = Vec::new(alloc);
+    let mut place = 0;
+    add_labelled(nodes, &mut place, &mut labelled)?;
+    Ok(labelled)
+}
+
+// This many labels, numbered from 1.
+fn labels(alloc: Global, many: u32) -> Result<Labels, AllocError> {
+    let mut labels = Labels::empty(alloc);
+    for before in 0..many {
+        labels.push(Label {
+            kind: LABELLED,
+            rev: before.saturating_add(1),
+        })?;
+    }
+    Ok(labels)
+}
+
+// Two stories, of which the second one's end tags have white space.
+const STORIES: &str =
+    "<pkg:part pkg:name='/a' pkg:contentType='x/y'><pkg:xmlData><w:document>\n<w:p>\n<w:r/></w:p></w:document></pkg:xmlData></pkg:part><pkg:part pkg:name='/b' pkg:contentType='x/y'><pkg:xmlData ><w:hdr>\n<w:p>\n<w:r/></w:p ></w:hdr ></pkg:xmlData ></pkg:part >";
+
+// The same with a second part that is no story.
+const STYLES: &str =
+    "<pkg:part pkg:name='/a' pkg:contentType='x/y'><pkg:xmlData><w:document>\n<w:p>\n<w:r/></w:p></w:document></pkg:xmlData></pkg:part><pkg:part pkg:name='/b' pkg:contentType='x/y'><pkg:xmlData><w:styles>\n<w:p>\n<w:r/></w:p></w:styles></pkg:xmlData></pkg:part>";
+
+// Whether exactly these elements are labelled, with these numbers, once the stories are given labels.
+fn stories_are_labelled(
+    alloc: Global,
+    inside: &str,
+    many: u32,
+    want: &[(usize, u32)],
+) -> Result<bool, Fail> {
+    let text = text_of(alloc, "pkg:package", inside)?;
+    let mut made = Package::make(alloc, tree_of(alloc, &text)?)?;
+    made.label_stories(&labels(alloc, many)?);
+    Ok(labelled(alloc, &made.into_nodes())?.as_slice() == want)
+}
+
+#[test]
+fn labels_go_on_from_story_to_story(rt: HostRuntime) -> Result<(), Fail> {
+    for (inside, many, want) in [
+        (STORIES, 9, [(4, 1), (5, 2), (9, 3), (10, 4)].as_slice()),
+        (STORIES, 3, [(4, 1), (5, 2), (9, 3)].as_slice()),
+        (STYLES, 4, [(4, 1), (5, 2)].as_slice()),
+    ] {
+        assert!(rt;
+            stories_are_labelled(rt.alloc(), inside, many, want)?,
+            "{many} {inside}"
+        );
+    }
+    Ok(())
+}
+
+// The same once one element of a story is labelled.
+fn element_is_labelled(
+    alloc: Global,
+    part: u32,
+    path: &[u32],
+    want: &[(usize, u32)],
+) -> Result<bool, Fail> {
+    let text = text_of(alloc, "pkg:package", STORIES)?;
+    let mut made = Package::make(alloc, tree_of(alloc, &text)?)?;
+    made.label(part, path, LABELLED, 7);
+    Ok(labelled(alloc, made.nodes())?.as_slice() == want)
+}
+
+#[test]
+fn one_element_of_a_story_is_labelled(rt: HostRuntime) -> Result<(), Fail> {
+    for (part, path, want) in [
+        (0, [].as_slice(), [(3, 7)].as_slice()),
+        (1, [1, 1].as_slice(), [(10, 7)].as_slice()),
+        (0, [0].as_slice(), [].as_slice()),
+        (2, [].as_slice(), [].as_slice()),
+    ] {
+        assert!(rt;
+            element_is_labelled(rt.alloc(), part, path, want)?,
+            "{part} {path:?}"
+        );
+    }
+    Ok(())
+}

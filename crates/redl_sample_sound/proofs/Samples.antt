@@ -1,0 +1,16 @@
+-- Each sample is a sound package.
+use Rattle.std.proofs.Common.{◌≤◌, ℕ}
+use Rattle.redl_sample.specs.Packages.{package_text}
+use Rattle.redl_sample_sound.proofs.Readings.{sample_nodes, reading_is, shallow, few_nodes}
+use Rattle.redl_sample_sound.proofs.Rules.{shape_is, sound_is}
+use Rattle.redl_sample_sound.specs.Sound.{HasSoundPackage}
+
+pub sound_sample : (number : ℕ) → number ≤ 20000 → HasSoundPackage (package_text number)
+sound_sample number few = record {
+  nodes = sample_nodes number;
+  reading = reading_is number few;
+  shallow = shallow number;
+  few = few_nodes number few;
+  shape = shape_is number;
+  sound = sound_is number few;
+}
