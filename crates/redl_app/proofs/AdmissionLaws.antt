@@ -93,8 +93,8 @@ on_ok (Ok x) step h = step h
 on_ok (Err e) step h = h
 
 -- a session over a package, before any entry
-pub starts : (whole : List ℕ) (read : Nodes) (locks : List (List ℕ)) (digest : List ℕ) (nodes : Nodes) (revisions : List Revision) (held : List (List ℕ)) (state : State) (entries : List Entry) (count : ℕ)
-    → digest ≡ sha256 whole → state ≡ record { nodes = nodes; revisions = revisions; locks = held; book = [] } → nodes ≡ numbered_package read → revisions ≡ revisions_of read → held ≡ locks
-    → entries ≡ [] → count ≡ package_revisions read → let document : DocumentId = record { digest = digest; count = count } in with_parts document state entries count ≡ no_admission whole read locks
-starts whole read locks digest nodes revisions held state entries count of_text is of_nodes of_revisions of_locks none counted =
-    rw (of_text, is, of_nodes, of_revisions, of_locks, none, counted) refl
+pub starts : (whole : List ℕ) (read : Nodes) (locks : List (List ℕ)) (nodes : Nodes) (revisions : List Revision) (held : List (List ℕ)) (state : State) (entries : List Entry) (count : ℕ)
+    → state ≡ record { nodes = nodes; revisions = revisions; locks = held; book = [] } → nodes ≡ numbered_package read → revisions ≡ revisions_of read → held ≡ locks
+    → entries ≡ [] → count ≡ package_revisions read → let document : DocumentId = record { digest = sha256 whole; count = count } in with_parts document state entries count ≡ no_admission whole read locks
+starts whole read locks nodes revisions held state entries count is of_nodes of_revisions of_locks none counted =
+    rw (is, of_nodes, of_revisions, of_locks, none, counted) refl

@@ -1,5 +1,5 @@
 -- A session over a package and its journals, and the union of journals.
-use Rattle.std.proofs.Common.{◌≡◌, ◌<◌, ◌≤◌, ◌-◌, ℕ, List, [], ◌∷◌, length, take, drop, get_or, Option, Result, Err, refl, ap, ◌∙◌, subst, arith}
+use Rattle.std.proofs.Common.{◌≡◌, ◌<◌, ◌≤◌, ◌-◌, ℕ, List, [], ◌∷◌, length, take, drop, get_or, Option, Result, Ok, Err, refl, sym, ap, ◌∙◌, subst, arith}
 use Rattle.std.proofs.lemmas.List.{take_all}
 use Rattle.redl_app.specs.Admission.{Admission, admission_of}
 use Rattle.redl_app.specs.Commands.Join.{joined}
@@ -18,6 +18,17 @@ pub opens : {old new : Option Files} {before now : ℕ} {names : List (List ℕ)
     → ReadsFiles old new before now names made (λ reader files. admission_of reader files first most names)
 opens {old} {new} {before} {now} {names} {made} most started first same step =
     subst (λ a. ReadsFiles old new before now names made (λ reader files. admission_of reader files a most names)) same step
+
+-- without a journal no entry comes
+pub opens_nothing : (told : Option Files) (count most : ℕ) (started first : Admission) (names : List (List ℕ)) → names ≡ [] → started ≡ first
+    → ReadsFiles told told count count names (Ok started) (λ reader files. admission_of reader files first most names)
+opens_nothing told count most started first names none same =
+    rw none (record {
+      as_due = λ files may reader is. ap Ok (sym same);
+      unread = tt;
+      same_files = refl;
+      stands = refl;
+    })
 
 -- ---- a union
 

@@ -12,11 +12,10 @@ use Rattle.redl_lines.specs.Failures.{Failure, failure_view, caused, over, no_pa
 use Rattle.redl_lines.specs.declared.failure.Failure.{Failure as Declared}
 use Rattle.redl_lines.specs.declared.failure.Limit.TheVariants.{Depth, Nodes as TooManyNodes}
 use Rattle.redl_lines.specs.declared.failure.PackageFault.TheVariants.{NotReadable}
-use Rattle.redl_opc.specs.Tree.{HasUtf8Tails}
 use Rattle.redl_tree.specs.Model.Count.{count}
-use Rattle.redl_tree.specs.Model.Nodes.{Nodes, no_nodes, bytes, element}
+use Rattle.redl_tree.specs.Model.Nodes.{Nodes}
 use Rattle.redl_xml.proofs.Documents.{one_tree}
-use Rattle.redl_xml.specs.Readings.{IsReading, HasReading, HasNoReading, HaveLegalTails}
+use Rattle.redl_xml.specs.Readings.{IsReading, HasReading, HasNoReading}
 use Rattle.redl_xml.specs.Shapes.{depth_of}
 use Rattle.redl_xml.specs.declared.error.XmlError.{XmlError}
 use Rattle.redl_xml.specs.declared.error.XmlError.TheVariants as xml
@@ -86,11 +85,6 @@ xml_is_read xml.Unreadable = tt
 xml_is_read xml.Depth = tt
 xml_is_read xml.Nodes = tt
 xml_is_read xml.NoMemory = tt
-
-pub utf8_tails : (nodes : Nodes) → HaveLegalTails nodes → HasUtf8Tails nodes
-utf8_tails no_nodes legal = tt
-utf8_tails (bytes b rest) legal = utf8_tails rest legal
-utf8_tails (element tag kids rest) (tail, utf8, in_kids, in_rest) = (utf8, utf8_tails kids in_kids, utf8_tails rest in_rest)
 
 -- a failure that was made of an error is due where that of the error is
 pub failed_as : {X Y : Type 0} (view : X → Y) (made : Result X Declared) (failure : Failure) (due : Reader → Result Y Failure) → IsErrAnd made (λ f. failure_view f ≡ failure)

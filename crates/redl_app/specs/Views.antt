@@ -6,7 +6,10 @@ use Rattle.redl_app.specs.Commands.Join.{book_text}
 use Rattle.redl_app.specs.Journals.{DocumentId}
 use Rattle.redl_app.specs.Writing.{Writing}
 use Rattle.redl_app.specs.declared.admitted.Admitted.{Admitted}
+use Rattle.redl_app.specs.declared.document.Document.{Document}
 use Rattle.redl_app.specs.declared.document.DocumentId.{DocumentId as DeclaredDocument}
+use Rattle.redl_app.specs.declared.document.LazyDigest.{LazyDigest}
+use Rattle.redl_app.specs.declared.document.LazyDigest.TheVariants.{Of, Taken}
 use Rattle.redl_app.specs.declared.output.Output.{Output}
 use Rattle.redl_app.specs.declared.output.Output.TheVariants as output
 use Rattle.redl_app.specs.declared.output.Writing.{Writing as DeclaredWriting}
@@ -22,6 +25,7 @@ use Rattle.redl_words.specs.Commands.{Command}
 use Rattle.redl_words.specs.Views.{command_of}
 use Rattle.redl_words.specs.declared.command.Command.{Command as DeclaredCommand}
 use Rattle.redl_words.specs.declared.error.WordsError.{WordsError}
+use Rattle.sha2.specs.Sha256.{sha256}
 
 -- what a function made, seen by the view, or why it failed
 abbrev pub result_view : {X Y : Type 0} → (X → Y) → Result X DeclaredFailure → Result Y Failure
@@ -31,8 +35,17 @@ result_view view (Err failure) = Err (failure_view failure)
 abbrev pub document_view : DeclaredDocument → DocumentId
 document_view document = record { digest = document.digest; count = document.count }
 
+-- a digest, also where it is not taken yet
+abbrev pub digest_in : LazyDigest → List ℕ
+digest_in (Of whole) = sha256 whole.now
+digest_in (Taken digest) = digest
+
+-- a package as its journals know it, also where its digest is not taken yet
+abbrev pub known_view : Document → DocumentId
+known_view document = record { digest = digest_in document.digest; count = document.count }
+
 abbrev pub admission_view : Admitted → Admission
-admission_view admitted = record { document = document_view admitted.document; state = admitted.session; refused = entries_view admitted.refused }
+admission_view admitted = record { document = known_view admitted.document; state = admitted.session; refused = entries_view admitted.refused }
 
 -- what goes out
 abbrev pub output_text : Output → List ℕ

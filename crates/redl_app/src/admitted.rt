@@ -6,7 +6,7 @@ ghost use Rattle.redl_app.specs.Views.{admission_view};
 ghost use Rattle.redl_join.specs.Books.{union};
 ghost use Rattle.redl_journal.specs.Journals.{IsAllowed};
 
-use crate::document::DocumentId;
+use crate::document::Document;
 use redl_join::Book;
 use redl_journal::Entry;
 use redl_lines::RefusedEntries;
@@ -17,7 +17,7 @@ use std::alloc::AllocError;
 #[derive(Drop)]
 pub(crate) struct Admitted<'b> {
     /// The package, as its journals know it.
-    pub document: DocumentId,
+    pub document: Document<'b>,
     /// The session.
     pub session: Session<'b>,
     /// The entries that it refused.

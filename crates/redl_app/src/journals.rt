@@ -5,7 +5,7 @@ ghost use Rattle.redl_app.specs.Admission.{admission_of};
 ghost use Rattle.redl_app.specs.Commands.Join.{first_journal, union_with};
 ghost use Rattle.redl_app.specs.Journals.{entries_of, journal_at, journal_or_none};
 ghost use Rattle.redl_app.specs.Reading.{ReadsFiles, Reads};
-ghost use Rattle.redl_app.specs.Views.{admission_view, document_view, result_view};
+ghost use Rattle.redl_app.specs.Views.{admission_view, document_view, known_view, result_view};
 ghost use Rattle.redl_join.specs.Books.{union};
 ghost use Rattle.redl_journal.specs.Journals.{IsAllowed};
 ghost use Rattle.redl_journal.specs.Views.{journal_of};
@@ -19,9 +19,11 @@ use redl_journal::{Entry, Journal, JournalError, read};
 use redl_lines::{Cause, Failure, Limit};
 use std::alloc::{AllocError, Global};
 
-/// What becomes of the entries of the journals of these names. All journals together have at most `limit` bytes.
+/// What becomes of the entries of the journals of these names, which are of the session's document. All journals together have
+/// at most `limit` bytes.
 pub(crate) fn admit_journals<'a, 'b, F: Shelf>(
     alloc: Global,
+    document: DocumentId,
     journals: &'a [Text],
     limit: usize,
     before: Admitted<'b>,
@@ -29,12 +31,12 @@ pub(crate) fn admit_journals<'a, 'b, F: Shelf>(
 ) -> Result<Admitted<'b>, Failure<'a>>
     requires utf8 { All IsUtf8 journals.now }
     requires limit { limit < 2 ^ 32 }
+    requires document { document_view document ≡ known_view before.document }
     ensures read { ReadsFiles (F.told shelf.old) (F.told shelf.new) (F.faults shelf.old) (F.faults shelf.new) journals.now
         (result_view admission_view result) (λ reader files. admission_of reader files (admission_view before.entry) limit journals.now) }
     ensures nodes { IfOk result (λ admitted. admitted.session.nodes ≡ before.entry.session.nodes) }
     ensures revisions { IfOk result (λ admitted. admitted.session.revisions ≡ before.entry.session.revisions) }
 {
-    let document = before.document;
     let mut admitted = before;
     let mut left = limit;
     for journal in journals {

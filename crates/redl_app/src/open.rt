@@ -7,11 +7,10 @@ ghost use Rattle.redl_app.specs.Views.{admission_view, result_view};
 ghost use Rattle.redl_index.specs.Numbers.{numbered_package};
 ghost use Rattle.redl_index.specs.Revisions.{revisions_of};
 ghost use Rattle.redl_rules.specs.Attributes.{broken_rule};
-ghost use Rattle.sha2.specs.Sha256.{sha256};
 
 use crate::JOURNALS_LIMIT;
 use crate::admitted::Admitted;
-use crate::document::DocumentId;
+use crate::document::{Document, LazyDigest};
 use crate::journals::admit_journals;
 use crate::package::{number_package, read_package};
 use redl_io::{Shelf, Text};
@@ -19,7 +18,6 @@ use redl_join::Book;
 use redl_lines::{Failure, RefusedEntries};
 use redl_opc::Package;
 use redl_session::{Locks, Session};
-use sha2::{Digest, Sha256};
 use std::alloc::{AllocError, Global};
 
 /// A session over the package with this text, with the entries of the journals of these names and with these locked authors.
@@ -45,7 +43,7 @@ pub(crate) fn open_package<'a, 'b, F: Shelf>(
     package: Package<'b>,
     locks: &[Text],
     journals: &'a [Text],
-    bytes: &[u8],
+    bytes: &'b [u8],
     shelf: &mut F,
 ) -> Result<Admitted<'b>, Failure<'a>>
     requires utf8 { All IsUtf8 journals.now }
@@ -55,8 +53,12 @@ pub(crate) fn open_package<'a, 'b, F: Shelf>(
     ensures nodes { IfOk result (λ admitted. admitted.session.nodes ≡ numbered_package «package».entry) }
     ensures revisions { IfOk result (λ admitted. admitted.session.revisions ≡ revisions_of «package».entry) }
 {
-    let started = start(alloc, package, locks, bytes)?;
-    admit_journals(alloc, journals, JOURNALS_LIMIT, started, shelf)
+    let mut started = start(alloc, package, locks, bytes)?;
+    if journals.is_empty() {
+        return Ok(started);
+    }
+    let document = started.document.id();
+    admit_journals(alloc, document, journals, JOURNALS_LIMIT, started, shelf)
 }
 
 /// A session over this package, which has this text, before any entry.
@@ -64,7 +66,7 @@ pub(crate) fn start<'b>(
     alloc: Global,
     read: Package<'b>,
     locks: &[Text],
-    bytes: &[u8],
+    bytes: &'b [u8],
 ) -> Result<Admitted<'b>, AllocError>
     requires { broken_rule read ≡ None }
     ensures { IfOk result (λ started. admission_view started ≡ no_admission bytes.now read.entry locks.now) }
@@ -73,8 +75,8 @@ pub(crate) fn start<'b>(
     let count = numbered.index.count();
     let locks = Locks::new(copy_texts(alloc, locks)?);
     Ok(Admitted {
-        document: DocumentId {
-            digest: digest_of(bytes),
+        document: Document {
+            digest: LazyDigest::Of(bytes),
             count,
         },
         session: Session::start(alloc, numbered.package, numbered.index, locks)?,
@@ -93,10 +95,4 @@ fn copy_texts(alloc: Global, texts: &[Text]) -> Result<Vec<Text>, AllocError>
         copies.push(text.copy(alloc)?)?;
     }
     Ok(copies)
-}
-
-fn digest_of(bytes: &[u8]) -> [u8; 32]
-    ensures { result ≡ sha256 bytes.now }
-{
-    Sha256::digest(bytes)
 }

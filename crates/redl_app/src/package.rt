@@ -6,12 +6,12 @@ ghost use Rattle.redl_app.specs.Reading.{Reads};
 ghost use Rattle.redl_app.specs.Views.{result_view};
 ghost use Rattle.redl_index.specs.Numbers.{numbered_package, package_revisions};
 ghost use Rattle.redl_index.specs.Revisions.{revisions_of};
-ghost use Rattle.redl_opc.specs.Tree.{IsTree};
+ghost use Rattle.redl_tree.specs.Model.Tree.{IsTree};
 ghost use Rattle.redl_rules.specs.Attributes.{broken_rule};
 ghost use Rattle.redl_tree.specs.Decisions.Packages.{pass_package};
 ghost use Rattle.redl_tree.specs.Model.View.{nodes_of};
 
-use redl_index::Index;
+use redl_index::{Index, number};
 use redl_lines::Failure;
 use redl_opc::Package;
 use redl_resolve::{Steps, into_passed};
@@ -66,6 +66,13 @@ pub(crate) struct Numbered<'b> {
     pub index: Index,
 }
 
+/// A package with the kinds and numbers of its revisions, and how many these are.
+#[derive(Drop)]
+pub(crate) struct Counted<'b> {
+    pub package: Package<'b>,
+    pub count: u32,
+}
+
 /// The package with its numbers.
 pub(crate) fn number_package(alloc: Global, read: Package) -> Result<Numbered, AllocError>
     ensures numbered { IfOk result (λ made. made.«package» ≡ numbered_package read.entry) }
@@ -75,6 +82,16 @@ pub(crate) fn number_package(alloc: Global, read: Package) -> Result<Numbered, A
     let mut package = read;
     let index = Index::build(alloc, &mut package)?;
     Ok(Numbered { package, index })
+}
+
+/// The package with its numbers, where its revisions are only counted.
+pub(crate) fn count_package(alloc: Global, read: Package) -> Result<Counted, AllocError>
+    ensures numbered { IfOk result (λ made. made.«package» ≡ numbered_package read.entry) }
+    ensures count { IfOk result (λ made. made.count ≡ package_revisions read.entry) }
+{
+    let mut package = read;
+    let count = number(alloc, &mut package)?;
+    Ok(Counted { package, count })
 }
 
 /// What is left of a numbered package. Its own nodes go while it is made.

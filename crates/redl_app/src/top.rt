@@ -16,7 +16,7 @@ ghost use Rattle.redl_io.specs.Sink.{GrowsByFront};
 ghost use Rattle.std.specs.Io.KnownBytes.{append_known};
 ghost use Rattle.redl_lines.specs.Ends.{Tells, end_status, end_view, failed};
 ghost use Rattle.redl_lines.specs.Failures.{Failure as FailureOf, failure_view, failure_status};
-ghost use Rattle.redl_lines.specs.Lines.{failure_line};
+ghost use Rattle.redl_lines.specs.Lines.{failure_line, unwritten_line};
 ghost use Rattle.redl_words.specs.Commands.{Command as CommandOf, HasNoCommand, HasUtf8, IsCommand};
 ghost use Rattle.redl_words.specs.Views.{command_of};
 
@@ -194,6 +194,8 @@ pub fn tell_text<O: Sink, E: Sink>(alloc: Global, text: &str, out: &mut O, err: 
     ensures front { result ≡ Status.WriteFault → GrowsByFront (O.told out.old) (O.told out.new) text.now }
     ensures cause { result ≡ Status.WriteFault → Rose (O.faults out.old) (O.faults out.new) }
     ensures stands { result ≡ Status.Done → O.faults out.new ≡ O.faults out.old }
+    ensures silent { result ≡ Status.Done → Tells (E.told err.old) (E.told err.new) (E.faults err.old) (E.faults err.new) [] }
+    ensures lines { result ≡ Status.WriteFault → Tells (E.told err.old) (E.told err.new) (E.faults err.old) (E.faults err.new) unwritten_line }
 {
     let refused = RefusedEntries {
         entries: Book::new(alloc),

@@ -4,12 +4,12 @@ use Rattle.std.specs.List.{cons_option}
 use Rattle.redl_tree.specs.Model.Nodes.{Tag, Nodes}
 use Rattle.redl_tree.specs.Model.Seen.{Seen, seen}
 use Rattle.redl_tree.specs.Model.View.{Parts}
-use Rattle.redl_tree.specs.Decisions.Packages.{stories}
+use Rattle.redl_tree.specs.Decisions.Packages.{stories, left_after, changed_stories}
 use Rattle.redl_tree.specs.Revisions.Labels.{unlabelled_tag, unlabelled}
 use Rattle.redl_tree.specs.Revisions.Markers.{marker_of, move_of, whole_role}
 use Rattle.redl_tree.specs.Revisions.Moves.{Marking, pairs}
-use Rattle.redl_tree.specs.Revisions.Numbers.{labelled_story, next_after_story}
-use Rattle.redl_tree.proofs.NumberLaws.{bare_seen, seen-bare, marker_of-bare, markers-bare, move_of-bare, whole_role-bare, unlabelled-story, unlabelled-numbered, story_next-bare, numbered_stories, next_after_stories, next_after-stories, stories-numbered}
+use Rattle.redl_tree.specs.Revisions.Numbers.{labelled_story, next_after_story, number_rule}
+use Rattle.redl_tree.proofs.NumberLaws.{bare_seen, seen-bare, marker_of-bare, markers-bare, move_of-bare, whole_role-bare, unlabelled-story, unlabelled-numbered, story_next-bare, stories-numbered}
 use Rattle.redl_opc.specs.Elements.{Element}
 use Rattle.redl_opc.specs.Shape.{elements_in, parts_of, package_of, story_of}
 use Rattle.redl_opc.proofs.LabelLaws.{plain, elements-unlabelled, package_of-unlabelled, story_of-plain}
@@ -96,17 +96,14 @@ next-again next first root kids =
     ∙ ap (next_after_story attribute_value next (unlabelled_tag root)) (unlabelled-story attribute_value first root kids)
     ∙ story_next-bare attribute_value next root kids
 
-all-again : (next first : ℕ) (parts : List Parts) → next_after_stories attribute_value next (numbered_stories attribute_value first parts) ≡ next_after_stories attribute_value next parts
+all-again : (next first : ℕ) (parts : List Parts) → left_after (number_rule attribute_value) next (changed_stories (number_rule attribute_value) first parts) ≡ left_after (number_rule attribute_value) next parts
 all-again next first [] = refl
 all-again next first (story ∷ later) =
-    ap (λ n. next_after_stories attribute_value n (numbered_stories attribute_value (next_after_story attribute_value first story.tag story.kids) later))
+    ap (λ n. left_after (number_rule attribute_value) n (changed_stories (number_rule attribute_value) (next_after_story attribute_value first story.tag story.kids) later))
     (next-again next first story.tag story.kids)
     ∙ all-again (next_after_story attribute_value next story.tag story.kids) (next_after_story attribute_value first story.tag story.kids) later
 
 -- and as many
 pub count-numbered : (nodes : Nodes) → package_revisions (numbered_package nodes) ≡ package_revisions nodes
 count-numbered nodes =
-    next_after-stories attribute_value [] 0 (numbered_package nodes)
-    ∙ ap (next_after_stories attribute_value 0) (stories-numbered attribute_value nodes)
-    ∙ all-again 0 1 (stories nodes)
-    ∙ sym (next_after-stories attribute_value [] 0 nodes)
+    ap (left_after (number_rule attribute_value) 0) (stories-numbered attribute_value nodes) ∙ all-again 0 1 (stories nodes)

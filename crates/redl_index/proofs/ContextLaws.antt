@@ -13,7 +13,13 @@ use Rattle.redl_tree.specs.declared.kinds.Kind.{Kind}
 use Rattle.redl_tree.specs.declared.kinds.Kind.TheVariants.{Content, Mark, Row, Cell, Change, Plain, Marker}
 use Rattle.redl_tree.specs.declared.kinds.Trace.{Trace}
 use Rattle.redl_tree.specs.declared.kinds.Trace.TheVariants.{Ins, Del}
-use Rattle.redl_tree.specs.Roles.Arounds.{role_in, change_in, holds_change}
+use Rattle.redl_tree.specs.Roles.Arounds.{role_in, role_below, mark_in, change_in}
+use Rattle.redl_tree.specs.declared.around.Parent.{Parent}
+use Rattle.redl_tree.specs.declared.around.Parent.TheVariants.{ParaProps, MarkProps, RunProps, SectProps, TableProps, ExceptProps, RowProps, CellProps}
+use Rattle.redl_tree.specs.declared.kinds.Prop.TheVariants.{Run, Para, Sect, Table, Except, Row as RowProp, Cell as CellProp}
+use Rattle.redl_tree.proofs.AroundLaws.{around_of-∷}
+use Rattle.std.specs.Option.{unwrap_or}
+use Rattle.redl_index.specs.declared.context.Context.{Context}
 use Rattle.redl_tree.specs.declared.kinds.Prop.{Prop}
 use Rattle.redl_index.specs.Kinds.{kind_of, is_named}
 use Rattle.redl_tree.proofs.NameLaws.{and-left, and-right, is-other, is_any-apart}
@@ -145,13 +151,15 @@ module _ (marks : List Marking) (x : Seen) (found : Option Start) (is : found �
 
 pub context-inside : (at : ℕ) (tag : Tag) (kids : Nodes) (above : List Spot) →
     inside_context tag (at + 1 + tags kids) (context_of above) ≡ context_of (spot at tag kids ∷ above)
-context-inside at tag kids above = refl
+context-inside at tag kids above =
+    let Told : Around → Context = λ around. record (context_of (spot at tag kids ∷ above)) { around = around } in
+    ap Told (sym (around_of-∷ tag (tags_of above)))
 
 pub context-root : (tag : Tag) (kids : Nodes) (around : Around) → around ≡ inside_of tag (around_of []) → is "p" tag ≡ false →
     record { around = around; para_end = 0 } ≡ context_of (root_spots tag kids)
 context-root tag kids around is no_p =
-    ap (λ a. record { around = a; para_end = 0 }) is
-    ∙ ap (λ b. record { around = inside_of tag (around_of []); para_end = if b then 0 + 1 + tags kids else 0 }) (sym no_p)
+    ap (λ a. record { around = a; para_end = 0 }) (is ∙ sym (around_of-∷ tag []))
+    ∙ ap (λ b. record { around = around_of (tag ∷ []); para_end = if b then 0 + 1 + tags kids else 0 }) (sym no_p)
 
 -- the root of a story is no paragraph
 pub root-no_p : (tag : Tag) → is_story_root tag ≡ true → is "p" tag ≡ false
@@ -168,9 +176,9 @@ root-no_p tag root =
 abbrev pub IsNamed : Kind → Type 0
 IsNamed kind = IfSome (kind_of kind) (λ kind. IsTrue (is_named kind))
 
-named-first : (first : Option Kind) (kinds : List (Option Kind)) → IfSome first IsNamed → IsNamed (first_role kinds) → IsNamed (first_role (first ∷ kinds))
-named-first None kinds h k = k
-named-first (Some kind) kinds h k = h
+named-or : (first : Option Kind) (other : Kind) → IfSome first IsNamed → IsNamed other → IsNamed (unwrap_or first other)
+named-or None other h k = k
+named-or (Some kind) other h k = h
 
 named-placed : (holds : Bool) (kind : Option Kind) → IfSome kind IsNamed → IfSome (placed holds kind) IsNamed
 named-placed true kind h = h
@@ -194,22 +202,29 @@ named-cell true is_del = refl
 named-cell false true = refl
 named-cell false false = tt
 
-named-change : (here : Around) (prop : Option Prop) → IfSome (change_in here prop) IsNamed
-named-change here None = tt
-named-change here (Some prop) = named-placed (holds_change here prop) (Some (Change prop)) refl
+named-below : (parent : Parent) (tag : Tag) → IfSome (mark_in parent tag) IsNamed
+named-below MarkProps tag = named-mark (trace_of tag)
+named-below RowProps tag = named-row (is "ins" tag) (is "del" tag)
+named-below CellProps tag = named-cell (is "cellIns" tag) (is "cellDel" tag)
+named-below _ tag = tt
+
+named-changed : (prop : Prop) (b : Bool) → IsNamed (if b then Change prop else Plain)
+named-changed prop true = refl
+named-changed prop false = tt
+
+named-change : (parent : Parent) (tag : Tag) → IsNamed (change_in parent tag)
+named-change RunProps tag = named-changed Run (is "rPrChange" tag)
+named-change MarkProps tag = named-changed Run (is "rPrChange" tag)
+named-change ParaProps tag = named-changed Para (is "pPrChange" tag)
+named-change SectProps tag = named-changed Sect (is "sectPrChange" tag)
+named-change TableProps tag = named-changed Table (is "tblPrChange" tag)
+named-change ExceptProps tag = named-changed Except (is "tblPrExChange" tag)
+named-change RowProps tag = named-changed RowProp (is "trPrChange" tag)
+named-change CellProps tag = named-changed CellProp (is "tcPrChange" tag)
+named-change _ tag = tt
 
 pub named-role_in : (here : Around) (tag : Tag) → IsNamed (role_in here tag)
 named-role_in here tag =
     let content = option_map Content (trace_of tag) in
-    let mark = option_map Mark (trace_of tag) in
-    let row = option_map Row (row_trace_of tag) in
-    let cell = option_map Cell (cell_trace_of tag) in
-    let change = change_in here (prop_of tag) in
-    let cells = placed here.cell_props cell ∷ change ∷ [] in
-    let rows = placed here.row_props row ∷ cells in
-    let marks = placed here.mark_props mark ∷ rows in
-    named-first (placed (not here.quiet) content) marks (named-placed (not here.quiet) content (named-content (trace_of tag)))
-    (named-first (placed here.mark_props mark) rows (named-placed here.mark_props mark (named-mark (trace_of tag)))
-    (named-first (placed here.row_props row) cells (named-placed here.row_props row (named-row (is "ins" tag) (is "del" tag)))
-    (named-first (placed here.cell_props cell) (change ∷ []) (named-placed here.cell_props cell (named-cell (is "cellIns" tag) (is "cellDel" tag)))
-    (named-first change [] (named-change here (prop_of tag)) tt))))
+    named-or (placed (not here.quiet) content) (role_below here.parent tag) (named-placed (not here.quiet) content (named-content (trace_of tag)))
+    (named-or (mark_in here.parent tag) (change_in here.parent tag) (named-below here.parent tag) (named-change here.parent tag))

@@ -1,15 +1,16 @@
 -- The labels of a package make its nodes numbered.
-use Rattle.std.proofs.Common.{◌≡◌, ◌∙◌, refl, ap, sym, ℕ, suc, ◌+◌, List, [], ◌∷◌, ◌++◌, Bool, true, false, cond, length, slice_get, Some, append_assoc, length-append, arith, if◌then◌else◌}
+use Rattle.std.proofs.Common.{◌≡◌, ◌∙◌, refl, ap, sym, ℕ, suc, ◌+◌, List, [], ◌∷◌, ◌++◌, length, drop, slice_get, Some, append_assoc, length-append, arith}
+use Rattle.std.proofs.Math.Seq.{drop-append_seam}
 use Rattle.std.proofs.lemmas.List.{append-nil}
 use Rattle.redl_tree.specs.Model.Nodes.{Tag, Nodes, no_nodes, bytes, element}
 use Rattle.redl_tree.specs.Model.View.{Parts}
-use Rattle.redl_tree.specs.Decisions.Packages.{is_root, stories_in}
+use Rattle.redl_tree.specs.Decisions.Packages.{stories, left_after}
 use Rattle.redl_tree.specs.Model.Seen.{Spot, spot, Seen, seen_one, seen_from, seen, root_spots, tags}
 use Rattle.redl_tree.specs.Revisions.Moves.{Pair, pairs}
-use Rattle.redl_tree.specs.Revisions.Numbers.{Numbering, counted, revision_of, numbering_after, labelled, start_with, next_after_story, next_after, numbered_in}
-use Rattle.redl_tree.proofs.NumberLaws.{next_after_stories, next_after-stories}
+use Rattle.redl_tree.specs.Revisions.Numbers.{Numbering, counted, revision_of, numbering_after, labelled, start_with, next_after_story, number_rule, numbered_package}
+use Rattle.redl_tree.proofs.StoryLaws.{Agree, changed_in-agree}
 use Rattle.redl_opc.specs.declared.label.Label.{Label}
-use Rattle.redl_opc.specs.Labels.{elements, relabelled, story_elements, kids_story_elements, labelled_in}
+use Rattle.redl_opc.specs.Labels.{elements, relabelled, label_rule, labelled_stories}
 use Rattle.redl_stamp.specs.Attribute.{attribute_value}
 use Rattle.redl_markers.specs.Found.{markers_of}
 use Rattle.redl_index.specs.Labels.{label_of, labels_over, story_labels, labels_of}
@@ -95,74 +96,32 @@ length-story_labels next root kids =
     length-labels (pairs (markers_of root kids)) (start_with next) (seen root kids) ∙ length-seen (root_spots root kids) 1 kids
 
 -- the labels of some stories stand in front of those of the stories behind them
-pub labels_of-append : (next : ℕ) (xs ys : List Parts) → labels_of next (xs ++ ys) ≡ labels_of next xs ++ labels_of (next_after_stories attribute_value next xs) ys
+pub labels_of-append : (next : ℕ) (xs ys : List Parts) → labels_of next (xs ++ ys) ≡ labels_of next xs ++ labels_of (left_after (number_rule attribute_value) next xs) ys
 labels_of-append next [] ys = refl
 labels_of-append next (story ∷ xs) ys =
     let here = story_labels next story.tag story.kids in
     let then_next = next_after_story attribute_value next story.tag story.kids in
     ap (λ ls. here ++ ls) (labels_of-append then_next xs ys)
-    ∙ sym (append_assoc here (labels_of then_next xs) (labels_of (next_after_stories attribute_value then_next xs) ys))
+    ∙ sym (append_assoc here (labels_of then_next xs) (labels_of (left_after (number_rule attribute_value) then_next xs) ys))
 
--- the stories in an element: its own, or those among its kids
-abbrev inner_stories : Bool → Parts → List Parts → List Parts
-inner_stories is_root own below = if is_root then own ∷ [] else below
-
-length-inner : (is_root : Bool) (next : ℕ) (own : Parts) (below : List Parts) (n : ℕ) → length (labels_of next below) ≡ n
-    → length (labels_of next (inner_stories is_root own below)) ≡ (if is_root then elements own.kids else n)
-length-inner true next own below n is = ap length (append-nil (story_labels next own.tag own.kids)) ∙ length-story_labels next own.tag own.kids
-length-inner false next own below n is = is
-
-length-labels_of : (around : List Tag) (next : ℕ) (nodes : Nodes) → length (labels_of next (stories_in around nodes)) ≡ story_elements around nodes
-length-labels_of around next no_nodes = refl
-length-labels_of around next (bytes b rest) = length-labels_of around next rest
-length-labels_of around next (element tag kids rest) =
-    let inner = inner_stories (is_root around tag) (record { tag = tag; kids = kids }) (stories_in (tag ∷ around) kids) in
-    let here = labels_of next inner in
-    let later = labels_of (next_after_stories attribute_value next inner) (stories_in around rest) in
-    omega (
-      arith,
-      ap length (labels_of-append next inner (stories_in around rest)),
-      length-append here later,
-      length-inner (is_root around tag) next (record { tag = tag; kids = kids }) (stories_in (tag ∷ around) kids) (story_elements (tag ∷ around) kids)
-          (length-labels_of (tag ∷ around) next kids),
-      length-labels_of around (next_after_stories attribute_value next inner) rest,
+-- where labels begin with those of some stories, to give each story the next ones numbers it
+labels-agree : (next : ℕ) (all : List Label) (xs : List Parts) (post : List Label) → all ≡ labels_of next xs ++ post
+    → Agree label_rule (number_rule attribute_value) all next xs
+labels-agree next all [] post is = tt
+labels-agree next all (story ∷ later) post is =
+    let here = story_labels next story.tag story.kids in
+    let then_next = next_after_story attribute_value next story.tag story.kids in
+    let after = labels_of then_next later ++ post in
+    let split : all ≡ here ++ after = is ∙ append_assoc here (labels_of then_next later) post in
+    let left : drop (elements story.kids) all ≡ after =
+    ap (λ n. drop n all) (sym (length-story_labels next story.tag story.kids)) ∙ ap (drop (length here)) split ∙ drop-append_seam here after in (
+      relabelled-story (pairs (markers_of story.tag story.kids)) (root_spots story.tag story.kids) 1 (start_with next) all 0 [] story.kids after split refl,
+      labels-agree then_next (drop (elements story.kids) all) later post left,
     )
 
--- what is said of the kids of a root, and what of other kids
-either_way : (is_root : Bool) (all pre post : List Label) (next : ℕ) (own : Parts) (below : List Parts) (a b c d : Nodes)
-    → (all ≡ pre ++ (story_labels next own.tag own.kids ++ post) → a ≡ c) → (all ≡ pre ++ (labels_of next below ++ post) → b ≡ d)
-    → all ≡ pre ++ (labels_of next (inner_stories is_root own below) ++ post) → cond is_root a b ≡ cond is_root c d
-either_way true all pre post next own below a b c d h k is = h (is ∙ ap (λ ls. pre ++ (ls ++ post)) (append-nil (story_labels next own.tag own.kids)))
-either_way false all pre post next own below a b c d h k is = k is
-
-either_next : (is_root : Bool) (next : ℕ) (own : Parts) (below : List Parts) (n : ℕ) → n ≡ next_after_stories attribute_value next below
-    → next_after_stories attribute_value next (inner_stories is_root own below) ≡ (if is_root then next_after_story attribute_value next own.tag own.kids else n)
-either_next true next own below n is = refl
-either_next false next own below n is = sym is
-
--- nodes whose stories' labels stand in a list behind others are labelled by that list
-pub labelled_in-labels_of : (around : List Tag) (next : ℕ) (all : List Label) (at : ℕ) (pre : List Label) (nodes : Nodes) (post : List Label)
-    → all ≡ pre ++ (labels_of next (stories_in around nodes) ++ post) → at ≡ length pre → labelled_in all at around nodes ≡ numbered_in attribute_value around next nodes
-labelled_in-labels_of around next all at pre no_nodes post is place = refl
-labelled_in-labels_of around next all at pre (bytes b rest) post is place =
-    ap (bytes b) (labelled_in-labels_of around next all at pre rest post is place)
-labelled_in-labels_of around next all at pre (element tag kids rest) post is place =
-    let own : Parts = record { tag = tag; kids = kids } in
-    let below = stories_in (tag ∷ around) kids in
-    let inner = inner_stories (is_root around tag) own below in
-    let here = labels_of next inner in
-    let then_next = if is_root around tag then next_after_story attribute_value next tag kids else next_after attribute_value (tag ∷ around) next kids in
-    let same_next = either_next (is_root around tag) next own below (next_after attribute_value (tag ∷ around) next kids) (next_after-stories attribute_value (tag ∷ around) next kids) in
-    let after = labels_of then_next (stories_in around rest) in
-    let split : labels_of next (inner ++ stories_in around rest) ≡ here ++ after =
-    labels_of-append next inner (stories_in around rest) ∙ ap (λ n. here ++ labels_of n (stories_in around rest)) same_next in
-    let in_kids : pre ++ ((here ++ after) ++ post) ≡ pre ++ (here ++ (after ++ post)) = ap (λ xs. pre ++ xs) (append_assoc here after post) in
-    let in_rest : pre ++ ((here ++ after) ++ post) ≡ (pre ++ here) ++ (after ++ post) = in_kids ∙ sym (append_assoc pre here (after ++ post)) in
-    let many = length-inner (is_root around tag) next own below (story_elements (tag ∷ around) kids) (length-labels_of (tag ∷ around) next kids) in
-    let place_2 : at + kids_story_elements around tag kids ≡ length (pre ++ here) = omega (arith, place, length-append pre here, many) in
-    let is_split = is ∙ ap (λ ls. pre ++ (ls ++ post)) split in
-    let kids_is = either_way (is_root around tag) all pre (after ++ post) next own below _ _ _ _
-    (λ held. relabelled-story (pairs (markers_of tag kids)) (root_spots tag kids) 1 (start_with next) all at pre kids (after ++ post) held place)
-    (λ held. labelled_in-labels_of (tag ∷ around) next all at pre kids (after ++ post) held place) (is_split ∙ in_kids) in
-    let rest_is = labelled_in-labels_of around then_next all (at + kids_story_elements around tag kids) (pre ++ here) rest post (is_split ∙ in_rest) place_2 in
-    rw (kids_is, rest_is) refl
+-- the labels of its stories make a package numbered
+pub labelled_stories-labels_of : (labels : List Label) (nodes : Nodes) → labels ≡ labels_of 1 (stories nodes)
+    → labelled_stories labels nodes ≡ numbered_package attribute_value nodes
+labelled_stories-labels_of labels nodes is =
+    changed_in-agree label_rule (number_rule attribute_value) labels 1 [] nodes
+    (labels-agree 1 labels (stories nodes) [] (is ∙ sym (append-nil (labels_of 1 (stories nodes)))))

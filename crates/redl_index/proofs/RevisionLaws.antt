@@ -7,8 +7,8 @@ use Rattle.redl_tree.specs.Model.View.{Parts}
 use Rattle.redl_tree.specs.Model.Count.{count}
 use Rattle.redl_tree.specs.Revisions.Markers.{whole_role, move_of}
 use Rattle.redl_tree.specs.Revisions.Moves.{Marking, Pair, pairs}
-use Rattle.redl_tree.specs.Revisions.Numbers.{Membership, in_none, in_own, in_move, membership, Numbering, number_of_move, counted, counted_move, start_with, next_after_story}
-use Rattle.redl_tree.proofs.NumberLaws.{next_after_stories, next_after-stories}
+use Rattle.redl_tree.specs.Revisions.Numbers.{Membership, in_none, in_own, in_move, membership, Numbering, number_of_move, counted, counted_move, start_with, next_after_story, number_rule}
+use Rattle.redl_tree.specs.Decisions.Packages.{left_after}
 use Rattle.redl_tree.specs.Model.Seen.{Seen, seen, seen_from, root_spots}
 use Rattle.redl_tree.specs.declared.kinds.Kind.{Kind}
 use Rattle.redl_tree.specs.declared.kinds.Kind.TheVariants.{Content, Mark, Row, Cell, Change, Plain, Marker}
@@ -635,18 +635,18 @@ stories_in_parts parts = map story_view (filter_map story_of parts)
 
 -- the next number behind a part
 pub length-in : (k next : ℕ) (root : Option Element)
-    → next + length (revisions_in k root) ≡ next_after_stories attribute_value next (option_to_list (option_map story_view root))
+    → next + length (revisions_in k root) ≡ left_after (number_rule attribute_value) next (option_to_list (option_map story_view root))
 length-in k next None = omega arith
 length-in k next (Some root) = length-story k next root.tag root.kids
 
-length-from : (k next : ℕ) (parts : List Element) → next + length (revisions_from k parts) ≡ next_after_stories attribute_value next (stories_in_parts parts)
+length-from : (k next : ℕ) (parts : List Element) → next + length (revisions_from k parts) ≡ left_after (number_rule attribute_value) next (stories_in_parts parts)
 length-from k next [] = omega arith
 length-from k next (part ∷ rest) = by (story_of part) (length-in k next (story_of part)) (λ n. length-from (k + 1) n rest)
   where
-    by : (root : Option Element) → next + length (revisions_in k root) ≡ next_after_stories attribute_value next (option_to_list (option_map story_view root))
-        → ((n : ℕ) → n + length (revisions_from (k + 1) rest) ≡ next_after_stories attribute_value n (stories_in_parts rest))
+    by : (root : Option Element) → next + length (revisions_in k root) ≡ left_after (number_rule attribute_value) next (option_to_list (option_map story_view root))
+        → ((n : ℕ) → n + length (revisions_from (k + 1) rest) ≡ left_after (number_rule attribute_value) n (stories_in_parts rest))
         → next + length (revisions_in k root ++ revisions_from (k + 1) rest)
-        ≡ next_after_stories attribute_value next (map story_view (cons_option root (filter_map story_of rest)))
+        ≡ left_after (number_rule attribute_value) next (map story_view (cons_option root (filter_map story_of rest)))
     by None here more = more next
     by (Some root) here more =
         let inner = story_revisions k root.tag root.kids in
@@ -658,8 +658,7 @@ length-from k next (part ∷ rest) = by (story_of part) (length-in k next (story
 pub length-revisions_of : (nodes : Nodes) → refusal nodes ≡ None → length (revisions_of nodes) ≡ package_revisions nodes
 length-revisions_of nodes shape =
     length-numbered 1 (revisions_from 0 (parts_of nodes)) ∙ none-before (length (revisions_from 0 (parts_of nodes)))
-    ∙ length-from 0 0 (parts_of nodes) ∙ ap (next_after_stories attribute_value 0) (stories-parts nodes shape)
-    ∙ sym (next_after-stories attribute_value [] 0 nodes)
+    ∙ length-from 0 0 (parts_of nodes) ∙ ap (left_after (number_rule attribute_value) 0) (stories-parts nodes shape)
   where
     none-before : (n : ℕ) → n ≡ 0 + n
     none-before n = omega arith
@@ -692,7 +691,7 @@ module _ (nodes : Nodes) (number : ℕ) (within : number < length (parts_of node
       now ++ labels_of (1 + length mid) (stories_from (number + 1) nodes) ≡ had ++ labels_of (1 + length old) (stories_from number nodes)
   labelled-part had now labels =
       let here = labels_of (1 + length old) (stories_of_part nodes number) in
-      let next = next_after_stories attribute_value (1 + length old) (stories_of_part nodes number) in
+      let next = left_after (number_rule attribute_value) (1 + length old) (stories_of_part nodes number) in
       let after = labels_of next (stories_from (number + 1) nodes) in
       ap (λ n. now ++ labels_of n (stories_from (number + 1) nodes)) (length-mid ∙ length-in number (1 + length old) (story nodes number))
       ∙ ap (λ (ls : List Label). ls ++ after) labels ∙ append_assoc had here after

@@ -84,8 +84,8 @@ abbrev pub noted_all : ℕ → Tally → List Sight → Tally
 noted_all part tally [] = tally
 noted_all part tally (sight ∷ sights) = noted_all part (noted part tally sight) sights
 
--- what code has found is that
-pub record IsTally (found : Found) (tally : Tally) : Type 0 where
-  pub index : found.index ≡ tally.index
+-- what code has found is that, and what it keeps of the revisions stands for them
+pub record IsTally {K : Type 0} (stands_for : K → List Revision → Type 0) (found : Found K) (tally : Tally) : Type 0 where
+  pub kept : stands_for found.kept tally.index
   pub labels : found.labels ≡ tally.labels
   pub moves : (start : ℕ) → get nat_eq found.moves start ≡ number_of_move tally.moves start

@@ -1,6 +1,6 @@
 //! What is found in the stories of a package.
 
-ghost use Rattle.std.specs.Prelude.{◌≡◌, ◌+◌, ◌^◌, ◌<◌, ◌≤◌, ◌++◌, ◌∷◌, ◌==◌, ℕ, [], Some, None, nat_eq, length, if◌then◌else◌, All, IfOk, IfSome, IsTrue, OnOk};
+ghost use Rattle.std.specs.Prelude.{◌≡◌, ◌+◌, ◌^◌, ◌<◌, ◌≤◌, ◌++◌, ◌∷◌, ◌==◌, ℕ, List, [], Some, None, nat_eq, length, if◌then◌else◌, All, IfOk, IfSome, IsTrue, OnOk};
 ghost use Rattle.std.specs.Str.{IsUtf8};
 ghost use Rattle.indexmap.specs.IndexMap.{get};
 ghost use Rattle.redl_tree.specs.Model.View.{tag_of};
@@ -8,10 +8,11 @@ ghost use Rattle.redl_index.specs.Kinds.{kind_of, is_named};
 ghost use Rattle.redl_index.specs.Mentions.{mention_as, move_mention, sight_by};
 ghost use Rattle.redl_index.specs.Revisions.{revision_of, revision_with};
 ghost use Rattle.redl_index.specs.Stories.{tails_in};
+ghost use Rattle.redl_index.specs.declared.revision.Revision.{Revision};
 ghost use Rattle.redl_index.specs.Tallies.{Tally, number_of, labelled, mentioned_by, noted, IsTally};
 
-use crate::index::Index;
-use crate::revision::{RevKind, Revision};
+use crate::kept::Kept;
+use crate::revision::RevKind;
 use crate::story::{Sight, Story};
 use indexmap::IndexMap;
 use redl_moves::Start;
@@ -19,25 +20,25 @@ use redl_opc::{Label, Labels};
 use redl_tree::{Elem, Kind};
 use std::alloc::{AllocError, Global};
 
-/// The revisions in the stories, a label for each element below the roots of the stories, in the order of the start tags, and
-/// the numbers of the moves of the present story, by the positions of their source starts.
+/// What is kept of the revisions in the stories, a label for each element below the roots of the stories, in the order of the
+/// start tags, and the numbers of the moves of the present story, by the positions of their source starts.
 #[derive(Drop)]
-pub(crate) struct Found {
+pub(crate) struct Found<K> {
     pub(crate) alloc: Global,
-    pub(crate) index: Index,
+    pub(crate) kept: K,
     pub(crate) labels: Labels,
     pub(crate) moves: IndexMap<u64, u32>,
 }
 
-impl Found {
+impl<K: Kept> Found<K> {
     /// Nothing is found yet. It takes no memory.
-    pub(crate) fn nothing(alloc: Global) -> Found
-        ensures index { result.index ≡ [] }
+    pub(crate) fn nothing(alloc: Global) -> Found<K>
+        ensures kept { K.stands_for result.kept [] }
         ensures labels { result.labels ≡ [] }
     {
         Found {
             alloc,
-            index: Index::empty(alloc),
+            kept: K::of_none(alloc),
             labels: Labels::empty(alloc),
             moves: IndexMap::new(alloc),
         }
@@ -45,7 +46,7 @@ impl Found {
 
     /// Forgets the moves of the story before. It takes no memory.
     pub(crate) fn begin_story(&mut self)
-        ensures index { self.new.index ≡ self.old.index }
+        ensures kept { self.new.kept ≡ self.old.kept }
         ensures labels { self.new.labels ≡ self.old.labels }
         ensures moves { (start : ℕ) → get nat_eq self.new.moves start ≡ None }
     {
@@ -59,13 +60,13 @@ impl Found {
         elem: &Elem,
         sight: Sight,
     ) -> Result<(), AllocError>
-        requires few { length self.old.index + 1 < 2 ^ 32 }
+        requires few { K.found_count self.old.kept + 1 < 2 ^ 32 }
         requires tail { IsUtf8 ((tag_of elem.now).tail) }
         requires tails { All IsUtf8 (tails_in story.now) }
         requires named { IfSome (kind_of sight.kind) (λ named. IsTrue (is_named named)) }
-        ensures at_most { OnOk result (length self.new.index ≤ length self.old.index + 1) }
-        ensures tally { OnOk result ((tally : Tally) → IsTally self.old tally
-            → IsTally self.new (noted story.now.part tally (sight_by (tails_in story.now) (tag_of elem.now).tail sight.kind sight.start))) }
+        ensures at_most { OnOk result (K.found_count self.new.kept ≤ K.found_count self.old.kept + 1) }
+        ensures tally { OnOk result ((tally : Tally) → IsTally K.stands_for self.old tally
+            → IsTally K.stands_for self.new (noted story.now.part tally (sight_by (tails_in story.now) (tag_of elem.now).tail sight.kind sight.start))) }
     {
         let Some(named) = RevKind::of(sight.kind) else {
             return self.label(sight.kind, 0);
@@ -76,8 +77,8 @@ impl Found {
 
     /// Adds the label of an element.
     fn label(&mut self, kind: Kind, rev: u32) -> Result<(), AllocError>
-        ensures at_most { OnOk result (length self.new.index ≡ length self.old.index) }
-        ensures tally { OnOk result ((tally : Tally) → IsTally self.old tally → IsTally self.new (labelled kind rev tally)) }
+        ensures at_most { OnOk result (K.found_count self.new.kept ≡ K.found_count self.old.kept) }
+        ensures tally { OnOk result ((tally : Tally) → IsTally K.stands_for self.old tally → IsTally K.stands_for self.new (labelled kind rev tally)) }
     {
         self.labels.push(Label { kind, rev })
     }
@@ -90,15 +91,15 @@ impl Found {
         named: RevKind,
         sight: Sight,
     ) -> Result<u32, AllocError>
-        requires few { length self.old.index + 1 < 2 ^ 32 }
+        requires few { K.found_count self.old.kept + 1 < 2 ^ 32 }
         requires tail { IsUtf8 ((tag_of elem.now).tail) }
         requires tails { All IsUtf8 (tails_in story.now) }
         requires named { IsTrue (is_named named) }
-        ensures at_most { OnOk result (length self.new.index ≤ length self.old.index + 1) }
-        ensures number { IfOk result (λ number. (tally : Tally) → IsTally self.old tally
+        ensures at_most { OnOk result (K.found_count self.new.kept ≤ K.found_count self.old.kept + 1) }
+        ensures number { IfOk result (λ number. (tally : Tally) → IsTally K.stands_for self.old tally
             → number ≡ number_of tally (mention_as (tails_in story.now) (tag_of elem.now).tail sight.kind named sight.start)) }
-        ensures tally { OnOk result ((tally : Tally) → IsTally self.old tally
-            → IsTally self.new (mentioned_by story.now.part tally (mention_as (tails_in story.now) (tag_of elem.now).tail sight.kind named sight.start))) }
+        ensures tally { OnOk result ((tally : Tally) → IsTally K.stands_for self.old tally
+            → IsTally K.stands_for self.new (mentioned_by story.now.part tally (mention_as (tails_in story.now) (tag_of elem.now).tail sight.kind named sight.start))) }
     {
         match sight.start {
             Some(start) => self.mention_move(story, start, sight.kind != Kind::Marker),
@@ -113,17 +114,17 @@ impl Found {
         start: Start,
         counts: bool,
     ) -> Result<u32, AllocError>
-        requires few { length self.old.index + 1 < 2 ^ 32 }
+        requires few { K.found_count self.old.kept + 1 < 2 ^ 32 }
         requires tails { All IsUtf8 (tails_in story.now) }
-        ensures at_most { OnOk result (length self.new.index ≤ length self.old.index + 1) }
-        ensures number { IfOk result (λ number. (tally : Tally) → IsTally self.old tally
+        ensures at_most { OnOk result (K.found_count self.new.kept ≤ K.found_count self.old.kept + 1) }
+        ensures number { IfOk result (λ number. (tally : Tally) → IsTally K.stands_for self.old tally
             → number ≡ number_of tally (move_mention (tails_in story.now) start counts)) }
-        ensures tally { OnOk result ((tally : Tally) → IsTally self.old tally
-            → IsTally self.new (mentioned_by story.now.part tally (move_mention (tails_in story.now) start counts))) }
+        ensures tally { OnOk result ((tally : Tally) → IsTally K.stands_for self.old tally
+            → IsTally K.stands_for self.new (mentioned_by story.now.part tally (move_mention (tails_in story.now) start counts))) }
     {
         match self.known_number(start.at) {
             Some(number) => {
-                self.index.mention(number, counts);
+                self.kept.keep_mention(number, counts);
                 Ok(number)
             }
             None => self.first_of_move(story, start, counts),
@@ -147,14 +148,16 @@ impl Found {
         start: Start,
         counts: bool,
     ) -> Result<u32, AllocError>
-        requires few { length self.old.index + 1 < 2 ^ 32 }
+        requires few { K.found_count self.old.kept + 1 < 2 ^ 32 }
         requires tails { All IsUtf8 (tails_in story.now) }
-        ensures number { IfOk result (λ number. number ≡ 1 + length self.old.index) }
-        ensures index { OnOk result (self.new.index ≡ self.old.index ++ revision_of story.now.part
+        ensures at_most { OnOk result (K.found_count self.new.kept ≤ K.found_count self.old.kept + 1) }
+        ensures number { IfOk result (λ number. (revisions : List Revision) → K.stands_for self.old.kept revisions → number ≡ 1 + length revisions) }
+        ensures kept { OnOk result ((revisions : List Revision) → K.stands_for self.old.kept revisions
+            → K.stands_for self.new.kept (revisions ++ revision_of story.now.part
             (move_mention (tails_in story.now) start counts ∷ [])
-            (move_mention (tails_in story.now) start counts) (1 + length self.old.index) ∷ []) }
+            (move_mention (tails_in story.now) start counts) (1 + length revisions) ∷ [])) }
         ensures labels { OnOk result (self.new.labels ≡ self.old.labels) }
-        ensures moves { OnOk result ((other : ℕ) → get nat_eq self.new.moves other ≡ (if start.at == other then Some (1 + length self.old.index) else get nat_eq self.old.moves other)) }
+        ensures moves { IfOk result (λ number. (other : ℕ) → get nat_eq self.new.moves other ≡ (if start.at == other then Some number else get nat_eq self.old.moves other)) }
     {
         let tail = story.tail(start.place);
         let number = self.first(story.part, RevKind::Move, tail, u32::from(counts))?;
@@ -170,17 +173,18 @@ impl Found {
         tail: &[u8],
         members: u32,
     ) -> Result<u32, AllocError>
-        requires few { length self.old.index + 1 < 2 ^ 32 }
+        requires few { K.found_count self.old.kept + 1 < 2 ^ 32 }
         requires named { IsTrue (is_named kind) }
         requires tail { IsUtf8 tail.now }
-        ensures number { IfOk result (λ number. number ≡ 1 + length self.old.index) }
-        ensures index { OnOk result (self.new.index ≡ self.old.index ++ revision_with part kind tail.now members (1 + length self.old.index) ∷ []) }
+        ensures at_most { OnOk result (K.found_count self.new.kept ≤ K.found_count self.old.kept + 1) }
+        ensures number { IfOk result (λ number. (revisions : List Revision) → K.stands_for self.old.kept revisions → number ≡ 1 + length revisions) }
+        ensures kept { OnOk result ((revisions : List Revision) → K.stands_for self.old.kept revisions
+            → K.stands_for self.new.kept (revisions ++ revision_with part kind tail.now members (1 + length revisions) ∷ [])) }
         ensures labels { OnOk result (self.new.labels ≡ self.old.labels) }
         ensures moves { OnOk result ((start : ℕ) → get nat_eq self.new.moves start ≡ get nat_eq self.old.moves start) }
     {
-        let number = self.index.count() + 1;
-        let revision = Revision::read(self.alloc, kind, part, number, tail, members)?;
-        self.index.add(revision)?;
+        let number = self.kept.how_many() + 1;
+        self.kept.keep(self.alloc, part, kind, tail, members)?;
         Ok(number)
     }
 }

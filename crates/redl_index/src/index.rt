@@ -6,8 +6,7 @@ ghost use Rattle.redl_index.specs.Numbers.{numbered_package, package_revisions};
 ghost use Rattle.redl_index.specs.Revisions.{AreNumbered, IsInStory, IsTold, revisions_of};
 ghost use Rattle.redl_index.specs.Tallies.{mentioned_again, replaced};
 
-use crate::find::find_in_stories;
-use crate::found::Found;
+use crate::numbering::number_keeping;
 use crate::revision::Revision;
 use redl_opc::Package;
 use std::alloc::{AllocError, Global};
@@ -76,10 +75,8 @@ impl Index {
         ensures text { OnOk result (text pkg.new ≡ text pkg.old) }
         ensures unchanged { OnErr result (pkg.new ≡ pkg.old) }
     {
-        let mut found = Found::nothing(alloc);
-        find_in_stories(pkg, &mut found)?;
-        pkg.label_stories(&found.labels);
-        Ok(found.index)
+        let index = number_keeping(alloc, pkg)?;
+        Ok(index)
     }
 
     /// How many revisions there are.

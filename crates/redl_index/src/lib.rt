@@ -1,7 +1,7 @@
 //! The revisions of a package: which elements of its stories are in one, their numbers, who made them and when.
 //!
 //! Read `Index::build` first. It goes over a package as it was read, pairs the moves of each story, gives each element that is
-//! in a revision its kind and number, and answers the list of the revisions.
+//! in a revision its kind and number, and answers the list of the revisions. `number` does the same and only counts them.
 //! A number is what a reviewer's decision names, so the crates above speak of revisions by number alone.
 //! What a decision does is left to the crates above.
 #![tactic(auto)]
@@ -10,12 +10,15 @@ mod context;
 mod find;
 mod found;
 mod index;
+mod kept;
 mod kind_names;
 mod laws;
+mod numbering;
 mod revision;
 mod story;
 
 pub use index::Index;
 pub use kind_names::one_kind_for_a_name;
 pub use laws::{each_revision_has_a_part, numbering_keeps_revisions, revisions_are_numbered};
+pub use numbering::number;
 pub use revision::{RevKind, Revision};

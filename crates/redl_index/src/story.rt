@@ -108,5 +108,5 @@ impl<'a> Story<'a> {
 fn is_marker(elem: &Elem, around: Around) -> bool
     ensures { result ≡ is_marker_by around (tag_of elem.now) }
 {
-    !around.quiet && is_range_edge(elem) && has_attribute(elem.tail(), b"id")
+    !around.is_quiet() && is_range_edge(elem) && has_attribute(elem.tail(), b"id")
 }

@@ -1,8 +1,6 @@
 //! Tables of whole packages: their labels and their revisions, where there is ample memory.
 
-ghost use Rattle.std.specs.Prelude.{◌≡◌, IfOk};
-ghost use Rattle.redl_opc.specs.Tree.{IsTree};
-ghost use Rattle.redl_tree.specs.Model.View.{nodes_of};
+ghost use Rattle.std.specs.Prelude.{◌≡◌};
 
 use redl_index::{Index, RevKind};
 use redl_opc::Package;
@@ -38,15 +36,9 @@ fn package_text(alloc: Global, parts: &[&str]) -> Result<String, AllocError> {
     Ok(text)
 }
 
-fn tree_of(alloc: Global, text: &[u8]) -> Result<Vec<Node>, Fail>
-    ensures { IfOk result (λ nodes. IsTree (nodes_of nodes.items)) }
-{
-    Ok(redl_xml::read(alloc, text)?)
-}
-
 /// The package with this text.
 fn package(alloc: Global, text: &str) -> Result<Package<'_>, Fail> {
-    Ok(Package::make(alloc, tree_of(alloc, text.as_bytes())?)?)
+    Ok(Package::make(alloc, redl_xml::read(alloc, text.as_bytes())?)?)
 }
 
 /// Adds the kinds and numbers of the members, in the order of their start tags.

@@ -148,3 +148,25 @@ fn many_entries_in_any_order(rt: HostRuntime) -> Result<(), Fail> {
     assert!(rt; has_seqs_to(&book, 601));
     Ok(())
 }
+
+// A book of one entry each of 300 reviewers, on revisions 1 to 300.
+fn book_of_many(alloc: Global) -> Result<Book, Fail> {
+    let mut book = Book::new(alloc);
+    for i in 1..301_u32 {
+        let line = format!(in alloc; "1\t{i}\taccept\tReviewer {i}\n")?;
+        for entry in entries_of(alloc, line.as_bytes())? {
+            book.add(entry)?;
+        }
+    }
+    Ok(book)
+}
+
+#[test]
+fn many_reviewers_have_a_word(rt: HostRuntime) -> Result<(), Fail> {
+    let book = book_of_many(rt.alloc())?;
+    for rev in 1..301 {
+        let verdict = book.verdict(rev);
+        assert!(rt; verdict == Verdict::Accept, "{rev}: {verdict:?}");
+    }
+    Ok(())
+}

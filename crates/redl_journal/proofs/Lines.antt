@@ -3,7 +3,7 @@ use Rattle.std.proofs.Common.{◌≡◌, ◌≢◌, ℕ, zero, suc, ◌^◌, ◌
 use Rattle.std.proofs.lemmas.List.Concat.{flat_map-append}
 use Rattle.std.specs.Prelude.{◌&&◌, codes, decimal, nat_le, Result, Ok, Err, IsErrAnd, IsErrOf, All}
 use Rattle.std.specs.List.{list_all, flat_map, AllByRecursion}
-use Rattle.std.proofs.lemmas.Bool.{eqb-true}
+use Rattle.std.proofs.lemmas.Bool.{eqb-true, and_parts}
 use Rattle.std.proofs.lemmas.Bool.Decides.{nat_tests}
 use Rattle.std.proofs.lemmas.Option.{same_Some, cond_some}
 use Rattle.std.proofs.lemmas.List.Elements.{recursion_from_All, All-from_recursion}
@@ -12,10 +12,15 @@ use Rattle.redl_journal.specs.declared.error.JournalError.{JournalError}
 use Rattle.redl_journal.specs.declared.error.JournalError.TheVariants.{Malformed, NoMemory}
 use Rattle.redl_journal.specs.declared.entry.Entry.{Entry}
 use Rattle.redl_journal.specs.Journals.{Journal, word_text, entry_text, title_text, head_text, IsAllowed, IsEntry, IsDigest, IsJournal, HasNoJournal}
-use Rattle.redl_journal.specs.Reading.{◌>>=◌, Fails, behind, is_other, field_at, number_in, word_in, digest_in, is_reviewer, entry_in, entry_at, Head, digest_at, count_at, head_at, done, next, turn, turns, after_entry, entries_step, entries_in, journal_in}
-use Rattle.redl_journal.proofs.Runs.{and-true, behind_takes, behind_again}
-use Rattle.redl_journal.proofs.Parts.{bind_some, field_takes, field_again, lacks-append, number_takes, number_again, decimal_lacks, word_takes, word_again, word_lacks, digest_takes, digest_again, digest_lacks, reviewer_takes, reviewer_again, visible_lacks}
-use Rattle.redl_journal.proofs.Turns.{Going, begins, goes_on, ends}
+use Rattle.redl_journal.specs.Reading.{Fails, number_in, word_in, digest_in, is_reviewer, entry_in, entry_at, Head, digest_at, count_at, head_at, after_entry, entries_step, entries_in, journal_in}
+use Rattle.redl_reading.specs.Steps.{◌>>=◌, done, next, turn, turns}
+use Rattle.redl_reading.specs.Lists.{behind, is_other, field_at}
+use Rattle.redl_reading.proofs.Words.{behind_takes}
+use Rattle.redl_journal.proofs.Parts.{number_takes, number_again, decimal_lacks, word_takes, word_again, word_lacks, digest_takes, digest_again, digest_lacks, reviewer_takes, reviewer_again, visible_lacks}
+use Rattle.redl_reading.proofs.Steps.{bind_some}
+use Rattle.redl_reading.proofs.Fields.{field_takes, field_again}
+use Rattle.redl_reading.proofs.Runs.{passes-append}
+use Rattle.redl_reading.proofs.Turns.{Going, begins, goes_on, ends}
 
 -- ---- the line of an entry
 
@@ -39,7 +44,7 @@ entry_takes line e h =
     let r = bind_some (number_in rev.0.0) _ e s.2 in
     let w = bind_some (word_in word.0.0) _ e r.2 in
     let c = cond_some (nat_le 1 s.0 && is_reviewer word.0.1) (record { reviewer = word.0.1; seq = s.0; rev = r.0; word = w.0 }) e w.2 in
-    let both = and-true (nat_le 1 s.0) (is_reviewer word.0.1) c.0 in
+    let both = and_parts (nat_le 1 s.0) (is_reviewer word.0.1) c.0 in
     let number = number_takes seq.0.0 s.0 s.1 in
     let revision = number_takes rev.0.0 r.0 r.1 in
     let line_is : line ≡ decimal s.0 ++ (9 ∷ seq.0.1) = field_takes 9 line seq.0 seq.1 ∙ ap (λ (z : List ℕ). z ++ (9 ∷ seq.0.1)) (sym number.0) in
@@ -68,9 +73,9 @@ entry_again e h =
 body_lacks : (e : Entry) → IsEntry e → list_all (is_other 10) (body_text e) ≡ true
 body_lacks e h =
     let name = visible_lacks e.reviewer h.allowed.reviewer.visible in
-    let word = lacks-append (is_other 10) (word_text e.word) (9 ∷ e.reviewer) (word_lacks e.word).1 name in
-    let rev = lacks-append (is_other 10) (decimal e.rev) (9 ∷ (word_text e.word ++ (9 ∷ e.reviewer))) (decimal_lacks 10 e.rev (omega arith) h.rev) word in
-    lacks-append (is_other 10) (decimal e.seq) (9 ∷ (decimal e.rev ++ (9 ∷ (word_text e.word ++ (9 ∷ e.reviewer))))) (decimal_lacks 10 e.seq (omega arith) h.seq) rev
+    let word = passes-append (is_other 10) (word_text e.word) (9 ∷ e.reviewer) (word_lacks e.word).1 name in
+    let rev = passes-append (is_other 10) (decimal e.rev) (9 ∷ (word_text e.word ++ (9 ∷ e.reviewer))) (decimal_lacks 10 e.rev (omega arith) h.rev) word in
+    passes-append (is_other 10) (decimal e.seq) (9 ∷ (decimal e.rev ++ (9 ∷ (word_text e.word ++ (9 ∷ e.reviewer))))) (decimal_lacks 10 e.seq (omega arith) h.seq) rev
 
 entry_at_takes : (bs : List ℕ) (x : Entry × List ℕ) → entry_at bs ≡ Some x → (bs ≡ entry_text x.0 ++ x.1) × IsEntry x.0
 unfolding entry_at
@@ -106,7 +111,7 @@ digest_at_takes bs x h =
 digest_at_again : (d rest : List ℕ) → IsDigest d → digest_at (codes "document " ++ (encode_lower d ++ (10 ∷ rest))) ≡ Some (d, rest)
 unfolding digest_at
 digest_at_again d rest h =
-    rw (behind_again (codes "document ") (encode_lower d ++ (10 ∷ rest)), field_again 10 (encode_lower d) rest (digest_lacks d h), digest_again d h) refl
+    rw (field_again 10 (encode_lower d) rest (digest_lacks d h), digest_again d h) refl
 
 count_at_takes : (bs : List ℕ) (x : ℕ × List ℕ) → count_at bs ≡ Some x → (bs ≡ codes "revisions " ++ (decimal x.0 ++ (10 ∷ x.1))) × (x.0 < 2 ^ 32)
 unfolding count_at
@@ -124,7 +129,7 @@ count_at_takes bs x h =
 count_at_again : (n : ℕ) (rest : List ℕ) → n < 2 ^ 32 → count_at (codes "revisions " ++ (decimal n ++ (10 ∷ rest))) ≡ Some (n, rest)
 unfolding count_at
 count_at_again n rest h =
-    rw (behind_again (codes "revisions ") (decimal n ++ (10 ∷ rest)), field_again 10 (decimal n) rest (decimal_lacks 10 n (omega arith) h), number_again n h) refl
+    rw (field_again 10 (decimal n) rest (decimal_lacks 10 n (omega arith) h), number_again n h) refl
 
 regroup_head : (t w d v n rest : List ℕ) → (t ++ (w ++ (d ++ (10 ∷ (v ++ (n ++ (10 ∷ []))))))) ++ rest ≡ t ++ (w ++ (d ++ (10 ∷ (v ++ (n ++ (10 ∷ rest))))))
 regroup_head t w d v n rest = simp append_assoc
@@ -159,7 +164,7 @@ unfolding head_at
 head_again d n rest h small =
     let more : List ℕ = codes "revisions " ++ (decimal n ++ (10 ∷ rest)) in
     ap head_at (head_text-append d n rest)
-    ∙ rw (behind_again title_text (codes "document " ++ (encode_lower d ++ (10 ∷ more))), digest_at_again d more h, count_at_again n rest small) refl
+    ∙ rw (digest_at_again d more h, count_at_again n rest small) refl
 
 -- ---- the entries
 

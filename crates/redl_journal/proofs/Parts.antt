@@ -1,12 +1,11 @@
 -- The fields of a line: what was read is what the bytes say, and what the bytes say is read.
-use Rattle.std.proofs.Common.{◌≡◌, ℕ, ◌^◌, ◌<◌, Bool, true, false, eqb, List, [], ◌∷◌, ◌++◌, length, Option, Some, None, Result, Ok, Err, refl, sym, ap, subst, ◌∙◌, arith, inl, inr}
+use Rattle.std.proofs.Common.{◌≡◌, ℕ, ◌^◌, ◌<◌, true, false, eqb, List, [], ◌∷◌, length, Option, Some, None, Result, Ok, Err, refl, sym, ap, subst, ◌∙◌, arith, inl, inr}
 use Rattle.std.specs.Prelude.{◌&&◌, decimal, nat_lt, nat_le, MatchResult, IsErr}
 use Rattle.std.specs.List.{list_all, AllPass}
 use Rattle.std.specs.Str.{IsUtf8, is_utf8, bytes_eq}
 use Rattle.std.specs.Str.Parse.{ParsesUnsigned, AllDigits, digits_value}
-use Rattle.std.specs.Char.{digit_value}
 use Rattle.std.specs.Result.{is_ok}
-use Rattle.std.proofs.lemmas.Bool.{eqb-true}
+use Rattle.std.proofs.lemmas.Bool.{eqb-true, and_parts, cases_Bool}
 use Rattle.std.proofs.lemmas.Bool.Decides.{nat_tests}
 use Rattle.std.proofs.lemmas.Option.{same_Some, cond_some}
 use Rattle.std.proofs.lemmas.Fmt.{decimal_is_IsNumeral, parse-decimal, IsAscii-decimal}
@@ -20,13 +19,8 @@ use Rattle.hex.proofs.HexLemmas.{decode_sized-encode_lower, decode_sized-ok, dec
 use Rattle.redl_journal.specs.declared.entry.Word.{Word}
 use Rattle.redl_journal.specs.declared.entry.Word.TheVariants.{Accept, Reject, Withdraw}
 use Rattle.redl_journal.specs.Journals.{word_text, is_visible, IsReviewer, IsDigest}
-use Rattle.redl_journal.specs.Reading.{◌>>=◌, front, after, behind, is_other, field_at, number_in, word_in, digest_of, digest_in, is_reviewer}
-use Rattle.redl_journal.proofs.Runs.{stops, and-true, and-both, either, front-after, front_again, after_again, behind_takes, behind_again, eqb_same}
-
--- the value of a step that did not fail
-pub bind_some : {A B : Type 0} (r : Option A) (f : A → Option B) (y : B) → (r >>= f) ≡ Some y → (x : A) × (r ≡ Some x) × (f x ≡ Some y)
-bind_some None f y e = absurd cc
-bind_some (Some x) f y e = (x, refl, e)
+use Rattle.redl_journal.specs.Reading.{number_in, word_in, digest_of, digest_in, is_reviewer}
+use Rattle.redl_reading.specs.Lists.{is_other}
 
 same_bytes : (xs ys : List ℕ) → xs ≡ ys → bytes_eq xs ys ≡ true
 same_bytes xs ys e = (bytes_eq-Decides xs ys).1 e
@@ -34,37 +28,13 @@ same_bytes xs ys e = (bytes_eq-Decides xs ys).1 e
 bytes_same : (xs ys : List ℕ) → bytes_eq xs ys ≡ true → xs ≡ ys
 bytes_same xs ys e = (bytes_eq-Decides xs ys).0 e
 
--- ---- fields
-
-pub field_takes : (end : ℕ) (bs : List ℕ) (x : List ℕ × List ℕ) → field_at end bs ≡ Some x → bs ≡ x.0 ++ (end ∷ x.1)
-unfolding field_at
-field_takes end bs x e =
-    let r = bind_some (behind (end ∷ []) (after (is_other end) bs)) (λ rest. Some (front (is_other end) bs, rest)) x e in
-    let made : (front (is_other end) bs, r.0) ≡ x = same_Some (front (is_other end) bs, r.0) x r.2 in
-    let whole : bs ≡ front (is_other end) bs ++ (end ∷ r.0) =
-    sym (front-after (is_other end) bs) ∙ ap (λ (z : List ℕ). front (is_other end) bs ++ z) (behind_takes (end ∷ []) (after (is_other end) bs) r.0 r.1) in
-    whole ∙ ap (λ (y : List ℕ × List ℕ). y.0 ++ (end ∷ y.1)) made
-
-pub field_again : (end : ℕ) (a rest : List ℕ) → list_all (is_other end) a ≡ true → field_at end (a ++ (end ∷ rest)) ≡ Some (a, rest)
-unfolding field_at
-field_again end a rest h =
-    let stop : stops (is_other end) (end ∷ rest) ≡ true = rw (eqb_same end) refl in
-    rw (front_again (is_other end) a (end ∷ rest) h stop, after_again (is_other end) a (end ∷ rest) h stop, behind_again (end ∷ []) rest) refl
-
--- a list without the byte, of two without it
-pub lacks-append : (p : ℕ → Bool) (xs ys : List ℕ) → list_all p xs ≡ true → list_all p ys ≡ true → list_all p (xs ++ ys) ≡ true
-lacks-append p [] ys h g = g
-lacks-append p (x ∷ xs) ys h g =
-    let both = and-true (p x) (list_all p xs) h in
-    and-both (p x) (list_all p (xs ++ ys)) both.0 (lacks-append p xs ys both.1 g)
-
 -- ---- numbers
 
 pub number_takes : (bs : List ℕ) (n : ℕ) → number_in bs ≡ Some n → (decimal n ≡ bs) × (n < 2 ^ 32)
 unfolding number_in
 number_takes bs n e =
     let c = cond_some (bytes_eq (decimal (digits_value 10 bs)) bs && nat_lt (digits_value 10 bs) (2 ^ 32)) (digits_value 10 bs) n e in
-    let both = and-true (bytes_eq (decimal (digits_value 10 bs)) bs) (nat_lt (digits_value 10 bs) (2 ^ 32)) c.0 in
+    let both = and_parts (bytes_eq (decimal (digits_value 10 bs)) bs) (nat_lt (digits_value 10 bs) (2 ^ 32)) c.0 in
     let small : digits_value 10 bs < 2 ^ 32 = grind (arith, nat_tests) in
     (rw (← c.1) (bytes_same (decimal (digits_value 10 bs)) bs both.0), rw (← c.1) small)
 
@@ -118,13 +88,13 @@ decimal_lacks end n low small = digits_lack end (decimal n) low (decimal_is_IsNu
 pub word_takes : (bs : List ℕ) (w : Word) → word_in bs ≡ Some w → word_text w ≡ bs
 unfolding word_in
 word_takes bs w e =
-    elim (either (bytes_eq bs (word_text Accept))) [
+    elim (cases_Bool (bytes_eq bs (word_text Accept))) [
       | inl hit ↦ let same : Some Accept ≡ Some w = rw hit at e in rw (← same_Some Accept w same) (sym (bytes_same bs (word_text Accept) hit))
       | inr one ↦
-          elim (either (bytes_eq bs (word_text Reject))) [
+          elim (cases_Bool (bytes_eq bs (word_text Reject))) [
             | inl hit ↦ let same : Some Reject ≡ Some w = rw (one, hit) at e in rw (← same_Some Reject w same) (sym (bytes_same bs (word_text Reject) hit))
             | inr two ↦
-                elim (either (bytes_eq bs (word_text Withdraw))) [
+                elim (cases_Bool (bytes_eq bs (word_text Withdraw))) [
                   | inl hit ↦ let same : Some Withdraw ≡ Some w = rw (one, two, hit) at e in rw (← same_Some Withdraw w same) (sym (bytes_same bs (word_text Withdraw) hit))
                   | inr three ↦ absurd (let none : None ≡ Some w = rw (one, two, three) at e in cc)
                 ]
@@ -190,7 +160,7 @@ digest_other bs r out text h e written same = rw (decoded (decode_sized bs 32) r
 
 hex_is_no_newline : (c : ℕ) → is_hex_digit c ≡ true → eqb c 10 ≡ false
 hex_is_no_newline c h =
-    elim (either (eqb c 10)) [
+    elim (cases_Bool (eqb c 10)) [
       | inl same ↦ absurd (let e = eqb-true c 10 same in let k : is_hex_digit 10 ≡ true = subst (λ (n : ℕ). is_hex_digit n ≡ true) e h in cc)
       | inr other ↦ other
     ]
@@ -210,7 +180,7 @@ digest_lacks d h = hex_lacks (encode_lower d) (decode_of-ok (encode_lower d) d (
 pub utf8_test : {T E : Type 0} (bs : List ℕ) (r : Result T E) (P : T → Type 0) (Q : E → Type 0) → MatchResult r (λ s. P s × IsUtf8 bs) (λ e. ¬ (IsUtf8 bs) × Q e) → is_ok r ≡ is_utf8 bs
 utf8_test bs (Ok s) P Q h = sym (is_utf8-from_IsUtf8 bs h.1)
 utf8_test bs (Err e) P Q h =
-    elim (either (is_utf8 bs)) [
+    elim (cases_Bool (is_utf8 bs)) [
       | inl hit ↦ absurd (h.0 (IsUtf8-from_is_utf8 bs hit))
       | inr not_so ↦ sym not_so
     ]
@@ -218,9 +188,9 @@ utf8_test bs (Err e) P Q h =
 pub reviewer_takes : (name : List ℕ) → is_reviewer name ≡ true → IsReviewer name
 unfolding is_reviewer
 reviewer_takes name h =
-    let a = and-true (nat_le 1 (length name) && nat_le (length name) 255 && list_all is_visible name) (is_utf8 name) h in
-    let b = and-true (nat_le 1 (length name) && nat_le (length name) 255) (list_all is_visible name) a.0 in
-    let c = and-true (nat_le 1 (length name)) (nat_le (length name) 255) b.0 in
+    let a = and_parts (nat_le 1 (length name) && nat_le (length name) 255 && list_all is_visible name) (is_utf8 name) h in
+    let b = and_parts (nat_le 1 (length name) && nat_le (length name) 255) (list_all is_visible name) a.0 in
+    let c = and_parts (nat_le 1 (length name)) (nat_le (length name) 255) b.0 in
     record {
       filled = grind (arith, nat_tests, c.0);
       short = grind (arith, nat_tests, c.1);
@@ -242,5 +212,5 @@ visible_is_no_newline b h = grind (arith, nat_tests)
 pub visible_lacks : (name : List ℕ) → list_all is_visible name ≡ true → list_all (is_other 10) name ≡ true
 visible_lacks [] h = refl
 visible_lacks (b ∷ bs) h =
-    let both = and-true (is_visible b) (list_all is_visible bs) h in
+    let both = and_parts (is_visible b) (list_all is_visible bs) h in
     rw (visible_is_no_newline b both.0) (visible_lacks bs both.1)

@@ -1,8 +1,10 @@
 -- Reading a journal from the left, as functions on lists.
-use Rattle.std.specs.Prelude.{◌≡◌, ◌^◌, ℕ, zero, suc, Bool, ◌==◌, ◌&&◌, nat_le, nat_lt, List, [], ◌∷◌, ◌++◌, length, codes, decimal, Option, Some, None, if◌then◌else◌, not, Result, Ok, Err}
+use Rattle.std.specs.Prelude.{◌≡◌, ◌^◌, ℕ, suc, Bool, ◌&&◌, nat_le, nat_lt, List, [], ◌∷◌, ◌++◌, length, codes, decimal, Option, Some, None, if◌then◌else◌, Result, Ok, Err}
 use Rattle.std.specs.List.{list_all}
 use Rattle.std.specs.Str.{bytes_eq, is_utf8}
 use Rattle.std.specs.Str.Parse.{digits_value}
+use Rattle.redl_reading.specs.Lists.{behind, field_at}
+use Rattle.redl_reading.specs.Steps.{◌>>=◌, Turn, done, next, turns}
 use Rattle.hex.specs.Hex.{decode_sized, encode_lower}
 use Rattle.hex.specs.declared.error.FromHexError.{FromHexError}
 use Rattle.redl_journal.specs.declared.error.JournalError.{JournalError}
@@ -13,16 +15,6 @@ use Rattle.redl_journal.specs.declared.entry.Word.TheVariants.{Accept, Reject, W
 use Rattle.redl_journal.specs.declared.line.Line.{Line}
 use Rattle.redl_journal.specs.declared.line.Head as code_head
 use Rattle.redl_journal.specs.Journals.{Journal, title_text, word_text, is_visible}
-
-infixl 10 ◌>>=◌
-abbrev pub ◌>>=◌ : {A B : Type 0} → Option A → (A → Option B) → Option B
-None >>= next = None
-(Some x) >>= next = next x
-
--- The code's answer, as plain data by `view`, is what reading gives.
-abbrev pub Gives : {X Y : Type 0} → (X → Y) → Option X → Option Y → Type 0
-Gives view None read = read ≡ None
-Gives view (Some x) read = read ≡ Some (view x)
 
 -- the cause is right: Malformed only if reading fails
 abbrev pub Fails : {Y : Type 0} → JournalError → Option Y → Type 0
@@ -35,32 +27,6 @@ Finds view (Ok x) read = read ≡ Some (view x)
 Finds view (Err error) read = Fails error read
 
 -- ---- fields
-
--- the longest prefix of bytes that pass
-abbrev pub front : (ℕ → Bool) → List ℕ → List ℕ
-front passes [] = []
-front passes (b ∷ bs) = if passes b then b ∷ front passes bs else []
-
--- the bytes after that prefix
-abbrev pub after : (ℕ → Bool) → List ℕ → List ℕ
-after passes [] = []
-after passes (b ∷ bs) = if passes b then after passes bs else b ∷ bs
-
--- the bytes after a leading word
-unfoldable pub behind : List ℕ → List ℕ → Option (List ℕ)
-behind [] bs = Some bs
-behind (w ∷ ws) [] = None
-behind (w ∷ ws) (b ∷ bs) = if b == w then behind ws bs else None
-
--- the byte is another one than `end`
-abbrev pub is_other : ℕ → ℕ → Bool
-is_other end b = not (b == end)
-
--- the bytes before the first byte `end`, and those after it
-unfoldable pub field_at : ℕ → List ℕ → Option (List ℕ × List ℕ)
-field_at end bs = do
-  rest ← behind (end ∷ []) (after (is_other end) bs)
-  Some (front (is_other end) bs, rest)
 
 -- the number whose decimal digits the bytes are
 unfoldable pub number_in : List ℕ → Option ℕ
@@ -146,21 +112,6 @@ head_at bs = do
   Some (record { digest = digest.0; count = count.0; rest = count.1 })
 
 -- ---- entries, in turns
-
--- one turn: it ends with an answer, or goes on from another state
-pub data Turn (S R : Type 0) : Type 0 where
-  done : Option R → Turn S R
-  next : S → Turn S R
-
--- the answer of this turn, or of those after it
-abbrev pub turn : {S R : Type 0} → Turn S R → (S → Option R) → Option R
-turn (done answer) go = answer
-turn (next state) go = go state
-
--- the answer after at most this many turns
-abbrev pub turns : {S R : Type 0} → (S → Turn S R) → ℕ → S → Option R
-turns step zero state = None
-turns step (suc n) state = turn (step state) (turns step n)
 
 -- the entries so far, and the bytes that are left
 abbrev pub Entries : Type 0

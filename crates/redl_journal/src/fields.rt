@@ -3,42 +3,11 @@ ghost use Rattle.std.specs.Prelude.{◌≡◌, length};
 ghost use Rattle.std.specs.List.{list_all};
 ghost use Rattle.std.specs.Str.{is_utf8};
 ghost use Rattle.redl_journal.specs.Journals.{is_visible};
-ghost use Rattle.redl_journal.specs.Reading.{Gives, front, after, behind, is_other, field_at, number_in, word_in, digest_in, is_reviewer};
+ghost use Rattle.redl_journal.specs.Reading.{number_in, word_in, digest_in, is_reviewer};
 
 use crate::entry::Word;
 use itoa::Buffer;
 use std::str;
-
-/// The bytes before the first `end`, and those from it on. Without an `end` all bytes come before it.
-#[tactic(auto, using(crate::proofs::Runs::front_at, crate::proofs::Runs::after_at))]
-fn until(bytes: &[u8], end: u8) -> (&[u8], &[u8])
-    ensures front { result.0.now ≡ front (is_other end) bytes.now }
-    ensures rest { result.1.now ≡ after (is_other end) bytes.now }
-{
-    let mut n = 0;
-    while n < bytes.len() && bytes[n] != end {
-        n += 1;
-    }
-    bytes.split_at(n)
-}
-
-/// The bytes after a leading `word`.
-#[tactic(auto, using(crate::proofs::Runs::behind_pointwise, crate::proofs::Runs::behind_not_pointwise))]
-pub(crate) fn skip<'a>(bytes: &'a [u8], word: &[u8]) -> Option<&'a [u8]>
-    ensures { Gives (λ rest. rest.now) result (behind word.now bytes.now) }
-{
-    bytes.strip_prefix(word)
-}
-
-/// The bytes before the first `end`, and those after it.
-#[tactic(auto, unfolding(crate::specs::Reading::field_at))]
-pub(crate) fn field(bytes: &[u8], end: u8) -> Option<(&[u8], &[u8])>
-    ensures { Gives (λ x. (x.0.now, x.1.now)) result (field_at end bytes.now) }
-{
-    let (field, rest) = until(bytes, end);
-    let rest = skip(rest, &[end])?;
-    Some((field, rest))
-}
 
 /// The number that decimal digits write. `None` exactly where they have a sign or a leading zero, are no digits, or write a number
 /// above 4294967295.

@@ -1,9 +1,11 @@
 //! The lines of a journal: the three of its head, and one for each entry.
 ghost use Rattle.std.specs.Prelude.{◌≡◌};
-ghost use Rattle.redl_journal.specs.Reading.{Gives, entry_in, entry_at, entry_of, digest_at, count_at, head_at, head_of};
+ghost use Rattle.redl_journal.specs.Reading.{entry_in, entry_at, entry_of, digest_at, count_at, head_at, head_of};
+ghost use Rattle.redl_reading.specs.Steps.{Gives};
 
 use crate::entry::Word;
-use crate::fields::{digest, field, is_reviewer, read_number, skip, word};
+use crate::fields::{digest, is_reviewer, read_number, word};
+use redl_reading::{field, skip};
 
 /// An entry whose reviewer is borrowed from the bytes that were read.
 #[derive(Clone, Copy)]

@@ -5,7 +5,7 @@ use Rattle.std.proofs.lemmas.Str.{IsAscii-append, IsUtf8-from_ascii}
 use Rattle.std.proofs.lemmas.Str.Ascii.{IsAscii-nil, IsAscii-cons}
 use Rattle.std.proofs.lemmas.Bool.{lt-ltb, le-ltb, cases_lt}
 use Rattle.jiff_core.specs.declared.civil.date.Date.{Date}
-use Rattle.jiff_core.specs.Calendar.{days_in_year, days_in_month, days_of_months, day_of_year, day_count, days_from_civil, IsCivilDate}
+use Rattle.jiff_core.specs.Calendar.{days_in_year, days_in_month, days_of_months, day_of_year, day_count, IsCivilDate}
 use Rattle.jiff_core.specs.Date.{epoch_day}
 use Rattle.jiff_core.proofs.SignedLemmas.{signed_arith}
 use Rattle.jiff_core.proofs.MarchLemmas.{day_count-early}
@@ -91,16 +91,9 @@ month_and_day-at (suc months) year month later d days first low high from to e =
 day_count-year_zero : day_count (pos 0) 1 1 ≡ 3_652_425
 day_count-year_zero = day_count-early (pos 0) 9999 1 1 refl (omega arith) (omega arith) (omega arith)
 
--- 0000-01-01 comes 719528 days before 1970-01-01
-pub first_day : (y : ℤ) (m d : ℕ) → y ≡ pos 0 → pos m ≡ pos 1 → pos d ≡ pos 1 → days_from_civil y m d +ℤ pos 719_528 ≡ pos 0
-first_day y m d year month day =
-    let of_month : m ≡ 1 = cc in
-    let of_day : d ≡ 1 = cc in
-    rw (year, of_month, of_day) (omega (arith, signed_arith, days_from_civil-day_count (pos 0) 1 1, day_count-year_zero))
-
--- the days since 10000 years before 0000-01-01
-pub count-since : (d : Date) (first : ℤ) (days : ℕ) → first +ℤ pos 719_528 ≡ pos 0 → epoch_day d ≡ first +ℤ pos days → day_count d.year d.month d.day ≡ days + 3_652_425
-count-since d first days start e = omega (arith, signed_arith, days_from_civil-day_count d.year d.month d.day)
+-- the days since 10000 years before 0000-01-01, by those since -9999-01-01
+pub count-since : (d : Date) (days : ℕ) → epoch_day d +ℤ pos 4_371_587 ≡ pos (3_652_059 + days) → day_count d.year d.month d.day ≡ days + 3_652_425
+count-since d days e = omega (arith, signed_arith, e, days_from_civil-day_count d.year d.month d.day)
 
 -- the year of such a day is not negative
 pub year-since : (y : ℤ) (m d days : ℕ) → IsCivilDate y m d → day_count y m d ≡ days + 3_652_425 → pos 0 ≤ℤ y

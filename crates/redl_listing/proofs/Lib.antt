@@ -1,5 +1,6 @@
 pub mod DateLaws
 pub mod JsonLaws
 pub mod NameLaws
+pub mod PlainLaws
 pub mod RowLaws
 mod Rows

@@ -2,6 +2,7 @@
 use Rattle.std.specs.Prelude.{ℕ, ◌≡◌, ◌≤◌, ◌+◌, ◌-◌, ◌==◌, ◌||◌, nat_lt, Bool, true, false, List, [], ◌∷◌, ◌++◌, length, map, replicate, decimal, codes, if◌then◌else◌, Option, Some, None, ℤ, Vec, vec_len, vec_capacity}
 use Rattle.std.specs.Global.{Global}
 use Rattle.std.specs.List.{flat_map, join_with_byte}
+use Rattle.json.specs.Token.{Token, null as null_token, string as string_token}
 use Rattle.serde_json.specs.Data.{Data, null, string, number, unsigned, object, member, no_members}
 use Rattle.serde_json.specs.Written.{compact_text}
 use Rattle.redl_index.specs.KindNames.{kind_name}
@@ -40,6 +41,10 @@ left_in width bytes = bytes ++ replicate (width - length bytes) 32
 unfoldable pub shown : ℕ → ℕ
 shown byte = if nat_lt byte 32 || byte == 127 then 63 else byte
 
+-- a byte that is shown as it is
+abbrev pub is_shown : ℕ → Bool
+is_shown byte = shown byte == byte
+
 -- number, kind, verdict, date and author in columns
 unfoldable pub text_row : Row → List ℕ
 text_row row =
@@ -61,6 +66,15 @@ escape byte =
     else if byte == 13 then codes "\\r"
     else byte ∷ []
 
+-- a byte that a field has as it is
+abbrev pub is_unescaped : ℕ → Bool
+is_unescaped byte =
+    if byte == 92 then false
+    else if byte == 9 then false
+    else if byte == 10 then false
+    else if byte == 13 then false
+    else true
+
 -- number, kind, verdict and date, with a tab after each
 unfoldable pub decided_fields : Row → List ℕ
 decided_fields row =
@@ -81,6 +95,11 @@ tab_listing rows closed = flat_map tab_row rows
 abbrev pub json_date : Option ℤ → Data
 json_date None = null
 json_date (Some seconds) = string (moment_text seconds)
+
+-- the same as it is written: one token
+abbrev pub date_token : Option ℤ → Token
+date_token None = null_token
+date_token (Some seconds) = string_token (moment_text seconds)
 
 -- the row as an object, its members in the order of their names
 abbrev pub json_object : Row → Data

@@ -5,11 +5,13 @@ ghost use Rattle.jiff_core.specs.Calendar.{day_count};
 ghost use Rattle.redl_stamp.specs.Moment.{IsMoment};
 ghost use Rattle.redl_listing.specs.Dates.{two_digits, ymd_text, day_text, time_text, moment_text};
 
-use jiff::ToSpan;
-use jiff::civil::{self, Date};
+use jiff_core::civil::Date;
 
 /// 0000-01-01T00:00:00Z.
 const FIRST_MOMENT: i64 = -62_167_219_200;
+
+/// How many days after -9999-01-01 is 0000-01-01.
+const FIRST_DAY: u32 = 3_652_059;
 
 /// The two last decimal digits of a number.
 fn two_digits(number: u8) -> [u8; 2]
@@ -24,9 +26,7 @@ fn day_after(days: u64) -> Date
     ensures year { pos 0 ≤ℤ result.year }
     ensures days { day_count result.year result.month result.day ≡ days + 3_652_425 }
 {
-    civil::date(0, 1, 1)
-        .checked_add((days as i64).days())
-        .unwrap()
+    Date::from_days_since_min(FIRST_DAY + days as u32)
 }
 
 /// The day that is so many days after 0000-01-01, as `YYYY-MM-DD`.
@@ -35,7 +35,7 @@ fn day_text(days: u64) -> [u8; 10]
     ensures { result ≡ day_text days }
 {
     let date = day_after(days);
-    ymd_text(date.year() as u16, date.month() as u8, date.day() as u8)
+    ymd_text(date.year as u16, date.month, date.day)
 }
 
 /// The day as `YYYY-MM-DD`.

@@ -1,10 +1,10 @@
 //! The fields of rows as texts.
 
 ghost use Rattle.std.specs.Prelude.{◌≡◌, ◌≤◌, ◌++◌, OnOk, IfOk, length, map, replicate, decimal};
-ghost use Rattle.std.specs.List.{flat_map};
+ghost use Rattle.std.specs.List.{flat_map, list_all};
 ghost use Rattle.redl_stamp.specs.Moment.{IsMoment};
 ghost use Rattle.redl_listing.specs.Dates.{date_text};
-ghost use Rattle.redl_listing.specs.Texts.{verdict_name, right_in, left_in, shown, escape};
+ghost use Rattle.redl_listing.specs.Texts.{verdict_name, right_in, left_in, shown, escape, is_shown, is_unescaped};
 ghost use Rattle.std.specs.Prelude.{IfSome};
 
 use crate::dates::moment_text;
@@ -76,14 +76,24 @@ pub(crate) fn push_date(
 }
 
 /// Adds the bytes, with question marks for control characters of ASCII. `Err` means out of memory.
-#[tactic(auto, unfolding(crate::specs::Texts::shown))]
+#[tactic(auto, unfolding(crate::specs::Texts::shown), using(crate::proofs::PlainLaws::shown_same))]
 pub(crate) fn push_shown(line: &mut Vec<u8>, bytes: &[u8]) -> Result<(), AllocError>
     ensures { OnOk result (line.new.items ≡ line.old.items ++ map shown bytes.now) }
 {
+    if are_shown(bytes) {
+        return line.extend_from_slice(bytes);
+    }
     for byte in bytes {
         line.push(shown(*byte))?;
     }
     Ok(())
+}
+
+/// Whether no byte is a control character of ASCII.
+fn are_shown(bytes: &[u8]) -> bool
+    ensures { result ≡ list_all is_shown bytes.now }
+{
+    bytes.iter().all(|byte| shown(*byte) == *byte)
 }
 
 #[tactic(auto, unfolding(crate::specs::Texts::shown))]
@@ -94,13 +104,33 @@ fn shown(byte: u8) -> u8
 }
 
 /// Adds the bytes, with two bytes for each backslash, tab and end of a line. `Err` means out of memory.
+#[tactic(auto, using(crate::proofs::PlainLaws::escape_same))]
 pub(crate) fn push_escaped(line: &mut Vec<u8>, bytes: &[u8]) -> Result<(), AllocError>
     ensures { OnOk result (line.new.items ≡ line.old.items ++ flat_map escape bytes.now) }
 {
+    if are_unescaped(bytes) {
+        return line.extend_from_slice(bytes);
+    }
     for byte in bytes {
         push_escape(line, *byte)?;
     }
     Ok(())
+}
+
+/// Whether no byte is a backslash, a tab or of the end of a line.
+fn are_unescaped(bytes: &[u8]) -> bool
+    ensures { result ≡ list_all is_unescaped bytes.now }
+{
+    bytes.iter().all(|byte| is_unescaped(*byte))
+}
+
+fn is_unescaped(byte: u8) -> bool
+    ensures { result ≡ is_unescaped byte }
+{
+    match byte {
+        b'\\' | b'\t' | b'\n' | b'\r' => false,
+        _ => true,
+    }
 }
 
 #[tactic(auto, unfolding(crate::specs::Texts::escape))]

@@ -1,19 +1,21 @@
 //! The format `json`.
 
-ghost use Rattle.std.specs.Prelude.{◌≡◌, ◌++◌, IfOk, IfSome, [], false, string_bytes};
-ghost use Rattle.serde_json.specs.View.{view};
+ghost use Rattle.std.specs.Prelude.{◌≡◌, ◌++◌, ◌∷◌, IfOk, OnOk, IfSome, [], false, codes, decimal};
+ghost use Rattle.std.specs.Str.{IsUtf8};
+ghost use Rattle.json.specs.Token.{key as key_token, string as string_token, number as number_token};
 ghost use Rattle.redl_stamp.specs.Moment.{IsMoment};
 ghost use Rattle.redl_listing.specs.Rows.{IsRow};
-ghost use Rattle.redl_listing.specs.Texts.{comma_after, json_date, json_object, json_row};
+ghost use Rattle.redl_listing.specs.Texts.{comma_after, date_token, json_row};
 
 use crate::dates::moment_text;
 use crate::draft::Draft;
 use crate::fields::verdict_name;
 use crate::format::{RowError, RowFormat};
 use crate::row::Row;
-use serde_json::{ToValue, Value, json};
+use json::Writer;
 use std::alloc::{AllocError, Global};
 use std::marker::Model;
+use std::mem;
 
 /// What closing adds.
 const END: &[u8] = b"]\n";
@@ -23,6 +25,8 @@ const END: &[u8] = b"]\n";
 pub struct JsonFormat {
     alloc: Global,
     draft: Draft,
+    // Room for the piece of the next row.
+    piece: Vec<u8>,
     closed: bool,
 }
 
@@ -51,6 +55,7 @@ impl JsonFormat {
                 rows: Vec::new(alloc),
                 text,
             },
+            piece: Vec::new(alloc),
             closed: false,
         })
     }
@@ -73,9 +78,11 @@ impl RowFormat for JsonFormat {
     }
 
     fn row(&mut self, row: &Row) -> Result<(), RowError> {
-        let piece = json_piece(self.alloc, &self.draft.rows, row)?;
+        let room = mem::replace(&mut self.piece, Vec::new(self.alloc));
+        let piece = json_piece(room, &self.draft.rows, row)?;
         let row = row.copy(self.alloc)?;
         self.draft.add(row, &piece, END.len() as u32)?;
+        self.piece = piece;
         Ok(())
     }
 
@@ -89,56 +96,67 @@ impl RowFormat for JsonFormat {
     }
 }
 
-/// What a row adds after these: a comma unless it is the first, and its object.
-fn json_piece(alloc: Global, rows: &[Row], row: &Row) -> Result<Vec<u8>, AllocError>
+/// What a row adds after these: a comma unless it is the first, and its object. It takes the place of what `room` has.
+fn json_piece(room: Vec<u8>, rows: &[Row], row: &Row) -> Result<Vec<u8>, AllocError>
     requires { IsRow row.now }
     ensures { IfOk result (λ piece. piece.items ≡ comma_after rows.now ++ json_row row.now) }
 {
-    let mut piece = Vec::new(alloc);
+    let mut piece = room;
+    piece.clear();
     if !rows.is_empty() {
         piece.push(b',')?;
     }
-    let object = json_row(alloc, row)?;
-    piece.extend_from_slice(object.as_bytes())?;
-    Ok(piece)
+    json_row(piece, row)
 }
 
-/// The object of a row.
-#[tactic(auto, unfolding(crate::specs::Texts::json_row))]
-fn json_row(alloc: Global, row: &Row) -> Result<String, AllocError>
+/// The bytes, and the object of a row after them.
+fn json_row(piece: Vec<u8>, row: &Row) -> Result<Vec<u8>, AllocError>
     requires { IsRow row.now }
-    ensures { IfOk result (λ text. string_bytes text ≡ json_row row.now) }
+    ensures { IfOk result (λ more. more.items ≡ piece.items ++ json_row row.now) }
 {
-    let object = json_object(alloc, row)?;
-    object.to_string(alloc)
+    let mut object = Writer::new(piece);
+    object.begin_object()?;
+    put_text(&mut object, "author", row.author.as_bytes())?;
+    put_date(&mut object, row.seconds)?;
+    put_text(&mut object, "kind", row.kind.name().as_bytes())?;
+    put_number(&mut object, "members", row.members)?;
+    put_number(&mut object, "number", row.number)?;
+    put_text(&mut object, "part", row.part.as_bytes())?;
+    put_text(&mut object, "verdict", verdict_name(row.verdict).as_bytes())?;
+    object.end_object()?;
+    Ok(object.into_inner())
 }
 
-fn json_object(alloc: Global, row: &Row) -> Result<Value, AllocError>
-    requires { IsRow row.now }
-    ensures { IfOk result (λ value. view value ≡ json_object row.now) }
+/// Writes a member that is a text. `Err` means out of memory.
+fn put_text(object: &mut Writer, name: &str, text: &[u8]) -> Result<(), AllocError>
+    requires { IsUtf8 text.now }
+    ensures written { OnOk result (object.new.tokens ≡ object.old.tokens ++ key_token name.now ∷ string_token text.now ∷ []) }
+    ensures before { OnOk result (object.new.before ≡ object.old.before) }
 {
-    let author = str::from_utf8(row.author.as_bytes()).unwrap();
-    let part = str::from_utf8(row.part.as_bytes()).unwrap();
-    let date = json_date(alloc, row.seconds)?;
-    json!(in alloc; {
-        "author": author,
-        "date": date,
-        "kind": row.kind.name(),
-        "members": row.members,
-        "number": row.number,
-        "part": part,
-        "verdict": verdict_name(row.verdict)
-    })
+    object.key(name)?;
+    object.string(str::from_utf8(text).unwrap())
 }
 
-fn json_date(alloc: Global, seconds: Option<i64>) -> Result<Value, AllocError>
+/// Writes a member that is a number. `Err` means out of memory.
+fn put_number(object: &mut Writer, name: &str, number: u32) -> Result<(), AllocError>
+    ensures written { OnOk result (object.new.tokens ≡ object.old.tokens ++ key_token name.now ∷ number_token (decimal number) ∷ []) }
+    ensures before { OnOk result (object.new.before ≡ object.old.before) }
+{
+    object.key(name)?;
+    object.u64(number as u64)
+}
+
+/// Writes the member that is the date. `Err` means out of memory.
+fn put_date(object: &mut Writer, seconds: Option<i64>) -> Result<(), AllocError>
     requires { IfSome seconds IsMoment }
-    ensures { IfOk result (λ value. view value ≡ json_date seconds) }
+    ensures written { OnOk result (object.new.tokens ≡ object.old.tokens ++ key_token (codes "date") ∷ date_token seconds ∷ []) }
+    ensures before { OnOk result (object.new.before ≡ object.old.before) }
 {
-    let Some(seconds) = seconds else {
-        return Ok(Value::Null);
-    };
-    let text = moment_text(seconds);
-    let text = str::from_utf8(&text).unwrap();
-    text.to_value(alloc)
+    match seconds {
+        Some(seconds) => put_text(object, "date", &moment_text(seconds)),
+        None => {
+            object.key("date")?;
+            object.null()
+        }
+    }
 }

@@ -109,8 +109,9 @@ fn add_rows(
     ensures open { OnOk result (is_closed format.new ≡ false) }
     ensures same_format { OnOk result ((rows : List Row) → text_for format.new rows true ≡ text_for format.old rows true) }
 {
+    let mut row = Row::blank(alloc)?;
     for (revision, verdict) in revisions.iter().zip(verdicts) {
-        let row = Row::of(alloc, revision, *verdict, parts)?;
+        row.set(alloc, revision, *verdict, parts)?;
         add_row(format, &row)?;
     }
     Ok(())

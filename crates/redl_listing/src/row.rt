@@ -1,6 +1,6 @@
 //! Rows.
 
-ghost use Rattle.std.specs.Prelude.{◌≡◌, ◌<◌, IfOk, length, All, OnOk};
+ghost use Rattle.std.specs.Prelude.{◌≡◌, ◌<◌, [], IfOk, length, All, OnOk};
 ghost use Rattle.std.specs.Str.{IsUtf8};
 ghost use Rattle.redl_index.specs.Revisions.{IsTold};
 ghost use Rattle.redl_listing.specs.Rows.{IsRow, row_of};
@@ -30,30 +30,46 @@ pub struct Row {
 }
 
 impl Row {
-    /// The row of a revision on which this was decided, in the part that its number names. `Err` means out of memory.
-    pub(crate) fn of(
+    /// A row to be set, which is of no revision. `Err` means out of memory.
+    pub(crate) fn blank(alloc: Global) -> Result<Row, AllocError>
+        ensures { IfOk result (λ row. (row.author ≡ []) × (row.part ≡ [])) }
+    {
+        let author = Text::copy_of(alloc, b"")?;
+        let part = Text::copy_of(alloc, b"")?;
+        Ok(Row {
+            number: 0,
+            kind: RevKind::Move,
+            verdict: Verdict::Undecided,
+            author,
+            seconds: None,
+            part,
+            members: 0,
+        })
+    }
+
+    /// Makes it the row of a revision on which this was decided, in the part that its number names. A text that it has already
+    /// isn't copied again. `Err` means out of memory, and then it is the row of no revision.
+    pub(crate) fn set(
+        &mut self,
         alloc: Global,
         revision: &Revision,
         verdict: Verdict,
         parts: &[Text],
-    ) -> Result<Row, AllocError>
+    ) -> Result<(), AllocError>
         requires part { revision.now.part < length parts.now }
         requires parts { All IsUtf8 parts.now }
         requires told { IsTold revision.now }
-        ensures value { IfOk result (λ row. row ≡ row_of parts.now revision.now verdict) }
-        ensures row { IfOk result IsRow }
+        ensures value { OnOk result (self.new ≡ row_of parts.now revision.now verdict) }
+        ensures row { OnOk result (IsRow self.new) }
     {
-        let author = revision.author.copy(alloc)?;
-        let part = parts[revision.part as usize].copy(alloc)?;
-        Ok(Row {
-            number: revision.number,
-            kind: revision.kind,
-            verdict,
-            author,
-            seconds: revision.seconds,
-            part,
-            members: revision.members,
-        })
+        set_text(alloc, &mut self.author, &revision.author)?;
+        set_text(alloc, &mut self.part, &parts[revision.part as usize])?;
+        self.number = revision.number;
+        self.kind = revision.kind;
+        self.verdict = verdict;
+        self.seconds = revision.seconds;
+        self.members = revision.members;
+        Ok(())
     }
 
     /// An equal row. `Err` means out of memory.
@@ -72,4 +88,14 @@ impl Row {
             members: self.members,
         })
     }
+}
+
+/// Makes the text the same as another. `Err` means out of memory, and then it is as before.
+fn set_text(alloc: Global, text: &mut Text, wanted: &Text) -> Result<(), AllocError>
+    ensures { OnOk result (text.new ≡ wanted.now) }
+{
+    if text.as_bytes() != wanted.as_bytes() {
+        *text = wanted.copy(alloc)?;
+    }
+    Ok(())
 }

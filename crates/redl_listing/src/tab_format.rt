@@ -1,6 +1,6 @@
 //! The format `tab`.
 
-ghost use Rattle.std.specs.Prelude.{◌≡◌, IfOk, [], false};
+ghost use Rattle.std.specs.Prelude.{◌≡◌, IfOk, OnOk, [], false};
 ghost use Rattle.redl_listing.specs.Rows.{IsRow};
 ghost use Rattle.redl_listing.specs.Texts.{decided_fields, tab_row};
 
@@ -16,6 +16,8 @@ use std::marker::Model;
 pub struct TabFormat {
     alloc: Global,
     draft: Draft,
+    // The line of the last row.
+    line: Vec<u8>,
     closed: bool,
 }
 
@@ -39,6 +41,7 @@ impl TabFormat {
         Ok(TabFormat {
             alloc,
             draft: Draft::new(alloc),
+            line: Vec::new(alloc),
             closed: false,
         })
     }
@@ -61,9 +64,9 @@ impl RowFormat for TabFormat {
     }
 
     fn row(&mut self, row: &Row) -> Result<(), RowError> {
-        let line = tab_line(self.alloc, row)?;
+        tab_line(&mut self.line, row)?;
         let row = row.copy(self.alloc)?;
-        self.draft.add(row, &line, 0)?;
+        self.draft.add(row, &self.line, 0)?;
         Ok(())
     }
 
@@ -76,36 +79,36 @@ impl RowFormat for TabFormat {
     }
 }
 
-/// The line of a row.
+/// Sets the line to that of a row. `Err` means out of memory.
 #[tactic(auto, unfolding(crate::specs::Texts::tab_row))]
-fn tab_line(alloc: Global, row: &Row) -> Result<Vec<u8>, AllocError>
+fn tab_line(line: &mut Vec<u8>, row: &Row) -> Result<(), AllocError>
     requires { IsRow row.now }
-    ensures { IfOk result (λ line. line.items ≡ tab_row row.now) }
+    ensures { OnOk result (line.new.items ≡ tab_row row.now) }
 {
-    let mut line = decided_fields(alloc, row)?;
-    push_number(&mut line, row.members, 0)?;
+    decided_fields(line, row)?;
+    push_number(line, row.members, 0)?;
     line.push(b'\t')?;
-    push_escaped(&mut line, row.part.as_bytes())?;
+    push_escaped(line, row.part.as_bytes())?;
     line.push(b'\t')?;
-    push_escaped(&mut line, row.author.as_bytes())?;
+    push_escaped(line, row.author.as_bytes())?;
     line.push(b'\n')?;
-    Ok(line)
+    Ok(())
 }
 
-/// The fields before the members, each with a tab after it.
+/// Sets the line to the fields before the members, each with a tab after it. `Err` means out of memory.
 #[tactic(auto, unfolding(crate::specs::Texts::decided_fields))]
-fn decided_fields(alloc: Global, row: &Row) -> Result<Vec<u8>, AllocError>
+fn decided_fields(line: &mut Vec<u8>, row: &Row) -> Result<(), AllocError>
     requires { IsRow row.now }
-    ensures { IfOk result (λ line. line.items ≡ decided_fields row.now) }
+    ensures { OnOk result (line.new.items ≡ decided_fields row.now) }
 {
-    let mut line = Vec::new(alloc);
-    push_number(&mut line, row.number, 0)?;
+    line.clear();
+    push_number(line, row.number, 0)?;
     line.push(b'\t')?;
     line.extend_from_slice(row.kind.name().as_bytes())?;
     line.push(b'\t')?;
     line.extend_from_slice(verdict_name(row.verdict).as_bytes())?;
     line.push(b'\t')?;
-    push_date(&mut line, row.seconds, 0)?;
+    push_date(line, row.seconds, 0)?;
     line.push(b'\t')?;
-    Ok(line)
+    Ok(())
 }

@@ -1,6 +1,6 @@
 //! The format `text`.
 
-ghost use Rattle.std.specs.Prelude.{◌≡◌, IfOk, [], false};
+ghost use Rattle.std.specs.Prelude.{◌≡◌, IfOk, OnOk, [], false};
 ghost use Rattle.redl_listing.specs.Rows.{IsRow};
 ghost use Rattle.redl_listing.specs.Texts.{text_row};
 
@@ -16,6 +16,8 @@ use std::marker::Model;
 pub struct TextFormat {
     alloc: Global,
     draft: Draft,
+    // The line of the last row.
+    line: Vec<u8>,
     closed: bool,
 }
 
@@ -39,6 +41,7 @@ impl TextFormat {
         Ok(TextFormat {
             alloc,
             draft: Draft::new(alloc),
+            line: Vec::new(alloc),
             closed: false,
         })
     }
@@ -61,9 +64,9 @@ impl RowFormat for TextFormat {
     }
 
     fn row(&mut self, row: &Row) -> Result<(), RowError> {
-        let line = text_line(self.alloc, row)?;
+        text_line(&mut self.line, row)?;
         let row = row.copy(self.alloc)?;
-        self.draft.add(row, &line, 0)?;
+        self.draft.add(row, &self.line, 0)?;
         Ok(())
     }
 
@@ -76,22 +79,22 @@ impl RowFormat for TextFormat {
     }
 }
 
-/// The line of a row.
+/// Sets the line to that of a row. `Err` means out of memory.
 #[tactic(auto, unfolding(crate::specs::Texts::text_row))]
-fn text_line(alloc: Global, row: &Row) -> Result<Vec<u8>, AllocError>
+fn text_line(line: &mut Vec<u8>, row: &Row) -> Result<(), AllocError>
     requires { IsRow row.now }
-    ensures { IfOk result (λ line. line.items ≡ text_row row.now) }
+    ensures { OnOk result (line.new.items ≡ text_row row.now) }
 {
-    let mut line = Vec::new(alloc);
-    push_number(&mut line, row.number, 7)?;
+    line.clear();
+    push_number(line, row.number, 7)?;
     line.push(b' ')?;
-    push_left(&mut line, row.kind.name().as_bytes(), 12)?;
+    push_left(line, row.kind.name().as_bytes(), 12)?;
     line.push(b' ')?;
-    push_left(&mut line, verdict_name(row.verdict).as_bytes(), 8)?;
+    push_left(line, verdict_name(row.verdict).as_bytes(), 8)?;
     line.push(b' ')?;
-    push_date(&mut line, row.seconds, 20)?;
+    push_date(line, row.seconds, 20)?;
     line.push(b' ')?;
-    push_shown(&mut line, row.author.as_bytes())?;
+    push_shown(line, row.author.as_bytes())?;
     line.push(b'\n')?;
-    Ok(line)
+    Ok(())
 }

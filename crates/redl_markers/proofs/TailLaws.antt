@@ -8,7 +8,7 @@ use Rattle.redl_tree.specs.Model.Seen.{Spot, spot, Seen, seen_from, seen, root_s
 use Rattle.redl_tree.specs.Revisions.Moves.{Marking}
 use Rattle.redl_tree.specs.Revisions.Markers.{marker_of}
 use Rattle.redl_stamp.specs.Attribute.{attribute_value}
-use Rattle.redl_opc.specs.Tree.{HasUtf8Tails}
+use Rattle.redl_tree.specs.Model.Tree.{HasUtf8Tails}
 use Rattle.redl_markers.specs.Found.{marker_tail, marker_tails}
 use Rattle.redl_markers.specs.Free.{Every}
 use Rattle.redl_markers.proofs.ApartLaws.{every-append}

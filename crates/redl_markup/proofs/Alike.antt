@@ -6,7 +6,7 @@ use Rattle.std.specs.Cmp.{IsTotalOrder, IsEquivalence, eq_by_cmp_equiv}
 use Rattle.std.specs.Cmp.Lexicographic.{slice_cmp}
 use Rattle.std.specs.Ordering.{eq_by_cmp, is_eq, ordering_then, nat_cmp}
 use Rattle.std.specs.BTreeSet.{BTreeSet, btree_set_len, IsFromIterResult}
-use Rattle.std.proofs.lemmas.Bool.{eqb-true}
+use Rattle.std.proofs.lemmas.Bool.{eqb-true, and_parts, and_from, not-true}
 use Rattle.std.proofs.lemmas.Bool.Decides.{nat_tests, same_from_decides}
 use Rattle.std.proofs.lemmas.Map.Made.{IsDistinct-from_count, distinct_count-from_IsDistinct}
 use Rattle.std.proofs.lemmas.Map.Views.{btree_set_len-from_list}
@@ -16,8 +16,7 @@ use Rattle.redl_markup.specs.contracts.name.NameOrd.TheImpl.Laws as laws
 use Rattle.redl_markup.specs.declared.name.Name as code
 use Rattle.redl_markup.specs.Names.{name_eq, are_distinct}
 use Rattle.redl_markup.specs.Views.{name_view}
-use Rattle.redl_markup.proofs.Runs.{and-true, and-both, not-true}
-use Rattle.redl_markup.proofs.Words.{eqb_same}
+use Rattle.redl_reading.proofs.Words.{eqb_same}
 
 abbrev pub compare : code.Name → code.Name → Ordering
 compare = (order.cmp-value).it
@@ -46,12 +45,12 @@ alike x y =
 -- the first is unlike the others
 unlike_test : (x : code.Name) (ys : List code.Name) → AllByRecursion (λ y. eq_by_cmp compare x y ≡ false) ys → list_all (λ m. not (name_eq (name_view x) m)) (map name_view ys) ≡ true
 unlike_test x [] h = refl
-unlike_test x (y ∷ ys) h = and-both _ _ (rw (sym (alike x y) ∙ h.0) refl) (unlike_test x ys h.1)
+unlike_test x (y ∷ ys) h = and_from _ _ (rw (sym (alike x y) ∙ h.0) refl) (unlike_test x ys h.1)
 
 unlike_from_test : (x : code.Name) (ys : List code.Name) → list_all (λ m. not (name_eq (name_view x) m)) (map name_view ys) ≡ true → AllByRecursion (λ y. eq_by_cmp compare x y ≡ false) ys
 unlike_from_test x [] h = tt
 unlike_from_test x (y ∷ ys) h =
-    let both = and-true (not (name_eq (name_view x) (name_view y))) (list_all (λ m. not (name_eq (name_view x) m)) (map name_view ys)) h in
+    let both = and_parts (not (name_eq (name_view x) (name_view y))) (list_all (λ m. not (name_eq (name_view x) m)) (map name_view ys)) h in
     (alike x y ∙ not-true (name_eq (name_view x) (name_view y)) both.0, unlike_from_test x ys both.1)
 
 pub distinct_step : (x : code.Name) (rest left : List code.Name) (t : Bool) → left ≡ x ∷ rest → list_all (λ m. not (name_eq (name_view x) m)) (map name_view rest) ≡ t → are_distinct (map name_view left) ≡ (t && are_distinct (map name_view rest))
@@ -61,13 +60,13 @@ distinct_step x rest left t e h = rw (e, h) refl
 distinct_test : (xs : List code.Name) → IsDistinct (eq_by_cmp compare) xs → are_distinct (map name_view xs) ≡ true
 unfolding are_distinct IsDistinct
 distinct_test [] h = refl
-distinct_test (x ∷ xs) h = and-both _ _ (unlike_test x xs h.0) (distinct_test xs h.1)
+distinct_test (x ∷ xs) h = and_from _ _ (unlike_test x xs h.0) (distinct_test xs h.1)
 
 distinct_from_test : (xs : List code.Name) → are_distinct (map name_view xs) ≡ true → IsDistinct (eq_by_cmp compare) xs
 unfolding are_distinct IsDistinct
 distinct_from_test [] h = tt
 distinct_from_test (x ∷ xs) h =
-    let both = and-true (list_all (λ m. not (name_eq (name_view x) m)) (map name_view xs)) (are_distinct (map name_view xs)) h in
+    let both = and_parts (list_all (λ m. not (name_eq (name_view x) m)) (map name_view xs)) (are_distinct (map name_view xs)) h in
     (unlike_from_test x xs both.0, distinct_from_test xs both.1)
 
 equal_is : (m n : ℕ) → m ≡ n → eqb m n ≡ true

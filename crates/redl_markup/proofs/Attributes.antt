@@ -3,21 +3,23 @@ use Rattle.std.proofs.Common.{◌≡◌, ◌≢◌, ℕ, zero, suc, ◌<◌, ◌
 use Rattle.std.specs.Prelude.{◌||◌, codes}
 use Rattle.std.specs.List.{list_all, AllByRecursion}
 use Rattle.std.proofs.lemmas.Bool.Decides.{nat_tests}
-use Rattle.std.proofs.lemmas.Bool.{eqb-true}
+use Rattle.std.proofs.lemmas.Bool.{eqb-true, and_parts, cases_Bool}
 use Rattle.std.proofs.lemmas.List.{append-nil}
 use Rattle.std.proofs.lemmas.Option.{same_Some, cond_some}
 use Rattle.redl_markup.specs.Characters.{is_space}
-use Rattle.redl_markup.specs.Lists.{behind, front, after, is_filled, is_other}
-use Rattle.redl_markup.specs.Reading.{◌>>=◌, done, next, turn, turns}
+use Rattle.redl_reading.specs.Lists.{behind, front, after, is_filled, is_other, field_at}
+use Rattle.redl_reading.specs.Steps.{◌>>=◌, done, next, turn, turns}
 use Rattle.redl_markup.specs.Names.{Name, name_text, IsName}
 use Rattle.redl_markup.specs.References.{has_references}
 use Rattle.redl_markup.specs.Tails.{IsSpace, Attribute, attribute_then, attributes_then, IsQuote, IsAttribute, named_value}
 use Rattle.redl_markup.specs.ScanNames.{name_at}
 use Rattle.redl_markup.specs.ScanTags.{quote_at, quoted_at, equated_at, is_plain, is_value, attribute_at, attribute_in, ends_tag, Tail, tail_step, attributes_at}
-use Rattle.redl_markup.proofs.Runs.{stops, and-true, either, front-after, front_passes, front_again, after_again}
-use Rattle.redl_markup.proofs.Turns.{Going, begins, goes_on, ends}
-use Rattle.redl_markup.proofs.Words.{behind_takes, behind_again, eqb_same}
-use Rattle.redl_markup.proofs.Names.{bind_some, is_delimiter, ends_name, name_head, name_takes, name_again}
+use Rattle.redl_reading.proofs.Runs.{stops, front-after, front_passes, front_again, after_again}
+use Rattle.redl_reading.proofs.Turns.{Going, begins, goes_on, ends}
+use Rattle.redl_reading.proofs.Words.{behind_takes}
+use Rattle.redl_markup.proofs.Names.{is_delimiter, ends_name, name_head, name_takes, name_again}
+use Rattle.redl_reading.proofs.Steps.{bind_some}
+use Rattle.redl_reading.proofs.Fields.{field_takes, field_lacks, field_again}
 
 -- ---- what follows white space
 
@@ -27,11 +29,11 @@ space_ends_name b h = grind (arith, nat_tests)
 
 pub spaces_end_name : (s rest : List ℕ) → IsSpace s → ends_name rest ≡ true → ends_name (s ++ rest) ≡ true
 spaces_end_name [] rest all stop = stop
-spaces_end_name (b ∷ bs) rest all stop = space_ends_name b (and-true (is_space b) (list_all is_space bs) all).0
+spaces_end_name (b ∷ bs) rest all stop = space_ends_name b (and_parts (is_space b) (list_all is_space bs) all).0
 
 pub gap_ends_name : (gap rest : List ℕ) → (gap ≢ []) → IsSpace gap → ends_name (gap ++ rest) ≡ true
 gap_ends_name [] rest filled h = absurd (filled refl)
-gap_ends_name (b ∷ bs) rest filled h = space_ends_name b (and-true (is_space b) (list_all is_space bs) h).0
+gap_ends_name (b ∷ bs) rest filled h = space_ends_name b (and_parts (is_space b) (list_all is_space bs) h).0
 
 equals_ends_name : (rest : List ℕ) → ends_name (61 ∷ rest) ≡ true
 unfolding is_delimiter is_space
@@ -76,7 +78,7 @@ quote_takes (b ∷ bs) q rest e =
     (rw (heads, tails) refl, rw (← heads) (is_quote b c.0)) where
       is_quote : (b : ℕ) → (eqb b 34 || eqb b 39) ≡ true → IsQuote b
       is_quote b h =
-          elim (either (eqb b 34)) [
+          elim (cases_Bool (eqb b 34)) [
             | inl y ↦ inl (eqb-true b 34 y)
             | inr n ↦ inr (eqb-true b 39 (rw n at h))
           ]
@@ -107,21 +109,14 @@ pub record Equates (bs value rest : List ℕ) : Type 0 where
 quoted_takes : (bs : List ℕ) (x : List ℕ × List ℕ) → quoted_at bs ≡ Some x → (q : ℕ) × (bs ≡ q ∷ (x.0 ++ (q ∷ x.1))) × IsQuote q × (list_all (is_other q) x.0 ≡ true)
 unfolding quoted_at
 quoted_takes bs x e =
-    let q = bind_some (quote_at bs) (λ quote. behind (quote.0 ∷ []) (after (is_other quote.0) quote.1) >>= λ rest. Some (front (is_other quote.0) quote.1, rest)) x e in
-    let r = bind_some (behind (q.0.0 ∷ []) (after (is_other q.0.0) q.0.1)) (λ rest. Some (front (is_other q.0.0) q.0.1, rest)) x q.2 in
+    let q = bind_some (quote_at bs) (λ quote. field_at quote.0 quote.1) x e in
     let t = quote_takes bs q.0.0 q.0.1 q.1 in
-    let v = front (is_other q.0.0) q.0.1 in
-    let end : after (is_other q.0.0) q.0.1 ≡ q.0.0 ∷ r.0 = behind_takes (q.0.0 ∷ []) (after (is_other q.0.0) q.0.1) r.0 r.1 in
-    let whole : q.0.1 ≡ v ++ (q.0.0 ∷ r.0) = sym (front-after (is_other q.0.0) q.0.1) ∙ ap (λ (z : List ℕ). v ++ z) end in
-    let P : List ℕ × List ℕ → Type 0 = λ y. (bs ≡ q.0.0 ∷ (y.0 ++ (q.0.0 ∷ y.1))) × (list_all (is_other q.0.0) y.0 ≡ true) in
-    let parts = subst P (same_Some (v, r.0) x r.2) (t.0 ∙ ap (λ (z : List ℕ). q.0.0 ∷ z) whole, front_passes (is_other q.0.0) q.0.1) in
-    (q.0.0, parts.0, t.1, parts.1)
+    (q.0.0, t.0 ∙ ap (λ (z : List ℕ). q.0.0 ∷ z) (field_takes q.0.0 q.0.1 x q.2), t.1, field_lacks q.0.0 q.0.1 x q.2)
 
 quoted_again : (q : ℕ) (value rest : List ℕ) → IsQuote q → list_all (is_other q) value ≡ true → quoted_at (q ∷ (value ++ (q ∷ rest))) ≡ Some (value, rest)
 unfolding quoted_at
 quoted_again q value rest h no_quote =
-    let stop : stops (is_other q) (q ∷ rest) ≡ true = rw (eqb_same q) refl in
-    rw (quote_again q (value ++ (q ∷ rest)) h, front_again (is_other q) value (q ∷ rest) no_quote stop, after_again (is_other q) value (q ∷ rest) no_quote stop, behind_again (q ∷ []) rest) refl
+    rw (quote_again q (value ++ (q ∷ rest)) h) (field_again q value rest no_quote)
 
 pub equated_takes : (bs : List ℕ) (x : List ℕ × List ℕ) → equated_at bs ≡ Some x → Equates bs x.0 x.1
 unfolding equated_at
@@ -156,7 +151,7 @@ attribute_takes gap bs x filled spaces e =
     let n = bind_some (name_at bs) (λ name. equated_at name.1 >>= λ value. cond (is_value value.0) (Some ((name.0, value.0), value.1)) None) x e in
     let v = bind_some (equated_at n.0.1) (λ value. cond (is_value value.0) (Some ((n.0.0, value.0), value.1)) None) x n.2 in
     let c = cond_some (is_value v.0.0) ((n.0.0, v.0.0), v.0.1) x v.2 in
-    let both = and-true (list_all (is_other 60) v.0.0) (has_references v.0.0) c.0 in
+    let both = and_parts (list_all (is_other 60) v.0.0) (has_references v.0.0) c.0 in
     let name = name_takes bs n.0 n.1 in
     let value = equated_takes n.0.1 v.0 v.1 in
     let a : Attribute = record { gap = gap; name = n.0.0; left = value.left; right = value.right; quote = value.quote; value = v.0.0 } in
@@ -180,7 +175,7 @@ attribute_again a rest h =
 pub first_takes : (bs : List ℕ) (x : (Name × List ℕ) × List ℕ) → attribute_in bs ≡ Some x → (a : Attribute) × (bs ≡ attribute_then a x.1) × IsAttribute a × (named_value a ≡ x.0)
 unfolding attribute_in
 first_takes bs x e =
-    elim (either (is_filled (front is_space bs))) [
+    elim (cases_Bool (is_filled (front is_space bs))) [
       | inl filled ↦
           let t = attribute_takes (front is_space bs) (after is_space bs) x (is_filled-some (front is_space bs) filled) (front_passes is_space bs) (rw filled at e) in
           (t.0, sym (front-after is_space bs) ∙ t.1, t.2, t.3)
@@ -266,7 +261,7 @@ none_some x e = cc
 pub tail_takes_turns : (n : ℕ) (s x : Tail) → turns tail_step n s ≡ Some x → Reads s x
 tail_takes_turns zero s x e = absurd cc
 tail_takes_turns (suc n) s x e =
-    elim (either (ends_tag (after is_space s.1))) [
+    elim (cases_Bool (ends_tag (after is_space s.1))) [
       | inl end ↦ reads_end s x end (rw (step_ends s end) at e)
       | inr other ↦ by_attribute n s x other (attribute_in s.1) refl e (tail_takes_turns n)
     ] where
@@ -315,8 +310,8 @@ loop_goes s more bs a g e other found =
 plain_parts : (bs : List ℕ) → list_all is_plain bs ≡ true → (list_all (is_other 60) bs ≡ true) × (has_references bs ≡ true)
 plain_parts [] h = (refl, refl)
 plain_parts (b ∷ bs) h =
-    let both = and-true (is_plain b) (list_all is_plain bs) h in
-    let here = and-true (is_other 60 b) (is_other 38 b) both.0 in
+    let both = and_parts (is_plain b) (list_all is_plain bs) h in
+    let here = and_parts (is_other 60 b) (is_other 38 b) both.0 in
     let more = plain_parts bs both.1 in
     (rw here.0 more.0, rw here.1 more.1)
 

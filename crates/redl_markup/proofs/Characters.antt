@@ -1,14 +1,13 @@
 -- The test of a whole text.
 use Rattle.std.proofs.Common.{◌≡◌, ◌≢◌, ℕ, ◌<◌, ◌≤◌, ◌+◌, ◌/◌, ◌%◌, Bool, true, false, ltb, eqb, List, [], ◌∷◌, ◌++◌, refl, sym, ap, ◌∙◌, arith, IsTrue, ◌⊎◌, inl, inr}
 use Rattle.std.specs.Prelude.{encode_utf8}
-use Rattle.std.proofs.lemmas.Bool.{ltb-true, ltb-false, eqb-false}
+use Rattle.std.proofs.lemmas.Bool.{ltb-true, ltb-false, eqb-false, and_parts, and_from, cases_Bool}
 use Rattle.std.specs.List.{list_all}
 use Rattle.std.specs.Str.{IsUtf8, chars, encode_utf8_all}
 use Rattle.std.proofs.lemmas.Bool.Decides.{nat_tests}
 use Rattle.std.proofs.lemmas.Str.{chars-encodes, encodes-chars}
 use lib.Utf8.{scalar, scalars, encode}
 use Rattle.redl_markup.specs.Characters.{is_character, is_plain_byte, IsText}
-use Rattle.redl_markup.proofs.Runs.{and-true, and-both, either}
 
 pub character_scalar : (c : ℕ) → is_character c ≡ true → scalar c ≡ true
 unfolding is_character
@@ -17,8 +16,8 @@ character_scalar c h = grind (arith, nat_tests)
 each_scalar : (cs : List ℕ) → list_all is_character cs ≡ true → scalars cs ≡ true
 each_scalar [] h = refl
 each_scalar (c ∷ cs) h =
-    let both = and-true (is_character c) (list_all is_character cs) h in
-    and-both _ _ (character_scalar c both.0) (each_scalar cs both.1)
+    let both = and_parts (is_character c) (list_all is_character cs) h in
+    and_from _ _ (character_scalar c both.0) (each_scalar cs both.1)
 
 pub text_is_utf8 : (bs : List ℕ) → IsText bs → IsUtf8 bs
 text_is_utf8 bs h = (h.characters, (each_scalar h.characters h.each, sym h.whole))
@@ -45,16 +44,16 @@ character_high c s low (inr h) = grind (arith, nat_tests)
 
 plain_first : (b : ℕ) (bs : List ℕ) → list_all is_plain_byte (b ∷ bs) ≡ true → eqb b 239 ≡ false
 unfolding is_plain_byte
-plain_first b bs h = let here = (and-true (is_plain_byte b) (list_all is_plain_byte bs) h).0 in grind (arith, nat_tests)
+plain_first b bs h = let here = (and_parts (is_plain_byte b) (list_all is_plain_byte bs) h).0 in grind (arith, nat_tests)
 
 plain_char : (c : ℕ) → scalar c ≡ true → list_all is_plain_byte (encode c) ≡ true → is_character c ≡ true
 unfolding encode
 plain_char c s h =
-    elim (either (ltb c 128)) [
-      | inl a ↦ plain_low c (ltb-true c 128 a) (and-true (is_plain_byte c) true (rw a at h)).0
-      | inr a ↦ elim (either (ltb c 2048)) [
+    elim (cases_Bool (ltb c 128)) [
+      | inl a ↦ plain_low c (ltb-true c 128 a) (and_parts (is_plain_byte c) true (rw a at h)).0
+      | inr a ↦ elim (cases_Bool (ltb c 2048)) [
         | inl b ↦ character_high c s (omega (arith, ltb-false c 128 a)) (inl (omega (arith, ltb-true c 2048 b)))
-        | inr b ↦ elim (either (ltb c 65536)) [
+        | inr b ↦ elim (cases_Bool (ltb c 65536)) [
           | inl d ↦
               let first = eqb-false (224 + c / 4096) 239 (plain_first (224 + c / 4096) ((128 + c / 64 % 64) ∷ (128 + c % 64) ∷ []) (rw (a, b, d) at h)) in
               character_high c s (omega (arith, ltb-false c 128 a)) (inl (below c (ltb-true c 65536 d) first))
@@ -63,7 +62,7 @@ plain_char c s h =
       ]
     ] where
       below : (c : ℕ) → c < 65536 → (224 + c / 4096 ≢ 239) → c < 61440
-      below c lt other = elim (either (ltb c 61440)) [
+      below c lt other = elim (cases_Bool (ltb c 61440)) [
         | inl h ↦ ltb-true c 61440 h
         | inr h ↦ absurd (other (let low = ltb-false c 61440 h in omega (arith, low, lt)))
       ]
@@ -71,16 +70,16 @@ plain_char c s h =
 all_append : (p : ℕ → Bool) (xs ys : List ℕ) → list_all p (xs ++ ys) ≡ true → (list_all p xs ≡ true) × (list_all p ys ≡ true)
 all_append p [] ys h = (refl, h)
 all_append p (x ∷ xs) ys h =
-    let both = and-true (p x) (list_all p (xs ++ ys)) h in
+    let both = and_parts (p x) (list_all p (xs ++ ys)) h in
     let more = all_append p xs ys both.1 in
-    (and-both _ _ both.0 more.0, more.1)
+    (and_from _ _ both.0 more.0, more.1)
 
 plain_chars : (cs : List ℕ) → scalars cs ≡ true → list_all is_plain_byte (encode_utf8_all cs) ≡ true → list_all is_character cs ≡ true
 plain_chars [] s h = refl
 plain_chars (c ∷ cs) s h =
-    let are = and-true (scalar c) (scalars cs) s in
+    let are = and_parts (scalar c) (scalars cs) s in
     let parts = all_append is_plain_byte (encode_utf8 c) (encode_utf8_all cs) h in
-    and-both _ _ (plain_char c are.0 parts.0) (plain_chars cs are.1 parts.1)
+    and_from _ _ (plain_char c are.0 parts.0) (plain_chars cs are.1 parts.1)
 
 pub plain_text : (bs : List ℕ) → IsUtf8 bs → list_all is_plain_byte bs ≡ true → IsText bs
 plain_text bs u h = record { characters = u.0; each = plain_chars u.0 u.1.0 (ap (list_all is_plain_byte) u.1.1 ∙ h); whole = sym u.1.1 }

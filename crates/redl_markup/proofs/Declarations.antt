@@ -2,24 +2,25 @@
 use Rattle.std.proofs.Common.{◌≡◌, ℕ, Bool, true, false, cond, eqb, List, [], ◌∷◌, ◌++◌, Option, Some, None, refl, sym, ap, ◌∙◌, append_assoc, arith, inl, inr}
 use Rattle.std.specs.Prelude.{not, ◌||◌, codes}
 use Rattle.std.specs.List.{list_all, AllByRecursion}
-use Rattle.std.proofs.lemmas.Bool.{eqb-true}
+use Rattle.std.proofs.lemmas.Bool.{eqb-true, and_parts, cases_Bool, not-true}
 use Rattle.std.proofs.lemmas.Bool.Decides.{nat_tests}
 use Rattle.std.proofs.lemmas.Option.{same_Some, cond_some, some_pair_parts}
 use lib.Utf8.{encode}
 use Rattle.redl_markup.specs.declared.place.Place.{Place}
 use Rattle.redl_markup.specs.declared.place.Place.TheVariants.{BeforeRoot, InElement, AfterRoot}
 use Rattle.redl_markup.specs.Characters.{is_space, is_name_start, is_name_character}
-use Rattle.redl_markup.specs.Lists.{behind, begins, front, after, is_filled}
-use Rattle.redl_markup.specs.Reading.{◌>>=◌, or_same}
+use Rattle.redl_reading.specs.Lists.{behind, begins, front, after, is_filled}
+use Rattle.redl_reading.specs.Steps.{◌>>=◌, or_same}
 use Rattle.redl_markup.specs.Names.{may_start, may_follow, IsWord, Name, name_text}
 use Rattle.redl_markup.specs.Tails.{IsSpace, Attribute, attribute_then}
 use Rattle.redl_markup.specs.Stretches.{IsSetting, is_version, is_encoding, is_standalone, Declaration, IsOptional, IsDeclaration, optional_then, declaration_then, byte_order_mark, Head, mark_then, declared_then, head_then, IsDeclared, no_head, IsHead, is_xml, IsInstruction, Item, comment, instruction, cdata, item_then, items_then, IsItem, IsRun, ends_stretch, begins_item}
 use Rattle.redl_markup.specs.ScanNames.{word_at}
 use Rattle.redl_markup.specs.ScanTags.{equated_at}
 use Rattle.redl_markup.specs.ScanStretches.{setting_at, optional_after, version_at, declaration_at, after_mark, after_declaration, after_head}
-use Rattle.redl_markup.proofs.Runs.{stops, and-true, either, not-true, front-after, front_passes, front_again, after_again}
-use Rattle.redl_markup.proofs.Words.{behind_takes, behind_again, behind_longer}
-use Rattle.redl_markup.proofs.Names.{bind_some, ends_name, word_again}
+use Rattle.redl_reading.proofs.Runs.{stops, front-after, front_passes, front_again, after_again}
+use Rattle.redl_reading.proofs.Words.{behind_takes, behind_again, behind_longer}
+use Rattle.redl_markup.proofs.Names.{ends_name, word_again}
+use Rattle.redl_reading.proofs.Steps.{bind_some}
 use Rattle.redl_markup.proofs.Attributes.{is_filled-some, filled-is, space_ends_name, equated_then, equated_takes, equated_again}
 use Rattle.redl_markup.proofs.Items.{text_ends_name}
 use Rattle.redl_markup.proofs.Tags.{attribute_then-append}
@@ -34,7 +35,7 @@ pub record Sets (word bs value rest : List ℕ) : Type 0 where
 setting_takes : (word bs : List ℕ) (x : List ℕ × List ℕ) → setting_at word bs ≡ Some x → Sets word bs x.0 x.1
 unfolding setting_at
 setting_takes word bs x e =
-    elim (either (is_filled (front is_space bs))) [
+    elim (cases_Bool (is_filled (front is_space bs))) [
       | inl filled ↦ of x filled (rw filled at e)
       | inr lacks ↦ absurd (none_some x (rw lacks at e))
     ] where
@@ -78,7 +79,7 @@ setting_again word fits a rest stop h =
 -- another word is there
 setting_none : (word bs : List ℕ) → behind word (after is_space bs) ≡ None → setting_at word bs ≡ None
 unfolding setting_at
-setting_none word bs e = elim (either (is_filled (front is_space bs))) [ inl f ↦ rw (f, e) refl | inr f ↦ rw f refl ]
+setting_none word bs e = elim (cases_Bool (is_filled (front is_space bs))) [ inl f ↦ rw (f, e) refl | inr f ↦ rw f refl ]
 
 other_setting : (other word : List ℕ) (fits : List ℕ → Bool) (a : Attribute) (rest : List ℕ) → ((more : List ℕ) → stops is_space (word ++ more) ≡ true) → ((more : List ℕ) → behind other (word ++ more) ≡ None) → IsSetting word fits a → setting_at other (attribute_then a rest) ≡ None
 other_setting other word fits a rest stop apart h =
@@ -188,7 +189,7 @@ xml_word = record { first = 120; more = 109 ∷ 108 ∷ []; start = refl; each =
 filled_ends_name : (bs : List ℕ) → is_filled (front is_space bs) ≡ true → ends_name bs ≡ true
 filled_ends_name [] h = absurd cc
 filled_ends_name (b ∷ bs) h =
-    elim (either (is_space b)) [
+    elim (cases_Bool (is_space b)) [
       | inl space ↦ space_ends_name b space
       | inr other ↦ absurd (let k = rw other at h in cc)
     ]
@@ -208,7 +209,7 @@ instruction_no_declaration name text rest h = of (behind (codes "xml") (name ++ 
   of : (o : Option (List ℕ)) → behind (codes "xml") (name ++ (text ++ (codes "?>" ++ rest))) ≡ o → declaration_at (codes "<?" ++ (name ++ (text ++ (codes "?>" ++ rest)))) ≡ None
   of None e = none_declared (codes "<?" ++ (name ++ (text ++ (codes "?>" ++ rest)))) e
   of (Some more) e =
-      elim (either (is_filled (front is_space more))) [
+      elim (cases_Bool (is_filled (front is_space more))) [
         | inl filled ↦ absurd (not_so more e filled)
         | inr lacks ↦ rw (e, lacks) refl
       ]
@@ -234,7 +235,7 @@ or-right false t e = e
 rest_no_head : (rest : List ℕ) → ends_stretch rest ≡ true → NoHead rest
 rest_no_head [] end = record { no_mark = refl; no_declaration = none_declared [] refl }
 rest_no_head (b ∷ rest) end =
-    let both = and-true (eqb b 60) (not (begins_item (b ∷ rest))) end in
+    let both = and_parts (eqb b 60) (not (begins_item (b ∷ rest))) end in
     let no_item : begins_item (b ∷ rest) ≡ false = not-true (begins_item (b ∷ rest)) both.1 in
     let no_mark : eqb b 239 ≡ false = ap (λ (n : ℕ). eqb n 239) (eqb-true b 60 both.0) in
     record {
@@ -243,7 +244,7 @@ rest_no_head (b ∷ rest) end =
     }
 
 pub content_no_head : (first : List ℕ) (more : List (Item × List ℕ)) (rest : List ℕ) → IsRun BeforeRoot first → AllByRecursion (λ i. IsItem BeforeRoot i.0 × IsRun BeforeRoot i.1) more → ends_stretch rest ≡ true → NoHead (first ++ items_then more rest)
-content_no_head (b ∷ bs) more rest run each end = run_no_head b (bs ++ items_then more rest) (and-true (is_space b) (list_all is_space bs) run.allowed).0
+content_no_head (b ∷ bs) more rest run each end = run_no_head b (bs ++ items_then more rest) (and_parts (is_space b) (list_all is_space bs) run.allowed).0
 content_no_head [] (i ∷ more) rest run each end = item_no_head i.0 (i.1 ++ items_then more rest) each.0.0
 content_no_head [] [] rest run each end = rest_no_head rest end
 

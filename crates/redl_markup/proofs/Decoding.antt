@@ -4,20 +4,20 @@ use Rattle.std.specs.Prelude.{not, ◌&&◌, codes, encode_utf8}
 use Rattle.std.specs.Char.{IsScalar}
 use Rattle.std.specs.List.{list_all}
 use Rattle.std.specs.Str.{IsUtf8, encode_utf8_all, all_scalars}
-use Rattle.std.proofs.lemmas.Bool.{eqb-true, cases_lt}
+use Rattle.std.proofs.lemmas.Bool.{eqb-true, cases_lt, and_parts, and_from, cases_Bool}
 use Rattle.std.proofs.lemmas.Bool.Decides.{nat_tests}
 use Rattle.std.proofs.lemmas.List.{append-nil}
 use Rattle.std.proofs.lemmas.Option.{same_Some}
 use Rattle.std.proofs.lemmas.Str.{IsUtf8-nil, IsUtf8-append, IsUtf8-encode, encode_ascii}
 use lib.Utf8.{scalar, encode}
 use Rattle.redl_markup.specs.Characters.{is_character, is_space}
-use Rattle.redl_markup.specs.Lists.{behind, begins, front, after, is_filled, is_other}
-use Rattle.redl_markup.specs.Reading.{or_else}
+use Rattle.redl_reading.specs.Lists.{behind, begins, front, after, is_filled, is_other}
+use Rattle.redl_reading.specs.Steps.{or_else}
 use Rattle.redl_markup.specs.References.{valued, named_at, is_digit_in, number_of, number_at, numbered_by, reference_at}
-use Rattle.redl_markup.specs.Decoding.{character_text, decoded_from, decoded_value}
+use Rattle.redl_markup.specs.Decoding.{character_text, decoded_from, decoded_value, is_literal}
 use Rattle.redl_markup.proofs.Characters.{character_scalar}
-use Rattle.redl_markup.proofs.Runs.{and-true, and-both, either, front-after, front_passes}
-use Rattle.redl_markup.proofs.Words.{behind_takes}
+use Rattle.redl_reading.proofs.Runs.{front-after, front_passes}
+use Rattle.redl_reading.proofs.Words.{behind_takes}
 
 -- ---- what a reference takes
 
@@ -62,11 +62,11 @@ named_refers bs x e =
 digits_no_end : (base : ℕ) (ds : List ℕ) → is_digit_in base 59 ≡ false → list_all (is_digit_in base) ds ≡ true → list_all (is_other 59) ds ≡ true
 digits_no_end base [] none h = refl
 digits_no_end base (d ∷ ds) none h =
-    let both = and-true (is_digit_in base d) (list_all (is_digit_in base) ds) h in
-    and-both _ _ (other d both.0) (digits_no_end base ds none both.1) where
+    let both = and_parts (is_digit_in base d) (list_all (is_digit_in base) ds) h in
+    and_from _ _ (other d both.0) (digits_no_end base ds none both.1) where
       other : (d : ℕ) → is_digit_in base d ≡ true → is_other 59 d ≡ true
       other d h =
-          elim (either (eqb d 59)) [
+          elim (cases_Bool (eqb d 59)) [
             | inl e ↦ absurd (let k : false ≡ true = sym none ∙ ap (is_digit_in base) (sym (eqb-true d 59 e)) ∙ h in cc)
             | inr e ↦ rw e refl
           ]
@@ -80,7 +80,7 @@ number_refers base bs x none e =
     let v = valued_some n (behind (codes ";") (after (is_digit_in base) bs)) x c.1 in
     let P : ℕ → Type 0 = λ m. IsScalar m in
     record {
-      scalar_value = subst P v.0 (character_scalar n (and-true (is_filled digits) (is_character n) c.0).1);
+      scalar_value = subst P v.0 (character_scalar n (and_parts (is_filled digits) (is_character n) c.0).1);
       inner = digits;
       no_end = digits_no_end base digits none (front_passes (is_digit_in base) bs);
       whole = sym (front-after (is_digit_in base) bs) ∙ ap (λ (z : List ℕ). digits ++ z) (behind_takes (codes ";") (after (is_digit_in base) bs) x.1 v.1);
@@ -100,7 +100,7 @@ refers_behind word bs more x no_end e r =
     } where
       both_pass : (w : List ℕ) → list_all (is_other 59) w ≡ true → list_all (is_other 59) (w ++ r.inner) ≡ true
       both_pass [] h = r.no_end
-      both_pass (b ∷ w) h = let both = and-true (is_other 59 b) (list_all (is_other 59) w) h in and-both _ _ both.0 (both_pass w both.1)
+      both_pass (b ∷ w) h = let both = and_parts (is_other 59 b) (list_all (is_other 59) w) h in and_from _ _ both.0 (both_pass w both.1)
 
 by_number_refers : (bs : List ℕ) (a b : Option (List ℕ)) (x : ℕ × List ℕ) → behind (codes "#x") bs ≡ a → behind (codes "#") bs ≡ b → numbered_by a b ≡ Some x → Refers bs x.0 x.1
 by_number_refers bs (Some more) b x ea eb e = refers_behind (codes "#x") bs more x refl ea (number_refers 16 more x refl e)
@@ -120,7 +120,7 @@ reference_refers bs x e =
 past_end : (inner rest : List ℕ) → list_all (is_other 59) inner ≡ true → decoded_from true (inner ++ (59 ∷ rest)) ≡ decoded_from false rest
 past_end [] rest h = refl
 past_end (b ∷ bs) rest h =
-    let both = and-true (is_other 59 b) (list_all (is_other 59) bs) h in
+    let both = and_parts (is_other 59 b) (list_all (is_other 59) bs) h in
     ap (λ (t : Bool). decoded_from t (bs ++ (59 ∷ rest))) both.0 ∙ past_end bs rest both.1
 
 -- A reference becomes its character, and decoding goes on after its `;`.
@@ -129,6 +129,32 @@ decoded-reference bs c rest e =
     let r = reference_refers bs (c, rest) e in
     let behind_it : decoded_from true bs ≡ decoded_from false rest = ap (decoded_from true) r.whole ∙ past_end r.inner rest r.no_end in
     rw (e, behind_it) refl
+
+-- ---- decoding of a value without references and without white space but spaces
+
+blank_is_space : is_space 32 ≡ true
+unfolding is_space
+blank_is_space = refl
+
+literal_is_no_space : (b : ℕ) → is_literal b ≡ true → eqb b 32 ≡ false → is_space b ≡ false
+unfolding is_space
+literal_is_no_space b h other = grind (arith, nat_tests)
+
+literal_byte : (b : ℕ) (bs : List ℕ) → is_literal b ≡ true → decoded_from false (b ∷ bs) ≡ b ∷ decoded_from false bs
+literal_byte b bs h =
+    let no_sign : eqb b 38 ≡ false = grind (arith, nat_tests) in
+    let no_return : eqb b 13 ≡ false = grind (arith, nat_tests) in
+    elim (cases_Bool (eqb b 32)) [
+      | inl blank ↦ rw (eqb-true b 32 blank, blank_is_space) refl
+      | inr other ↦ rw (no_sign, no_return, literal_is_no_space b h other) refl
+    ]
+
+-- Such a value decodes to itself.
+pub decoded_literal : (value : List ℕ) → list_all is_literal value ≡ true → decoded_value value ≡ value
+decoded_literal [] h = refl
+decoded_literal (b ∷ bs) h =
+    let both = and_parts (is_literal b) (list_all is_literal bs) h in
+    literal_byte b bs both.0 ∙ ap (λ (z : List ℕ). b ∷ z) (decoded_literal bs both.1)
 
 -- ---- decoding of UTF-8
 
@@ -151,9 +177,9 @@ encode_high : (c : ℕ) → 128 ≤ c → AreHigh (encode c)
 unfolding encode
 encode_high c h =
     let not_low : ltb c 128 ≡ false = grind (arith, nat_tests) in
-    elim (either (ltb c 2048)) [
+    elim (cases_Bool (ltb c 2048)) [
       | inl b ↦ rw (not_low, b) (omega arith, (omega arith, tt))
-      | inr b ↦ elim (either (ltb c 65536)) [
+      | inr b ↦ elim (cases_Bool (ltb c 65536)) [
         | inl d ↦ rw (not_low, b, d) (omega arith, (omega arith, (omega arith, tt)))
         | inr d ↦ rw (not_low, b, d) (omega arith, (omega arith, (omega arith, (omega arith, tt))))
       ]
@@ -174,11 +200,11 @@ character_utf8 bs (Some x) e = IsUtf8-encode x.0 (reference_refers bs x e).scala
 ascii_decodes : (in_reference : Bool) (b : ℕ) (rest : List ℕ) → b < 128 → ((s : Bool) → IsUtf8 (decoded_from s rest)) → IsUtf8 (decoded_from in_reference (b ∷ rest))
 ascii_decodes true b rest low go = go (not (eqb b 59))
 ascii_decodes false b rest low go =
-    elim (either (eqb b 38)) [
+    elim (cases_Bool (eqb b 38)) [
       | inl sign ↦ rw sign (IsUtf8-append (character_text (reference_at rest)) (decoded_from true rest) (character_utf8 rest (reference_at rest) refl) (go true))
-      | inr other ↦ elim (either (eqb b 13 && begins (10 ∷ []) rest)) [
+      | inr other ↦ elim (cases_Bool (eqb b 13 && begins (10 ∷ []) rest)) [
         | inl line ↦ rw (other, line) (go false)
-        | inr not_line ↦ elim (either (is_space b)) [
+        | inr not_line ↦ elim (cases_Bool (is_space b)) [
           | inl space ↦ rw (other, not_line, space) (ascii_utf8 32 (decoded_from false rest) (omega arith) (go false))
           | inr letter ↦ rw (other, not_line, letter) (ascii_utf8 b (decoded_from false rest) low (go false))
         ]
@@ -192,7 +218,7 @@ high_decodes false c rest high scalar_value go = rw (high_bytes (encode c) rest 
 all_decode : (cs : List ℕ) → all_scalars cs ≡ true → (s : Bool) → IsUtf8 (decoded_from s (encode_utf8_all cs))
 all_decode [] h s = IsUtf8-nil
 all_decode (c ∷ cs) h s =
-    let are = and-true (scalar c) (all_scalars cs) h in
+    let are = and_parts (scalar c) (all_scalars cs) h in
     elim (cases_lt c 128) [
       | inl low ↦ let P : List ℕ → Type 0 = λ z. IsUtf8 (decoded_from s (z ++ encode_utf8_all cs)) in subst P (sym (encode_ascii c low)) (ascii_decodes s c (encode_utf8_all cs) low (all_decode cs are.1))
       | inr high ↦ high_decodes s c (encode_utf8_all cs) high are.0 (all_decode cs are.1)

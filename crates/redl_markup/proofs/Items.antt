@@ -4,13 +4,14 @@ use Rattle.std.specs.Prelude.{not, ◌||◌, codes}
 use Rattle.redl_markup.specs.declared.place.Place.{Place}
 use Rattle.redl_markup.specs.declared.place.Place.TheVariants.{BeforeRoot, InElement, AfterRoot}
 use Rattle.redl_markup.specs.Characters.{is_space}
-use Rattle.redl_markup.specs.Lists.{behind, begins, lacks, past}
+use Rattle.redl_reading.specs.Lists.{behind, begins, lacks, past}
 use Rattle.redl_markup.specs.Stretches.{is_comment, begins_other, is_xml, is_apart, IsInstruction, Item, comment, instruction, cdata, item_then, IsItem, begins_item}
 use Rattle.redl_markup.specs.ScanNames.{word_at}
 use Rattle.redl_markup.specs.ScanStretches.{comment_at, begins_with_space, instruction_end, instruction_at, cdata_at, opened_at, item_at}
-use Rattle.redl_markup.proofs.Runs.{and-true, and-both, either, not-true}
-use Rattle.redl_markup.proofs.Words.{behind_takes, begins_some, past_here, past_later, past_takes, past_again}
-use Rattle.redl_markup.proofs.Names.{bind_some, ends_name, is_delimiter, word_takes, word_again}
+use Rattle.std.proofs.lemmas.Bool.{and_parts, and_from, cases_Bool, not-true}
+use Rattle.redl_reading.proofs.Words.{behind_takes, begins_some, past_here, past_later, past_takes, past_again}
+use Rattle.redl_markup.proofs.Names.{ends_name, is_delimiter, word_takes, word_again}
+use Rattle.redl_reading.proofs.Steps.{bind_some}
 use Rattle.redl_markup.proofs.Attributes.{space_ends_name}
 
 -- ---- comments
@@ -26,7 +27,7 @@ other_behind [] (d ∷ ds) r lacking e =
     absurd (let k : begins (codes "-") (d ∷ ds) ≡ true = rw h refl in cc)
 other_behind (d ∷ ds) (x ∷ xs) r lacking e =
     let heads : x ≡ d = cc in
-    elim (either (eqb d 45)) [
+    elim (cases_Bool (eqb d 45)) [
       | inl dash ↦ absurd (let k : begins (codes "-") (x ∷ xs) ≡ true = rw (heads, dash) refl in cc)
       | inr other ↦ rw other refl
     ]
@@ -34,7 +35,7 @@ other_behind (d ∷ ds) (x ∷ xs) r lacking e =
 -- a dash followed by another one is refused, and so is one at the end
 dash_behind : (b : ℕ) (c bs r : List ℕ) → begins (codes "--") (b ∷ bs) ≡ false → bs ≡ c ++ (45 ∷ 45 ∷ r) → (not (eqb b 45) || begins_other 45 c) ≡ true
 dash_behind b c bs r lacking e =
-    elim (either (eqb b 45)) [
+    elim (cases_Bool (eqb b 45)) [
       | inl dash ↦ rw dash (other_behind c bs r (rw dash at lacking) e)
       | inr other ↦ rw other refl
     ]
@@ -42,24 +43,24 @@ dash_behind b c bs r lacking e =
 dashes_take : (bs rest : List ℕ) → past (codes "--") bs ≡ Some rest → (c : List ℕ) × (bs ≡ c ++ (45 ∷ 45 ∷ rest)) × (is_comment c ≡ true)
 dashes_take [] rest e = absurd cc
 dashes_take (b ∷ bs) rest e =
-    elim (either (begins (codes "--") (b ∷ bs))) [
+    elim (cases_Bool (begins (codes "--") (b ∷ bs))) [
       | inl here ↦
           let r = begins_some (codes "--") (b ∷ bs) here in
           let same : Some r.0 ≡ Some rest = sym (past_here (codes "--") (b ∷ bs) r.0 r.1 (λ h. cc)) ∙ e in
           ([], behind_takes (codes "--") (b ∷ bs) rest (r.1 ∙ same), refl)
       | inr lacking ↦
           let t = dashes_take bs rest (sym (past_later (codes "--") b bs lacking) ∙ e) in
-          (b ∷ t.0, ap (λ (z : List ℕ). b ∷ z) t.1, and-both _ _ (dash_behind b t.0 bs rest lacking t.1) t.2)
+          (b ∷ t.0, ap (λ (z : List ℕ). b ∷ z) t.1, and_from _ _ (dash_behind b t.0 bs rest lacking t.1) t.2)
     ]
 
 no_dash_here : (b : ℕ) (c r : List ℕ) → (not (eqb b 45) || begins_other 45 c) ≡ true → begins (codes "--") (b ∷ (c ++ (45 ∷ 45 ∷ r))) ≡ false
 no_dash_here b [] r h =
-    elim (either (eqb b 45)) [
+    elim (cases_Bool (eqb b 45)) [
       | inl dash ↦ absurd (let k = rw dash at h in cc)
       | inr other ↦ rw other refl
     ]
 no_dash_here b (d ∷ ds) r h =
-    elim (either (eqb b 45)) [
+    elim (cases_Bool (eqb b 45)) [
       | inl dash ↦ rw (dash, not-true (eqb d 45) (rw dash at h)) refl
       | inr other ↦ rw other refl
     ]
@@ -67,7 +68,7 @@ no_dash_here b (d ∷ ds) r h =
 dashes_again : (c rest : List ℕ) → is_comment c ≡ true → past (codes "--") (c ++ (45 ∷ 45 ∷ rest)) ≡ Some rest
 dashes_again [] rest h = refl
 dashes_again (b ∷ bs) rest h =
-    let both = and-true (not (eqb b 45) || begins_other 45 bs) (is_comment bs) h in
+    let both = and_parts (not (eqb b 45) || begins_other 45 bs) (is_comment bs) h in
     past_later (codes "--") b (bs ++ (45 ∷ 45 ∷ rest)) (no_dash_here b bs rest both.0) ∙ dashes_again bs rest both.1
 
 comment_takes : (bs rest : List ℕ) → comment_at bs ≡ Some rest → (c : List ℕ) × (bs ≡ c ++ (codes "-->" ++ rest)) × (is_comment c ≡ true)
@@ -84,13 +85,13 @@ comment_again c rest h = rw (dashes_again c (62 ∷ rest) h) refl
 -- ---- instructions
 
 mark_apart : (b : ℕ) (t rest : List ℕ) → begins (codes "?>") (b ∷ t) ≡ false → begins (codes "?>") (b ∷ (t ++ (codes "?>" ++ rest))) ≡ false
-mark_apart b [] rest h = elim (either (eqb b 63)) [ inl e ↦ rw e refl | inr e ↦ rw e refl ]
+mark_apart b [] rest h = elim (cases_Bool (eqb b 63)) [ inl e ↦ rw e refl | inr e ↦ rw e refl ]
 mark_apart b (c ∷ t) rest h = h
 
 instruction_end_takes : (bs rest : List ℕ) → instruction_end bs ≡ Some rest → (t : List ℕ) × (bs ≡ t ++ (codes "?>" ++ rest)) × (is_apart t ≡ true) × (lacks (codes "?>") t ≡ true)
 unfolding instruction_end
 instruction_end_takes bs rest e =
-    elim (either (begins (codes "?>") bs)) [
+    elim (cases_Bool (begins (codes "?>") bs)) [
       | inl here ↦
           let r = begins_some (codes "?>") bs here in
           let found : past (codes "?>") bs ≡ Some rest = rw here at e in
@@ -122,7 +123,7 @@ instruction_end_again [] rest apart h = refl
 instruction_end_again (b ∷ t) rest apart h =
     let found = past_again 63 (62 ∷ []) (b ∷ t) rest mark_apart h in
     let shut = begins (codes "?>") (b ∷ (t ++ (codes "?>" ++ rest))) in
-    elim (either shut) [
+    elim (cases_Bool shut) [
       | inl e ↦ rw e found
       | inr e ↦ rw (e, apart) found
     ]
@@ -155,10 +156,10 @@ instruction_again name text rest h =
 -- ---- CDATA
 
 brackets_apart : (b : ℕ) (t rest : List ℕ) → begins (codes "]]>") (b ∷ t) ≡ false → begins (codes "]]>") (b ∷ (t ++ (codes "]]>" ++ rest))) ≡ false
-brackets_apart b [] rest h = elim (either (eqb b 93)) [ inl e ↦ rw e refl | inr e ↦ rw e refl ]
+brackets_apart b [] rest h = elim (cases_Bool (eqb b 93)) [ inl e ↦ rw e refl | inr e ↦ rw e refl ]
 brackets_apart b (c ∷ []) rest h =
-    elim (either (eqb b 93)) [
-      | inl e ↦ elim (either (eqb c 93)) [ inl f ↦ rw (e, f) refl | inr f ↦ rw (e, f) refl ]
+    elim (cases_Bool (eqb b 93)) [
+      | inl e ↦ elim (cases_Bool (eqb c 93)) [ inl f ↦ rw (e, f) refl | inr f ↦ rw (e, f) refl ]
       | inr e ↦ rw e refl
     ]
 brackets_apart b (c ∷ d ∷ t) rest h = h

@@ -1,7 +1,4 @@
-pub mod Runs
-pub mod Words
 pub mod Places
-pub mod Turns
 pub mod Names
 pub mod Attributes
 pub mod Items

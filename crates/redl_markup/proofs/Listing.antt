@@ -2,17 +2,18 @@
 use Rattle.std.proofs.Common.{◌≡◌, ℕ, inl, inr, zero, suc, ◌<◌, Bool, List, [], ◌∷◌, ◌++◌, length, map, Option, Some, None, refl, sym, ap, ◌∙◌, arith, true}
 use Rattle.std.specs.Prelude.{IfSome, IsNone, ◌&&◌}
 use Rattle.std.specs.List.{AllByRecursion, list_all}
-use Rattle.redl_markup.specs.Reading.{Gives}
+use Rattle.redl_reading.specs.Steps.{Gives}
 use Rattle.std.proofs.lemmas.List.{append-nil}
 use Rattle.redl_markup.specs.Characters.{is_space}
-use Rattle.redl_markup.specs.Lists.{front, after, before, is_filled}
+use Rattle.redl_reading.specs.Lists.{front, after, before, is_filled}
 use Rattle.redl_markup.specs.Names.{Name, name_text}
 use Rattle.redl_markup.specs.Tails.{IsSpace, Attribute, attribute_then, attributes_then, IsAttribute, IsTail, named_value}
 use Rattle.redl_markup.specs.ScanNames.{name_at, char_at, word_at}
 use Rattle.redl_markup.specs.ScanTags.{attribute_at, attribute_in, Tail, attributes_at}
 use Rattle.redl_markup.specs.Attributes.{attributes_by, attributes_from, attributes_of, names_in}
-use Rattle.redl_markup.proofs.Runs.{after_again, either, and-true, and-both}
-use Rattle.redl_markup.proofs.Words.{before-append}
+use Rattle.redl_reading.proofs.Runs.{after_again}
+use Rattle.std.proofs.lemmas.Bool.{cases_Bool, and_parts, and_from}
+use Rattle.redl_reading.proofs.Words.{before-append}
 use Rattle.redl_markup.proofs.Attributes.{first_again, first_shorter, tail_takes_turns, first_takes}
 use Rattle.redl_markup.proofs.Tags.{attributes_then-append}
 use Rattle.std.proofs.lemmas.List.Folds.{list_all-append}
@@ -44,7 +45,7 @@ none_in_space : (space : List ℕ) → IsSpace space → attribute_in space ≡ 
 unfolding attribute_in
 none_in_space space h =
     let left : after is_space space ≡ [] = ap (after is_space) (sym (append-nil space)) ∙ after_again is_space space [] h refl in
-    elim (either (is_filled (front is_space space))) [
+    elim (cases_Bool (is_filled (front is_space space))) [
       | inl filled ↦ rw (filled, left) none_in_nothing
       | inr lacks ↦ rw lacks refl
     ]
@@ -79,7 +80,7 @@ names_listed bs x e =
 -- ---- the bytes of names
 
 parts_pass : (p : ℕ → Bool) (xs ys : List ℕ) → list_all p (xs ++ ys) ≡ true → (list_all p xs ≡ true) × (list_all p ys ≡ true)
-parts_pass p xs ys h = and-true (list_all p xs) (list_all p ys) (sym (list_all-append p xs ys) ∙ h)
+parts_pass p xs ys h = and_parts (list_all p xs) (list_all p ys) (sym (list_all-append p xs ys) ∙ h)
 
 -- the bytes of a name's two parts pass
 abbrev pub name_passes : (ℕ → Bool) → Name → Bool
@@ -89,14 +90,14 @@ text_passes : (p : ℕ → Bool) (prefix local : List ℕ) → list_all p (name_
 text_passes p [] local h = h
 text_passes p (b ∷ bs) local h =
     let both = parts_pass p (b ∷ bs) (58 ∷ local) h in
-    and-both (list_all p (b ∷ bs)) (list_all p local) both.0 (and-true (p 58) (list_all p local) both.1).1
+    and_from (list_all p (b ∷ bs)) (list_all p local) both.0 (and_parts (p 58) (list_all p local) both.1).1
 
 first_passes : (p : ℕ → Bool) (a : Attribute) (rest : List ℕ) → list_all p (attribute_then a rest) ≡ true → (name_passes p a.name ≡ true) × (list_all p rest ≡ true)
 first_passes p a rest h =
     let named = parts_pass p (name_text a.name) _ (parts_pass p a.gap _ h).1 in
-    let equated = (and-true (p 61) _ (parts_pass p a.left _ named.1).1).1 in
-    let quoted = (and-true (p a.quote) _ (parts_pass p a.right _ equated).1).1 in
-    (text_passes p a.name.prefix a.name.local named.0, (and-true (p a.quote) _ (parts_pass p a.value _ quoted).1).1)
+    let equated = (and_parts (p 61) _ (parts_pass p a.left _ named.1).1).1 in
+    let quoted = (and_parts (p a.quote) _ (parts_pass p a.right _ equated).1).1 in
+    (text_passes p a.name.prefix a.name.local named.0, (and_parts (p a.quote) _ (parts_pass p a.value _ quoted).1).1)
 
 names_pass_from : (p : ℕ → Bool) (n : ℕ) (tail : List ℕ) → list_all p tail ≡ true → list_all (λ a. name_passes p a.0) (attributes_from n tail) ≡ true
 names_pass_from p zero tail h = refl
@@ -107,7 +108,7 @@ names_pass_from p (suc n) tail h = of (attribute_in tail) refl (names_pass_from 
       let t = first_takes tail x e in
       let passed = first_passes p t.0 x.1 (sym (ap (list_all p) t.1) ∙ h) in
       let name : t.0.name ≡ x.0.0 = ap (λ (v : Name × List ℕ). v.0) t.3 in
-      and-both (name_passes p x.0.0) (list_all (λ a. name_passes p a.0) (attributes_from n x.1)) (sym (ap (name_passes p) name) ∙ passed.0) (go x.1 passed.1)
+      and_from (name_passes p x.0.0) (list_all (λ a. name_passes p a.0) (attributes_from n x.1)) (sym (ap (name_passes p) name) ∙ passed.0) (go x.1 passed.1)
 
 -- If all bytes of a tail pass, so do those of its attributes' names.
 pub names_pass : (p : ℕ → Bool) (tail : List ℕ) → list_all p tail ≡ true → list_all (λ a. name_passes p a.0) (attributes_of tail) ≡ true

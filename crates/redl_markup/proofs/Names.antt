@@ -4,7 +4,7 @@ use Rattle.std.specs.Prelude.{◌&&◌, ◌||◌, not, codes, encode_utf8}
 use Rattle.std.specs.List.{list_all}
 use Rattle.std.specs.Str.{encode_utf8_all, all_scalars}
 use Rattle.std.specs.Char.{IsScalar, is_ascii, is_ascii_alphabetic}
-use Rattle.std.proofs.lemmas.Bool.{leb-true, le-leb, ltb-true}
+use Rattle.std.proofs.lemmas.Bool.{leb-true, le-leb, ltb-true, not-true, and_parts, and_from, cases_Bool}
 use Rattle.std.proofs.lemmas.Bool.Decides.{nat_tests}
 use Rattle.std.proofs.lemmas.Option.{same_Some, cond_some}
 use Rattle.std.proofs.lemmas.List.{drop_at}
@@ -14,18 +14,14 @@ use Rattle.bstr.specs.Utf8.{decoded}
 use Rattle.bstr.proofs.lemmas.SoundLemmas.{SpellsChar-decoded}
 use Rattle.bstr.proofs.lemmas.EncodeLemmas.{decoded-encode}
 use Rattle.redl_markup.specs.Characters.{is_space, is_name_start, is_name_character}
-use Rattle.redl_markup.specs.Lists.{behind, after, before}
-use Rattle.redl_markup.specs.Reading.{◌>>=◌, done, next, turn, turns}
+use Rattle.redl_reading.specs.Lists.{behind, after, before}
+use Rattle.redl_reading.specs.Steps.{◌>>=◌, done, next, turn, turns}
 use Rattle.redl_markup.specs.Names.{may_start, may_follow, IsWord, Name, name_text, IsName}
 use Rattle.redl_markup.specs.ScanNames.{taken, char_at, is_name_byte, name_step, name_end, behind_start, word_at, local_at, name_at}
-use Rattle.redl_markup.proofs.Runs.{stops, after_stops, not-true, and-true, and-both, either}
-use Rattle.redl_markup.proofs.Words.{behind_takes, before-append}
-use Rattle.redl_markup.proofs.Turns.{Going, begins, goes_on, ends}
-
--- the value of a step that did not fail
-pub bind_some : {A B : Type 0} (r : Option A) (f : A → Option B) (y : B) → (r >>= f) ≡ Some y → (x : A) × (r ≡ Some x) × (f x ≡ Some y)
-bind_some None f y e = absurd cc
-bind_some (Some x) f y e = (x, refl, e)
+use Rattle.redl_reading.proofs.Runs.{stops, after_stops}
+use Rattle.redl_reading.proofs.Words.{behind_takes, before-append}
+use Rattle.redl_reading.proofs.Steps.{bind_some}
+use Rattle.redl_reading.proofs.Turns.{Going, begins, goes_on, ends}
 
 -- ---- characters
 
@@ -40,11 +36,11 @@ taken_some (Some c) r x e = let same = same_Some (c, r) x e in (ap (λ (y : ℕ 
 encode_head : (c : ℕ) → 65 ≤ c → (b : ℕ) × (t : List ℕ) × (65 ≤ b) × (encode c ≡ b ∷ t)
 unfolding encode
 encode_head c h =
-    elim (either (ltb c 128)) [
+    elim (cases_Bool (ltb c 128)) [
       | inl a ↦ (c, [], h, rw a refl)
-      | inr a ↦ elim (either (ltb c 2048)) [
+      | inr a ↦ elim (cases_Bool (ltb c 2048)) [
         | inl b ↦ (192 + c / 64, (128 + c % 64) ∷ [], omega arith, rw (a, b) refl)
-        | inr b ↦ elim (either (ltb c 65536)) [
+        | inr b ↦ elim (cases_Bool (ltb c 65536)) [
           | inl d ↦ (224 + c / 4096, (128 + c / 64 % 64) ∷ (128 + c % 64) ∷ [], omega arith, rw (a, b, d) refl)
           | inr d ↦ (240 + c / 262144, (128 + c / 4096 % 64) ∷ (128 + c / 64 % 64) ∷ (128 + c % 64) ∷ [], omega arith, rw (a, b, d) refl)
         ]
@@ -54,11 +50,11 @@ encode_head c h =
 encode_filled : (c : ℕ) → 0 < length (encode c)
 unfolding encode
 encode_filled c =
-    elim (either (ltb c 128)) [
+    elim (cases_Bool (ltb c 128)) [
       | inl a ↦ rw a (omega arith)
-      | inr a ↦ elim (either (ltb c 2048)) [
+      | inr a ↦ elim (cases_Bool (ltb c 2048)) [
         | inl b ↦ rw (a, b) (omega arith)
-        | inr b ↦ elim (either (ltb c 65536)) [ inl d ↦ rw (a, b, d) (omega arith) | inr d ↦ rw (a, b, d) (omega arith) ]
+        | inr b ↦ elim (cases_Bool (ltb c 65536)) [ inl d ↦ rw (a, b, d) (omega arith) | inr d ↦ rw (a, b, d) (omega arith) ]
       ]
     ]
 
@@ -162,7 +158,7 @@ take_turns colons (suc n) bs rest e = by_char n bs rest (char_at bs) refl e (tak
   by_char : (n : ℕ) (bs rest : List ℕ) (o : Option (ℕ × List ℕ)) → char_at bs ≡ o → turn (name_step colons bs) (turns (name_step colons) n) ≡ Some rest → ((b r : List ℕ) → turns (name_step colons) n b ≡ Some r → Reads colons b r) → Reads colons bs rest
   by_char n bs rest None g e go = ends_here bs rest (rw (step_stops colons bs g) at e)
   by_char n bs rest (Some x) g e go =
-      elim (either (may_follow colons x.0)) [
+      elim (cases_Bool (may_follow colons x.0)) [
         | inr other ↦ ends_here bs rest (rw (step_ends colons bs x g other) at e)
         | inl follows ↦
             let t = char_takes bs x g in
@@ -170,8 +166,8 @@ take_turns colons (suc n) bs rest e = by_char n bs rest (char_at bs) refl e (tak
             record {
               characters = x.0 ∷ more.characters;
               whole = t.0 ∙ ap (λ (z : List ℕ). encode_utf8 x.0 ++ z) more.whole ∙ sym (append_assoc (encode_utf8 x.0) (encode_utf8_all more.characters) rest);
-              each = and-both _ _ follows more.each;
-              scalars = and-both _ _ (scalar_is x.0 t.1) more.scalars;
+              each = and_from _ _ follows more.each;
+              scalars = and_from _ _ (scalar_is x.0 t.1) more.scalars;
             }
       ]
 
@@ -182,8 +178,8 @@ again_turns colons [] (suc n) rest lt each scalars stop = by_char (char_at rest)
   by_char None g = rw (step_stops colons rest g) refl
   by_char (Some x) g = rw (step_ends colons rest x g (stop x g)) refl
 again_turns colons (c ∷ cs) (suc n) rest lt each scalars stop =
-    let both = and-true (may_follow colons c) (list_all (may_follow colons) cs) each in
-    let are = and-true (scalar c) (all_scalars cs) scalars in
+    let both = and_parts (may_follow colons c) (list_all (may_follow colons) cs) each in
+    let are = and_parts (scalar c) (all_scalars cs) scalars in
     let regrouped : encode_utf8_all (c ∷ cs) ++ rest ≡ encode_utf8 c ++ (encode_utf8_all cs ++ rest) = append_assoc (encode_utf8 c) (encode_utf8_all cs) rest in
     let step = step_goes colons (encode_utf8 c ++ (encode_utf8_all cs ++ rest)) (c, encode_utf8_all cs ++ rest) (char_again c (encode_utf8_all cs ++ rest) are.0) both.0 in
     ap (turns (name_step colons) (suc n)) regrouped ∙ rw step (again_turns colons cs n rest (omega arith) both.1 are.1 stop)
@@ -207,12 +203,12 @@ word_takes colons bs x e =
     let cut : before bs r.0 ≡ w = ap (λ (z : List ℕ). before z r.0) whole ∙ before-append w r.0 in
     let P : List ℕ × List ℕ → Type 0 = λ y. (bs ≡ y.0 ++ y.1) × IsWord colons y.0 in
     subst P (ap (λ (z : List ℕ). (z, r.0)) (sym cut) ∙ c.1)
-    (whole, record { first = f.0.0; more = m.characters; start = c.0; each = m.each; scalars = and-both _ _ (scalar_is f.0.0 t.1) m.scalars; whole = refl })
+    (whole, record { first = f.0.0; more = m.characters; start = c.0; each = m.each; scalars = and_from _ _ (scalar_is f.0.0 t.1) m.scalars; whole = refl })
 
 word_before : (colons : Bool) (w rest : List ℕ) → IsWord colons w → Stops colons rest → word_at colons (w ++ rest) ≡ Some (w, rest)
 unfolding word_at name_end
 word_before colons w rest h stop =
-    let are = and-true (scalar h.first) (all_scalars h.more) h.scalars in
+    let are = and_parts (scalar h.first) (all_scalars h.more) h.scalars in
     let inner : List ℕ = encode_utf8_all h.more ++ rest in
     let regrouped : w ++ rest ≡ encode_utf8 h.first ++ inner = ap (λ (z : List ℕ). z ++ rest) h.whole ∙ append_assoc (encode_utf8 h.first) (encode_utf8_all h.more) rest in
     let first : char_at (w ++ rest) ≡ Some (h.first, inner) = ap char_at regrouped ∙ char_again h.first inner are.0 in
@@ -300,14 +296,14 @@ loop_stops colons rest bs g e = ends (name_step colons) length rest (Some rest) 
 name_byte_goes : (colons : Bool) (b : ℕ) (bs : List ℕ) → is_name_byte colons b ≡ true → name_end colons (b ∷ bs) ≡ name_end colons bs
 unfolding name_end is_name_byte
 name_byte_goes colons b bs h =
-    let both = and-true (nat_le b 127) (may_follow colons b) h in
+    let both = and_parts (nat_le b 127) (may_follow colons b) h in
     rw (step_goes colons (b ∷ bs) (b, bs) (ascii_again b bs (omega (arith, leb-true b 127 both.0))) both.1) refl
 
 -- a name ends where its rest after the ASCII characters ends
 end_behind_bytes : (colons : Bool) (bs : List ℕ) → name_end colons bs ≡ name_end colons (after (is_name_byte colons) bs)
 end_behind_bytes colons [] = refl
 end_behind_bytes colons (b ∷ bs) =
-    elim (either (is_name_byte colons b)) [
+    elim (cases_Bool (is_name_byte colons b)) [
       | inl goes ↦ rw goes (name_byte_goes colons b bs goes ∙ end_behind_bytes colons bs)
       | inr stays ↦ rw stays refl
     ]
@@ -357,7 +353,7 @@ word_fails colons bs e = by_char (char_at bs) e where
   by_char : (o : Option (ℕ × List ℕ)) → (o >>= λ x. cond (may_start colons x.0) (Some x.1) None) ≡ None → ◌>>=◌ {B = List ℕ × List ℕ} o (λ x. name_end colons x.1 >>= λ rest. cond (may_start colons x.0) (Some (before bs rest, rest)) None) ≡ None
   by_char None e = refl
   by_char (Some x) e =
-      elim (either (may_start colons x.0)) [
+      elim (cases_Bool (may_start colons x.0)) [
         | inl starts ↦ absurd (let k : Some x.1 ≡ None = rw starts at e in cc)
         | inr other ↦ nothing (name_end colons x.1) (λ rest. cond (may_start colons x.0) (Some (before bs rest, rest)) None) (λ rest. rw other refl)
       ]

@@ -5,14 +5,13 @@ use Rattle.std.proofs.Common.{Bool, true, false, None, subst}
 use Rattle.std.specs.Prelude.{◌&&◌}
 use Rattle.std.specs.Char.{IsScalar, digit_value}
 use Rattle.std.specs.Prelude.{map}
-use Rattle.std.proofs.lemmas.Bool.{cases_lt}
+use Rattle.std.proofs.lemmas.Bool.{cases_lt, cases_Bool}
 use lib.Utf8.{scalar_cases}
 use Rattle.redl_markup.specs.declared.reference.TheConstants.{BEYOND}
 use Rattle.redl_markup.specs.Characters.{is_character}
-use Rattle.redl_markup.specs.Lists.{front, is_filled}
+use Rattle.redl_reading.specs.Lists.{front, is_filled}
 use Rattle.redl_markup.specs.References.{is_digit_in, number_of, number_at}
 use Rattle.redl_markup.proofs.Characters.{character_scalar}
-use Rattle.redl_markup.proofs.Runs.{either}
 
 step_grows : (b m d : ℕ) → 0 < b → m ≤ m * b + d
 step_grows b m d pos = grind arith
@@ -39,7 +38,7 @@ number_step base number first v left rest pos split e = rw (split, e) (number_ca
 pub number_refused : (base n : ℕ) (bs digits : List ℕ) → digits ≡ front (is_digit_in base) bs → n ≡ min (number_of base digits) BEYOND → (IsScalar n → ⊥) → number_at base bs ≡ None
 unfolding number_at
 number_refused base n bs digits e f other =
-    elim (either (is_character (number_of base (front (is_digit_in base) bs)))) [
+    elim (cases_Bool (is_character (number_of base (front (is_digit_in base) bs)))) [
       | inl character ↦
           let v = number_of base (front (is_digit_in base) bs) in
           let low = scalar_cases v (character_scalar v character) in

@@ -3,12 +3,12 @@ use Rattle.std.proofs.Common.{◌≡◌, ◌≢◌, ℕ, ◌<◌, ◌≤◌, Boo
 use Rattle.std.specs.Prelude.{not, ◌&&◌, ◌||◌, codes, IfOk, IsErrOf}
 use Rattle.std.specs.List.{list_all}
 use Rattle.std.proofs.lemmas.Bool.Decides.{nat_tests}
-use Rattle.std.proofs.lemmas.Bool.{eqb-true}
+use Rattle.std.proofs.lemmas.Bool.{eqb-true, and_parts, cases_Bool, not-true}
 use Rattle.std.proofs.lemmas.Option.{some_pair_parts}
 use Rattle.redl_markup.specs.declared.error.MarkupError.{MarkupError}
 use Rattle.redl_markup.specs.declared.error.MarkupError.TheVariants.{Unreadable, NoMemory}
 use Rattle.redl_markup.specs.declared.place.Place.{Place}
-use Rattle.redl_markup.specs.Lists.{behind, begins, is_other}
+use Rattle.redl_reading.specs.Lists.{behind, begins, is_other}
 use Rattle.redl_markup.specs.Reading.{Finds}
 use Rattle.redl_markup.specs.Names.{Name, name_text, IsName}
 use Rattle.redl_markup.specs.Stretches.{Item, items_then, Head, Declaration, head_then, begins_item, ends_stretch}
@@ -16,8 +16,7 @@ use Rattle.redl_markup.specs.Pieces.{Piece, start_tag, empty_tag, end_tag, stret
 use Rattle.redl_markup.specs.ScanTags.{tag_at, end_tag_at}
 use Rattle.redl_markup.specs.ScanStretches.{stretch_at}
 use Rattle.redl_markup.specs.ScanPieces.{tag_or_stretch, piece_at}
-use Rattle.redl_markup.proofs.Runs.{and-true, either, not-true}
-use Rattle.redl_markup.proofs.Words.{behind_takes}
+use Rattle.redl_reading.proofs.Words.{behind_takes}
 use Rattle.redl_markup.proofs.Names.{name_head}
 use Rattle.redl_markup.proofs.Items.{item_begins}
 use Rattle.redl_markup.proofs.Tags.{IsTag, tag_takes, start_again, empty_again, end_takes, end_again}
@@ -40,7 +39,7 @@ stretch_stands place bs x e =
 cases_take : (place : Place) (bs : List ℕ) (x : Piece × List ℕ) (a b : Option (List ℕ)) → behind (codes "</") bs ≡ a → behind (codes "<") bs ≡ b → tag_or_stretch place bs a b ≡ Some x → Stands place bs x.0 x.1
 cases_take place bs x (Some rest) b ea eb e = let t = end_takes rest x e in tag_stands place bs x.0 x.1 (behind_takes (codes "</") bs rest ea ∙ t.0) t.1
 cases_take place bs x None (Some rest) ea eb e =
-    elim (either (begins_item bs)) [
+    elim (cases_Bool (begins_item bs)) [
       | inl begun ↦ stretch_stands place bs x (rw begun at e)
       | inr lacks ↦ let t = tag_takes rest x (rw lacks at e) in tag_stands place bs x.0 x.1 (behind_takes (codes "<") bs rest eb ∙ t.0) t.1
     ]
@@ -78,10 +77,10 @@ Begins bs = (behind (codes "<") bs ≡ None) ⊎ (begins_item bs ≡ true)
 
 item_is_no_end : (bs : List ℕ) → begins_item bs ≡ true → behind (codes "</") bs ≡ None
 item_is_no_end [] e = refl
-item_is_no_end (b ∷ []) e = elim (either (eqb b 60)) [ inl y ↦ rw y refl | inr n ↦ rw n refl ]
+item_is_no_end (b ∷ []) e = elim (cases_Bool (eqb b 60)) [ inl y ↦ rw y refl | inr n ↦ rw n refl ]
 item_is_no_end (b ∷ c ∷ bs) e =
-    elim (either (eqb b 60)) [
-      | inl y ↦ elim (either (eqb c 47)) [ inl z ↦ absurd (slash c z bs (rw y at e)) | inr z ↦ rw (y, z) refl ]
+    elim (cases_Bool (eqb b 60)) [
+      | inl y ↦ elim (cases_Bool (eqb c 47)) [ inl z ↦ absurd (slash c z bs (rw y at e)) | inr z ↦ rw (y, z) refl ]
       | inr n ↦ rw n refl
     ] where
       slash : (c : ℕ) → eqb c 47 ≡ true → (bs : List ℕ) → ((eqb c 33 && begins [] bs) || (eqb c 63 && begins [] bs)) ≡ true → ⊥
@@ -90,7 +89,7 @@ item_is_no_end (b ∷ c ∷ bs) e =
 no_tag_no_end : (bs : List ℕ) → behind (codes "<") bs ≡ None → behind (codes "</") bs ≡ None
 no_tag_no_end [] e = refl
 no_tag_no_end (b ∷ bs) e =
-    elim (either (eqb b 60)) [
+    elim (cases_Bool (eqb b 60)) [
       | inl tag ↦ absurd (let k = rw tag at e in let h : None ≡ Some bs = sym k in cc)
       | inr other ↦ rw other refl
     ]
@@ -108,7 +107,7 @@ content_begins : (first : List ℕ) (more : List (Item × List ℕ)) (rest : Lis
 content_begins [] [] rest h filled = absurd (filled refl)
 content_begins [] (i ∷ more) rest h filled = inr (item_begins i.0 (i.1 ++ items_then more rest))
 content_begins (b ∷ bs) more rest h filled =
-    let other = not-true (eqb b 60) (and-true (is_other 60 b) (list_all (is_other 60) bs) h).0 in
+    let other = not-true (eqb b 60) (and_parts (is_other 60 b) (list_all (is_other 60) bs) h).0 in
     inl (rw other refl)
 
 head_begins : (marked : Bool) (declaration : Option Declaration) (first : List ℕ) (more : List (Item × List ℕ)) (rest : List ℕ) → list_all (is_other 60) first ≡ true

@@ -1,37 +1,18 @@
--- The places where a byte occurs: what lies between them is skipped.
-use Rattle.std.proofs.Common.{◌≡◌, ℕ, ◌<◌, ◌≤◌, eqb, List, [], ◌∷◌, length, Option, Some, None, refl, sym, ap, ◌∙◌, inl, inr, arith}
+-- The places of `&`: what comes before the first one has no reference.
+use Rattle.std.proofs.Common.{◌≡◌, ℕ, ◌<◌, eqb, List, [], ◌∷◌, length, Option, Some, None, refl, sym, ap, ◌∙◌, inl, inr, arith}
 use Rattle.std.specs.Prelude.{◌&&◌, true}
-use Rattle.redl_markup.specs.Lists.{behind, lacks, after, is_other}
+use Rattle.redl_reading.specs.Lists.{behind, after, is_other}
 use Rattle.std.specs.Option.{is_some}
-use Rattle.redl_markup.specs.Reading.{Gives}
+use Rattle.redl_reading.specs.Steps.{Gives}
 use Rattle.redl_markup.specs.References.{is_there, reference_at, has_references}
-use Rattle.redl_markup.proofs.Runs.{either}
-use Rattle.redl_markup.proofs.Words.{behind_takes}
-
-pub after_fits : (byte : ℕ) (bs : List ℕ) → length (after (is_other byte) bs) ≤ length bs
-after_fits byte [] = omega arith
-after_fits byte (b ∷ bs) =
-    elim (either (eqb b byte)) [
-      | inl same ↦ rw same (omega arith)
-      | inr other ↦ rw other (omega (arith, after_fits byte bs))
-    ]
-
-after_here : (byte b : ℕ) (bs : List ℕ) → eqb b byte ≡ true → after (is_other byte) (b ∷ bs) ≡ b ∷ bs
-after_here byte b bs same = rw same refl
-
--- A word occurs nowhere before its first byte.
-pub lacks_after : (w : ℕ) (ws bs : List ℕ) → lacks (w ∷ ws) (after (is_other w) bs) ≡ lacks (w ∷ ws) bs
-lacks_after w ws [] = refl
-lacks_after w ws (b ∷ bs) =
-    elim (either (eqb b w)) [
-      | inl same ↦ ap (lacks (w ∷ ws)) (after_here w b bs same)
-      | inr other ↦ rw other (lacks_after w ws bs)
-    ]
+use Rattle.std.proofs.lemmas.Bool.{cases_Bool}
+use Rattle.redl_reading.proofs.Runs.{after_fits, after_here}
+use Rattle.redl_reading.proofs.Words.{behind_takes}
 
 references_after : (bs : List ℕ) → has_references (after (is_other 38) bs) ≡ has_references bs
 references_after [] = refl
 references_after (b ∷ bs) =
-    elim (either (eqb b 38)) [
+    elim (cases_Bool (eqb b 38)) [
       | inl same ↦ ap has_references (after_here 38 b bs same)
       | inr other ↦ rw other (references_after bs)
     ]
@@ -40,7 +21,7 @@ references_after (b ∷ bs) =
 pub references_none : (bs : List ℕ) → behind (38 ∷ []) (after (is_other 38) bs) ≡ None → has_references bs ≡ true
 references_none [] e = refl
 references_none (b ∷ bs) e =
-    elim (either (eqb b 38)) [
+    elim (cases_Bool (eqb b 38)) [
       | inl same ↦ absurd (let k = rw same at e in cc)
       | inr other ↦ rw other (references_none bs (rw other at e))
     ]

@@ -5,15 +5,16 @@ use Rattle.std.specs.List.{AllByRecursion}
 use Rattle.std.proofs.lemmas.Option.{same_Some, cond_some}
 use Rattle.redl_markup.specs.declared.place.Place.{Place}
 use Rattle.redl_markup.specs.declared.place.Place.TheVariants.{BeforeRoot, InElement, AfterRoot}
-use Rattle.redl_markup.specs.Lists.{front, after, before, is_filled, is_other}
-use Rattle.redl_markup.specs.Reading.{done, next, turn, turns}
+use Rattle.redl_reading.specs.Lists.{front, after, before, is_filled, is_other}
+use Rattle.redl_reading.specs.Steps.{done, next, turn, turns}
 use Rattle.redl_markup.specs.Stretches.{is_run, IsRun, Item, comment, instruction, cdata, item_then, IsItem, items_then, Head, head_then, IsStretch, begins_item, ends_stretch}
 use Rattle.redl_markup.specs.Pieces.{Piece, stretch}
 use Rattle.redl_markup.specs.ScanStretches.{item_at, after_head, stretch_step, items_end, stretch_at}
-use Rattle.redl_markup.proofs.Runs.{stops, and-true, and-both, either, not-true, front-after, front_passes, after_stops, front_again, after_again}
-use Rattle.redl_markup.proofs.Words.{before-append}
-use Rattle.redl_markup.proofs.Turns.{Going, begins as begins_turns, goes_on, ends}
-use Rattle.redl_markup.proofs.Names.{bind_some}
+use Rattle.redl_reading.proofs.Runs.{stops, front-after, front_passes, after_stops, front_again, after_again}
+use Rattle.std.proofs.lemmas.Bool.{and_parts, and_from, cases_Bool, not-true}
+use Rattle.redl_reading.proofs.Words.{before-append}
+use Rattle.redl_reading.proofs.Turns.{Going, begins as begins_turns, goes_on, ends}
+use Rattle.redl_reading.proofs.Steps.{bind_some}
 use Rattle.redl_markup.proofs.Attributes.{is_filled-some, filled-is}
 use Rattle.redl_markup.proofs.Items.{item_takes, item_again, item_begins}
 use Rattle.redl_markup.proofs.Declarations.{NoHead, content_no_head, head_takes, head_again, head_then-append}
@@ -54,18 +55,18 @@ run_is place bs h = record { no_tag = front_passes no_tag bs; allowed = h }
 end_is : (rest : List ℕ) → stops no_tag rest ≡ true → begins_item rest ≡ false → ends_stretch rest ≡ true
 end_is [] s e = refl
 end_is (b ∷ bs) s e =
-    elim (either (eqb b 60)) [
-      | inl tag ↦ and-both _ _ tag (ap not e)
+    elim (cases_Bool (eqb b 60)) [
+      | inl tag ↦ and_from _ _ tag (ap not e)
       | inr other ↦ absurd (let k = rw other at s in cc)
     ]
 
 end_stops : (rest : List ℕ) → ends_stretch rest ≡ true → stops no_tag rest ≡ true
 end_stops [] h = refl
-end_stops (b ∷ bs) h = rw (and-true (eqb b 60) (not (begins_item (b ∷ bs))) h).0 refl
+end_stops (b ∷ bs) h = rw (and_parts (eqb b 60) (not (begins_item (b ∷ bs))) h).0 refl
 
 end_no_item : (rest : List ℕ) → ends_stretch rest ≡ true → begins_item rest ≡ false
 end_no_item [] h = refl
-end_no_item (b ∷ bs) h = not-true (begins_item (b ∷ bs)) (and-true (eqb b 60) (not (begins_item (b ∷ bs))) h).1
+end_no_item (b ∷ bs) h = not-true (begins_item (b ∷ bs)) (and_parts (eqb b 60) (not (begins_item (b ∷ bs))) h).1
 
 item_stops : (i : Item) (rest : List ℕ) → stops no_tag (item_then i rest) ≡ true
 item_stops (comment text) rest = refl
@@ -101,8 +102,8 @@ none_some x e = cc
 take_turns : (place : Place) (n : ℕ) (bs rest : List ℕ) → turns (stretch_step place) n bs ≡ Some rest → Reads place bs rest
 take_turns place zero bs rest e = absurd cc
 take_turns place (suc n) bs rest e =
-    elim (either (is_run place (front no_tag bs))) [
-      | inl r ↦ elim (either (begins_item (after no_tag bs))) [
+    elim (cases_Bool (is_run place (front no_tag bs))) [
+      | inl r ↦ elim (cases_Bool (begins_item (after no_tag bs))) [
         | inl begun ↦ by_item n bs rest r begun (item_at place (after no_tag bs)) refl e (take_turns place n)
         | inr lacks ↦ reads_end place bs rest r lacks (same_Some (after no_tag bs) rest (rw (step_ends place bs r lacks) at e))
       ]

@@ -5,16 +5,17 @@ use Rattle.std.specs.List.{AllByRecursion}
 use Rattle.std.proofs.lemmas.Bool.Decides.{nat_tests}
 use Rattle.std.proofs.lemmas.Option.{same_Some, cond_some}
 use Rattle.redl_markup.specs.Characters.{is_space}
-use Rattle.redl_markup.specs.Lists.{behind, front, after, before}
-use Rattle.redl_markup.specs.Reading.{◌>>=◌, turns}
+use Rattle.redl_reading.specs.Lists.{behind, front, after, before}
+use Rattle.redl_reading.specs.Steps.{◌>>=◌, turns}
 use Rattle.redl_markup.specs.Names.{Name, name_text, IsName, are_distinct}
 use Rattle.redl_markup.specs.Tails.{IsSpace, Attribute, attribute_then, attributes_then, IsAttribute, IsTail}
 use Rattle.redl_markup.specs.Pieces.{Piece, start_tag, empty_tag, end_tag, stretch, piece_then}
 use Rattle.redl_markup.specs.ScanNames.{name_at}
 use Rattle.redl_markup.specs.ScanTags.{ends_tag, tail_step, attributes_at, tail_at, start_at, tag_at, end_tag_at}
-use Rattle.redl_markup.proofs.Runs.{front-after, front_passes, front_again, after_again}
-use Rattle.redl_markup.proofs.Words.{behind_takes, before-append}
-use Rattle.redl_markup.proofs.Names.{bind_some, is_delimiter, ends_name, name_takes, name_again}
+use Rattle.redl_reading.proofs.Runs.{front-after, front_passes, front_again, after_again}
+use Rattle.redl_reading.proofs.Words.{behind_takes, before-append}
+use Rattle.redl_markup.proofs.Names.{is_delimiter, ends_name, name_takes, name_again}
+use Rattle.redl_reading.proofs.Steps.{bind_some}
 use Rattle.redl_markup.proofs.Attributes.{spaces_end_name, gap_ends_name, tail_takes_turns, tail_again_turns}
 
 -- ---- tails

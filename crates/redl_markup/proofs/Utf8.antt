@@ -3,19 +3,18 @@ use Rattle.std.proofs.Common.{◌≡◌, ◌≢◌, ℕ, ◌<◌, ◌+◌, Bool,
 use Rattle.std.specs.Prelude.{not, IfSome}
 use Rattle.std.specs.List.{list_all, AllByRecursion}
 use Rattle.std.specs.Str.{IsUtf8}
-use Rattle.std.proofs.lemmas.Bool.{eqb-true}
+use Rattle.std.proofs.lemmas.Bool.{eqb-true, and_parts}
 use Rattle.std.proofs.lemmas.Bool.Decides.{nat_tests}
 use Rattle.std.proofs.lemmas.List.{take_at, drop_at, get_or_at}
 use Rattle.std.proofs.lemmas.Str.{IsUtf8-nil, IsUtf8-take, IsUtf8-drop, IsCharBoundary-before_ascii, IsCharBoundary-after_ascii}
 use Rattle.redl_markup.specs.declared.place.Place.{Place}
 use Rattle.redl_markup.specs.Characters.{is_space}
-use Rattle.redl_markup.specs.Reading.{Gives}
+use Rattle.redl_reading.specs.Steps.{Gives}
 use Rattle.redl_markup.specs.Names.{Name, name_text, IsWord}
 use Rattle.redl_markup.specs.Tails.{IsSpace, Attribute, attribute_then, attributes_then, IsQuote, IsAttribute, IsTail}
 use Rattle.redl_markup.specs.Stretches.{begins_item, ends_stretch}
 use Rattle.redl_markup.specs.Pieces.{Piece, start_tag, empty_tag, end_tag, stretch, Stands}
 use Rattle.redl_markup.specs.ScanTags.{attribute_in}
-use Rattle.redl_markup.proofs.Runs.{and-true}
 use Rattle.redl_markup.proofs.Attributes.{first_takes}
 
 -- What is on either side of an ASCII byte is UTF-8.
@@ -78,12 +77,12 @@ first_is_utf8 view tail (Some x) e u =
 
 gap_head : (gap more : List ℕ) → (gap ≢ []) → IsSpace gap → (b : ℕ) × (t : List ℕ) × (b < 128) × (gap ++ more ≡ b ∷ t)
 gap_head [] more filled h = absurd (filled refl)
-gap_head (b ∷ bs) more filled h = (b, bs ++ more, space_low b (and-true (is_space b) (list_all is_space bs) h).0, refl)
+gap_head (b ∷ bs) more filled h = (b, bs ++ more, space_low b (and_parts (is_space b) (list_all is_space bs) h).0, refl)
 
 -- a tail is empty, or begins with white space
 tail_head : (attrs : List Attribute) (space : List ℕ) → AllByRecursion IsAttribute attrs → IsSpace space → (attributes_then attrs space ≡ []) ⊎ ((b : ℕ) × (t : List ℕ) × (b < 128) × (attributes_then attrs space ≡ b ∷ t))
 tail_head [] [] each h = inl refl
-tail_head [] (b ∷ bs) each h = inr (b, bs, space_low b (and-true (is_space b) (list_all is_space bs) h).0, refl)
+tail_head [] (b ∷ bs) each h = inr (b, bs, space_low b (and_parts (is_space b) (list_all is_space bs) h).0, refl)
 tail_head (a ∷ attrs) space each h = inr (gap_head a.gap _ each.0.gap.0 each.0.gap.1)
 
 tail_is_utf8 : (ahead tail : List ℕ) → IsTail tail → IsUtf8 (ahead ++ tail) → IsUtf8 tail
@@ -106,7 +105,7 @@ start_is_utf8 name tail b more low h u =
 rest_is_utf8 : (s rest : List ℕ) → ends_stretch rest ≡ true → IsUtf8 (s ++ rest) → IsUtf8 rest
 rest_is_utf8 s [] end u = IsUtf8-nil
 rest_is_utf8 s (b ∷ rest) end u =
-    let same : b ≡ 60 = eqb-true b 60 (and-true (eqb b 60) (not (begins_item (b ∷ rest))) end).0 in
+    let same : b ≡ 60 = eqb-true b 60 (and_parts (eqb b 60) (not (begins_item (b ∷ rest))) end).0 in
     (cut_ascii s b rest (omega arith) u).from
 
 abbrev pub TailIsUtf8 : Piece → Type 0

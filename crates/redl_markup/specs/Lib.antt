@@ -1,5 +1,4 @@
 pub mod Reading
-pub mod Lists
 pub mod Characters
 pub mod Names
 pub mod References

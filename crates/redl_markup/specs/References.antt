@@ -2,8 +2,8 @@
 use Rattle.std.specs.Prelude.{ℕ, Bool, true, false, ◌==◌, ◌&&◌, ◌||◌, List, [], ◌∷◌, Option, Some, None, if◌then◌else◌, codes, not, map}
 use Rattle.std.specs.Char.{digit_value, is_digit}
 use Rattle.std.specs.Int.Digits.{number_from_digits}
-use Rattle.redl_markup.specs.Lists.{behind, front, after, is_filled}
-use Rattle.redl_markup.specs.Reading.{or_else}
+use Rattle.redl_reading.specs.Lists.{behind, front, after, is_filled}
+use Rattle.redl_reading.specs.Steps.{or_else}
 use Rattle.redl_markup.specs.Characters.{is_character}
 
 abbrev pub valued : ℕ → Option (List ℕ) → Option (ℕ × List ℕ)

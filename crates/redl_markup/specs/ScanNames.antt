@@ -1,8 +1,8 @@
 -- Reading a name from the left.
 use Rattle.std.specs.Prelude.{ℕ, suc, Bool, false, ◌&&◌, nat_le, List, [], length, drop, Option, Some, None, if◌then◌else◌, codes}
 use Rattle.bstr.specs.Utf8.{decoded}
-use Rattle.redl_markup.specs.Lists.{behind, before}
-use Rattle.redl_markup.specs.Reading.{◌>>=◌, Turn, done, next, turns}
+use Rattle.redl_reading.specs.Lists.{behind, before}
+use Rattle.redl_reading.specs.Steps.{◌>>=◌, Turn, done, next, turns}
 use Rattle.redl_markup.specs.Names.{may_start, may_follow, Name}
 
 abbrev pub taken : Option ℕ → List ℕ → Option (ℕ × List ℕ)

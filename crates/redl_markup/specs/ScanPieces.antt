@@ -1,7 +1,7 @@
 -- Reading one piece from the left.
 use Rattle.std.specs.Prelude.{ℕ, List, Option, Some, None, if◌then◌else◌, codes}
 use Rattle.redl_markup.specs.declared.place.Place.{Place}
-use Rattle.redl_markup.specs.Lists.{behind}
+use Rattle.redl_reading.specs.Lists.{behind}
 use Rattle.redl_markup.specs.Stretches.{begins_item}
 use Rattle.redl_markup.specs.Pieces.{Piece}
 use Rattle.redl_markup.specs.ScanTags.{tag_at, end_tag_at}

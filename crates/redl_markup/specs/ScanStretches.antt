@@ -3,8 +3,8 @@ use Rattle.std.specs.Prelude.{ℕ, suc, Bool, true, false, ◌||◌, List, [], �
 use Rattle.redl_markup.specs.declared.place.Place.{Place}
 use Rattle.redl_markup.specs.declared.place.Place.TheVariants.{BeforeRoot, InElement, AfterRoot}
 use Rattle.redl_markup.specs.Characters.{is_space}
-use Rattle.redl_markup.specs.Lists.{behind, begins, past, front, after, before, is_filled, is_other}
-use Rattle.redl_markup.specs.Reading.{◌>>=◌, or_same, Turn, done, turns, go_on}
+use Rattle.redl_reading.specs.Lists.{behind, begins, past, front, after, before, is_filled, is_other}
+use Rattle.redl_reading.specs.Steps.{◌>>=◌, or_same, Turn, done, turns, go_on}
 use Rattle.redl_markup.specs.Stretches.{is_run, is_xml, is_version, is_encoding, is_standalone, byte_order_mark, begins_item}
 use Rattle.redl_markup.specs.Pieces.{Piece, stretch}
 use Rattle.redl_markup.specs.ScanNames.{word_at}

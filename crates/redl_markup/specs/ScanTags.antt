@@ -2,8 +2,8 @@
 use Rattle.std.specs.Prelude.{ℕ, suc, Bool, false, ◌==◌, ◌&&◌, ◌||◌, List, [], ◌∷◌, ◌++◌, length, Option, Some, None, if◌then◌else◌, codes}
 use Rattle.std.specs.List.{list_all}
 use Rattle.redl_markup.specs.Characters.{is_space}
-use Rattle.redl_markup.specs.Lists.{behind, front, after, before, is_filled, is_other}
-use Rattle.redl_markup.specs.Reading.{◌>>=◌, Turn, done, next, turns}
+use Rattle.redl_reading.specs.Lists.{behind, front, after, before, is_filled, is_other, field_at}
+use Rattle.redl_reading.specs.Steps.{◌>>=◌, Turn, done, next, turns}
 use Rattle.redl_markup.specs.Names.{Name, are_distinct}
 use Rattle.redl_markup.specs.References.{has_references}
 use Rattle.redl_markup.specs.Pieces.{Piece, start_tag, empty_tag, end_tag}
@@ -17,8 +17,7 @@ quote_at (b ∷ bs) = if b == 34 || b == 39 then Some (b, bs) else None
 unfoldable pub quoted_at : List ℕ → Option (List ℕ × List ℕ)
 quoted_at bs = do
   quote ← quote_at bs
-  rest ← behind (quote.0 ∷ []) (after (is_other quote.0) quote.1)
-  Some (front (is_other quote.0) quote.1, rest)
+  field_at quote.0 quote.1
 
 -- optional white space, `=`, optional white space, and a text between quotes
 unfoldable pub equated_at : List ℕ → Option (List ℕ × List ℕ)

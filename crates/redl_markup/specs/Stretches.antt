@@ -6,7 +6,7 @@ use Rattle.std.specs.Str.{str_eq_ignore_ascii_case, bytes_eq}
 use Rattle.redl_markup.specs.declared.place.Place.{Place}
 use Rattle.redl_markup.specs.declared.place.Place.TheVariants.{BeforeRoot, InElement, AfterRoot}
 use Rattle.redl_markup.specs.Characters.{is_space}
-use Rattle.redl_markup.specs.Lists.{begins, behind, lacks, is_other, is_filled}
+use Rattle.redl_reading.specs.Lists.{begins, behind, lacks, is_other, is_filled}
 use Rattle.redl_markup.specs.Names.{IsWord}
 use Rattle.redl_markup.specs.References.{has_references}
 use Rattle.redl_markup.specs.Tails.{IsSpace, Attribute, attribute_then, IsQuote}

@@ -2,7 +2,7 @@
 use Rattle.std.specs.Prelude.{◌≡◌, ◌≢◌, ℕ, true, List, [], ◌∷◌, ◌++◌, ◌⊎◌, map}
 use Rattle.std.specs.List.{list_all, AllByRecursion}
 use Rattle.redl_markup.specs.Characters.{is_space}
-use Rattle.redl_markup.specs.Lists.{is_other}
+use Rattle.redl_reading.specs.Lists.{is_other}
 use Rattle.redl_markup.specs.Names.{Name, name_text, IsName, are_distinct}
 use Rattle.redl_markup.specs.References.{has_references}
 

@@ -4,15 +4,16 @@ ghost use Rattle.std.specs.Prelude.{◌≡◌, ◌<◌, [], ◌∷◌, length, c
 ghost use Rattle.std.specs.List.{list_all};
 ghost use Rattle.std.specs.Str.{IsUtf8};
 ghost use Rattle.redl_markup.specs.Attributes.{attributes_of};
-ghost use Rattle.redl_markup.specs.Lists.{is_other};
-ghost use Rattle.redl_markup.specs.Reading.{Gives};
+ghost use Rattle.redl_reading.specs.Lists.{is_other};
+ghost use Rattle.redl_reading.specs.Steps.{Gives};
 ghost use Rattle.redl_markup.specs.ScanTags.{quote_at, quoted_at, equated_at, is_plain, is_value, attribute_at, attribute_in};
 ghost use Rattle.redl_markup.specs.Views.{attribute_view};
 
 use crate::name::Name;
 use crate::reference::are_references;
-use crate::scan::{skip, spaces, until};
+use crate::space::spaces;
 use crate::word::name;
+use redl_reading::{field, skip};
 
 /// An attribute as it is written: its name, and its value without the quotes.
 #[derive(Clone, Copy, Debug, PartialEq, Eq)]
@@ -37,9 +38,7 @@ fn quoted(bytes: &[u8]) -> Option<(&[u8], &[u8])>
     ensures { Gives (λ x. (x.0.now, x.1.now)) result (quoted_at bytes.now) }
 {
     let (quote, more) = quote(bytes)?;
-    let (text, end) = until(more, quote);
-    let rest = skip(end, &[quote])?;
-    Some((text, rest))
+    field(more, quote)
 }
 
 /// A `=` in white space, and a text between quotes.

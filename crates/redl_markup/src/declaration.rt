@@ -3,13 +3,14 @@
 ghost use Rattle.std.specs.Prelude.{◌≡◌, codes};
 ghost use Rattle.std.specs.Char.{is_ascii_digit};
 ghost use Rattle.std.specs.List.{list_all};
-ghost use Rattle.redl_markup.specs.Reading.{Gives};
+ghost use Rattle.redl_reading.specs.Steps.{Gives};
 ghost use Rattle.redl_markup.specs.Stretches.{is_version, is_encoding, is_standalone};
 ghost use Rattle.redl_markup.specs.ScanStretches.{setting_at, optional_after, version_at, declaration_at, after_mark, after_declaration, after_head};
 
 use crate::attribute::equated;
 use crate::place::Place;
-use crate::scan::{skip, spaces};
+use crate::space::spaces;
+use redl_reading::skip;
 
 /// White space, a word, a `=` and a text between quotes: that text, and the bytes after it.
 #[tactic(auto, unfolding(crate::specs::ScanStretches::setting_at))]

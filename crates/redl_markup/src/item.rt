@@ -1,13 +1,14 @@
 //! Comments, processing instructions and CDATA.
 
 ghost use Rattle.std.specs.Prelude.{◌≡◌, codes};
-ghost use Rattle.redl_markup.specs.Reading.{Gives};
+ghost use Rattle.redl_reading.specs.Steps.{Gives};
 ghost use Rattle.redl_markup.specs.Stretches.{is_xml, begins_item};
 ghost use Rattle.redl_markup.specs.ScanStretches.{comment_at, begins_with_space, instruction_end, instruction_at, cdata_at, item_at};
 
 use crate::place::Place;
-use crate::scan::{is_space, past, skip};
+use crate::space::is_space;
 use crate::word::word;
+use redl_reading::{past, skip};
 
 /// The bytes after a comment, given those after its `<!--`.
 #[tactic(auto, unfolding(crate::specs::ScanStretches::comment_at))]

@@ -17,14 +17,14 @@ mod piece;
 mod place;
 mod read;
 mod reference;
-mod scan;
+mod space;
 mod stretch;
 mod tag;
 mod word;
 
 pub use attribute::{Attribute, next_attribute};
 pub use character::is_text;
-pub use decode::decode_value;
+pub use decode::{decode_value, is_literal};
 pub use error::MarkupError;
 pub use laws::{attributes_are_listed, one_piece};
 pub use name::Name;

@@ -10,9 +10,9 @@ use crate::error::MarkupError;
 use crate::item::begins_item;
 use crate::piece::Piece;
 use crate::place::Place;
-use crate::scan::skip;
 use crate::stretch::stretch;
 use crate::tag::{end_tag, start_tag};
+use redl_reading::skip;
 use std::alloc::Global;
 
 #[tactic(auto, unfolding(crate::specs::ScanPieces::piece_at))]

@@ -2,12 +2,12 @@
 
 ghost use Rattle.std.specs.Prelude.{◌≡◌, ◌<◌, ◌≤◌, length, codes, min, map};
 ghost use Rattle.std.specs.Char.{digit_value};
-ghost use Rattle.redl_markup.specs.Lists.{front, after};
-ghost use Rattle.redl_markup.specs.Reading.{Gives};
+ghost use Rattle.redl_reading.specs.Lists.{front, after};
+ghost use Rattle.redl_reading.specs.Steps.{Gives};
 ghost use Rattle.redl_markup.specs.References.{named_at, is_digit_in, number_of, number_at, reference_at, has_references};
 
 use crate::character::is_character;
-use crate::scan::{far_until, skip};
+use redl_reading::{far_until, run, skip};
 
 /// One more than the greatest number of a character.
 const BEYOND: u32 = 0x11_0000;
@@ -41,16 +41,11 @@ fn digit(b: u8) -> u32
 }
 
 /// The leading digits, and the bytes after them.
-#[tactic(auto, using(crate::proofs::Runs::front_at, crate::proofs::Runs::after_at))]
 fn digits(bytes: &[u8], base: u32) -> (&[u8], &[u8])
     ensures front { result.0.now ≡ front (is_digit_in base) bytes.now }
     ensures rest { result.1.now ≡ after (is_digit_in base) bytes.now }
 {
-    let mut n = 0;
-    while n < bytes.len() && digit(bytes[n]) < base {
-        n += 1;
-    }
-    bytes.split_at(n)
+    run(bytes, |b| digit(b) < base)
 }
 
 /// The number that digits write, or `BEYOND` if it is greater.

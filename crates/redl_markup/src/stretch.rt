@@ -3,8 +3,8 @@
 ghost use Rattle.std.specs.Prelude.{◌≡◌, length, codes};
 ghost use Rattle.std.specs.List.{list_all};
 ghost use Rattle.redl_markup.specs.Characters.{is_space};
-ghost use Rattle.redl_markup.specs.Lists.{lacks};
-ghost use Rattle.redl_markup.specs.Reading.{Gives};
+ghost use Rattle.redl_reading.specs.Lists.{lacks};
+ghost use Rattle.redl_reading.specs.Steps.{Gives};
 ghost use Rattle.redl_markup.specs.Stretches.{is_run};
 ghost use Rattle.redl_markup.specs.ScanStretches.{items_end, stretch_at};
 ghost use Rattle.redl_markup.specs.PieceViews.{piece_view};
@@ -14,9 +14,10 @@ use crate::item::{begins_item, item};
 use crate::piece::Piece;
 use crate::place::Place;
 use crate::reference::are_references;
-use crate::scan::{before, far_until, is_space};
+use crate::space::is_space;
+use redl_reading::{before, far_until};
 
-#[tactic(auto, using(crate::proofs::Places::lacks_after, crate::proofs::Places::after_fits))]
+#[tactic(auto, using(redl_reading::proofs::Words::lacks_after, redl_reading::proofs::Runs::after_fits))]
 fn has_no_close(bytes: &[u8]) -> bool
     ensures { result ≡ lacks (codes "]]>") bytes.now }
 {

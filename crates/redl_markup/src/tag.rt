@@ -2,8 +2,9 @@
 
 ghost use Rattle.std.specs.Prelude.{◌≡◌, codes, map, IfOk};
 ghost use Rattle.redl_markup.specs.Attributes.{names_in};
-ghost use Rattle.redl_markup.specs.Lists.{before};
-ghost use Rattle.redl_markup.specs.Reading.{Gives, Finds};
+ghost use Rattle.redl_reading.specs.Lists.{before};
+ghost use Rattle.redl_markup.specs.Reading.{Finds};
+ghost use Rattle.redl_reading.specs.Steps.{Gives};
 ghost use Rattle.redl_markup.specs.ScanTags.{ends_tag, attributes_at, tail_at, tag_at, end_tag_at};
 ghost use Rattle.redl_markup.specs.Views.{name_view};
 ghost use Rattle.redl_markup.specs.PieceViews.{piece_view};
@@ -13,8 +14,9 @@ use crate::distinct::no_two_alike;
 use crate::error::MarkupError;
 use crate::name::Name;
 use crate::piece::{Piece, StartTag};
-use crate::scan::{before, skip, spaces};
+use crate::space::spaces;
 use crate::word::name;
+use redl_reading::{before, skip};
 use std::alloc::Global;
 
 #[tactic(auto, unfolding(crate::specs::ScanTags::ends_tag))]

@@ -1,15 +1,15 @@
 //! Reading names.
 
 ghost use Rattle.std.specs.Prelude.{◌≡◌, Some, codes};
-ghost use Rattle.redl_markup.specs.Lists.{behind, after};
+ghost use Rattle.redl_reading.specs.Lists.{behind, after};
 ghost use Rattle.redl_markup.specs.Names.{may_start, may_follow};
-ghost use Rattle.redl_markup.specs.Reading.{Gives};
+ghost use Rattle.redl_reading.specs.Steps.{Gives};
 ghost use Rattle.redl_markup.specs.ScanNames.{char_at, is_name_byte, name_end, behind_start, word_at, name_at};
 ghost use Rattle.redl_markup.specs.Views.{name_view};
 
 use crate::character::{is_name_character, is_name_start};
 use crate::name::Name;
-use crate::scan::{before, skip};
+use redl_reading::{before, run, skip};
 
 #[tactic(auto, unfolding(crate::specs::Names::may_start))]
 fn may_start(c: char, colons: bool) -> bool
@@ -80,15 +80,10 @@ fn is_name_byte(b: u8, colons: bool) -> bool
 }
 
 /// The bytes after the leading ASCII characters of a name.
-#[tactic(auto, using(crate::proofs::Runs::after_at))]
 fn after_name_bytes(bytes: &[u8], colons: bool) -> &[u8]
     ensures { result.now ≡ after (is_name_byte colons) bytes.now }
 {
-    let mut n = 0;
-    while n < bytes.len() && is_name_byte(bytes[n], colons) {
-        n += 1;
-    }
-    bytes.split_at(n).1
+    run(bytes, |b| is_name_byte(b, colons)).1
 }
 
 /// The bytes after the leading name characters. Most are ASCII, so few are decoded.

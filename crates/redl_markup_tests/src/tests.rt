@@ -23,72 +23,74 @@ fn first_piece(alloc: Global, text: &[u8], place: Place) -> (&'static str, &[u8]
     }
 }
 
+const TAGS: &[(&str, &str, &str, &str, &str)] = &[
+    (
+        "<a b='1' c = \"2\" ></a >",
+        "start",
+        "",
+        "a",
+        " b='1' c = \"2\" ",
+    ),
+    ("</a >", "end", "", "a", " "),
+    ("</w:p>x", "end", "w", "p", ""),
+    ("<a/>", "empty", "", "a", ""),
+    ("<a\t\r\n/> ", "empty", "", "a", "\t\r\n"),
+    (
+        "<a b=\n'1'\tc\r=\"2\" />",
+        "empty",
+        "",
+        "a",
+        " b=\n'1'\tc\r=\"2\" ",
+    ),
+    (
+        "<w:p w:x=\">\" y='\"'>",
+        "start",
+        "w",
+        "p",
+        " w:x=\">\" y='\"'",
+    ),
+    (
+        "<a x='&amp;&#65;&#x10FFFF;'/>",
+        "empty",
+        "",
+        "a",
+        " x='&amp;&#65;&#x10FFFF;'",
+    ),
+    (
+        "<a x='1' p:x='2' X='3'/>",
+        "empty",
+        "",
+        "a",
+        " x='1' p:x='2' X='3'",
+    ),
+    (
+        "<\u{C0}\u{B7}.-_9\u{203F}\u{300}>",
+        "start",
+        "",
+        "\u{C0}\u{B7}.-_9\u{203F}\u{300}",
+        "",
+    ),
+    ("<_p:Az09.-_>", "start", "_p", "Az09.-_", ""),
+    ("<a\u{E9}b:c\u{F8}d>", "start", "a\u{E9}b", "c\u{F8}d", ""),
+    (
+        "<\u{10000}:\u{3001}/>",
+        "empty",
+        "\u{10000}",
+        "\u{3001}",
+        "",
+    ),
+    (
+        "<\u{EFFFF} \u{3001}=''/>",
+        "empty",
+        "",
+        "\u{EFFFF}",
+        " \u{3001}=''",
+    ),
+];
+
 #[test]
 fn tags_have_a_name_and_a_tail(rt: HostRuntime) {
-    for (text, kind, prefix, local, tail) in [
-        (
-            "<a b='1' c = \"2\" ></a >",
-            "start",
-            "",
-            "a",
-            " b='1' c = \"2\" ",
-        ),
-        ("</a >", "end", "", "a", " "),
-        ("</w:p>x", "end", "w", "p", ""),
-        ("<a/>", "empty", "", "a", ""),
-        ("<a\t\r\n/> ", "empty", "", "a", "\t\r\n"),
-        (
-            "<a b=\n'1'\tc\r=\"2\" />",
-            "empty",
-            "",
-            "a",
-            " b=\n'1'\tc\r=\"2\" ",
-        ),
-        (
-            "<w:p w:x=\">\" y='\"'>",
-            "start",
-            "w",
-            "p",
-            " w:x=\">\" y='\"'",
-        ),
-        (
-            "<a x='&amp;&#65;&#x10FFFF;'/>",
-            "empty",
-            "",
-            "a",
-            " x='&amp;&#65;&#x10FFFF;'",
-        ),
-        (
-            "<a x='1' p:x='2' X='3'/>",
-            "empty",
-            "",
-            "a",
-            " x='1' p:x='2' X='3'",
-        ),
-        (
-            "<\u{C0}\u{B7}.-_9\u{203F}\u{300}>",
-            "start",
-            "",
-            "\u{C0}\u{B7}.-_9\u{203F}\u{300}",
-            "",
-        ),
-        ("<_p:Az09.-_>", "start", "_p", "Az09.-_", ""),
-        ("<a\u{E9}b:c\u{F8}d>", "start", "a\u{E9}b", "c\u{F8}d", ""),
-        (
-            "<\u{10000}:\u{3001}/>",
-            "empty",
-            "\u{10000}",
-            "\u{3001}",
-            "",
-        ),
-        (
-            "<\u{EFFFF} \u{3001}=''/>",
-            "empty",
-            "",
-            "\u{EFFFF}",
-            " \u{3001}=''",
-        ),
-    ] {
+    for &(text, kind, prefix, local, tail) in TAGS {
         let got = first_piece(rt.alloc(), text.as_bytes(), Place::InElement);
         let want = (kind, prefix.as_bytes(), local.as_bytes(), tail.as_bytes());
         assert!(rt; got == want, "{text}: {got:?}");
@@ -115,59 +117,61 @@ fn a_start_tag_has_its_text_and_the_names_of_its_attributes(rt: HostRuntime) {
     assert!(rt; got == Some(want), "{got:?}");
 }
 
+const STRETCHES: &[(Place, &str, &str)] = &[
+    (Place::BeforeRoot, "\u{FEFF}<a/>", "\u{FEFF}"),
+    (
+        Place::BeforeRoot,
+        "<?xml version=\"1.0\"?><a/>",
+        "<?xml version=\"1.0\"?>",
+    ),
+    (
+        Place::BeforeRoot,
+        "\u{FEFF}<?xml version='1.10' encoding = 'utf-8' standalone='yes' ?>\n<a/>",
+        "\u{FEFF}<?xml version='1.10' encoding = 'utf-8' standalone='yes' ?>\n",
+    ),
+    (
+        Place::BeforeRoot,
+        "<?xml\tversion = '1.0'\r\nstandalone\n=\t\"no\" \n?><a/>",
+        "<?xml\tversion = '1.0'\r\nstandalone\n=\t\"no\" \n?>",
+    ),
+    (
+        Place::BeforeRoot,
+        " \t<!--c--><?xml-s a?>\r\n<a/>",
+        " \t<!--c--><?xml-s a?>\r\n",
+    ),
+    (Place::BeforeRoot, "<?p?>", "<?p?>"),
+    (
+        Place::AfterRoot,
+        " \r\n<!--c--><?p a?b >?>",
+        " \r\n<!--c--><?p a?b >?>",
+    ),
+    (
+        Place::InElement,
+        "<![CDATA[<b>]]>&lt;</a>",
+        "<![CDATA[<b>]]>&lt;",
+    ),
+    (
+        Place::InElement,
+        "]] > ]]&gt;<![CDATA[]]]]><!----><!-- - & <b> - - -->\"'=/;#</a>",
+        "]] > ]]&gt;<![CDATA[]]]]><!----><!-- - & <b> - - -->\"'=/;#",
+    ),
+    (
+        Place::InElement,
+        "&amp;&lt;&gt;&quot;&apos;&#9;&#0065;&#x0041;&#xfFfD;&#x10FFFF;&#1114111;<b>",
+        "&amp;&lt;&gt;&quot;&apos;&#9;&#0065;&#x0041;&#xfFfD;&#x10FFFF;&#1114111;",
+    ),
+    (Place::InElement, "<?a:b:c ?> ??>x<b/>", "<?a:b:c ?> ??>x"),
+    (
+        Place::InElement,
+        "<?:p\u{B7} text > <b>?>",
+        "<?:p\u{B7} text > <b>?>",
+    ),
+    (Place::InElement, "\u{FEFF}<a/>", "\u{FEFF}"),
+];
+
 #[test]
 fn stretches_are_as_long_as_they_can_be(rt: HostRuntime) {
-    for (place, text, want) in [
-        (Place::BeforeRoot, "\u{FEFF}<a/>", "\u{FEFF}"),
-        (
-            Place::BeforeRoot,
-            "<?xml version=\"1.0\"?><a/>",
-            "<?xml version=\"1.0\"?>",
-        ),
-        (
-            Place::BeforeRoot,
-            "\u{FEFF}<?xml version='1.10' encoding = 'utf-8' standalone='yes' ?>\n<a/>",
-            "\u{FEFF}<?xml version='1.10' encoding = 'utf-8' standalone='yes' ?>\n",
-        ),
-        (
-            Place::BeforeRoot,
-            "<?xml\tversion = '1.0'\r\nstandalone\n=\t\"no\" \n?><a/>",
-            "<?xml\tversion = '1.0'\r\nstandalone\n=\t\"no\" \n?>",
-        ),
-        (
-            Place::BeforeRoot,
-            " \t<!--c--><?xml-s a?>\r\n<a/>",
-            " \t<!--c--><?xml-s a?>\r\n",
-        ),
-        (Place::BeforeRoot, "<?p?>", "<?p?>"),
-        (
-            Place::AfterRoot,
-            " \r\n<!--c--><?p a?b >?>",
-            " \r\n<!--c--><?p a?b >?>",
-        ),
-        (
-            Place::InElement,
-            "<![CDATA[<b>]]>&lt;</a>",
-            "<![CDATA[<b>]]>&lt;",
-        ),
-        (
-            Place::InElement,
-            "]] > ]]&gt;<![CDATA[]]]]><!----><!-- - & <b> - - -->\"'=/;#</a>",
-            "]] > ]]&gt;<![CDATA[]]]]><!----><!-- - & <b> - - -->\"'=/;#",
-        ),
-        (
-            Place::InElement,
-            "&amp;&lt;&gt;&quot;&apos;&#9;&#0065;&#x0041;&#xfFfD;&#x10FFFF;&#1114111;<b>",
-            "&amp;&lt;&gt;&quot;&apos;&#9;&#0065;&#x0041;&#xfFfD;&#x10FFFF;&#1114111;",
-        ),
-        (Place::InElement, "<?a:b:c ?> ??>x<b/>", "<?a:b:c ?> ??>x"),
-        (
-            Place::InElement,
-            "<?:p\u{B7} text > <b>?>",
-            "<?:p\u{B7} text > <b>?>",
-        ),
-        (Place::InElement, "\u{FEFF}<a/>", "\u{FEFF}"),
-    ] {
+    for &(place, text, want) in STRETCHES {
         let got = first_piece(rt.alloc(), text.as_bytes(), place).3;
         assert!(rt; got == want.as_bytes(), "{text} {place:?}: {got:?}");
     }
@@ -346,54 +350,56 @@ fn other_texts_have_no_piece_at_their_start(rt: HostRuntime) {
     }
 }
 
+const CHARACTERS: &[(&[u8], bool)] = &[
+    (b"", true),
+    (b"\t\n\r \x7F\xC2\x80", true),
+    (b"\xEF\xBB\xBF<a/>", true),
+    (
+        b"\xED\x9F\xBF\xEE\x80\x80\xEF\xBF\xBD\xF0\x90\x80\x80\xF4\x8F\xBF\xBF",
+        true,
+    ),
+    (
+        b"<w:t>a text of more than sixty-four bytes, so that a block of it is tested\t\r\n</w:t>",
+        true,
+    ),
+    (
+        b"<w:t>a text of more than sixty-four bytes,\x0Bso that a block of it is tested</w:t>",
+        false,
+    ),
+    (
+        b"<w:t>a text of more than sixty-four bytes, so that a block of it is tested\x0B</w:t>",
+        false,
+    ),
+    (
+        b"<w:t>a text of more than sixty-four bytes, \xEF\xBB\xBF so that a block of it is tested</w:t>",
+        true,
+    ),
+    (
+        b"<w:t>a text of more than sixty-four bytes, \xEF\xBF\xBF so that a block of it is tested</w:t>",
+        false,
+    ),
+    (b"\x00", false),
+    (b"a\x08", false),
+    (b"a\x0B", false),
+    (b"a\x0C", false),
+    (b"a\x0E", false),
+    (b"\x1F", false),
+    (b"\xEF\xBF\xBE", false),
+    (b"\xEF\xBF\xBF", false),
+    (b"\xED\xA0\x80", false),
+    (b"\xED\xBF\xBF", false),
+    (b"\xC0\x80", false),
+    (b"\xE0\x9F\xBF", false),
+    (b"\xF0\x8F\xBF\xBF", false),
+    (b"a\x80", false),
+    (b"\xF4\x90\x80\x80", false),
+    (b"\xE2\x82", false),
+    (b"\xFF\xFE<\0a\0/\0>\0", false),
+];
+
 #[test]
 fn texts_have_allowed_characters(rt: HostRuntime) {
-    for (bytes, want) in [
-        (b"".as_slice(), true),
-        (b"\t\n\r \x7F\xC2\x80", true),
-        (b"\xEF\xBB\xBF<a/>", true),
-        (
-            b"\xED\x9F\xBF\xEE\x80\x80\xEF\xBF\xBD\xF0\x90\x80\x80\xF4\x8F\xBF\xBF",
-            true,
-        ),
-        (
-            b"<w:t>a text of more than sixty-four bytes, so that a block of it is tested\t\r\n</w:t>",
-            true,
-        ),
-        (
-            b"<w:t>a text of more than sixty-four bytes,\x0Bso that a block of it is tested</w:t>",
-            false,
-        ),
-        (
-            b"<w:t>a text of more than sixty-four bytes, so that a block of it is tested\x0B</w:t>",
-            false,
-        ),
-        (
-            b"<w:t>a text of more than sixty-four bytes, \xEF\xBB\xBF so that a block of it is tested</w:t>",
-            true,
-        ),
-        (
-            b"<w:t>a text of more than sixty-four bytes, \xEF\xBF\xBF so that a block of it is tested</w:t>",
-            false,
-        ),
-        (b"\x00", false),
-        (b"a\x08", false),
-        (b"a\x0B", false),
-        (b"a\x0C", false),
-        (b"a\x0E", false),
-        (b"\x1F", false),
-        (b"\xEF\xBF\xBE", false),
-        (b"\xEF\xBF\xBF", false),
-        (b"\xED\xA0\x80", false),
-        (b"\xED\xBF\xBF", false),
-        (b"\xC0\x80", false),
-        (b"\xE0\x9F\xBF", false),
-        (b"\xF0\x8F\xBF\xBF", false),
-        (b"a\x80", false),
-        (b"\xF4\x90\x80\x80", false),
-        (b"\xE2\x82", false),
-        (b"\xFF\xFE<\0a\0/\0>\0", false),
-    ] {
+    for &(bytes, want) in CHARACTERS {
         let got = is_text(bytes);
         assert!(rt; got == want, "{bytes:?}: {got}");
     }

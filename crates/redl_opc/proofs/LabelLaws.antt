@@ -7,12 +7,13 @@ use Rattle.redl_tree.specs.Model.Text.{text}
 use Rattle.redl_tree.specs.Revisions.Labels.{unlabelled}
 use Rattle.redl_tree.specs.declared.kinds.Kind.{Kind}
 use Rattle.redl_tree.proofs.LabelLaws.{text-unlabelled}
+use Rattle.redl_tree.proofs.StoryLaws.{unlabelled-changed}
 use Rattle.redl_opc.specs.Elements.{Element, elements_of, only, only_element}
-use Rattle.redl_tree.specs.Decisions.Packages.{named_pkg, is_story_root, is_root}
+use Rattle.redl_tree.specs.Decisions.Packages.{named_pkg, is_story_root}
 use Rattle.redl_opc.specs.Shape.{has_attribute, is_data, is_data_alone, is_part, root_in, story_root, story_of, is_document_root, is_document, package_in, package_of, parts_refusal, refusal_of, refusal}
-use Rattle.redl_opc.specs.Tree.{HasUtf8Tails}
+use Rattle.redl_tree.specs.Model.Tree.{HasUtf8Tails}
 use Rattle.redl_opc.specs.Parts.{name_in, places_from, places_in, places_of, IsKept}
-use Rattle.redl_opc.specs.Labels.{changed_at, labelled, elements, item_elements, relabelled_tag, relabelled, relabelled_item, story_elements, kids_story_elements, item_story_elements, labelled_in, labelled_item}
+use Rattle.redl_opc.specs.Labels.{changed_at, labelled, elements, item_elements, relabelled_tag, relabelled, relabelled_item, label_rule, labelled_stories}
 use Rattle.redl_opc.specs.declared.label.Label.{Label}
 
 -- an element without its labels
@@ -162,7 +163,7 @@ kept-labelled old new listed same kept =
 pub labels_alone : (kind : Kind) (rev place : ℕ) (path : List ℕ) (ns : Nodes) → unlabelled (changed_at place (labelled kind rev path) ns) ≡ unlabelled ns
 labels_alone kind rev place path ns = changed_at-unlabelled place (labelled kind rev path) (labelled-plain kind rev path) ns
 
--- ---- labels of all stories, a node at a time
+-- ---- labels of a story, a node at a time
 
 pub elements-in_front : (x : Item) (ys : Nodes) → elements (in_front x ys) ≡ item_elements x + elements ys
 elements-in_front (bytes_item b) ys = omega arith
@@ -174,19 +175,6 @@ relabelled-in_front labels at (bytes_item b) ys =
     let same : at ≡ at + 0 = omega arith in
     ap (λ m. bytes b (relabelled labels m ys)) same
 relabelled-in_front labels at (element_item tag kids) ys = refl
-
-pub story_elements-in_front : (around : List Tag) (x : Item) (ys : Nodes)
-    → story_elements around (in_front x ys) ≡ item_story_elements around x + story_elements around ys
-story_elements-in_front around (bytes_item b) ys = omega arith
-story_elements-in_front around (element_item tag kids) ys = refl
-
-labelled_in-in_front : (labels : List Label) (at : ℕ) (around : List Tag) (x : Item) (ys : Nodes)
-    → labelled_in labels at around (in_front x ys)
-    ≡ in_front (labelled_item labels at around x) no_nodes ⊕ labelled_in labels (at + item_story_elements around x) around ys
-labelled_in-in_front labels at around (bytes_item b) ys =
-    let same : at ≡ at + 0 = omega arith in
-    ap (λ m. bytes b (labelled_in labels m around ys)) same
-labelled_in-in_front labels at around (element_item tag kids) ys = refl
 
 -- ---- the labels that are left
 
@@ -215,28 +203,11 @@ relabelled-from labels n at (element tag kids rest) =
       relabelled-from labels n (at + (1 + elements kids)) rest,
     ) refl
 
-labelled_in-from : (labels : List Label) (n at : ℕ) (around : List Tag) (ns : Nodes) → labelled_in labels (n + at) around ns ≡ labelled_in (drop n labels) at around ns
-labelled_in-from labels n at around no_nodes = refl
-labelled_in-from labels n at around (bytes b rest) = ap (bytes b) (labelled_in-from labels n at around rest)
-labelled_in-from labels n at around (element tag kids rest) =
-    let in_rest : (n + at) + kids_story_elements around tag kids ≡ n + (at + kids_story_elements around tag kids) = omega arith in
-    rw (
-      relabelled-from labels n at kids,
-      labelled_in-from labels n at (tag ∷ around) kids,
-      in_rest,
-      labelled_in-from labels n (at + kids_story_elements around tag kids) around rest,
-    ) refl
-
 -- behind the elements that have had their labels
 pub relabelled_left : (labels : List Label) (n : ℕ) (ns : Nodes) → relabelled labels n ns ≡ relabelled (drop n labels) 0 ns
 relabelled_left labels n ns =
     let same : n ≡ n + 0 = omega arith in
     ap (λ m. relabelled labels m ns) same ∙ relabelled-from labels n 0 ns
-
-labelled_in-left : (labels : List Label) (n : ℕ) (around : List Tag) (ns : Nodes) → labelled_in labels n around ns ≡ labelled_in (drop n labels) 0 around ns
-labelled_in-left labels n around ns =
-    let same : n ≡ n + 0 = omega arith in
-    ap (λ m. labelled_in labels m around ns) same ∙ labelled_in-from labels n 0 around ns
 
 -- a node, and those after it with the labels that are left
 pub relabelled-first : (labels : List Label) (x : Item) (ys : Nodes)
@@ -246,15 +217,6 @@ relabelled-first labels x ys =
     relabelled-in_front labels 0 x ys
     ∙ ap (λ m. in_front (relabelled_item labels 0 x) no_nodes ⊕ relabelled labels m ys) same
     ∙ ap (λ ns. in_front (relabelled_item labels 0 x) no_nodes ⊕ ns) (relabelled_left labels (item_elements x) ys)
-
-pub labelled_in-first : (labels : List Label) (around : List Tag) (x : Item) (ys : Nodes)
-    → labelled_in labels 0 around (in_front x ys)
-    ≡ in_front (labelled_item labels 0 around x) no_nodes ⊕ labelled_in (drop (item_story_elements around x) labels) 0 around ys
-labelled_in-first labels around x ys =
-    let same : 0 + item_story_elements around x ≡ item_story_elements around x = omega arith in
-    labelled_in-in_front labels 0 around x ys
-    ∙ ap (λ m. in_front (labelled_item labels 0 around x) no_nodes ⊕ labelled_in labels m around ys) same
-    ∙ ap (λ ns. in_front (labelled_item labels 0 around x) no_nodes ⊕ ns) (labelled_in-left labels (item_story_elements around x) around ys)
 
 -- ---- labelling all stories changes only labels
 
@@ -269,16 +231,5 @@ relabelled-unlabelled labels at (bytes b rest) = ap (bytes b) (relabelled-unlabe
 relabelled-unlabelled labels at (element tag kids rest) =
     rw (relabelled_tag-plain (slice_get labels at) tag, relabelled-unlabelled labels (at + 1) kids, relabelled-unlabelled labels (at + (1 + elements kids)) rest) refl
 
--- kids of a root, or others
-either_way : (is_root : Bool) (xs ys kids : Nodes) → unlabelled xs ≡ unlabelled kids → unlabelled ys ≡ unlabelled kids
-    → unlabelled (cond is_root xs ys) ≡ unlabelled kids
-either_way true xs ys kids h k = h
-either_way false xs ys kids h k = k
-
-pub stories_alone : (labels : List Label) (at : ℕ) (around : List Tag) (ns : Nodes) → unlabelled (labelled_in labels at around ns) ≡ unlabelled ns
-stories_alone labels at around no_nodes = refl
-stories_alone labels at around (bytes b rest) = ap (bytes b) (stories_alone labels at around rest)
-stories_alone labels at around (element tag kids rest) =
-    let below = either_way (is_root around tag) (relabelled labels at kids) (labelled_in labels at (tag ∷ around) kids) kids
-    (relabelled-unlabelled labels at kids) (stories_alone labels at (tag ∷ around) kids) in
-    rw (below, stories_alone labels (at + kids_story_elements around tag kids) around rest) refl
+pub stories_alone : (labels : List Label) (ns : Nodes) → unlabelled (labelled_stories labels ns) ≡ unlabelled ns
+stories_alone labels ns = unlabelled-changed label_rule (λ left tag kids. relabelled-unlabelled left 0 kids) labels [] ns

@@ -8,12 +8,12 @@ use Rattle.redl_tree.specs.declared.node.Node as node
 use Rattle.redl_tree.specs.declared.node.Elem.{Elem}
 use Rattle.redl_tree.proofs.Laws.{item_of-Elem, item_of-Bytes, nodes_here}
 use Rattle.std.specs.Str.{IsUtf8}
-use Rattle.redl_markup.specs.Reading.{◌>>=◌, Gives}
+use Rattle.redl_reading.specs.Steps.{◌>>=◌, Gives}
 use Rattle.redl_opc.specs.Elements.{Element, element_in, elements_of, only, only_element}
 use Rattle.redl_tree.specs.Decisions.Packages.{named_pkg}
 use Rattle.redl_opc.specs.Shape.{package_in, package_of, parts_of, elements_in, story_of}
 use Rattle.redl_opc.specs.Parts.{name_in, part_name, story, places_from, places_in, places_of}
-use Rattle.redl_opc.specs.Tree.{HasUtf8Tails}
+use Rattle.redl_tree.specs.Model.Tree.{HasUtf8Tails}
 
 -- ---- parts and their places
 
@@ -210,8 +210,3 @@ pub story-part : (ns now : Nodes) (listed : List (ℕ × List ℕ)) (k : ℕ) (p
     → story now k ≡ (part >>= story_of)
 story-part ns now listed k place root part same kept at_k is_root is_part =
     story-listed ns now listed k (Some place) same kept at_k ∙ rw (is_root, is_part) refl
-
--- tails of a node and of those after it
-pub tails-in_front : (x : Item) (rest : Nodes) → HasUtf8Tails (in_front x no_nodes) → HasUtf8Tails rest → HasUtf8Tails (in_front x rest)
-tails-in_front (bytes_item b) rest here more = more
-tails-in_front (element_item tag kids) rest here more = (here.0, here.1, more)

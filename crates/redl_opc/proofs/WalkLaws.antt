@@ -8,7 +8,7 @@ use Rattle.redl_opc.specs.Elements.{Element, elements_of, only_element}
 use Rattle.redl_opc.specs.Parts.{story}
 use Rattle.redl_opc.specs.Shape.{root_in, story_root, story_of, package_of, elements_in, parts_of, refusal}
 use Rattle.redl_opc.specs.Stories.{story_view, stories_of_part, stories_from}
-use Rattle.redl_opc.specs.Tree.{HasUtf8Tails}
+use Rattle.redl_tree.specs.Model.Tree.{HasUtf8Tails}
 use Rattle.redl_opc.proofs.PartLaws.{count-first, tails-first, only_is, root_is}
 use Rattle.redl_opc.proofs.StoryLaws.{stories-parts}
 

@@ -1,8 +1,8 @@
 -- Labels: the kind of an element in a revision, and the number of the revision. A label is not written in a text.
-use Rattle.std.specs.Prelude.{ℕ, zero, suc, ◌+◌, List, [], ◌∷◌, ◌++◌, Option, Some, None, slice_get, if◌then◌else◌}
-use Rattle.redl_markup.specs.Reading.{◌>>=◌}
+use Rattle.std.specs.Prelude.{ℕ, zero, suc, ◌+◌, List, [], ◌∷◌, ◌++◌, Option, Some, None, drop, slice_get}
+use Rattle.redl_reading.specs.Steps.{◌>>=◌}
 use Rattle.redl_tree.specs.Model.Nodes.{Tag, Nodes, no_nodes, bytes, element, Item, bytes_item, element_item, items_of}
-use Rattle.redl_tree.specs.Decisions.Packages.{is_root}
+use Rattle.redl_tree.specs.Decisions.Packages.{StoryRule, changed_package}
 use Rattle.redl_tree.specs.declared.kinds.Kind.{Kind}
 use Rattle.redl_opc.specs.declared.label.Label.{Label}
 use Rattle.redl_opc.specs.Elements.{Element, element_in, only_element}
@@ -86,39 +86,11 @@ relabelled_item labels at (bytes_item b) = bytes_item b
 relabelled_item labels at (element_item tag kids) =
     element_item (relabelled_tag (slice_get labels at) tag) (relabelled labels (at + 1) kids)
 
--- how many elements there are below the roots of stories, among nodes with these ancestors
-abbrev pub story_elements : List Tag → Nodes → ℕ
-story_elements around no_nodes = 0
-story_elements around (bytes b rest) = story_elements around rest
-story_elements around (element tag kids rest) =
-    (if is_root around tag then elements kids else story_elements (tag ∷ around) kids) + story_elements around rest
-
--- the same among the kids of an element, and in one node
-abbrev pub kids_story_elements : List Tag → Tag → Nodes → ℕ
-kids_story_elements around tag kids = if is_root around tag then elements kids else story_elements (tag ∷ around) kids
-
-abbrev pub item_story_elements : List Tag → Item → ℕ
-item_story_elements around (bytes_item b) = 0
-item_story_elements around (element_item tag kids) = kids_story_elements around tag kids
-
--- nodes with these labels on the elements below the roots of their stories
-abbrev pub labelled_in : List Label → ℕ → List Tag → Nodes → Nodes
-labelled_in labels at around no_nodes = no_nodes
-labelled_in labels at around (bytes b rest) = bytes b (labelled_in labels at around rest)
-labelled_in labels at around (element tag kids rest) =
-    element tag (if is_root around tag then relabelled labels at kids else labelled_in labels at (tag ∷ around) kids)
-    (labelled_in labels (at + kids_story_elements around tag kids) around rest)
-
--- the kids of an element, and one node, with these labels
-abbrev pub labelled_kids : List Label → ℕ → List Tag → Tag → Nodes → Nodes
-labelled_kids labels at around tag kids =
-    if is_root around tag then relabelled labels at kids else labelled_in labels at (tag ∷ around) kids
-
-abbrev pub labelled_item : List Label → ℕ → List Tag → Item → Item
-labelled_item labels at around (bytes_item b) = bytes_item b
-labelled_item labels at around (element_item tag kids) = element_item tag (labelled_kids labels at around tag kids)
+-- A story takes the labels of the elements below its root from the front of those that are left.
+abbrev pub label_rule : StoryRule (List Label)
+label_rule = record { kids = λ labels tag kids. relabelled labels 0 kids; left = λ labels tag kids. drop (elements kids) labels }
 
 -- A package with these labels on the elements below the roots of its stories, in the order of their start tags. If there are
 -- fewer labels than elements, the remaining elements are unchanged.
 abbrev pub labelled_stories : List Label → Nodes → Nodes
-labelled_stories labels nodes = labelled_in labels 0 [] nodes
+labelled_stories labels nodes = changed_package label_rule labels nodes

@@ -1,7 +1,6 @@
 pub mod Code
 pub mod Elements
 pub mod Shape
-pub mod Tree
 pub mod Parts
 pub mod Labels
 pub mod Runs

@@ -6,7 +6,7 @@ use Rattle.redl_tree.specs.Model.Count.{count}
 use Rattle.redl_stamp.specs.Attribute.{attribute_value}
 use Rattle.redl_opc.specs.Elements.{Element}
 use Rattle.redl_opc.specs.Shape.{package_of, parts_of, story_of, refusal}
-use Rattle.redl_opc.specs.Tree.{HasUtf8Tails}
+use Rattle.redl_tree.specs.Model.Tree.{HasUtf8Tails}
 
 -- the decoded name in a part's tag
 abbrev pub name_in : Tag → List ℕ

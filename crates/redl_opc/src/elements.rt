@@ -1,7 +1,7 @@
 //! The elements among nodes.
 
 ghost use Rattle.std.specs.Prelude.{◌≡◌, ◌∷◌, [], IsNone, IfSome, map, slice_get};
-ghost use Rattle.redl_markup.specs.Reading.{Gives};
+ghost use Rattle.redl_reading.specs.Steps.{Gives};
 ghost use Rattle.redl_tree.specs.Model.Nodes.{items_of};
 ghost use Rattle.redl_tree.specs.Model.View.{item_of, nodes_of};
 ghost use Rattle.redl_opc.specs.Elements.{element_of, elements_of, only_element, element_in};

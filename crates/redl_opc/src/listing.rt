@@ -5,7 +5,7 @@ ghost use Rattle.std.specs.Str.{IsUtf8};
 ghost use Rattle.redl_tree.specs.Model.View.{nodes_of, tag_of};
 ghost use Rattle.redl_opc.specs.Parts.{name_in, places_from};
 ghost use Rattle.redl_opc.specs.PartView.{part_view};
-ghost use Rattle.redl_opc.specs.Tree.{HasUtf8Tails};
+ghost use Rattle.redl_tree.specs.Model.Tree.{HasUtf8Tails};
 
 use crate::part::Part;
 use redl_io::Text;

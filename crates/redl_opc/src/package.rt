@@ -2,7 +2,7 @@
 
 ghost use Rattle.std.specs.Prelude.{◌≡◌, ◌<◌, ◌^◌, None, length, map, slice_get, IfOk, IfErr, IfSome, IsTrue};
 ghost use Rattle.std.specs.Str.{IsUtf8};
-ghost use Rattle.redl_markup.specs.Reading.{Gives};
+ghost use Rattle.redl_reading.specs.Steps.{Gives};
 ghost use Rattle.redl_tree.specs.Model.Count.{count};
 ghost use Rattle.redl_tree.specs.Model.Text.{text};
 ghost use Rattle.redl_tree.specs.Model.View.{nodes_of, tag_of, kids_of};
@@ -12,7 +12,7 @@ ghost use Rattle.redl_opc.specs.Shape.{refusal, IsCause, parts_of};
 ghost use Rattle.redl_opc.specs.Parts.{part_name, story, places_of};
 ghost use Rattle.redl_opc.specs.PartView.{part_view};
 ghost use Rattle.redl_opc.specs.Labels.{way_to_story, labelled_package, labelled_stories};
-ghost use Rattle.redl_opc.specs.Tree.{HasUtf8Tails, IsTree};
+ghost use Rattle.redl_tree.specs.Model.Tree.{HasUtf8Tails, IsTree};
 
 use crate::elements::{element_at, only_element};
 use crate::error::OpcError;
@@ -21,8 +21,8 @@ use crate::labels::Labels;
 use crate::listing::list_parts;
 use crate::part::Part;
 use crate::shape::{are_parts, have_document, package_of, story_of};
-use crate::stories::label_nodes;
-use redl_tree::{Elem, Kind, Level, Node};
+use crate::stories::Labelling;
+use redl_tree::{Elem, Kind, Node, change_stories};
 use std::alloc::Global;
 use std::marker::Model;
 
@@ -181,6 +181,8 @@ impl<'a> Package<'a> {
         ensures nodes { self.new ≡ labelled_stories labels.now self.old }
         ensures text { text self.new ≡ text self.old }
     {
-        label_nodes(&mut self.nodes, Level::Top, &mut labels.all());
+        match change_stories(&mut self.nodes, &Labelling, &mut labels.all()) {
+            Ok(()) => {}
+        }
     }
 }

@@ -1,7 +1,4 @@
 //! Tables of packages: whether the shape is the one meant, the order of causes, and that calls succeed with ample memory.
-ghost use Rattle.std.specs.Prelude.{IfOk};
-ghost use Rattle.redl_opc.specs.Tree.{IsTree};
-ghost use Rattle.redl_tree.specs.Model.View.{nodes_of};
 
 use redl_opc::{Label, Labels, OpcError, Package};
 use redl_tree::{Kind, Node, Trace};
@@ -20,16 +17,10 @@ fn text_of(alloc: Global, root: &str, inside: &str) -> Result<Vec<u8>, AllocErro
     Ok(text)
 }
 
-fn tree_of(alloc: Global, text: &[u8]) -> Result<Vec<Node>, Fail>
-    ensures { IfOk result (λ nodes. IsTree (nodes_of nodes.items)) }
-{
-    Ok(redl_xml::read(alloc, text)?)
-}
-
 // Why a text with this root is refused.
 fn refused(alloc: Global, root: &str, inside: &str) -> Result<Option<OpcError>, Fail> {
     let text = text_of(alloc, root, inside)?;
-    let nodes = tree_of(alloc, &text)?;
+    let nodes = redl_xml::read(alloc, &text)?;
     Ok(Package::make(alloc, nodes).err())
 }
 
@@ -95,7 +86,7 @@ const NAMED: &str =
 #[test]
 fn parts_have_names_and_stories(rt: HostRuntime) -> Result<(), Fail> {
     let text = text_of(rt.alloc(), "pkg:package", NAMED)?;
-    let made = Package::make(rt.alloc(), tree_of(rt.alloc(), &text)?)?;
+    let made = Package::make(rt.alloc(), redl_xml::read(rt.alloc(), &text)?)?;
     let sizes = (made.nodes().len(), made.parts());
     let named = first_is(&made, b"/a&b", b"document");
     assert!(rt; sizes == (2, 1) && named, "{sizes:?} {named}");
@@ -168,7 +159,7 @@ fn stories_are_labelled(
     want: &[(usize, u32)],
 ) -> Result<bool, Fail> {
     let text = text_of(alloc, "pkg:package", inside)?;
-    let mut made = Package::make(alloc, tree_of(alloc, &text)?)?;
+    let mut made = Package::make(alloc, redl_xml::read(alloc, &text)?)?;
     made.label_stories(&labels(alloc, many)?);
     Ok(labelled(alloc, &made.into_nodes())?.as_slice() == want)
 }
@@ -196,7 +187,7 @@ fn element_is_labelled(
     want: &[(usize, u32)],
 ) -> Result<bool, Fail> {
     let text = text_of(alloc, "pkg:package", STORIES)?;
-    let mut made = Package::make(alloc, tree_of(alloc, &text)?)?;
+    let mut made = Package::make(alloc, redl_xml::read(alloc, &text)?)?;
     made.label(part, path, LABELLED, 7);
     Ok(labelled(alloc, made.nodes())?.as_slice() == want)
 }

@@ -1,30 +1,22 @@
 -- What is made of a list so far, with the pieces that are left: the steps that change it.
 use Rattle.std.proofs.Common.{◌≡◌, ◌≤◌, ◌+◌, ℕ, List, [], ◌∷◌, ◌++◌, Bool, true, false, true≢false, ◌&&◌, ◌||◌, not, Option, Some, None, refl, sym, ap, ◌∙◌, arith, if◌then◌else◌}
-use Rattle.redl_tree.specs.Model.Count.{count, item_count}
+use Rattle.redl_tree.specs.Model.Count.{count}
 use Rattle.redl_tree.specs.Decisions.Groups.{Piece as GroupPiece, para, thin, thick, paragraph_next, has_thick, joins, taken, joined_tag, joined_kids, settled, given, held_by, grouped_from, grouped}
 use Rattle.redl_tree.specs.Model.Kids.{only, without, has_element}
 use Rattle.redl_tree.specs.Roles.Names.{is}
-use Rattle.redl_tree.specs.Model.Nodes.{Tag, Nodes, no_nodes, bytes, element, in_front, ◌⊕◌}
-use Rattle.redl_tree.specs.Model.View.{nodes_of, item_of, tag_of, kids_of}
+use Rattle.redl_tree.specs.Model.Nodes.{Tag, Nodes, no_nodes, bytes, element, ◌⊕◌}
+use Rattle.redl_tree.specs.Model.View.{nodes_of, tag_of, kids_of}
 use Rattle.redl_tree.specs.declared.node.Node.{Node}
 use Rattle.redl_tree.specs.declared.node.Node as node
 use Rattle.redl_tree.specs.declared.node.Elem.{Elem}
-use Rattle.redl_tree.proofs.Laws.{⊕_assoc, ⊕-no_nodes, nodes_of-push, nodes_of-push_elem, count-in_front}
+use Rattle.redl_tree.proofs.Laws.{⊕_assoc, ⊕-no_nodes, nodes_of-push_elem}
 use Rattle.redl_tree.proofs.PassLaws.{ends_cut, grouped-append, without-⊕}
 use Rattle.redl_paras.specs.Pieces.{piece_of, pieces_of}
 use Rattle.redl_paras.specs.declared.piece.Piece.{Piece}
 use Rattle.redl_resolve.specs.Counts.{piece_count, pieces_count}
+pub use Rattle.redl_tree.proofs.Laws.{count-⊕, count-push}
 
 -- ---- counts
-
-pub count-⊕ : (xs ys : Nodes) → count (xs ⊕ ys) ≡ count xs + count ys
-count-⊕ no_nodes ys = omega arith
-count-⊕ (bytes b rest) ys = omega (arith, count-⊕ rest ys)
-count-⊕ (element tag kids rest) ys = omega (arith, count-⊕ rest ys)
-
-pub count-push : (xs : List Node) (x : Node) → count (nodes_of (xs ++ x ∷ [])) ≡ count (nodes_of xs) + item_count (item_of x)
-count-push xs x =
-    omega (arith, ap count (nodes_of-push xs x), count-⊕ (nodes_of xs) (in_front (item_of x) no_nodes), count-in_front (item_of x) no_nodes)
 
 pub count-push_elem : (xs : List Node) (e : Elem) → count (nodes_of (xs ++ node.Elem e ∷ [])) ≡ count (nodes_of xs) + (1 + count (kids_of e))
 count-push_elem xs e =

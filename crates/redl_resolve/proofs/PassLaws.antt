@@ -3,9 +3,11 @@ use Rattle.std.proofs.Common.{◌≡◌, ◌≢◌, ◌≤◌, ◌+◌, ℕ, Lis
 use Rattle.redl_resolve.proofs.ChainLaws.{count-⊕, parted-count}
 use Rattle.redl_resolve.specs.Chains.{item_piece}
 use Rattle.redl_resolve.specs.Changes.{item_rejected, item_former, present_in, after_in}
-use Rattle.redl_resolve.specs.Counts.{item_skipped, skipped, former_count}
-use Rattle.redl_resolve.specs.Rounds.{round_of, item_pass_in}
+use Rattle.redl_resolve.specs.Counts.{item_visits, visits, former_count}
+use Rattle.redl_resolve.specs.Passes.{GoesOn}
+use Rattle.redl_resolve.specs.Rounds.{round_of}
 use Rattle.redl_resolve.specs.declared.rounds.Round.{Round}
+use Rattle.redl_resolve.specs.declared.walk.Walk.{Walk}
 use Rattle.redl_tree.specs.Model.Count.{count}
 use Rattle.redl_tree.specs.Decisions.Fates.{fate_of}
 use Rattle.redl_tree.specs.Model.Kids.{only, without}
@@ -17,7 +19,6 @@ use Rattle.redl_resolve.specs.Stays.{may_go, elem_stays, item_stays, all_stay, p
 use Rattle.redl_tree.proofs.PassLaws.{leave_of, if_true, if_false, pass-apart}
 use Rattle.redl_tree.specs.Decisions.Fates.{renamed}
 use Rattle.redl_tree.specs.Roles.Names.{named, is}
-use Rattle.redl_tree.specs.Decisions.Packages.{pass_in}
 use Rattle.redl_tree.specs.Decisions.Pass.{by_fate, pieces, pass, element_pass, kept_kids, is_block_para}
 use Rattle.redl_tree.specs.Roles.Places.{props_name}
 use Rattle.redl_tree.specs.Decisions.Restored.{Rejected, rejected, rejected_as, former_kids, restored, outlasts, after_change}
@@ -34,18 +35,18 @@ pub pieces-in_front : (says : List Say) (around : List Tag) (x : Item) (ys : Nod
 pieces-in_front says around (bytes_item b) ys = refl
 pieces-in_front says around (element_item tag kids) ys = refl
 
-pub skipped-in_front : (says : List Say) (x : Item) (ys : Nodes) → skipped says (in_front x ys) ≡ item_skipped says x + skipped says ys
-skipped-in_front says (bytes_item b) ys = omega arith
-skipped-in_front says (element_item tag kids) ys = refl
+pub visits-in_front : (says : List Say) (x : Item) (ys : Nodes) → visits says (in_front x ys) ≡ item_visits says x + visits says ys
+visits-in_front says (bytes_item b) ys = refl
+visits-in_front says (element_item tag kids) ys = refl
 
-pub skipped-few : (says : List Say) (nodes : Nodes) → skipped says nodes ≤ count nodes
-skipped-few says no_nodes = omega arith
-skipped-few says (bytes b rest) = omega (arith, skipped-few says rest)
-skipped-few says (element tag kids rest) = at (is_restore (fate_of says tag)) (skipped-few says rest)
-  where
-    at : (b : Bool) → skipped says rest ≤ count rest → (if b then count kids else 0) + skipped says rest ≤ 1 + count kids + count rest
-    at true ih = omega (arith, ih)
-    at false ih = omega (arith, ih)
+kids_visits-few : (b : Bool) (kids : Nodes) → (if b then 0 else count kids) ≤ count kids
+kids_visits-few true kids = omega arith
+kids_visits-few false kids = omega arith
+
+pub visits-few : (says : List Say) (nodes : Nodes) → visits says nodes ≤ count nodes
+visits-few says no_nodes = omega arith
+visits-few says (bytes b rest) = omega (arith, visits-few says rest)
+visits-few says (element tag kids rest) = omega (arith, visits-few says rest, kids_visits-few (is_restore (fate_of says tag)) kids)
 
 former-few : (name : List ℕ) (kids : Nodes) → count (former_kids name kids) ≤ count kids
 former-few name no_nodes = omega arith
@@ -56,15 +57,15 @@ former-few name (element tag kids rest) = at (named name tag) (former-few name r
     at true ih = omega arith
     at false ih = omega (arith, ih)
 
--- the former kids stand in a change that is skipped
-pub rejected-skipped : (says : List Say) (nodes : Nodes) → former_count (rejected says nodes) ≤ skipped says nodes
-rejected-skipped says no_nodes = omega arith
-rejected-skipped says (bytes b rest) = rejected-skipped says rest
-rejected-skipped says (element tag kids rest) = at (is_restore (fate_of says tag)) tag.kind (rejected-skipped says rest)
+-- the former kids stand in a change that isn't visited
+pub rejected-visits : (says : List Say) (nodes : Nodes) → former_count (rejected says nodes) + visits says nodes ≤ count nodes
+rejected-visits says no_nodes = omega arith
+rejected-visits says (bytes b rest) = omega (arith, rejected-visits says rest)
+rejected-visits says (element tag kids rest) = at (is_restore (fate_of says tag)) tag.kind (rejected-visits says rest)
   where
-    at : (b : Bool) (kind : Kind) → former_count (rejected says rest) ≤ skipped says rest
-        → former_count (rejected_as b kind kids (rejected says rest)) ≤ (if b then count kids else 0) + skipped says rest
-    at true (Change prop) ih = omega (arith, former-few (props_name prop) kids)
+    at : (b : Bool) (kind : Kind) → former_count (rejected says rest) + visits says rest ≤ count rest
+        → former_count (rejected_as b kind kids (rejected says rest)) + (1 + (if b then 0 else count kids) + visits says rest) ≤ 1 + count kids + count rest
+    at true (Change prop) ih = omega (arith, former-few (props_name prop) kids, visits-few says rest)
     at true Plain ih = omega (arith, ih)
     at true (Content t) ih = omega (arith, ih)
     at true (Mark t) ih = omega (arith, ih)
@@ -167,13 +168,6 @@ pub by_fate-remark : (fate : Fate) (content : Bool) (passed stays : Nodes) → f
     → by_fate fate content passed stays ≡ no_nodes
 by_fate-remark fate content passed stays freed remark = rw (freed, remark) refl
 
--- ---- the stories of a package
-
-pub pass_in-in_front : (says : List Say) (around : List Tag) (x : Item) (ys : Nodes)
-    → pass_in says around (in_front x ys) ≡ in_front (item_pass_in says around x) no_nodes ⊕ pass_in says around ys
-pass_in-in_front says around (bytes_item b) ys = refl
-pass_in-in_front says around (element_item tag kids) ys = refl
-
 -- what goes gives nothing
 pub element-goes : (says : List Say) (around : List Tag) (tag : Tag) (kids passed : Nodes) → fate_of says tag ≡ Leave → goes_at says around tag kids ≡ true
     → element_pass says around tag kids passed ≡ no_nodes
@@ -190,13 +184,18 @@ no_restore Clear e = refl
 no_restore Restore e = absurd (cc)
 no_restore Drop e = refl
 
-pub skipped-one : (b : Bool) (kids : Nodes) → (if b then count kids else 0) ≤ count kids
-skipped-one true kids = omega arith
-skipped-one false kids = omega arith
+pub no_restore-free : (fate : Fate) → fate ≡ Free → is_restore fate ≡ false
+no_restore-free fate free = rw free refl
 
-pub skipped-none : (b : Bool) (kids : Nodes) → b ≡ false → (if b then count kids else 0) ≡ 0
-skipped-none true kids e = absurd (true≢false e)
-skipped-none false kids e = refl
+-- what isn't restored is visited with all that it holds
+pub visits-whole : (b : Bool) (kids : Nodes) → b ≡ false → (if b then 0 else count kids) ≡ count kids
+visits-whole true kids e = absurd (true≢false e)
+visits-whole false kids e = refl
+
+-- ---- the walk
+
+pub goes_on-then : {L : Type 0} {a b c : Walk L} → GoesOn a b → GoesOn b c → GoesOn a c
+goes_on-then first later = record { same_says = later.same_says ∙ first.same_says; same_counter = later.same_counter ∙ first.same_counter }
 
 -- ---- nodes that all stay
 

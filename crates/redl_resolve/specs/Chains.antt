@@ -14,9 +14,7 @@ use Rattle.redl_tree.specs.Model.View.{nodes_of}
 use Rattle.redl_tree.specs.declared.kinds.Say.{Say}
 use Rattle.redl_paras.specs.Pieces.{pieces_of}
 use Rattle.redl_resolve.specs.Counts.{pieces_count}
-use Rattle.redl_resolve.specs.Rounds.{round_of}
 use Rattle.redl_resolve.specs.declared.made.Made.{Made}
-use Rattle.redl_resolve.specs.declared.rounds.Round.{Round}
 
 -- the list that is made, if these pieces are still to come
 abbrev pub whole : Made → List Piece → Nodes
@@ -29,10 +27,6 @@ weight made = count (nodes_of made.passed.items) + pieces_count (pieces_of made.
 -- One more piece is added, whatever comes after it.
 abbrev pub AddsPiece : Made → Made → Piece → Type 0
 AddsPiece old new piece = (rest : List Piece) → whole new rest ≡ whole old (piece ∷ rest)
-
--- the same for a piece that depends on the ancestors, where this is their summary
-abbrev pub Adds : List Say → Round → Made → Made → (List Tag → Piece) → Type 0
-Adds says round old new piece = (around : List Tag) → round ≡ round_of says around → AddsPiece old new (piece around)
 
 -- the piece of an element in its list
 abbrev pub elem_piece : List Say → List Tag → Tag → Nodes → Piece

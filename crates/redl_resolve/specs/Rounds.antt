@@ -3,9 +3,7 @@ use Rattle.std.specs.Prelude.{List, [], ◌∷◌, Bool, ◌&&◌, ◌||◌, not
 use Rattle.std.specs.List.{list_any}
 use Rattle.redl_tree.specs.Decisions.Fates.{fate_of}
 use Rattle.redl_tree.specs.Roles.Kinds.{is_old_content, is_free, is_leave}
-use Rattle.redl_tree.specs.Model.Nodes.{Tag, Nodes, Item, bytes_item, element_item}
-use Rattle.redl_tree.specs.Decisions.Packages.{is_root, pass_in}
-use Rattle.redl_tree.specs.Decisions.Pass.{pass}
+use Rattle.redl_tree.specs.Model.Nodes.{Tag}
 use Rattle.redl_tree.specs.Roles.Places.{is_quiet, within, in_para_props}
 use Rattle.redl_tree.specs.Roles.Lists.{place, inside, nowhere}
 use Rattle.redl_tree.specs.Roles.Names.{is}
@@ -52,16 +50,3 @@ inside_of says tag round = record {
 -- deleted text is live again there
 abbrev pub revives : Round → Bool
 revives round = not round.quiet && round.freed && not round.left
-
--- ---- a node of a package, with its stories passed
-
--- what the kids of an element with these ancestors in the package become
-abbrev pub kids_pass_in : List Say → List Tag → Tag → Nodes → Nodes
-kids_pass_in says around tag kids = if is_root around tag then pass says (tag ∷ []) kids else pass_in says (tag ∷ around) kids
-
-abbrev pub element_pass_in : List Say → List Tag → Tag → Nodes → Item
-element_pass_in says around tag kids = element_item tag (kids_pass_in says around tag kids)
-
-abbrev pub item_pass_in : List Say → List Tag → Item → Item
-item_pass_in says around (bytes_item b) = bytes_item b
-item_pass_in says around (element_item tag kids) = element_pass_in says around tag kids

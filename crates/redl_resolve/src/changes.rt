@@ -122,29 +122,32 @@ fn is_former(elem: &Elem, prop: Prop) -> bool
     }
 }
 
-/// The passed kids of an element, with the properties of a rejected change given back. A step is counted for each node
-/// that is given back.
-pub(crate) fn after_change<'a, L: Ledger>(
+/// Counts a step for each node that a rejected change gives back.
+pub(crate) fn count_former<L: Ledger>(former: &Option<Former>, steps: &mut Steps<L>)
+    ensures { steps.new ≡ steps.old + former_count (former_of former.now) }
+{
+    if let Some(former) = former {
+        steps.tick_each(&former.kids);
+    }
+}
+
+/// The passed kids of an element, with the properties of a rejected change given back.
+pub(crate) fn after_change<'a>(
     alloc: Global,
     former: Option<Former<'a>>,
     elem: &Elem,
     passed: Vec<Node<'a>>,
     round: Round,
-    steps: &mut Steps<L>,
 ) -> Result<Vec<Node<'a>>, AllocError>
-    ensures kids { IfOk result (λ kids. nodes_of kids.items ≡ after_in round (tag_of elem.now) (former_of former.entry) (nodes_of passed.entry.items)) }
-    ensures steps { steps.new ≡ steps.old + former_count (former_of former.entry) }
+    ensures { IfOk result (λ kids. nodes_of kids.items ≡ after_in round (tag_of elem.now) (former_of former.entry) (nodes_of passed.entry.items)) }
 {
     match former {
-        Some(former) => {
-            steps.tick_each(&former.kids);
-            restore(
-                alloc,
-                present(elem, passed, round),
-                &former.kids,
-                former.prop,
-            )
-        }
+        Some(former) => restore(
+            alloc,
+            present(elem, passed, round),
+            &former.kids,
+            former.prop,
+        ),
         None => Ok(passed),
     }
 }

@@ -15,6 +15,7 @@ mod stays;
 mod steps;
 mod stories;
 mod story;
+mod walk;
 
 pub use steps::Steps;
 pub use stories::{into_passed, pass};

@@ -1,10 +1,11 @@
 //! Lists in which all nodes stay, so that the list can be passed in its place.
 
 ghost use Rattle.std.specs.Prelude.{◌≡◌, true, List};
-ghost use Rattle.redl_resolve.specs.Counts.{skipped, item_skipped};
+ghost use Rattle.redl_resolve.specs.Counts.{visits, item_visits, kids_visits};
 ghost use Rattle.redl_resolve.specs.Rounds.{round_of};
 ghost use Rattle.redl_resolve.specs.Stays.{item_stays, elem_stays as elem_stays_by, all_stay as all_stay_by};
-ghost use Rattle.redl_tree.specs.Model.Nodes.{Tag, element_item};
+ghost use Rattle.redl_tree.specs.Model.Count.{count, item_count};
+ghost use Rattle.redl_tree.specs.Model.Nodes.{Tag};
 ghost use Rattle.redl_tree.specs.Model.View.{nodes_of, item_of, tag_of, kids_of};
 
 use crate::rounds::{Round, is_block_para, may_go};
@@ -13,7 +14,7 @@ use redl_tree::{Elem, Fate, Node, Say};
 
 /// Whether each node of the list stays, whatever becomes of its kids.
 pub(crate) fn all_stay(nodes: &[Node], says: &[Say], round: Round) -> bool
-    ensures left { result ≡ true → skipped says.now (nodes_of nodes.now) ≡ 0 }
+    ensures visited { result ≡ true → visits says.now (nodes_of nodes.now) ≡ count (nodes_of nodes.now) }
     ensures stay { (around : List Tag) → round ≡ round_of says.now around → result ≡ all_stay_by says.now around (nodes_of nodes.now) }
 {
     for node in nodes {
@@ -25,7 +26,7 @@ pub(crate) fn all_stay(nodes: &[Node], says: &[Say], round: Round) -> bool
 }
 
 fn stays(node: &Node, says: &[Say], round: Round) -> bool
-    ensures left { result ≡ true → item_skipped says.now (item_of node.now) ≡ 0 }
+    ensures visited { result ≡ true → item_visits says.now (item_of node.now) ≡ item_count (item_of node.now) }
     ensures stay { (around : List Tag) → round ≡ round_of says.now around → result ≡ item_stays says.now around (item_of node.now) }
 {
     match node {
@@ -35,7 +36,7 @@ fn stays(node: &Node, says: &[Say], round: Round) -> bool
 }
 
 fn elem_stays(elem: &Elem, says: &[Say], round: Round) -> bool
-    ensures left { result ≡ true → item_skipped says.now (element_item (tag_of elem.now) (kids_of elem.now)) ≡ 0 }
+    ensures visited { result ≡ true → kids_visits says.now (tag_of elem.now) (kids_of elem.now) ≡ count (kids_of elem.now) }
     ensures stay { (around : List Tag) → round ≡ round_of says.now around → result ≡ elem_stays_by says.now around (tag_of elem.now) (kids_of elem.now) }
 {
     fate_of(says, elem) == Fate::Leave

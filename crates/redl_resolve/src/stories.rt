@@ -1,17 +1,14 @@
 //! The stories among the nodes of a package.
 
-ghost use Rattle.std.specs.Prelude.{◌≡◌, ◌≤◌, ◌+◌, List, IfOk};
+ghost use Rattle.std.specs.Prelude.{◌≡◌, ◌≤◌, ◌+◌, IfOk};
 ghost use Rattle.redl_resolve.specs.Keeps.{KeepsText, KeepsRules};
-ghost use Rattle.redl_resolve.specs.Rounds.{kids_pass_in, item_pass_in, element_pass_in};
-ghost use Rattle.redl_tree.specs.Model.Count.{count, item_count};
-ghost use Rattle.redl_tree.specs.Model.Nodes.{Tag};
-ghost use Rattle.redl_tree.specs.Decisions.Packages.{level_of, pass_in, pass_package};
-ghost use Rattle.redl_tree.specs.Model.View.{nodes_of, item_of, tag_of, kids_of};
+ghost use Rattle.redl_tree.specs.Model.Count.{count};
+ghost use Rattle.redl_tree.specs.Decisions.Packages.{pass_package};
+ghost use Rattle.redl_tree.specs.Model.View.{nodes_of};
 
-use crate::rounds::in_root;
 use crate::steps::Steps;
-use crate::story::pass_kids;
-use redl_tree::{Elem, Level, Node, Say, copy_nodes};
+use crate::story::pass_story;
+use redl_tree::{Elem, Node, Say, StoryChange, change_stories, copy_nodes};
 use std::alloc::{AllocError, Global};
 use std::sync::ledger::Ledger;
 
@@ -41,8 +38,8 @@ pub fn pass<'a, L: Ledger>(
     into_passed(alloc, copies, says, steps)
 }
 
-/// The same as `pass`, for nodes that are given away. What stays is moved, and a list in which all stay keeps its place,
-/// so the original goes while the result is made.
+/// The same as `pass`, for nodes that are given away. What is in no story keeps its place, and so does a list in which all
+/// stay. What else stays is moved, so the original goes while the result is made.
 ///
 /// `Err` means out of memory.
 pub fn into_passed<'a, L: Ledger>(
@@ -61,90 +58,43 @@ pub fn into_passed<'a, L: Ledger>(
     ensures entered { steps.new ≤ steps.old + count (nodes_of nodes.entry.items) }
     ensures made { IfOk result (λ passed. steps.old + count (nodes_of passed.items) ≤ steps.new) }
 {
-    pass_stories(alloc, nodes, says, Level::Top, steps)
+    let mut nodes = nodes;
+    change_stories(&mut nodes, &Passing { alloc, says }, steps)?;
+    Ok(nodes)
 }
 
-// The nodes with the stories among them passed. `level` says where in the package the nodes are.
-#[cycle(stories)]
-fn pass_stories<'a, L: Ledger>(
+// The pass of each story under the same says. A step is counted for each node.
+#[derive(Clone, Copy)]
+struct Passing<'s> {
     alloc: Global,
-    nodes: Vec<Node<'a>>,
-    says: &[Say],
-    level: Level,
-    steps: &mut Steps<L>,
-) -> Result<Vec<Node<'a>>, AllocError>
-    ensures passed { IfOk result (λ passed. (around : List Tag) → level ≡ level_of around
-        → nodes_of passed.items ≡ pass_in says.now around (nodes_of nodes.entry.items)) }
-    ensures entered { steps.new ≤ steps.old + count (nodes_of nodes.entry.items) }
-    ensures made { IfOk result (λ passed. steps.old + count (nodes_of passed.items) ≤ steps.new) }
-{
-    let mut passed = Vec::with_capacity(alloc, nodes.len())?;
-    for node in nodes {
-        let node = pass_in_node(alloc, node, says, level, steps)?;
-        passed.push(node)?;
+    says: &'s [Say],
+}
+
+impl<L: Ledger> StoryChange<Steps<L>> for Passing<'_> {
+    type Error = AllocError;
+
+    ghost use Rattle.std.specs.Prelude.{List, true};
+    ghost use Rattle.redl_tree.specs.declared.kinds.Say.{Say};
+    ghost use Rattle.redl_tree.specs.Decisions.Packages.{pass_rule};
+
+    ghost Given = { List Say };
+
+    ghost given = { λ passing _. passing.says.now };
+
+    ghost rule = { pass_rule };
+
+    ghost is_counted = { true };
+
+    ghost steps = { λ steps. steps };
+
+    fn meet(&self, steps: &mut Steps<L>) {
+        steps.tick();
     }
-    Ok(passed)
-}
 
-#[cycle(stories)]
-fn pass_in_node<'a, L: Ledger>(
-    alloc: Global,
-    node: Node<'a>,
-    says: &[Say],
-    level: Level,
-    steps: &mut Steps<L>,
-) -> Result<Node<'a>, AllocError>
-    ensures passed { IfOk result (λ passed. (around : List Tag) → level ≡ level_of around
-        → item_of passed ≡ item_pass_in says.now around (item_of node.entry)) }
-    ensures entered { steps.new ≤ steps.old + item_count (item_of node.entry) }
-    ensures made { IfOk result (λ passed. steps.old + item_count (item_of passed) ≤ steps.new) }
-{
-    steps.tick();
-    match node {
-        Node::Elem(elem) => pass_in_elem(alloc, elem, says, level, steps),
-        Node::Bytes(text) => Ok(Node::Bytes(text)),
+    fn change(&self, root: &mut Elem, steps: &mut Steps<L>) -> Result<(), AllocError> {
+        let kids = root.take_kids(self.alloc);
+        let passed = pass_story(self.alloc, kids, root, self.says, steps)?;
+        root.return_kids(passed);
+        Ok(())
     }
-}
-
-// The step of the element itself was counted by the caller.
-#[cycle(stories)]
-fn pass_in_elem<'a, L: Ledger>(
-    alloc: Global,
-    elem: Elem<'a>,
-    says: &[Say],
-    level: Level,
-    steps: &mut Steps<L>,
-) -> Result<Node<'a>, AllocError>
-    ensures passed { IfOk result (λ passed. (around : List Tag) → level ≡ level_of around
-        → item_of passed ≡ element_pass_in says.now around (tag_of elem.entry) (kids_of elem.entry)) }
-    ensures entered { steps.new ≤ steps.old + count (kids_of elem.entry) }
-    ensures made { IfOk result (λ passed. steps.old + item_count (item_of passed) ≤ steps.new + 1) }
-{
-    let mut elem = elem;
-    let kids = elem.take_kids(alloc);
-    let kids = pass_in_kids(alloc, kids, &elem, says, level, steps)?;
-    elem.return_kids(kids);
-    Ok(Node::Elem(elem))
-}
-
-// The kids of an element: their pass where it is the root of a story, and else themselves with the stories in them passed.
-#[cycle(stories)]
-fn pass_in_kids<'a, L: Ledger>(
-    alloc: Global,
-    kids: Vec<Node<'a>>,
-    parent: &Elem,
-    says: &[Say],
-    level: Level,
-    steps: &mut Steps<L>,
-) -> Result<Vec<Node<'a>>, AllocError>
-    ensures passed { IfOk result (λ passed. (around : List Tag) → level ≡ level_of around
-        → nodes_of passed.items ≡ kids_pass_in says.now around (tag_of parent.now) (nodes_of kids.entry.items)) }
-    ensures entered { steps.new ≤ steps.old + count (nodes_of kids.entry.items) }
-    ensures made { IfOk result (λ passed. steps.old + count (nodes_of passed.items) ≤ steps.new) }
-{
-    if level.is_root(parent) {
-        let (passed, _) = pass_kids(alloc, kids, says, in_root(says, parent), steps)?;
-        return Ok(passed);
-    }
-    pass_stories(alloc, kids, says, level.below(parent), steps)
 }

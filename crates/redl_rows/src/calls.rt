@@ -9,7 +9,7 @@ use std::alloc::{AllocError, Global};
 
 /// What a call came to: its status, what was written, and the lines on standard error.
 #[derive(Drop)]
-pub struct Answer {
+pub(crate) struct Answer {
     pub status: Status,
     pub written: MemSink,
     pub lines: MemSink,
@@ -19,7 +19,11 @@ pub struct Answer {
 const ROOM: usize = 20_000;
 
 /// The answer of a call with the words of this line over these files.
-pub fn call(alloc: Global, line: &str, files: Vec<(Text, Vec<u8>)>) -> Result<Answer, AllocError> {
+pub(crate) fn call(
+    alloc: Global,
+    line: &str,
+    files: Vec<(Text, Vec<u8>)>,
+) -> Result<Answer, AllocError> {
     let words = words_of(alloc, line)?;
     let mut written = MemSink::new(alloc, ROOM, Vec::new(alloc))?;
     let mut lines = MemSink::new(alloc, ROOM, Vec::new(alloc))?;
@@ -92,20 +96,23 @@ fn add_words(alloc: Global, words: &mut Vec<Text>, piece: &str) -> Result<(), Al
 }
 
 /// The answer of a call over this package alone.
-pub fn call_over(alloc: Global, line: &str, package: &[u8]) -> Result<Answer, AllocError> {
+pub(crate) fn call_over(alloc: Global, line: &str, package: &[u8]) -> Result<Answer, AllocError> {
     let files = only_package(alloc, package)?;
     call(alloc, line, files)
 }
 
 /// The package of this text, as the only file.
-pub fn only_package(alloc: Global, package: &[u8]) -> Result<Vec<(Text, Vec<u8>)>, AllocError> {
+pub(crate) fn only_package(
+    alloc: Global,
+    package: &[u8],
+) -> Result<Vec<(Text, Vec<u8>)>, AllocError> {
     let mut files = Vec::new(alloc);
     add_file(alloc, &mut files, "P", package)?;
     Ok(files)
 }
 
 /// Adds a file with this name and this text.
-pub fn add_file(
+pub(crate) fn add_file(
     alloc: Global,
     files: &mut Vec<(Text, Vec<u8>)>,
     name: &str,

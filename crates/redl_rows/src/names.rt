@@ -3,9 +3,9 @@
 use std::alloc::{AllocError, Global};
 
 /// What stands before the body of a package with one part, and behind it.
-pub const FRONT: &str = "{package}{document}";
+pub(crate) const FRONT: &str = "{package}{document}";
 
-pub const BACK: &str = "{/document}{/package}";
+pub(crate) const BACK: &str = "{/document}{/package}";
 
 // Each name and its text. A text that holds another one comes first.
 const NAMES: [(&str, &str); 20] = [
@@ -62,7 +62,7 @@ const NAMES: [(&str, &str); 20] = [
 ];
 
 /// The text with what its names stand for.
-pub fn spell_out(alloc: Global, text: &str) -> Result<String, AllocError> {
+pub(crate) fn spell_out(alloc: Global, text: &str) -> Result<String, AllocError> {
     let mut whole = String::from_str(alloc, text)?;
     for (name, long) in NAMES {
         whole = whole.replace(alloc, name, long)?;
@@ -71,7 +71,7 @@ pub fn spell_out(alloc: Global, text: &str) -> Result<String, AllocError> {
 }
 
 /// The text with names in it, and only the body where all else is that of a package with one part.
-pub fn name_parts(alloc: Global, text: &str) -> Result<String, AllocError> {
+pub(crate) fn name_parts(alloc: Global, text: &str) -> Result<String, AllocError> {
     let mut named = String::from_str(alloc, text)?;
     for (name, long) in NAMES {
         named = named.replace(alloc, long, name)?;

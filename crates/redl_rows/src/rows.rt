@@ -8,7 +8,7 @@ use std::alloc::{AllocError, Global};
 use std::str;
 
 /// What is printed of a row: its title, what its call comes to, and an empty line.
-pub fn print_row(alloc: Global, row: &str) -> Result<String, AllocError> {
+pub(crate) fn print_row(alloc: Global, row: &str) -> Result<String, AllocError> {
     let mut printed = String::new(alloc);
     for line in row.lines().filter(|line| line.starts_with('#')) {
         print_line(&mut printed, line)?;

@@ -8,6 +8,7 @@ use Rattle.redl_markup.specs.Characters.{is_name_start, is_name_character, is_sp
 use Rattle.redl_markup.specs.Names.{may_start, may_follow}
 use Rattle.redl_markup.specs.ScanNames.{name_at, word_at, char_at, name_end, name_step}
 use Rattle.redl_markup.specs.ScanTags.{attribute_in, attribute_at, equated_at, quoted_at, quote_at, is_value}
+use Rattle.redl_reading.specs.Lists.{field_at}
 use Rattle.redl_rules.specs.Attributes.{has_id, declares, broken_rule}
 
 -- The attributes of a tag.
@@ -15,13 +16,13 @@ use Rattle.redl_rules.specs.Attributes.{has_id, declares, broken_rule}
 tails_with_an_id :
     map (λ tail. has_id (codes tail)) (" w:id=\"1\"" ∷ " id=''" ∷ " a='1'\n r:id = 'x'" ∷ " xmlns:id='u'" ∷ " w:ids='1' w:Id='1'" ∷ "" ∷ [])
     ≡ true ∷ true ∷ true ∷ false ∷ false ∷ false ∷ []
-unfolding attributes_of attribute_in attribute_at name_at word_at char_at name_end name_step may_start may_follow is_name_start is_name_character is_space equated_at quoted_at quote_at is_value
+unfolding attributes_of attribute_in attribute_at name_at word_at char_at name_end name_step may_start may_follow is_name_start is_name_character is_space equated_at quoted_at field_at quote_at is_value
 tails_with_an_id = refl
 
 tails_that_declare :
     map (λ tail. declares (codes tail)) (" xmlns:q=\"u\"" ∷ " a='1'\n xmlns = 'u'" ∷ " q:xmlns='u'" ∷ " xml:space='preserve' xmlnsq='u'" ∷ "" ∷ [])
     ≡ true ∷ true ∷ false ∷ false ∷ false ∷ []
-unfolding attributes_of attribute_in attribute_at name_at word_at char_at name_end name_step may_start may_follow is_name_start is_name_character is_space equated_at quoted_at quote_at is_value
+unfolding attributes_of attribute_in attribute_at name_at word_at char_at name_end name_step may_start may_follow is_name_start is_name_character is_space equated_at quoted_at field_at quote_at is_value
 tails_that_declare = refl
 
 -- The least rules that packages with these bodies break.
@@ -67,11 +68,11 @@ rule_6_broken = refl
 
 -- a run in a marker, and the same where it is none
 rule_7_broken : least_rule (para (opened_with "moveFromRangeStart" " w:id=\"1\"" (empty "r"))) ≡ Some 7
-unfolding attributes_of attribute_in attribute_at name_at word_at char_at name_end name_step may_start may_follow is_name_start is_name_character is_space equated_at quoted_at quote_at is_value
+unfolding attributes_of attribute_in attribute_at name_at word_at char_at name_end name_step may_start may_follow is_name_start is_name_character is_space equated_at quoted_at field_at quote_at is_value
 rule_7_broken = refl
 
 rule_7_kept : least_rule (para (opened_with "moveFromRangeStart" " w:name=\"m\"" (empty "r"))) ≡ None
-unfolding attributes_of attribute_in attribute_at name_at word_at char_at name_end name_step may_start may_follow is_name_start is_name_character is_space equated_at quoted_at quote_at is_value
+unfolding attributes_of attribute_in attribute_at name_at word_at char_at name_end name_step may_start may_follow is_name_start is_name_character is_space equated_at quoted_at field_at quote_at is_value
 rule_7_kept = refl
 
 -- a change in former properties
@@ -80,11 +81,11 @@ rule_8_broken = refl
 
 -- a paragraph that declares a namespace, and a run
 rule_9_broken : least_rule (closed "p" " xmlns:q=\"u\"") ≡ Some 9
-unfolding attributes_of attribute_in attribute_at name_at word_at char_at name_end name_step may_start may_follow is_name_start is_name_character is_space equated_at quoted_at quote_at is_value
+unfolding attributes_of attribute_in attribute_at name_at word_at char_at name_end name_step may_start may_follow is_name_start is_name_character is_space equated_at quoted_at field_at quote_at is_value
 rule_9_broken = refl
 
 rule_9_kept : least_rule (para (closed "r" " xmlns:q=\"u\"")) ≡ None
-unfolding attributes_of attribute_in attribute_at name_at word_at char_at name_end name_step may_start may_follow is_name_start is_name_character is_space equated_at quoted_at quote_at is_value
+unfolding attributes_of attribute_in attribute_at name_at word_at char_at name_end name_step may_start may_follow is_name_start is_name_character is_space equated_at quoted_at field_at quote_at is_value
 rule_9_kept = refl
 
 -- Sound packages.
@@ -98,5 +99,5 @@ sound_packages :
     ∷ para (opened "r" (opened "rPr" (empty "b" ⊕ opened_with "rPrChange" ann (opened "rPr" (empty "i")))))
     ∷ (empty "p" ⊕ opened "sectPr" (closed "pgSz" " w:w=\"1\"" ⊕ opened_with "sectPrChange" ann (opened "sectPr" (closed "pgSz" " w:w=\"2\"")))) ∷ [])
     ≡ None ∷ None ∷ None ∷ None ∷ None ∷ None ∷ None ∷ []
-unfolding attributes_of attribute_in attribute_at name_at word_at char_at name_end name_step may_start may_follow is_name_start is_name_character is_space equated_at quoted_at quote_at is_value
+unfolding attributes_of attribute_in attribute_at name_at word_at char_at name_end name_step may_start may_follow is_name_start is_name_character is_space equated_at quoted_at field_at quote_at is_value
 sound_packages = refl

@@ -1,6 +1,6 @@
 -- Those of the nine rules that take several steps, by what the ancestors of an element are to it.
 use Prim.Native.String.{String}
-use Rattle.std.specs.Prelude.{List, Bool, ◌&&◌, ◌||◌, not, ◌∷◌, []}
+use Rattle.std.specs.Prelude.{List, Bool, true, ◌&&◌, ◌||◌, not, ◌∷◌, []}
 use Rattle.redl_tree.specs.Model.Nodes.{Tag, Nodes}
 use Rattle.redl_tree.specs.Roles.Names.{is, is_any}
 use Rattle.redl_tree.specs.Model.Kids.{some_element}
@@ -9,6 +9,8 @@ use Rattle.redl_tree.specs.Roles.Lists.{is_thick}
 use Rattle.redl_tree.specs.Rules.Sound.{implies, is_banned, once, each_once, only_first, only_last, change_declares}
 use Rattle.redl_tree.specs.declared.kinds.Kind.{Kind}
 use Rattle.redl_tree.specs.declared.around.Around.{Around}
+use Rattle.redl_tree.specs.declared.around.Parent.{Parent}
+use Rattle.redl_tree.specs.declared.around.Parent.TheVariants.{ParaProps, MarkProps, RowProps, CellProps}
 use Rattle.redl_rules.specs.declared.round.Round.{Round}
 use Rattle.redl_rules.specs.Attributes.{declares}
 
@@ -23,13 +25,17 @@ by_round_3 round kind tag kids =
     && implies (open_in ("rPr" ∷ "sdtContent" ∷ []) round.around tag) (not round.in_content)
     && implies (is_content kind && round.among_blocks) (not (some_element is_thick kids))
 
--- marks that stand once, by what is round the kids
+-- marks that stand once in these properties
+abbrev pub marks_once : Parent → Nodes → Bool
+marks_once ParaProps kids = once "rPr" kids
+marks_once MarkProps kids = each_once ("ins" ∷ "del" ∷ "moveFrom" ∷ "moveTo" ∷ []) kids
+marks_once RowProps kids = each_once ("ins" ∷ "del" ∷ []) kids
+marks_once CellProps kids = each_once ("cellIns" ∷ "cellDel" ∷ []) kids
+marks_once _ kids = true
+
+-- the same by what is round the kids
 abbrev pub by_round_5 : Around → Nodes → Bool
-by_round_5 inner kids =
-    implies inner.para_props (once "rPr" kids)
-    && implies inner.mark_props (each_once ("ins" ∷ "del" ∷ "moveFrom" ∷ "moveTo" ∷ []) kids)
-    && implies inner.row_props (each_once ("ins" ∷ "del" ∷ []) kids)
-    && implies inner.cell_props (each_once ("cellIns" ∷ "cellDel" ∷ []) kids)
+by_round_5 inner kids = marks_once inner.parent kids
 
 -- properties that stand once, and in their place
 abbrev pub by_round_6 : Around → Tag → Nodes → Bool

@@ -2,7 +2,7 @@
 
 ghost use Rattle.std.specs.Prelude.{◌≡◌, not};
 ghost use Rattle.std.specs.List.{list_all};
-ghost use Rattle.redl_markup.specs.Lists.{is_other};
+ghost use Rattle.redl_reading.specs.Lists.{is_other};
 ghost use Rattle.redl_markup.specs.Views.{attribute_view};
 ghost use Rattle.redl_rules.specs.Attributes.{has_id as has_id_tail, is_declaration, declares};
 

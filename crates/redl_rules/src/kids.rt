@@ -106,7 +106,7 @@ pub fn changes_are_last(nodes: &[Node], around: Around) -> bool
         → result ≡ only_last (λ kid. is_change (role above kid)) (nodes_of nodes.now) }
 {
     // A change stands in properties alone.
-    !around.quiet || changes_end_properties(nodes, around)
+    !around.is_quiet() || changes_end_properties(nodes, around)
 }
 
 /// The same, by the role of each element.

@@ -55,7 +55,7 @@ impl Round {
         ensures { result ≡ round_inside (tag_of elem.now) kind self }
     {
         let around = self.around.inside(elem);
-        let here = self.place_inside(elem, around.quiet);
+        let here = self.place_inside(elem, around.is_quiet());
         let in_content = trace_of(elem).is_some();
         Round {
             around,

@@ -20,13 +20,13 @@ use crate::kids::{
     changes_are_last, has_elements, has_thick, is_once, is_only_first, is_only_last,
 };
 use crate::round::Round;
-use redl_tree::{Around, Elem, Kind, Node, Prop, Reach, is_named, is_range_edge, prop_of};
+use redl_tree::{Around, Elem, Kind, Node, Parent, Prop, Reach, is_named, is_range_edge, prop_of};
 
 /// A cell ends in a paragraph (rule 1).
 pub fn keeps_1(elem: &Elem, round: Round) -> bool
     ensures { (above : List Tag) → round ≡ round_of above → result ≡ test_1 above (tag_of elem.now) (kids_of elem.now) }
 {
-    if is_named(elem, b"tc") && !round.around.quiet {
+    if is_named(elem, b"tc") && !round.around.is_quiet() {
         is_so_end(end_of_nodes(elem.kids(), Reach::Direct))
     } else {
         true
@@ -37,7 +37,7 @@ pub fn keeps_1(elem: &Elem, round: Round) -> bool
 pub fn keeps_2(elem: &Elem, round: Round) -> bool
     ensures { (above : List Tag) → round ≡ round_of above → result ≡ test_2 above (tag_of elem.now) (kids_of elem.now) }
 {
-    if is_named(elem, b"tr") && !round.around.quiet {
+    if is_named(elem, b"tr") && !round.around.is_quiet() {
         has_own_cell(elem.kids(), Reach::Direct)
     } else {
         true
@@ -56,13 +56,13 @@ pub fn keeps_3(elem: &Elem, kind: Kind, round: Round) -> bool
 fn is_no_block_below(elem: &Elem, round: Round) -> bool
     ensures { result ≡ implies (is_banned_tag (tag_of elem.now) && not round.around.quiet) (not round.below_content) }
 {
-    !round.below_content || round.around.quiet || !is_banned(elem)
+    !round.below_content || round.around.is_quiet() || !is_banned(elem)
 }
 
 fn is_no_props_in(elem: &Elem, round: Round) -> bool
     ensures { result ≡ implies (open_in ("rPr" ∷ "sdtContent" ∷ []) round.around (tag_of elem.now)) (not round.in_content) }
 {
-    !round.in_content || round.around.quiet || !is_run_props_or_control(elem)
+    !round.in_content || round.around.is_quiet() || !is_run_props_or_control(elem)
 }
 
 fn is_thin_among_blocks(elem: &Elem, kind: Kind, round: Round) -> bool
@@ -111,34 +111,14 @@ pub fn keeps_4(elem: &Elem, inner: Around) -> bool
 pub fn keeps_5(elem: &Elem, inner: Around) -> bool
     ensures { result ≡ by_round_5 inner (kids_of elem.now) }
 {
-    keeps_mark_props(elem, inner)
-        && keeps_mark(elem, inner)
-        && keeps_row_marks(elem, inner)
-        && keeps_cell_marks(elem, inner)
-}
-
-fn keeps_mark_props(elem: &Elem, inner: Around) -> bool
-    ensures { result ≡ implies inner.para_props (once "rPr" (kids_of elem.now)) }
-{
-    !inner.para_props || is_once(elem.kids(), b"rPr")
-}
-
-fn keeps_mark(elem: &Elem, inner: Around) -> bool
-    ensures { result ≡ implies inner.mark_props (each_once ("ins" ∷ "del" ∷ "moveFrom" ∷ "moveTo" ∷ []) (kids_of elem.now)) }
-{
-    !inner.mark_props || mark_is_once(elem.kids())
-}
-
-fn keeps_row_marks(elem: &Elem, inner: Around) -> bool
-    ensures { result ≡ implies inner.row_props (each_once ("ins" ∷ "del" ∷ []) (kids_of elem.now)) }
-{
-    !inner.row_props || row_is_once(elem.kids())
-}
-
-fn keeps_cell_marks(elem: &Elem, inner: Around) -> bool
-    ensures { result ≡ implies inner.cell_props (each_once ("cellIns" ∷ "cellDel" ∷ []) (kids_of elem.now)) }
-{
-    !inner.cell_props || cell_is_once(elem.kids())
+    let kids = elem.kids();
+    match inner.parent() {
+        Parent::ParaProps => is_once(kids, b"rPr"),
+        Parent::MarkProps => mark_is_once(kids),
+        Parent::RowProps => row_is_once(kids),
+        Parent::CellProps => cell_is_once(kids),
+        _ => true,
+    }
 }
 
 fn mark_is_once(kids: &[Node]) -> bool
@@ -166,7 +146,7 @@ fn cell_is_once(kids: &[Node]) -> bool
 pub fn keeps_6(elem: &Elem, round: Round) -> bool
     ensures { result ≡ by_round_6 round.around (tag_of elem.now) (kids_of elem.now) }
 {
-    if round.around.quiet {
+    if round.around.is_quiet() {
         return true;
     }
     keeps_para(elem)
@@ -211,7 +191,7 @@ pub fn keeps_7(elem: &Elem, round: Round) -> bool
     ensures { (above : List Tag) → round ≡ round_of above
         → result ≡ test_7 has_id_tail above (tag_of elem.now) (kids_of elem.now) }
 {
-    if round.around.quiet || !is_range_edge(elem) {
+    if round.around.is_quiet() || !is_range_edge(elem) {
         return true;
     }
     !has_id(elem.tail()) || !has_elements(elem.kids())
@@ -254,7 +234,7 @@ fn loses_tags(elem: &Elem, round: Round, kind: Kind) -> bool
 {
     match kind {
         Kind::Content(_) | Kind::Change(_) => true,
-        _ => is_named(elem, b"p") && !round.around.quiet,
+        _ => is_named(elem, b"p") && !round.around.is_quiet(),
     }
 }
 

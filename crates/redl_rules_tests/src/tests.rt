@@ -1,12 +1,8 @@
 //! A check of whole packages answers the rule that each of them breaks: tables of bodies that break a rule, and of near ones
 //! that break none.
-ghost use Rattle.std.specs.Prelude.{IfOk};
-ghost use Rattle.redl_opc.specs.Tree.{IsTree};
-ghost use Rattle.redl_tree.specs.Model.View.{nodes_of};
 
 use redl_opc::Package;
 use redl_rules::{RuleError, check};
-use redl_tree::Node;
 use std::alloc::{AllocError, Global};
 use std::test::Fail;
 
@@ -101,16 +97,10 @@ fn package(alloc: Global, body: &str, further: &str) -> Result<Vec<u8>, AllocErr
     Ok(text)
 }
 
-fn tree_of(alloc: Global, text: &[u8]) -> Result<Vec<Node>, Fail>
-    ensures { IfOk result (λ nodes. IsTree (nodes_of nodes.items)) }
-{
-    Ok(redl_xml::read(alloc, text)?)
-}
-
 /// What a check of that package answers.
 fn answer(alloc: Global, body: &str, further: &str) -> Result<Result<(), RuleError>, Fail> {
     let text = package(alloc, body, further)?;
-    let pkg = Package::make(alloc, tree_of(alloc, &text)?)?;
+    let pkg = Package::make(alloc, redl_xml::read(alloc, &text)?)?;
     Ok(check(alloc, &pkg))
 }
 

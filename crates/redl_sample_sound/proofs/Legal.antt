@@ -1,16 +1,15 @@
 -- The nodes of a shape are legal XML, given a test of the shape that computes.
 use lib.Utf8.{encode}
 use Rattle.std.proofs.Common.{◌≡◌, ◌≢◌, ◌≤◌, ℕ, Bool, true, false, not, ◌&&◌, ◌==◌, List, [], ◌∷◌, ◌++◌, map, inl, inr, codes, refl, sym, ap, ◌∙◌, subst, append-nil, arith}
-use Rattle.std.proofs.lemmas.Bool.{eqb-true, false_from_ne_true}
+use Rattle.std.proofs.lemmas.Bool.{eqb-true, false_from_ne_true, and_parts, and_from}
 use Rattle.std.proofs.lemmas.List.Folds.{list_all-append}
 use Rattle.std.proofs.lemmas.Str.Parse.{tells_all_ascii_digits}
 use Rattle.std.specs.List.{list_all, AllByRecursion}
 use Rattle.std.specs.Str.{all_ascii_digits, all_scalars, encode_utf8_all, bytes_eq}
 use Rattle.redl_markup.proofs.Listing.{tail_lists}
-use Rattle.redl_markup.proofs.Runs.{and-true, and-both}
 use Rattle.redl_markup.specs.Attributes.{attributes_of}
 use Rattle.redl_markup.specs.Characters.{is_space, is_name_start, is_name_character}
-use Rattle.redl_markup.specs.Lists.{begins, is_filled, is_other, lacks}
+use Rattle.redl_reading.specs.Lists.{begins, is_filled, is_other, lacks}
 use Rattle.redl_markup.specs.Names.{Name, IsWord, are_distinct, may_follow, may_start}
 use Rattle.redl_markup.specs.References.{has_references}
 use Rattle.redl_markup.specs.Stretches.{IsStretch, no_head}
@@ -29,11 +28,11 @@ use Rattle.redl_xml.specs.Shapes.{begins_with_bytes}
 pub all_weaker : (p q : ℕ → Bool) → ((c : ℕ) → p c ≡ true → q c ≡ true) → (xs : List ℕ) → list_all p xs ≡ true → list_all q xs ≡ true
 all_weaker p q step [] h = refl
 all_weaker p q step (x ∷ xs) h =
-    let both = and-true (p x) (list_all p xs) h in
-    and-both (q x) (list_all q xs) (step x both.0) (all_weaker p q step xs both.1)
+    let both = and_parts (p x) (list_all p xs) h in
+    and_from (q x) (list_all q xs) (step x both.0) (all_weaker p q step xs both.1)
 
 pub all_of_both : (p : ℕ → Bool) (xs ys : List ℕ) → list_all p xs ≡ true → list_all p ys ≡ true → list_all p (xs ++ ys) ≡ true
-all_of_both p xs ys h k = list_all-append p xs ys ∙ and-both (list_all p xs) (list_all p ys) h k
+all_of_both p xs ys h k = list_all-append p xs ys ∙ and_from (list_all p xs) (list_all p ys) h k
 
 other : (a c : ℕ) → (c ≢ a) → is_other a c ≡ true
 other a c h = ap not (false_from_ne_true (c == a) (λ e. h (eqb-true c a e)))
@@ -43,34 +42,34 @@ abbrev pub is_safe : ℕ → Bool
 is_safe c = is_other 34 c && (is_other 60 c && (is_other 38 c && is_other 93 c))
 
 pub no_quote : (c : ℕ) → is_safe c ≡ true → is_other 34 c ≡ true
-no_quote c h = (and-true (is_other 34 c) _ h).0
+no_quote c h = (and_parts (is_other 34 c) _ h).0
 
 pub no_tag : (c : ℕ) → is_safe c ≡ true → is_other 60 c ≡ true
-no_tag c h = (and-true (is_other 60 c) _ (and-true (is_other 34 c) _ h).1).0
+no_tag c h = (and_parts (is_other 60 c) _ (and_parts (is_other 34 c) _ h).1).0
 
 no_reference : (c : ℕ) → is_safe c ≡ true → is_other 38 c ≡ true
-no_reference c h = (and-true (is_other 38 c) _ (and-true (is_other 60 c) _ (and-true (is_other 34 c) _ h).1).1).0
+no_reference c h = (and_parts (is_other 38 c) _ (and_parts (is_other 60 c) _ (and_parts (is_other 34 c) _ h).1).1).0
 
 no_bracket : (c : ℕ) → is_safe c ≡ true → is_other 93 c ≡ true
-no_bracket c h = (and-true (is_other 38 c) _ (and-true (is_other 60 c) _ (and-true (is_other 34 c) _ h).1).1).1
+no_bracket c h = (and_parts (is_other 38 c) _ (and_parts (is_other 60 c) _ (and_parts (is_other 34 c) _ h).1).1).1
 
 -- a digit is such a byte
 safe_digit : (c : ℕ) → 48 ≤ c → c ≤ 57 → is_safe c ≡ true
 safe_digit c low high =
-    and-both (is_other 34 c) _ (other 34 c (λ e. omega (arith, e, low)))
-    (and-both (is_other 60 c) _ (other 60 c (λ e. omega (arith, e, high)))
-    (and-both (is_other 38 c) _ (other 38 c (λ e. omega (arith, e, low))) (other 93 c (λ e. omega (arith, e, high)))))
+    and_from (is_other 34 c) _ (other 34 c (λ e. omega (arith, e, low)))
+    (and_from (is_other 60 c) _ (other 60 c (λ e. omega (arith, e, high)))
+    (and_from (is_other 38 c) _ (other 38 c (λ e. omega (arith, e, low))) (other 93 c (λ e. omega (arith, e, high)))))
 
 pub digits_safe : (digits : List ℕ) → all_ascii_digits digits ≡ true → list_all is_safe digits ≡ true
 digits_safe [] h = refl
 digits_safe (c ∷ cs) h =
     let parts = tells_all_ascii_digits.parts c cs h in
-    and-both (is_safe c) (list_all is_safe cs) (safe_digit c (omega (arith, parts.0)) (omega (arith, parts.0))) (digits_safe cs parts.1)
+    and_from (is_safe c) (list_all is_safe cs) (safe_digit c (omega (arith, parts.0)) (omega (arith, parts.0))) (digits_safe cs parts.1)
 
 pub safe_references : (bs : List ℕ) → list_all is_safe bs ≡ true → has_references bs ≡ true
 safe_references [] h = refl
 safe_references (b ∷ bs) h =
-    let both = and-true (is_safe b) (list_all is_safe bs) h in
+    let both = and_parts (is_safe b) (list_all is_safe bs) h in
     rw (no_reference b both.0) (safe_references bs both.1)
 
 begins_bracket : (b : ℕ) (bs more : List ℕ) → is_other 93 b ≡ true → begins (93 ∷ more) (b ∷ bs) ≡ false
@@ -83,7 +82,7 @@ begins_bracket b bs more h = by (b == 93) h
 safe_lacks : (bs : List ℕ) → list_all is_safe bs ≡ true → lacks (codes "]]>") bs ≡ true
 safe_lacks [] h = refl
 safe_lacks (b ∷ bs) h =
-    let both = and-true (is_safe b) (list_all is_safe bs) h in
+    let both = and_parts (is_safe b) (list_all is_safe bs) h in
     rw (begins_bracket b bs (codes "]>") (no_bracket b both.0)) (safe_lacks bs both.1)
 
 -- ---- a test of shapes
@@ -97,9 +96,9 @@ is_word (b ∷ bs) =
 pub word_of : (word : List ℕ) → is_word word ≡ true → IsWord false word
 word_of [] h = absurd (cc h)
 word_of (b ∷ bs) h =
-    let one = and-true (may_start false b) _ h in
-    let two = and-true (list_all (may_follow false) bs) _ one.1 in
-    let three = and-true (all_scalars (b ∷ bs)) _ two.1 in
+    let one = and_parts (may_start false b) _ h in
+    let two = and_parts (list_all (may_follow false) bs) _ one.1 in
+    let three = and_parts (all_scalars (b ∷ bs)) _ two.1 in
     record { first = b; more = bs; start = one.0; each = two.0; scalars = three.0; whole = same_bytes (b ∷ bs) (encode_utf8_all (b ∷ bs)) three.1 }
 
 abbrev pub is_field : Field → Bool
@@ -132,7 +131,7 @@ value_safe digits (before, false) d h = h
 legal_attribute : (digits : List ℕ) (field : Field) → list_all is_safe digits ≡ true → is_field field ≡ true → IsAttribute (attribute_of digits field)
 unfolding is_space
 legal_attribute digits field d h =
-    let both = and-true (is_word field.0) _ h in
+    let both = and_parts (is_word field.0) _ h in
     let safe = value_safe digits field.1 d both.1 in
     record {
       gap = (λ e. cc e, refl);
@@ -148,7 +147,7 @@ legal_attribute digits field d h =
 pub legal_attributes : (digits : List ℕ) (fields : List Field) → list_all is_safe digits ≡ true → list_all is_field fields ≡ true → AllByRecursion IsAttribute (attributes digits fields)
 legal_attributes digits [] d h = tt
 legal_attributes digits (field ∷ fields) d h =
-    let both = and-true (is_field field) (list_all is_field fields) h in
+    let both = and_parts (is_field field) (list_all is_field fields) h in
     (legal_attribute digits field d both.0, legal_attributes digits fields d both.1)
 
 pub names_same : (digits others : List ℕ) (fields : List Field) → names_of digits fields ≡ names_of others fields
@@ -195,8 +194,8 @@ pub record LegalTag (digits local : List ℕ) (fields : List Field) : Type 0 whe
 pub legal_tag : (digits local : List ℕ) (fields : List Field) → list_all is_safe digits ≡ true → is_tag local fields ≡ true → LegalTag digits local fields
 unfolding is_xmlns is_known is_xml_prefix legal_tail
 legal_tag digits local fields d h =
-    let one = and-true (is_word local) _ h in
-    let two = and-true (list_all is_field fields) _ one.1 in
+    let one = and_parts (is_word local) _ h in
+    let two = and_parts (list_all is_field fields) _ one.1 in
     let tail = legal_tail digits fields d two.0 two.1 in
     let list = tail_lists (tail_of digits fields) tail in
     let scope : scope_in (tail_of digits fields) body_scope ≡ body_scope = ap (λ found. with_declarations found body_scope) list ∙ declares_nothing digits fields body_scope in
@@ -230,7 +229,7 @@ legal_words digits (b ∷ bs) d filled h =
       is_head = refl;
       first_run = record {
         no_tag = all_weaker is_safe (is_other 60) no_tag text safe;
-        allowed = and-both (has_references text) (lacks (codes "]]>") text) (safe_references text safe) (safe_lacks text safe);
+        allowed = and_from (has_references text) (lacks (codes "]]>") text) (safe_references text safe) (safe_lacks text safe);
       };
       each = tt;
       whole = sym (append-nil text);
@@ -242,19 +241,19 @@ pub legal_shape : (digits : List ℕ) → list_all is_safe digits ≡ true → (
     → AreLegal body_scope (nodes_of digits shape rest) × (after ≡ true → begins_with_bytes (nodes_of digits shape rest) ≡ false)
 legal_shape digits d end after h rest legal begins = (legal, λ e. begins)
 legal_shape digits d (words before shape) after h rest legal begins =
-    let one = and-true (not after) _ h in
-    let two = and-true (is_filled before) _ one.1 in
-    let three = and-true (list_all is_safe before) _ two.1 in
+    let one = and_parts (not after) _ h in
+    let two = and_parts (is_filled before) _ one.1 in
+    let three = and_parts (list_all is_safe before) _ two.1 in
     let more = legal_shape digits d shape true three.1 rest legal begins in
     ((legal_words digits before d two.0 three.0, more.1 refl, more.0), λ e. absurd (cc (ap not (sym e) ∙ one.0)))
 legal_shape digits d (empty local fields shape) after h rest legal begins =
-    let both = and-true (is_tag local fields) _ h in
+    let both = and_parts (is_tag local fields) _ h in
     let is = legal_tag digits local fields d both.0 in
     let more = legal_shape digits d shape false both.1 rest legal begins in
     ((is.tag _, refl, tt, more.0), λ e. refl)
 legal_shape digits d (full local fields kids shape) after h rest legal begins =
-    let one = and-true (is_tag local fields) _ h in
-    let two = and-true (is_fine false kids) _ one.1 in
+    let one = and_parts (is_tag local fields) _ h in
+    let two = and_parts (is_fine false kids) _ one.1 in
     let is = legal_tag digits local fields d one.0 in
     let inside = legal_shape digits d kids false two.0 no_nodes tt refl in
     let more = legal_shape digits d shape false two.1 rest legal begins in

@@ -1,13 +1,12 @@
 -- The text of a sample is read as these nodes, which are within the limits.
 use lib.Utf8.{encode}
 use Rattle.std.proofs.Common.{◌≡◌, ◌+◌, ◌*◌, ◌≤◌, ◌<◌, ◌^◌, ℕ, zero, suc, Bool, true, false, ◌&&◌, ◌||◌, ◌==◌, nat_le, cond, eqb, List, [], ◌∷◌, ◌++◌, codes, decimal, refl, sym, ap, ◌∙◌, append_assoc, append-nil, arith}
-use Rattle.std.proofs.lemmas.Bool.{eqb-true, leb-true, le-leb}
+use Rattle.std.proofs.lemmas.Bool.{eqb-true, leb-true, le-leb, and_parts, and_from}
 use Rattle.std.proofs.lemmas.Fmt.{digits_decimal}
 use Rattle.std.proofs.lemmas.Str.{encode_ascii}
 use Rattle.std.proofs.lemmas.Str.Parse.{numerals_by_value, tells_all_ascii_digits}
 use Rattle.std.specs.List.{flat_map, list_all, range_with_len}
 use Rattle.std.specs.Str.{all_ascii_digits, encode_utf8_all}
-use Rattle.redl_markup.proofs.Runs.{and-true, and-both}
 use Rattle.redl_markup.specs.Characters.{IsText, is_character, is_name_start, is_name_character}
 use Rattle.redl_markup.specs.Names.{are_distinct, may_follow, may_start}
 use Rattle.redl_sample.specs.Blocks.{block_text, filled, filled_byte, form_at, template}
@@ -51,7 +50,7 @@ is_printable c = nat_le 32 c && nat_le c 126
 
 printable : (c : ℕ) → is_printable c ≡ true → (32 ≤ c) × (c ≤ 126)
 printable c h =
-    let both = and-true (nat_le 32 c) (nat_le c 126) h in
+    let both = and_parts (nat_le 32 c) (nat_le c 126) h in
     (leb-true 32 c both.0, leb-true c 126 both.1)
 
 or_true : (b : Bool) → (b || true) ≡ true
@@ -61,7 +60,7 @@ or_true false = refl
 character : (c : ℕ) → is_printable c ≡ true → is_character c ≡ true
 unfolding is_character
 character c h =
-    let low : nat_le 32 c ≡ true = (and-true (nat_le 32 c) (nat_le c 126) h).0 in
+    let low : nat_le 32 c ≡ true = (and_parts (nat_le 32 c) (nat_le c 126) h).0 in
     let high : nat_le c 0xD7FF ≡ true = le-leb c 0xD7FF (omega (arith, (printable c h).1)) in
     let any : (c == 0x9 || c == 0xA || c == 0xD || true) ≡ true = or_true (c == 0x9 || c == 0xA || c == 0xD) in
     rw (low, high, any) refl
@@ -72,13 +71,13 @@ text_of_printable bs h = record { characters = bs; each = each bs h; whole = who
     each : (cs : List ℕ) → list_all is_printable cs ≡ true → list_all is_character cs ≡ true
     each [] k = refl
     each (c ∷ cs) k =
-        let both = and-true (is_printable c) (list_all is_printable cs) k in
-        and-both (is_character c) (list_all is_character cs) (character c both.0) (each cs both.1)
+        let both = and_parts (is_printable c) (list_all is_printable cs) k in
+        and_from (is_character c) (list_all is_character cs) (character c both.0) (each cs both.1)
 
     whole : (cs : List ℕ) → list_all is_printable cs ≡ true → cs ≡ encode_utf8_all cs
     whole [] k = refl
     whole (c ∷ cs) k =
-        let both = and-true (is_printable c) (list_all is_printable cs) k in
+        let both = and_parts (is_printable c) (list_all is_printable cs) k in
         let low = printable c both.0 in
         ap (λ (z : List ℕ). c ∷ z) (whole cs both.1) ∙ ap (λ (z : List ℕ). z ++ encode_utf8_all cs) (sym (encode_ascii c (omega (arith, low.1))))
 
@@ -90,8 +89,8 @@ digits_printable : (digits : List ℕ) → all_ascii_digits digits ≡ true → 
 digits_printable [] h = refl
 digits_printable (c ∷ cs) h =
     let parts = tells_all_ascii_digits.parts c cs h in
-    and-both (is_printable c) (list_all is_printable cs)
-    (and-both (nat_le 32 c) (nat_le c 126) (le-leb 32 c (omega (arith, parts.0))) (le-leb c 126 (omega (arith, parts.0)))) (digits_printable cs parts.1)
+    and_from (is_printable c) (list_all is_printable cs)
+    (and_from (nat_le 32 c) (nat_le c 126) (le-leb 32 c (omega (arith, parts.0))) (le-leb c 126 (omega (arith, parts.0)))) (digits_printable cs parts.1)
 
 -- a template is what it is filled to by the sign for a number itself
 unfilled : (bs : List ℕ) → filled_then (35 ∷ []) bs [] ≡ bs
@@ -120,12 +119,12 @@ template_printable number =
 filled_printable : (digits bs : List ℕ) → list_all is_printable digits ≡ true → list_all is_printable bs ≡ true → list_all is_printable (filled digits bs) ≡ true
 filled_printable digits [] d h = refl
 filled_printable digits (b ∷ bs) d h =
-    let both = and-true (is_printable b) (list_all is_printable bs) h in
+    let both = and_parts (is_printable b) (list_all is_printable bs) h in
     all_of_both is_printable (filled_byte digits b) (filled digits bs) (by (eqb b 35)) (filled_printable digits bs d both.1)
   where
     by : (same : Bool) → list_all is_printable (cond same digits (b ∷ [])) ≡ true
     by true = d
-    by false = and-both (is_printable b) true (and-true (is_printable b) (list_all is_printable bs) h).0 refl
+    by false = and_from (is_printable b) true (and_parts (is_printable b) (list_all is_printable bs) h).0 refl
 
 blocks_printable : (from size : ℕ) → from + size < 2 ^ 64 → list_all is_printable (flat_map block_text (range_with_len from size)) ≡ true
 blocks_printable from zero small = refl

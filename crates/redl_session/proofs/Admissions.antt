@@ -1,15 +1,14 @@
 -- What admitted and refused entries come to, one after another.
-use Rattle.std.proofs.Common.{◌≡◌, ℕ, Bool, true, false, cond, List, [], ◌∷◌, ◌++◌, append-nil, Option, None, Some, Contains, filter, refl, sym, ap, ◌∙◌}
+use Rattle.std.proofs.Common.{◌≡◌, ℕ, Bool, true, false, cond, List, [], ◌∷◌, ◌++◌, append-nil, None, Some, Contains, refl, sym, ap, ◌∙◌}
 use Rattle.std.proofs.lemmas.List.Elements.{filter-append, filter_map-append}
 use Rattle.std.specs.Prelude.{◌↔◌, ◌&&◌, is_none, length}
-use Rattle.std.specs.List.{filter_map}
 use Rattle.redl_index.specs.declared.revision.Revision.{Revision}
 use Rattle.redl_join.specs.Books.{IsBook, union, with_entry}
 use Rattle.redl_join.proofs.Unions.{has_entry-filter, has_entry-same, union-append, union-same}
 use Rattle.redl_journal.specs.declared.entry.Entry.{Entry}
 use Rattle.redl_session.specs.Refusals.{admitted, cause_of, refusal_of, refusals, TakesFirst}
 use Rattle.redl_session.specs.Says.{says_of}
-use Rattle.redl_session.specs.Sessions.{State, StopsAfter, after, after_entry, says}
+use Rattle.redl_session.specs.Sessions.{State, StopsAfter, after, says}
 use Rattle.redl_session.specs.declared.refusal.AdmitError.{AdmitError}
 use Rattle.redl_session.specs.declared.refusal.Refusal.{Refusal}
 

@@ -1,5 +1,5 @@
 -- The invariant of a session, after entries.
-use Rattle.std.proofs.Common.{◌≡◌, ℕ, ◌-◌, ◌<◌, ◌≤◌, Bool, false, List, Result, Ok, Err, set, sym, ap, ◌∙◌}
+use Rattle.std.proofs.Common.{◌≡◌, ℕ, ◌-◌, ◌<◌, ◌≤◌, false, List, Result, Ok, Err, set, sym, ap, ◌∙◌}
 use Rattle.std.specs.Prelude.{length, not}
 use Rattle.std.specs.Result.{OnErr, OnOk}
 use Rattle.redl_index.specs.declared.revision.Revision.{Revision}

@@ -1,5 +1,5 @@
 -- What a pass leaves of a sound package with numbers: the text that survives, in a sound package.
-use Rattle.std.proofs.Common.{◌≡◌, ℕ, ◌+◌, List, [], ◌∷◌, Bool, true, false, cond, Option, None, Some, map, refl, if◌then◌else◌}
+use Rattle.std.proofs.Common.{◌≡◌, ℕ, ◌+◌, List, [], ◌∷◌, Bool, true, false, None, Some, map, refl, if◌then◌else◌}
 use Rattle.std.proofs.lemmas.Bool.{and_from}
 use Rattle.std.specs.Prelude.{◌&&◌}
 use Rattle.std.specs.List.{list_all}
@@ -12,7 +12,7 @@ use Rattle.redl_tree.specs.Decisions.Packages.{pass_package, stories}
 use Rattle.redl_tree.specs.Decisions.Survivors.{survivors, text_pieces}
 use Rattle.redl_tree.specs.Model.Nodes.{Nodes}
 use Rattle.redl_tree.specs.Model.View.{Parts}
-use Rattle.redl_tree.specs.Rules.Sound.{Test, first_broken, holds, is_sound}
+use Rattle.redl_tree.specs.Rules.Sound.{Test, first_broken, holds}
 use Rattle.redl_tree.specs.declared.kinds.Say.{Say}
 
 -- no rule is broken exactly where all hold

@@ -1,5 +1,5 @@
 -- The says of a book, one for each revision, and how one entry changes them.
-use Rattle.std.proofs.Common.{◌≡◌, ◌≢◌, ℕ, zero, suc, ◌+◌, ◌-◌, ◌<◌, ◌≤◌, Bool, true, false, ◌==◌, List, [], ◌∷◌, map, set, length, replicate, refl, sym, ap, ◌∙◌, arith}
+use Rattle.std.proofs.Common.{◌≡◌, ◌≢◌, ℕ, zero, suc, ◌+◌, ◌-◌, ◌<◌, ◌≤◌, false, ◌==◌, List, [], ◌∷◌, map, set, length, replicate, refl, sym, ap, ◌∙◌, arith}
 use Rattle.std.proofs.lemmas.Bool.{false_from_ne_true, eqb-true}
 use Rattle.std.proofs.lemmas.List.FromFn.{length-range_with_len, length-map-range_with_len}
 use Rattle.std.proofs.lemmas.Simd.{splat_is_map}
@@ -9,7 +9,6 @@ use Rattle.redl_join.specs.Books.{IsBook, is_on, with_entry}
 use Rattle.redl_join.specs.Verdicts.{verdict_at}
 use Rattle.redl_journal.specs.declared.entry.Entry.{Entry}
 use Rattle.redl_session.specs.Says.{say_of_verdict, says_of}
-use Rattle.redl_tree.specs.declared.kinds.Say.{Say}
 use Rattle.redl_tree.specs.declared.kinds.Say.TheVariants.{Keep}
 
 map_alike : {X : Type 0} (f g : ℕ → X) (a n : ℕ) → ((k : ℕ) → a ≤ k → f k ≡ g k) → map f (range_with_len a n) ≡ map g (range_with_len a n)

@@ -1,5 +1,5 @@
 -- Sessions, as contracts see them, and what admitted entries make of them.
-use Rattle.std.specs.Prelude.{◌≡◌, ℕ, List, [], ◌∷◌, ◌++◌, None, is_none, length, refl, true, if◌then◌else◌}
+use Rattle.std.specs.Prelude.{◌≡◌, ℕ, List, [], ◌∷◌, ◌++◌, None, is_none, length, refl, if◌then◌else◌}
 use Rattle.std.specs.Coded.{Coded, code_by, coded_list, coded×, coded_ℕ}
 use Rattle.redl_index.specs.Numbers.{numbered_package}
 use Rattle.redl_index.specs.declared.revision.Revision.{Revision}

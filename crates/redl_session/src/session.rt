@@ -177,6 +177,13 @@ impl<'a> Session<'a> {
         self.book
     }
 
+    /// The revisions of the package. The package goes.
+    pub fn into_index(self) -> Index
+        ensures { result ≡ self.entry.revisions }
+    {
+        self.index
+    }
+
     /// Puts the text of the package under the says. `Failed` means that the sink failed and has only a prefix of the text.
     /// `NoMemory` means out of memory, and nothing was put.
     pub fn write<K: Sink>(&self, out: &mut K) -> Result<(), SessionWriteError>

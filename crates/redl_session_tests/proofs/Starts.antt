@@ -3,18 +3,11 @@ use Rattle.std.proofs.Common.{◌≡◌, ℕ, Option, None, Some, Ok, refl, sym,
 use Rattle.redl_index.proofs.AgainLaws.{revisions-numbered}
 use Rattle.redl_index.specs.Numbers.{numbered_package}
 use Rattle.redl_index.specs.Revisions.{revisions_of}
-use Rattle.redl_opc.specs.Tree.{HasUtf8Tails}
 use Rattle.redl_rules.specs.Answers.{answer_of}
 use Rattle.redl_rules.specs.Attributes.{broken_rule, declares, has_id}
 use Rattle.redl_stamp.specs.Attribute.{attribute_value}
 use Rattle.redl_tree.proofs.NumberLaws.{broken-numbered, numbered-indexed}
-use Rattle.redl_tree.specs.Model.Nodes.{Nodes, no_nodes, bytes, element}
-use Rattle.redl_xml.specs.Readings.{HaveLegalTails}
-
-pub utf8_tails : (nodes : Nodes) → HaveLegalTails nodes → HasUtf8Tails nodes
-utf8_tails no_nodes legal = tt
-utf8_tails (bytes b rest) legal = utf8_tails rest legal
-utf8_tails (element tag kids rest) (tail, utf8, in_kids, in_rest) = (utf8, utf8_tails kids in_kids, utf8_tails rest in_rest)
+use Rattle.redl_tree.specs.Model.Nodes.{Nodes}
 
 pub unbroken : (rule : Option ℕ) → Ok tt ≡ answer_of rule → rule ≡ None
 unbroken None is = refl

@@ -1,8 +1,6 @@
 //! Sessions over a package of two revisions: which entries are new, repeated and refused, and what is left of the package.
 ghost use Rattle.std.specs.Prelude.{◌≡◌, All, IfOk};
 ghost use Rattle.redl_journal.specs.Journals.{IsAllowed};
-ghost use Rattle.redl_opc.specs.Tree.{IsTree};
-ghost use Rattle.redl_tree.specs.Model.View.{nodes_of};
 
 use redl_index::Index;
 use redl_io::{MemSink, Text};
@@ -11,7 +9,7 @@ use redl_journal::Entry;
 use redl_opc::Package;
 use redl_rules::check;
 use redl_session::{AdmitError, Locks, Refusal, Session, Taken};
-use redl_tree::{Node, Say, write_nodes};
+use redl_tree::{Say, write_nodes};
 use std::alloc::Global;
 use std::test::Fail;
 
@@ -36,12 +34,6 @@ fn entries_of(alloc: Global, lines: &[u8]) -> Result<Vec<Entry>, Fail>
     Ok(journal.entries)
 }
 
-fn tree_of(alloc: Global, text: &[u8]) -> Result<Vec<Node<'_>>, Fail>
-    ensures { IfOk result (λ nodes. IsTree (nodes_of nodes.items)) }
-{
-    Ok(redl_xml::read(alloc, text)?)
-}
-
 fn locks_of(alloc: Global, author: &[u8]) -> Result<Locks, Fail> {
     let mut authors = Vec::new(alloc);
     authors.push(Text::copy_of(alloc, author)?)?;
@@ -51,7 +43,7 @@ fn locks_of(alloc: Global, author: &[u8]) -> Result<Locks, Fail> {
 // A session over the package with one locked author.
 fn session_of(alloc: Global, author: &[u8]) -> Result<Session<'static>, Fail> {
     let locks = locks_of(alloc, author)?;
-    let mut pkg = Package::make(alloc, tree_of(alloc, PACKAGE)?)?;
+    let mut pkg = Package::make(alloc, redl_xml::read(alloc, PACKAGE)?)?;
     check(alloc, &pkg)?;
     let index = Index::build(alloc, &mut pkg)?;
     Ok(Session::start(alloc, pkg, index, locks)?)

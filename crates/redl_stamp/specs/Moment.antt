@@ -3,8 +3,8 @@
 use Rattle.std.specs.Prelude.{ℕ, ◌+◌, ◌-◌, ◌*◌, Bool, true, false, ◌&&◌, ◌==◌, nat_le, List, [], ◌∷◌, length, Option, Some, None, if◌then◌else◌, codes, ℤ, pos, neg_ℤ, int_le, ◌+ℤ◌, ◌-ℤ◌, ◌*ℤ◌}
 use Rattle.jiff_core.specs.Calendar.{IsBetween, days_in_month, days_from_civil}
 use Rattle.redl_markup.specs.Characters.{between}
-use Rattle.redl_markup.specs.Lists.{behind, front, after}
-use Rattle.redl_markup.specs.Reading.{◌>>=◌}
+use Rattle.redl_reading.specs.Lists.{behind, front, after}
+use Rattle.redl_reading.specs.Steps.{◌>>=◌}
 
 -- a decimal digit
 abbrev pub is_decimal : ℕ → Bool

@@ -1,9 +1,11 @@
 //! Numbers of two and of four decimal digits.
 
-ghost use Rattle.std.specs.Prelude.{◌<◌, ◌≡◌, IfSome, length};
-ghost use Rattle.redl_markup.specs.Lists.{behind, front, after};
-ghost use Rattle.redl_markup.specs.Reading.{Gives};
+ghost use Rattle.std.specs.Prelude.{◌<◌, ◌≡◌, IfSome};
+ghost use Rattle.redl_reading.specs.Lists.{front, after};
+ghost use Rattle.redl_reading.specs.Steps.{Gives};
 ghost use Rattle.redl_stamp.specs.Moment.{is_decimal, digit_at, two_digits_at, four_digits_at, marked_digits_at};
+
+use redl_reading::{run, skip};
 
 /// The value of a leading digit, and the bytes after it.
 fn digit(bytes: &[u8]) -> Option<(u8, &[u8])>
@@ -36,14 +38,6 @@ pub(crate) fn four_digits(bytes: &[u8]) -> Option<(u16, &[u8])>
     Some((high as u16 * 100 + low as u16, rest))
 }
 
-/// The bytes after a leading `mark`.
-#[tactic(auto, using(redl_markup::proofs::Words::behind_pointwise, redl_markup::proofs::Words::behind_not_pointwise))]
-pub(crate) fn skip<'a>(bytes: &'a [u8], mark: &[u8]) -> Option<&'a [u8]>
-    ensures { Gives (λ rest. rest.now) result (behind mark.now bytes.now) }
-{
-    bytes.strip_prefix(mark)
-}
-
 /// The number that two digits after a leading `mark` write, and the bytes after them.
 pub(crate) fn marked_digits<'a>(bytes: &'a [u8], mark: &[u8]) -> Option<(u8, &'a [u8])>
     ensures value { Gives (λ x. (x.0, x.1.now)) result (marked_digits_at mark.now bytes.now) }
@@ -54,14 +48,9 @@ pub(crate) fn marked_digits<'a>(bytes: &'a [u8], mark: &[u8]) -> Option<(u8, &'a
 }
 
 /// The leading digits, and the bytes after them.
-#[tactic(auto, using(redl_markup::proofs::Runs::front_at, redl_markup::proofs::Runs::after_at))]
 pub(crate) fn digits(bytes: &[u8]) -> (&[u8], &[u8])
     ensures front { result.0.now ≡ front is_decimal bytes.now }
     ensures rest { result.1.now ≡ after is_decimal bytes.now }
 {
-    let mut n = 0;
-    while n < bytes.len() && bytes[n].is_ascii_digit() {
-        n += 1;
-    }
-    bytes.split_at(n)
+    run(bytes, |b| b.is_ascii_digit())
 }

@@ -3,11 +3,12 @@
 ghost use Rattle.std.specs.Prelude.{◌≡◌, ◌<◌, ◌≤◌, IfSome, pos, neg_ℤ};
 ghost use Rattle.jiff_core.specs.Calendar.{IsBetween};
 ghost use Rattle.jiff_core.specs.Date.{epoch_day};
-ghost use Rattle.redl_markup.specs.Reading.{Gives};
+ghost use Rattle.redl_reading.specs.Steps.{Gives};
 ghost use Rattle.redl_stamp.specs.Moment.{seconds_to, date_at, time_at, behind_fraction, offset_in, zone_in, within_years, moment_of, IsMoment};
 
-use crate::digits::{digits, four_digits, marked_digits, skip, two_digits};
+use crate::digits::{digits, four_digits, marked_digits, two_digits};
 use jiff::civil::{Date, Time};
+use redl_reading::skip;
 
 /// 0000-01-01T00:00:00Z.
 const FIRST_MOMENT: i64 = -62_167_219_200;

@@ -11,6 +11,7 @@ use crate::moment::moment;
 use crate::stamp_values::Written;
 use crate::value::decoded;
 use redl_io::Text;
+use redl_markup::{decode_value, is_literal};
 use std::alloc::{AllocError, Global};
 
 /// Who made a revision and when, and the name and id of the revision or of a move's marker (ECMA-376 Part 1, 17.13.5).
@@ -41,10 +42,15 @@ fn seconds(alloc: Global, written: Option<&[u8]>) -> Result<Option<i64>, AllocEr
         ≡ option_and_then moment_of (option_map decoded_value (option_map (λ value. value.now) written.entry))) }
     ensures range { IfOk result (λ seconds. IfSome seconds IsMoment) }
 {
-    match decoded(alloc, written)? {
-        Some(date) => Ok(moment(date.as_bytes())),
-        None => Ok(None),
+    let Some(date) = written else {
+        return Ok(None);
+    };
+    // nearly every date is of this kind, and needs no copy
+    if is_literal(date) {
+        return Ok(moment(date));
     }
+    let date = decode_value(alloc, date)?;
+    Ok(moment(&date))
 }
 
 /// The stamp in a tag's tail.

@@ -4,12 +4,12 @@ ghost use Rattle.std.specs.Prelude.{◌≡◌, is_some, IfOk, IfSome};
 ghost use Rattle.std.specs.Option.{option_map};
 ghost use Rattle.std.specs.Str.{IsUtf8};
 ghost use Rattle.redl_markup.specs.Decoding.{decoded_value};
-ghost use Rattle.redl_markup.specs.Reading.{Gives};
+ghost use Rattle.redl_reading.specs.Steps.{Gives};
 ghost use Rattle.redl_markup.specs.Views.{attribute_view};
 ghost use Rattle.redl_stamp.specs.Attribute.{has_local_name, written_value, attribute_value};
 
 use redl_io::Text;
-use redl_markup::{Attribute, decode_value, next_attribute};
+use redl_markup::{Attribute, decode_value, is_literal, next_attribute};
 use std::alloc::{AllocError, Global};
 
 /// Whether an attribute has this local name and is no declaration of a namespace.
@@ -60,6 +60,9 @@ pub(crate) fn decoded(alloc: Global, written: Option<&[u8]>) -> Result<Option<Te
     let Some(written) = written else {
         return Ok(None);
     };
+    if is_literal(written) {
+        return Ok(Some(Text::copy_of(alloc, written)?));
+    }
     let value = decode_value(alloc, written)?;
     let text = Text::copy_of(alloc, &value)?;
     Ok(Some(text))

@@ -2,7 +2,6 @@
 -- and no numbers.
 use Rattle.std.proofs.Common.{◌≡◌, ℕ, ◌+◌, List, [], ◌∷◌, ◌++◌, map, Bool, true, false, ◌&&◌, inl, inr, is_some, find, refl, sym, ap, ◌∙◌, codes, if◌then◌else◌}
 use Rattle.std.proofs.lemmas.Bool.{and_parts}
-use Rattle.std.proofs.lemmas.List.{map-append}
 use Rattle.redl_tree.specs.Model.Nodes.{Tag, Nodes, no_nodes, bytes, element}
 use Rattle.redl_tree.specs.Model.View.{Parts}
 use Rattle.redl_tree.specs.Roles.Places.{is_quiet, is_open, is_range_edge, role}
@@ -10,8 +9,8 @@ use Rattle.redl_tree.specs.Model.Seen.{Spot, spot, seen_one, root_spots, seen, t
 use Rattle.redl_tree.specs.Revisions.Moves.{Pair, is_of_pair}
 use Rattle.redl_tree.specs.Revisions.Markers.{Value, moves_among, move_of_marker}
 use Rattle.redl_tree.specs.Rules.Sound.{is_marker}
-use Rattle.redl_tree.specs.Revisions.Numbers.{Numbering, counted, revision_of, numbering_after, labelled_tag, labelled, labelled_story, start_with, next_after_story, next_after, numbered_in, IsIndexed}
-use Rattle.redl_tree.specs.Decisions.Packages.{is_root, level_of, is_data_level, is_story_root, stories_in, stories, pass_in, pass_package}
+use Rattle.redl_tree.specs.Revisions.Numbers.{Numbering, counted, revision_of, numbering_after, labelled_tag, labelled, labelled_story, start_with, number_rule, IsIndexed}
+use Rattle.redl_tree.specs.Decisions.Packages.{is_root, level_of, is_data_level, is_story_root, stories_in, stories, element_stories, left_after, changed_stories, changed_in, pass_rule, pass_package}
 use Rattle.redl_tree.specs.Decisions.Pass.{pass}
 use Rattle.redl_tree.specs.Decisions.Survivors.{text_pieces, survivors}
 use Rattle.redl_tree.specs.declared.kinds.Kind.TheVariants.{Marker}
@@ -19,6 +18,7 @@ use Rattle.redl_tree.specs.declared.kinds.Say.{Say}
 use Rattle.redl_tree.proofs.Named.{by_names}
 use Rattle.redl_tree.proofs.Fits.{Fits, AllFit}
 use Rattle.redl_tree.proofs.Survival.{survival}
+use Rattle.redl_tree.proofs.StoryLaws.{stories-changed}
 
 -- a search by a test that begins with a fact
 find_fact : (b : Bool) (test : Pair → Bool) (xs : List Pair) → is_some (find (λ x. b && test x) xs) ≡ true → b ≡ true
@@ -74,16 +74,16 @@ AreStories-++ : (xs ys : List Parts) → AreStories xs → AreStories ys → Are
 AreStories-++ [] ys h k = k
 AreStories-++ (x ∷ xs) ys h k = (h.0, AreStories-++ xs ys h.1 k)
 
-stories_are : (value : Value) (around : List Tag) (next : ℕ) (nodes : Nodes) → numbered_in value around next nodes ≡ nodes → AreStories (stories_in around nodes)
+stories_are : (value : Value) (around : List Tag) (next : ℕ) (nodes : Nodes) → changed_in (number_rule value) next around nodes ≡ nodes → AreStories (stories_in around nodes)
 stories_are value around next no_nodes e = tt
 stories_are value around next (bytes b rest) e = stories_are value around next rest cc
 stories_are value around next (element tag kids rest) e =
-    AreStories-++ (if is_root around tag then record { tag = tag; kids = kids } ∷ [] else stories_in (tag ∷ around) kids) (stories_in around rest)
+    AreStories-++ (element_stories around tag kids) (stories_in around rest)
     (here (is_root around tag) refl (cc) (stories_are value (tag ∷ around) next kids))
-    (stories_are value around (if is_root around tag then next_after_story value next tag kids else next_after value (tag ∷ around) next kids) rest cc)
+    (stories_are value around (left_after (number_rule value) next (element_stories around tag kids)) rest cc)
   where
-    here : (b : Bool) → is_root around tag ≡ b → (if b then labelled_story value next tag kids else numbered_in value (tag ∷ around) next kids) ≡ kids →
-        (numbered_in value (tag ∷ around) next kids ≡ kids → AreStories (stories_in (tag ∷ around) kids)) →
+    here : (b : Bool) → is_root around tag ≡ b → (if b then labelled_story value next tag kids else changed_in (number_rule value) next (tag ∷ around) kids) ≡ kids →
+        (changed_in (number_rule value) next (tag ∷ around) kids ≡ kids → AreStories (stories_in (tag ∷ around) kids)) →
         AreStories (if b then record { tag = tag; kids = kids } ∷ [] else stories_in (tag ∷ around) kids)
     here true r e ih =
         (record { root = root_name around tag r; loud = root_loud around tag r; fits = fits_from value (moves_among value (seen tag kids)) (start_with next) (root_spots tag kids) 1 kids e }, tt)
@@ -96,26 +96,12 @@ indexed_stories value nodes e = stories_are value [] 1 nodes e
 abbrev pub passed : List Say → Parts → Parts
 passed says story = record { tag = story.tag; kids = pass says (story.tag ∷ []) story.kids }
 
-stories-pass_in : (says : List Say) (around : List Tag) (nodes : Nodes) → stories_in around (pass_in says around nodes) ≡ map (passed says) (stories_in around nodes)
-stories-pass_in says around no_nodes = refl
-stories-pass_in says around (bytes b rest) = stories-pass_in says around rest
-stories-pass_in says around (element tag kids rest) =
-    here (is_root around tag) (stories-pass_in says (tag ∷ around) kids) (stories-pass_in says around rest)
-  where
-    here : (b : Bool) → stories_in (tag ∷ around) (pass_in says (tag ∷ around) kids) ≡ map (passed says) (stories_in (tag ∷ around) kids) →
-        stories_in around (pass_in says around rest) ≡ map (passed says) (stories_in around rest) →
-        (if b then record { tag = tag; kids = if b then pass says (tag ∷ []) kids else pass_in says (tag ∷ around) kids } ∷ []
-        else stories_in (tag ∷ around) (if b then pass says (tag ∷ []) kids else pass_in says (tag ∷ around) kids))
-        ++ stories_in around (pass_in says around rest)
-        ≡ map (passed says) ((if b then record { tag = tag; kids = kids } ∷ [] else stories_in (tag ∷ around) kids) ++ stories_in around rest)
-    here true ih later = ap (λ ss. passed says (record { tag = tag; kids = kids }) ∷ ss) later
-    here false ih later =
-        ap (λ ss. ss ++ stories_in around (pass_in says around rest)) ih
-        ∙ ap (λ ss. map (passed says) (stories_in (tag ∷ around) kids) ++ ss) later
-        ∙ sym (map-append (passed says) (stories_in (tag ∷ around) kids) (stories_in around rest))
+passed_all : (says : List Say) (xs : List Parts) → changed_stories pass_rule says xs ≡ map (passed says) xs
+passed_all says [] = refl
+passed_all says (x ∷ xs) = ap (λ ss. passed says x ∷ ss) (passed_all says xs)
 
 pub stories-pass : (says : List Say) (nodes : Nodes) → stories (pass_package says nodes) ≡ map (passed says) (stories nodes)
-stories-pass says nodes = stories-pass_in says [] nodes
+stories-pass says nodes = stories-changed pass_rule says [] nodes ∙ passed_all says (stories nodes)
 
 -- The law of survival for a package: the text pieces of the passed stories are the survivors of the original ones.
 survival_of : (says : List Say) (xs : List Parts) → AreStories xs → map text_pieces (map (passed says) xs) ≡ map (survivors says) xs

@@ -1,6 +1,6 @@
 -- Laws of a numbered package. It has the text and the stories of the original, it keeps the same rules, and numbering it
 -- again changes nothing: markers, moves, roles and positions don't depend on labels.
-use Rattle.std.proofs.Common.{◌≡◌, ℕ, ◌+◌, List, [], ◌∷◌, ◌++◌, map, filter_map, find, Bool, true, false, ◌&&◌, ◌||◌, not, Option, Some, None, is_some, option_map, option_and_then, refl, sym, ap, ◌∙◌, codes, if◌then◌else◌}
+use Rattle.std.proofs.Common.{◌≡◌, ℕ, ◌+◌, List, [], ◌∷◌, ◌++◌, map, filter_map, find, Bool, ◌&&◌, ◌||◌, not, Option, Some, None, is_some, option_map, option_and_then, refl, sym, ap, ◌∙◌, codes, if◌then◌else◌}
 use Rattle.std.specs.List.{list_any, list_all}
 use Rattle.std.proofs.lemmas.List.{map-append}
 use Rattle.redl_tree.specs.Model.Nodes.{Tag, Nodes, no_nodes, bytes, element}
@@ -11,14 +11,15 @@ use Rattle.redl_tree.specs.Model.Kids.{some_element, kids_of_all}
 use Rattle.redl_tree.specs.Roles.Places.{is_open, trace_of, row_trace_of, cell_trace_of, role}
 use Rattle.redl_tree.specs.Roles.Lists.{into, place, in_rows, in_cells}
 use Rattle.redl_tree.specs.Model.View.{Parts}
-use Rattle.redl_tree.specs.Decisions.Packages.{is_root, stories_in, stories}
+use Rattle.redl_tree.specs.Decisions.Packages.{stories, changed_stories}
 use Rattle.redl_tree.specs.Rules.Sound.{Test, everywhere, is_marker, holds, tests, first_broken, broken, is_sound}
 use Rattle.redl_tree.specs.Model.Seen.{tags, Spot, spot, Seen, seen_one, seen_from, root_spots, seen, tags_of}
 use Rattle.redl_tree.specs.Revisions.Moves.{Marking, Pair, pairs, is_of_pair}
 use Rattle.redl_tree.specs.Revisions.Markers.{Value, edge_of, is_row_revision, is_cell_revision, is_revised, is_reached, is_in_grid, is_own, leaves_grid, any_leaves_grid, is_astray, is_loose, marker_of, moves_among, own_role, mark_end, move_at, move_of_member, move_of_marker, either, move_of, whole_role}
-use Rattle.redl_tree.specs.Revisions.Numbers.{membership, Numbering, counted, number_for, revision_of, numbering_after, labelled_tag, labelled, start_with, labelled_story, next_after_story, next_after, numbered_in, numbered_package, IsIndexed}
+use Rattle.redl_tree.specs.Revisions.Numbers.{membership, Numbering, counted, number_for, revision_of, numbering_after, labelled_tag, labelled, start_with, labelled_story, next_after_story, number_rule, numbered_package, IsIndexed}
 use Rattle.redl_tree.specs.declared.kinds.Kind.{Kind}
 use Rattle.redl_tree.specs.declared.kinds.Kind.TheVariants.{Plain, Content, Mark, Row, Cell, Change, Marker}
+use Rattle.redl_tree.proofs.StoryLaws.{unlabelled-changed, changed_in-again, stories-changed, changed-roots}
 use Rattle.redl_tree.proofs.LabelLaws.{bare, text-unlabelled, open-bare, role-bare, place-bare, in_rows-bare, in_cells-bare, into-bare, some-bare, kids_of_all-bare, everywhere-bare, marker-bare, Blind, AreBlind, tests_are_blind}
 
 -- Positions
@@ -289,155 +290,25 @@ module _ (value : Value) (next : ℕ) (root : Tag) where
 
 -- Packages
 
-unlabelled-numbered_in : (value : Value) (around : List Tag) (next : ℕ) (nodes : Nodes) → unlabelled (numbered_in value around next nodes) ≡ unlabelled nodes
-unlabelled-numbered_in value around next no_nodes = refl
-unlabelled-numbered_in value around next (bytes b rest) = ap (bytes b) (unlabelled-numbered_in value around next rest)
-unlabelled-numbered_in value around next (element tag kids rest) =
-    at (is_root around tag) (unlabelled-numbered_in value (tag ∷ around) next kids) (λ n. unlabelled-numbered_in value around n rest)
-  where
-    at : (b : Bool) → unlabelled (numbered_in value (tag ∷ around) next kids) ≡ unlabelled kids → ((n : ℕ) → unlabelled (numbered_in value around n rest) ≡ unlabelled rest) →
-        element (unlabelled_tag tag) (unlabelled (if b then labelled_story value next tag kids else numbered_in value (tag ∷ around) next kids))
-        (unlabelled (numbered_in value around (if b then next_after_story value next tag kids else next_after value (tag ∷ around) next kids) rest))
-        ≡ element (unlabelled_tag tag) (unlabelled kids) (unlabelled rest)
-    at true below later =
-        ap (λ xs. element (unlabelled_tag tag) xs (unlabelled (numbered_in value around (next_after_story value next tag kids) rest))) (unlabelled-story value next tag kids)
-        ∙ ap (element (unlabelled_tag tag) (unlabelled kids)) (later (next_after_story value next tag kids))
-    at false below later =
-        ap (λ xs. element (unlabelled_tag tag) xs (unlabelled (numbered_in value around (next_after value (tag ∷ around) next kids) rest))) below
-        ∙ ap (element (unlabelled_tag tag) (unlabelled kids)) (later (next_after value (tag ∷ around) next kids))
-
 -- a numbered package is the original but for labels
 pub unlabelled-numbered : (value : Value) (nodes : Nodes) → unlabelled (numbered_package value nodes) ≡ unlabelled nodes
-unlabelled-numbered value nodes = unlabelled-numbered_in value [] 1 nodes
+unlabelled-numbered value nodes = unlabelled-changed (number_rule value) (unlabelled-story value) 1 [] nodes
 
 -- numbering a package doesn't change its text
 pub text-numbered : (value : Value) (nodes : Nodes) → text (numbered_package value nodes) ≡ text nodes
 text-numbered value nodes = sym (text-unlabelled (numbered_package value nodes)) ∙ ap text (unlabelled-numbered value nodes) ∙ text-unlabelled nodes
 
-next_after-again : (value : Value) (around : List Tag) (next : ℕ) (nodes : Nodes) → next_after value around next (numbered_in value around next nodes) ≡ next_after value around next nodes
-next_after-again value around next no_nodes = refl
-next_after-again value around next (bytes b rest) = next_after-again value around next rest
-next_after-again value around next (element tag kids rest) =
-    at (is_root around tag) (next_after-again value (tag ∷ around) next kids) (λ n. next_after-again value around n rest)
-  where
-    at : (b : Bool) → next_after value (tag ∷ around) next (numbered_in value (tag ∷ around) next kids) ≡ next_after value (tag ∷ around) next kids →
-        ((n : ℕ) → next_after value around n (numbered_in value around n rest) ≡ next_after value around n rest) →
-        next_after value around
-        (if b then next_after_story value next tag (if b then labelled_story value next tag kids else numbered_in value (tag ∷ around) next kids)
-        else next_after value (tag ∷ around) next (if b then labelled_story value next tag kids else numbered_in value (tag ∷ around) next kids))
-        (numbered_in value around (if b then next_after_story value next tag kids else next_after value (tag ∷ around) next kids) rest)
-        ≡ next_after value around (if b then next_after_story value next tag kids else next_after value (tag ∷ around) next kids) rest
-    at true below later =
-        ap (λ n. next_after value around n (numbered_in value around (next_after_story value next tag kids) rest)) (story_next-again value next tag kids)
-        ∙ later (next_after_story value next tag kids)
-    at false below later =
-        ap (λ n. next_after value around n (numbered_in value around (next_after value (tag ∷ around) next kids) rest)) below
-        ∙ later (next_after value (tag ∷ around) next kids)
-
-numbered_in-again : (value : Value) (around : List Tag) (next : ℕ) (nodes : Nodes) → numbered_in value around next (numbered_in value around next nodes) ≡ numbered_in value around next nodes
-numbered_in-again value around next no_nodes = refl
-numbered_in-again value around next (bytes b rest) = ap (bytes b) (numbered_in-again value around next rest)
-numbered_in-again value around next (element tag kids rest) =
-    at (is_root around tag) (numbered_in-again value (tag ∷ around) next kids) (λ n. numbered_in-again value around n rest)
-  where
-    at : (b : Bool) → numbered_in value (tag ∷ around) next (numbered_in value (tag ∷ around) next kids) ≡ numbered_in value (tag ∷ around) next kids →
-        ((n : ℕ) → numbered_in value around n (numbered_in value around n rest) ≡ numbered_in value around n rest) →
-        element tag
-        (if b then labelled_story value next tag (if b then labelled_story value next tag kids else numbered_in value (tag ∷ around) next kids)
-        else numbered_in value (tag ∷ around) next (if b then labelled_story value next tag kids else numbered_in value (tag ∷ around) next kids))
-        (numbered_in value around
-        (if b then next_after_story value next tag (if b then labelled_story value next tag kids else numbered_in value (tag ∷ around) next kids)
-        else next_after value (tag ∷ around) next (if b then labelled_story value next tag kids else numbered_in value (tag ∷ around) next kids))
-        (numbered_in value around (if b then next_after_story value next tag kids else next_after value (tag ∷ around) next kids) rest))
-        ≡ element tag (if b then labelled_story value next tag kids else numbered_in value (tag ∷ around) next kids)
-        (numbered_in value around (if b then next_after_story value next tag kids else next_after value (tag ∷ around) next kids) rest)
-    at true below later =
-        let n = next_after_story value next tag kids in
-        ap (λ xs. element tag xs (numbered_in value around (next_after_story value next tag (labelled_story value next tag kids)) (numbered_in value around n rest))) (story-again value next tag kids)
-        ∙ ap (λ m. element tag (labelled_story value next tag kids) (numbered_in value around m (numbered_in value around n rest))) (story_next-again value next tag kids)
-        ∙ ap (element tag (labelled_story value next tag kids)) (later n)
-    at false below later =
-        let n = next_after value (tag ∷ around) next kids in
-        let inner = numbered_in value (tag ∷ around) next kids in
-        ap (λ xs. element tag xs (numbered_in value around (next_after value (tag ∷ around) next inner) (numbered_in value around n rest))) below
-        ∙ ap (λ m. element tag inner (numbered_in value around m (numbered_in value around n rest))) (next_after-again value (tag ∷ around) next kids)
-        ∙ ap (element tag inner) (later n)
-
 -- a numbered package is indexed: numbering it again changes nothing
 pub numbered-indexed : (value : Value) (nodes : Nodes) → IsIndexed value (numbered_package value nodes)
-numbered-indexed value nodes = numbered_in-again value [] 1 nodes
-
--- The stories of a numbered package have the roots of the original, and their kids are labelled, where numbers go on from
--- story to story.
-abbrev pub numbered_stories : Value → ℕ → List Parts → List Parts
-numbered_stories value next [] = []
-numbered_stories value next (story ∷ later) =
-    record { tag = story.tag; kids = labelled_story value next story.tag story.kids }
-    ∷ numbered_stories value (next_after_story value next story.tag story.kids) later
-
--- the next number behind these stories
-abbrev pub next_after_stories : Value → ℕ → List Parts → ℕ
-next_after_stories value next [] = next
-next_after_stories value next (story ∷ later) = next_after_stories value (next_after_story value next story.tag story.kids) later
-
-numbered_stories-++ : (value : Value) (next : ℕ) (xs ys : List Parts) → numbered_stories value next (xs ++ ys) ≡ numbered_stories value next xs ++ numbered_stories value (next_after_stories value next xs) ys
-numbered_stories-++ value next [] ys = refl
-numbered_stories-++ value next (story ∷ xs) ys =
-    ap (λ more. record { tag = story.tag; kids = labelled_story value next story.tag story.kids } ∷ more)
-    (numbered_stories-++ value (next_after_story value next story.tag story.kids) xs ys)
-
-next_after_stories-++ : (value : Value) (next : ℕ) (xs ys : List Parts) → next_after_stories value next (xs ++ ys) ≡ next_after_stories value (next_after_stories value next xs) ys
-next_after_stories-++ value next [] ys = refl
-next_after_stories-++ value next (story ∷ xs) ys = next_after_stories-++ value (next_after_story value next story.tag story.kids) xs ys
-
-pub next_after-stories : (value : Value) (around : List Tag) (next : ℕ) (nodes : Nodes) → next_after value around next nodes ≡ next_after_stories value next (stories_in around nodes)
-next_after-stories value around next no_nodes = refl
-next_after-stories value around next (bytes b rest) = next_after-stories value around next rest
-next_after-stories value around next (element tag kids rest) =
-    at (is_root around tag) (next_after-stories value (tag ∷ around) next kids) (λ n. next_after-stories value around n rest)
-  where
-    at : (b : Bool) → next_after value (tag ∷ around) next kids ≡ next_after_stories value next (stories_in (tag ∷ around) kids) →
-        ((n : ℕ) → next_after value around n rest ≡ next_after_stories value n (stories_in around rest)) →
-        next_after value around (if b then next_after_story value next tag kids else next_after value (tag ∷ around) next kids) rest
-        ≡ next_after_stories value next ((if b then record { tag = tag; kids = kids } ∷ [] else stories_in (tag ∷ around) kids) ++ stories_in around rest)
-    at true below later = later (next_after_story value next tag kids)
-    at false below later =
-        ap (λ n. next_after value around n rest) below
-        ∙ later (next_after_stories value next (stories_in (tag ∷ around) kids))
-        ∙ sym (next_after_stories-++ value next (stories_in (tag ∷ around) kids) (stories_in around rest))
-
-stories-numbered_in : (value : Value) (around : List Tag) (next : ℕ) (nodes : Nodes) → stories_in around (numbered_in value around next nodes) ≡ numbered_stories value next (stories_in around nodes)
-stories-numbered_in value around next no_nodes = refl
-stories-numbered_in value around next (bytes b rest) = stories-numbered_in value around next rest
-stories-numbered_in value around next (element tag kids rest) =
-    at (is_root around tag) (stories-numbered_in value (tag ∷ around) next kids) (next_after-stories value (tag ∷ around) next kids) (λ n. stories-numbered_in value around n rest)
-  where
-    at : (b : Bool) → stories_in (tag ∷ around) (numbered_in value (tag ∷ around) next kids) ≡ numbered_stories value next (stories_in (tag ∷ around) kids) →
-        next_after value (tag ∷ around) next kids ≡ next_after_stories value next (stories_in (tag ∷ around) kids) →
-        ((n : ℕ) → stories_in around (numbered_in value around n rest) ≡ numbered_stories value n (stories_in around rest)) →
-        (if b then record { tag = tag; kids = if b then labelled_story value next tag kids else numbered_in value (tag ∷ around) next kids } ∷ []
-        else stories_in (tag ∷ around) (if b then labelled_story value next tag kids else numbered_in value (tag ∷ around) next kids))
-        ++ stories_in around (numbered_in value around (if b then next_after_story value next tag kids else next_after value (tag ∷ around) next kids) rest)
-        ≡ numbered_stories value next ((if b then record { tag = tag; kids = kids } ∷ [] else stories_in (tag ∷ around) kids) ++ stories_in around rest)
-    at true below numbers later =
-        ap (λ more. record { tag = tag; kids = labelled_story value next tag kids } ∷ more) (later (next_after_story value next tag kids))
-    at false below numbers later =
-        ap (λ xs. xs ++ stories_in around (numbered_in value around (next_after value (tag ∷ around) next kids) rest)) below
-        ∙ ap (λ xs. numbered_stories value next (stories_in (tag ∷ around) kids) ++ xs) (later (next_after value (tag ∷ around) next kids))
-        ∙ ap (λ n. numbered_stories value next (stories_in (tag ∷ around) kids) ++ numbered_stories value n (stories_in around rest)) numbers
-        ∙ sym (numbered_stories-++ value next (stories_in (tag ∷ around) kids) (stories_in around rest))
+numbered-indexed value nodes = changed_in-again (number_rule value) (story-again value) (story_next-again value) 1 [] nodes
 
 -- the shape of a package stays: its stories are those of the original, labelled in their order
-pub stories-numbered : (value : Value) (nodes : Nodes) → stories (numbered_package value nodes) ≡ numbered_stories value 1 (stories nodes)
-stories-numbered value nodes = stories-numbered_in value [] 1 nodes
-
-labelled_roots : (value : Value) (next : ℕ) (xs : List Parts) → map (λ story. story.tag) (numbered_stories value next xs) ≡ map (λ story. story.tag) xs
-labelled_roots value next [] = refl
-labelled_roots value next (story ∷ later) = ap (λ roots. story.tag ∷ roots) (labelled_roots value (next_after_story value next story.tag story.kids) later)
+pub stories-numbered : (value : Value) (nodes : Nodes) → stories (numbered_package value nodes) ≡ changed_stories (number_rule value) 1 (stories nodes)
+stories-numbered value nodes = stories-changed (number_rule value) 1 [] nodes
 
 -- the roots of its stories are those of the original
 pub roots-numbered : (value : Value) (nodes : Nodes) → map (λ story. story.tag) (stories (numbered_package value nodes)) ≡ map (λ story. story.tag) (stories nodes)
-roots-numbered value nodes = ap (map (λ story. story.tag)) (stories-numbered value nodes) ∙ labelled_roots value 1 (stories nodes)
+roots-numbered value nodes = ap (map (λ story. story.tag)) (stories-numbered value nodes) ∙ changed-roots (number_rule value) 1 (stories nodes)
 
 -- Soundness
 
@@ -449,10 +320,10 @@ everywhere-labelled test blind value next root kids =
     ∙ ap (λ xs. everywhere test [] (element (unlabelled_tag root) xs no_nodes)) (unlabelled-story value next root kids)
     ∙ everywhere-bare test blind [] (element root kids no_nodes)
 
-holds-labelled : (test : Test) → Blind test → (value : Value) (next : ℕ) (xs : List Parts) → holds test (numbered_stories value next xs) ≡ holds test xs
+holds-labelled : (test : Test) → Blind test → (value : Value) (next : ℕ) (xs : List Parts) → holds test (changed_stories (number_rule value) next xs) ≡ holds test xs
 holds-labelled test blind value next [] = refl
 holds-labelled test blind value next (story ∷ later) =
-    ap (λ b. b && holds test (numbered_stories value (next_after_story value next story.tag story.kids) later)) (everywhere-labelled test blind value next story.tag story.kids)
+    ap (λ b. b && holds test (changed_stories (number_rule value) (next_after_story value next story.tag story.kids) later)) (everywhere-labelled test blind value next story.tag story.kids)
     ∙ ap (λ b. everywhere test [] (element story.tag story.kids no_nodes) && b) (holds-labelled test blind value (next_after_story value next story.tag story.kids) later)
 
 -- a rule that looks at no label holds of a numbered package where it holds of the original

@@ -6,4 +6,5 @@ pub mod Groups
 pub mod Beside
 pub mod Pass
 pub mod Packages
+pub mod StoryWalk
 pub mod Survivors

@@ -6,5 +6,6 @@ pub mod View
 pub mod Below
 pub mod Text
 pub mod Count
+pub mod Tree
 pub mod Kids
 pub mod Seen

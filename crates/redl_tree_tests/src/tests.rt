@@ -1,6 +1,6 @@
 //! Tables of what no clause of `redl_tree` says: that calls succeed with ample memory, that the text is the one that a
 //! document has, and that names and places are those of ECMA-376 Part 1.
-use redl_io::{Failed, MemSink};
+use redl_io::MemSink;
 use redl_tree::{
     Around, Elem, Kind, Lot, Node, Place, Prop, Reach, Space, Tag, Trace, copy_nodes, count_nodes,
     is_named, is_quiet, is_thick, is_wrapper, write_nodes,
@@ -244,36 +244,37 @@ fn a_copy_has_all_that_the_nodes_have(rt: HostRuntime) -> Result<(), Fail> {
     Ok(())
 }
 
-// Whether a failed put is answered, and whether the sink has a start of the text then. These puts fail, and there is this room.
+// How many bytes of a failed put are said to be taken, and whether the sink has a start of the text then. These puts fail, and
+// there is this room.
 fn start_in(
     alloc: Global,
     nodes: &[Node],
     room: usize,
     fails: Vec<(u64, u64)>,
-) -> Result<(bool, bool), Fail> {
+) -> Result<(Option<usize>, bool), Fail> {
     let mut out = MemSink::new(alloc, room, fails)?;
-    let answer = write_nodes(nodes, &mut out);
+    let taken = write_nodes(nodes, &mut out)
+        .err()
+        .map(|failed| failed.taken);
     let is_start = TEXT.as_bytes().starts_with(out.bytes()) && out.bytes().len() < TEXT.len();
-    Ok((answer == Err(Failed { taken: 0 }), is_start))
-}
-
-fn start_before(alloc: Global, nodes: &[Node], put: u64) -> Result<(bool, bool), Fail> {
-    let mut fails = Vec::new(alloc);
-    fails.push((put, 0))?;
-    start_in(alloc, nodes, 200, fails)
+    Ok((taken, is_start))
 }
 
 #[test]
 fn a_start_goes_out_where_a_put_fails(rt: HostRuntime) -> Result<(), Fail> {
     let alloc = rt.alloc();
     let nodes = document(alloc)?;
-    for put in 1..8 {
-        let got = start_before(alloc, &nodes, put)?;
-        assert!(rt; got == (true, true), "where put {put} fails: {got:?}");
+    // The text goes out in 26 puts.
+    for put in 1..26 {
+        for taken in [0, 1] {
+            let got = start_in(alloc, &nodes, 200, vec![in alloc; (put, taken)]?)?;
+            let is_wanted = got == (Some(taken as usize), true);
+            assert!(rt; is_wanted, "{taken} of put {put}: {got:?}");
+        }
     }
     for room in 0..TEXT.len() {
         let got = start_in(alloc, &nodes, room, Vec::new(alloc))?;
-        assert!(rt; got == (true, true), "with room {room}: {got:?}");
+        assert!(rt; got == (Some(0), true), "with room {room}: {got:?}");
     }
     Ok(())
 }

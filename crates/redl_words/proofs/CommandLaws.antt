@@ -8,9 +8,11 @@ use Rattle.std.proofs.lemmas.List.Sums.{AllPass-from_list_all, list_all-from_All
 use Rattle.std.proofs.lemmas.List.Elements.{recursion_from_All, All-from_recursion}
 use Rattle.std.proofs.lemmas.Str.{IsUtf8-from_ascii}
 use Rattle.redl_journal.specs.declared.entry.Word.{Word}
-use Rattle.redl_journal.specs.Reading.{◌>>=◌, number_in, is_reviewer}
-use Rattle.redl_journal.proofs.Runs.{and-true}
-use Rattle.redl_journal.proofs.Parts.{bind_some, number_takes, number_again, reviewer_takes, reviewer_again}
+use Rattle.redl_journal.specs.Reading.{number_in, is_reviewer}
+use Rattle.redl_reading.specs.Steps.{◌>>=◌}
+use Rattle.std.proofs.lemmas.Bool.{and_parts}
+use Rattle.redl_journal.proofs.Parts.{number_takes, number_again, reviewer_takes, reviewer_again}
+use Rattle.redl_reading.proofs.Steps.{bind_some}
 use Rattle.redl_select.specs.Selections.{Selection}
 use Rattle.redl_words.specs.declared.error.WordsError.{WordsError}
 use Rattle.redl_words.specs.declared.error.WordsError.TheVariants.{Usage, NoMemory}
@@ -201,7 +203,7 @@ decide_takes [] c e = absurd cc
 decide_takes (p ∷ []) c e = absurd cc
 decide_takes (p ∷ reviewer ∷ rest) c e =
     let n = needs (is_name p && is_reviewer reviewer) (gathered forms.Decide nothing rest >>= λ items. decide_with p reviewer items.journals items.locks items.choices) c e in
-    let both = and-true (is_name p) (is_reviewer reviewer) n.0 in
+    let both = and_parts (is_name p) (is_reviewer reviewer) n.0 in
     let g = bind_some (gathered forms.Decide nothing rest) (λ (items : Gathered). decide_with p reviewer items.journals items.locks items.choices) c n.1 in
     let d = decide_with_takes p reviewer g.0.journals g.0.locks g.0.choices c g.2 in
     let r = items_take forms.Decide rest nothing g.0 g.1 in

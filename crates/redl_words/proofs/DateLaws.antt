@@ -6,22 +6,20 @@ use Rattle.std.proofs.lemmas.Bool.Decides.{nat_tests}
 use Rattle.std.proofs.lemmas.Option.{same_Some, cond_some}
 use Rattle.jiff_core.specs.Calendar.{days_from_civil}
 use Rattle.redl_markup.specs.Characters.{between}
-use Rattle.redl_markup.specs.Lists.{behind, front, after}
-use Rattle.redl_markup.specs.Reading.{◌>>=◌}
-use Rattle.redl_markup.proofs.Names.{bind_some}
-use Rattle.redl_markup.proofs.Runs.{front-after, front_passes}
-use Rattle.redl_markup.proofs.Words.{behind_takes}
+use Rattle.redl_reading.specs.Lists.{behind, front, after, is_other}
+use Rattle.redl_reading.specs.Steps.{◌>>=◌}
+use Rattle.redl_reading.proofs.Steps.{bind_some}
+use Rattle.redl_reading.proofs.Runs.{front-after, front_passes, passes-append}
+use Rattle.redl_reading.proofs.Words.{behind_takes}
 use Rattle.redl_stamp.specs.Moment.{is_decimal, digit_at, two_digits_at, four_digits_at, marked_digits_at, is_date, seconds_to, date_at, is_time, time_at, behind_digits, behind_fraction, is_at_end, offset_in, ahead, back, zone_in, moment_of}
-use Rattle.redl_journal.specs.Reading.{is_other}
-use Rattle.redl_journal.proofs.Runs.{and-true, and-both, either}
-use Rattle.redl_journal.proofs.Parts.{lacks-append}
+use Rattle.std.proofs.lemmas.Bool.{and_parts, and_from, cases_Bool}
 
 -- no slash
 abbrev pub Lacks : List ℕ → Type 0
 Lacks bs = list_all (is_other 47) bs ≡ true
 
 join_lacks : (xs ys : List ℕ) → Lacks xs → Lacks ys → Lacks (xs ++ ys)
-join_lacks xs ys h g = lacks-append (is_other 47) xs ys h g
+join_lacks xs ys h g = passes-append (is_other 47) xs ys h g
 
 digit_is_other : (b : ℕ) → is_decimal b ≡ true → is_other 47 b ≡ true
 digit_is_other b h = let other : eqb b 47 ≡ false = grind (arith, nat_tests) in rw other refl
@@ -29,15 +27,15 @@ digit_is_other b h = let other : eqb b 47 ≡ false = grind (arith, nat_tests) i
 digits_lack : (ds : List ℕ) → list_all is_decimal ds ≡ true → Lacks ds
 digits_lack [] h = refl
 digits_lack (d ∷ ds) h =
-    let both = and-true (is_decimal d) (list_all is_decimal ds) h in
-    and-both (is_other 47 d) (list_all (is_other 47) ds) (digit_is_other d both.0) (digits_lack ds both.1)
+    let both = and_parts (is_decimal d) (list_all is_decimal ds) h in
+    and_from (is_other 47 d) (list_all (is_other 47) ds) (digit_is_other d both.0) (digits_lack ds both.1)
 
 -- what is read is without a slash where the rest is
 digit_lacks : (bs : List ℕ) (x : ℕ × List ℕ) → digit_at bs ≡ Some x → Lacks x.1 → Lacks bs
 digit_lacks [] x e rest = absurd cc
 digit_lacks (b ∷ bs) x e rest =
     let c = cond_some (is_decimal b) (b - 48, bs) x e in
-    and-both (is_other 47 b) (list_all (is_other 47) bs) (digit_is_other b c.0) (subst (λ (p : ℕ × List ℕ). Lacks p.1) (sym c.1) rest)
+    and_from (is_other 47 b) (list_all (is_other 47) bs) (digit_is_other b c.0) (subst (λ (p : ℕ × List ℕ). Lacks p.1) (sym c.1) rest)
 
 two_lack : (bs : List ℕ) (x : ℕ × List ℕ) → two_digits_at bs ≡ Some x → Lacks x.1 → Lacks bs
 two_lack bs x e rest =
@@ -102,7 +100,7 @@ offset_lacks bs n e =
     let hours = bind_some (two_digits_at bs) _ n e in
     let minutes = bind_some (marked_digits_at (codes ":") hours.0.1) _ n hours.2 in
     let c = cond_some (nat_le hours.0.0 14 && nat_le minutes.0.0 59 && is_at_end minutes.0.1) (hours.0.0 * 3600 + minutes.0.0 * 60) n minutes.2 in
-    let ends = and-true (nat_le hours.0.0 14 && nat_le minutes.0.0 59) (is_at_end minutes.0.1) c.0 in
+    let ends = and_parts (nat_le hours.0.0 14 && nat_le minutes.0.0 59) (is_at_end minutes.0.1) c.0 in
     two_lack bs hours.0 hours.1 (marked_lack (codes ":") hours.0.1 minutes.0 minutes.1 refl (end_lacks minutes.0.1 ends.1))
 
 ahead_some : (o : Option ℕ) (z : ℤ) → ahead o ≡ Some z → (n : ℕ) × (o ≡ Some n)
@@ -116,22 +114,22 @@ back_some (Some n) z e = (n, refl)
 mark_lacks : (mark b : ℕ) (bs : List ℕ) → is_other 47 mark ≡ true → eqb b mark ≡ true → Lacks bs → Lacks (b ∷ bs)
 mark_lacks mark b bs own same h =
     let e : b ≡ mark = grind (arith, nat_tests, same) in
-    and-both (is_other 47 b) (list_all (is_other 47) bs) (subst (λ (m : ℕ). is_other 47 m ≡ true) (sym e) own) h
+    and_from (is_other 47 b) (list_all (is_other 47) bs) (subst (λ (m : ℕ). is_other 47 m ≡ true) (sym e) own) h
 
 zone_lacks : (bs : List ℕ) (z : ℤ) → zone_in bs ≡ Some z → Lacks bs
 unfolding zone_in
 zone_lacks [] z e = refl
 zone_lacks (b ∷ bs) z e =
-    elim (either (eqb b 90 && is_at_end bs)) [
-      | inl utc ↦ let both = and-true (eqb b 90) (is_at_end bs) utc in mark_lacks 90 b bs refl both.0 (end_lacks bs both.1)
+    elim (cases_Bool (eqb b 90 && is_at_end bs)) [
+      | inl utc ↦ let both = and_parts (eqb b 90) (is_at_end bs) utc in mark_lacks 90 b bs refl both.0 (end_lacks bs both.1)
       | inr other ↦
-          elim (either (eqb b 43)) [
+          elim (cases_Bool (eqb b 43)) [
             | inl plus ↦
                 let h : ahead (offset_in bs) ≡ Some z = rw (other, plus) at e in
                 let n = ahead_some (offset_in bs) z h in
                 mark_lacks 43 b bs refl plus (offset_lacks bs n.0 n.1)
             | inr no_plus ↦
-                elim (either (eqb b 45)) [
+                elim (cases_Bool (eqb b 45)) [
                   | inl minus ↦
                       let h : back (offset_in bs) ≡ Some z = rw (other, no_plus, minus) at e in
                       let n = back_some (offset_in bs) z h in

@@ -7,9 +7,9 @@ use Rattle.std.specs.Str.{bytes_eq}
 use Rattle.std.proofs.lemmas.Option.{same_Some, cond_some}
 use Rattle.redl_journal.specs.declared.entry.Word.{Word}
 use Rattle.redl_journal.specs.declared.entry.Word.TheVariants.{Accept, Reject, Withdraw}
-use Rattle.redl_journal.specs.Reading.{◌>>=◌}
-use Rattle.redl_journal.proofs.Runs.{either}
-use Rattle.redl_journal.proofs.Parts.{bind_some}
+use Rattle.redl_reading.specs.Steps.{◌>>=◌}
+use Rattle.std.proofs.lemmas.Bool.{cases_Bool}
+use Rattle.redl_reading.proofs.Steps.{bind_some}
 use Rattle.redl_select.specs.Selections.{Selection}
 use Rattle.redl_words.specs.Selections.{Means}
 use Rattle.redl_words.specs.Commands.{Item, format, lock, journal, named_journal, choice, item_words, Admits, of_list, of_write, of_decide, Form as Kind, formats_of, locks_of, journals_of, choices_of, is_name, option_of}
@@ -100,16 +100,16 @@ Has _ _ _ = ⊥
 
 deciding_takes : (word : List ℕ) (o : ItemOption) → deciding_option word ≡ Some o → Has forms.Decide word o
 deciding_takes word o e =
-    elim (either (bytes_eq word (codes "--journal"))) [
+    elim (cases_Bool (bytes_eq word (codes "--journal"))) [
       | inl hit ↦ let same : Some options.Journal ≡ Some o = rw hit at e in subst (Has forms.Decide word) (same_Some options.Journal o same) (bytes_same word (codes "--journal") hit)
       | inr one ↦
-          elim (either (bytes_eq word (option_of Accept))) [
+          elim (cases_Bool (bytes_eq word (option_of Accept))) [
             | inl hit ↦ let same : Some (options.Choice Accept) ≡ Some o = rw (one, hit) at e in subst (Has forms.Decide word) (same_Some (options.Choice Accept) o same) (bytes_same word (option_of Accept) hit)
             | inr two ↦
-                elim (either (bytes_eq word (option_of Reject))) [
+                elim (cases_Bool (bytes_eq word (option_of Reject))) [
                   | inl hit ↦ let same : Some (options.Choice Reject) ≡ Some o = rw (one, two, hit) at e in subst (Has forms.Decide word) (same_Some (options.Choice Reject) o same) (bytes_same word (option_of Reject) hit)
                   | inr three ↦
-                      elim (either (bytes_eq word (option_of Withdraw))) [
+                      elim (cases_Bool (bytes_eq word (option_of Withdraw))) [
                         | inl hit ↦ let same : Some (options.Choice Withdraw) ≡ Some o = rw (one, two, three, hit) at e in subst (Has forms.Decide word) (same_Some (options.Choice Withdraw) o same) (bytes_same word (option_of Withdraw) hit)
                         | inr four ↦ absurd (let none : None ≡ Some o = rw (one, two, three, four) at e in cc)
                       ]
@@ -132,7 +132,7 @@ has_lock forms.Decide word h = h
 option_takes : (form : Form) (word : List ℕ) (o : ItemOption) → option_in form word ≡ Some o → Has form word o
 unfolding option_in
 option_takes form word o e =
-    elim (either (bytes_eq word (codes "--lock"))) [
+    elim (cases_Bool (bytes_eq word (codes "--lock"))) [
       | inl hit ↦
           let same : Some options.Lock ≡ Some o = rw hit at e in
           subst (Has form word) (same_Some options.Lock o same) (has_lock form word (bytes_same word (codes "--lock") hit))

@@ -3,7 +3,7 @@ use Rattle.std.proofs.Common.{◌≡◌, ◌≢◌, ℕ, ◌+◌, ◌^◌, ◌<�
 use Rattle.std.specs.Prelude.{ℤ, codes, decimal, option_map}
 use Rattle.std.specs.List.{list_all, join_with_byte, slice_split, count_by, AllByRecursion}
 use Rattle.std.specs.Str.{bytes_eq}
-use Rattle.std.proofs.lemmas.Bool.{eqb-true}
+use Rattle.std.proofs.lemmas.Bool.{eqb-true, and_parts, and_from, cases_Bool}
 use Rattle.std.proofs.lemmas.List.{at_drop_more, at_drop_all}
 use Rattle.std.proofs.lemmas.Option.{same_Some, cond_some}
 use Rattle.std.proofs.lemmas.List.Splits.{join_with_byte-slice_split, length-slice_split, slice_split_none, slice_split_at}
@@ -11,9 +11,12 @@ use Rattle.std.proofs.lemmas.List.Elements.{All-from_recursion, recursion_from_A
 use Rattle.std.proofs.lemmas.Slice.Eq.{bytes_eq-Decides}
 use Rattle.std.proofs.lemmas.Str.Pattern.{IsSplitOnceResult, split_parts}
 use Rattle.redl_stamp.specs.Moment.{moment_of}
-use Rattle.redl_journal.specs.Reading.{◌>>=◌, Gives, field_at, number_in, is_other}
-use Rattle.redl_journal.proofs.Runs.{and-true, and-both, either}
-use Rattle.redl_journal.proofs.Parts.{bind_some, field_takes, field_again, number_takes, number_again, decimal_lacks}
+use Rattle.redl_journal.specs.Reading.{number_in}
+use Rattle.redl_reading.specs.Steps.{◌>>=◌, Gives}
+use Rattle.redl_reading.specs.Lists.{field_at, is_other}
+use Rattle.redl_journal.proofs.Parts.{number_takes, number_again, decimal_lacks}
+use Rattle.redl_reading.proofs.Steps.{bind_some}
+use Rattle.redl_reading.proofs.Fields.{field_takes, field_again}
 use Rattle.redl_index.specs.declared.revision.RevKind.{RevKind}
 use Rattle.redl_index.specs.Kinds.{is_named}
 use Rattle.redl_index.specs.KindNames.{kind_name, kind_named}
@@ -38,9 +41,9 @@ split_field c bs r h small = of r (split_parts c bs r h small) where
   absent : (xs : List ℕ) → ((i : ℕ) → i < length xs → get_or xs i 0 ≢ c) → list_all (is_other c) xs ≡ true
   absent [] h = refl
   absent (x ∷ xs) h =
-      let other : eqb x c ≡ false = elim (either (eqb x c)) [ inl same ↦ absurd (h 0 (omega arith) (eqb-true x c same)) | inr unlike ↦ unlike ] in
+      let other : eqb x c ≡ false = elim (cases_Bool (eqb x c)) [ inl same ↦ absurd (h 0 (omega arith) (eqb-true x c same)) | inr unlike ↦ unlike ] in
       let first : is_other c x ≡ true = rw other refl in
-      and-both (is_other c x) (list_all (is_other c) xs) first (absent xs (λ i within. h (Prim.Native.Nat.suc i) (omega arith)))
+      and_from (is_other c x) (list_all (is_other c) xs) first (absent xs (λ i within. h (Prim.Native.Nat.suc i) (omega arith)))
 
   none : (o : Option (List ℕ × List ℕ)) → field_at c bs ≡ o → ((i : ℕ) → i < length bs → get_or bs i 0 ≢ c) → field_at c bs ≡ None
   none None e h = e
@@ -103,7 +106,7 @@ no_comma n h = All-from_recursion (λ (x : ℕ). eqb x 44 ≡ false) (decimal n)
 
   each : (ds : List ℕ) → list_all (is_other 44) ds ≡ true → AllByRecursion (λ (x : ℕ). eqb x 44 ≡ false) ds
   each [] h = tt
-  each (d ∷ ds) h = let both = and-true (is_other 44 d) (list_all (is_other 44) ds) h in (not-true (eqb d 44) both.0, each ds both.1)
+  each (d ∷ ds) h = let both = and_parts (is_other 44 d) (list_all (is_other 44) ds) h in (not-true (eqb d 44) both.0, each ds both.1)
 
 split_back : (n : ℕ) (more : List ℕ) → AllByRecursion IsSmall (n ∷ more) → slice_split (λ b. eqb b 44) (join_with_byte 44 (map decimal (n ∷ more))) ≡ map decimal (n ∷ more)
 split_back n [] h = slice_split_none (λ b. eqb b 44) (decimal n) (no_comma n h.0)
@@ -180,18 +183,18 @@ span_again first second start end s e = rw (field_again 47 first second (date_ha
 labelled_takes : (label value : List ℕ) (s : Selection) → labelled label value ≡ Some s → Means (label ++ (58 ∷ value)) s
 unfolding labelled
 labelled_takes label value s e =
-    elim (either (bytes_eq label (codes "numbers"))) [
+    elim (cases_Bool (bytes_eq label (codes "numbers"))) [
       | inl hit ↦ at (codes "numbers") hit (numbers_case value s (rw hit at e))
       | inr one ↦
-          elim (either (bytes_eq label (codes "author"))) [
+          elim (cases_Bool (bytes_eq label (codes "author"))) [
             | inl hit ↦
                 let same : Some (author value) ≡ Some s = rw (one, hit) at e in
                 at (codes "author") hit (subst (Means (codes "author:" ++ value)) (same_Some (author value) s same) refl)
             | inr two ↦
-                elim (either (bytes_eq label (codes "kind"))) [
+                elim (cases_Bool (bytes_eq label (codes "kind"))) [
                   | inl hit ↦ at (codes "kind") hit (kind_case value s (rw (one, two, hit) at e))
                   | inr three ↦
-                      elim (either (bytes_eq label (codes "span"))) [
+                      elim (cases_Bool (bytes_eq label (codes "span"))) [
                         | inl hit ↦ at (codes "span") hit (span_case value s (rw (one, two, three, hit) at e))
                         | inr four ↦ absurd (let none : None ≡ Some s = rw (one, two, three, four) at e in cc)
                       ]
@@ -217,7 +220,7 @@ selection_takes text s e = of (field_at 58 text) refl e where
   of (Some parts) is e = subst (λ (l : List ℕ). Means l s) (sym (field_takes 58 text parts is)) (labelled_takes parts.0 parts.1 s e)
 
 all_again : selection_in (codes "all") ≡ Some all
-unfolding selection_in field_at Rattle.redl_journal.specs.Reading.behind
+unfolding selection_in field_at
 all_again = refl
 
 numbers_label : (v : List ℕ) → selection_in (codes "numbers:" ++ v) ≡ option_map numbers (numbers_in v)

@@ -6,7 +6,9 @@ use Rattle.std.specs.Str.{bytes_eq}
 use Rattle.redl_stamp.specs.Moment.{moment_of}
 use Rattle.redl_journal.specs.declared.entry.Word.{Word}
 use Rattle.redl_journal.specs.declared.entry.Word.TheVariants.{Accept, Reject, Withdraw}
-use Rattle.redl_journal.specs.Reading.{◌>>=◌, field_at, number_in, is_reviewer}
+use Rattle.redl_journal.specs.Reading.{number_in, is_reviewer}
+use Rattle.redl_reading.specs.Steps.{◌>>=◌}
+use Rattle.redl_reading.specs.Lists.{field_at}
 use Rattle.redl_index.specs.KindNames.{kind_named}
 use Rattle.redl_select.specs.Selections.{Selection, all, numbers, author, span, kind}
 use Rattle.redl_words.specs.declared.error.WordsError.{WordsError}

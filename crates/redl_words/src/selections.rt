@@ -1,7 +1,8 @@
 //! The texts of selections.
 
 ghost use Rattle.std.specs.Prelude.{◌≡◌, option_map};
-ghost use Rattle.redl_journal.specs.Reading.{Gives, field_at};
+ghost use Rattle.redl_reading.specs.Steps.{Gives};
+ghost use Rattle.redl_reading.specs.Lists.{field_at};
 ghost use Rattle.redl_index.specs.KindNames.{kind_named};
 ghost use Rattle.redl_select.specs.Views.{selection_of};
 ghost use Rattle.redl_select.specs.Selections.{kind};

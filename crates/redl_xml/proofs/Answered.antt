@@ -1,6 +1,6 @@
 -- The answer for a text that is read: its nodes, or that it goes too deep or has too many of them.
 use Rattle.std.proofs.Common.{◌≡◌, ℕ, ◌<◌, ◌≤◌, Bool, true, false, List, [], ◌∷◌, ◌++◌, Option, Some, None, Result, Err, refl, sym, ap, subst, ◌∙◌, arith, inl, inr, ◌⊎◌}
-use Rattle.std.specs.Prelude.{IsErrOf}
+use Rattle.std.specs.Prelude.{IsErrOf, ◌^◌}
 use Rattle.std.specs.List.{list_all}
 use Rattle.std.specs.Str.{IsUtf8, chars, is_utf8}
 use Rattle.std.proofs.lemmas.Option.{same_Some}
@@ -8,6 +8,7 @@ use Rattle.std.proofs.lemmas.Str.{IsUtf8-from_is_utf8, is_utf8-from_IsUtf8}
 use Rattle.redl_tree.specs.Model.Nodes.{Tag, Nodes, no_nodes, bytes, element, ◌⊕◌}
 use Rattle.redl_tree.specs.Model.Text.{text}
 use Rattle.redl_tree.specs.Model.Count.{count}
+use Rattle.redl_tree.specs.Model.Tree.{HasUtf8Tails, IsTree}
 use Rattle.redl_tree.specs.Model.Nodes.{Close, Empty, End}
 use Rattle.redl_markup.specs.declared.error.MarkupError.{MarkupError}
 use Rattle.redl_markup.specs.declared.error.MarkupError.TheVariants as markup
@@ -18,7 +19,7 @@ use Rattle.redl_markup.specs.Stretches.{IsStretch, ends_stretch}
 use Rattle.redl_markup.specs.Pieces.{start_tag, empty_tag, end_tag, stretch}
 use Rattle.redl_markup.proofs.Characters.{text_is_utf8, tests_text}
 use Rattle.redl_markup.proofs.Pieces.{start_ends_stretch, end_ends_stretch}
-use Rattle.redl_markup.proofs.Runs.{either}
+use Rattle.std.proofs.lemmas.Bool.{cases_Bool}
 use Rattle.redl_markup.proofs.Utf8.{piece_is_utf8}
 use Rattle.redl_xml.specs.declared.error.XmlError.{XmlError}
 use Rattle.redl_xml.specs.declared.error.XmlError.TheVariants.{Unreadable}
@@ -56,8 +57,8 @@ error_was r x markup.NoMemory e g h = absurd cc
 
 text_or_none : (bs : List ℕ) → IsText bs ⊎ (IsText bs → ⊥)
 text_or_none bs =
-    elim (either (is_utf8 bs)) [
-      | inl utf8 ↦ by_characters (IsUtf8-from_is_utf8 bs utf8) (either (list_all is_character (chars bs)))
+    elim (cases_Bool (is_utf8 bs)) [
+      | inl utf8 ↦ by_characters (IsUtf8-from_is_utf8 bs utf8) (cases_Bool (list_all is_character (chars bs)))
       | inr other ↦ inr (λ t. not_both _ (is_utf8-from_IsUtf8 bs (text_is_utf8 bs t)) other)
     ] where
       not_both : (b : Bool) → b ≡ true → b ≡ false → ⊥
@@ -138,3 +139,12 @@ tails_are_legal bs u h =
     let root = root_tails d.root d.kids a.bytes_of d.is_root (behind_stretch b.bytes_of (tree_then r a.bytes_of) b.legal end utf8) in
     let Q : Nodes → Type 0 = HaveLegalTails in
     subst Q (sym parts) (tails-⊕ (bytes_or_none b.bytes_of) (r ⊕ bytes_or_none a.bytes_of) (bytes_tails b.bytes_of) (tails-⊕ r (bytes_or_none a.bytes_of) root (bytes_tails a.bytes_of)))
+
+utf8_tails : (u : Nodes) → HaveLegalTails u → HasUtf8Tails u
+utf8_tails no_nodes h = tt
+utf8_tails (bytes b rest) h = utf8_tails rest h
+utf8_tails (element tag kids rest) h = (h.1, utf8_tails kids h.2, utf8_tails rest h.3)
+
+-- What is read is a tree that may be a package.
+pub is_tree : (bs : List ℕ) (u : Nodes) → IsReading bs u → count u < 2 ^ 32 → IsTree u
+is_tree bs u h few = record { tails = utf8_tails u (tails_are_legal bs u h); few = few }

@@ -1,8 +1,9 @@
 -- What a push or a pop on nodes and on the open elements is, as plain data.
-use Rattle.std.proofs.Common.{◌≡◌, ◌≢◌, ℕ, Bool, true, false, List, [], ◌∷◌, ◌++◌, length, drop, map, reverse, Some, None, refl, sym, ap, ◌∙◌}
+use Rattle.std.proofs.Common.{◌≡◌, ℕ, suc, Bool, true, false, List, [], ◌∷◌, ◌++◌, length, drop, map, reverse, Option, Some, None, unwrap_or, option_to_list, refl, sym, ap, ◌∙◌}
 use Rattle.std.specs.Prelude.{not}
-use Rattle.std.proofs.lemmas.List.{map_push, reverse-append, length-map, length-reverse}
-use Rattle.std.proofs.lemmas.Simd.{map-map}
+use Rattle.std.specs.Option.{MatchOption}
+use Rattle.std.specs.Global.{Vec}
+use Rattle.std.proofs.lemmas.List.{append-nil, reverse-append, length-reverse}
 use Rattle.redl_tree.specs.declared.kinds.Space.{Space}
 use Rattle.redl_tree.specs.Model.Nodes.{Empty, End}
 use Rattle.redl_tree.specs.declared.kinds.Kind.{Kind}
@@ -18,13 +19,9 @@ use Rattle.redl_tree.proofs.Laws.{nodes_of-push, item_of-Elem}
 use Rattle.redl_markup.specs.Names.{Name, name_eq}
 use Rattle.redl_markup.specs.Pieces.{empty_tag}
 use Rattle.redl_xml.specs.declared.open_element.OpenElement.{OpenElement}
-use Rattle.redl_xml.specs.declared.building.Building.{Building}
-use Rattle.redl_xml.specs.declared.survey.OpenTag.{OpenTag}
 use Rattle.redl_xml.specs.Scopes.{Scope}
-use Rattle.redl_xml.specs.Elements.{Frame, State, plain_start, plain_tag, one_element, entered, declared_in, closed, stretched, placed, finished_by, finished}
-use Rattle.redl_xml.specs.Surveys.{tag_of}
-use Rattle.redl_xml.specs.Buildings.{frame_view, building_view}
-use Rattle.redl_xml.specs.OpenTags.{tag_view}
+use Rattle.redl_xml.specs.Elements.{Frame, State, plain_start, plain_tag, one_element, entered, declared_in, bare, closed, stretched, placed}
+use Rattle.redl_xml.specs.Buildings.{frame_view, frames}
 use Rattle.redl_xml.proofs.Scoping.{left_entered}
 
 pub pushed : (old now : List Node) (n : Node) (i : Item) → now ≡ old ++ n ∷ [] → item_of n ≡ i → nodes_of now ≡ nodes_of old ⊕ in_front i no_nodes
@@ -48,15 +45,45 @@ not-false false e = absurd cc
 abbrev pub state : List Frame → Nodes → Scope → State
 state fs kids scope = record { open_elements = fs; kids = kids; scope = scope }
 
--- the frames with the innermost first
-abbrev pub frames : List OpenElement → List Frame
-frames fs = reverse (map frame_view fs)
+-- ---- the open elements, the innermost last in the code
 
-frames-push : (fs : List OpenElement) (f : OpenElement) → frames (fs ++ f ∷ []) ≡ frame_view f ∷ frames fs
-frames-push fs f = ap reverse (map_push frame_view fs f) ∙ reverse-append (map frame_view fs) (frame_view f ∷ [])
+pub length-frames : (fs : List OpenElement) (bs : List (Vec Node)) → length (frames fs bs) ≡ length fs
+length-frames [] bs = refl
+length-frames (f ∷ fs) [] = ap (λ (n : ℕ). suc n) (length-frames fs [])
+length-frames (f ∷ fs) (b ∷ bs) = ap (λ (n : ℕ). suc n) (length-frames fs bs)
 
-pub length-frames : (fs : List OpenElement) → length (frames fs) ≡ length fs
-length-frames fs = length-reverse (map frame_view fs) ∙ length-map fs frame_view
+pub length-open : (fs : List OpenElement) (bs : List (Vec Node)) → length (frames (reverse fs) (reverse bs)) ≡ length fs
+length-open fs bs = length-frames (reverse fs) (reverse bs) ∙ length-reverse fs
+
+reverse-push : {A : Type 0} (xs : List A) (x : A) → reverse (xs ++ x ∷ []) ≡ x ∷ reverse xs
+reverse-push xs x = reverse-append xs (x ∷ [])
+
+pub frames-push : (fs : List OpenElement) (bs : List (Vec Node)) (f : OpenElement) (b : Vec Node) → frames (reverse (fs ++ f ∷ [])) (reverse (bs ++ b ∷ [])) ≡ frame_view f (nodes_of b.items) ∷ frames (reverse fs) (reverse bs)
+frames-push fs bs f b = ap (λ (gs : List OpenElement). frames gs (reverse (bs ++ b ∷ []))) (reverse-push fs f) ∙ ap (frames (f ∷ reverse fs)) (reverse-push bs b)
+
+no_length : {A : Type 0} (xs : List A) → length xs ≡ 0 → xs ≡ []
+no_length [] e = refl
+no_length (x ∷ xs) e = absurd cc
+
+-- the innermost element, and the list before it, or none where nodes were dropped
+pub frames-pop : (fs rest : List OpenElement) (f : OpenElement) (bs left : List (Vec Node)) (o : Option (Vec Node)) (d : Vec Node) (n m : ℕ) (P : Vec Node → Type 0) → fs ≡ rest ++ f ∷ [] → bs ≡ left ++ option_to_list o
+    → MatchOption o ((n ≡ 0) × (m ≡ 0)) P → length left ≡ m → d.items ≡ [] → frames (reverse fs) (reverse bs) ≡ frame_view f (nodes_of (unwrap_or o d).items) ∷ frames (reverse rest) (reverse left)
+frames-pop fs rest f bs left None d n m P e h none size empty =
+    let gone : left ≡ [] = no_length left (size ∙ none.1) in
+    ap (λ (gs : List OpenElement). frames (reverse gs) (reverse bs)) e ∙ ap (λ (gs : List OpenElement). frames gs (reverse bs)) (reverse-push rest f)
+    ∙ ap (λ (l : List (Vec Node)). frames (f ∷ reverse rest) (reverse l)) (h ∙ append-nil left ∙ gone)
+    ∙ ap (λ (l : List (Vec Node)). frame_view f no_nodes ∷ frames (reverse rest) (reverse l)) (sym gone)
+    ∙ ap (λ (ns : List Node). frame_view f (nodes_of ns) ∷ frames (reverse rest) (reverse left)) (sym empty)
+frames-pop fs rest f bs left (Some b) d n m P e h some size empty =
+    ap (λ (gs : List OpenElement). frames (reverse gs) (reverse bs)) e ∙ ap (λ (l : List (Vec Node)). frames (reverse (rest ++ f ∷ [])) (reverse l)) h ∙ frames-push rest left f b
+
+-- without the lists, nothing is before an open element
+pub frames-bare : (fs : List OpenElement) (bs : List (Vec Node)) → map bare (frames fs []) ≡ map bare (frames fs bs)
+frames-bare [] bs = refl
+frames-bare (f ∷ fs) [] = refl
+frames-bare (f ∷ fs) (b ∷ bs) = ap (λ (gs : List Frame). frame_view f no_nodes ∷ gs) (frames-bare fs bs)
+
+-- ---- what a piece makes of a state
 
 pub stretched_at : (fs : List Frame) (s : State) (b : List ℕ) (kids : Nodes) → (length fs ≡ 0 → ⊥) → kids ≡ s.kids ⊕ bytes b no_nodes → stretched fs s b ≡ Some (state s.open_elements kids s.scope)
 stretched_at [] s b kids some e = absurd (some refl)
@@ -67,29 +94,7 @@ empty_at s name tail x kids scope e k l =
     let same : s.scope ≡ scope = sym (l ∙ left_entered s.scope name tail x e) in
     rw e (ap (λ (n : Nodes). Some (state s.open_elements n s.scope)) (sym k) ∙ ap (λ (sc : Scope). Some (state s.open_elements kids sc)) same)
 
-pub closed_at : (fs rest : List OpenElement) (f : OpenElement) (kids : Nodes) (scope : Scope) (name : Name) (space : List ℕ) → fs ≡ rest ++ f ∷ [] → name_eq (frame_view f).name name ≡ true
-    → closed (frames fs) kids scope name space ≡ Some (state (frames rest) (nodes_of f.before.items ⊕ one_element (frame_view f).name f.start.space f.start.tail (End space) kids) (drop f.declared scope))
+pub closed_at : (fs rest : List Frame) (f : Frame) (kids : Nodes) (scope : Scope) (name : Name) (space : List ℕ) → fs ≡ f ∷ rest → name_eq f.name name ≡ true
+    → closed fs kids scope name space ≡ Some (state rest (f.before ⊕ one_element f.name f.space f.tail (End space) kids) (drop f.declared scope))
 closed_at fs rest f kids scope name space e same =
-    ap (λ (x : List Frame). closed x kids scope name space) (ap frames e ∙ frames-push rest f) ∙ rw same refl
-
-finished_none : (fs : List Frame) (kids : Nodes) → length fs ≡ 0 → finished_by fs kids ≡ Some kids
-finished_none [] kids e = refl
-finished_none (f ∷ fs) kids e = absurd cc
-
-finished_some : (fs : List Frame) (kids : Nodes) → (length fs ≢ 0) → finished_by fs kids ≡ None
-finished_some [] kids e = absurd (e refl)
-finished_some (f ∷ fs) kids e = refl
-
-pub finished_at : (b : Building) → length b.open.items ≡ 0 → finished (building_view b) ≡ Some (nodes_of b.kids.items)
-finished_at b e = finished_none (frames b.open.items) (nodes_of b.kids.items) (length-frames b.open.items ∙ e)
-
-pub unfinished_at : (b : Building) → (length b.open.items ≢ 0) → finished (building_view b) ≡ None
-unfinished_at b e = finished_some (frames b.open.items) (nodes_of b.kids.items) (λ h. e (sym (length-frames b.open.items) ∙ h))
-
-map-reverse : {X Y : Type 0} (f : X → Y) (xs : List X) → map f (reverse xs) ≡ reverse (map f xs)
-map-reverse f [] = refl
-map-reverse f (x ∷ xs) = ap (map f) (reverse-append (x ∷ []) xs) ∙ map_push f (reverse xs) x ∙ ap (λ l. l ++ f x ∷ []) (map-reverse f xs) ∙ sym (reverse-append (f x ∷ []) (map f xs))
-
--- the tags of the open elements are those of the frames
-pub tags-frames : (ts : List OpenTag) (fs : List OpenElement) → map tag_view ts ≡ map (λ f. tag_of (frame_view f)) fs → reverse (map tag_view ts) ≡ map tag_of (frames fs)
-tags-frames ts fs e = ap reverse (e ∙ sym (map-map tag_of frame_view fs)) ∙ sym (map-reverse tag_of (map frame_view fs))
+    ap (λ (gs : List Frame). closed gs kids scope name space) e ∙ rw same refl

@@ -7,17 +7,17 @@ use Rattle.redl_tree.specs.declared.kinds.Kind.TheVariants.{Plain}
 use Rattle.redl_tree.specs.Model.Nodes.{Close, Empty, End}
 use Rattle.redl_tree.proofs.Laws.{⊕-no_nodes, ⊕_assoc}
 use Rattle.redl_markup.specs.declared.place.Place.TheVariants.{InElement}
-use Rattle.redl_markup.specs.Reading.{turns}
+use Rattle.redl_reading.specs.Steps.{turns}
 use Rattle.redl_markup.specs.Names.{Name, name_text, name_eq}
 use Rattle.redl_markup.specs.Stretches.{ends_stretch}
 use Rattle.redl_markup.specs.Pieces.{Piece, start_tag, empty_tag, end_tag, stretch, piece_then, IsPiece, Follows}
-use Rattle.redl_markup.proofs.Runs.{and-both}
-use Rattle.redl_markup.proofs.Turns.{enough}
+use Rattle.std.proofs.lemmas.Bool.{and_from}
+use Rattle.redl_reading.proofs.Turns.{enough}
 use Rattle.redl_markup.proofs.Pieces.{piece_again, start_ends_stretch, end_ends_stretch}
 use Rattle.redl_xml.specs.Shapes.{begins_with_bytes}
 use Rattle.redl_xml.specs.Scopes.{Scope, scope_in, space_of}
 use Rattle.redl_xml.specs.Readings.{name_of, IsTag, ClosesBy, AreLegal}
-use Rattle.redl_xml.specs.Elements.{declared_in, Frame, State, plain_tag, placed, finished, nothing_yet, Point, element_step, element_by, element_at}
+use Rattle.redl_xml.specs.Elements.{declared_in, Frame, State, plain_tag, placed, finished, nothing_yet, Point, element_step, element_at}
 use Rattle.redl_xml.proofs.Scoping.{MayEnter, entered_again, left_again}
 use Rattle.redl_xml.proofs.Buildings.{state}
 use Rattle.redl_xml.proofs.Loops.{size, shrinks, step_goes, step_ends}
@@ -25,28 +25,28 @@ use Rattle.redl_xml.proofs.TreeTexts.{close_then, tree_then}
 use Rattle.redl_xml.proofs.Words.{bytes_same}
 
 -- the turns from a point give this, in some number
-record Gets (p : Point State) (u : Nodes) (rest : List ℕ) : Type 0 where
+record Gets (p : Point) (u : Nodes) (rest : List ℕ) : Type 0 where
   turns_taken : ℕ
-  gets : turns (element_step placed finished) turns_taken p ≡ Some (u, rest)
+  gets : turns element_step turns_taken p ≡ Some (u, rest)
 
 -- a piece with which the bytes begin is placed, and an element is still open
 one_piece : (p : Piece) (y : List ℕ) (s s' : State) (u : Nodes) (rest : List ℕ) → IsPiece InElement p → Follows p y → placed p s ≡ Some s' → finished s' ≡ None → Gets (y, s') u rest → Gets (piece_then p y, s) u rest
 one_piece p y s s' u rest h f e none g = record {
   turns_taken = suc g.turns_taken;
-  gets = rw (step_goes placed finished (piece_then p y) s s' (p, y) (piece_again InElement p y h f) e none) g.gets;
+  gets = rw (step_goes (piece_then p y) s s' (p, y) (piece_again InElement p y h f) e none) g.gets;
 }
 
 -- the piece that finishes the element
 last_piece : (p : Piece) (y : List ℕ) (s s' : State) (u : Nodes) → IsPiece InElement p → Follows p y → placed p s ≡ Some s' → finished s' ≡ Some u → Gets (piece_then p y, s) u y
 last_piece p y s s' u h f e some = record {
   turns_taken = 1;
-  gets = rw (step_ends placed finished (piece_then p y) s s' (p, y) u (piece_again InElement p y h f) e some) refl;
+  gets = rw (step_ends (piece_then p y) s s' (p, y) u (piece_again InElement p y h f) e some) refl;
 }
 
 -- ---- one element
 
 name_same : (n : Name) → name_eq n n ≡ true
-name_same n = and-both _ _ (bytes_same n.prefix) (bytes_same n.local)
+name_same n = and_from _ _ (bytes_same n.prefix) (bytes_same n.local)
 
 may_enter : (scope : Scope) (tag : Tag) → IsTag scope tag → MayEnter scope (name_of tag) tag.tail
 may_enter scope tag h = record { declarations = h.declarations; prefix = h.prefix; prefixes = h.prefixes }
@@ -135,7 +135,7 @@ root_gets tag kids y (End space) e h fits k =
 
 -- An element with which the bytes begin is read, and all that follows it is left.
 pub element_again : (tag : Tag) (kids : Nodes) (y : List ℕ) → AreLegal [] (element tag kids no_nodes) → element_at (tree_then (element tag kids no_nodes) y) ≡ Some (element tag kids no_nodes, y)
-unfolding element_by
+unfolding element_at
 element_again tag kids y h =
     let g = root_gets tag kids y tag.close refl h.0 h.1 h.2 in
-    enough (element_step placed finished) size (shrinks placed finished) g.turns_taken (suc (length (tree_then (element tag kids no_nodes) y))) (tree_then (element tag kids no_nodes) y, nothing_yet) (element tag kids no_nodes, y) g.gets (omega arith)
+    enough element_step size shrinks g.turns_taken (suc (length (tree_then (element tag kids no_nodes) y))) (tree_then (element tag kids no_nodes) y, nothing_yet) (element tag kids no_nodes, y) g.gets (omega arith)

@@ -1,6 +1,5 @@
 -- A document that is read is a reading of the bytes, and each reading is read.
-use Rattle.std.proofs.Common.{◌≡◌, ◌≢◌, ℕ, ◌+◌, Bool, true, false, cond, List, [], ◌∷◌, ◌++◌, Option, Some, None, refl, sym, ap, subst, ◌∙◌, arith, inl, inr, ◌⊎◌}
-use Rattle.std.specs.Option.{option_map}
+use Rattle.std.proofs.Common.{◌≡◌, ◌≢◌, ℕ, Bool, true, false, cond, List, [], ◌∷◌, ◌++◌, Option, Some, None, refl, sym, ap, subst, ◌∙◌, arith, inl, inr, ◌⊎◌}
 use Rattle.std.proofs.lemmas.List.{append-nil}
 use Rattle.std.proofs.lemmas.Option.{same_Some}
 use Rattle.redl_tree.specs.Model.Nodes.{Tag, Nodes, no_nodes, bytes, element, ◌⊕◌}
@@ -9,24 +8,24 @@ use Rattle.redl_tree.specs.Model.Count.{count}
 use Rattle.redl_tree.specs.Model.Nodes.{Close, Empty, End}
 use Rattle.redl_markup.specs.declared.place.Place.{Place}
 use Rattle.redl_markup.specs.declared.place.Place.TheVariants.{BeforeRoot, AfterRoot}
-use Rattle.redl_markup.specs.Lists.{is_filled}
+use Rattle.redl_reading.specs.Lists.{is_filled}
 use Rattle.redl_markup.specs.Characters.{IsText}
 use Rattle.redl_markup.specs.Names.{name_text}
 use Rattle.redl_markup.specs.Stretches.{IsStretch, ends_stretch}
-use Rattle.redl_markup.specs.Reading.{◌>>=◌}
 use Rattle.redl_markup.specs.Pieces.{Piece, start_tag, empty_tag, end_tag, stretch}
 use Rattle.redl_markup.specs.ScanPieces.{piece_at}
-use Rattle.redl_markup.proofs.Names.{bind_some}
+use Rattle.redl_reading.proofs.Steps.{bind_some}
 use Rattle.redl_markup.proofs.Pieces.{piece_takes, piece_again, piece_shorter, start_ends_stretch}
 use Rattle.redl_xml.specs.Shapes.{depth_of}
 use Rattle.redl_xml.specs.Readings.{name_of, AreLegal, IsStretchOrNone, IsReading}
 use Rattle.redl_xml.specs.Elements.{element_at}
-use Rattle.redl_xml.specs.Documents.{stretch_or_none, stretch_in, outline_with, outlined, outline_by, bytes_or_none, whole_nodes, document_at, counted, whole_sizes, sizes_at}
+use Rattle.redl_xml.specs.Documents.{stretch_or_none, stretch_in, bytes_or_none, whole_nodes, document_from, document_at, sizes_at}
 use Rattle.redl_xml.proofs.TreeTexts.{close_then, tree_then, tree-then, tree_then-⊕}
 use Rattle.redl_xml.proofs.Sound.{element_sound}
 use Rattle.redl_xml.proofs.Complete.{element_again}
-use Rattle.redl_xml.proofs.Measures.{depth-⊕, count-⊕, capped, one_more-capped, sizes, found_sizes, survey_measures}
-use Rattle.redl_xml.proofs.Parts.{outline, document_is}
+use Rattle.redl_xml.specs.Sizes.{capped, sizes_of}
+use Rattle.redl_xml.proofs.Bare.{some_of, none_of}
+use Rattle.redl_xml.proofs.Parts.{document_is}
 
 none_some : {A : Type 0} (x : A) → None ≡ Some x → ⊥
 none_some x e = cc
@@ -95,7 +94,7 @@ root_is_no_stretch place tag kids y h = of tag.close where
   of Empty = stretch_of place _ _ (piece_again place (empty_tag (name_of tag) tag.tail) y (h.0.name, h.0.tail) tt)
   of (End space) = stretch_of place _ _ (piece_again place (start_tag (name_of tag) tag.tail) (tree_then kids (60 ∷ 47 ∷ (name_text (name_of tag) ++ (space ++ (62 ∷ y))))) (h.0.name, h.0.tail) tt)
 
--- ---- text and sizes of the parts
+-- ---- the text of the parts
 
 bytes_then : (b y : List ℕ) → tree_then (bytes_or_none b) y ≡ b ++ y
 bytes_then [] y = refl
@@ -107,22 +106,6 @@ whole_then b a u =
     sym (append-nil (text whole)) ∙ tree-then whole [] ∙ tree_then-⊕ (bytes_or_none b) (u ⊕ bytes_or_none a) [] ∙ bytes_then b (tree_then (u ⊕ bytes_or_none a) [])
     ∙ ap (λ (z : List ℕ). b ++ z) (tree_then-⊕ u (bytes_or_none a) [] ∙ ap (tree_then u) (bytes_then a [] ∙ append-nil a))
 
-bytes_depth : (b : List ℕ) → depth_of (bytes_or_none b) ≡ 0
-bytes_depth [] = refl
-bytes_depth (c ∷ cs) = refl
-
-whole_depth : (b a : List ℕ) (u : Nodes) → depth_of (bytes_or_none b ⊕ (u ⊕ bytes_or_none a)) ≡ depth_of u
-whole_depth b a u = omega (arith, depth-⊕ (bytes_or_none b) (u ⊕ bytes_or_none a), depth-⊕ u (bytes_or_none a), bytes_depth b, bytes_depth a)
-
-counted-capped : (limit : ℕ) (b : List ℕ) (n : ℕ) → counted limit b (capped limit n) ≡ capped limit (n + count (bytes_or_none b))
-counted-capped limit [] n = ap (capped limit) (let e : n ≡ n + 0 = omega arith in e)
-counted-capped limit (c ∷ cs) n = one_more-capped limit n
-
-whole_count : (limit : ℕ) (b a : List ℕ) (u : Nodes) → counted limit a (counted limit b (capped limit (count u))) ≡ capped limit (count (bytes_or_none b ⊕ (u ⊕ bytes_or_none a)))
-whole_count limit b a u =
-    let all : (count u + count (bytes_or_none b)) + count (bytes_or_none a) ≡ count (bytes_or_none b ⊕ (u ⊕ bytes_or_none a)) = omega (arith, count-⊕ (bytes_or_none b) (u ⊕ bytes_or_none a), count-⊕ u (bytes_or_none a)) in
-    ap (counted limit a) (counted-capped limit b (count u)) ∙ counted-capped limit a (count u + count (bytes_or_none b)) ∙ ap (capped limit) all
-
 -- ---- what is read is a reading
 
 unfilled : (bs : List ℕ) → is_filled bs ≡ false → bs ≡ []
@@ -133,7 +116,7 @@ cond_none : {A : Type 0} (t : Bool) (x y : A) → cond t None (Some x) ≡ Some 
 cond_none true x y e = absurd (none_some y e)
 cond_none false x y e = (refl, same_Some x y e)
 
-document_sound : (bs : List ℕ) (u : Nodes) (rest : List ℕ) (b a : List ℕ × List ℕ) → IsText bs → TakesStretch BeforeRoot bs b → element_at b.1 ≡ Some (u, rest) → TakesStretch AfterRoot rest a → a.1 ≡ [] → IsReading bs (whole_nodes (outline b.0 u a.0))
+document_sound : (bs : List ℕ) (u : Nodes) (rest : List ℕ) (b a : List ℕ × List ℕ) → IsText bs → TakesStretch BeforeRoot bs b → element_at b.1 ≡ Some (u, rest) → TakesStretch AfterRoot rest a → a.1 ≡ [] → IsReading bs (whole_nodes b.0 u a.0)
 document_sound bs u rest b a t tb e ta none =
     let s = element_sound b.1 u rest e in
     let behind : rest ≡ a.0 = ta.whole ∙ ap (λ (z : List ℕ). a.0 ++ z) none ∙ append-nil a.0 in
@@ -158,12 +141,11 @@ pub reading_of_document : (bs : List ℕ) (u : Nodes) → IsText bs → document
 unfolding document_at
 reading_of_document bs u t e =
     let b = stretch_in BeforeRoot bs in
-    let r = bind_some (outline_by element_at bs) (λ o. Some (whole_nodes o)) u e in
-    let m = bind_some (element_at b.1) (outlined b.0) r.0 r.1 in
+    let m = bind_some (element_at b.1) (document_from b.0) u e in
     let a = stretch_in AfterRoot m.0.1 in
-    let c = cond_none (is_filled a.1) (outline b.0 m.0.0 a.0) r.0 m.2 in
+    let c = cond_none (is_filled a.1) (whole_nodes b.0 m.0.0 a.0) u m.2 in
     let P : Nodes → Type 0 = IsReading bs in
-    subst P (ap whole_nodes c.1 ∙ same_Some (whole_nodes r.0) u r.2) (document_sound bs m.0.0 m.0.1 b a t (stretch_takes BeforeRoot bs) m.1 (stretch_takes AfterRoot m.0.1) (unfilled a.1 c.0))
+    subst P c.1 (document_sound bs m.0.0 m.0.1 b a t (stretch_takes BeforeRoot bs) m.1 (stretch_takes AfterRoot m.0.1) (unfilled a.1 c.0))
 
 -- ---- each reading is read
 
@@ -195,30 +177,8 @@ no_document bs e u h = none_some u (sym e ∙ document_of_reading bs u h)
 
 -- ---- sizes
 
-sizes_of_end : (limit : ℕ) (b : List ℕ) (u : Nodes) (a : List ℕ × List ℕ) (t : Bool) → is_filled a.1 ≡ t → (outline_with b (sizes limit u) a >>= λ o. Some (whole_sizes limit o)) ≡ option_map (sizes limit) (outline_with b u a >>= λ o. Some (whole_nodes o))
-sizes_of_end limit b u a true e = rw e refl
-sizes_of_end limit b u a false e =
-    let deep : depth_of u ≡ depth_of (whole_nodes (outline b u a.0)) = sym (whole_depth b a.0 u) in
-    let same : Some (whole_sizes limit (outline b (sizes limit u) a.0)) ≡ Some (sizes limit (whole_nodes (outline b u a.0))) =
-    ap (λ (d : ℕ). Some (d, counted limit a.0 (counted limit b (capped limit (count u))))) deep ∙ ap (λ (n : ℕ). Some (depth_of (whole_nodes (outline b u a.0)), n)) (whole_count limit b a.0 u) in
-    rw e same
-
-sizes_of_root : (limit : ℕ) (b : List ℕ) (o : Option (Nodes × List ℕ)) → ((option_map (found_sizes limit) o >>= outlined b) >>= λ o. Some (whole_sizes limit o)) ≡ option_map (sizes limit) ((o >>= outlined b) >>= λ o. Some (whole_nodes o))
-sizes_of_root limit b None = refl
-sizes_of_root limit b (Some x) = sizes_of_end limit b x.0 (stretch_in AfterRoot x.1) (is_filled (stretch_in AfterRoot x.1).1) refl
-
--- The sizes are those of the nodes.
-sizes_of_document : (limit : ℕ) (bs : List ℕ) → sizes_at limit bs ≡ option_map (sizes limit) (document_at bs)
-unfolding sizes_at document_at
-sizes_of_document limit bs =
-    let b = stretch_in BeforeRoot bs in
-    ap (λ (o : Option ((ℕ × ℕ) × List ℕ)). (o >>= outlined b.0) >>= λ o. Some (whole_sizes limit o)) (survey_measures limit b.1) ∙ sizes_of_root limit b.0 (element_at b.1)
-
 pub no_sizes : (limit : ℕ) (bs : List ℕ) → sizes_at limit bs ≡ None → document_at bs ≡ None
-no_sizes limit bs e = of (document_at bs) (sym (sizes_of_document limit bs) ∙ e) where
-  of : (o : Option Nodes) → option_map (sizes limit) o ≡ None → o ≡ None
-  of None h = refl
-  of (Some u) h = absurd cc
+no_sizes limit bs e = none_of (sizes_of limit) (document_at bs) e
 
 -- the sizes are those of a reading
 pub record HasSizes (limit : ℕ) (bs : List ℕ) (x : ℕ × ℕ) : Type 0 where
@@ -227,13 +187,9 @@ pub record HasSizes (limit : ℕ) (bs : List ℕ) (x : ℕ × ℕ) : Type 0 wher
   pub deepest : x.0 ≡ depth_of read
   pub nodes : x.1 ≡ capped limit (count read)
 
-map_some : {A B : Type 0} (f : A → B) (o : Option A) (y : B) → option_map f o ≡ Some y → (x : A) × (o ≡ Some x) × (f x ≡ y)
-map_some f None y e = absurd (none_some y e)
-map_some f (Some x) y e = (x, refl, same_Some (f x) y e)
-
 pub has_sizes : (limit : ℕ) (bs : List ℕ) (x : ℕ × ℕ) → IsText bs → sizes_at limit bs ≡ Some x → HasSizes limit bs x
 has_sizes limit bs x t e =
-    let m = map_some (sizes limit) (document_at bs) x (sym (sizes_of_document limit bs) ∙ e) in
+    let m = some_of (sizes_of limit) (document_at bs) x e in
     record {
       read = m.0;
       reading = reading_of_document bs m.0 t m.1;

@@ -3,14 +3,14 @@ pub mod Texts
 pub mod Nearest
 pub mod Scoping
 pub mod Buildings
-pub mod OpenTags
 pub mod Loops
-pub mod Surveys
+pub mod Bare
+pub mod Measures
+pub mod Progress
 pub mod Parts
 pub mod TreeTexts
 pub mod Starts
 pub mod Sound
 pub mod Complete
-pub mod Measures
 pub mod Documents
 pub mod Answered

@@ -8,12 +8,12 @@ use Rattle.redl_tree.specs.declared.kinds.Space.{Space}
 use Rattle.redl_markup.specs.References.{is_there}
 use Rattle.redl_markup.specs.Names.{Name}
 use Rattle.redl_markup.specs.Decoding.{decoded_value}
-use Rattle.redl_markup.specs.Lists.{is_filled}
+use Rattle.redl_reading.specs.Lists.{is_filled}
 use Rattle.redl_markup.specs.Attributes.{attributes_of, names_in}
 use Rattle.redl_markup.specs.Views.{name_view}
 use Rattle.redl_markup.specs.declared.name.Name as code
-use Rattle.redl_markup.proofs.Names.{bind_some}
-use Rattle.redl_markup.proofs.Runs.{and-true, and-both}
+use Rattle.redl_reading.proofs.Steps.{bind_some}
+use Rattle.std.proofs.lemmas.Bool.{and_parts, and_from}
 use Rattle.std.specs.Str.{bytes_eq}
 use Rattle.redl_xml.specs.Scopes.{Scope, is_xmlns, space_named, declared_prefix, declared_by, is_allowed, with_declarations, scope_in, space_of, is_known, is_element_prefix, is_known_attribute, is_plain_name}
 use Rattle.redl_xml.specs.Elements.{with_attribute, with_attributes, known, entered, declarations, declared_in}
@@ -71,13 +71,13 @@ with_takes (a ∷ more) scope s e =
     let c = cond_some (is_allowed a) (declared_by (declared_prefix a.0) a.1 scope) first.0 first.1 in
     let P : Scope → Type 0 = λ x. with_attributes more x ≡ Some s in
     let go = with_takes more (declared_by (declared_prefix a.0) a.1 scope) s (subst P (sym c.1) first.2) in
-    (and-both (is_allowed a) (list_all is_allowed more) c.0 go.0, go.1)
+    (and_from (is_allowed a) (list_all is_allowed more) c.0 go.0, go.1)
 
 with_again : (attributes : List (Name × List ℕ)) (scope : Scope) → list_all is_allowed attributes ≡ true → with_attributes attributes scope ≡ Some (with_declarations attributes scope)
 unfolding with_attribute
 with_again [] scope h = refl
 with_again (a ∷ more) scope h =
-    let both = and-true (is_allowed a) (list_all is_allowed more) h in
+    let both = and_parts (is_allowed a) (list_all is_allowed more) h in
     rw both.0 (with_again more (declared_by (declared_prefix a.0) a.1 scope) both.1)
 
 pub entered_takes : (scope : Scope) (name : Name) (tail : List ℕ) (x : Space × Scope) → entered scope name tail ≡ Some x → MayEnter scope name tail × (inside scope name tail ≡ x)
@@ -88,7 +88,7 @@ entered_takes scope name tail x e =
     let P : Scope → Type 0 = λ s. known name (attributes_of tail) s ≡ Some x in
     let inner = scope_in tail scope in
     let c = cond_some (is_element_prefix inner name.prefix && list_all (is_known_attribute inner) (attributes_of tail)) (inside scope name tail) x (subst P (sym t.1) r.2) in
-    let both = and-true (is_element_prefix inner name.prefix) (list_all (is_known_attribute inner) (attributes_of tail)) c.0 in
+    let both = and_parts (is_element_prefix inner name.prefix) (list_all (is_known_attribute inner) (attributes_of tail)) c.0 in
     (record { declarations = t.0; prefix = both.0; prefixes = both.1 }, c.1)
 
 pub entered_again : (scope : Scope) (name : Name) (tail : List ℕ) → MayEnter scope name tail → entered scope name tail ≡ Some (inside scope name tail)
@@ -116,8 +116,8 @@ plain_attributes : (scope : Scope) (attributes : List (Name × List ℕ)) → Ar
 unfolding with_attribute
 plain_attributes scope [] h = (refl, refl)
 plain_attributes scope (a ∷ more) h =
-    let both = and-true (is_plain_name scope a.0) (list_all (is_plain_name scope) (map (λ (b : Name × List ℕ). b.0) more)) h in
-    let plain = and-true (not (is_there (declared_prefix a.0))) (is_known scope a.0.prefix) both.0 in
+    let both = and_parts (is_plain_name scope a.0) (list_all (is_plain_name scope) (map (λ (b : Name × List ℕ). b.0) more)) h in
+    let plain = and_parts (not (is_there (declared_prefix a.0))) (is_known scope a.0.prefix) both.0 in
     let none = declares_nothing (declared_prefix a.0) plain.0 in
     let rest = plain_attributes scope more both.1 in
     (rw none rest.0, rw (none, plain.1) rest.1)
@@ -132,8 +132,8 @@ plain_entered scope name tail h =
 nothing_declared : (scope : Scope) (attributes : List (Name × List ℕ)) → ArePlain scope attributes → declarations attributes ≡ 0
 nothing_declared scope [] h = refl
 nothing_declared scope (a ∷ more) h =
-    let both = and-true (is_plain_name scope a.0) (list_all (is_plain_name scope) (map (λ (b : Name × List ℕ). b.0) more)) h in
-    let plain = and-true (not (is_there (declared_prefix a.0))) (is_known scope a.0.prefix) both.0 in
+    let both = and_parts (is_plain_name scope a.0) (list_all (is_plain_name scope) (map (λ (b : Name × List ℕ). b.0) more)) h in
+    let plain = and_parts (not (is_there (declared_prefix a.0))) (is_known scope a.0.prefix) both.0 in
     rw (declares_nothing (declared_prefix a.0) plain.0) (nothing_declared scope more both.1)
 
 pub plain_declares_nothing : (scope : Scope) (tail : List ℕ) → list_all (is_plain_name scope) (names_in tail) ≡ true → 0 ≡ declared_in tail
@@ -153,7 +153,7 @@ pub own_is_known : (scope : Scope) (name : Name) (x : Space × Scope) → known 
 unfolding known
 own_is_known scope name x e =
     let c = cond_some (is_element_prefix scope name.prefix && true) (space_of scope name.prefix, scope) x e in
-    (and-true (is_element_prefix scope name.prefix) true c.0).0
+    (and_parts (is_element_prefix scope name.prefix) true c.0).0
 
 -- ---- a plain name
 

@@ -7,22 +7,22 @@ use Rattle.redl_tree.specs.Model.Nodes.{Tag, Nodes, no_nodes, bytes, element, �
 use Rattle.redl_tree.specs.declared.kinds.Space.{Space}
 use Rattle.redl_tree.specs.Model.Nodes.{Close, Empty, End}
 use Rattle.redl_markup.specs.declared.place.Place.TheVariants.{InElement}
-use Rattle.redl_markup.specs.Lists.{is_other}
-use Rattle.redl_markup.specs.Reading.{turn, turns}
+use Rattle.redl_reading.specs.Lists.{is_other}
+use Rattle.redl_reading.specs.Steps.{turn, turns}
 use Rattle.redl_markup.specs.Names.{Name, name_text, name_eq, IsName}
 use Rattle.redl_markup.specs.Tails.{IsTail}
 use Rattle.redl_markup.specs.Stretches.{Item, items_then, Head, head_then, IsStretch, begins_item, ends_stretch}
 use Rattle.redl_markup.specs.Pieces.{Piece, start_tag, empty_tag, end_tag, stretch, piece_then, IsPiece, Follows}
 use Rattle.redl_markup.specs.ScanPieces.{piece_at}
-use Rattle.redl_markup.proofs.Runs.{and-true, not-true}
-use Rattle.redl_markup.proofs.Names.{bind_some}
+use Rattle.std.proofs.lemmas.Bool.{and_parts, not-true}
+use Rattle.redl_reading.proofs.Steps.{bind_some}
 use Rattle.redl_markup.proofs.Items.{item_begins}
 use Rattle.redl_markup.proofs.Stretches.{whole_then}
 use Rattle.redl_markup.proofs.Pieces.{piece_takes}
 use Rattle.redl_xml.specs.Shapes.{begins_with_bytes}
 use Rattle.redl_xml.specs.Scopes.{Scope}
 use Rattle.redl_xml.specs.Readings.{IsTag, ClosesBy, AreLegal}
-use Rattle.redl_xml.specs.Elements.{entered, declared_in, Frame, State, plain_tag, one_element, added, opened, closed, stretched, placed, finished_by, finished, nothing_yet, element_step, element_by, element_at}
+use Rattle.redl_xml.specs.Elements.{entered, declared_in, Frame, State, plain_tag, one_element, added, opened, closed, stretched, placed, finished_by, finished, nothing_yet, element_step, element_at}
 use Rattle.redl_xml.proofs.Scoping.{MayEnter, inside, entered_takes, left_entered}
 use Rattle.redl_xml.proofs.Buildings.{state}
 use Rattle.redl_xml.proofs.Loops.{step_goes, step_ends, step_fails, step_refuses}
@@ -42,7 +42,7 @@ name_by prefix local = record { prefix = prefix; local = local }
 
 pub same_name : (m n : Name) → name_eq m n ≡ true → m ≡ n
 same_name m n e =
-    let both = and-true _ _ e in
+    let both = and_parts _ _ e in
     ap (λ (x : List ℕ). name_by x m.local) (same_bytes m.prefix n.prefix both.0) ∙ ap (name_by n.prefix) (same_bytes m.local n.local both.1)
 
 -- ---- the text so far
@@ -136,7 +136,7 @@ item_goes_on (b ∷ bs) e = rw e (none_and (eqb b 60))
 content_goes_on : (first : List ℕ) (more : List (Item × List ℕ)) (rest : List ℕ) → list_all (is_other 60) first ≡ true → (first ++ items_then more [] ≢ []) → ends_stretch (first ++ items_then more rest) ≡ false
 content_goes_on [] [] rest h filled = absurd (filled refl)
 content_goes_on [] (i ∷ more) rest h filled = item_goes_on (items_then (i ∷ more) rest) (item_begins i.0 (i.1 ++ items_then more rest))
-content_goes_on (b ∷ bs) more rest h filled = rw (not-true (eqb b 60) (and-true (is_other 60 b) (list_all (is_other 60) bs) h).0) refl
+content_goes_on (b ∷ bs) more rest h filled = rw (not-true (eqb b 60) (and_parts (is_other 60 b) (list_all (is_other 60) bs) h).0) refl
 
 stretch_goes_on : (b rest : List ℕ) → IsStretch InElement b → ends_stretch (b ++ rest) ≡ false
 stretch_goes_on b rest h =
@@ -272,39 +272,39 @@ unfinished_top : (fs : List Frame) (kids : Nodes) (scope : Scope) → finished_b
 unfinished_top [] kids scope e h = absurd (none_some kids (sym e))
 unfinished_top (f ∷ fs) kids scope e h = h
 
-sound_turns : (n : ℕ) (bs : List ℕ) (s : State) (u : Nodes) (rest : List ℕ) → turns (element_step placed finished) n (bs, s) ≡ Some (u, rest) → IsLegalAt s bs → top_of s ≡ no_nodes → IsSound s bs u rest
+sound_turns : (n : ℕ) (bs : List ℕ) (s : State) (u : Nodes) (rest : List ℕ) → turns element_step n (bs, s) ≡ Some (u, rest) → IsLegalAt s bs → top_of s ≡ no_nodes → IsSound s bs u rest
 sound_turns zero bs s u rest e l t = absurd (none_some (u, rest) e)
 sound_turns (suc n) bs s u rest e l t = by_piece n bs s u rest (piece_at InElement bs) refl e l t (sound_turns n) where
-  by_finish : (n : ℕ) (bs : List ℕ) (s s' : State) (u : Nodes) (rest : List ℕ) (x : Piece × List ℕ) → piece_at InElement bs ≡ Some x → placed x.0 s ≡ Some s' → (o : Option Nodes) → finished s' ≡ o → turn (element_step placed finished (bs, s)) (turns (element_step placed finished) n) ≡ Some (u, rest) → IsLegalAt s bs → top_of s ≡ no_nodes
-      → ((cs : List ℕ) (t : State) (v : Nodes) (r : List ℕ) → turns (element_step placed finished) n (cs, t) ≡ Some (v, r) → IsLegalAt t cs → top_of t ≡ no_nodes → IsSound t cs v r) → IsSound s bs u rest
+  by_finish : (n : ℕ) (bs : List ℕ) (s s' : State) (u : Nodes) (rest : List ℕ) (x : Piece × List ℕ) → piece_at InElement bs ≡ Some x → placed x.0 s ≡ Some s' → (o : Option Nodes) → finished s' ≡ o → turn (element_step (bs, s)) (turns element_step n) ≡ Some (u, rest) → IsLegalAt s bs → top_of s ≡ no_nodes
+      → ((cs : List ℕ) (t : State) (v : Nodes) (r : List ℕ) → turns element_step n (cs, t) ≡ Some (v, r) → IsLegalAt t cs → top_of t ≡ no_nodes → IsSound t cs v r) → IsSound s bs u rest
   by_finish n bs s s' u rest x g p None f e l t go =
       let k = piece_takes InElement bs x g in
       let P : List ℕ → Type 0 = λ cs. IsLegalAt s cs in
       let legal = placed_legal x.0 s s' x.1 p k.legal k.follows (subst P k.whole l) in
-      let more = go x.1 s' u rest (rw (step_goes placed finished bs s s' x g p f) at e) legal (unfinished_top s'.open_elements s'.kids s'.scope f (placed_holds x.0 s s' p t)) in
+      let more = go x.1 s' u rest (rw (step_goes bs s s' x g p f) at e) legal (unfinished_top s'.open_elements s'.kids s'.scope f (placed_holds x.0 s s' p t)) in
       record { whole = more.whole ∙ placed_text x.0 s s' x.1 p ∙ ap (so_far_then s) (sym k.whole); legal = more.legal; one = more.one }
   by_finish n bs s s' u rest x g p (Some v) f e l t go =
       let k = piece_takes InElement bs x g in
       let P : List ℕ → Type 0 = λ cs. IsLegalAt s cs in
       let legal = placed_legal x.0 s s' x.1 p k.legal k.follows (subst P k.whole l) in
-      let same = some_pair_parts v u x.1 rest (rw (step_ends placed finished bs s s' x v g p f) at e) in
+      let same = some_pair_parts v u x.1 rest (rw (step_ends bs s s' x v g p f) at e) in
       let made = finish_sound s'.open_elements s'.kids s'.scope v x.1 f legal (placed_holds x.0 s s' p t) in
       let Q : Nodes → Type 0 = λ w. IsSound s bs w x.1 in
       let R : List ℕ → Type 0 = λ r. IsSound s bs u r in
       let here : IsSound s bs v x.1 = record { whole = made.whole ∙ placed_text x.0 s s' x.1 p ∙ ap (so_far_then s) (sym k.whole); legal = made.legal; one = made.one } in
       subst R same.1 (subst Q same.0 here)
 
-  by_place : (n : ℕ) (bs : List ℕ) (s : State) (u : Nodes) (rest : List ℕ) (x : Piece × List ℕ) → piece_at InElement bs ≡ Some x → (o : Option State) → placed x.0 s ≡ o → turn (element_step placed finished (bs, s)) (turns (element_step placed finished) n) ≡ Some (u, rest) → IsLegalAt s bs → top_of s ≡ no_nodes
-      → ((cs : List ℕ) (t : State) (v : Nodes) (r : List ℕ) → turns (element_step placed finished) n (cs, t) ≡ Some (v, r) → IsLegalAt t cs → top_of t ≡ no_nodes → IsSound t cs v r) → IsSound s bs u rest
-  by_place n bs s u rest x g None p e l t go = absurd (none_some (u, rest) (rw (step_refuses placed finished bs s x g p) at e))
+  by_place : (n : ℕ) (bs : List ℕ) (s : State) (u : Nodes) (rest : List ℕ) (x : Piece × List ℕ) → piece_at InElement bs ≡ Some x → (o : Option State) → placed x.0 s ≡ o → turn (element_step (bs, s)) (turns element_step n) ≡ Some (u, rest) → IsLegalAt s bs → top_of s ≡ no_nodes
+      → ((cs : List ℕ) (t : State) (v : Nodes) (r : List ℕ) → turns element_step n (cs, t) ≡ Some (v, r) → IsLegalAt t cs → top_of t ≡ no_nodes → IsSound t cs v r) → IsSound s bs u rest
+  by_place n bs s u rest x g None p e l t go = absurd (none_some (u, rest) (rw (step_refuses bs s x g p) at e))
   by_place n bs s u rest x g (Some s') p e l t go = by_finish n bs s s' u rest x g p (finished s') refl e l t go
 
-  by_piece : (n : ℕ) (bs : List ℕ) (s : State) (u : Nodes) (rest : List ℕ) → (o : Option (Piece × List ℕ)) → piece_at InElement bs ≡ o → turn (element_step placed finished (bs, s)) (turns (element_step placed finished) n) ≡ Some (u, rest) → IsLegalAt s bs → top_of s ≡ no_nodes
-      → ((cs : List ℕ) (t : State) (v : Nodes) (r : List ℕ) → turns (element_step placed finished) n (cs, t) ≡ Some (v, r) → IsLegalAt t cs → top_of t ≡ no_nodes → IsSound t cs v r) → IsSound s bs u rest
-  by_piece n bs s u rest None g e l t go = absurd (none_some (u, rest) (rw (step_fails placed finished bs s g) at e))
+  by_piece : (n : ℕ) (bs : List ℕ) (s : State) (u : Nodes) (rest : List ℕ) → (o : Option (Piece × List ℕ)) → piece_at InElement bs ≡ o → turn (element_step (bs, s)) (turns element_step n) ≡ Some (u, rest) → IsLegalAt s bs → top_of s ≡ no_nodes
+      → ((cs : List ℕ) (t : State) (v : Nodes) (r : List ℕ) → turns element_step n (cs, t) ≡ Some (v, r) → IsLegalAt t cs → top_of t ≡ no_nodes → IsSound t cs v r) → IsSound s bs u rest
+  by_piece n bs s u rest None g e l t go = absurd (none_some (u, rest) (rw (step_fails bs s g) at e))
   by_piece n bs s u rest (Some x) g e l t go = by_place n bs s u rest x g (placed x.0 s) refl e l t go
 
 -- The element that is read is legal, and the bytes begin with it.
 pub element_sound : (bs : List ℕ) (u : Nodes) (rest : List ℕ) → element_at bs ≡ Some (u, rest) → IsSound nothing_yet bs u rest
-unfolding element_by
+unfolding element_at
 element_sound bs u rest e = sound_turns (suc (length bs)) bs nothing_yet u rest e (record { frames_legal = refl; kids_legal = tt; follows = λ e. absurd cc }) refl

@@ -1,5 +1,5 @@
 -- One element read from the left, piece by piece, as a function on plain data.
-use Rattle.std.specs.Prelude.{ℕ, suc, ◌&&◌, List, [], ◌∷◌, length, drop, Option, Some, None, if◌then◌else◌}
+use Rattle.std.specs.Prelude.{ℕ, suc, ◌&&◌, List, [], ◌∷◌, length, drop, map, Option, Some, None, if◌then◌else◌}
 use Rattle.std.specs.List.{list_all}
 use Rattle.redl_tree.specs.Model.Nodes.{Tag, Nodes, no_nodes, bytes, element, ◌⊕◌}
 use Rattle.redl_tree.specs.Model.Starts.{Start}
@@ -7,7 +7,7 @@ use Rattle.redl_tree.specs.declared.kinds.Space.{Space}
 use Rattle.redl_tree.specs.declared.kinds.Kind.TheVariants.{Plain}
 use Rattle.redl_tree.specs.Model.Nodes.{Close, Empty, End}
 use Rattle.redl_markup.specs.declared.place.Place.TheVariants.{InElement}
-use Rattle.redl_markup.specs.Reading.{◌>>=◌, Turn, done, next, turns}
+use Rattle.redl_reading.specs.Steps.{◌>>=◌, Turn, done, next, turns}
 use Rattle.redl_markup.specs.References.{is_there}
 use Rattle.redl_markup.specs.Names.{Name, name_eq}
 use Rattle.redl_markup.specs.Pieces.{Piece, start_tag, empty_tag, end_tag, stretch}
@@ -122,32 +122,36 @@ finished s = finished_by s.open_elements s.kids
 abbrev pub nothing_yet : State
 nothing_yet = record { open_elements = []; kids = no_nodes; scope = [] }
 
+-- an open element without the nodes before it
+abbrev pub bare : Frame → Frame
+bare f = record { name = f.name; tail = f.tail; declared = f.declared; space = f.space; before = no_nodes }
+
+-- the open elements and the scope without the nodes so far
+abbrev pub without_nodes : State → State
+without_nodes s = record { open_elements = map bare s.open_elements; kids = no_nodes; scope = s.scope }
+
 -- ---- the turns
 
--- the rest of the bytes, and what was made of those before it
-abbrev pub Point : Type 0 → Type 0
-Point S = List ℕ × S
+-- the rest of the bytes, and the state after those before it
+abbrev pub Point : Type 0
+Point = List ℕ × State
 
-abbrev pub from_result : {S R : Type 0} → List ℕ → S → Option R → Turn (Point S) (R × List ℕ)
-from_result rest s None = next (rest, s)
-from_result rest s (Some r) = done (Some (r, rest))
+abbrev pub from_nodes : List ℕ → State → Option Nodes → Turn Point (Nodes × List ℕ)
+from_nodes rest s None = next (rest, s)
+from_nodes rest s (Some nodes) = done (Some (nodes, rest))
 
-abbrev pub from_state : {S R : Type 0} → (S → Option R) → List ℕ → Option S → Turn (Point S) (R × List ℕ)
-from_state finish rest None = done None
-from_state finish rest (Some s) = from_result rest s (finish s)
+abbrev pub from_state : List ℕ → Option State → Turn Point (Nodes × List ℕ)
+from_state rest None = done None
+from_state rest (Some s) = from_nodes rest s (finished s)
 
-abbrev pub from_piece : {S R : Type 0} → (Piece → S → Option S) → (S → Option R) → S → Option (Piece × List ℕ) → Turn (Point S) (R × List ℕ)
-from_piece place finish s None = done None
-from_piece place finish s (Some x) = from_state finish x.1 (place x.0 s)
+abbrev pub from_piece : State → Option (Piece × List ℕ) → Turn Point (Nodes × List ℕ)
+from_piece s None = done None
+from_piece s (Some x) = from_state x.1 (placed x.0 s)
 
 -- a piece is placed, and the turns end if that finishes an element
-unfoldable pub element_step : {S R : Type 0} → (Piece → S → Option S) → (S → Option R) → Point S → Turn (Point S) (R × List ℕ)
-element_step place finish p = from_piece place finish p.1 (piece_at InElement p.0)
+unfoldable pub element_step : Point → Turn Point (Nodes × List ℕ)
+element_step p = from_piece p.1 (piece_at InElement p.0)
 
--- pieces placed from a first state on, until an element is finished; with what follows it
-unfoldable pub element_by : {S R : Type 0} → (Piece → S → Option S) → (S → Option R) → S → List ℕ → Option (R × List ℕ)
-element_by place finish start bs = turns (element_step place finish) (suc (length bs)) (bs, start)
-
--- the leading element
-abbrev pub element_at : List ℕ → Option (Nodes × List ℕ)
-element_at bs = element_by placed finished nothing_yet bs
+-- the leading element, and what follows it
+unfoldable pub element_at : List ℕ → Option (Nodes × List ℕ)
+element_at bs = turns element_step (suc (length bs)) (bs, nothing_yet)

@@ -2,9 +2,8 @@ pub mod Shapes
 pub mod Scopes
 pub mod Readings
 pub mod Elements
-pub mod Surveys
+pub mod Sizes
 pub mod Stacks
 pub mod Buildings
-pub mod OpenTags
 pub mod Documents
 pub mod Errors

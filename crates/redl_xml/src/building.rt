@@ -1,33 +1,32 @@
 //! The open elements, and the nodes in them so far.
 
-ghost use Rattle.std.specs.Prelude.{◌≡◌, IfOk, OnOk, IsErrOf, Some, None, map};
+ghost use Rattle.std.specs.Prelude.{◌≡◌, ◌≤◌, OnOk, IsErrOf, Some, None};
 ghost use Rattle.redl_tree.specs.Model.Nodes.{no_nodes, in_front, ◌⊕◌};
 ghost use Rattle.redl_tree.specs.Model.View.{item_of, nodes_of};
 ghost use Rattle.redl_markup.specs.Views.{name_view};
 ghost use Rattle.redl_markup.specs.PieceViews.{piece_view};
 ghost use Rattle.redl_markup.specs.Pieces.{start_tag, empty_tag, end_tag, stretch};
-ghost use Rattle.redl_xml.specs.Elements.{placed, nothing_yet};
-ghost use Rattle.redl_xml.specs.Surveys.{tag_of, survey_of};
+ghost use Rattle.redl_xml.specs.Elements.{placed, nothing_yet, without_nodes};
 ghost use Rattle.redl_xml.specs.Buildings.{frame_view, building_view};
-ghost use Rattle.redl_xml.specs.OpenTags.{tag_view, survey_view};
 
 use crate::namespaces::enter;
 use crate::open_element::OpenElement;
 use crate::scope::Scopes;
-use crate::sizes::Sizes;
+use crate::sizes::{Limits, Sizes};
 use crate::start::kept;
-use crate::survey::{OpenTag, Survey};
 use redl_markup::{MarkupError, Name, Piece, StartTag};
 use redl_tree::{Elem, Node};
 use std::alloc::{AllocError, Global};
 use std::mem;
 
-/// The open elements, the innermost last, the nodes so far in that one, and the declarations in its scope.
+/// The open elements with the nodes before each of them, the innermost last, the nodes so far in that one, and the
+/// declarations in its scope. Where nodes were dropped, the outer elements have no list of those before them.
 #[derive(Drop)]
 pub(crate) struct Building<'a> {
     pub(crate) open: Vec<OpenElement<'a>>,
+    before: Vec<Vec<Node<'a>>>,
     pub(crate) kids: Vec<Node<'a>>,
-    pub(crate) scopes: Scopes<'a>,
+    scopes: Scopes<'a>,
 }
 
 /// Adds a node. Most elements have one alone, so the first one takes memory for no more.
@@ -41,29 +40,13 @@ pub(crate) fn push_node<'a>(nodes: &mut Vec<Node<'a>>, node: Node<'a>) -> Result
     Ok(())
 }
 
-/// The name of an open element, and how many declarations it has.
-fn open_tag<'a>(opened: &OpenElement<'a>) -> OpenTag<'a>
-    ensures { tag_view result ≡ tag_of (frame_view opened.now) }
+fn name_of<'a>(opened: &OpenElement<'a>) -> Name<'a>
+    ensures { name_view result ≡ (frame_view opened.now no_nodes).name }
 {
-    let name = Name {
+    Name {
         prefix: opened.start.prefix(),
         local: opened.start.local(),
-    };
-    OpenTag {
-        name,
-        declared: opened.declared,
     }
-}
-
-/// The tags of open elements.
-fn tags_of<'a>(alloc: Global, elements: &[OpenElement<'a>]) -> Result<Vec<OpenTag<'a>>, AllocError>
-    ensures { IfOk result (λ tags. map tag_view tags.items ≡ map (λ opened. tag_of (frame_view opened)) elements.now) }
-{
-    let mut tags = Vec::new(alloc);
-    for opened in elements {
-        tags.push(open_tag(opened))?;
-    }
-    Ok(tags)
 }
 
 impl<'a> Building<'a> {
@@ -72,6 +55,7 @@ impl<'a> Building<'a> {
     {
         Building {
             open: Vec::new(alloc),
+            before: Vec::new(alloc),
             kids: Vec::new(alloc),
             scopes: Scopes::new(alloc),
         }
@@ -84,10 +68,10 @@ impl<'a> Building<'a> {
         let entered = enter(&mut self.scopes, alloc, tag)?;
         let start = kept(tag, entered.space)?;
         let before = mem::replace(&mut self.kids, Vec::new(alloc));
+        self.before.push(before)?;
         self.open.push(OpenElement {
             start,
             declared: entered.declared,
-            before,
         })?;
         Ok(())
     }
@@ -121,14 +105,14 @@ impl<'a> Building<'a> {
         let Some(opened) = self.open.pop() else {
             return Err(MarkupError::Unreadable);
         };
-        if open_tag(&opened).name != name {
+        if name_of(&opened) != name {
             return Err(MarkupError::Unreadable);
         }
         self.scopes.forget(opened.declared);
-        let OpenElement { start, before, .. } = opened;
+        let before = self.before.pop().unwrap_or(Vec::new(alloc));
         let mut kids = mem::replace(&mut self.kids, before);
         kids.shrink_to_fit();
-        let elem = Elem::with_space(alloc, start, kids, space)?;
+        let elem = Elem::with_space(alloc, opened.start, kids, space)?;
         push_node(&mut self.kids, Node::Elem(elem))?;
         Ok(())
     }
@@ -146,16 +130,14 @@ impl<'a> Building<'a> {
         }
     }
 
-    /// The survey of the open elements, with the counts so far. The nodes are dropped.
-    pub(crate) fn into_survey(self, alloc: Global, sizes: Sizes) -> Result<Survey<'a>, AllocError>
-        ensures { IfOk result (λ survey. survey_view survey ≡ survey_of sizes.deepest sizes.nodes (building_view self.entry)) }
+    /// Drops the nodes so far if the sizes are past a limit.
+    pub(crate) fn keep_within(&mut self, limits: Limits, sizes: Sizes)
+        ensures kept { sizes.deepest ≤ limits.depth → sizes.nodes ≤ limits.nodes → building_view self.new ≡ building_view self.old }
+        ensures rest { without_nodes (building_view self.new) ≡ without_nodes (building_view self.old) }
     {
-        let Building { open, scopes, .. } = self;
-        let open = tags_of(alloc, &open)?;
-        Ok(Survey {
-            open,
-            sizes,
-            scopes,
-        })
+        if !sizes.are_within(limits) {
+            self.before.clear();
+            self.kids.clear();
+        }
     }
 }

@@ -3,6 +3,7 @@
 ghost use Rattle.std.specs.Prelude.{◌≡◌, ◌<◌, ◌≤◌, IfOk, OnOk, IsErrOf, Some};
 ghost use Rattle.redl_tree.specs.Model.Nodes.{Nodes, ◌⊕◌};
 ghost use Rattle.redl_tree.specs.Model.Count.{count};
+ghost use Rattle.redl_tree.specs.Model.Tree.{IsTree};
 ghost use Rattle.redl_tree.specs.Model.View.{nodes_of};
 ghost use Rattle.redl_markup.specs.Reading.{Finds};
 ghost use Rattle.redl_io.specs.Limits.{depth as depth_limit, nodes as node_limit};
@@ -97,6 +98,7 @@ fn read_document(alloc: Global, limits: Limits, bytes: &[u8]) -> Result<Document
 fn read_within(alloc: Global, bytes: &[u8], limits: Limits) -> Result<Vec<Node>, XmlError>
     ensures found { IfOk result (λ nodes. IsReading bytes.now (nodes_of nodes.items)) }
     ensures within { IfOk result (λ nodes. (depth_of (nodes_of nodes.items) ≤ limits.depth) × (count (nodes_of nodes.items) ≤ limits.nodes)) }
+    ensures tree { IfOk result (λ nodes. IsTree (nodes_of nodes.items)) }
     ensures unreadable { IsErrOf result XmlError.Unreadable → HasNoReading bytes.now }
     ensures too_deep { IsErrOf result XmlError.Depth → HasReading bytes.now (λ nodes. limits.depth < depth_of nodes) }
     ensures too_many { IsErrOf result XmlError.Nodes → HasReading bytes.now (λ nodes. (depth_of nodes ≤ limits.depth) × (limits.nodes < count nodes)) }
@@ -128,6 +130,7 @@ fn read_within(alloc: Global, bytes: &[u8], limits: Limits) -> Result<Vec<Node>,
 pub fn read(alloc: Global, bytes: &[u8]) -> Result<Vec<Node>, XmlError>
     ensures found { IfOk result (λ nodes. IsReading bytes.now (nodes_of nodes.items)) }
     ensures within { IfOk result (λ nodes. (depth_of (nodes_of nodes.items) ≤ depth_limit) × (count (nodes_of nodes.items) ≤ node_limit)) }
+    ensures tree { IfOk result (λ nodes. IsTree (nodes_of nodes.items)) }
 
     // If nothing is read, there is no tree, or it goes too deep, or it has too many nodes.
     ensures unreadable { IsErrOf result XmlError.Unreadable → HasNoReading bytes.now }

@@ -16,7 +16,6 @@ mod open_element;
 mod scope;
 mod sizes;
 mod start;
-mod survey;
 
 /// The greatest depth of an element, with the root at depth 1.
 pub const DEPTH_LIMIT: usize = 512;

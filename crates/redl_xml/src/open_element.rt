@@ -3,14 +3,13 @@
 ghost use Rattle.std.specs.Prelude.{◌≡◌};
 ghost use Rattle.redl_tree.specs.declared.kinds.Kind.TheVariants.{Plain};
 
-use redl_tree::{Node, Tag};
+use redl_tree::Tag;
 
-/// An open element: its start tag, how many declarations that has, and the siblings before it. It is in no revision.
+/// An open element: its start tag, and how many declarations that has. It is in no revision.
 #[derive(Drop)]
 pub(crate) struct OpenElement<'a> {
     pub(crate) start: Tag<'a>,
     pub(crate) declared: usize,
-    pub(crate) before: Vec<Node<'a>>,
     ghost kind: { start.kind ≡ Plain },
     ghost rev: { start.rev ≡ 0 },
 }

@@ -8,7 +8,7 @@ ghost use Rattle.redl_app.specs.Writing.{only_bytes};
 ghost use Rattle.redl_index.specs.Numbers.{package_revisions};
 
 use crate::output::{Output, Writing};
-use crate::package::{number_package, read_package};
+use crate::package::{count_package, read_package};
 use redl_lines::Failure;
 use redl_opc::Package;
 use std::alloc::{AllocError, Global};
@@ -24,6 +24,6 @@ pub(crate) fn check<'a, 'b>(alloc: Global, bytes: &'b [u8]) -> Result<Writing<'b
 fn count_revisions(alloc: Global, read: Package) -> Result<Writing, AllocError>
     ensures { IfOk result (λ writing. writing_view writing ≡ only_bytes (sound_text (package_revisions read.entry))) }
 {
-    let numbered = number_package(alloc, read)?;
-    Ok(Writing::only(alloc, Output::Count(numbered.index.count())))
+    let counted = count_package(alloc, read)?;
+    Ok(Writing::only(alloc, Output::Count(counted.count)))
 }

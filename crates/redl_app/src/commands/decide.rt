@@ -68,9 +68,10 @@ fn write_book(admitted: Admitted) -> Writing
         session,
         refused,
     } = admitted;
+    let mut document = document;
     Writing {
         output: Output::Journal {
-            document,
+            document: document.id(),
             book: session.into_book(),
         },
         refused,

@@ -87,16 +87,10 @@ fn list_revisions<'a, 'b>(
         ..
     } = admitted;
     let verdicts = session.verdicts()?;
+    // The nodes go before the rows come, so that they aren't in memory together.
+    let index = session.into_index();
     let mut made = Vec::new(alloc);
-    let found = redl_listing::list(
-        alloc,
-        formats,
-        name,
-        parts,
-        session.index(),
-        &verdicts,
-        &mut made,
-    )?;
+    let found = redl_listing::list(alloc, formats, name, parts, &index, &verdicts, &mut made)?;
     if !found {
         return Err(Failure::Cause(Cause::NoFormat(name)));
     }

@@ -36,11 +36,11 @@ pub(crate) fn sample<'a, 'b>(alloc: Global, number: u32) -> Result<Writing<'b>, 
 }
 
 // The summary of the sample, which is this package and has this text.
-fn summarize<'b>(
+fn summarize<'b, 'p>(
     alloc: Global,
     number: u32,
-    read: Package,
-    bytes: &[u8],
+    read: Package<'p>,
+    bytes: &'p [u8],
 ) -> Result<Writing<'b>, AllocError>
     requires number { number ≤ SAMPLE_LIMIT }
     requires sound { broken_rule read ≡ None }

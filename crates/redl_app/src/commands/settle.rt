@@ -7,7 +7,7 @@ ghost use Rattle.redl_app.specs.Views.{result_view, writing_view};
 ghost use Rattle.redl_app.specs.Writing.{only_bytes};
 
 use crate::output::{Output, Writing};
-use crate::package::{number_package, pass_nodes, read_package};
+use crate::package::{count_package, pass_nodes, read_package};
 use redl_lines::Failure;
 use redl_opc::Package;
 use redl_tree::Say;
@@ -34,8 +34,8 @@ fn say_of(accept: bool) -> Say
 fn settle_package(alloc: Global, say: Say, read: Package) -> Result<Writing, AllocError>
     ensures { IfOk result (λ writing. writing_view writing ≡ only_bytes (passed_text (same_says say read.entry) read.entry)) }
 {
-    let numbered = number_package(alloc, read)?;
-    let says = vec![in alloc; say; numbered.index.count() as usize]?;
-    let nodes = pass_nodes(alloc, numbered.package, &says)?;
+    let counted = count_package(alloc, read)?;
+    let says = vec![in alloc; say; counted.count as usize]?;
+    let nodes = pass_nodes(alloc, counted.package, &says)?;
     Ok(Writing::only(alloc, Output::Package(nodes)))
 }

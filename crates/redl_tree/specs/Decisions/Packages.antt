@@ -1,4 +1,5 @@
--- Where nodes stand in a package, which of its elements are the roots of stories, and the pass of a package.
+-- Where nodes stand in a package, which of its elements are the roots of stories, what becomes of a package whose stories are
+-- changed, and the pass of a package.
 -- A package is one XML text in the Flat OPC form: a `package` of parts, whose data is XML or not.
 -- `around` is the list of the tags of a node's ancestors, the nearest first.
 use Rattle.std.specs.Prelude.{ℕ, List, [], ◌∷◌, ◌++◌, Bool, true, false, ◌&&◌, bytes_eq, codes, if◌then◌else◌}
@@ -61,17 +62,48 @@ stories_in around (element tag kids rest) =
 abbrev pub stories : Nodes → List Parts
 stories nodes = stories_in [] nodes
 
--- The pass of a package passes the kids of each story's root, and leaves all else as it is.
-abbrev pub pass_in : List Say → List Tag → Nodes → Nodes
-pass_in says around no_nodes = no_nodes
-pass_in says around (bytes b rest) = bytes b (pass_in says around rest)
-pass_in says around (element tag kids rest) =
-    element tag (if is_root around tag then pass says (tag ∷ []) kids else pass_in says (tag ∷ around) kids)
-    (pass_in says around rest)
+-- the stories of an element with these ancestors: itself as the root of one, or those inside it
+abbrev pub element_stories : List Tag → Tag → Nodes → List Parts
+element_stories around tag kids =
+    if is_root around tag then record { tag = tag; kids = kids } ∷ [] else stories_in (tag ∷ around) kids
+
+-- How stories are changed, one after the other: the kids that the root of a story gets, and what the next story starts with
+-- (the same says, the labels that are left, the next number).
+pub record StoryRule (S : Type 0) : Type 0 where
+  pub kids : S → Tag → Nodes → Nodes
+  pub left : S → Tag → Nodes → S
+
+-- what a story after these starts with
+abbrev pub left_after : {S : Type 0} → StoryRule S → S → List Parts → S
+left_after rule given [] = given
+left_after rule given (story ∷ later) = left_after rule (rule.left given story.tag story.kids) later
+
+-- these stories, changed
+abbrev pub changed_stories : {S : Type 0} → StoryRule S → S → List Parts → List Parts
+changed_stories rule given [] = []
+changed_stories rule given (story ∷ later) =
+    record { tag = story.tag; kids = rule.kids given story.tag story.kids }
+    ∷ changed_stories rule (rule.left given story.tag story.kids) later
+
+-- Nodes with these ancestors, once the stories among them are changed: the root of each gets its new kids, and all else stays.
+abbrev pub changed_in : {S : Type 0} → StoryRule S → S → List Tag → Nodes → Nodes
+changed_in rule given around no_nodes = no_nodes
+changed_in rule given around (bytes b rest) = bytes b (changed_in rule given around rest)
+changed_in rule given around (element tag kids rest) =
+    element tag (if is_root around tag then rule.kids given tag kids else changed_in rule given (tag ∷ around) kids)
+    (changed_in rule (left_after rule given (element_stories around tag kids)) around rest)
+
+-- a package whose stories are changed
+abbrev pub changed_package : {S : Type 0} → StoryRule S → S → Nodes → Nodes
+changed_package rule given nodes = changed_in rule given [] nodes
+
+-- The pass of a package passes the kids of each story's root, and leaves all else as it is. All stories have the same says.
+abbrev pub pass_rule : StoryRule (List Say)
+pass_rule = record { kids = λ says tag kids. pass says (tag ∷ []) kids; left = λ says tag kids. says }
 
 -- the pass of a whole package
 abbrev pub pass_package : List Say → Nodes → Nodes
-pass_package says nodes = pass_in says [] nodes
+pass_package says nodes = changed_package pass_rule says nodes
 
 -- the kind of an element without a role
 abbrev pub is_plain : Kind → Bool

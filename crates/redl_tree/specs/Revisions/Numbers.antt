@@ -3,7 +3,7 @@
 -- and markers (ECMA-376 Part 1, 17.13.5; the numbers are our own rule). `value` gives the value of an attribute.
 use Rattle.std.specs.Prelude.{ℕ, ◌+◌, ◌≡◌, ◌==◌, List, [], ◌∷◌, Option, Some, None, unwrap_or, if◌then◌else◌}
 use Rattle.redl_tree.specs.Model.Nodes.{Tag, Nodes, no_nodes, bytes, element}
-use Rattle.redl_tree.specs.Decisions.Packages.{is_root}
+use Rattle.redl_tree.specs.Decisions.Packages.{stories, StoryRule, left_after, changed_package}
 use Rattle.redl_tree.specs.Model.Seen.{Spot, spot, Seen, seen_one, root_spots, seen, tags}
 use Rattle.redl_tree.specs.Revisions.Moves.{Pair}
 use Rattle.redl_tree.specs.Revisions.Markers.{Value, moves_among, move_of, whole_role}
@@ -102,32 +102,17 @@ abbrev pub next_after_story : Value → ℕ → Tag → Nodes → ℕ
 next_after_story value next root kids =
     (numbering_after value (moves_among value (seen root kids)) (root_spots root kids) 1 (start_with next) kids).next
 
--- the next number after the stories among nodes with these ancestors in their package
-abbrev pub next_after : Value → List Tag → ℕ → Nodes → ℕ
-next_after value around next no_nodes = next
-next_after value around next (bytes b rest) = next_after value around next rest
-next_after value around next (element tag kids rest) =
-    next_after value around
-    (if is_root around tag then next_after_story value next tag kids else next_after value (tag ∷ around) next kids)
-    rest
-
--- nodes with these ancestors in their package, whose stories are labelled, where this is the next number
-abbrev pub numbered_in : Value → List Tag → ℕ → Nodes → Nodes
-numbered_in value around next no_nodes = no_nodes
-numbered_in value around next (bytes b rest) = bytes b (numbered_in value around next rest)
-numbered_in value around next (element tag kids rest) =
-    element tag (if is_root around tag then labelled_story value next tag kids else numbered_in value (tag ∷ around) next kids)
-    (numbered_in value around
-    (if is_root around tag then next_after_story value next tag kids else next_after value (tag ∷ around) next kids)
-    rest)
+-- the stories of a package are labelled one after the other, where numbers go on from story to story
+abbrev pub number_rule : Value → StoryRule ℕ
+number_rule value = record { kids = labelled_story value; left = next_after_story value }
 
 -- how many revisions a package has
 abbrev pub package_revisions : Value → Nodes → ℕ
-package_revisions value nodes = next_after value [] 0 nodes
+package_revisions value nodes = left_after (number_rule value) 0 (stories nodes)
 
 -- a package whose members and markers have their kinds and numbers
 abbrev pub numbered_package : Value → Nodes → Nodes
-numbered_package value nodes = numbered_in value [] 1 nodes
+numbered_package value nodes = changed_package (number_rule value) 1 nodes
 
 -- a package is indexed where its kinds and numbers are these already
 abbrev pub IsIndexed : Value → Nodes → Type 0

@@ -1,76 +1,104 @@
--- What the ancestors of an element are to it, in a few answers, and its role by these alone. Code that goes down a tree
--- carries the answers in place of the ancestors. Each one is said in the words of `Places`.
-use Rattle.std.specs.Prelude.{List, [], ◌∷◌, Bool, ◌&&◌, ◌||◌, not, Option, Some, None}
-use Rattle.std.specs.Option.{option_map}
+-- What the ancestors of an element are to it, in two answers, and its role by these alone: whether one of them is quiet, and
+-- what the nearest one is. Code that goes down a tree carries the answers in place of the ancestors. Each one is said in the
+-- words of `Places`.
+use Prim.Native.String.{String}
+use Rattle.std.specs.Prelude.{List, [], ◌∷◌, Bool, ◌||◌, not, Option, None, if◌then◌else◌}
+use Rattle.std.specs.Option.{option_map, unwrap_or}
 use Rattle.std.specs.List.{list_any}
 use Rattle.redl_tree.specs.Model.Nodes.{Tag}
 use Rattle.redl_tree.specs.Roles.Names.{is}
-use Rattle.redl_tree.specs.Roles.Places.{is_quiet, within, has_run_props, in_run_owner, in_run_props, in_mark_props, in_para_props, in_sect_props, in_table_props, in_except_props, in_row_props, in_cell_props, trace_of, row_trace_of, cell_trace_of, prop_of, placed, first_role}
+use Rattle.redl_tree.specs.Roles.Places.{is_quiet, within, has_run_props, in_run_owner, in_run_props, in_mark_props, in_para_props, in_sect_props, in_table_props, in_except_props, in_row_props, in_cell_props, trace_of, row_trace_of, cell_trace_of, placed}
 use Rattle.redl_tree.specs.declared.kinds.Prop.{Prop}
 use Rattle.redl_tree.specs.declared.kinds.Prop.TheVariants.{Run, Para, Sect, Table, Except, Row as RowProp, Cell as CellProp}
 use Rattle.redl_tree.specs.declared.kinds.Kind.{Kind}
-use Rattle.redl_tree.specs.declared.kinds.Kind.TheVariants.{Content, Mark, Row, Cell, Change}
+use Rattle.redl_tree.specs.declared.kinds.Kind.TheVariants.{Plain, Content, Mark, Row, Cell, Change}
 use Rattle.redl_tree.specs.declared.around.Around.{Around}
+use Rattle.redl_tree.specs.declared.around.Parent.{Parent}
+use Rattle.redl_tree.specs.declared.around.Parent.TheVariants.{Other, Para as InPara, Row as InRow, Cell as InCell, Table as InTable, Body as InBody, Run as InRun, ParaProps, MarkProps, RunProps, SectProps, TableProps, ExceptProps, RowProps, CellProps}
+
+-- What the nearest of these ancestors is. No two of the lines hold of the same ancestors.
+abbrev pub parent_of : List Tag → Parent
+parent_of around =
+    if within ("p" ∷ []) around then InPara
+    else if within ("tr" ∷ []) around then InRow
+    else if within ("tc" ∷ []) around then InCell
+    else if within ("tbl" ∷ []) around then InTable
+    else if within ("body" ∷ []) around then InBody
+    else if in_run_owner around then InRun
+    else if in_para_props around then ParaProps
+    else if in_mark_props around then MarkProps
+    else if in_run_props around then RunProps
+    else if in_sect_props around then SectProps
+    else if in_table_props around then TableProps
+    else if in_except_props around then ExceptProps
+    else if in_row_props around then RowProps
+    else if in_cell_props around then CellProps
+    else Other
 
 -- what these ancestors are to an element, the nearest first
 abbrev pub around_of : List Tag → Around
-around_of around = record {
-  quiet = list_any is_quiet around;
-  para = within ("p" ∷ []) around;
-  row = within ("tr" ∷ []) around;
-  cell = within ("tc" ∷ []) around;
-  table = within ("tbl" ∷ []) around;
-  body = within ("body" ∷ []) around;
-  run = in_run_owner around;
-  para_props = in_para_props around;
-  mark_props = in_mark_props around;
-  run_props = in_run_props around;
-  sect_props = in_sect_props around;
-  table_props = in_table_props around;
-  except_props = in_except_props around;
-  row_props = in_row_props around;
-  cell_props = in_cell_props around;
-}
+around_of around = record { quiet = list_any is_quiet around; parent = parent_of around }
+
+-- what an open element is to its kids, or else this
+abbrev pub opened : Tag → Parent → Parent
+opened tag other =
+    if is "p" tag then InPara
+    else if is "tr" tag then InRow
+    else if is "tc" tag then InCell
+    else if is "tbl" tag then InTable
+    else if is "body" tag then InBody
+    else if has_run_props tag then InRun
+    else other
+
+-- the properties of a parent, by their name
+abbrev pub props_in : Parent → Tag → Parent
+props_in InPara tag = if is "pPr" tag then ParaProps else Other
+props_in ParaProps tag = if is "rPr" tag then MarkProps else if is "sectPr" tag then SectProps else Other
+props_in InRun tag = if is "rPr" tag then RunProps else Other
+props_in InBody tag = if is "sectPr" tag then SectProps else Other
+props_in InTable tag = if is "tblPr" tag then TableProps else Other
+props_in InRow tag = if is "tblPrEx" tag then ExceptProps else if is "trPr" tag then RowProps else Other
+props_in InCell tag = if is "tcPr" tag then CellProps else Other
+props_in _ tag = Other
+
+-- what an element is to its kids, where its own ancestors are so
+abbrev pub parent_inside : Tag → Bool → Parent → Parent
+parent_inside tag quiet parent = if quiet then props_in parent tag else opened tag (props_in parent tag)
 
 -- the same with this one as the nearest ancestor
 abbrev pub inside_of : Tag → Around → Around
 inside_of tag here = record {
   quiet = is_quiet tag || here.quiet;
-  para = is "p" tag && not here.quiet;
-  row = is "tr" tag && not here.quiet;
-  cell = is "tc" tag && not here.quiet;
-  table = is "tbl" tag && not here.quiet;
-  body = is "body" tag && not here.quiet;
-  run = has_run_props tag && not here.quiet;
-  para_props = is "pPr" tag && here.para;
-  mark_props = is "rPr" tag && here.para_props;
-  run_props = is "rPr" tag && here.run;
-  sect_props = is "sectPr" tag && here.body || is "sectPr" tag && here.para_props;
-  table_props = is "tblPr" tag && here.table;
-  except_props = is "tblPrEx" tag && here.row;
-  row_props = is "trPr" tag && here.row;
-  cell_props = is "tcPr" tag && here.cell;
+  parent = parent_inside tag here.quiet here.parent;
 }
 
--- where a change of these properties stands
-abbrev pub holds_change : Around → Prop → Bool
-holds_change here Run = here.run_props || here.mark_props
-holds_change here Para = here.para_props
-holds_change here Sect = here.sect_props
-holds_change here Table = here.table_props
-holds_change here Except = here.except_props
-holds_change here RowProp = here.row_props
-holds_change here CellProp = here.cell_props
+-- what an element marks in these properties
+abbrev pub mark_in : Parent → Tag → Option Kind
+mark_in MarkProps tag = option_map Mark (trace_of tag)
+mark_in RowProps tag = option_map Row (row_trace_of tag)
+mark_in CellProps tag = option_map Cell (cell_trace_of tag)
+mark_in _ tag = None
 
-abbrev pub change_in : Around → Option Prop → Option Kind
-change_in here None = None
-change_in here (Some prop) = placed (holds_change here prop) (Some (Change prop))
+-- the role of an element that changes these properties, by its name
+abbrev pub changed : String → Prop → Tag → Kind
+changed name prop tag = if is name tag then Change prop else Plain
+
+abbrev pub change_in : Parent → Tag → Kind
+change_in RunProps tag = changed "rPrChange" Run tag
+change_in MarkProps tag = changed "rPrChange" Run tag
+change_in ParaProps tag = changed "pPrChange" Para tag
+change_in SectProps tag = changed "sectPrChange" Sect tag
+change_in TableProps tag = changed "tblPrChange" Table tag
+change_in ExceptProps tag = changed "tblPrExChange" Except tag
+change_in RowProps tag = changed "trPrChange" RowProp tag
+change_in CellProps tag = changed "tcPrChange" CellProp tag
+change_in _ tag = Plain
+
+-- the role of an element in these properties
+abbrev pub role_below : Parent → Tag → Kind
+role_below parent tag = unwrap_or (mark_in parent tag) (change_in parent tag)
 
 -- the role of an element by these answers
 abbrev pub role_in : Around → Tag → Kind
 role_in here tag =
-    first_role (placed (not here.quiet) (option_map Content (trace_of tag))
-    ∷ placed here.mark_props (option_map Mark (trace_of tag))
-    ∷ placed here.row_props (option_map Row (row_trace_of tag))
-    ∷ placed here.cell_props (option_map Cell (cell_trace_of tag))
-    ∷ change_in here (prop_of tag) ∷ [])
+    unwrap_or (placed (not here.quiet) (option_map Content (trace_of tag))) (role_below here.parent tag)

@@ -1,10 +1,11 @@
 -- Names of elements: a local name in the namespace of WordprocessingML (W) or of mathematics (M).
 use Prim.Native.String.{String}
-use Rattle.std.specs.Prelude.{ℕ, List, Bool, true, false, ◌&&◌, codes, bytes_eq}
+use Rattle.std.specs.Prelude.{ℕ, List, [], Bool, true, false, ◌&&◌, codes, bytes_eq}
 use Rattle.std.specs.List.{list_any}
-use Rattle.redl_tree.specs.Model.Nodes.{Tag}
+use Rattle.redl_tree.specs.Model.Nodes.{Tag, Empty}
 use Rattle.redl_tree.specs.declared.kinds.Space.{Space}
 use Rattle.redl_tree.specs.declared.kinds.Space.TheVariants.{W, M}
+use Rattle.redl_tree.specs.declared.kinds.Kind.TheVariants.{Plain}
 
 abbrev pub is_w : Space → Bool
 is_w W = true
@@ -33,3 +34,7 @@ is_math name tag = named_math (codes name) tag
 -- an element of W with one of these local names
 abbrev pub is_any : List String → Tag → Bool
 is_any names tag = list_any (λ name. is name tag) names
+
+-- an element of W with this local name, of which no more is told
+abbrev pub of_w : List ℕ → Tag
+of_w name = record { prefix = []; local = name; space = W; tail = []; close = Empty; kind = Plain; rev = 0 }

@@ -6,7 +6,8 @@ use Rattle.redl_app.proofs.AdmissionLaws.{admits_in_steps, admits_nothing}
 use Rattle.redl_app.proofs.GatherLaws.{IsTaking, taking_begins, taking_goes_on, taking_stops, taking_ends}
 use Rattle.redl_app.proofs.NameLaws.{only_one}
 use Rattle.redl_app.specs.Admission.{Admission, admission_with, admission_of}
-use Rattle.redl_app.specs.Views.{admission_view, document_view}
+use Rattle.redl_app.specs.Journals.{DocumentId}
+use Rattle.redl_app.specs.Views.{admission_view, document_view, known_view}
 use Rattle.redl_app.proofs.journals.admit_journals.Goals as goal
 
 pub name_of-requires : goal.name_of-requires
@@ -16,7 +17,11 @@ name_of-requires g c =
 pub loop-journal-init : goal.loop-journal-init
 loop-journal-init g c = record {
   left = omega arith;
-  taking = taking_begins admission_with (g.F.Shelf.told c.args.shelf.now) (document_view c.args.before.document) (admission_view c.args.before) c.args.limit c.args.journals.now;
+  taking =
+      subst (λ (document : DocumentId). IsTaking admission_with (g.F.Shelf.told c.args.shelf.now) c.args.journals.now document
+      (λ reader files. admission_of reader files (admission_view c.args.before) c.args.limit c.args.journals.now) (admission_view c.args.before) c.args.limit c.args.journals.now)
+      (sym c.requires.document)
+      (taking_begins admission_with (g.F.Shelf.told c.args.shelf.now) (known_view c.args.before.document) (admission_view c.args.before) c.args.limit c.args.journals.now);
   told = refl;
   stands = refl;
   nodes = refl;
@@ -34,7 +39,7 @@ returns-in_err-entries-clause-read g c =
     drop_more journals index c.journal-item.result c.loop-journal-test.true ∙ ap (λ one. one ∷ drop (index + 1) journals) (sym c.journal-item.is ∙ sym is) in
     let among : Contains journals name =
     rw (is, c.journal-item.is) (Contains-get_or journals index c.journal-item.result c.loop-journal-test.true) in
-    rw (p.1, p.2) (taking_stops admission_with _ (document_view c.args.before.document) (λ reader files. admission_of reader files (admission_view c.args.before) c.args.limit journals)
+    rw (p.1, p.2) (taking_stops admission_with _ (document_view c.args.document) (λ reader files. admission_of reader files (admission_view c.args.before) c.args.limit journals)
     (admission_view c.loop-journal.admitted) c.loop-journal.left name (drop (index + 1) journals) journals _
     c.loop-journal.invariant.told c.loop-journal.invariant.stands (rw here at c.loop-journal.invariant.taking)
     (λ one h. subst (Contains journals) (only_one name one h) among) c.in_err-entries.ensures.read)
@@ -49,9 +54,9 @@ loop-journal-preserved g c =
     drop_more journals index c.journal-item.result c.loop-journal-test.true ∙ ap (λ one. one ∷ drop (index + 1) journals) (sym c.journal-item.is ∙ sym is) in
     let among : Contains journals name =
     rw (is, c.journal-item.is) (Contains-get_or journals index c.journal-item.result c.loop-journal-test.true) in
-    let P : Admission → Type 0 = λ a. IsTaking admission_with (g.F.Shelf.told c.args.shelf.now) journals (document_view c.args.before.document) (λ reader files. admission_of reader files (admission_view c.args.before) c.args.limit journals)
+    let P : Admission → Type 0 = λ a. IsTaking admission_with (g.F.Shelf.told c.args.shelf.now) journals (document_view c.args.document) (λ reader files. admission_of reader files (admission_view c.args.before) c.args.limit journals)
     a (c.loop-journal.left - c.in_ok-entries.size) (drop (index + 1) journals) in
-    let next = taking_goes_on admission_with admits_in_steps (g.F.Shelf.told c.args.shelf.now) journals (document_view c.args.before.document) (λ reader files. admission_of reader files (admission_view c.args.before) c.args.limit journals)
+    let next = taking_goes_on admission_with admits_in_steps (g.F.Shelf.told c.args.shelf.now) journals (document_view c.args.document) (λ reader files. admission_of reader files (admission_view c.args.before) c.args.limit journals)
     (admission_view c.loop-journal.admitted) c.loop-journal.left name (drop (index + 1) journals)
     c.in_ok-entries.entries.items c.in_ok-entries.size c.loop-journal.invariant.told (rw here at c.loop-journal.invariant.taking)
     (λ one h. subst (Contains journals) (only_one name one h) among) c.in_ok-entries.ensures.read in
@@ -68,6 +73,6 @@ pub returns-clause-read : goal.returns-clause-read
 returns-clause-read g c =
     let journals = c.args.journals.now in
     let none = drop_all c.loop-journal.journal-index journals (omega arith) in
-    taking_ends admission_with admits_nothing _ (document_view c.args.before.document) (λ reader files. admission_of reader files (admission_view c.args.before) c.args.limit journals)
+    taking_ends admission_with admits_nothing _ (document_view c.args.document) (λ reader files. admission_of reader files (admission_view c.args.before) c.args.limit journals)
     (admission_view c.loop-journal.admitted) c.loop-journal.left _ journals
     c.loop-journal.invariant.told c.loop-journal.invariant.stands (rw none at c.loop-journal.invariant.taking)

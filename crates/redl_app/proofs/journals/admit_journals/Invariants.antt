@@ -8,7 +8,7 @@ use Rattle.redl_app.proofs.journals.admit_journals.Given as goal
 abbrev pub invariant-loop-journal : goal.invariant-loop-journal
 invariant-loop-journal g l = record {
   left : l.left ≤ l.limit;
-  taking : IsTaking admission_with (g.F.Shelf.told l.initial.shelf) l.journals (document_view l.fn.before.document)
+  taking : IsTaking admission_with (g.F.Shelf.told l.initial.shelf) l.journals (document_view l.document)
       (λ reader files. admission_of reader files (admission_view l.fn.before) l.limit l.journals) (admission_view l.admitted) l.left (drop l.journal-index l.journals);
   told : g.F.Shelf.told l.shelf ≡ g.F.Shelf.told l.initial.shelf;
   stands : g.F.Shelf.faults l.shelf ≡ g.F.Shelf.faults l.initial.shelf;

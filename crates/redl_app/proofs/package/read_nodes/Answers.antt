@@ -1,8 +1,6 @@
-use Rattle.std.proofs.Common.{arith}
-use Rattle.redl_app.proofs.PackageLaws.{tree_read, tree_fails, failed_as, utf8_tails}
+use Rattle.redl_app.proofs.PackageLaws.{tree_read, tree_fails, failed_as}
 use Rattle.redl_app.specs.Packages.{tree_in}
 use Rattle.redl_tree.specs.Model.View.{nodes_of}
-use Rattle.redl_xml.proofs.Answered.{tails_are_legal}
 use Rattle.redl_app.proofs.package.read_nodes.Goals as goal
 
 pub returns-clause-read : goal.returns-clause-read
@@ -10,12 +8,6 @@ returns-clause-read c = record {
   as_due = λ reader is. tree_read reader c.args.bytes.now (nodes_of c.in_ok-read.field-0.items) is c.in_ok-read.ensures.found
       c.in_ok-read.ensures.within.0 c.in_ok-read.ensures.within.1;
   never_unread = tt;
-}
-
-pub returns-clause-tree : goal.returns-clause-tree
-returns-clause-tree c = record {
-  tails = utf8_tails (nodes_of c.in_ok-read.field-0.items) (tails_are_legal c.args.bytes.now (nodes_of c.in_ok-read.field-0.items) c.in_ok-read.ensures.found);
-  few = omega (arith, c.in_ok-read.ensures.within.1);
 }
 
 pub returns-in_err-read-clause-read : goal.returns-in_err-read-clause-read

@@ -1,5 +1,5 @@
 use Rattle.std.proofs.Common.{refl, sym, ap, ◌∙◌, [], ◌∷◌}
-use Rattle.redl_markup.specs.Lists.{behind}
+use Rattle.redl_reading.specs.Lists.{behind}
 use Rattle.redl_markup.specs.References.{reference_at}
 use Rattle.redl_markup.proofs.Places.{found_there, references_some, references_none}
 use Rattle.redl_markup.proofs.reference.are_references.Goals as goal

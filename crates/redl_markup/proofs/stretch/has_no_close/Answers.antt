@@ -1,7 +1,7 @@
 use Rattle.std.proofs.Common.{◌≡◌, ◌∙◌, [], ◌∷◌, rules, tests}
 use Rattle.std.specs.Prelude.{codes}
-use Rattle.redl_markup.specs.Lists.{lacks}
-use Rattle.redl_markup.proofs.Places.{lacks_after}
+use Rattle.redl_reading.specs.Lists.{lacks}
+use Rattle.redl_reading.proofs.Words.{lacks_after}
 use Rattle.redl_markup.proofs.stretch.has_no_close.Goals as goal
 
 pub loop-rest-preserved : goal.loop-rest-preserved

@@ -1,6 +1,6 @@
 use Rattle.std.proofs.Common.{◌≡◌, length}
 use Rattle.std.specs.Prelude.{codes}
-use Rattle.redl_markup.specs.Lists.{lacks}
+use Rattle.redl_reading.specs.Lists.{lacks}
 use Rattle.redl_markup.proofs.stretch.has_no_close.Given as goal
 
 abbrev pub invariant-loop-rest : goal.invariant-loop-rest

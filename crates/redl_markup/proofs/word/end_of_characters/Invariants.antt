@@ -1,6 +1,6 @@
 use Rattle.std.proofs.Common.{length}
 use Rattle.redl_markup.specs.ScanNames.{name_step, name_end}
-use Rattle.redl_markup.proofs.Turns.{Going}
+use Rattle.redl_reading.proofs.Turns.{Going}
 use Rattle.redl_markup.proofs.word.end_of_characters.Given as goal
 
 abbrev pub invariant-loop-c : goal.invariant-loop-c

@@ -1,7 +1,7 @@
 use Rattle.std.proofs.Common.{sym, subst}
 use Rattle.redl_tree.specs.Model.View.{nodes_of}
 use Rattle.redl_opc.specs.Elements.{element_of}
-use Rattle.redl_opc.specs.Tree.{HasUtf8Tails}
+use Rattle.redl_tree.specs.Model.Tree.{HasUtf8Tails}
 use Rattle.redl_opc.proofs.PartLaws.{tails-root}
 use Rattle.redl_opc.proofs.package.parts_in.Goals as goal
 

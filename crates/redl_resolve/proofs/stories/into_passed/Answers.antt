@@ -1,15 +1,22 @@
-use Rattle.std.proofs.Common.{[], refl}
-use Rattle.std.proofs.lemmas.Result.{IfOk-weaker}
+use Rattle.std.proofs.Common.{◌≡◌, length, ap, ◌∙◌, arith}
+use Rattle.std.proofs.lemmas.List.{take_at}
 use Rattle.redl_resolve.proofs.KeepsLaws.{keeps_text, keeps_rules}
+use Rattle.redl_tree.specs.Decisions.Packages.{pass_package}
 use Rattle.redl_tree.specs.Model.View.{nodes_of}
 use Rattle.redl_resolve.proofs.stories.into_passed.Goals as goal
 
 pub returns-clause-survival : goal.returns-clause-survival
 returns-clause-survival g c =
-    let given = nodes_of c.args.nodes.items in
-    IfOk-weaker c.pass_stories.result _ _ (λ passed is_pass. keeps_text c.args.says.now given (nodes_of passed.items) (is_pass [] refl)) c.pass_stories.ensures.passed
+    let says = c.args.says.now in
+    let as_long : length c.change_stories.new.nodes ≡ c.args.nodes.len = omega (arith, c.change_stories.auto.nodes, c.deref_mut.ensures.len) in
+    keeps_text says (nodes_of c.args.nodes.items) _
+    (ap nodes_of (take_at c.change_stories.new.nodes _ _ as_long) ∙ c.in_ok-change_stories.ensures.nodes
+    ∙ ap (λ xs. pass_package says (nodes_of xs)) c.deref_mut.ensures.value)
 
 pub returns-clause-soundness : goal.returns-clause-soundness
 returns-clause-soundness g c =
-    let given = nodes_of c.args.nodes.items in
-    IfOk-weaker c.pass_stories.result _ _ (λ passed is_pass. keeps_rules c.args.says.now given (nodes_of passed.items) (is_pass [] refl)) c.pass_stories.ensures.passed
+    let says = c.args.says.now in
+    let as_long : length c.change_stories.new.nodes ≡ c.args.nodes.len = omega (arith, c.change_stories.auto.nodes, c.deref_mut.ensures.len) in
+    keeps_rules says (nodes_of c.args.nodes.items) _
+    (ap nodes_of (take_at c.change_stories.new.nodes _ _ as_long) ∙ c.in_ok-change_stories.ensures.nodes
+    ∙ ap (λ xs. pass_package says (nodes_of xs)) c.deref_mut.ensures.value)

@@ -1,5 +1,5 @@
 use Rattle.std.proofs.Common.{◌∙◌}
-use Rattle.redl_markup.proofs.Runs.{finds}
+use Rattle.redl_reading.proofs.Runs.{finds}
 use Rattle.redl_rules.proofs.attributes.has_x.Goals as goal
 
 pub returns : goal.returns

@@ -6,7 +6,7 @@ use Rattle.redl_markup.specs.Reading.{Fails}
 use Rattle.redl_markup.specs.declared.error.MarkupError.{MarkupError}
 use Rattle.redl_xml.specs.Documents.{sizes_at}
 use Rattle.redl_xml.proofs.Documents.{has_sizes, no_sizes, reading_of_document, no_document}
-use Rattle.redl_xml.proofs.Answered.{too_deep, too_many, is_within, error_was}
+use Rattle.redl_xml.proofs.Answered.{too_deep, too_many, is_within, is_tree, error_was}
 use Rattle.redl_xml.proofs.document.read_within.Goals as goal
 
 pub returns-in_err-document-clause-unreadable : goal.returns-in_err-document-clause-unreadable
@@ -41,3 +41,13 @@ returns-clause-within c =
     let s = c.in_ok-document.document.sizes in
     let few : s.nodes ≤ c.args.limits.nodes = omega (arith, c.from.ensures, c.if-document-from.false) in
     is_within c.args.limits.nodes c.args.limits.depth c.args.bytes.now (s.deepest, s.nodes) (nodes_of c.in_ok-document.document.nodes.items) (has_sizes c.args.limits.nodes c.args.bytes.now (s.deepest, s.nodes) t c.in_ok-document.ensures.sizes) c.if-document-limits.false few (c.in_ok-document.ensures.nodes c.if-document-limits.false few)
+
+pub returns-clause-tree : goal.returns-clause-tree
+returns-clause-tree c =
+    let t : IsText c.args.bytes.now = c.is_text.ensures.0 (search rules) in
+    let s = c.in_ok-document.document.sizes in
+    let few : s.nodes ≤ c.args.limits.nodes = omega (arith, c.from.ensures, c.if-document-from.false) in
+    let nodes = nodes_of c.in_ok-document.document.nodes.items in
+    let read = c.in_ok-document.ensures.nodes c.if-document-limits.false few in
+    let within = is_within c.args.limits.nodes c.args.limits.depth c.args.bytes.now (s.deepest, s.nodes) nodes (has_sizes c.args.limits.nodes c.args.bytes.now (s.deepest, s.nodes) t c.in_ok-document.ensures.sizes) c.if-document-limits.false few read in
+    is_tree c.args.bytes.now nodes (reading_of_document c.args.bytes.now nodes t read) (omega (arith, within.1))

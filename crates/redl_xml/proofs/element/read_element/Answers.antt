@@ -1,90 +1,69 @@
-use Rattle.std.proofs.Common.{◌≡◌, ◌≢◌, ◌+◌, ◌∙◌, ap, sym, subst, ℕ, List, Option, Err, length, arith}
+use Rattle.std.proofs.Common.{◌≡◌, ◌≢◌, ◌≤◌, ◌+◌, ◌∙◌, ap, refl, subst, sym, ℕ, Some, Err, length, arith}
 use Rattle.std.proofs.lemmas.Result.{err_from_is_err_and}
-use Rattle.redl_tree.specs.Model.View.{nodes_of}
 use Rattle.redl_markup.specs.declared.error.MarkupError.{MarkupError}
 use Rattle.redl_markup.specs.declared.place.Place.TheVariants.{InElement}
-use Rattle.redl_markup.specs.Reading.{Fails}
 use Rattle.redl_markup.specs.PieceViews.{piece_view}
+use Rattle.redl_markup.specs.Pieces.{Piece}
 use Rattle.redl_markup.proofs.Pieces.{piece_shorter}
-use Rattle.redl_xml.specs.Surveys.{Survey, surveyed, survey_finished, survey_begun, deepest_with, survey_of, survey_from}
+use Rattle.redl_xml.specs.declared.building.Building.{Building}
+use Rattle.redl_xml.specs.declared.sizes.Limits.{Limits}
+use Rattle.redl_xml.specs.declared.sizes.Sizes.{Sizes}
+use Rattle.redl_xml.specs.Elements.{placed, without_nodes}
 use Rattle.redl_xml.specs.Buildings.{building_view}
-use Rattle.redl_xml.proofs.Buildings.{frames, length-frames, finished_at, unfinished_at}
-use Rattle.redl_xml.proofs.Loops.{fails_through, refuses_through}
-use Rattle.redl_xml.proofs.Surveys.{reading_begins, reading_goes, reading_ends, refused_beside, survey_goes_on, survey_grows}
+use Rattle.redl_xml.proofs.Buildings.{length-open}
+use Rattle.redl_xml.proofs.Measures.{Adds}
+use Rattle.redl_xml.proofs.Progress.{IsTurn, reading_begins, reading_goes, reading_ends, reading_fails, reading_refuses}
 use Rattle.redl_xml.proofs.element.read_element.Goals as goal
 
-pub loop-rest-init : goal.loop-rest-init
-loop-rest-init c = rw c.new-building.ensures (reading_begins c.args.limits.nodes c.args.bytes.now)
+-- the calls of a turn make one
+turned : (limits : Limits) (p : Piece) (b made b' : Building) (sizes sizes' : Sizes) (len : ℕ) → len ≡ length b.open.items → placed p (building_view b) ≡ Some (building_view made) → Adds limits.nodes p (len + 1) sizes sizes'
+    → without_nodes (building_view b') ≡ without_nodes (building_view made) → (sizes'.deepest ≤ limits.depth → sizes'.nodes ≤ limits.nodes → building_view b' ≡ building_view made) → IsTurn limits p (building_view b) (building_view b') sizes sizes'
+turned limits p b made b' sizes sizes' len e is adds alike kept =
+    let P : ℕ → Type 0 = λ n. Adds limits.nodes p (n + 1) sizes sizes' in
+    record { made = building_view made; is = is; adds = subst P (e ∙ sym (length-open b.open.items b.before.items)) adds; alike = alike; kept = kept }
+
+pub loop-building-init : goal.loop-building-init
+loop-building-init c = rw c.new-building.ensures (reading_begins c.args.limits c.args.bytes.now _ refl refl)
 
 pub returns-in_err-piece-clause-sizes : goal.returns-in_err-piece-clause-sizes
 returns-in_err-piece-clause-sizes c =
+    let l = c.loop-building in
     let p = err_from_is_err_and c.from_residual.result c.from_residual.ensures.1 in
-    let l = c.loop-rest in
-    rw (p.1, p.2) (fails_through (surveyed c.args.limits.nodes) survey_finished survey_begun l.rest.now (survey_of l.sizes.deepest l.sizes.nodes (building_view l.building)) c.args.bytes.now c.in_err-piece.field-0.0 l.invariant.surveys c.in_err-piece.ensures.read)
+    rw (p.1, p.2) (reading_fails c.args.limits l.rest.now (building_view l.building) l.sizes c.args.bytes.now c.in_err-piece.field-0.0 l.invariant c.in_err-piece.ensures.read)
 
 pub returns-in_err-place-clause-sizes : goal.returns-in_err-place-clause-sizes
 returns-in_err-place-clause-sizes c =
+    let l = c.loop-building in
     let p = err_from_is_err_and c.from_residual-in_err-place.result c.from_residual-in_err-place.ensures.1 in
-    let l = c.loop-rest in
-    let piece = piece_view c.in_ok-piece.piece in
-    rw (p.1, p.2) (refuses_through (surveyed c.args.limits.nodes) survey_finished survey_begun l.rest.now (survey_of l.sizes.deepest l.sizes.nodes (building_view l.building)) c.args.bytes.now (piece, c.in_ok-piece.behind.now) c.in_err-place.field-0.0 l.invariant.surveys c.in_ok-piece.ensures.read
-    (λ e. refused_beside c.args.limits.nodes piece (building_view l.building) l.sizes.deepest l.sizes.nodes (c.in_err-place.ensures.unreadable (ap (λ (x : MarkupError). Err x) e))))
+    rw (p.1, p.2) (reading_refuses c.args.limits l.rest.now (piece_view c.in_ok-piece.piece, c.in_ok-piece.behind.now) (building_view l.building) l.sizes c.args.bytes.now c.in_err-place.field-0.0 l.invariant c.in_ok-piece.ensures.read
+    (λ e. c.in_err-place.ensures.unreadable (ap (λ (x : MarkupError). Err x) e)))
 
 pub returns-then-is_empty-clause-sizes : goal.returns-then-is_empty-clause-sizes
 returns-then-is_empty-clause-sizes c =
-    let l = c.loop-rest in
-    let b = l.building in
-    let piece = piece_view c.in_ok-piece.piece in
-    let none : length c.place.new.self.open.items ≡ 0 = grind (arith, c.is_empty.ensures, c.if-is_empty.true, c.place.new.self.open.ok.0) in
-    let depth : c.len.result + 1 ≡ length (frames b.open.items) + 1 = omega (arith, c.len.ensures, b.open.ok.0, length-frames b.open.items) in
-    let deepest = c.add_piece.ensures.deepest ∙ ap (λ (k : ℕ). deepest_with piece k l.sizes.deepest) depth in
-    (reading_ends c.args.limits.nodes l.rest.now (building_view b) (building_view c.place.new.self) l.sizes.deepest l.sizes.nodes _ _ c.args.bytes.now (piece, c.in_ok-piece.behind.now) (nodes_of c.place.new.self.kids.items) l.invariant c.in_ok-piece.ensures.read c.in_ok-place.ensures.ok deepest c.add_piece.ensures.nodes (finished_at c.place.new.self none)).0
+    let l = c.loop-building in
+    let b = c.keep_within.new.self in
+    let len : c.len.result ≡ length l.building.open.items = omega (arith, c.len.ensures, l.building.open.ok.0) in
+    let turn = turned c.args.limits (piece_view c.in_ok-piece.piece) l.building c.place.new.self b l.sizes c.add_piece.new.self c.len.result len c.in_ok-place.ensures.ok (record { deepest = c.add_piece.ensures.deepest; nodes = c.add_piece.ensures.nodes }) c.keep_within.ensures.rest c.keep_within.ensures.kept in
+    let none : length (building_view b).open_elements ≡ 0 = grind (arith, c.is_empty.ensures, c.if-is_empty.true, b.open.ok.0, length-open b.open.items b.before.items) in
+    (reading_ends c.args.limits l.rest.now (piece_view c.in_ok-piece.piece, c.in_ok-piece.behind.now) (building_view l.building) (building_view b) l.sizes c.add_piece.new.self c.args.bytes.now l.invariant c.in_ok-piece.ensures.read turn none).0
 
 pub returns-then-is_empty-clause-nodes : goal.returns-then-is_empty-clause-nodes
-returns-then-is_empty-clause-nodes c = λ _ _.
-    let l = c.loop-rest in
-    let b = l.building in
-    let piece = piece_view c.in_ok-piece.piece in
-    let none : length c.place.new.self.open.items ≡ 0 = grind (arith, c.is_empty.ensures, c.if-is_empty.true, c.place.new.self.open.ok.0) in
-    let depth : c.len.result + 1 ≡ length (frames b.open.items) + 1 = omega (arith, c.len.ensures, b.open.ok.0, length-frames b.open.items) in
-    let deepest = c.add_piece.ensures.deepest ∙ ap (λ (k : ℕ). deepest_with piece k l.sizes.deepest) depth in
-    (reading_ends c.args.limits.nodes l.rest.now (building_view b) (building_view c.place.new.self) l.sizes.deepest l.sizes.nodes _ _ c.args.bytes.now (piece, c.in_ok-piece.behind.now) (nodes_of c.place.new.self.kids.items) l.invariant c.in_ok-piece.ensures.read c.in_ok-place.ensures.ok deepest c.add_piece.ensures.nodes (finished_at c.place.new.self none)).1
+returns-then-is_empty-clause-nodes c =
+    let l = c.loop-building in
+    let b = c.keep_within.new.self in
+    let len : c.len.result ≡ length l.building.open.items = omega (arith, c.len.ensures, l.building.open.ok.0) in
+    let turn = turned c.args.limits (piece_view c.in_ok-piece.piece) l.building c.place.new.self b l.sizes c.add_piece.new.self c.len.result len c.in_ok-place.ensures.ok (record { deepest = c.add_piece.ensures.deepest; nodes = c.add_piece.ensures.nodes }) c.keep_within.ensures.rest c.keep_within.ensures.kept in
+    let none : length (building_view b).open_elements ≡ 0 = grind (arith, c.is_empty.ensures, c.if-is_empty.true, b.open.ok.0, length-open b.open.items b.before.items) in
+    (reading_ends c.args.limits l.rest.now (piece_view c.in_ok-piece.piece, c.in_ok-piece.behind.now) (building_view l.building) (building_view b) l.sizes c.add_piece.new.self c.args.bytes.now l.invariant c.in_ok-piece.ensures.read turn none).1
 
-pub loop-rest-smaller : goal.loop-rest-smaller
-loop-rest-smaller c = piece_shorter InElement c.loop-rest.rest.now (piece_view c.in_ok-piece.piece, c.in_ok-piece.behind.now) c.in_ok-piece.ensures.read
+pub loop-building-smaller : goal.loop-building-smaller
+loop-building-smaller c = piece_shorter InElement c.loop-building.rest.now (piece_view c.in_ok-piece.piece, c.in_ok-piece.behind.now) c.in_ok-piece.ensures.read
 
-pub loop-rest-preserved : goal.loop-rest-preserved
-loop-rest-preserved c =
-    let l = c.loop-rest in
-    let b = l.building in
-    let piece = piece_view c.in_ok-piece.piece in
-    let some : length c.place.new.self.open.items ≢ 0 = grind (arith, c.is_empty.ensures, c.if-is_empty.false, c.place.new.self.open.ok.0) in
-    let depth : c.len.result + 1 ≡ length (frames b.open.items) + 1 = omega (arith, c.len.ensures, b.open.ok.0, length-frames b.open.items) in
-    let deepest = c.add_piece.ensures.deepest ∙ ap (λ (k : ℕ). deepest_with piece k l.sizes.deepest) depth in
-    reading_goes c.args.limits.nodes l.rest.now (building_view b) (building_view c.place.new.self) l.sizes.deepest l.sizes.nodes _ _ c.args.bytes.now (piece, c.in_ok-piece.behind.now) l.invariant c.in_ok-piece.ensures.read c.in_ok-place.ensures.ok deepest c.add_piece.ensures.nodes (unfinished_at c.place.new.self some)
-
-pub returns-in_err-sizes-clause-sizes : goal.returns-in_err-sizes-clause-sizes
-returns-in_err-sizes-clause-sizes c =
-    let p = err_from_is_err_and c.from_residual-in_err-sizes.result c.from_residual-in_err-sizes.ensures.1 in
-    let l = c.loop-rest in
-    let limit = c.args.limits.nodes in
-    let same = survey_goes_on limit l.rest.now (building_view l.building) l.sizes.deepest l.sizes.nodes c.args.bytes.now l.invariant ∙ ap (λ (v : Survey). survey_from limit v l.rest.now) (sym c.in_ok-survey.ensures) in
-    let P : Option ((ℕ × ℕ) × List ℕ) → Type 0 = λ o. Fails c.in_err-sizes.field-0.0 o in
-    rw (p.1, p.2) (subst P (sym same) c.in_err-sizes.ensures)
-
-pub returns-clause-sizes : goal.returns-clause-sizes
-returns-clause-sizes c =
-    let l = c.loop-rest in
-    let limit = c.args.limits.nodes in
-    survey_goes_on limit l.rest.now (building_view l.building) l.sizes.deepest l.sizes.nodes c.args.bytes.now l.invariant ∙ ap (λ (v : Survey). survey_from limit v l.rest.now) (sym c.in_ok-survey.ensures) ∙ c.in_ok-sizes.ensures
-
-pub returns-clause-nodes : goal.returns-clause-nodes
-returns-clause-nodes c = λ deep few.
-    let l = c.loop-rest in
-    let limit = c.args.limits.nodes in
-    let begun = survey_of l.sizes.deepest l.sizes.nodes (building_view l.building) in
-    let on = ap (λ (v : Survey). survey_from limit v l.rest.now) (sym c.in_ok-survey.ensures) ∙ c.in_ok-sizes.ensures in
-    let grown = survey_grows limit begun l.rest.now (c.in_ok-sizes.sizes.deepest, c.in_ok-sizes.sizes.nodes) c.in_ok-sizes.rest.now on in
-    let within = c.are_within.ensures.1 (omega (arith, grown.0, deep), omega (arith, grown.1, few)) in
-    let past = c.loop-rest-test.false in
-    absurd cc
+pub loop-building-preserved : goal.loop-building-preserved
+loop-building-preserved c =
+    let l = c.loop-building in
+    let b = c.keep_within.new.self in
+    let len : c.len.result ≡ length l.building.open.items = omega (arith, c.len.ensures, l.building.open.ok.0) in
+    let turn = turned c.args.limits (piece_view c.in_ok-piece.piece) l.building c.place.new.self b l.sizes c.add_piece.new.self c.len.result len c.in_ok-place.ensures.ok (record { deepest = c.add_piece.ensures.deepest; nodes = c.add_piece.ensures.nodes }) c.keep_within.ensures.rest c.keep_within.ensures.kept in
+    let some : length (building_view b).open_elements ≢ 0 = grind (arith, c.is_empty.ensures, c.if-is_empty.false, b.open.ok.0, length-open b.open.items b.before.items) in
+    reading_goes c.args.limits l.rest.now (piece_view c.in_ok-piece.piece, c.in_ok-piece.behind.now) (building_view l.building) (building_view b) l.sizes c.add_piece.new.self c.args.bytes.now l.invariant c.in_ok-piece.ensures.read turn some

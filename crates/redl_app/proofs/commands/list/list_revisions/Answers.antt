@@ -7,16 +7,16 @@ use Rattle.redl_app.proofs.commands.list.list_revisions.Goals as goal
 pub list-requires-clause-verdicts : goal.list-requires-clause-verdicts
 list-requires-clause-verdicts g c =
     let state = (admission_view c.args.admitted).state in
-    verdicts_for state.book (length state.revisions) c.deref.result.now (c.deref.ensures.value ∙ c.in_ok-verdicts.ensures) ∙ sym (ap length c.index.ensures)
+    verdicts_for state.book (length state.revisions) c.deref.result.now (c.deref.ensures.value ∙ c.in_ok-verdicts.ensures) ∙ sym (ap length c.into_index-index.ensures)
 
 pub returns-then-not-found-clause-read : goal.returns-then-not-found-clause-read
 returns-then-not-found-clause-read g c =
     reads_no_listing (λ b. (goal.RowFormat-dyn g (b.vtable, b.value)).format_name b.value) (λ b. (goal.RowFormat-dyn g (b.vtable, b.value)).text_for b.value)
-    (λ b. (goal.RowFormat-dyn g (b.vtable, b.value)).text_for b.value (rows_of c.args.parts.now c.index.result.now c.deref.result.now) true)
+    (λ b. (goal.RowFormat-dyn g (b.vtable, b.value)).text_for b.value (rows_of c.args.parts.now c.into_index-index.result c.deref.result.now) true)
     c.args.name.now (admission_view c.args.admitted) c.args.formats.now.items c.in_ok-found.found c.list.new.made.items (search rules) c.in_ok-found.ensures.listed
 
 pub returns-clause-read : goal.returns-clause-read
 returns-clause-read g c =
     reads_listing (λ b. (goal.RowFormat-dyn g (b.vtable, b.value)).format_name b.value) (λ b. (goal.RowFormat-dyn g (b.vtable, b.value)).text_for b.value)
-    c.args.name.now (admission_view c.args.admitted) c.args.formats.now.items c.args.parts.now c.index.result.now c.deref.result.now c.in_ok-found.found c.list.new.made.items
-    c.requires.names c.index.ensures (c.deref.ensures.value ∙ c.in_ok-verdicts.ensures) (search rules) c.in_ok-found.ensures.listed
+    c.args.name.now (admission_view c.args.admitted) c.args.formats.now.items c.args.parts.now c.into_index-index.result c.deref.result.now c.in_ok-found.found c.list.new.made.items
+    c.requires.names c.into_index-index.ensures (c.deref.ensures.value ∙ c.in_ok-verdicts.ensures) (search rules) c.in_ok-found.ensures.listed

@@ -1,9 +1,9 @@
-use Rattle.std.proofs.Common.{◌≡◌, [], length, ap, map, ◌∙◌, arith, refl}
+use Rattle.std.proofs.Common.{◌≡◌, length, ap, map, ◌∙◌, arith}
 use Rattle.std.proofs.lemmas.List.{take_at}
 use Rattle.redl_tree.specs.Model.Text.{text}
 use Rattle.redl_tree.specs.Model.View.{nodes_of}
 use Rattle.redl_tree.specs.Revisions.Labels.{unlabelled}
-use Rattle.redl_opc.specs.Labels.{labelled_in}
+use Rattle.redl_opc.specs.Labels.{labelled_stories}
 use Rattle.redl_opc.specs.PartView.{part_view}
 use Rattle.redl_opc.proofs.LabelLaws.{kept-labelled, stories_alone, text-labelled}
 use Rattle.redl_opc.proofs.package.Package.label_stories.Goals as goal
@@ -11,18 +11,18 @@ use Rattle.redl_opc.proofs.package.Package.label_stories.Goals as goal
 pub invariant_of-self : goal.invariant_of-self
 invariant_of-self c =
     let nodes = nodes_of c.self.inside.nodes.items in
-    let as_long : length c.label_nodes.new.nodes ≡ c.self.inside.nodes.len = omega (arith, c.label_nodes.auto.nodes, c.deref_mut.ensures.len) in
+    let as_long : length c.change_stories.new.nodes ≡ c.self.inside.nodes.len = omega (arith, c.change_stories.auto.nodes, c.deref_mut.ensures.len) in
     kept-labelled nodes _ (map part_view c.self.inside.parts.items)
-    (ap (λ xs. unlabelled (nodes_of xs)) (take_at c.label_nodes.new.nodes _ _ as_long)
-    ∙ ap unlabelled (c.label_nodes.ensures.nodes [] refl ∙ ap (λ labels. labelled_in labels 0 [] (nodes_of c.deref_mut.result.now)) c.all.ensures ∙ ap (λ xs. labelled_in c.args.labels.now 0 [] (nodes_of xs)) c.deref_mut.ensures.value)
-    ∙ stories_alone c.args.labels.now 0 [] nodes) c.self.invariant
+    (ap (λ xs. unlabelled (nodes_of xs)) (take_at c.change_stories.new.nodes _ _ as_long)
+    ∙ ap unlabelled (c.in-Ok.ensures.nodes ∙ ap (λ labels. labelled_stories labels (nodes_of c.deref_mut.result.now)) c.all.ensures ∙ ap (λ xs. labelled_stories c.args.labels.now (nodes_of xs)) c.deref_mut.ensures.value)
+    ∙ stories_alone c.args.labels.now nodes) c.self.invariant
 
 pub returns-clause-text : goal.returns-clause-text
 returns-clause-text c =
     let nodes = nodes_of c.self.inside.nodes.items in
-    let as_long : length c.label_nodes.new.nodes ≡ c.self.inside.nodes.len = omega (arith, c.label_nodes.auto.nodes, c.deref_mut.ensures.len) in
+    let as_long : length c.change_stories.new.nodes ≡ c.self.inside.nodes.len = omega (arith, c.change_stories.auto.nodes, c.deref_mut.ensures.len) in
     text-labelled nodes _
-    (ap (λ xs. unlabelled (nodes_of xs)) (take_at c.label_nodes.new.nodes _ _ as_long)
-    ∙ ap unlabelled (c.label_nodes.ensures.nodes [] refl ∙ ap (λ labels. labelled_in labels 0 [] (nodes_of c.deref_mut.result.now)) c.all.ensures ∙ ap (λ xs. labelled_in c.args.labels.now 0 [] (nodes_of xs)) c.deref_mut.ensures.value)
-    ∙ stories_alone c.args.labels.now 0 [] nodes)
+    (ap (λ xs. unlabelled (nodes_of xs)) (take_at c.change_stories.new.nodes _ _ as_long)
+    ∙ ap unlabelled (c.in-Ok.ensures.nodes ∙ ap (λ labels. labelled_stories labels (nodes_of c.deref_mut.result.now)) c.all.ensures ∙ ap (λ xs. labelled_stories c.args.labels.now (nodes_of xs)) c.deref_mut.ensures.value)
+    ∙ stories_alone c.args.labels.now nodes)
     ∙ ap text c.self.view_is

@@ -1,5 +1,5 @@
 use Rattle.std.proofs.Common.{◌≡◌, None, Some, sym, map, subst, IsTrue}
-use Rattle.redl_markup.specs.Reading.{Gives}
+use Rattle.redl_reading.specs.Steps.{Gives}
 use Rattle.redl_tree.specs.Model.View.{nodes_of}
 use Rattle.redl_opc.specs.Elements.{element_of}
 use Rattle.redl_opc.specs.Parts.{story}
@@ -7,7 +7,7 @@ use Rattle.redl_opc.specs.Shape.{package_of, story_of}
 use Rattle.redl_opc.specs.PartView.{part_view}
 use Rattle.redl_opc.proofs.PartLaws.{gives_none, gives-some, story-listed, story-part}
 use Rattle.redl_opc.proofs.WalkLaws.{name-story, tails-story}
-use Rattle.redl_opc.specs.Tree.{HasUtf8Tails}
+use Rattle.redl_tree.specs.Model.Tree.{HasUtf8Tails}
 use Rattle.redl_tree.specs.Decisions.Packages.{is_story_root}
 use Rattle.redl_tree.specs.declared.node.Elem.{Elem}
 use Rattle.std.specs.Borrow.{Bor}

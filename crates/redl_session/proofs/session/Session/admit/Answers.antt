@@ -1,8 +1,8 @@
-use Rattle.std.proofs.Common.{◌≡◌, List, length, refl, sym, ap, ◌∙◌, arith}
+use Rattle.std.proofs.Common.{◌≡◌, List, length, sym, ap, ◌∙◌, arith}
 use Rattle.redl_journal.specs.declared.entry.Entry.{Entry}
 use Rattle.redl_session.proofs.Consistency.{book-repeat, consistent-with}
 use Rattle.redl_session.proofs.SaysLaws.{length-says_of}
-use Rattle.redl_session.specs.Sessions.{State, IsConsistent}
+use Rattle.redl_session.specs.Sessions.{State}
 use Rattle.redl_tree.specs.declared.kinds.Say.{Say}
 use Rattle.redl_session.specs.Says.{say_of_verdict}
 use Rattle.redl_session.proofs.session.Session.admit.Goals as goal

@@ -1,9 +1,0 @@
-use Rattle.std.proofs.Common.{◌≡◌, ℕ, ◌<◌, ◌≤◌, ◌-◌, true, length, get_or}
-use Rattle.redl_markup.specs.Lists.{is_other}
-use Rattle.redl_markup.proofs.scan.until.Given as goal
-
-abbrev pub invariant-loop-n : goal.invariant-loop-n
-invariant-loop-n l = (l.n ≤ length l.bytes) × ((k : ℕ) → k < l.n → is_other l.byte (get_or l.bytes k 0) ≡ true)
-
-abbrev pub decreases-loop-n : goal.decreases-loop-n
-decreases-loop-n l = length l.bytes - l.n

@@ -1,0 +1,5 @@
+pub mod Steps
+pub mod Turns
+pub mod Runs
+pub mod Words
+pub mod Fields

@@ -1,0 +1,100 @@
+use Rattle.std.proofs.Common.{◌≡◌, ◌+◌, ◌<◌, ◌≤◌, List, length, take, drop, sym, ap, ◌∙◌, arith}
+use Rattle.std.proofs.lemmas.List.{take_more_set, drop-set-lt, take_all, length-set, get_or-set_other}
+use Rattle.redl_tree.specs.Model.Count.{count, item_count}
+use Rattle.redl_tree.specs.Model.Nodes.{Tag, no_nodes, in_front, ◌⊕◌}
+use Rattle.redl_tree.specs.Decisions.Packages.{level_of, stories_in, left_after, changed_in}
+use Rattle.redl_tree.specs.Decisions.StoryWalk.{changed_item, item_stories}
+use Rattle.redl_tree.specs.Model.View.{nodes_of, item_of}
+use Rattle.redl_tree.proofs.Laws.{nodes_here, nodes_end, nodes_of-push, ⊕-no_nodes, built_more, count-in_front, count-push}
+use Rattle.redl_tree.proofs.StoryLaws.{stories_in-in_front, left_after-append, changed_in-in_front}
+use Rattle.redl_tree.proofs.stories.+stories.Goals as goal
+
+pub change_among-loop-i-preserved : goal.change_among-loop-i-preserved
+change_among-loop-i-preserved g t c =
+    let rule = g.C.StoryChange.rule in
+    let given = g.C.StoryChange.given c.args.change.now in
+    let items = c.loop-i.nodes in
+    let i = c.loop-i.i in
+    let x = (c.index-nodes-i).result in
+    let changed = c.change_node.new.node in
+    let state = c.change_node.new.state in
+    let more = drop (i + 1) items in
+    let within : i < length items = omega (arith, c.loop-i.invariant.unvisited.0) in
+    let here = nodes_here items i x within (c.index-nodes-i).is in
+    let front = take_more_set items i changed within in
+    let back = drop-set-lt (i + 1) items i changed (omega arith) in
+    let left : (around : List Tag) → c.args.level ≡ level_of around → given state ≡ left_after rule (given c.loop-i.state) (item_stories around (item_of x)) =
+    λ around is. c.in_ok-change_node.ensures.left around is ∙ ap (λ z. left_after rule (given c.loop-i.state) (item_stories around (item_of z))) (sym (c.index-nodes-i).is) in
+    record {
+      unvisited = (
+        length-set items i changed ∙ c.loop-i.invariant.unvisited.0,
+        λ k d below. get_or-set_other items i k changed d (omega arith) ∙ c.loop-i.invariant.unvisited.1 k d (omega arith),
+      );
+      nodes = λ around is.
+          let made = c.in_ok-change_node.ensures.node around is
+          ∙ ap (λ z. changed_item rule (given c.loop-i.state) around (item_of z)) (sym (c.index-nodes-i).is) in
+          let placed = in_front (changed_item rule (given c.loop-i.state) around (item_of x)) no_nodes in
+          built_more _ _ _
+          (ap nodes_of front ∙ nodes_of-push _ _ ∙ ap (λ y. nodes_of (take i items) ⊕ in_front y no_nodes) made)
+          (ap (changed_in rule (given c.loop-i.state) around) here ∙ changed_in-in_front rule (given c.loop-i.state) around (item_of x) (nodes_of more)
+          ∙ ap (λ l. placed ⊕ changed_in rule l around (nodes_of more)) (sym (left around is))
+          ∙ ap (λ xs. placed ⊕ changed_in rule (given state) around (nodes_of xs)) (sym back)) (c.loop-i.invariant.nodes around is);
+      left = λ around is.
+          ap (λ xs. left_after rule (given state) (stories_in around (nodes_of xs))) back
+          ∙ ap (λ l. left_after rule l (stories_in around (nodes_of more))) (left around is)
+          ∙ sym (left_after-append rule (given c.loop-i.state) (item_stories around (item_of x)) (stories_in around (nodes_of more)))
+          ∙ ap (left_after rule (given c.loop-i.state)) (sym (ap (stories_in around) here ∙ stories_in-in_front around (item_of x) (nodes_of more)))
+          ∙ c.loop-i.invariant.left around is;
+      entered = λ counted. omega (
+        arith,
+        c.in_ok-change_node.ensures.entered counted,
+        ap (λ z. item_count (item_of z)) (c.index-nodes-i).is,
+        ap count here,
+        count-in_front (item_of x) (nodes_of more),
+        ap (λ xs. count (nodes_of xs)) back,
+        c.loop-i.invariant.entered counted,
+      );
+      made = λ counted. omega (
+        arith,
+        ap (λ xs. count (nodes_of xs)) front ∙ count-push (take i items) changed,
+        c.in_ok-change_node.ensures.made counted,
+        c.loop-i.invariant.made counted,
+      );
+    }
+
+pub change_among-returns-in_err-change_node-clause-entered : goal.change_among-returns-in_err-change_node-clause-entered
+change_among-returns-in_err-change_node-clause-entered g t c = λ counted.
+    let items = c.loop-i.nodes in
+    let i = c.loop-i.i in
+    let x = (c.index-nodes-i).result in
+    let within : i < length items = omega (arith, c.loop-i.invariant.unvisited.0) in
+    let here = nodes_here items i x within (c.index-nodes-i).is in
+    omega (
+      arith,
+      c.in_err-change_node.ensures.entered counted,
+      ap (λ z. item_count (item_of z)) (c.index-nodes-i).is,
+      ap count here,
+      count-in_front (item_of x) (nodes_of (drop (i + 1) items)),
+      c.loop-i.invariant.entered counted,
+    )
+
+pub change_among-returns-clause-nodes : goal.change_among-returns-clause-nodes
+change_among-returns-clause-nodes g t c = λ around is.
+    let items = c.loop-i.nodes in
+    let past : length items ≤ c.loop-i.i = omega (arith, c.loop-i.invariant.unvisited.0) in
+    let rest = ap (changed_in g.C.StoryChange.rule (g.C.StoryChange.given c.args.change.now c.loop-i.state) around) (nodes_end items c.loop-i.i past) in
+    ap nodes_of (sym (take_all c.loop-i.i items past)) ∙ sym (⊕-no_nodes _) ∙ ap (λ ns. nodes_of (take c.loop-i.i items) ⊕ ns) (sym rest)
+    ∙ c.loop-i.invariant.nodes around is
+
+pub change_among-returns-clause-left : goal.change_among-returns-clause-left
+change_among-returns-clause-left g t c = λ around is.
+    let items = c.loop-i.nodes in
+    let past : length items ≤ c.loop-i.i = omega (arith, c.loop-i.invariant.unvisited.0) in
+    sym (ap (λ ns. left_after g.C.StoryChange.rule (g.C.StoryChange.given c.args.change.now c.loop-i.state) (stories_in around ns)) (nodes_end items c.loop-i.i past))
+    ∙ c.loop-i.invariant.left around is
+
+pub change_among-returns-clause-made : goal.change_among-returns-clause-made
+change_among-returns-clause-made g t c = λ counted.
+    let items = c.loop-i.nodes in
+    let past : length items ≤ c.loop-i.i = omega (arith, c.loop-i.invariant.unvisited.0) in
+    omega (arith, ap (λ xs. count (nodes_of xs)) (take_all c.loop-i.i items past), c.loop-i.invariant.made counted)

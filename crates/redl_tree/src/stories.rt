@@ -1,0 +1,170 @@
+//! Changes of the stories of a package.
+
+ghost use Rattle.std.specs.Prelude.{◌≡◌, ◌≤◌, ◌+◌, ℕ, List, Bool, true, OnOk};
+ghost use Rattle.redl_tree.specs.Model.Count.{count, item_count};
+ghost use Rattle.redl_tree.specs.Model.Nodes.{Tag};
+ghost use Rattle.redl_tree.specs.Decisions.Packages.{level_of, stories, stories_in, element_stories, StoryRule, left_after, changed_stories, changed_in, changed_package};
+ghost use Rattle.redl_tree.specs.Decisions.StoryWalk.{changed_kids, changed_item, item_stories};
+ghost use Rattle.redl_tree.specs.Model.View.{nodes_of, item_of, tag_of, kids_of, held_of, spaced_of};
+
+use crate::level::Level;
+use crate::node::{Body, Elem, Node, Spaced};
+
+/// A change of stories, one after the other. What changes from story to story, as the labels that are left, is in an `S`.
+pub trait StoryChange<S> {
+    /// Why a change fails.
+    type Error;
+
+    // That by which a story is changed, as says or labels.
+    ghost Given: { Type 0 };
+
+    ghost given: { Self → S → Self.Given };
+
+    // What becomes of a story by it, and what is left of it for the next one.
+    ghost rule: { StoryRule Self.Given };
+
+    // Whether the nodes that are looked at are counted, and how many were.
+    ghost is_counted: { Bool };
+
+    ghost steps: { S → ℕ };
+
+    /// Is called once for each node that is not below the root of a story.
+    fn meet(&self, state: &mut S)
+        ensures given { Self.given self.now state.new ≡ Self.given self.now state.old }
+        ensures steps { Self.is_counted ≡ true → Self.steps state.new ≡ Self.steps state.old + 1 };
+
+    /// Changes the kids of the root of a story.
+    fn change(&self, root: &mut Elem, state: &mut S) -> Result<(), Self::Error>
+        ensures tag { OnOk result (tag_of root.new ≡ tag_of root.old) }
+        ensures kids { OnOk result (kids_of root.new ≡ (Self.rule).kids (Self.given self.now state.old) (tag_of root.old) (kids_of root.old)) }
+        ensures left { OnOk result (Self.given self.now state.new ≡ (Self.rule).left (Self.given self.now state.old) (tag_of root.old) (kids_of root.old)) }
+
+        // At most one step for each node that is given, also with an error, and at least one for each node that is made.
+        ensures entered { Self.is_counted ≡ true → Self.steps state.new ≤ Self.steps state.old + count (kids_of root.old) }
+        ensures made { OnOk result (Self.is_counted ≡ true → Self.steps state.old + count (kids_of root.new) ≤ Self.steps state.new) };
+}
+
+/// Changes the stories of a package, in their order, each in its place. All else stays as it is.
+///
+/// `Err` is that of the first story whose change fails. The stories before it are changed then.
+pub fn change_stories<S, C: StoryChange<S>>(
+    nodes: &mut [Node],
+    change: &C,
+    state: &mut S,
+) -> Result<(), C::Error>
+    ensures nodes { OnOk result (nodes_of nodes.new ≡ changed_package C.rule (C.given change.now state.old) (nodes_of nodes.old)) }
+    ensures stories { OnOk result (stories (nodes_of nodes.new) ≡ changed_stories C.rule (C.given change.now state.old) (stories (nodes_of nodes.old))) }
+    ensures left { OnOk result (C.given change.now state.new ≡ left_after C.rule (C.given change.now state.old) (stories (nodes_of nodes.old))) }
+
+    // At most one step for each node that is given, also with an error, and at least one for each node that is made.
+    ensures entered { C.is_counted ≡ true → C.steps state.new ≤ C.steps state.old + count (nodes_of nodes.old) }
+    ensures made { OnOk result (C.is_counted ≡ true → C.steps state.old + count (nodes_of nodes.new) ≤ C.steps state.new) }
+{
+    change_among(nodes, Level::Top, change, state)
+}
+
+// The same for nodes at a level of their package.
+#[cycle(stories)]
+fn change_among<S, C: StoryChange<S>>(
+    nodes: &mut [Node],
+    level: Level,
+    change: &C,
+    state: &mut S,
+) -> Result<(), C::Error>
+    ensures nodes { OnOk result ((around : List Tag) → level ≡ level_of around
+        → nodes_of nodes.new ≡ changed_in C.rule (C.given change.now state.old) around (nodes_of nodes.old)) }
+    ensures left { OnOk result ((around : List Tag) → level ≡ level_of around
+        → C.given change.now state.new ≡ left_after C.rule (C.given change.now state.old) (stories_in around (nodes_of nodes.old))) }
+    ensures entered { C.is_counted ≡ true → C.steps state.new ≤ C.steps state.old + count (nodes_of nodes.old) }
+    ensures made { OnOk result (C.is_counted ≡ true → C.steps state.old + count (nodes_of nodes.new) ≤ C.steps state.new) }
+{
+    for i in 0..nodes.len() {
+        change_node(&mut nodes[i], level, change, state)?;
+    }
+    Ok(())
+}
+
+#[cycle(stories)]
+fn change_node<S, C: StoryChange<S>>(
+    node: &mut Node,
+    level: Level,
+    change: &C,
+    state: &mut S,
+) -> Result<(), C::Error>
+    ensures node { OnOk result ((around : List Tag) → level ≡ level_of around
+        → item_of node.new ≡ changed_item C.rule (C.given change.now state.old) around (item_of node.old)) }
+    ensures left { OnOk result ((around : List Tag) → level ≡ level_of around
+        → C.given change.now state.new ≡ left_after C.rule (C.given change.now state.old) (item_stories around (item_of node.old))) }
+    ensures entered { C.is_counted ≡ true → C.steps state.new ≤ C.steps state.old + item_count (item_of node.old) }
+    ensures made { OnOk result (C.is_counted ≡ true → C.steps state.old + item_count (item_of node.new) ≤ C.steps state.new) }
+{
+    change.meet(state);
+    match node {
+        Node::Elem(elem) => change_elem(elem, level, change, state),
+        Node::Bytes(_) => Ok(()),
+    }
+}
+
+// The step of the element itself was counted by the caller.
+#[cycle(stories)]
+fn change_elem<S, C: StoryChange<S>>(
+    elem: &mut Elem,
+    level: Level,
+    change: &C,
+    state: &mut S,
+) -> Result<(), C::Error>
+    ensures tag { OnOk result (tag_of elem.new ≡ tag_of elem.old) }
+    ensures kids { OnOk result ((around : List Tag) → level ≡ level_of around
+        → kids_of elem.new ≡ changed_kids C.rule (C.given change.now state.old) around (tag_of elem.old) (kids_of elem.old)) }
+    ensures left { OnOk result ((around : List Tag) → level ≡ level_of around
+        → C.given change.now state.new ≡ left_after C.rule (C.given change.now state.old) (element_stories around (tag_of elem.old) (kids_of elem.old))) }
+    ensures entered { C.is_counted ≡ true → C.steps state.new ≤ C.steps state.old + count (kids_of elem.old) }
+    ensures made { OnOk result (C.is_counted ≡ true → C.steps state.old + count (kids_of elem.new) ≤ C.steps state.new) }
+{
+    if level.is_root(elem) {
+        return change.change(elem, state);
+    }
+    let below = level.below(elem);
+    change_body(&mut elem.body, below, change, state)
+}
+
+#[cycle(stories)]
+fn change_body<S, C: StoryChange<S>>(
+    body: &mut Body,
+    level: Level,
+    change: &C,
+    state: &mut S,
+) -> Result<(), C::Error>
+    ensures close { OnOk result ((held_of body.new).close ≡ (held_of body.old).close) }
+    ensures kids { OnOk result ((around : List Tag) → level ≡ level_of around
+        → (held_of body.new).kids ≡ changed_in C.rule (C.given change.now state.old) around (held_of body.old).kids) }
+    ensures left { OnOk result ((around : List Tag) → level ≡ level_of around
+        → C.given change.now state.new ≡ left_after C.rule (C.given change.now state.old) (stories_in around (held_of body.old).kids)) }
+    ensures entered { C.is_counted ≡ true → C.steps state.new ≤ C.steps state.old + count (held_of body.old).kids }
+    ensures made { OnOk result (C.is_counted ≡ true → C.steps state.old + count (held_of body.new).kids ≤ C.steps state.new) }
+{
+    match body {
+        Body::Empty => Ok(()),
+        Body::Kids(kids) => change_among(kids, level, change, state),
+        Body::Spaced(spaced) => change_spaced(spaced, level, change, state),
+    }
+}
+
+// Apart from `change_body`, since a write through a box in a variant is proved in two steps.
+#[cycle(stories)]
+fn change_spaced<S, C: StoryChange<S>>(
+    spaced: &mut Box<Spaced>,
+    level: Level,
+    change: &C,
+    state: &mut S,
+) -> Result<(), C::Error>
+    ensures close { OnOk result ((spaced_of spaced.new.value).close ≡ (spaced_of spaced.old.value).close) }
+    ensures kids { OnOk result ((around : List Tag) → level ≡ level_of around
+        → (spaced_of spaced.new.value).kids ≡ changed_in C.rule (C.given change.now state.old) around (spaced_of spaced.old.value).kids) }
+    ensures left { OnOk result ((around : List Tag) → level ≡ level_of around
+        → C.given change.now state.new ≡ left_after C.rule (C.given change.now state.old) (stories_in around (spaced_of spaced.old.value).kids)) }
+    ensures entered { C.is_counted ≡ true → C.steps state.new ≤ C.steps state.old + count (spaced_of spaced.old.value).kids }
+    ensures made { OnOk result (C.is_counted ≡ true → C.steps state.old + count (spaced_of spaced.new.value).kids ≤ C.steps state.new) }
+{
+    change_among(&mut spaced.kids, level, change, state)
+}
