@@ -30,7 +30,8 @@ use Rattle.redl_tree.proofs.NumberLaws.{numbered-indexed}
 use Rattle.redl_tree.proofs.Soundness.{numbered_sound, soundness}
 use Rattle.redl_tree.specs.Model.Nodes.{Nodes}
 use Rattle.redl_tree.specs.Decisions.Packages.{stories, pass_package}
-use Rattle.redl_tree.specs.Rules.Sound.{Test, holds, first_broken, is_sound}
+use Rattle.redl_tree.specs.Rules.Tests.{Test}
+use Rattle.redl_tree.specs.Rules.Sound.{holds, first_broken, is_sound}
 use Rattle.redl_tree.specs.Model.Text.{text}
 use Rattle.redl_tree.specs.Model.View.{Parts}
 use Rattle.redl_tree.specs.declared.kinds.Say.{Say}

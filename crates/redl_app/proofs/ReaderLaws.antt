@@ -10,7 +10,7 @@ use Rattle.redl_journal.proofs.Lines.{one_reading as one_journal, journal_or_non
 use Rattle.redl_tree.specs.Model.Nodes.{Nodes}
 use Rattle.redl_words.proofs.CommandLaws.{command_takes, command_again, at_most_one}
 use Rattle.redl_words.specs.Commands.{Command, IsCommand, HasNoCommand}
-use Rattle.redl_words.specs.Reading.{command_in}
+use Rattle.redl_words.specs.Reading.Commands.{command_in}
 use Rattle.redl_xml.specs.Readings.{IsReading, HasNoReading}
 use Rattle.redl_xml.proofs.Answered.{tree_or_none}
 use Rattle.redl_xml.proofs.Documents.{one_tree}

@@ -1,12 +1,13 @@
 -- What the code keeps of the ancestors tells the kind and the move of an element.
 use Rattle.std.proofs.Common.{◌≡◌, ◌∙◌, refl, ap, sym, subst, ℕ, ◌+◌, List, [], ◌∷◌, Bool, true, false, ◌&&◌, ◌||◌, true≢false, is_some, find, cond, not, IfSome, IsTrue, Option, Some, None, option_map, if◌then◌else◌}
 use Rattle.redl_tree.specs.Model.Nodes.{Tag, Nodes}
+use Rattle.redl_tree.specs.Model.Kids.{has_element}
 use Rattle.redl_tree.specs.Roles.Names.{is}
 use Rattle.redl_tree.specs.Decisions.Packages.{is_story_root}
 use Rattle.redl_tree.specs.Roles.Places.{is_open, within, role, placed, first_role, change_at, in_mark_props, in_row_props, in_cell_props, in_props, trace_of, row_trace_of, cell_trace_of, prop_of}
 use Rattle.redl_tree.specs.Roles.Arounds.{around_of, inside_of}
 use Rattle.redl_tree.specs.Revisions.Moves.{Marking, Pair, pairs, is_of_pair}
-use Rattle.redl_tree.specs.Model.Seen.{Spot, spot, Seen, seen_one, root_spots, tags, tags_of}
+use Rattle.redl_tree.specs.Model.Seen.{Spot, spot, Seen, seen_one, seen_from, root_spots, tags, tags_of}
 use Rattle.redl_tree.specs.Revisions.Markers.{mark_end, move_of_member, move_of_marker, move_of, whole_role, either, own_role}
 use Rattle.redl_tree.specs.declared.around.Around.{Around}
 use Rattle.redl_tree.specs.declared.kinds.Kind.{Kind}
@@ -26,29 +27,30 @@ use Rattle.redl_tree.proofs.NameLaws.{and-left, and-right, is-other, is_any-apar
 use Rattle.redl_stamp.specs.Attribute.{attribute_value}
 use Rattle.redl_moves.specs.Standing.{IsApart}
 use Rattle.redl_moves.specs.Starts.{start_in}
-use Rattle.redl_markers.specs.Free.{IsFree}
+use Rattle.redl_markers.specs.Free.{Every, IsFree}
+use Rattle.redl_markers.proofs.WalkLaws.{none-seen}
 use Rattle.redl_markers.proofs.FreeLaws.{content-apart, mark-apart}
 use Rattle.redl_moves.specs.declared.start.Start.{Start}
-use Rattle.redl_index.specs.Contexts.{para_end, context_of, inside_context, move_by, IsApartAs, is_marker_by}
+use Rattle.redl_index.specs.Contexts.{para_end, context_of, inside_context, context_below, move_by, IsApartAs, is_marker_by}
 
 -- ---- a mark is at the end of the nearest paragraph
 
-mark-end : (start : ℕ) (above : List Spot) → in_mark_props (tags_of above) ≡ true → mark_end start above ≡ para_end above
+mark-end : (start : ℕ) (ancestors : List Spot) → in_mark_props (tags_of ancestors) ≡ true → mark_end start ancestors ≡ para_end ancestors
 mark-end start [] e = absurd (true≢false (sym e))
 mark-end start (r ∷ []) e = absurd (true≢false (sym (and-right (is "rPr" r.tag) false e)))
 mark-end start (r ∷ q ∷ []) e =
     absurd (true≢false (sym (and-right (is "pPr" q.tag) false (and-right (is "rPr" r.tag) (is "pPr" q.tag && false) e))))
-mark-end start (r ∷ q ∷ p ∷ above) e =
-    let below = within ("pPr" ∷ "p" ∷ []) (q.tag ∷ p.tag ∷ tags_of above) in
-    let last = within ("p" ∷ []) (p.tag ∷ tags_of above) in
+mark-end start (r ∷ q ∷ p ∷ ancestors) e =
+    let below = within ("pPr" ∷ "p" ∷ []) (q.tag ∷ p.tag ∷ tags_of ancestors) in
+    let last = within ("p" ∷ []) (p.tag ∷ tags_of ancestors) in
     let in_q = and-right (is "rPr" r.tag) below e in
     let in_p = and-right (is "pPr" q.tag) last in_q in
-    sym (ap (λ b. if b then r.end else para_end (q ∷ p ∷ above)) (is-other "rPr" "p" r.tag (and-left (is "rPr" r.tag) below e) refl)
-    ∙ ap (λ b. if b then q.end else para_end (p ∷ above)) (is-other "pPr" "p" q.tag (and-left (is "pPr" q.tag) last in_q) refl)
-    ∙ ap (λ b. if b then p.end else para_end above) (and-left (is "p" p.tag) (is_open (tags_of above)) in_p))
+    sym (ap (λ b. if b then r.end else para_end (q ∷ p ∷ ancestors)) (is-other "rPr" "p" r.tag (and-left (is "rPr" r.tag) below e) refl)
+    ∙ ap (λ b. if b then q.end else para_end (p ∷ ancestors)) (is-other "pPr" "p" q.tag (and-left (is "pPr" q.tag) last in_q) refl)
+    ∙ ap (λ b. if b then p.end else para_end ancestors) (and-left (is "p" p.tag) (is_open (tags_of ancestors)) in_p))
 
 -- what holds of each kind of role, and of a mark's where its properties are, holds of the role of an element
-module _ (P : Kind → Type 0) (around : List Tag) (tag : Tag) (plain : P Plain) (content : (t : Trace) → P (Content t)) (mark : in_mark_props around ≡ true → (t : Trace) → P (Mark t))
+module _ (P : Kind → Type 0) (ancestors : List Tag) (tag : Tag) (plain : P Plain) (content : (t : Trace) → P (Content t)) (mark : in_mark_props ancestors ≡ true → (t : Trace) → P (Mark t))
     (row : (t : Trace) → P (Row t)) (cell : (t : Trace) → P (Cell t)) (change : (p : Prop) → P (Change p)) where
   first-holds : (holds : Bool) (k : Option Kind) (ks : List (Option Kind)) → (holds ≡ true → (x : Kind) → k ≡ Some x → P x) → P (first_role ks) → P (first_role (placed holds k ∷ ks))
   first-holds false k ks own rest = rest
@@ -59,19 +61,19 @@ module _ (P : Kind → Type 0) (around : List Tag) (tag : Tag) (plain : P Plain)
   mapped f own None x e = absurd (cc)
   mapped f own (Some t) x e = let is : f t ≡ x = cc in subst P is (own t)
 
-  changes : (prop : Option Prop) → P (first_role (change_at around prop ∷ []))
+  changes : (prop : Option Prop) → P (first_role (change_at ancestors prop ∷ []))
   changes None = plain
-  changes (Some p) = first-holds (in_props p around) (Some (Change p)) [] (λ h x e. let is : Change p ≡ x = cc in subst P is (change p)) plain
+  changes (Some p) = first-holds (in_props p ancestors) (Some (Change p)) [] (λ h x e. let is : Change p ≡ x = cc in subst P is (change p)) plain
 
-  role-holds : P (role around tag)
+  role-holds : P (role ancestors tag)
   role-holds =
-      first-holds (is_open around) (option_map Content (trace_of tag)) _ (λ h. mapped Content content (trace_of tag))
-      (first-holds (in_mark_props around) (option_map Mark (trace_of tag)) _ (λ h. mapped Mark (mark h) (trace_of tag))
-      (first-holds (in_row_props around) (option_map Row (row_trace_of tag)) _ (λ h. mapped Row row (row_trace_of tag))
-      (first-holds (in_cell_props around) (option_map Cell (cell_trace_of tag)) _ (λ h. mapped Cell cell (cell_trace_of tag))
+      first-holds (is_open ancestors) (option_map Content (trace_of tag)) _ (λ h. mapped Content content (trace_of tag))
+      (first-holds (in_mark_props ancestors) (option_map Mark (trace_of tag)) _ (λ h. mapped Mark (mark h) (trace_of tag))
+      (first-holds (in_row_props ancestors) (option_map Row (row_trace_of tag)) _ (λ h. mapped Row row (row_trace_of tag))
+      (first-holds (in_cell_props ancestors) (option_map Cell (cell_trace_of tag)) _ (λ h. mapped Cell cell (cell_trace_of tag))
       (changes (prop_of tag)))))
 
-member-by : (moves : List Pair) (kind : Kind) (x : Seen) → move_of_member moves kind x ≡ move_by moves kind x.own.start (mark_end x.own.start x.above)
+member-by : (moves : List Pair) (kind : Kind) (x : Seen) → move_of_member moves kind x ≡ move_by moves kind x.own.start (mark_end x.own.start x.ancestors)
 member-by moves Plain x = refl
 member-by moves (Content trace) x = refl
 member-by moves (Mark trace) x = refl
@@ -81,18 +83,18 @@ member-by moves (Change prop) x = refl
 member-by moves Marker x = refl
 
 -- the move of a member, by where the nearest paragraph ends
-member-here : (moves : List Pair) (x : Seen) → move_of_member moves (own_role x) x ≡ move_by moves (own_role x) x.own.start (para_end x.above)
+member-here : (moves : List Pair) (x : Seen) → move_of_member moves (own_role x) x ≡ move_by moves (own_role x) x.own.start (para_end x.ancestors)
 member-here moves x =
     member-by moves (own_role x) x
-    ∙ role-holds (λ k. move_by moves k x.own.start (mark_end x.own.start x.above) ≡ move_by moves k x.own.start (para_end x.above)) (tags_of x.above) x.own.tag
-    refl (λ t. refl) (λ in_mark t. ap (λ n. move_by moves (Mark t) x.own.start n) (mark-end x.own.start x.above in_mark)) (λ t. refl) (λ t. refl) (λ p. refl)
+    ∙ role-holds (λ k. move_by moves k x.own.start (mark_end x.own.start x.ancestors) ≡ move_by moves k x.own.start (para_end x.ancestors)) (tags_of x.ancestors) x.own.tag
+    refl (λ t. refl) (λ in_mark t. ap (λ n. move_by moves (Mark t) x.own.start n) (mark-end x.own.start x.ancestors in_mark)) (λ t. refl) (λ t. refl) (λ p. refl)
 
 -- no marker is where an element with a role is
-pub apart-here : (marks : List Marking) (x : Seen) → IsFree marks x → IsApartAs marks (own_role x) x.own.start (para_end x.above)
+pub apart-here : (marks : List Marking) (x : Seen) → IsFree marks x → IsApartAs marks (own_role x) x.own.start (para_end x.ancestors)
 apart-here marks x free =
-    role-holds (λ k. own_role x ≡ k → IsApartAs marks k x.own.start (para_end x.above)) (tags_of x.above) x.own.tag
+    role-holds (λ k. own_role x ≡ k → IsApartAs marks k x.own.start (para_end x.ancestors)) (tags_of x.ancestors) x.own.tag
     (λ e. tt) (λ t e. content-apart marks x free t e)
-    (λ in_mark t e. let P : ℕ → Type 0 = λ n. IsApart n marks in subst P (mark-end x.own.start x.above in_mark) (mark-apart marks x free t e))
+    (λ in_mark t e. let P : ℕ → Type 0 = λ n. IsApart n marks in subst P (mark-end x.own.start x.ancestors in_mark) (mark-apart marks x free t e))
     (λ t e. tt) (λ t e. tt) (λ p e. tt) refl
 
 -- ---- the move of a marker
@@ -105,12 +107,12 @@ find-and : (b : Bool) (f : Pair → Bool) (xs : List Pair) → find (λ x. b && 
 find-and true f xs = refl
 find-and false f xs = find_no xs
 
-pub marker-here : (moves : List Pair) (above : List Spot) (at : ℕ) (tag : Tag) (kids : Nodes) (around : Around) (b : Bool) → b ≡ is_marker_by around tag →
-    around ≡ around_of (tags_of above) →
-    (if b then find (is_of_pair at) moves else None) ≡ move_of_marker attribute_value moves (seen_one above at tag kids)
-marker-here moves above at tag kids around b is here =
+pub marker-here : (moves : List Pair) (ancestors : List Spot) (at : ℕ) (tag : Tag) (kids : Nodes) (around : Around) (b : Bool) → b ≡ is_marker_by around tag →
+    around ≡ around_of (tags_of ancestors) →
+    (if b then find (is_of_pair at) moves else None) ≡ move_of_marker attribute_value moves (seen_one ancestors at tag kids)
+marker-here moves ancestors at tag kids around b is here =
     ap (λ b. if b then find (is_of_pair at) moves else None) (is ∙ ap (λ a. is_marker_by a tag) here)
-    ∙ sym (find-and (is_marker_by (around_of (tags_of above)) tag) (is_of_pair at) moves)
+    ∙ sym (find-and (is_marker_by (around_of (tags_of ancestors)) tag) (is_of_pair at) moves)
 
 -- ---- the kind and the move of an element
 
@@ -141,7 +143,7 @@ module _ (marks : List Marking) (x : Seen) (found : Option Start) (is : found �
   member-kind e = ap (λ b. if b then Marker else own_role x) (sym e ∙ ap is_some is ∙ is_some-map marks (move_of_marker attribute_value (pairs marks) x))
 
   pub member-move : is_some found ≡ false →
-      option_map (start_in marks) (move_by (pairs marks) (own_role x) x.own.start (para_end x.above)) ≡ option_map (start_in marks) (move_of attribute_value (pairs marks) x)
+      option_map (start_in marks) (move_by (pairs marks) (own_role x) x.own.start (para_end x.ancestors)) ≡ option_map (start_in marks) (move_of attribute_value (pairs marks) x)
   member-move e =
       let m = move_of_marker attribute_value (pairs marks) x in
       ap (option_map (start_in marks))
@@ -149,11 +151,28 @@ module _ (marks : List Marking) (x : Seen) (found : Option Start) (is : found �
 
 -- ---- contexts
 
-pub context-inside : (at : ℕ) (tag : Tag) (kids : Nodes) (above : List Spot) →
-    inside_context tag (at + 1 + tags kids) (context_of above) ≡ context_of (spot at tag kids ∷ above)
-context-inside at tag kids above =
-    let Told : Around → Context = λ around. record (context_of (spot at tag kids ∷ above)) { around = around } in
-    ap Told (sym (around_of-∷ tag (tags_of above)))
+pub context-inside : (at : ℕ) (tag : Tag) (kids : Nodes) (ancestors : List Spot) →
+    inside_context tag (at + 1 + tags kids) (context_of ancestors) ≡ context_of (spot at tag kids ∷ ancestors)
+context-inside at tag kids ancestors =
+    let Told : Around → Context = λ around. record (context_of (spot at tag kids ∷ ancestors)) { around = around } in
+    ap Told (sym (around_of-∷ tag (tags_of ancestors)))
+
+-- What is proved with what is round the kids of an element holds of its ancestors and itself. Where it holds no element, what is
+-- round the element itself serves as well.
+pub context-below : (marks : List Marking) (P : List Spot → Type 0) (at : ℕ) (tag : Tag) (kids : Nodes) (ancestors : List Spot) (here below : Context)
+    → below ≡ context_below tag kids (at + 1 + tags kids) here → here ≡ context_of ancestors
+    → Every (IsFree marks) (seen_from (spot at tag kids ∷ ancestors) (at + 1) kids)
+    → ((spots : List Spot) → below ≡ context_of spots → Every (IsFree marks) (seen_from spots (at + 1) kids) → P spots)
+    → (has_element kids ≡ false → P ancestors → P (spot at tag kids ∷ ancestors))
+    → P (spot at tag kids ∷ ancestors)
+context-below marks P at tag kids ancestors here below is known free holds none_below = by (has_element kids) refl is
+  where
+    by : (b : Bool) → has_element kids ≡ b → below ≡ (if b then inside_context tag (at + 1 + tags kids) here else here) → P (spot at tag kids ∷ ancestors)
+    by true some is =
+        holds (spot at tag kids ∷ ancestors) (is ∙ ap (inside_context tag (at + 1 + tags kids)) known ∙ context-inside at tag kids ancestors) free
+    by false none is =
+        none_below none
+        (holds ancestors (is ∙ known) (subst (λ xs. Every (IsFree marks) xs) (none-seen (spot at tag kids ∷ ancestors) ancestors (at + 1) kids none) free))
 
 pub context-root : (tag : Tag) (kids : Nodes) (around : Around) → around ≡ inside_of tag (around_of []) → is "p" tag ≡ false →
     record { around = around; para_end = 0 } ≡ context_of (root_spots tag kids)

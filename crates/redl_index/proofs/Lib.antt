@@ -3,6 +3,8 @@ pub mod TallyLaws
 pub mod IndexLaws
 pub mod ContextLaws
 pub mod LabelLaws
+pub mod NumberingLaws
+pub mod UnlabelledLaws
 pub mod RevisionLaws
 pub mod PartLaws
 pub mod AgainLaws

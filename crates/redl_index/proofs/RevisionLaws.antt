@@ -8,11 +8,10 @@ use Rattle.redl_tree.specs.Model.Count.{count}
 use Rattle.redl_tree.specs.Revisions.Markers.{whole_role, move_of}
 use Rattle.redl_tree.specs.Revisions.Moves.{Marking, Pair, pairs}
 use Rattle.redl_tree.specs.Revisions.Numbers.{Membership, in_none, in_own, in_move, membership, Numbering, number_of_move, counted, counted_move, start_with, next_after_story, number_rule}
-use Rattle.redl_tree.specs.Decisions.Packages.{left_after}
+use Rattle.redl_tree.specs.Decisions.Packages.{left_after, stories}
 use Rattle.redl_tree.specs.Model.Seen.{Seen, seen, seen_from, root_spots}
 use Rattle.redl_tree.specs.declared.kinds.Kind.{Kind}
 use Rattle.redl_tree.specs.declared.kinds.Kind.TheVariants.{Content, Mark, Row, Cell, Change, Plain, Marker}
-use Rattle.redl_opc.specs.declared.label.Label.{Label}
 use Rattle.redl_stamp.specs.Attribute.{attribute_value}
 use Rattle.redl_moves.specs.Starts.{start_in}
 use Rattle.redl_markers.specs.Found.{markers_of, marker_tails}
@@ -21,13 +20,11 @@ use Rattle.redl_markers.proofs.StoryLaws.{seen-count}
 use Rattle.redl_opc.specs.Elements.{Element}
 use Rattle.redl_opc.specs.Parts.{story}
 use Rattle.redl_opc.specs.Shape.{parts_of, story_of, refusal}
-use Rattle.redl_opc.specs.Stories.{story_view, stories_of_part, stories_from}
+use Rattle.redl_opc.specs.Stories.{story_view}
 use Rattle.redl_opc.proofs.StoryLaws.{stories-parts}
-use Rattle.redl_opc.proofs.WalkLaws.{part-at, stories_from-part}
-use Rattle.redl_index.specs.Labels.{story_labels, labels_of}
+use Rattle.redl_opc.proofs.WalkLaws.{part-at}
 use Rattle.redl_index.specs.Numbers.{package_revisions}
-use Rattle.redl_index.proofs.LabelLaws.{counted_all, numbering-fold, labels_of-append}
-use Rattle.redl_index.proofs.TallyLaws.{labels-noted}
+use Rattle.redl_index.proofs.LabelLaws.{counted_all, numbering-fold}
 use Rattle.redl_index.specs.declared.revision.Revision.{Revision}
 use Rattle.redl_index.specs.Mentions.{Mention, mention_by, mentions, Sight, sight_in}
 use Rattle.redl_index.specs.Revisions.{starts_at, is_of, is_new, firsts, members_of, revision_with, revision_of, numbered, story_revisions, revisions_in, revisions_from, revisions_of}
@@ -505,13 +502,13 @@ module _ (part : ℕ) (base : List Revision) where
   so-far-all done t [] had few = let P : List Mention → Type 0 = λ ms. IsSoFar part base ms t in subst P (sym (append-nil done)) had
   so-far-all done t (x ∷ xs) had few = by x.mention (λ d t h. so-far-all d t xs h)
     where
-      by : (o : Option Mention) → Rest xs → IsSoFar part base (done ++ cons_option o (filter_map (λ y. y.mention) xs)) (noted_all part (noted_by part t x.kind o) xs)
-      by None ih = ih done (noted_by part t x.kind None) (record { index = had.index; moves = had.moves }) (omega (arith, few))
+      by : (o : Option Mention) → Rest xs → IsSoFar part base (done ++ cons_option o (filter_map (λ y. y.mention) xs)) (noted_all part (noted_by part t o) xs)
+      by None ih = ih done (noted_by part t None) (record { index = had.index; moves = had.moves }) (omega (arith, few))
       by (Some m) ih =
           let step = so-far-mentioned part base done t m had (omega (arith, few)) in
-          let P : List Mention → Type 0 = λ ms. IsSoFar part base ms (noted_all part (noted_by part t x.kind (Some m)) xs) in
+          let P : List Mention → Type 0 = λ ms. IsSoFar part base ms (noted_all part (noted_by part t (Some m)) xs) in
           subst P (append_assoc done (m ∷ []) (filter_map (λ y. y.mention) xs))
-          (ih (done ++ m ∷ []) (noted_by part t x.kind (Some m)) (record { index = step.index; moves = step.moves }) (omega (arith, few, length-append done (m ∷ []))))
+          (ih (done ++ m ∷ []) (noted_by part t (Some m)) (record { index = step.index; moves = step.moves }) (omega (arith, few, length-append done (m ∷ []))))
 
 -- ---- how many revisions a story has
 
@@ -663,6 +660,13 @@ length-revisions_of nodes shape =
     none-before : (n : ℕ) → n ≡ 0 + n
     none-before n = omega arith
 
+-- numbers that count from 1 end behind the last revision
+pub next-revisions : (nodes : Nodes) → refusal nodes ≡ None → left_after (number_rule attribute_value) 1 (stories nodes) ≡ 1 + package_revisions nodes
+next-revisions nodes shape =
+    let many = length (revisions_from 0 (parts_of nodes)) in
+    let all : 0 + many ≡ package_revisions nodes = length-from 0 0 (parts_of nodes) ∙ ap (left_after (number_rule attribute_value) 0) (stories-parts nodes shape) in
+    sym (length-from 0 1 (parts_of nodes) ∙ ap (left_after (number_rule attribute_value) 1) (stories-parts nodes shape)) ∙ omega (arith, all)
+
 -- ---- a part at a time
 
 module _ (nodes : Nodes) (number : ℕ) (within : number < length (parts_of nodes)) (old mid : List Revision)
@@ -686,45 +690,29 @@ module _ (nodes : Nodes) (number : ℕ) (within : number < length (parts_of node
       ∙ append_assoc old (numbered (1 + length old) here) (numbered ((1 + length old) + length here) after)
       ∙ ap (λ rs. old ++ rs) (sym (numbered-append (1 + length old) here after) ∙ ap (numbered (1 + length old)) all)
 
-  -- and so do its labels
-  pub labelled-part : (had now : List Label) → now ≡ had ++ labels_of (1 + length old) (stories_of_part nodes number) →
-      now ++ labels_of (1 + length mid) (stories_from (number + 1) nodes) ≡ had ++ labels_of (1 + length old) (stories_from number nodes)
-  labelled-part had now labels =
-      let here = labels_of (1 + length old) (stories_of_part nodes number) in
-      let next = left_after (number_rule attribute_value) (1 + length old) (stories_of_part nodes number) in
-      let after = labels_of next (stories_from (number + 1) nodes) in
-      ap (λ n. now ++ labels_of n (stories_from (number + 1) nodes)) (length-mid ∙ length-in number (1 + length old) (story nodes number))
-      ∙ ap (λ (ls : List Label). ls ++ after) labels ∙ append_assoc had here after
-      ∙ ap (λ ls. had ++ ls)
-      (sym (labels_of-append (1 + length old) (stories_of_part nodes number) (stories_from (number + 1) nodes))
-      ∙ sym (ap (labels_of (1 + length old)) (stories_from-part nodes number within)))
-
 -- ---- a story
 
-module _ (part : ℕ) (base : List Revision) (labels : List Label) (root : Tag) (kids : Nodes) where
+module _ (part : ℕ) (base : List Revision) (root : Tag) (kids : Nodes) where
   abbrev pub story_tally : Tally
   story_tally =
-      noted_all part (record { index = base; labels = labels; moves = [] }) (map (sight_in (markers_of root kids) (marker_tails root kids)) (seen root kids))
+      noted_all part (record { index = base; moves = [] }) (map (sight_in (markers_of root kids) (marker_tails root kids)) (seen root kids))
 
   pub story-index : count kids < 2 ^ 32 → story_tally.index ≡ base ++ numbered (1 + length base) (story_revisions part root kids)
   story-index few =
       let sights = map (sight_in (markers_of root kids) (marker_tails root kids)) (seen root kids) in
-      let start : IsSoFar part base [] (record { index = base; labels = labels; moves = [] }) = record { index = sym (append-nil base); moves = λ s. refl } in
-      (so-far-all part base [] (record { index = base; labels = labels; moves = [] }) sights start
+      let start : IsSoFar part base [] (record { index = base; moves = [] }) = record { index = sym (append-nil base); moves = λ s. refl } in
+      (so-far-all part base [] (record { index = base; moves = [] }) sights start
       (omega (arith, few, map-length (sight_in (markers_of root kids) (marker_tails root kids)) (seen root kids), seen-count (root_spots root kids) 1 kids))).index
     where
       map-length : (f : Seen → Sight) (xs : List Seen) → length (map f xs) ≡ length xs
       map-length f [] = refl
       map-length f (x ∷ xs) = ap suc (map-length f xs)
 
-  pub story-labels : story_tally.labels ≡ labels ++ story_labels (1 + length base) root kids
-  story-labels = labels-noted part (record { index = base; labels = labels; moves = [] }) (markers_of root kids) (marker_tails root kids) (seen root kids)
-
   -- the tally by what the first walk found
   pub told-tally : (marks : List Marking) (tails : List (List ℕ)) (ns : Nodes) → marks ≡ markers_of root kids → tails ≡ marker_tails root kids → ns ≡ kids →
-      noted_all part (record { index = base; labels = labels; moves = [] }) (map (sight_in marks tails) (seen_from (root_spots root kids) 1 ns)) ≡ story_tally
+      noted_all part (record { index = base; moves = [] }) (map (sight_in marks tails) (seen_from (root_spots root kids) 1 ns)) ≡ story_tally
   told-tally marks tails ns is_marks is_tails is_kids =
-      let start : Tally = record { index = base; labels = labels; moves = [] } in
+      let start : Tally = record { index = base; moves = [] } in
       ap (λ ns. noted_all part start (map (sight_in marks tails) (seen_from (root_spots root kids) 1 ns))) is_kids
       ∙ ap (λ marks. noted_all part start (map (sight_in marks tails) (seen root kids))) is_marks
       ∙ ap (λ tails. noted_all part start (map (sight_in (markers_of root kids) tails) (seen root kids))) is_tails

@@ -15,14 +15,14 @@ use Rattle.redl_index.specs.Numbers.{package_revisions, numbered_package}
 
 -- how many revisions nodes have that stand among a story's body, and the nodes with their labels, where this is the next
 -- number and no move is paired
-abbrev around : List Spot
-around = spot 1 (tag_in W "w" "body" "" (End [])) no_nodes ∷ spot 0 (tag_in W "w" "document" "" (End [])) no_nodes ∷ []
+abbrev ancestors : List Spot
+ancestors = spot 1 (tag_in W "w" "body" "" (End [])) no_nodes ∷ spot 0 (tag_in W "w" "document" "" (End [])) no_nodes ∷ []
 
 abbrev revisions : Nodes → ℕ
-revisions nodes = (numbering_after attribute_value [] around 2 (start_with 0) nodes).next
+revisions nodes = (numbering_after attribute_value [] ancestors 2 (start_with 0) nodes).next
 
 abbrev numbered : ℕ → Nodes → Nodes
-numbered next nodes = labelled attribute_value [] around 2 (start_with next) nodes
+numbered next nodes = labelled attribute_value [] ancestors 2 (start_with next) nodes
 
 -- a document without revisions
 abbrev plain : Nodes

@@ -1,6 +1,7 @@
 -- What is round an element of a story, as the code keeps it.
 use Rattle.std.specs.Prelude.{ℕ, List, [], ◌∷◌, Bool, ◌&&◌, not, codes, is_some, if◌then◌else◌, Option, None}
-use Rattle.redl_tree.specs.Model.Nodes.{Tag}
+use Rattle.redl_tree.specs.Model.Nodes.{Tag, Nodes}
+use Rattle.redl_tree.specs.Model.Kids.{has_element}
 use Rattle.redl_tree.specs.Roles.Names.{is}
 use Rattle.redl_tree.specs.Roles.Arounds.{around_of, inside_of}
 use Rattle.redl_tree.specs.Revisions.Moves.{Marking, Pair}
@@ -17,11 +18,11 @@ use Rattle.redl_index.specs.declared.context.Context.{Context}
 -- the end of the nearest paragraph
 abbrev pub para_end : List Spot → ℕ
 para_end [] = 0
-para_end (spot ∷ above) = if is "p" spot.tag then spot.end else para_end above
+para_end (spot ∷ ancestors) = if is "p" spot.tag then spot.end else para_end ancestors
 
 -- what these ancestors are to an element
 abbrev pub context_of : List Spot → Context
-context_of above = record { around = around_of (tags_of above); para_end = para_end above }
+context_of ancestors = record { around = around_of (tags_of ancestors); para_end = para_end ancestors }
 
 -- the same with this element as the nearest ancestor, which ends there
 abbrev pub inside_context : Tag → ℕ → Context → Context
@@ -29,6 +30,10 @@ inside_context tag end here = record {
   around = inside_of tag here.around;
   para_end = if is "p" tag then end else here.para_end;
 }
+
+-- the same, but for an element that holds no element, where nothing is below
+abbrev pub context_below : Tag → Nodes → ℕ → Context → Context
+context_below tag kids end here = if has_element kids then inside_context tag end here else here
 
 -- The move of an element with this role, by where its own start tag and the end tag of its paragraph are: a mark is at the
 -- end of its paragraph.

@@ -3,7 +3,9 @@ pub mod Kinds
 pub mod KindNames
 pub mod Mentions
 pub mod Revisions
-pub mod Labels
 pub mod Tallies
 pub mod Contexts
 pub mod Stories
+pub mod Known
+pub mod Numberings
+pub mod Unlabelled

@@ -6,8 +6,8 @@ use Rattle.redl_index.specs.declared.story.Story.{Story}
 
 -- the attributes of its markers
 abbrev pub tails_in : Story → List (List ℕ)
-tails_in story = map (λ tail. tail.now) story.tails.items
+tails_in story = map (λ tail. tail.now) story.tails.now
 
 -- what an element of the story is
 abbrev pub sight_of : Story → Seen → Sight
-sight_of story seen = sight_in story.moves (tails_in story) seen
+sight_of story seen = sight_in story.moves.now (tails_in story) seen

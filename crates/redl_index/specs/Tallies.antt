@@ -1,25 +1,19 @@
 -- What has been found after some elements of a story, one element after the other.
-use Rattle.std.specs.Prelude.{ℕ, ◌+◌, ◌-◌, ◌^◌, ◌≡◌, nat_lt, nat_eq, List, [], ◌∷◌, ◌++◌, ◌==◌, ◌&&◌, not, Bool, set, slice_get, Option, Some, None, unwrap_or, length, if◌then◌else◌}
+use Rattle.std.specs.Prelude.{ℕ, ◌+◌, ◌-◌, ◌^◌, ◌≡◌, nat_lt, nat_eq, List, [], ◌∷◌, ◌++◌, ◌==◌, ◌&&◌, not, Bool, set, slice_get, Option, Some, None, length, if◌then◌else◌}
 use Rattle.indexmap.specs.IndexMap.{get}
-use Rattle.redl_tree.specs.Revisions.Numbers.{Numbered, Numbering, number_of_move}
-use Rattle.redl_tree.specs.declared.kinds.Kind.{Kind}
-use Rattle.redl_opc.specs.declared.label.Label.{Label}
+use Rattle.redl_tree.specs.Revisions.Numbers.{Numbered, number_of_move}
 use Rattle.redl_index.specs.Mentions.{Mention, Sight}
 use Rattle.redl_index.specs.Revisions.{revision_of}
 use Rattle.redl_index.specs.declared.revision.Revision.{Revision}
 use Rattle.redl_index.specs.declared.found.Found.{Found}
 
--- the revisions so far, the labels of the elements so far, and the moves of the story that have a number
+-- the revisions so far, and the moves of the story that have a number
 pub record Tally : Type 0 where
   pub index : List Revision
-  pub labels : List Label
   pub moves : List Numbered
 
 abbrev pub next_number : Tally → ℕ
 next_number tally = 1 + length tally.index
-
-abbrev pub numbering_of : Tally → Numbering
-numbering_of tally = record { next = next_number tally; moves = tally.moves }
 
 -- the number that a move has so far
 abbrev pub known_number : List Numbered → Option ℕ → Option ℕ
@@ -47,45 +41,29 @@ mentioned_again counts number index =
 abbrev pub mentioned : ℕ → Tally → Mention → Option ℕ → Tally
 mentioned part tally mention None = record {
   index = tally.index ++ revision_of part (mention ∷ []) mention (next_number tally) ∷ [];
-  labels = tally.labels;
   moves = with_move mention.move (next_number tally) tally.moves;
 }
 mentioned part tally mention (Some number) = record {
   index = mentioned_again mention.counts number tally.index;
-  labels = tally.labels;
   moves = tally.moves;
 }
 
 abbrev pub mentioned_by : ℕ → Tally → Mention → Tally
 mentioned_by part tally mention = mentioned part tally mention (known_number tally.moves mention.move)
 
--- with the label of an element more
-abbrev pub labelled : Kind → ℕ → Tally → Tally
-labelled kind number tally = record {
-  index = tally.index;
-  labels = tally.labels ++ record { kind = kind; rev = number } ∷ [];
-  moves = tally.moves;
-}
-
--- the number of the revision that is mentioned
-abbrev pub number_of : Tally → Mention → ℕ
-number_of tally mention = unwrap_or (known_number tally.moves mention.move) (next_number tally)
-
 -- after one element more, in this part
-abbrev pub noted_by : ℕ → Tally → Kind → Option Mention → Tally
-noted_by part tally kind None = labelled kind 0 tally
-noted_by part tally kind (Some mention) =
-    labelled kind (number_of tally mention) (mentioned_by part tally mention)
+abbrev pub noted_by : ℕ → Tally → Option Mention → Tally
+noted_by part tally None = tally
+noted_by part tally (Some mention) = mentioned_by part tally mention
 
 abbrev pub noted : ℕ → Tally → Sight → Tally
-noted part tally sight = noted_by part tally sight.kind sight.mention
+noted part tally sight = noted_by part tally sight.mention
 
 abbrev pub noted_all : ℕ → Tally → List Sight → Tally
 noted_all part tally [] = tally
 noted_all part tally (sight ∷ sights) = noted_all part (noted part tally sight) sights
 
--- what code has found is that, and what it keeps of the revisions stands for them
-pub record IsTally {K : Type 0} (stands_for : K → List Revision → Type 0) (found : Found K) (tally : Tally) : Type 0 where
-  pub kept : stands_for found.kept tally.index
-  pub labels : found.labels ≡ tally.labels
+-- what code has found is that
+pub record IsTally (found : Found) (tally : Tally) : Type 0 where
+  pub index : found.index ≡ tally.index
   pub moves : (start : ℕ) → get nat_eq found.moves start ≡ number_of_move tally.moves start

@@ -6,7 +6,9 @@ ghost use Rattle.redl_index.specs.Numbers.{numbered_package, package_revisions};
 ghost use Rattle.redl_index.specs.Revisions.{AreNumbered, IsInStory, IsTold, revisions_of};
 ghost use Rattle.redl_index.specs.Tallies.{mentioned_again, replaced};
 
-use crate::numbering::number_keeping;
+use crate::find::find_in_stories;
+use crate::known::known_stories;
+use crate::label::label_stories;
 use crate::revision::Revision;
 use redl_opc::Package;
 use std::alloc::{AllocError, Global};
@@ -75,7 +77,9 @@ impl Index {
         ensures text { OnOk result (text pkg.new ≡ text pkg.old) }
         ensures unchanged { OnErr result (pkg.new ≡ pkg.old) }
     {
-        let index = number_keeping(alloc, pkg)?;
+        let known = known_stories(alloc, pkg)?;
+        let index = find_in_stories(alloc, pkg, &known)?;
+        label_stories(pkg, known);
         Ok(index)
     }
 

@@ -10,10 +10,12 @@ mod context;
 mod find;
 mod found;
 mod index;
-mod kept;
 mod kind_names;
+mod known;
+mod label;
 mod laws;
 mod numbering;
+mod numbers;
 mod revision;
 mod story;
 

@@ -21,11 +21,11 @@ use redl_stamp::has_attribute;
 use redl_tree::{Around, Elem, Kind, Trace, is_range_edge};
 
 /// A story whose markers are known: the number of its part, its moves, and the attributes of its markers.
-#[derive(Drop)]
-pub(crate) struct Story<'a> {
+#[derive(Clone, Copy)]
+pub(crate) struct Story<'s, 'a> {
     pub(crate) part: u32,
-    pub(crate) moves: Moves,
-    pub(crate) tails: Vec<&'a [u8]>,
+    pub(crate) moves: &'s Moves,
+    pub(crate) tails: &'s [&'a [u8]],
 }
 
 /// The kind of an element, and where the move starts that it is in.
@@ -35,7 +35,7 @@ pub(crate) struct Sight {
     pub(crate) start: Option<Start>,
 }
 
-impl<'a> Story<'a> {
+impl<'a> Story<'_, 'a> {
     /// The attributes of the marker at a place among the markers.
     pub(crate) fn tail(&self, place: u32) -> &'a [u8]
         ensures { result.now ≡ get_or (tails_in self.now) place [] }
@@ -45,16 +45,18 @@ impl<'a> Story<'a> {
             None => b"",
         }
     }
+}
 
-    /// What an element is that has its start tag at this position.
-    pub(crate) fn sight(&self, elem: &Elem, here: Context, at: u64) -> Sight
+impl Sight {
+    /// What an element is that has its start tag at this position, in a story with these moves.
+    pub(crate) fn of(moves: &Moves, elem: &Elem, here: Context, at: u64) -> Sight
         ensures named { IfSome (kind_of result.kind) (λ named. IsTrue (is_named named)) }
-        ensures kind { (above : List Spot) (kids : Nodes) → here ≡ context_of above → IsFree self.now.moves (seen_one above at (tag_of elem.now) kids)
-            → result.kind ≡ whole_role attribute_value (pairs self.now.moves) (seen_one above at (tag_of elem.now) kids) }
-        ensures start { (above : List Spot) (kids : Nodes) → here ≡ context_of above → IsFree self.now.moves (seen_one above at (tag_of elem.now) kids)
-            → result.start ≡ option_map (start_in self.now.moves) (move_of attribute_value (pairs self.now.moves) (seen_one above at (tag_of elem.now) kids)) }
+        ensures kind { (ancestors : List Spot) (kids : Nodes) → here ≡ context_of ancestors → IsFree moves.now (seen_one ancestors at (tag_of elem.now) kids)
+            → result.kind ≡ whole_role attribute_value (pairs moves.now) (seen_one ancestors at (tag_of elem.now) kids) }
+        ensures start { (ancestors : List Spot) (kids : Nodes) → here ≡ context_of ancestors → IsFree moves.now (seen_one ancestors at (tag_of elem.now) kids)
+            → result.start ≡ option_map (start_in moves.now) (move_of attribute_value (pairs moves.now) (seen_one ancestors at (tag_of elem.now) kids)) }
     {
-        let marker = self.marker(elem, here.around, at);
+        let marker = marker(moves, elem, here.around, at);
         if marker.is_some() {
             return Sight {
                 kind: Kind::Marker,
@@ -64,43 +66,43 @@ impl<'a> Story<'a> {
         let kind = here.around.role(elem);
         Sight {
             kind,
-            start: self.member(kind, at, here.para_end),
+            start: member(moves, kind, at, here.para_end),
         }
     }
+}
 
-    /// Where the move starts of which an element is a marker.
-    fn marker(&self, elem: &Elem, around: Around, at: u64) -> Option<Start>
-        ensures { (above : List Spot) (kids : Nodes) → around ≡ around_of (tags_of above)
-            → result ≡ option_map (start_in self.now.moves) (move_of_marker attribute_value (pairs self.now.moves) (seen_one above at (tag_of elem.now) kids)) }
-    {
-        if is_marker(elem, around) {
-            self.moves.at_marker(at)
-        } else {
-            None
-        }
+/// Where the move starts of which an element is a marker.
+fn marker(moves: &Moves, elem: &Elem, around: Around, at: u64) -> Option<Start>
+    ensures { (ancestors : List Spot) (kids : Nodes) → around ≡ around_of (tags_of ancestors)
+        → result ≡ option_map (start_in moves.now) (move_of_marker attribute_value (pairs moves.now) (seen_one ancestors at (tag_of elem.now) kids)) }
+{
+    if is_marker(elem, around) {
+        moves.at_marker(at)
+    } else {
+        None
     }
+}
 
-    /// Where the move starts of which an element with this role is a member. Content is where it starts, and the mark of a
-    /// paragraph where the paragraph ends.
-    fn member(&self, role: Kind, at: u64, para_end: u64) -> Option<Start>
-        ensures { IsApartAs self.now.moves role at para_end → result ≡ option_map (start_in self.now.moves) (move_by (pairs self.now.moves) role at para_end) }
-    {
-        match role {
-            Kind::Content(trace) => self.open_at(trace, at),
-            Kind::Mark(trace) => self.open_at(trace, para_end),
-            _ => None,
-        }
+/// Where the move starts of which an element with this role is a member. Content is where it starts, and the mark of a paragraph
+/// where the paragraph ends.
+fn member(moves: &Moves, role: Kind, at: u64, para_end: u64) -> Option<Start>
+    ensures { IsApartAs moves.now role at para_end → result ≡ option_map (start_in moves.now) (move_by (pairs moves.now) role at para_end) }
+{
+    match role {
+        Kind::Content(trace) => open_at(moves, trace, at),
+        Kind::Mark(trace) => open_at(moves, trace, para_end),
+        _ => None,
     }
+}
 
-    /// Where the move starts that something with this trace is in at this position.
-    fn open_at(&self, trace: Trace, at: u64) -> Option<Start>
-        ensures { IsApart at self.now.moves → result ≡ option_map (start_in self.now.moves) (move_at (pairs self.now.moves) trace at) }
-    {
-        match trace {
-            Trace::From => self.moves.open_at(Half::From, at),
-            Trace::To => self.moves.open_at(Half::To, at),
-            _ => None,
-        }
+/// Where the move starts that something with this trace is in at this position.
+fn open_at(moves: &Moves, trace: Trace, at: u64) -> Option<Start>
+    ensures { IsApart at moves.now → result ≡ option_map (start_in moves.now) (move_at (pairs moves.now) trace at) }
+{
+    match trace {
+        Trace::From => moves.open_at(Half::From, at),
+        Trace::To => moves.open_at(Half::To, at),
+        _ => None,
     }
 }
 

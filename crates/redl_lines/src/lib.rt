@@ -15,6 +15,3 @@ pub use end::{End, RefusedEntries};
 pub use failure::{Cause, Failure, Limit, PackageFault};
 pub use lines::tell;
 pub use status::Status;
-
-#[cfg(test)]
-mod tests;

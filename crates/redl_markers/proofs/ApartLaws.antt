@@ -55,17 +55,17 @@ pub record Free (value : Value) (lo hi : ℕ) (ms : List Marking) (x : Seen) : T
   pub end : Apart x.own.end ms
 
 module _ (value : Value) where
-  pub seen-free : (above : List Spot) (at : ℕ) (nodes : Nodes) →
-      Every (Free value at (at + tags nodes) (filter_map (marker_of value) (seen_from above at nodes))) (seen_from above at nodes)
-  seen-free above at no_nodes = tt
-  seen-free above at (bytes b rest) = seen-free above at rest
-  seen-free above at (element tag kids rest) =
+  pub seen-free : (ancestors : List Spot) (at : ℕ) (nodes : Nodes) →
+      Every (Free value at (at + tags nodes) (filter_map (marker_of value) (seen_from ancestors at nodes))) (seen_from ancestors at nodes)
+  seen-free ancestors at no_nodes = tt
+  seen-free ancestors at (bytes b rest) = seen-free ancestors at rest
+  seen-free ancestors at (element tag kids rest) =
       let find = filter_map (marker_of value) in
-      let it = seen_one above at tag kids in
-      let inner = seen_from (spot at tag kids ∷ above) (at + 1) kids in
-      let outer = seen_from above (at + 2 + tags kids) rest in
-      let in_kids = markers-between value (spot at tag kids ∷ above) (at + 1) kids in
-      let in_rest = markers-between value above (at + 2 + tags kids) rest in
+      let it = seen_one ancestors at tag kids in
+      let inner = seen_from (spot at tag kids ∷ ancestors) (at + 1) kids in
+      let outer = seen_from ancestors (at + 2 + tags kids) rest in
+      let in_kids = markers-between value (spot at tag kids ∷ ancestors) (at + 1) kids in
+      let in_rest = markers-between value ancestors (at + 2 + tags kids) rest in
       let hi = at + (2 + tags kids + tags rest) in
       let all = cons_option (marker_of value it) (find (inner ++ outer)) in
       let F : Seen → Type 0 = Free value at hi all in
@@ -94,7 +94,7 @@ module _ (value : Value) where
               end = whole x.own.end (λ m e i. absurd (omega (arith, marker-at value it m e, i, f.low, f.order))) f.end
                   (apart-below x.own.end (at + 2 + tags kids) (at + 2 + tags kids + tags rest) (find outer) in_rest (omega (arith, f.high)));
             })
-            (seen-free (spot at tag kids ∷ above) (at + 1) kids))
+            (seen-free (spot at tag kids ∷ ancestors) (at + 1) kids))
             (every-more (Free value (at + 2 + tags kids) (at + 2 + tags kids + tags rest) (find outer)) F outer
             (λ x f. record {
               low = omega (arith, f.low);
@@ -105,7 +105,7 @@ module _ (value : Value) where
               end = whole x.own.end (λ m e i. absurd (omega (arith, marker-at value it m e, i, f.low, f.order)))
                   (apart-above x.own.end (at + 1) (at + 1 + tags kids) (find inner) in_kids (omega (arith, f.low, f.order))) f.end;
             })
-            (seen-free above (at + 2 + tags kids) rest)),
+            (seen-free ancestors (at + 2 + tags kids) rest)),
       )
     where
       none_some : {A : Type 0} (x : A) → None ≡ Some x → ⊥

@@ -35,32 +35,32 @@ every-both : {X : Type 0} (P Q R : X → Type 0) (xs : List X) → ((x : X) → 
 every-both P Q R [] f p q = tt
 every-both P Q R (x ∷ xs) f p q = (f x p.0 q.0, every-both P Q R xs f p.1 q.1)
 
-module _ (P : Seen → Type 0) (above : List Spot) (at next : ℕ) (x : Item) (rest nodes : Nodes) (moved : next ≡ at + item_tags x) (splits : nodes ≡ in_front x rest) where
+module _ (P : Seen → Type 0) (ancestors : List Spot) (at next : ℕ) (x : Item) (rest nodes : Nodes) (moved : next ≡ at + item_tags x) (splits : nodes ≡ in_front x rest) where
   -- of the nodes that are left: of the first of them, and of those after it
-  pub every-step : Every P (seen_from above at nodes) → Every P (item_seen above at x) × Every P (seen_from above next rest)
+  pub every-step : Every P (seen_from ancestors at nodes) → Every P (item_seen ancestors at x) × Every P (seen_from ancestors next rest)
   every-step all =
-      let whole : Every P (item_seen above at x ++ seen_from above (at + item_tags x) rest) =
-      subst (Every P) (ap (seen_from above at) splits ∙ seen-in_front above at x rest) all in
-      let later : ℕ → Type 0 = λ n. Every P (seen_from above n rest) in (
-        every-left P (item_seen above at x) (seen_from above (at + item_tags x) rest) whole,
-        subst later (sym moved) (every-right P (item_seen above at x) (seen_from above (at + item_tags x) rest) whole),
+      let whole : Every P (item_seen ancestors at x ++ seen_from ancestors (at + item_tags x) rest) =
+      subst (Every P) (ap (seen_from ancestors at) splits ∙ seen-in_front ancestors at x rest) all in
+      let later : ℕ → Type 0 = λ n. Every P (seen_from ancestors n rest) in (
+        every-left P (item_seen ancestors at x) (seen_from ancestors (at + item_tags x) rest) whole,
+        subst later (sym moved) (every-right P (item_seen ancestors at x) (seen_from ancestors (at + item_tags x) rest) whole),
       )
 
 -- ---- the ends of the ancestors
 
-above-free : (marks : List Marking) (above : List Spot) (at : ℕ) (nodes : Nodes) → AreFreeEnds marks above →
-    Every (λ (x : Seen). IsApart x.own.end marks) (seen_from above at nodes) → Every (λ (x : Seen). AreFreeEnds marks x.above) (seen_from above at nodes)
-above-free marks above at no_nodes ends own = tt
-above-free marks above at (bytes b rest) ends own = above-free marks above at rest ends own
-above-free marks above at (element tag kids rest) ends own =
+above-free : (marks : List Marking) (ancestors : List Spot) (at : ℕ) (nodes : Nodes) → AreFreeEnds marks ancestors →
+    Every (λ (x : Seen). IsApart x.own.end marks) (seen_from ancestors at nodes) → Every (λ (x : Seen). AreFreeEnds marks x.ancestors) (seen_from ancestors at nodes)
+above-free marks ancestors at no_nodes ends own = tt
+above-free marks ancestors at (bytes b rest) ends own = above-free marks ancestors at rest ends own
+above-free marks ancestors at (element tag kids rest) ends own =
     let P : Seen → Type 0 = λ x. IsApart x.own.end marks in
-    let Q : Seen → Type 0 = λ x. AreFreeEnds marks x.above in
-    let inner = seen_from (spot at tag kids ∷ above) (at + 1) kids in
-    let outer = seen_from above (at + 2 + tags kids) rest in (
+    let Q : Seen → Type 0 = λ x. AreFreeEnds marks x.ancestors in
+    let inner = seen_from (spot at tag kids ∷ ancestors) (at + 1) kids in
+    let outer = seen_from ancestors (at + 2 + tags kids) rest in (
       ends,
       every-joined Q inner outer
-          (above-free marks (spot at tag kids ∷ above) (at + 1) kids (own.0, ends) (every-left P inner outer own.1))
-          (above-free marks above (at + 2 + tags kids) rest ends (every-right P inner outer own.1)),
+          (above-free marks (spot at tag kids ∷ ancestors) (at + 1) kids (own.0, ends) (every-left P inner outer own.1))
+          (above-free marks ancestors (at + 2 + tags kids) rest ends (every-right P inner outer own.1)),
     )
   where
     every-joined : (P : Seen → Type 0) (xs ys : List Seen) → Every P xs → Every P ys → Every P (xs ++ ys)
@@ -87,13 +87,13 @@ module _ (root : Tag) (kids : Nodes) where
   pub story-free : Every (IsFree all) (seen root kids)
   story-free =
       let End : Seen → Type 0 = λ x. IsApart x.own.end all in
-      let Above : Seen → Type 0 = λ x. AreFreeEnds all x.above in
+      let Above : Seen → Type 0 = λ x. AreFreeEnds all x.ancestors in
       let ends = every-both Own Own End (seen root kids) (λ x f g. apart-is x.own.end all f.end) own-free own-free in
       every-both Own Above (IsFree all) (seen root kids)
       (λ x f a. record {
         start = λ none. apart-is x.own.start all (f.start none);
         end = apart-is x.own.end all f.end;
-        above = a;
+        ancestors = a;
       })
       own-free (above-free all (root_spots root kids) 1 kids (root-end, tt) ends)
 
@@ -124,11 +124,11 @@ edge-none tag e = by (is "moveFromRangeStart" tag) (is "moveFromRangeEnd" tag) (
 -- an element that says what was done to content is no marker
 pub trace-no_marker : (x : Seen) (t : Trace) → trace_of x.own.tag ≡ Some t → marker_of attribute_value x ≡ None
 trace-no_marker x t e =
-    ap (λ edge. if is_open (tags_of x.above) then option_and_then (λ edge. option_map (marking attribute_value x edge) (attribute_value x.own.tag.tail (codes "id"))) edge else None)
+    ap (λ edge. if is_open (tags_of x.ancestors) then option_and_then (λ edge. option_map (marking attribute_value x edge) (attribute_value x.own.tag.tail (codes "id"))) edge else None)
     (edge-none x.own.tag
     (is_any-apart ("ins" ∷ "del" ∷ "moveFrom" ∷ "moveTo" ∷ [])
     ("moveFromRangeStart" ∷ "moveFromRangeEnd" ∷ "moveToRangeStart" ∷ "moveToRangeEnd" ∷ []) x.own.tag (traced x.own.tag t e) refl))
-    ∙ none (is_open (tags_of x.above))
+    ∙ none (is_open (tags_of x.ancestors))
   where
     no_mark : Option Marking
     no_mark = None
@@ -153,26 +153,26 @@ cell-no_matter false t ks h = h
 cell-no_matter true None ks h = h
 cell-no_matter true (Some t) ks h = refl
 
-change-no_matter : (around : List Tag) (prop : Option Prop) → is_matter (first_role (change_at around prop ∷ [])) ≡ false
-change-no_matter around None = refl
-change-no_matter around (Some prop) = by (in_props prop around)
+change-no_matter : (ancestors : List Tag) (prop : Option Prop) → is_matter (first_role (change_at ancestors prop ∷ [])) ≡ false
+change-no_matter ancestors None = refl
+change-no_matter ancestors (Some prop) = by (in_props prop ancestors)
   where
     by : (b : Bool) → is_matter (first_role (placed b (Some (Change prop)) ∷ [])) ≡ false
     by true = refl
     by false = refl
 
-matter-traced : (around : List Tag) (tag : Tag) → is_matter (role around tag) ≡ true → (t : Trace) × (trace_of tag ≡ Some t)
-matter-traced around tag e = by (trace_of tag) refl (is_open around) (in_mark_props around) e
+matter-traced : (ancestors : List Tag) (tag : Tag) → is_matter (role ancestors tag) ≡ true → (t : Trace) × (trace_of tag ≡ Some t)
+matter-traced ancestors tag e = by (trace_of tag) refl (is_open ancestors) (in_mark_props ancestors) e
   where
     later : List (Option Kind)
     later =
-        placed (in_row_props around) (option_map Row (row_trace_of tag)) ∷ placed (in_cell_props around) (option_map Cell (cell_trace_of tag))
-        ∷ change_at around (prop_of tag) ∷ []
+        placed (in_row_props ancestors) (option_map Row (row_trace_of tag)) ∷ placed (in_cell_props ancestors) (option_map Cell (cell_trace_of tag))
+        ∷ change_at ancestors (prop_of tag) ∷ []
 
     none : is_matter (first_role later) ≡ false
     none =
-        row-no_matter (in_row_props around) (row_trace_of tag) _
-        (cell-no_matter (in_cell_props around) (cell_trace_of tag) _ (change-no_matter around (prop_of tag)))
+        row-no_matter (in_row_props ancestors) (row_trace_of tag) _
+        (cell-no_matter (in_cell_props ancestors) (cell_trace_of tag) _ (change-no_matter ancestors (prop_of tag)))
 
     by : (o : Option Trace) → trace_of tag ≡ o → (a b : Bool) →
         is_matter (first_role (placed a (option_map Content o) ∷ placed b (option_map Mark o) ∷ later)) ≡ true → (t : Trace) × (trace_of tag ≡ Some t)
@@ -184,18 +184,18 @@ matter-traced around tag e = by (trace_of tag) refl (is_open around) (in_mark_pr
 
 module _ (marks : List Marking) (x : Seen) (free : IsFree marks x) where
   own-apart : is_matter (own_role x) ≡ true → IsApart x.own.start marks
-  own-apart e = let t = matter-traced (tags_of x.above) x.own.tag e in free.start (trace-no_marker x t.0 t.1)
+  own-apart e = let t = matter-traced (tags_of x.ancestors) x.own.tag e in free.start (trace-no_marker x t.0 t.1)
 
   -- no marker is where content is
   pub content-apart : (t : Trace) → own_role x ≡ Content t → IsApart x.own.start marks
   content-apart t e = own-apart (ap is_matter e)
 
   -- nor where the mark of a paragraph is
-  pub mark-apart : (t : Trace) → own_role x ≡ Mark t → IsApart (mark_end x.own.start x.above) marks
-  mark-apart t e = by x.above free.above
+  pub mark-apart : (t : Trace) → own_role x ≡ Mark t → IsApart (mark_end x.own.start x.ancestors) marks
+  mark-apart t e = by x.ancestors free.ancestors
     where
-      by : (above : List Spot) → AreFreeEnds marks above → IsApart (mark_end x.own.start above) marks
+      by : (ancestors : List Spot) → AreFreeEnds marks ancestors → IsApart (mark_end x.own.start ancestors) marks
       by [] a = own-apart (ap is_matter e)
       by (r ∷ []) a = own-apart (ap is_matter e)
       by (r ∷ q ∷ []) a = own-apart (ap is_matter e)
-      by (r ∷ q ∷ p ∷ above) a = a.1.1.0
+      by (r ∷ q ∷ p ∷ ancestors) a = a.1.1.0

@@ -27,7 +27,7 @@ joined lo mid hi [] ys l h b c = lower lo mid hi ys l c
 joined lo mid hi (m ∷ xs) ys l h b c = (b.0, omega (arith, h, b.1), joined (m.at + 1) mid hi xs ys (omega (arith, b.1)) h b.2 c)
 
 pub marker-at : (value : Value) (seen : Seen) (m : Marking) → marker_of value seen ≡ Some m → m.at ≡ seen.own.start
-marker-at value seen m e = by (is_open (tags_of seen.above)) (edge_of seen.own.tag) (value seen.own.tag.tail (codes "id")) e
+marker-at value seen m e = by (is_open (tags_of seen.ancestors)) (edge_of seen.own.tag) (value seen.own.tag.tail (codes "id")) e
   where
     by : (b : Bool) (edge : Option Edge) (id : Option (List ℕ)) →
         (if b then option_and_then (λ edge. option_map (marking value seen edge) id) edge else None) ≡ Some m → m.at ≡ seen.own.start
@@ -41,20 +41,20 @@ first at hi None ms own h b = lower at (at + 1) hi ms (omega arith) b
 first at hi (Some m) ms own h b =
     let is = own m refl in (omega (arith, is), omega (arith, is, h), lower (m.at + 1) (at + 1) hi ms (omega (arith, is)) b)
 
-pub markers-between : (value : Value) (above : List Spot) (at : ℕ) (nodes : Nodes) →
-    Between at (at + tags nodes) (filter_map (marker_of value) (seen_from above at nodes))
-markers-between value above at no_nodes = tt
-markers-between value above at (bytes b rest) = markers-between value above at rest
-markers-between value above at (element tag kids rest) =
-    let inner = seen_from (spot at tag kids ∷ above) (at + 1) kids in
-    let outer = seen_from above (at + 2 + tags kids) rest in
+pub markers-between : (value : Value) (ancestors : List Spot) (at : ℕ) (nodes : Nodes) →
+    Between at (at + tags nodes) (filter_map (marker_of value) (seen_from ancestors at nodes))
+markers-between value ancestors at no_nodes = tt
+markers-between value ancestors at (bytes b rest) = markers-between value ancestors at rest
+markers-between value ancestors at (element tag kids rest) =
+    let inner = seen_from (spot at tag kids ∷ ancestors) (at + 1) kids in
+    let outer = seen_from ancestors (at + 2 + tags kids) rest in
     let find = filter_map (marker_of value) in
     let hi = at + (2 + tags kids + tags rest) in
-    let below = higher (at + 1) (at + 1 + tags kids) (at + 2 + tags kids) (find inner) (omega arith) (markers-between value (spot at tag kids ∷ above) (at + 1) kids) in
-    let later = higher (at + 2 + tags kids) (at + 2 + tags kids + tags rest) hi (find outer) (omega arith) (markers-between value above (at + 2 + tags kids) rest) in
+    let below = higher (at + 1) (at + 1 + tags kids) (at + 2 + tags kids) (find inner) (omega arith) (markers-between value (spot at tag kids ∷ ancestors) (at + 1) kids) in
+    let later = higher (at + 2 + tags kids) (at + 2 + tags kids + tags rest) hi (find outer) (omega arith) (markers-between value ancestors (at + 2 + tags kids) rest) in
     let both = joined (at + 1) (at + 2 + tags kids) hi (find inner) (find outer) (omega arith) (omega arith) below later in
     let P : List Marking → Type 0 = Between (at + 1) hi in
-    first at hi (marker_of value (seen_one above at tag kids)) (find (inner ++ outer)) (marker-at value (seen_one above at tag kids)) (omega arith)
+    first at hi (marker_of value (seen_one ancestors at tag kids)) (find (inner ++ outer)) (marker-at value (seen_one ancestors at tag kids)) (omega arith)
     (subst P (sym (filter_map-append (marker_of value) inner outer)) both)
 
 pub between-rises : (lo hi : ℕ) (ms : List Marking) → Between lo hi ms → RisesFrom lo ms
@@ -65,5 +65,5 @@ pub between-few : (lo hi : ℕ) (ms : List Marking) → lo ≤ hi → Between lo
 between-few lo hi [] h b = omega (arith, h)
 between-few lo hi (m ∷ ms) h b = omega (arith, b.0, b.1, between-few (m.at + 1) hi ms (omega (arith, b.1)) b.2)
 
-pub story-between : (value : Value) (above : List Spot) (nodes : Nodes) → Between 0 (1 + tags nodes) (filter_map (marker_of value) (seen_from above 1 nodes))
-story-between value above nodes = lower 0 1 (1 + tags nodes) (filter_map (marker_of value) (seen_from above 1 nodes)) (omega arith) (markers-between value above 1 nodes)
+pub story-between : (value : Value) (ancestors : List Spot) (nodes : Nodes) → Between 0 (1 + tags nodes) (filter_map (marker_of value) (seen_from ancestors 1 nodes))
+story-between value ancestors nodes = lower 0 1 (1 + tags nodes) (filter_map (marker_of value) (seen_from ancestors 1 nodes)) (omega arith) (markers-between value ancestors 1 nodes)

@@ -12,13 +12,13 @@ tags-count (bytes b rest) = omega (arith, tags-count rest)
 tags-count (element tag kids rest) = omega (arith, tags-count kids, tags-count rest)
 
 -- each element is a node
-pub seen-count : (above : List Spot) (at : ℕ) (nodes : Nodes) → length (seen_from above at nodes) ≤ count nodes
-seen-count above at no_nodes = omega arith
-seen-count above at (bytes b rest) = omega (arith, seen-count above at rest)
-seen-count above at (element tag kids rest) =
-    let inner = seen_from (spot at tag kids ∷ above) (at + 1) kids in
-    let outer = seen_from above (at + 2 + tags kids) rest in
-    omega (arith, length-append inner outer, seen-count (spot at tag kids ∷ above) (at + 1) kids, seen-count above (at + 2 + tags kids) rest)
+pub seen-count : (ancestors : List Spot) (at : ℕ) (nodes : Nodes) → length (seen_from ancestors at nodes) ≤ count nodes
+seen-count ancestors at no_nodes = omega arith
+seen-count ancestors at (bytes b rest) = omega (arith, seen-count ancestors at rest)
+seen-count ancestors at (element tag kids rest) =
+    let inner = seen_from (spot at tag kids ∷ ancestors) (at + 1) kids in
+    let outer = seen_from ancestors (at + 2 + tags kids) rest in
+    omega (arith, length-append inner outer, seen-count (spot at tag kids ∷ ancestors) (at + 1) kids, seen-count ancestors (at + 2 + tags kids) rest)
 
 found-few : {X Y : Type 0} (find : X → Option Y) (xs : List X) → length (filter_map find xs) ≤ length xs
 found-few find [] = omega arith
@@ -29,8 +29,8 @@ found-few {Y = Y} find (x ∷ xs) = by (find x) (found-few find xs)
     by (Some y) h = omega (arith, h)
 
 -- what is found among nodes is at most as much as the nodes
-pub few-found : {X : Type 0} (find : Seen → Option X) (above : List Spot) (at : ℕ) (nodes : Nodes) → length (filter_map find (seen_from above at nodes)) ≤ count nodes
-few-found find above at nodes = omega (arith, found-few find (seen_from above at nodes), seen-count above at nodes)
+pub few-found : {X : Type 0} (find : Seen → Option X) (ancestors : List Spot) (at : ℕ) (nodes : Nodes) → length (filter_map find (seen_from ancestors at nodes)) ≤ count nodes
+few-found find ancestors at nodes = omega (arith, found-few find (seen_from ancestors at nodes), seen-count ancestors at nodes)
 
 -- where nothing was found before
 pub from-none : {X Y : Type 0} (f : X → Y) (old : List X) (all more : List Y) → old ≡ [] → all ≡ map f old ++ more → all ≡ more

@@ -16,13 +16,13 @@ use Rattle.redl_markers.proofs.ApartLaws.{every-append}
 abbrev pub HasUtf8Tail : Seen → Type 0
 HasUtf8Tail x = IsUtf8 x.own.tag.tail
 
-pub utf8-seen : (above : List Spot) (at : ℕ) (nodes : Nodes) → HasUtf8Tails nodes → Every HasUtf8Tail (seen_from above at nodes)
-utf8-seen above at no_nodes h = tt
-utf8-seen above at (bytes b rest) h = utf8-seen above at rest h
-utf8-seen above at (element tag kids rest) h = (
+pub utf8-seen : (ancestors : List Spot) (at : ℕ) (nodes : Nodes) → HasUtf8Tails nodes → Every HasUtf8Tail (seen_from ancestors at nodes)
+utf8-seen ancestors at no_nodes h = tt
+utf8-seen ancestors at (bytes b rest) h = utf8-seen ancestors at rest h
+utf8-seen ancestors at (element tag kids rest) h = (
   h.0,
-  every-append HasUtf8Tail (seen_from (spot at tag kids ∷ above) (at + 1) kids) (seen_from above (at + 2 + tags kids) rest)
-      (utf8-seen (spot at tag kids ∷ above) (at + 1) kids h.1) (utf8-seen above (at + 2 + tags kids) rest h.2),
+  every-append HasUtf8Tail (seen_from (spot at tag kids ∷ ancestors) (at + 1) kids) (seen_from ancestors (at + 2 + tags kids) rest)
+      (utf8-seen (spot at tag kids ∷ ancestors) (at + 1) kids h.1) (utf8-seen ancestors (at + 2 + tags kids) rest h.2),
 )
 
 found-tails : (xs : List Seen) → Every HasUtf8Tail xs → All IsUtf8 (filter_map marker_tail xs)

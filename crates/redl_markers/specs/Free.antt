@@ -19,4 +19,4 @@ AreFreeEnds marks spots = Every (λ (spot : Spot). IsApart spot.end marks) spots
 pub record IsFree (marks : List Marking) (x : Seen) : Type 0 where
   pub start : marker_of attribute_value x ≡ None → IsApart x.own.start marks
   pub end : IsApart x.own.end marks
-  pub above : AreFreeEnds marks x.above
+  pub ancestors : AreFreeEnds marks x.ancestors

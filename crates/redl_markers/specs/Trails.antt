@@ -3,7 +3,7 @@ use Rattle.std.specs.Prelude.{List, Bool, false, ◌&&◌, ◌||◌, not, is_som
 use Rattle.std.specs.List.{list_any}
 use Prim.Native.String.{String}
 use Rattle.redl_tree.specs.Model.Nodes.{Tag, Nodes, Item, bytes_item, element_item}
-use Rattle.redl_tree.specs.Model.Kids.{some_element}
+use Rattle.redl_tree.specs.Model.Kids.{some_element, has_element}
 use Rattle.redl_tree.specs.Roles.Names.{is}
 use Rattle.redl_tree.specs.Roles.Places.{is_quiet, trace_of}
 use Rattle.redl_tree.specs.Roles.Lists.{into, inside, nowhere, place, is_direct, is_rows, is_cells}
@@ -14,11 +14,11 @@ use Rattle.redl_markers.specs.declared.trail.Trail.{Trail}
 
 -- the trail of an element with these ancestors, the nearest first
 abbrev pub trail_of : List Spot → Trail
-trail_of above = record {
-  quiet = list_any is_quiet (tags_of above);
-  place = place (tags_of above);
-  revised = list_any is_revised above;
-  astray = any_leaves_grid (tags_of above);
+trail_of ancestors = record {
+  quiet = list_any is_quiet (tags_of ancestors);
+  place = place (tags_of ancestors);
+  revised = list_any is_revised ancestors;
+  astray = any_leaves_grid (tags_of ancestors);
 }
 
 -- the node is an element with this name, and some kid of it passes
@@ -45,11 +45,15 @@ leaves_grid_at here tag = is_in_grid here && not (is_own_at here tag) && not (is
 -- the same with this element as the nearest ancestor
 abbrev pub inside_trail : Tag → Nodes → Trail → Trail
 inside_trail tag kids here = record {
-  quiet = is_quiet tag || here.quiet;
-  place = if not (is_quiet tag || here.quiet) then inside tag here.place else nowhere;
-  revised = is_revised_by tag kids || here.revised;
-  astray = leaves_grid_at here.place tag || here.astray;
+  quiet = here.quiet || is_quiet tag;
+  place = if not (here.quiet || is_quiet tag) then inside tag here.place else nowhere;
+  revised = here.revised || is_revised_by tag kids;
+  astray = here.astray || leaves_grid_at here.place tag;
 }
+
+-- the same, but for an element that holds no element: below it there is nothing to know
+abbrev pub trail_below : Tag → Nodes → Trail → Trail
+trail_below tag kids here = if has_element kids then inside_trail tag kids here else here
 
 -- a marker here is loose
 abbrev pub is_loose_at : Trail → Bool

@@ -35,11 +35,11 @@ item_tags (element_item tag kids) = 2 + tags kids
 
 -- the elements in an element, itself included
 abbrev pub element_seen : List Spot → ℕ → Tag → Nodes → List Seen
-element_seen above at tag kids = seen_one above at tag kids ∷ seen_from (spot at tag kids ∷ above) (at + 1) kids
+element_seen ancestors at tag kids = seen_one ancestors at tag kids ∷ seen_from (spot at tag kids ∷ ancestors) (at + 1) kids
 
 abbrev pub item_seen : List Spot → ℕ → Item → List Seen
-item_seen above at (bytes_item b) = []
-item_seen above at (element_item tag kids) = element_seen above at tag kids
+item_seen ancestors at (bytes_item b) = []
+item_seen ancestors at (element_item tag kids) = element_seen ancestors at tag kids
 
 -- the ends of the paragraphs in an element, itself included
 abbrev pub element_ends : ℕ → Tag → Nodes → List ℕ

@@ -67,10 +67,10 @@ fn find_in_nodes<'a>(
     requires fits { first + tags (nodes_of nodes.now) < 2 ^ 64 }
     ensures after { IfOk result (λ after. after ≡ first + tags (nodes_of nodes.now)) }
     ensures ends { OnOk result (found.new.ends.items ≡ found.old.ends.items ++ ends_from first (nodes_of nodes.now)) }
-    ensures marks { OnOk result ((above : List Spot) → trail ≡ trail_of above
-        → markings found.new.marks.items ≡ markings found.old.marks.items ++ filter_map (marker_of attribute_value) (seen_from above first (nodes_of nodes.now))) }
-    ensures tails { OnOk result ((above : List Spot) → trail ≡ trail_of above
-        → map (λ tail. tail.now) found.new.tails.items ≡ map (λ tail. tail.now) found.old.tails.items ++ filter_map marker_tail (seen_from above first (nodes_of nodes.now))) }
+    ensures marks { OnOk result ((ancestors : List Spot) → trail ≡ trail_of ancestors
+        → markings found.new.marks.items ≡ markings found.old.marks.items ++ filter_map (marker_of attribute_value) (seen_from ancestors first (nodes_of nodes.now))) }
+    ensures tails { OnOk result ((ancestors : List Spot) → trail ≡ trail_of ancestors
+        → map (λ tail. tail.now) found.new.tails.items ≡ map (λ tail. tail.now) found.old.tails.items ++ filter_map marker_tail (seen_from ancestors first (nodes_of nodes.now))) }
 {
     let mut at = first;
     for node in nodes {
@@ -90,10 +90,10 @@ fn find_in_node<'a>(
     requires fits { at + item_tags (item_of node.now) < 2 ^ 64 }
     ensures after { IfOk result (λ after. after ≡ at + item_tags (item_of node.now)) }
     ensures ends { OnOk result (found.new.ends.items ≡ found.old.ends.items ++ item_ends at (item_of node.now)) }
-    ensures marks { OnOk result ((above : List Spot) → trail ≡ trail_of above
-        → markings found.new.marks.items ≡ markings found.old.marks.items ++ filter_map (marker_of attribute_value) (item_seen above at (item_of node.now))) }
-    ensures tails { OnOk result ((above : List Spot) → trail ≡ trail_of above
-        → map (λ tail. tail.now) found.new.tails.items ≡ map (λ tail. tail.now) found.old.tails.items ++ filter_map marker_tail (item_seen above at (item_of node.now))) }
+    ensures marks { OnOk result ((ancestors : List Spot) → trail ≡ trail_of ancestors
+        → markings found.new.marks.items ≡ markings found.old.marks.items ++ filter_map (marker_of attribute_value) (item_seen ancestors at (item_of node.now))) }
+    ensures tails { OnOk result ((ancestors : List Spot) → trail ≡ trail_of ancestors
+        → map (λ tail. tail.now) found.new.tails.items ≡ map (λ tail. tail.now) found.old.tails.items ++ filter_map marker_tail (item_seen ancestors at (item_of node.now))) }
 {
     match node {
         Node::Elem(elem) => find_in_elem(alloc, elem, trail, at, found),
@@ -112,15 +112,15 @@ fn find_in_elem<'a>(
     requires fits { at + (2 + tags (kids_of elem.now)) < 2 ^ 64 }
     ensures after { IfOk result (λ after. after ≡ at + (2 + tags (kids_of elem.now))) }
     ensures ends { OnOk result (found.new.ends.items ≡ found.old.ends.items ++ element_ends at (tag_of elem.now) (kids_of elem.now)) }
-    ensures marks { OnOk result ((above : List Spot) → trail ≡ trail_of above
-        → markings found.new.marks.items ≡ markings found.old.marks.items ++ filter_map (marker_of attribute_value) (element_seen above at (tag_of elem.now) (kids_of elem.now))) }
-    ensures tails { OnOk result ((above : List Spot) → trail ≡ trail_of above
-        → map (λ tail. tail.now) found.new.tails.items ≡ map (λ tail. tail.now) found.old.tails.items ++ filter_map marker_tail (element_seen above at (tag_of elem.now) (kids_of elem.now))) }
+    ensures marks { OnOk result ((ancestors : List Spot) → trail ≡ trail_of ancestors
+        → markings found.new.marks.items ≡ markings found.old.marks.items ++ filter_map (marker_of attribute_value) (element_seen ancestors at (tag_of elem.now) (kids_of elem.now))) }
+    ensures tails { OnOk result ((ancestors : List Spot) → trail ≡ trail_of ancestors
+        → map (λ tail. tail.now) found.new.tails.items ≡ map (λ tail. tail.now) found.old.tails.items ++ filter_map marker_tail (element_seen ancestors at (tag_of elem.now) (kids_of elem.now))) }
 {
     found.add_marker(alloc, elem, trail, at)?;
     let place = found.ends.len();
     note_end(&mut found.ends, elem, at)?;
-    let end = find_in_nodes(alloc, elem.kids(), trail.inside(elem), at + 1, found)?;
+    let end = find_in_nodes(alloc, elem.kids(), trail.below(elem), at + 1, found)?;
     mend_end(&mut found.ends, elem, place, end);
     Ok(end + 1)
 }

@@ -5,10 +5,10 @@ ghost use Rattle.redl_tree.specs.Roles.Lists.{inside, nowhere};
 ghost use Rattle.redl_tree.specs.Revisions.Markers.{is_in_grid as in_grid, is_reached as reached};
 ghost use Rattle.redl_tree.specs.Model.Seen.{Spot};
 ghost use Rattle.redl_tree.specs.Model.View.{tag_of, kids_of};
-ghost use Rattle.redl_markers.specs.Trails.{trail_of, inside_trail, is_loose_at, is_own_at, leaves_grid_at};
+ghost use Rattle.redl_markers.specs.Trails.{trail_of, inside_trail, trail_below, is_loose_at, is_own_at, leaves_grid_at};
 
 use crate::revised::is_revised;
-use redl_tree::{Elem, Lot, Place, Reach, is_named, is_quiet};
+use redl_tree::{Elem, Lot, Place, Reach, has_elements, is_named, is_quiet};
 
 /// What a marker has to know of its ancestors in its story.
 ///
@@ -39,12 +39,23 @@ impl Trail {
     pub(crate) fn inside(self, elem: &Elem) -> Trail
         ensures { result ≡ inside_trail (tag_of elem.now) (kids_of elem.now) self }
     {
-        let quiet = is_quiet(elem) || self.quiet;
+        let quiet = self.quiet || is_quiet(elem);
         Trail {
             quiet,
             place: place_inside(self.place, elem, quiet),
-            revised: is_revised(elem) || self.revised,
-            astray: leaves_grid(self.place, elem) || self.astray,
+            revised: self.revised || is_revised(elem),
+            astray: self.astray || leaves_grid(self.place, elem),
+        }
+    }
+
+    /// The same where the element holds elements. Where it holds none there is nothing to know, and the trail stays as it is.
+    pub(crate) fn below(self, elem: &Elem) -> Trail
+        ensures { result ≡ trail_below (tag_of elem.now) (kids_of elem.now) self }
+    {
+        if has_elements(elem.kids()) {
+            self.inside(elem)
+        } else {
+            self
         }
     }
 

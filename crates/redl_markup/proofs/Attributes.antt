@@ -13,7 +13,7 @@ use Rattle.redl_markup.specs.Names.{Name, name_text, IsName}
 use Rattle.redl_markup.specs.References.{has_references}
 use Rattle.redl_markup.specs.Tails.{IsSpace, Attribute, attribute_then, attributes_then, IsQuote, IsAttribute, named_value}
 use Rattle.redl_markup.specs.ScanNames.{name_at}
-use Rattle.redl_markup.specs.ScanTags.{quote_at, quoted_at, equated_at, is_plain, is_value, attribute_at, attribute_in, ends_tag, Tail, tail_step, attributes_at}
+use Rattle.redl_markup.specs.ScanTags.{quote_at, quoted_at, equated_at, is_plain, is_value, attribute_at, attribute_behind, attribute_in, ends_tag, Tail, tail_step, attributes_at}
 use Rattle.redl_reading.proofs.Runs.{stops, front-after, front_passes, front_again, after_again}
 use Rattle.redl_reading.proofs.Turns.{Going, begins, goes_on, ends}
 use Rattle.redl_reading.proofs.Words.{behind_takes}
@@ -195,6 +195,11 @@ first_again a rest h =
 
 pub first_shorter : (bs : List ℕ) (x : (Name × List ℕ) × List ℕ) → attribute_in bs ≡ Some x → length x.1 < length bs
 first_shorter bs x e = let t = first_takes bs x e in omega (arith, ap length t.1, length-append {A = ℕ})
+
+-- the white space before it, and what follows that
+pub first_behind : (tail gap bs : List ℕ) (o : Option ((Name × List ℕ) × List ℕ)) → gap ≡ front is_space tail → bs ≡ after is_space tail → attribute_behind gap bs ≡ o → attribute_in tail ≡ o
+unfolding attribute_in
+first_behind tail gap bs o before behind e = rw (before, behind) at e
 
 -- ---- the end of a tail
 

@@ -1,6 +1,7 @@
 pub mod Places
 pub mod Names
 pub mod Attributes
+pub mod Values
 pub mod Items
 pub mod Tags
 pub mod Declarations

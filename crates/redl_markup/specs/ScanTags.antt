@@ -25,12 +25,28 @@ equated_at bs = do
   more ← behind (codes "=") (after is_space bs)
   quoted_at (after is_space more)
 
+-- a `=` in white space, and the quote behind it
+unfoldable pub opening_at : List ℕ → Option (ℕ × List ℕ)
+opening_at bs = do
+  more ← behind (codes "=") (after is_space bs)
+  quote_at (after is_space more)
+
 -- neither `<` nor `&`
 abbrev pub is_plain : ℕ → Bool
 is_plain b = is_other 60 b && is_other 38 b
 
 unfoldable pub is_value : List ℕ → Bool
 is_value bs = list_all (is_other 60) bs && has_references bs
+
+-- a byte that ends no value, and is neither `<` nor `&`
+unfoldable pub is_value_byte : ℕ → Bool
+is_value_byte b = is_plain b && is_other 34 b && is_other 39 b
+
+-- a legal value with its `=`, and what follows it
+unfoldable pub value_at : List ℕ → Option (List ℕ × List ℕ)
+value_at bs = do
+  value ← equated_at bs
+  if is_value value.0 then Some value else None
 
 -- an attribute's name and value, and what follows the attribute
 unfoldable pub attribute_at : List ℕ → Option ((Name × List ℕ) × List ℕ)
@@ -39,9 +55,13 @@ attribute_at bs = do
   value ← equated_at name.1
   if is_value value.0 then Some ((name.0, value.0), value.1) else None
 
+-- the attribute behind white space, which may not be empty
+abbrev pub attribute_behind : List ℕ → List ℕ → Option ((Name × List ℕ) × List ℕ)
+attribute_behind gap bs = if is_filled gap then attribute_at bs else None
+
 -- the first attribute of a tail, and the rest of the tail
 unfoldable pub attribute_in : List ℕ → Option ((Name × List ℕ) × List ℕ)
-attribute_in tail = if is_filled (front is_space tail) then attribute_at (after is_space tail) else None
+attribute_in tail = attribute_behind (front is_space tail) (after is_space tail)
 
 unfoldable pub ends_tag : List ℕ → Bool
 ends_tag [] = false

@@ -1,19 +1,19 @@
 //! The attributes of a tag.
 
-ghost use Rattle.std.specs.Prelude.{◌≡◌, ◌<◌, [], ◌∷◌, length, codes, IsNone, IfSome};
+ghost use Rattle.std.specs.Prelude.{◌≡◌, ◌<◌, [], ◌∷◌, length, codes, true, Some, IsNone, IfSome};
 ghost use Rattle.std.specs.List.{list_all};
 ghost use Rattle.std.specs.Str.{IsUtf8};
 ghost use Rattle.redl_markup.specs.Attributes.{attributes_of};
-ghost use Rattle.redl_reading.specs.Lists.{is_other};
+ghost use Rattle.redl_reading.specs.Lists.{is_other, field_at};
 ghost use Rattle.redl_reading.specs.Steps.{Gives};
-ghost use Rattle.redl_markup.specs.ScanTags.{quote_at, quoted_at, equated_at, is_plain, is_value, attribute_at, attribute_in};
+ghost use Rattle.redl_markup.specs.ScanTags.{quote_at, opening_at, equated_at, is_plain, is_value, is_value_byte, value_at, attribute_at, attribute_behind, attribute_in};
 ghost use Rattle.redl_markup.specs.Views.{attribute_view};
 
 use crate::name::Name;
 use crate::reference::are_references;
 use crate::space::spaces;
 use crate::word::name;
-use redl_reading::{field, skip};
+use redl_reading::{field, run, skip};
 
 /// An attribute as it is written: its name, and its value without the quotes.
 #[derive(Clone, Copy, Debug, PartialEq, Eq)]
@@ -32,24 +32,24 @@ fn quote(bytes: &[u8]) -> Option<(u8, &[u8])>
     }
 }
 
-/// A text between quotes of one kind, and the bytes after it.
-#[tactic(auto, unfolding(crate::specs::ScanTags::quoted_at))]
-fn quoted(bytes: &[u8]) -> Option<(&[u8], &[u8])>
-    ensures { Gives (λ x. (x.0.now, x.1.now)) result (quoted_at bytes.now) }
-{
-    let (quote, more) = quote(bytes)?;
-    field(more, quote)
-}
-
-/// A `=` in white space, and a text between quotes.
-#[tactic(auto, unfolding(crate::specs::ScanTags::equated_at))]
-pub(crate) fn equated(bytes: &[u8]) -> Option<(&[u8], &[u8])>
-    ensures { Gives (λ x. (x.0.now, x.1.now)) result (equated_at bytes.now) }
+/// A `=` in white space and the quote behind it, and the bytes after the quote.
+#[tactic(auto, unfolding(crate::specs::ScanTags::opening_at))]
+#[inline(always)]
+fn opening(bytes: &[u8]) -> Option<(u8, &[u8])>
+    ensures { Gives (λ x. (x.0, x.1.now)) result (opening_at bytes.now) }
 {
     let (_, end) = spaces(bytes);
     let more = skip(end, b"=")?;
     let (_, more) = spaces(more);
-    quoted(more)
+    quote(more)
+}
+
+/// A `=` in white space, and a text between quotes.
+pub(crate) fn equated(bytes: &[u8]) -> Option<(&[u8], &[u8])>
+    ensures { Gives (λ x. (x.0.now, x.1.now)) result (equated_at bytes.now) }
+{
+    let (quote, more) = opening(bytes)?;
+    field(more, quote)
 }
 
 /// Whether a value has neither `<` nor `&`, and so needs no further test.
@@ -72,29 +72,68 @@ fn is_value(bytes: &[u8]) -> bool
     is_plain(bytes) || has_no_tag(bytes) && are_references(bytes)
 }
 
-#[tactic(auto, unfolding(crate::specs::ScanTags::attribute_at))]
-fn attribute_behind_gap(bytes: &[u8]) -> Option<(Attribute<'_>, &[u8])>
-    ensures { Gives (λ x. (attribute_view x.0, x.1.now)) result (attribute_at bytes.now) }
+/// Whether a byte ends no value and is neither `<` nor `&`.
+#[tactic(auto, unfolding(crate::specs::ScanTags::is_value_byte))]
+#[inline(always)]
+fn is_value_byte(b: u8) -> bool
+    ensures { result ≡ is_value_byte b }
 {
-    let (name, more) = name(bytes)?;
-    let (value, rest) = equated(more)?;
+    !matches!(b, b'"' | b'&' | b'\'' | b'<')
+}
+
+/// A value before this quote, and the bytes after the quote, if the value needs no test of its own. Most values are so.
+#[inline(always)]
+fn plain_value(bytes: &[u8], quote: u8) -> Option<(&[u8], &[u8])>
+    ensures { IfSome result (λ x. (field_at quote bytes.now ≡ Some (x.0.now, x.1.now)) × (is_value x.0.now ≡ true)) }
+{
+    let (value, rest) = run(bytes, |b| is_value_byte(b));
+    let rest = skip(rest, &[quote])?;
+    Some((value, rest))
+}
+
+/// A value with its `=`, and the bytes after it.
+#[inline(always)]
+fn value(bytes: &[u8]) -> Option<(&[u8], &[u8])>
+    ensures { Gives (λ x. (x.0.now, x.1.now)) result (value_at bytes.now) }
+{
+    let (quote, more) = opening(bytes)?;
+    if let Some((value, rest)) = plain_value(more, quote) {
+        return Some((value, rest));
+    }
+    let (value, rest) = field(more, quote)?;
     if is_value(value) {
-        Some((Attribute { name, value }, rest))
+        Some((value, rest))
     } else {
         None
     }
 }
 
-/// The first attribute of a tail with the white space before it, and what is left of the tail.
-#[tactic(auto, unfolding(crate::specs::ScanTags::attribute_in))]
-pub(crate) fn first_attribute(tail: &[u8]) -> Option<(Attribute<'_>, &[u8])>
-    ensures { Gives (λ x. (attribute_view x.0, x.1.now)) result (attribute_in tail.now) }
+fn attribute_behind_gap(bytes: &[u8]) -> Option<(Attribute<'_>, &[u8])>
+    ensures { Gives (λ x. (attribute_view x.0, x.1.now)) result (attribute_at bytes.now) }
 {
-    let (gap, more) = spaces(tail);
+    let (name, more) = name(bytes)?;
+    let (value, rest) = value(more)?;
+    Some((Attribute { name, value }, rest))
+}
+
+/// The attribute behind some white space, and the bytes after it. `None` also if the white space is empty.
+#[inline(always)]
+pub(crate) fn attribute_behind<'a>(gap: &[u8], bytes: &'a [u8]) -> Option<(Attribute<'a>, &'a [u8])>
+    ensures { Gives (λ x. (attribute_view x.0, x.1.now)) result (attribute_behind gap.now bytes.now) }
+{
     if gap.is_empty() {
         return None;
     }
-    attribute_behind_gap(more)
+    attribute_behind_gap(bytes)
+}
+
+/// The first attribute of a tail with the white space before it, and what is left of the tail.
+#[tactic(auto, unfolding(crate::specs::ScanTags::attribute_in))]
+fn first_attribute(tail: &[u8]) -> Option<(Attribute<'_>, &[u8])>
+    ensures { Gives (λ x. (attribute_view x.0, x.1.now)) result (attribute_in tail.now) }
+{
+    let (gap, bytes) = spaces(tail);
+    attribute_behind(gap, bytes)
 }
 
 /// The first attribute of a tail, and the rest of the tail. `None` if the tail has no further attribute.

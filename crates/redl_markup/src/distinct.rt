@@ -19,6 +19,7 @@ fn are_alike(a: Name<'_>, b: Name<'_>) -> bool
 }
 
 /// Whether a name is written differently from all the others.
+#[inline(always)]
 fn is_unlike<'a>(name: Name<'a>, others: &[Name<'a>]) -> bool
     ensures { result ≡ list_all (λ m. not (name_eq (name_view name.entry) m)) (map name_view others.now) }
 {
@@ -26,6 +27,7 @@ fn is_unlike<'a>(name: Name<'a>, others: &[Name<'a>]) -> bool
 }
 
 #[tactic(auto, unfolding(crate::specs::Names::are_distinct))]
+#[inline(always)]
 fn few_unlike<'a>(names: &[Name<'a>]) -> bool
     ensures { result ≡ are_distinct (map name_view names.now) }
 {
@@ -38,6 +40,7 @@ fn few_unlike<'a>(names: &[Name<'a>]) -> bool
     true
 }
 
+#[cold]
 fn many_unlike(alloc: Global, names: &[Name<'_>]) -> Result<bool, AllocError>
     ensures { IfOk result (λ b. b ≡ are_distinct (map name_view names.now)) }
 {
@@ -45,6 +48,7 @@ fn many_unlike(alloc: Global, names: &[Name<'_>]) -> Result<bool, AllocError>
     Ok(set.len() == names.len())
 }
 
+#[inline(always)]
 pub(crate) fn no_two_alike(alloc: Global, names: &[Name<'_>]) -> Result<bool, AllocError>
     ensures { IfOk result (λ b. b ≡ are_distinct (map name_view names.now)) }
 {

@@ -16,6 +16,7 @@ use redl_reading::skip;
 use std::alloc::Global;
 
 #[tactic(auto, unfolding(crate::specs::ScanPieces::piece_at))]
+#[inline(always)]
 fn read_piece(alloc: Global, bytes: &[u8], place: Place) -> Result<(Piece<'_>, &[u8]), MarkupError>
     ensures { Finds (λ x. (piece_view x.0, x.1.now)) result (piece_at place bytes.now) }
 {
@@ -24,13 +25,17 @@ fn read_piece(alloc: Global, bytes: &[u8], place: Place) -> Result<(Piece<'_>, &
     }
     match skip(bytes, b"<") {
         Some(rest) if !begins_item(bytes) => start_tag(alloc, rest),
-        _ => stretch(bytes, place).ok_or(MarkupError::Unreadable),
+        _ => match stretch(bytes, place) {
+            Some((stretch, rest)) => Ok((Piece::Stretch(stretch), rest)),
+            None => Err(MarkupError::Unreadable),
+        },
     }
 }
 
 /// The piece with which the bytes begin at this place, and the bytes after it. A stretch is as long as it can be.
 ///
 /// `Unreadable` exactly if the bytes begin with no piece, as when they are empty. `NoMemory` means out of memory.
+#[inline(always)]
 pub fn next_piece(
     alloc: Global,
     bytes: &[u8],

@@ -7,13 +7,16 @@ ghost use Rattle.redl_reading.specs.Lists.{front, after};
 use redl_reading::run;
 
 #[tactic(auto, unfolding(crate::specs::Characters::is_space))]
+#[inline(always)]
 pub(crate) fn is_space(b: u8) -> bool
     ensures { result ≡ is_space b }
 {
-    matches!(b, b' ' | b'\t' | b'\r' | b'\n')
+    // most bytes that are tested are above these
+    b <= b' ' && matches!(b, b' ' | b'\t' | b'\r' | b'\n')
 }
 
 /// The leading white space, and the bytes after it.
+#[inline(always)]
 pub(crate) fn spaces(bytes: &[u8]) -> (&[u8], &[u8])
     ensures front { result.0.now ≡ front is_space bytes.now }
     ensures rest { result.1.now ≡ after is_space bytes.now }

@@ -7,11 +7,10 @@ ghost use Rattle.redl_reading.specs.Lists.{lacks};
 ghost use Rattle.redl_reading.specs.Steps.{Gives};
 ghost use Rattle.redl_markup.specs.Stretches.{is_run};
 ghost use Rattle.redl_markup.specs.ScanStretches.{items_end, stretch_at};
-ghost use Rattle.redl_markup.specs.PieceViews.{piece_view};
+ghost use Rattle.redl_markup.specs.Pieces.{stretch as a_stretch};
 
 use crate::declaration::after_head;
 use crate::item::{begins_item, item};
-use crate::piece::Piece;
 use crate::place::Place;
 use crate::reference::are_references;
 use crate::space::is_space;
@@ -65,13 +64,13 @@ fn end_of_items(bytes: &[u8], place: Place) -> Option<&[u8]>
 
 /// The longest stretch without a tag, and the bytes after it.
 #[tactic(auto, unfolding(crate::specs::ScanStretches::stretch_at))]
-pub(crate) fn stretch(bytes: &[u8], place: Place) -> Option<(Piece<'_>, &[u8])>
-    ensures { Gives (λ x. (piece_view x.0, x.1.now)) result (stretch_at place bytes.now) }
+pub(crate) fn stretch(bytes: &[u8], place: Place) -> Option<(&[u8], &[u8])>
+    ensures { Gives (λ x. (a_stretch x.0.now, x.1.now)) result (stretch_at place bytes.now) }
 {
     let rest = end_of_items(after_head(bytes, place), place)?;
     let stretch = before(bytes, rest);
     if stretch.is_empty() {
         return None;
     }
-    Some((Piece::Stretch(stretch), rest))
+    Some((stretch, rest))
 }

@@ -9,7 +9,7 @@ ghost use Rattle.redl_markup.specs.ScanTags.{ends_tag, attributes_at, tail_at, t
 ghost use Rattle.redl_markup.specs.Views.{name_view};
 ghost use Rattle.redl_markup.specs.PieceViews.{piece_view};
 
-use crate::attribute::first_attribute;
+use crate::attribute::attribute_behind;
 use crate::distinct::no_two_alike;
 use crate::error::MarkupError;
 use crate::name::Name;
@@ -20,6 +20,7 @@ use redl_reading::{before, skip};
 use std::alloc::Global;
 
 #[tactic(auto, unfolding(crate::specs::ScanTags::ends_tag))]
+#[inline(always)]
 fn is_at_end(bytes: &[u8]) -> bool
     ensures { result ≡ ends_tag bytes.now }
 {
@@ -27,17 +28,18 @@ fn is_at_end(bytes: &[u8]) -> bool
 }
 
 /// The names of a tag's attributes, and the bytes after the attributes and their white space.
+#[inline(always)]
 fn attributes(alloc: Global, bytes: &[u8]) -> Result<(Vec<Name<'_>>, &[u8]), MarkupError>
     ensures { Finds (λ x. (map name_view x.0.items, x.1.now)) result (attributes_at bytes.now) }
 {
     let mut names = Vec::new(alloc);
     let mut rest = bytes;
     loop {
-        let (_, more) = spaces(rest);
+        let (gap, more) = spaces(rest);
         if is_at_end(more) {
             return Ok((names, more));
         }
-        let Some((attribute, behind)) = first_attribute(rest) else {
+        let Some((attribute, behind)) = attribute_behind(gap, more) else {
             return Err(MarkupError::Unreadable);
         };
         names.push(attribute.name)?;
@@ -47,6 +49,7 @@ fn attributes(alloc: Global, bytes: &[u8]) -> Result<(Vec<Name<'_>>, &[u8]), Mar
 
 /// The names of the attributes of a tail, and the bytes after the tail.
 #[tactic(auto, unfolding(crate::specs::ScanTags::tail_at))]
+#[inline(always)]
 fn tail(alloc: Global, bytes: &[u8]) -> Result<(Vec<Name<'_>>, &[u8]), MarkupError>
     ensures read { Finds (λ x. (before bytes.now x.1.now, x.1.now)) result (tail_at bytes.now) }
     ensures names { IfOk result (λ x. map name_view x.0.items ≡ names_in (before bytes.now x.1.now)) }
@@ -61,6 +64,7 @@ fn tail(alloc: Global, bytes: &[u8]) -> Result<(Vec<Name<'_>>, &[u8]), MarkupErr
 
 /// A start tag or an empty element's tag, given the bytes after its `<`.
 #[tactic(auto, unfolding(crate::specs::ScanTags::tag_at))]
+#[inline(always)]
 pub(crate) fn start_tag(alloc: Global, bytes: &[u8]) -> Result<(Piece<'_>, &[u8]), MarkupError>
     ensures { Finds (λ x. (piece_view x.0, x.1.now)) result (tag_at bytes.now) }
 {
@@ -80,6 +84,7 @@ pub(crate) fn start_tag(alloc: Global, bytes: &[u8]) -> Result<(Piece<'_>, &[u8]
 
 /// An end tag, given the bytes after its `</`.
 #[tactic(auto, unfolding(crate::specs::ScanTags::end_tag_at))]
+#[inline(always)]
 pub(crate) fn end_tag(bytes: &[u8]) -> Option<(Piece<'_>, &[u8])>
     ensures { Gives (λ x. (piece_view x.0, x.1.now)) result (end_tag_at bytes.now) }
 {

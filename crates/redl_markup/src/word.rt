@@ -61,6 +61,7 @@ fn behind_start_char(bytes: &[u8], colons: bool) -> Option<&[u8]>
 
 /// The bytes after the first character of a name. Most are ASCII letters, so few are decoded.
 #[tactic(auto, using(crate::proofs::Names::letter_starts))]
+#[inline(always)]
 fn behind_start(bytes: &[u8], colons: bool) -> Option<&[u8]>
     ensures { Gives (λ rest. rest.now) result (behind_start colons bytes.now) }
 {
@@ -71,15 +72,20 @@ fn behind_start(bytes: &[u8], colons: bool) -> Option<&[u8]>
 }
 
 #[tactic(auto, unfolding(crate::specs::ScanNames::is_name_byte, crate::specs::Names::may_follow, crate::specs::Characters::is_name_character, crate::specs::Characters::is_name_start))]
+#[inline(always)]
 fn is_name_byte(b: u8, colons: bool) -> bool
     ensures { result ≡ is_name_byte colons b }
 {
-    b.is_ascii_alphabetic()
-        || matches!(b, b'0'..=b'9' | b'-' | b'.' | b'_')
-        || (colons && b == b':')
+    // what ends a name comes before the letters, and most of it behind the digits
+    if b > b'@' {
+        b.is_ascii_alphabetic() || b == b'_'
+    } else {
+        matches!(b, b'-'..=b'9') && b != b'/' || colons && b == b':'
+    }
 }
 
 /// The bytes after the leading ASCII characters of a name.
+#[inline(always)]
 fn after_name_bytes(bytes: &[u8], colons: bool) -> &[u8]
     ensures { result.now ≡ after (is_name_byte colons) bytes.now }
 {
@@ -87,6 +93,7 @@ fn after_name_bytes(bytes: &[u8], colons: bool) -> &[u8]
 }
 
 /// The bytes after the leading name characters. Most are ASCII, so few are decoded.
+#[inline(always)]
 fn end_of_name(bytes: &[u8], colons: bool) -> &[u8]
     ensures { name_end colons bytes.now ≡ Some result.now }
 {
@@ -117,6 +124,7 @@ fn end_of_characters(bytes: &[u8], colons: bool) -> &[u8]
 
 /// A name of one part, and the bytes after it.
 #[tactic(auto, using(crate::proofs::Names::word_fails, crate::proofs::Names::word_reads))]
+#[inline(always)]
 pub(crate) fn word(bytes: &[u8], colons: bool) -> Option<(&[u8], &[u8])>
     ensures { Gives (λ x. (x.0.now, x.1.now)) result (word_at colons bytes.now) }
 {
@@ -127,6 +135,7 @@ pub(crate) fn word(bytes: &[u8], colons: bool) -> Option<(&[u8], &[u8])>
 
 /// A name with or without a prefix, and the bytes after it.
 #[tactic(auto, unfolding(crate::specs::ScanNames::name_at))]
+#[inline(always)]
 pub(crate) fn name(bytes: &[u8]) -> Option<(Name<'_>, &[u8])>
     ensures { Gives (λ x. (name_view x.0, x.1.now)) result (name_at bytes.now) }
 {

@@ -1,7 +1,7 @@
 -- Labels are not part of the shape of a package.
-use Rattle.std.proofs.Common.{◌≡◌, ◌+◌, ◌&&◌, ◌||◌, ℕ, arith, zero, suc, drop, slice_get, List, [], ◌∷◌, map, Option, Some, None, Bool, true, false, cond, is_some, option_map, refl, sym, ap, ◌∙◌, codes, subst}
+use Rattle.std.proofs.Common.{◌≡◌, ◌+◌, ◌&&◌, ◌||◌, ℕ, arith, zero, suc, List, [], ◌∷◌, map, Option, Some, None, Bool, true, false, cond, is_some, option_map, refl, sym, ap, ◌∙◌, codes, subst}
 use Rattle.std.specs.List.{list_all, list_any}
-use Rattle.redl_tree.specs.Model.Nodes.{Tag, Nodes, no_nodes, bytes, element, Item, bytes_item, element_item, in_front, ◌⊕◌}
+use Rattle.redl_tree.specs.Model.Nodes.{Nodes, no_nodes, bytes, element}
 use Rattle.redl_tree.specs.Model.Count.{count}
 use Rattle.redl_tree.specs.Model.Text.{text}
 use Rattle.redl_tree.specs.Revisions.Labels.{unlabelled}
@@ -9,12 +9,11 @@ use Rattle.redl_tree.specs.declared.kinds.Kind.{Kind}
 use Rattle.redl_tree.proofs.LabelLaws.{text-unlabelled}
 use Rattle.redl_tree.proofs.StoryLaws.{unlabelled-changed}
 use Rattle.redl_opc.specs.Elements.{Element, elements_of, only, only_element}
-use Rattle.redl_tree.specs.Decisions.Packages.{named_pkg, is_story_root}
+use Rattle.redl_tree.specs.Decisions.Packages.{named_pkg, is_story_root, StoryRule, changed_package}
 use Rattle.redl_opc.specs.Shape.{has_attribute, is_data, is_data_alone, is_part, root_in, story_root, story_of, is_document_root, is_document, package_in, package_of, parts_refusal, refusal_of, refusal}
 use Rattle.redl_tree.specs.Model.Tree.{HasUtf8Tails}
 use Rattle.redl_opc.specs.Parts.{name_in, places_from, places_in, places_of, IsKept}
-use Rattle.redl_opc.specs.Labels.{changed_at, labelled, elements, item_elements, relabelled_tag, relabelled, relabelled_item, label_rule, labelled_stories}
-use Rattle.redl_opc.specs.declared.label.Label.{Label}
+use Rattle.redl_opc.specs.Labels.{changed_at, labelled, SetsLabels}
 
 -- an element without its labels
 abbrev pub plain : Element → Element
@@ -163,73 +162,7 @@ kept-labelled old new listed same kept =
 pub labels_alone : (kind : Kind) (rev place : ℕ) (path : List ℕ) (ns : Nodes) → unlabelled (changed_at place (labelled kind rev path) ns) ≡ unlabelled ns
 labels_alone kind rev place path ns = changed_at-unlabelled place (labelled kind rev path) (labelled-plain kind rev path) ns
 
--- ---- labels of a story, a node at a time
+-- ---- a rule that sets labels alone
 
-pub elements-in_front : (x : Item) (ys : Nodes) → elements (in_front x ys) ≡ item_elements x + elements ys
-elements-in_front (bytes_item b) ys = omega arith
-elements-in_front (element_item tag kids) ys = refl
-
-relabelled-in_front : (labels : List Label) (at : ℕ) (x : Item) (ys : Nodes)
-    → relabelled labels at (in_front x ys) ≡ in_front (relabelled_item labels at x) no_nodes ⊕ relabelled labels (at + item_elements x) ys
-relabelled-in_front labels at (bytes_item b) ys =
-    let same : at ≡ at + 0 = omega arith in
-    ap (λ m. bytes b (relabelled labels m ys)) same
-relabelled-in_front labels at (element_item tag kids) ys = refl
-
--- ---- the labels that are left
-
-get-left : (labels : List Label) (n at : ℕ) → slice_get labels (n + at) ≡ slice_get (drop n labels) at
-get-left labels zero at = ap (slice_get labels) (omega arith)
-get-left [] (suc n) at = none (suc n + at) ∙ sym (none at)
-  where
-    none : (k : ℕ) → slice_get {X = Label} [] k ≡ None
-    none zero = refl
-    none (suc k) = refl
-get-left (label ∷ labels) (suc n) at =
-    let more : suc n + at ≡ suc (n + at) = omega arith in
-    ap (slice_get (label ∷ labels)) more ∙ get-left labels n at
-
-relabelled-from : (labels : List Label) (n at : ℕ) (ns : Nodes) → relabelled labels (n + at) ns ≡ relabelled (drop n labels) at ns
-relabelled-from labels n at no_nodes = refl
-relabelled-from labels n at (bytes b rest) = ap (bytes b) (relabelled-from labels n at rest)
-relabelled-from labels n at (element tag kids rest) =
-    let in_kids : (n + at) + 1 ≡ n + (at + 1) = omega arith in
-    let in_rest : (n + at) + (1 + elements kids) ≡ n + (at + (1 + elements kids)) = omega arith in
-    rw (
-      get-left labels n at,
-      in_kids,
-      in_rest,
-      relabelled-from labels n (at + 1) kids,
-      relabelled-from labels n (at + (1 + elements kids)) rest,
-    ) refl
-
--- behind the elements that have had their labels
-pub relabelled_left : (labels : List Label) (n : ℕ) (ns : Nodes) → relabelled labels n ns ≡ relabelled (drop n labels) 0 ns
-relabelled_left labels n ns =
-    let same : n ≡ n + 0 = omega arith in
-    ap (λ m. relabelled labels m ns) same ∙ relabelled-from labels n 0 ns
-
--- a node, and those after it with the labels that are left
-pub relabelled-first : (labels : List Label) (x : Item) (ys : Nodes)
-    → relabelled labels 0 (in_front x ys) ≡ in_front (relabelled_item labels 0 x) no_nodes ⊕ relabelled (drop (item_elements x) labels) 0 ys
-relabelled-first labels x ys =
-    let same : 0 + item_elements x ≡ item_elements x = omega arith in
-    relabelled-in_front labels 0 x ys
-    ∙ ap (λ m. in_front (relabelled_item labels 0 x) no_nodes ⊕ relabelled labels m ys) same
-    ∙ ap (λ ns. in_front (relabelled_item labels 0 x) no_nodes ⊕ ns) (relabelled_left labels (item_elements x) ys)
-
--- ---- labelling all stories changes only labels
-
-relabelled_tag-plain : (label : Option Label) (tag : Tag)
-    → record (relabelled_tag label tag) { kind = Kind.Plain; rev = 0 } ≡ record tag { kind = Kind.Plain; rev = 0 }
-relabelled_tag-plain None tag = refl
-relabelled_tag-plain (Some label) tag = refl
-
-relabelled-unlabelled : (labels : List Label) (at : ℕ) (ns : Nodes) → unlabelled (relabelled labels at ns) ≡ unlabelled ns
-relabelled-unlabelled labels at no_nodes = refl
-relabelled-unlabelled labels at (bytes b rest) = ap (bytes b) (relabelled-unlabelled labels at rest)
-relabelled-unlabelled labels at (element tag kids rest) =
-    rw (relabelled_tag-plain (slice_get labels at) tag, relabelled-unlabelled labels (at + 1) kids, relabelled-unlabelled labels (at + (1 + elements kids)) rest) refl
-
-pub stories_alone : (labels : List Label) (ns : Nodes) → unlabelled (labelled_stories labels ns) ≡ unlabelled ns
-stories_alone labels ns = unlabelled-changed label_rule (λ left tag kids. relabelled-unlabelled left 0 kids) labels [] ns
+pub stories_alone : {S : Type 0} (rule : StoryRule S) → SetsLabels rule → (given : S) (ns : Nodes) → unlabelled (changed_package rule given ns) ≡ unlabelled ns
+stories_alone rule sets given ns = unlabelled-changed rule sets given [] ns

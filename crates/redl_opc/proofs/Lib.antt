@@ -1,6 +1,5 @@
 pub mod PartLaws
 pub mod LabelLaws
-pub mod RunLaws
 pub mod PlaceLaws
 pub mod StoryLaws
 pub mod NumberLaws

@@ -17,33 +17,33 @@ use Rattle.redl_opc.proofs.PartLaws.{root_is}
 
 -- the stories of an element with these ancestors: itself, or those inside it
 abbrev element_stories : List Tag → Element → List Parts
-element_stories around e = if is_root around e.tag then story_view e ∷ [] else stories_in (e.tag ∷ around) e.kids
+element_stories ancestors e = if is_root ancestors e.tag then story_view e ∷ [] else stories_in (e.tag ∷ ancestors) e.kids
 
 abbrev stories_among : List Tag → List Element → List Parts
-stories_among around [] = []
-stories_among around (e ∷ es) = element_stories around e ++ stories_among around es
+stories_among ancestors [] = []
+stories_among ancestors (e ∷ es) = element_stories ancestors e ++ stories_among ancestors es
 
-stories_in-elements : (around : List Tag) (nodes : Nodes) → stories_in around nodes ≡ stories_among around (elements_of nodes)
-stories_in-elements around no_nodes = refl
-stories_in-elements around (bytes b rest) = stories_in-elements around rest
-stories_in-elements around (element tag kids rest) =
-    ap (λ more. element_stories around (record { tag = tag; kids = kids }) ++ more) (stories_in-elements around rest)
+stories_in-elements : (ancestors : List Tag) (nodes : Nodes) → stories_in ancestors nodes ≡ stories_among ancestors (elements_of nodes)
+stories_in-elements ancestors no_nodes = refl
+stories_in-elements ancestors (bytes b rest) = stories_in-elements ancestors rest
+stories_in-elements ancestors (element tag kids rest) =
+    ap (λ more. element_stories ancestors (record { tag = tag; kids = kids }) ++ more) (stories_in-elements ancestors rest)
 
 -- an element that is not in the data of a part is no root: its stories are those among its kids
-above_data : (around : List Tag) (e : Element) → is_data_level (level_of around) ≡ false
-    → element_stories around e ≡ stories_among (e.tag ∷ around) (elements_of e.kids)
-above_data around e h =
-    ap (λ here. if here && is_story_root e.tag then story_view e ∷ [] else stories_in (e.tag ∷ around) e.kids) h
-    ∙ stories_in-elements (e.tag ∷ around) e.kids
+above_data : (ancestors : List Tag) (e : Element) → is_data_level (level_of ancestors) ≡ false
+    → element_stories ancestors e ≡ stories_among (e.tag ∷ ancestors) (elements_of e.kids)
+above_data ancestors e h =
+    ap (λ here. if here && is_story_root e.tag then story_view e ∷ [] else stories_in (e.tag ∷ ancestors) e.kids) h
+    ∙ stories_in-elements (e.tag ∷ ancestors) e.kids
 
 -- there are no stories where no part's data is
-none_below : (around : List Tag) (nodes : Nodes) → level_of around ≡ Below → stories_in around nodes ≡ []
-none_below around no_nodes h = refl
-none_below around (bytes b rest) h = none_below around rest h
-none_below around (element tag kids rest) h =
-    ap (λ level. (if is_data_level level && is_story_root tag then record { tag = tag; kids = kids } ∷ [] else stories_in (tag ∷ around) kids) ++ stories_in around rest) h
-    ∙ ap (λ xs. xs ++ stories_in around rest) (none_below (tag ∷ around) kids (ap (λ level. level_below level tag) h))
-    ∙ none_below around rest h
+none_below : (ancestors : List Tag) (nodes : Nodes) → level_of ancestors ≡ Below → stories_in ancestors nodes ≡ []
+none_below ancestors no_nodes h = refl
+none_below ancestors (bytes b rest) h = none_below ancestors rest h
+none_below ancestors (element tag kids rest) h =
+    ap (λ level. (if is_data_level level && is_story_root tag then record { tag = tag; kids = kids } ∷ [] else stories_in (tag ∷ ancestors) kids) ++ stories_in ancestors rest) h
+    ∙ ap (λ xs. xs ++ stories_in ancestors rest) (none_below (tag ∷ ancestors) kids (ap (λ level. level_below level tag) h))
+    ∙ none_below ancestors rest h
 
 -- ---- from the root of a story up to the root of the package
 
@@ -53,21 +53,21 @@ listed None = []
 listed (Some root) = story_view root ∷ []
 
 -- what stands in the data of a part: one element, a root where it has the name of one
-in_data : (around : List Tag) (root : Element) → level_of around ≡ Data → element_stories around root ≡ listed (story_root (Some root))
-in_data around root h =
-    ap (λ level. if is_data_level level && is_story_root root.tag then story_view root ∷ [] else stories_in (root.tag ∷ around) root.kids) h
-    ∙ ap (λ xs. if is_story_root root.tag then story_view root ∷ [] else xs) (none_below (root.tag ∷ around) root.kids (ap (λ level. level_below level root.tag) h))
+in_data : (ancestors : List Tag) (root : Element) → level_of ancestors ≡ Data → element_stories ancestors root ≡ listed (story_root (Some root))
+in_data ancestors root h =
+    ap (λ level. if is_data_level level && is_story_root root.tag then story_view root ∷ [] else stories_in (root.tag ∷ ancestors) root.kids) h
+    ∙ ap (λ xs. if is_story_root root.tag then story_view root ∷ [] else xs) (none_below (root.tag ∷ ancestors) root.kids (ap (λ level. level_below level root.tag) h))
     ∙ by (is_story_root root.tag)
   where
     by : (b : Bool) → (if b then story_view root ∷ [] else []) ≡ listed (if b then Some root else None)
     by true = refl
     by false = refl
 
-in_data_alone : (around : List Tag) (es : List Element) → level_of around ≡ Data → is_some (only es) ≡ true
-    → stories_among around es ≡ listed (story_root (only es))
-in_data_alone around [] h one = absurd (true≢false (sym one))
-in_data_alone around (root ∷ []) h one = append-nil (element_stories around root) ∙ in_data around root h
-in_data_alone around (root ∷ other ∷ more) h one = absurd (true≢false (sym one))
+in_data_alone : (ancestors : List Tag) (es : List Element) → level_of ancestors ≡ Data → is_some (only es) ≡ true
+    → stories_among ancestors es ≡ listed (story_root (only es))
+in_data_alone ancestors [] h one = absurd (true≢false (sym one))
+in_data_alone ancestors (root ∷ []) h one = append-nil (element_stories ancestors root) ∙ in_data ancestors root h
+in_data_alone ancestors (root ∷ other ∷ more) h one = absurd (true≢false (sym one))
 
 -- XML data is not named as other data is
 is-no_binary : (tag : Tag) → named_pkg (codes "xmlData") tag ≡ true → named_pkg (codes "binaryData") tag ≡ false
@@ -77,50 +77,50 @@ is-no_binary tag h =
     ∙ and-false (is_pkg tag.space)
 
 -- the data of a part
-in_part : (around : List Tag) (held : Element) → level_of around ≡ Part → is_data held ≡ true
-    → element_stories around held ≡ listed (story_root (root_in (Some held)))
-in_part around held h is =
-    above_data around held (ap is_data_level h) ∙ by (named_pkg (codes "xmlData") held.tag) refl
+in_part : (ancestors : List Tag) (held : Element) → level_of ancestors ≡ Part → is_data held ≡ true
+    → element_stories ancestors held ≡ listed (story_root (root_in (Some held)))
+in_part ancestors held h is =
+    above_data ancestors held (ap is_data_level h) ∙ by (named_pkg (codes "xmlData") held.tag) refl
   where
-    below : (b : Bool) → named_pkg (codes "xmlData") held.tag ≡ b → level_of (held.tag ∷ around) ≡ (if b then Data else Below)
+    below : (b : Bool) → named_pkg (codes "xmlData") held.tag ≡ b → level_of (held.tag ∷ ancestors) ≡ (if b then Data else Below)
     below b e = ap (λ level. level_below level held.tag) h ∙ ap (λ xml. if xml then Data else Below) e
 
     by : (b : Bool) → named_pkg (codes "xmlData") held.tag ≡ b
-        → stories_among (held.tag ∷ around) (elements_of held.kids) ≡ listed (story_root (if b then only_element held.kids else None))
+        → stories_among (held.tag ∷ ancestors) (elements_of held.kids) ≡ listed (story_root (if b then only_element held.kids else None))
     by true e =
         let one : is_some (only_element held.kids) ≡ true =
         sym (ap (λ xml. xml && is_some (only_element held.kids)) e)
         ∙ sym (ap (λ binary. binary || (named_pkg (codes "xmlData") held.tag && is_some (only_element held.kids))) (is-no_binary held.tag e))
         ∙ is in
-        in_data_alone (held.tag ∷ around) (elements_of held.kids) (below true e) one
-    by false e = sym (stories_in-elements (held.tag ∷ around) held.kids) ∙ none_below (held.tag ∷ around) held.kids (below false e)
+        in_data_alone (held.tag ∷ ancestors) (elements_of held.kids) (below true e) one
+    by false e = sym (stories_in-elements (held.tag ∷ ancestors) held.kids) ∙ none_below (held.tag ∷ ancestors) held.kids (below false e)
 
-in_part_alone : (around : List Tag) (es : List Element) → level_of around ≡ Part → is_data_alone (only es) ≡ true
-    → stories_among around es ≡ listed (story_root (root_in (only es)))
-in_part_alone around [] h one = absurd (true≢false (sym one))
-in_part_alone around (held ∷ []) h one = append-nil (element_stories around held) ∙ in_part around held h one
-in_part_alone around (held ∷ other ∷ more) h one = absurd (true≢false (sym one))
+in_part_alone : (ancestors : List Tag) (es : List Element) → level_of ancestors ≡ Part → is_data_alone (only es) ≡ true
+    → stories_among ancestors es ≡ listed (story_root (root_in (only es)))
+in_part_alone ancestors [] h one = absurd (true≢false (sym one))
+in_part_alone ancestors (held ∷ []) h one = append-nil (element_stories ancestors held) ∙ in_part ancestors held h one
+in_part_alone ancestors (held ∷ other ∷ more) h one = absurd (true≢false (sym one))
 
 -- a part
-in_package : (around : List Tag) (part : Element) → level_of around ≡ Package → is_part part ≡ true
-    → element_stories around part ≡ listed (story_of part)
-in_package around part h is =
+in_package : (ancestors : List Tag) (part : Element) → level_of ancestors ≡ Package → is_part part ≡ true
+    → element_stories ancestors part ≡ listed (story_of part)
+in_package ancestors part h is =
     let named = named_pkg (codes "part") part.tag in
     let name = has_attribute (codes "name") part.tag in
     let content_type = has_attribute (codes "contentType") part.tag in
     let held = is_data_alone (only_element part.kids) in
-    let level : level_of (part.tag ∷ around) ≡ Part =
+    let level : level_of (part.tag ∷ ancestors) ≡ Part =
     ap (λ level. level_below level part.tag) h
     ∙ ap (λ is_part. if is_part then Part else Below) (and-left named name (and-left (named && name) content_type (and-left (named && name && content_type) held is))) in
     let held_alone : held ≡ true = and-right (named && name && content_type) held is in
-    above_data around part (ap is_data_level h) ∙ in_part_alone (part.tag ∷ around) (elements_of part.kids) level held_alone
+    above_data ancestors part (ap is_data_level h) ∙ in_part_alone (part.tag ∷ ancestors) (elements_of part.kids) level held_alone
 
-in_parts : (around : List Tag) (parts : List Element) → level_of around ≡ Package → list_all is_part parts ≡ true
-    → stories_among around parts ≡ map story_view (filter_map story_of parts)
-in_parts around [] h all = refl
-in_parts around (part ∷ parts) h all =
-    ap (λ xs. xs ++ stories_among around parts) (in_package around part h (and-left (is_part part) (list_all is_part parts) all))
-    ∙ ap (λ xs. listed (story_of part) ++ xs) (in_parts around parts h (and-right (is_part part) (list_all is_part parts) all))
+in_parts : (ancestors : List Tag) (parts : List Element) → level_of ancestors ≡ Package → list_all is_part parts ≡ true
+    → stories_among ancestors parts ≡ map story_view (filter_map story_of parts)
+in_parts ancestors [] h all = refl
+in_parts ancestors (part ∷ parts) h all =
+    ap (λ xs. xs ++ stories_among ancestors parts) (in_package ancestors part h (and-left (is_part part) (list_all is_part parts) all))
+    ∙ ap (λ xs. listed (story_of part) ++ xs) (in_parts ancestors parts h (and-right (is_part part) (list_all is_part parts) all))
     ∙ onto (story_of part)
   where
     onto : (o : Option Element) → listed o ++ map story_view (filter_map story_of parts) ≡ map story_view (cons_option o (filter_map story_of parts))

@@ -1,10 +1,10 @@
 -- Labels: the kind of an element in a revision, and the number of the revision. A label is not written in a text.
-use Rattle.std.specs.Prelude.{ℕ, zero, suc, ◌+◌, List, [], ◌∷◌, ◌++◌, Option, Some, None, drop, slice_get}
+use Rattle.std.specs.Prelude.{◌≡◌, ℕ, zero, suc, List, [], ◌∷◌, ◌++◌, Option, Some, None, slice_get}
 use Rattle.redl_reading.specs.Steps.{◌>>=◌}
 use Rattle.redl_tree.specs.Model.Nodes.{Tag, Nodes, no_nodes, bytes, element, Item, bytes_item, element_item, items_of}
-use Rattle.redl_tree.specs.Decisions.Packages.{StoryRule, changed_package}
+use Rattle.redl_tree.specs.Decisions.Packages.{StoryRule}
+use Rattle.redl_tree.specs.Revisions.Labels.{unlabelled}
 use Rattle.redl_tree.specs.declared.kinds.Kind.{Kind}
-use Rattle.redl_opc.specs.declared.label.Label.{Label}
 use Rattle.redl_opc.specs.Elements.{Element, element_in, only_element}
 use Rattle.redl_opc.specs.Parts.{places_of}
 use Rattle.redl_opc.specs.Shape.{package_of, story_of}
@@ -59,38 +59,6 @@ labelled_on kind rev path nodes (Some way) = changed_at (first_place nodes) (lab
 abbrev pub labelled_package : Kind → ℕ → ℕ → List ℕ → Nodes → Nodes
 labelled_package kind rev part path nodes = labelled_on kind rev path nodes (way_to_story nodes part)
 
--- how many elements there are, at every depth
-abbrev pub elements : Nodes → ℕ
-elements no_nodes = 0
-elements (bytes b rest) = elements rest
-elements (element tag kids rest) = (1 + elements kids) + elements rest
-
-abbrev pub item_elements : Item → ℕ
-item_elements (bytes_item b) = 0
-item_elements (element_item tag kids) = 1 + elements kids
-
-abbrev pub relabelled_tag : Option Label → Tag → Tag
-relabelled_tag None tag = tag
-relabelled_tag (Some label) tag = record tag { kind = label.kind; rev = label.rev }
-
--- nodes with these labels on their elements, in the order of the start tags; the first element has the label at this place
-abbrev pub relabelled : List Label → ℕ → Nodes → Nodes
-relabelled labels at no_nodes = no_nodes
-relabelled labels at (bytes b rest) = bytes b (relabelled labels at rest)
-relabelled labels at (element tag kids rest) =
-    element (relabelled_tag (slice_get labels at) tag) (relabelled labels (at + 1) kids)
-    (relabelled labels (at + (1 + elements kids)) rest)
-
-abbrev pub relabelled_item : List Label → ℕ → Item → Item
-relabelled_item labels at (bytes_item b) = bytes_item b
-relabelled_item labels at (element_item tag kids) =
-    element_item (relabelled_tag (slice_get labels at) tag) (relabelled labels (at + 1) kids)
-
--- A story takes the labels of the elements below its root from the front of those that are left.
-abbrev pub label_rule : StoryRule (List Label)
-label_rule = record { kids = λ labels tag kids. relabelled labels 0 kids; left = λ labels tag kids. drop (elements kids) labels }
-
--- A package with these labels on the elements below the roots of its stories, in the order of their start tags. If there are
--- fewer labels than elements, the remaining elements are unchanged.
-abbrev pub labelled_stories : List Label → Nodes → Nodes
-labelled_stories labels nodes = changed_package label_rule labels nodes
+-- A rule that sets labels alone: but for labels, each story keeps what is in it.
+abbrev pub SetsLabels : {S : Type 0} → StoryRule S → Type 0
+SetsLabels {S = S} rule = (given : S) (tag : Tag) (kids : Nodes) → unlabelled (rule.kids given tag kids) ≡ unlabelled kids

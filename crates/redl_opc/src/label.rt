@@ -7,13 +7,6 @@ ghost use Rattle.redl_opc.specs.Labels.{changed_at, changed_item, labelled, firs
 
 use redl_tree::{Body, Elem, Kind, Node, Spaced};
 
-/// The label of an element: its kind and the number of its revision.
-#[derive(Clone, Copy, Debug, PartialEq, Eq)]
-pub struct Label {
-    pub kind: Kind,
-    pub rev: u32,
-}
-
 /// Labels the element at the end of a way, followed by a path, down from an element. Each item is one level deeper.
 #[cycle(label)]
 pub(crate) fn label_below(elem: &mut Elem, way: &[usize], path: &[u32], kind: Kind, rev: u32)

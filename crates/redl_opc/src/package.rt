@@ -6,24 +6,24 @@ ghost use Rattle.redl_reading.specs.Steps.{Gives};
 ghost use Rattle.redl_tree.specs.Model.Count.{count};
 ghost use Rattle.redl_tree.specs.Model.Text.{text};
 ghost use Rattle.redl_tree.specs.Model.View.{nodes_of, tag_of, kids_of};
-ghost use Rattle.redl_tree.specs.Decisions.Packages.{is_story_root};
+ghost use Rattle.redl_tree.specs.Decisions.Packages.{is_story_root, stories, left_after, changed_package};
+ghost use Rattle.redl_tree.specs.Decisions.Taken.{TakesAll};
 ghost use Rattle.redl_opc.specs.Elements.{element_of};
 ghost use Rattle.redl_opc.specs.Shape.{refusal, IsCause, parts_of};
 ghost use Rattle.redl_opc.specs.Parts.{part_name, story, places_of};
 ghost use Rattle.redl_opc.specs.PartView.{part_view};
-ghost use Rattle.redl_opc.specs.Labels.{way_to_story, labelled_package, labelled_stories};
+ghost use Rattle.redl_opc.specs.Labels.{way_to_story, labelled_package, SetsLabels};
 ghost use Rattle.redl_tree.specs.Model.Tree.{HasUtf8Tails, IsTree};
 
 use crate::elements::{element_at, only_element};
 use crate::error::OpcError;
 use crate::label::{first_place, label_at};
-use crate::labels::Labels;
 use crate::listing::list_parts;
 use crate::part::Part;
 use crate::shape::{are_parts, have_document, package_of, story_of};
-use crate::stories::Labelling;
-use redl_tree::{Elem, Kind, Node, change_stories};
+use redl_tree::{Elem, Kind, Node, StoryChange, change_stories};
 use std::alloc::Global;
+use std::convert::Infallible;
 use std::marker::Model;
 
 /// A package, which contracts see as its nodes. Its parts are numbered from 0, in order.
@@ -174,14 +174,21 @@ impl<'a> Package<'a> {
         label_at(&mut self.nodes, place, &way, path, kind, rev);
     }
 
-    /// Labels the elements below the roots of all stories with these labels, in the order of their start tags.
+    /// Changes the labels in the stories, in their order, by a change that sets labels alone. All else is unchanged.
     ///
-    /// If there are fewer labels than elements, the remaining elements are unchanged. All else is unchanged.
-    pub fn label_stories(&mut self, labels: &Labels)
-        ensures nodes { self.new ≡ labelled_stories labels.now self.old }
+    /// It takes no memory of its own, and cannot fail.
+    pub fn change_labels<S, C: StoryChange<S, Error = Infallible>>(
+        &mut self,
+        change: &C,
+        state: &mut S,
+    )
+        requires labels { SetsLabels C.rule }
+        requires taken { TakesAll C.rule C.Takes (C.given change.now state.old) (stories self.old) }
+        ensures nodes { self.new ≡ changed_package C.rule (C.given change.now state.old) self.old }
+        ensures left { C.given change.now state.new ≡ left_after C.rule (C.given change.now state.old) (stories self.old) }
         ensures text { text self.new ≡ text self.old }
     {
-        match change_stories(&mut self.nodes, &Labelling, &mut labels.all()) {
+        match change_stories(&mut self.nodes, change, state) {
             Ok(()) => {}
         }
     }

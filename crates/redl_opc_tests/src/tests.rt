@@ -1,6 +1,6 @@
 //! Tables of packages: whether the shape is the one meant, the order of causes, and that calls succeed with ample memory.
 
-use redl_opc::{Label, Labels, OpcError, Package};
+use redl_opc::{OpcError, Package};
 use redl_tree::{Kind, Node, Trace};
 use std::alloc::{AllocError, Global};
 use std::test::Fail;
@@ -131,55 +131,11 @@ fn labelled(alloc: Global, nodes: &[Node]) -> Result<Vec<(usize, u32)>, AllocErr
     Ok(labelled)
 }
 
-// This many labels, numbered from 1.
-fn labels(alloc: Global, many: u32) -> Result<Labels, AllocError> {
-    let mut labels = Labels::empty(alloc);
-    for before in 0..many {
-        labels.push(Label {
-            kind: LABELLED,
-            rev: before.saturating_add(1),
-        })?;
-    }
-    Ok(labels)
-}
-
 // Two stories, of which the second one's end tags have white space.
 const STORIES: &str =
     "<pkg:part pkg:name='/a' pkg:contentType='x/y'><pkg:xmlData><w:document>\n<w:p>\n<w:r/></w:p></w:document></pkg:xmlData></pkg:part><pkg:part pkg:name='/b' pkg:contentType='x/y'><pkg:xmlData ><w:hdr>\n<w:p>\n<w:r/></w:p ></w:hdr ></pkg:xmlData ></pkg:part >";
 
-// The same with a second part that is no story.
-const STYLES: &str =
-    "<pkg:part pkg:name='/a' pkg:contentType='x/y'><pkg:xmlData><w:document>\n<w:p>\n<w:r/></w:p></w:document></pkg:xmlData></pkg:part><pkg:part pkg:name='/b' pkg:contentType='x/y'><pkg:xmlData><w:styles>\n<w:p>\n<w:r/></w:p></w:styles></pkg:xmlData></pkg:part>";
-
-// Whether exactly these elements are labelled, with these numbers, once the stories are given labels.
-fn stories_are_labelled(
-    alloc: Global,
-    inside: &str,
-    many: u32,
-    want: &[(usize, u32)],
-) -> Result<bool, Fail> {
-    let text = text_of(alloc, "pkg:package", inside)?;
-    let mut made = Package::make(alloc, redl_xml::read(alloc, &text)?)?;
-    made.label_stories(&labels(alloc, many)?);
-    Ok(labelled(alloc, &made.into_nodes())?.as_slice() == want)
-}
-
-#[test]
-fn labels_go_on_from_story_to_story(rt: HostRuntime) -> Result<(), Fail> {
-    for (inside, many, want) in [
-        (STORIES, 9, [(4, 1), (5, 2), (9, 3), (10, 4)].as_slice()),
-        (STORIES, 3, [(4, 1), (5, 2), (9, 3)].as_slice()),
-        (STYLES, 4, [(4, 1), (5, 2)].as_slice()),
-    ] {
-        assert!(rt;
-            stories_are_labelled(rt.alloc(), inside, many, want)?,
-            "{many} {inside}"
-        );
-    }
-    Ok(())
-}
-
-// The same once one element of a story is labelled.
+// Whether exactly these elements are labelled, with these numbers, once one element of a story is labelled.
 fn element_is_labelled(
     alloc: Global,
     part: u32,

@@ -6,7 +6,7 @@ use Rattle.redl_tree.specs.Roles.Names.{is}
 use Rattle.redl_tree.specs.Model.Kids.{some_element, has_element, without}
 use Rattle.redl_tree.specs.Roles.Lists.{into, is_wrapper, is_thick}
 use Rattle.redl_tree.specs.Decisions.Groups.{Piece, para, thin, thick, paragraph_next, has_thick, joins, joined_tag, joined_kids, settled, given, held_by, grouped_from, grouped}
-use Rattle.redl_tree.specs.Rules.Sound.{or_before, end_of_one, end_of}
+use Rattle.redl_tree.specs.Rules.CellEnds.{or_before, end_of_one, end_of}
 use Rattle.redl_tree.specs.declared.lists.Reach.TheVariants.{Direct}
 use Rattle.redl_tree.proofs.Named.{by_names}
 use Rattle.redl_tree.proofs.PassLaws.{next-thick}

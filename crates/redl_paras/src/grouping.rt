@@ -8,7 +8,7 @@ ghost use Rattle.redl_tree.specs.Decisions.Groups.{given, held_by, grouped};
 ghost use Rattle.redl_tree.specs.Model.Kids.{some_element};
 ghost use Rattle.redl_tree.specs.Roles.Names.{is};
 ghost use Rattle.redl_tree.specs.Model.Nodes.{◌⊕◌};
-ghost use Rattle.redl_tree.specs.Rules.Sound.{end_of};
+ghost use Rattle.redl_tree.specs.Rules.CellEnds.{end_of};
 ghost use Rattle.redl_tree.specs.Model.View.{nodes_of, item_of};
 ghost use Rattle.redl_tree.specs.declared.lists.Reach.TheVariants.{Direct};
 

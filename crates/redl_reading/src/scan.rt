@@ -7,6 +7,7 @@ ghost use Rattle.redl_reading.specs.Steps.{Gives};
 use bstr::ByteSlice;
 
 /// The longest leading run of bytes that pass a test, and the bytes after it.
+#[inline(always)]
 pub fn run<'a, F: Fn(u8) -> bool>(bytes: &'a [u8], passes: F) -> (&'a [u8], &'a [u8])
     requires { F.IsAlwaysCallable passes }
     ensures front { (test : ℕ → Bool) → AnswersAs test (F.post passes) → result.0.now ≡ front test bytes.now }
@@ -20,6 +21,7 @@ pub fn run<'a, F: Fn(u8) -> bool>(bytes: &'a [u8], passes: F) -> (&'a [u8], &'a 
 }
 
 /// The bytes before the first `byte`, and those from it on. Without a `byte` all of them come before it.
+#[inline(always)]
 pub fn until(bytes: &[u8], byte: u8) -> (&[u8], &[u8])
     ensures front { result.0.now ≡ front (is_other byte) bytes.now }
     ensures rest { result.1.now ≡ after (is_other byte) bytes.now }
@@ -38,6 +40,7 @@ pub fn far_until(bytes: &[u8], byte: u8) -> (&[u8], &[u8])
 
 /// The bytes before the first `end`, and those after it. `None` exactly where there is no `end`.
 #[tactic(auto, unfolding(crate::specs::Lists::field_at))]
+#[inline(always)]
 pub fn field(bytes: &[u8], end: u8) -> Option<(&[u8], &[u8])>
     ensures { Gives (λ x. (x.0.now, x.1.now)) result (field_at end bytes.now) }
 {
@@ -48,6 +51,7 @@ pub fn field(bytes: &[u8], end: u8) -> Option<(&[u8], &[u8])>
 
 /// The bytes after a leading word. `None` exactly where the bytes do not begin with it.
 #[tactic(auto, using(crate::proofs::Words::behind_pointwise, crate::proofs::Words::behind_not_pointwise))]
+#[inline(always)]
 pub fn skip<'a>(bytes: &'a [u8], word: &[u8]) -> Option<&'a [u8]>
     ensures { Gives (λ rest. rest.now) result (behind word.now bytes.now) }
 {
@@ -69,6 +73,7 @@ pub fn past<'a>(bytes: &'a [u8], word: &[u8]) -> Option<&'a [u8]>
 }
 
 /// The bytes before a rest of them.
+#[inline(always)]
 pub fn before<'a>(bytes: &'a [u8], rest: &[u8]) -> &'a [u8]
     ensures { result.now ≡ before bytes.now rest.now }
 {

@@ -31,9 +31,9 @@ use Rattle.redl_tree.specs.declared.kinds.Say.{Say}
 use Rattle.redl_tree.specs.declared.kinds.Fate.{Fate}
 use Rattle.redl_tree.specs.declared.kinds.Fate.TheVariants.{Leave, Free, Cut, Clear, Restore, Drop}
 
-pub pieces-in_front : (says : List Say) (around : List Tag) (x : Item) (ys : Nodes) → pieces says around (in_front x ys) ≡ item_piece says around x ∷ pieces says around ys
-pieces-in_front says around (bytes_item b) ys = refl
-pieces-in_front says around (element_item tag kids) ys = refl
+pub pieces-in_front : (says : List Say) (ancestors : List Tag) (x : Item) (ys : Nodes) → pieces says ancestors (in_front x ys) ≡ item_piece says ancestors x ∷ pieces says ancestors ys
+pieces-in_front says ancestors (bytes_item b) ys = refl
+pieces-in_front says ancestors (element_item tag kids) ys = refl
 
 pub visits-in_front : (says : List Say) (x : Item) (ys : Nodes) → visits says (in_front x ys) ≡ item_visits says x + visits says ys
 visits-in_front says (bytes_item b) ys = refl
@@ -93,10 +93,10 @@ after-count round tag None passed = omega arith
 after-count round tag (Some change) passed =
     omega (arith, restored-count change.prop (present_in round tag passed) change.former, present-count (is "rPr" tag && not round.para_props) passed)
 
-pub after-is : (says : List Say) (around : List Tag) (tag : Tag) (change : Option Rejected) (passed : Nodes)
-    → after_in (round_of says around) tag change passed ≡ after_change around tag change passed
-after-is says around tag None passed = refl
-after-is says around tag (Some change) passed = refl
+pub after-is : (says : List Say) (ancestors : List Tag) (tag : Tag) (change : Option Rejected) (passed : Nodes)
+    → after_in (round_of says ancestors) tag change passed ≡ after_change ancestors tag change passed
+after-is says ancestors tag None passed = refl
+after-is says ancestors tag (Some change) passed = refl
 
 -- what is found at the first node, or later
 pub first_of : Option Rejected → Option Rejected → Option Rejected
@@ -169,12 +169,12 @@ pub by_fate-remark : (fate : Fate) (content : Bool) (passed stays : Nodes) → f
 by_fate-remark fate content passed stays freed remark = rw (freed, remark) refl
 
 -- what goes gives nothing
-pub element-goes : (says : List Say) (around : List Tag) (tag : Tag) (kids passed : Nodes) → fate_of says tag ≡ Leave → goes_at says around tag kids ≡ true
-    → element_pass says around tag kids passed ≡ no_nodes
-element-goes says around tag kids passed left goes =
-    let stays = element (renamed says around tag) (kept_kids says around tag kids passed) no_nodes in
-    leave_of (fate_of says tag) (is_content tag.kind) passed (if goes_at says around tag kids then no_nodes else stays) (ap is_leave left)
-    ∙ if_true (goes_at says around tag kids) no_nodes stays goes
+pub element-goes : (says : List Say) (ancestors : List Tag) (tag : Tag) (kids passed : Nodes) → fate_of says tag ≡ Leave → goes_at says ancestors tag kids ≡ true
+    → element_pass says ancestors tag kids passed ≡ no_nodes
+element-goes says ancestors tag kids passed left goes =
+    let stays = element (renamed says ancestors tag) (kept_kids says ancestors tag kids passed) no_nodes in
+    leave_of (fate_of says tag) (is_content tag.kind) passed (if goes_at says ancestors tag kids then no_nodes else stays) (ap is_leave left)
+    ∙ if_true (goes_at says ancestors tag kids) no_nodes stays goes
 
 pub no_restore : (fate : Fate) → is_leave fate ≡ true → is_restore fate ≡ false
 no_restore Leave e = refl
@@ -199,14 +199,14 @@ goes_on-then first later = record { same_says = later.same_says ∙ first.same_s
 
 -- ---- nodes that all stay
 
-pub all_stay-in_front : (says : List Say) (around : List Tag) (x : Item) (ys : Nodes) → all_stay says around (in_front x ys) ≡ item_stays says around x && all_stay says around ys
-all_stay-in_front says around (bytes_item b) ys = refl
-all_stay-in_front says around (element_item tag kids) ys = refl
+pub all_stay-in_front : (says : List Say) (ancestors : List Tag) (x : Item) (ys : Nodes) → all_stay says ancestors (in_front x ys) ≡ item_stays says ancestors x && all_stay says ancestors ys
+all_stay-in_front says ancestors (bytes_item b) ys = refl
+all_stay-in_front says ancestors (element_item tag kids) ys = refl
 
-pub passed_each-in_front : (says : List Say) (around : List Tag) (x : Item) (ys : Nodes)
-    → passed_each says around (in_front x ys) ≡ in_front (item_passed_each says around x) no_nodes ⊕ passed_each says around ys
-passed_each-in_front says around (bytes_item b) ys = refl
-passed_each-in_front says around (element_item tag kids) ys = refl
+pub passed_each-in_front : (says : List Say) (ancestors : List Tag) (x : Item) (ys : Nodes)
+    → passed_each says ancestors (in_front x ys) ≡ in_front (item_passed_each says ancestors x) no_nodes ⊕ passed_each says ancestors ys
+passed_each-in_front says ancestors (bytes_item b) ys = refl
+passed_each-in_front says ancestors (element_item tag kids) ys = refl
 
 not_true : (b : Bool) → not b ≡ true → b ≡ false
 not_true true e = absurd (true≢false (sym e))
@@ -217,22 +217,22 @@ and_false true b e = absurd (true≢false e)
 and_false false b e = refl
 
 -- where all stay, passing each is the pass
-pub passed_each-pass : (says : List Say) (around : List Tag) (nodes : Nodes) → all_stay says around nodes ≡ true → passed_each says around nodes ≡ pass says around nodes
-passed_each-pass says around no_nodes stay = refl
-passed_each-pass says around (bytes b rest) stay = ap (bytes b) (passed_each-pass says around rest stay)
-passed_each-pass says around (element tag kids rest) stay =
-    let cut = is_block_para says around tag && para_is_cut says kids in
-    let here = and_parts (elem_stays says around tag kids) (all_stay says around rest) stay in
-    let left = and_parts (is_leave (fate_of says tag)) (not (may_go around tag) && not cut) here.0 in
-    let apart = and_parts (not (may_go around tag)) (not cut) left.1 in
-    let passed = pass says (tag ∷ around) kids in
-    let stays = element (renamed says around tag) (kept_kids says around tag kids passed) no_nodes in
-    let goes = and_false (may_go around tag) (goes says (in_cells around) tag kids) (not_true (may_go around tag) apart.0) in
-    ap (λ more. stays ⊕ more) (passed_each-pass says around rest here.1)
-    ∙ ap (λ first. first ⊕ pass says around rest)
-    (sym (leave_of (fate_of says tag) (is_content tag.kind) passed (if goes_at says around tag kids then no_nodes else stays) left.0
-    ∙ if_false (goes_at says around tag kids) no_nodes stays goes))
-    ∙ sym (pass-apart says around tag kids rest (not_true cut apart.1))
+pub passed_each-pass : (says : List Say) (ancestors : List Tag) (nodes : Nodes) → all_stay says ancestors nodes ≡ true → passed_each says ancestors nodes ≡ pass says ancestors nodes
+passed_each-pass says ancestors no_nodes stay = refl
+passed_each-pass says ancestors (bytes b rest) stay = ap (bytes b) (passed_each-pass says ancestors rest stay)
+passed_each-pass says ancestors (element tag kids rest) stay =
+    let cut = is_block_para says ancestors tag && para_is_cut says kids in
+    let here = and_parts (elem_stays says ancestors tag kids) (all_stay says ancestors rest) stay in
+    let left = and_parts (is_leave (fate_of says tag)) (not (may_go ancestors tag) && not cut) here.0 in
+    let apart = and_parts (not (may_go ancestors tag)) (not cut) left.1 in
+    let passed = pass says (tag ∷ ancestors) kids in
+    let stays = element (renamed says ancestors tag) (kept_kids says ancestors tag kids passed) no_nodes in
+    let goes = and_false (may_go ancestors tag) (goes says (in_cells ancestors) tag kids) (not_true (may_go ancestors tag) apart.0) in
+    ap (λ more. stays ⊕ more) (passed_each-pass says ancestors rest here.1)
+    ∙ ap (λ first. first ⊕ pass says ancestors rest)
+    (sym (leave_of (fate_of says tag) (is_content tag.kind) passed (if goes_at says ancestors tag kids then no_nodes else stays) left.0
+    ∙ if_false (goes_at says ancestors tag kids) no_nodes stays goes))
+    ∙ sym (pass-apart says ancestors tag kids rest (not_true cut apart.1))
 
 -- what has no more nodes than none has none
 pub none-left : (given made : Nodes) → given ≡ no_nodes → count made ≤ count given → made ≡ no_nodes

@@ -30,28 +30,28 @@ AddsPiece old new piece = (rest : List Piece) → whole new rest ≡ whole old (
 
 -- the piece of an element in its list
 abbrev pub elem_piece : List Say → List Tag → Tag → Nodes → Piece
-elem_piece says around tag kids = piece says around tag kids (pass says (tag ∷ around) kids)
+elem_piece says ancestors tag kids = piece says ancestors tag kids (pass says (tag ∷ ancestors) kids)
 
 -- the piece of a node in its list
 abbrev pub item_piece : List Say → List Tag → Item → Piece
-item_piece says around (bytes_item b) = thin (bytes b no_nodes)
-item_piece says around (element_item tag kids) = elem_piece says around tag kids
+item_piece says ancestors (bytes_item b) = thin (bytes b no_nodes)
+item_piece says ancestors (element_item tag kids) = elem_piece says ancestors tag kids
 
 -- the piece of a paragraph in a block list
 abbrev pub para_piece : List Say → List Tag → Tag → Nodes → Piece
-para_piece says around tag kids =
-    para (renamed says around tag) (para_is_cut says kids) (kept_kids says around tag kids (pass says (tag ∷ around) kids))
+para_piece says ancestors tag kids =
+    para (renamed says ancestors tag) (para_is_cut says kids) (kept_kids says ancestors tag kids (pass says (tag ∷ ancestors) kids))
 
 -- the piece of any other element, once no paragraph before it can be joined
 abbrev pub other_piece : List Say → List Tag → Tag → Nodes → Piece
-other_piece says around tag kids = thin (element_pass says around tag kids (pass says (tag ∷ around) kids))
+other_piece says ancestors tag kids = thin (element_pass says ancestors tag kids (pass says (tag ∷ ancestors) kids))
 
 -- the same of an element that is left
 abbrev pub left_piece : List Say → List Tag → Tag → Nodes → Piece
-left_piece says around tag kids =
-    thin (if goes_at says around tag kids
+left_piece says ancestors tag kids =
+    thin (if goes_at says ancestors tag kids
     then no_nodes
-    else element (renamed says around tag) (kept_kids says around tag kids (pass says (tag ∷ around) kids)) no_nodes)
+    else element (renamed says ancestors tag) (kept_kids says ancestors tag kids (pass says (tag ∷ ancestors) kids)) no_nodes)
 
 -- the answer of a node
 abbrev pub item_answer : List Say → Question → Item → Finding

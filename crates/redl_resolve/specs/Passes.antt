@@ -20,23 +20,23 @@ use Rattle.redl_resolve.specs.declared.walk.Walk.{Walk}
 -- What is given becomes this under any ancestors with this summary, and `found` is what the nearest table or row has to know
 -- of it.
 pub record Passes (says : List Say) (round : Round) (Becomes : List Tag → Type 0) (found due : Finding) : Type 0 where
-  pub becomes : (around : List Tag) → round ≡ round_of says around → Becomes around
+  pub becomes : (ancestors : List Tag) → round ≡ round_of says ancestors → Becomes ancestors
   pub answer : found ≡ due
 
 -- of the nodes of a list
 abbrev pub PassesList : List Say → Round → Nodes → Nodes → Finding → Type 0
 PassesList says round given made found =
-    Passes says round (λ around. made ≡ pass says around given) found (answer says round.asked given)
+    Passes says round (λ ancestors. made ≡ pass says ancestors given) found (answer says round.asked given)
 
 -- an element that stays: its tag is renamed where deleted text is live again, and its kids are passed
-pub record Stays (says : List Say) (around : List Tag) (old new : Elem) : Type 0 where
-  pub tag : tag_of new ≡ renamed says around (tag_of old)
-  pub kids : kids_of new ≡ kept_kids says around (tag_of old) (kids_of old) (pass says (tag_of old ∷ around) (kids_of old))
+pub record Stays (says : List Say) (ancestors : List Tag) (old new : Elem) : Type 0 where
+  pub tag : tag_of new ≡ renamed says ancestors (tag_of old)
+  pub kids : kids_of new ≡ kept_kids says ancestors (tag_of old) (kids_of old) (pass says (tag_of old ∷ ancestors) (kids_of old))
 
 -- of an element that gives this piece to the list that is made
 abbrev pub PassesElem : List Say → Round → Elem → (List Say → List Tag → Tag → Nodes → Piece) → Made → Made → Finding → Type 0
 PassesElem says round elem piece old new found =
-    Passes says round (λ around. AddsPiece old new (piece says around (tag_of elem) (kids_of elem))) found (elem_answer says round.asked (tag_of elem) (kids_of elem))
+    Passes says round (λ ancestors. AddsPiece old new (piece says ancestors (tag_of elem) (kids_of elem))) found (elem_answer says round.asked (tag_of elem) (kids_of elem))
 
 -- ---- what is counted
 

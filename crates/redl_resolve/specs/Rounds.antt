@@ -1,4 +1,4 @@
--- The summary of a node's ancestors that the pass carries down. `around` is the list of their tags, the nearest first.
+-- The summary of a node's ancestors that the pass carries down. `ancestors` is the list of their tags, the nearest first.
 use Rattle.std.specs.Prelude.{List, [], ◌∷◌, Bool, ◌&&◌, ◌||◌, not, if◌then◌else◌}
 use Rattle.std.specs.List.{list_any}
 use Rattle.redl_tree.specs.Decisions.Fates.{fate_of}
@@ -21,14 +21,14 @@ abbrev pub leaves : List Say → Tag → Bool
 leaves says tag = is_old_content tag.kind && is_leave (fate_of says tag)
 
 abbrev pub round_of : List Say → List Tag → Round
-round_of says around = record {
-  quiet = list_any is_quiet around;
-  freed = list_any (frees says) around;
-  left = list_any (leaves says) around;
-  place = place around;
-  para = within ("p" ∷ []) around;
-  para_props = in_para_props around;
-  asked = asked around;
+round_of says ancestors = record {
+  quiet = list_any is_quiet ancestors;
+  freed = list_any (frees says) ancestors;
+  left = list_any (leaves says) ancestors;
+  place = place ancestors;
+  para = within ("p" ∷ []) ancestors;
+  para_props = in_para_props ancestors;
+  asked = asked ancestors;
 }
 
 -- the place of an element's kids

@@ -126,7 +126,7 @@ fn in_cells(place: Place) -> bool
 
 /// Whether an element is a paragraph in a block list, and no decided member itself.
 pub(crate) fn is_block_para(elem: &Elem, says: &[Say], round: Round) -> bool
-    ensures is { (around : List Tag) → round ≡ round_of says.now around → result ≡ is_block_para_by says.now around (tag_of elem.now) }
+    ensures is { (ancestors : List Tag) → round ≡ round_of says.now ancestors → result ≡ is_block_para_by says.now ancestors (tag_of elem.now) }
     ensures left { result ≡ true → is_leave (fate_by says.now (tag_of elem.now)) ≡ true }
 {
     is_named(elem, b"p") && round.place.is_block_list() && fate_of(says, elem) == Fate::Leave
@@ -134,15 +134,15 @@ pub(crate) fn is_block_para(elem: &Elem, says: &[Say], round: Round) -> bool
 
 /// Whether an element is a table, a row, a cell or a shell that goes.
 pub(crate) fn goes_at(elem: &Elem, says: &[Say], round: Round) -> bool
-    ensures { (around : List Tag) → round ≡ round_of says.now around → result ≡ goes_at_by says.now around (tag_of elem.now) (kids_of elem.now) }
+    ensures { (ancestors : List Tag) → round ≡ round_of says.now ancestors → result ≡ goes_at_by says.now ancestors (tag_of elem.now) (kids_of elem.now) }
 {
     may_go(elem, round) && goes(elem, in_cells(round.place), says)
 }
 
 /// Whether an element is of a sort that goes in some documents: a table, a row, a cell or a shell.
 pub(crate) fn may_go(elem: &Elem, round: Round) -> bool
-    ensures { (says : List Say) → (around : List Tag) → round ≡ round_of says around
-        → result ≡ may_go_by around (tag_of elem.now) }
+    ensures { (says : List Say) → (ancestors : List Tag) → round ≡ round_of says ancestors
+        → result ≡ may_go_by ancestors (tag_of elem.now) }
 {
     is_named(elem, b"tc")
         || is_named(elem, b"tr")
@@ -154,8 +154,8 @@ pub(crate) fn may_go(elem: &Elem, round: Round) -> bool
 pub(crate) fn is_wide(elem: &Elem, round: Round) -> bool
     ensures row { result ≡ true → is "tr" (tag_of elem.now) ≡ false }
     ensures cell { result ≡ true → is "tc" (tag_of elem.now) ≡ false }
-    ensures wide { (says : List Say) → (around : List Tag) → round ≡ round_of says around
-        → result ≡ true → (is "tbl" (tag_of elem.now) || is_shell around (tag_of elem.now)) ≡ true }
+    ensures wide { (says : List Say) → (ancestors : List Tag) → round ≡ round_of says ancestors
+        → result ≡ true → (is "tbl" (tag_of elem.now) || is_shell ancestors (tag_of elem.now)) ≡ true }
 {
     if is_named(elem, b"tr") || is_named(elem, b"tc") {
         return false;

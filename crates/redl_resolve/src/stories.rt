@@ -83,6 +83,8 @@ impl<L: Ledger> StoryChange<Steps<L>> for Passing<'_> {
 
     ghost rule = { pass_rule };
 
+    ghost Takes = { λ _ _ _. Unit {0} };
+
     ghost is_counted = { true };
 
     ghost steps = { λ steps. steps };

@@ -1,7 +1,7 @@
 //! The pass of the nodes of a story, in one walk.
 //!
 //! Each function of the walk says two things (`specs/Passes.antt`): what becomes of the nodes that it is given, with what the
-//! nearest table or row has to know of them (`passes`), and how many steps it counts (`counts`). `around` are the tags of the
+//! nearest table or row has to know of them (`passes`), and how many steps it counts (`counts`). `ancestors` are the tags of the
 //! ancestors, and `round` is their summary.
 
 ghost use Rattle.std.specs.Prelude.{◌≡◌, ◌∷◌, ◌≤◌, ◌+◌, [], List, IfOk};
@@ -24,7 +24,7 @@ use crate::stays::all_stay;
 use crate::steps::Steps;
 use crate::walk::Walk;
 use redl_tables::{Finding, fate_of, para_is_cut};
-use redl_tree::{Elem, Fate, Node, Say, is_thick};
+use redl_tree::{Elem, Fate, Node, Say, has_elements, is_thick};
 use std::alloc::{AllocError, Global};
 use std::mem;
 use std::sync::ledger::Ledger;
@@ -42,7 +42,7 @@ pub(crate) fn pass_story<'a, L: Ledger>(
     ensures made { IfOk result (λ passed. steps.old + count (nodes_of passed.items) ≤ steps.new) }
 {
     let mut walk = Walk { alloc, says, steps };
-    let (passed, _) = walk.pass_kids(kids, in_root(says, root))?;
+    let (passed, _) = walk.pass_kids(kids, &in_root(says, root))?;
     Ok(passed)
 }
 
@@ -52,14 +52,14 @@ impl<L: Ledger> Walk<'_, '_, L> {
     fn pass_kids<'a>(
         &mut self,
         kids: Vec<Node<'a>>,
-        round: Round,
+        round: &Round,
     ) -> Result<(Vec<Node<'a>>, Finding), AllocError>
-        ensures passes { IfOk result (λ r. PassesList self.old.says.now round (nodes_of kids.entry.items) (nodes_of r.0.items) r.1) }
+        ensures passes { IfOk result (λ r. PassesList self.old.says.now round.now (nodes_of kids.entry.items) (nodes_of r.0.items) r.1) }
         ensures counts { Counts self.old self.new (visits self.old.says.now (nodes_of kids.entry.items)) result 0 (λ r. count (nodes_of r.0.items)) }
     {
         let mut kids = kids;
         // Most lists hold nothing that is decided, and then no second list is made.
-        if all_stay(&kids, self.says, round) {
+        if all_stay(&kids, self.says, *round) {
             let answer = self.pass_each(&mut kids, round)?;
             return Ok((kids, answer));
         }
@@ -70,9 +70,9 @@ impl<L: Ledger> Walk<'_, '_, L> {
 
     // Passes the kids of each node in its place, for a list in which all nodes stay.
     #[cycle(pass)]
-    fn pass_each(&mut self, nodes: &mut [Node], round: Round) -> Result<Finding, AllocError>
-        ensures passes { IfOk result (λ found. Passes self.old.says.now round
-            (λ around. nodes_of nodes.new ≡ passed_each self.old.says.now around (nodes_of nodes.old)) found (answer self.old.says.now round.asked (nodes_of nodes.old))) }
+    fn pass_each(&mut self, nodes: &mut [Node], round: &Round) -> Result<Finding, AllocError>
+        ensures passes { IfOk result (λ found. Passes self.old.says.now round.now
+            (λ ancestors. nodes_of nodes.new ≡ passed_each self.old.says.now ancestors (nodes_of nodes.old)) found (answer self.old.says.now round.now.asked (nodes_of nodes.old))) }
         ensures counts { Counts self.old self.new (count (nodes_of nodes.old)) result 0 (λ _. count (nodes_of nodes.new)) }
     {
         let mut all = Finding::Nothing;
@@ -84,9 +84,9 @@ impl<L: Ledger> Walk<'_, '_, L> {
     }
 
     #[cycle(pass)]
-    fn pass_below(&mut self, node: &mut Node, round: Round) -> Result<Finding, AllocError>
-        ensures passes { IfOk result (λ found. Passes self.old.says.now round
-            (λ around. item_of node.new ≡ item_passed_each self.old.says.now around (item_of node.old)) found (item_answer self.old.says.now round.asked (item_of node.old))) }
+    fn pass_below(&mut self, node: &mut Node, round: &Round) -> Result<Finding, AllocError>
+        ensures passes { IfOk result (λ found. Passes self.old.says.now round.now
+            (λ ancestors. item_of node.new ≡ item_passed_each self.old.says.now ancestors (item_of node.old)) found (item_answer self.old.says.now round.now.asked (item_of node.old))) }
         ensures counts { Counts self.old self.new (item_count (item_of node.old)) result 0 (λ _. item_count (item_of node.new)) }
     {
         self.steps.tick();
@@ -99,27 +99,43 @@ impl<L: Ledger> Walk<'_, '_, L> {
     // Makes of an element that stays what it becomes: its kids are passed, a rejected change among them gives the former
     // properties back, and deleted text that is live again is renamed. The answer is that of the kids.
     #[cycle(pass)]
-    fn pass_left(&mut self, elem: &mut Elem, round: Round) -> Result<Finding, AllocError>
-        ensures passes { IfOk result (λ found. Passes self.old.says.now round (λ around. Stays self.old.says.now around elem.old elem.new)
-            found (answer self.old.says.now (asked_inside (tag_of elem.old) round.asked) (kids_of elem.old))) }
+    fn pass_left(&mut self, elem: &mut Elem, round: &Round) -> Result<Finding, AllocError>
+        ensures passes { IfOk result (λ found. Passes self.old.says.now round.now (λ ancestors. Stays self.old.says.now ancestors elem.old elem.new)
+            found (answer self.old.says.now (asked_inside (tag_of elem.old) round.now.asked) (kids_of elem.old))) }
+        ensures counts { Counts self.old self.new (count (kids_of elem.old)) result 0 (λ _. count (kids_of elem.new)) }
+    {
+        if has_elements(elem.kids()) {
+            return self.pass_through(elem, round);
+        }
+        // What holds no element keeps its kids.
+        self.steps.tick_each(elem.kids());
+        rename(elem, *round);
+        Ok(Finding::Nothing)
+    }
+
+    // The same for an element that may hold others.
+    #[cycle(pass)]
+    fn pass_through(&mut self, elem: &mut Elem, round: &Round) -> Result<Finding, AllocError>
+        ensures passes { IfOk result (λ found. Passes self.old.says.now round.now (λ ancestors. Stays self.old.says.now ancestors elem.old elem.new)
+            found (answer self.old.says.now (asked_inside (tag_of elem.old) round.now.asked) (kids_of elem.old))) }
         ensures counts { Counts self.old self.new (count (kids_of elem.old)) result 0 (λ _. count (kids_of elem.new)) }
     {
         let former = rejected(self.alloc, elem.kids(), self.says)?;
-        let inner = inside(round, elem, fate_of(self.says, elem));
+        let inner = inside(*round, elem, fate_of(self.says, elem));
         let kids = elem.take_kids(self.alloc);
-        let (passed, below) = self.pass_kids(kids, inner)?;
+        let (passed, below) = self.pass_kids(kids, &inner)?;
         count_former(&former, self.steps);
-        let kept = after_change(self.alloc, former, elem, passed, round)?;
+        let kept = after_change(self.alloc, former, elem, passed, *round)?;
         elem.return_kids(kept);
-        rename(elem, round);
+        rename(elem, *round);
         Ok(below)
     }
 
     // The same, with the answer of the element itself.
     #[cycle(pass)]
-    fn pass_answering(&mut self, elem: &mut Elem, round: Round) -> Result<Finding, AllocError>
-        ensures passes { IfOk result (λ found. Passes self.old.says.now round (λ around. Stays self.old.says.now around elem.old elem.new)
-            found (elem_answer self.old.says.now round.asked (tag_of elem.old) (kids_of elem.old))) }
+    fn pass_answering(&mut self, elem: &mut Elem, round: &Round) -> Result<Finding, AllocError>
+        ensures passes { IfOk result (λ found. Passes self.old.says.now round.now (λ ancestors. Stays self.old.says.now ancestors elem.old elem.new)
+            found (elem_answer self.old.says.now round.now.asked (tag_of elem.old) (kids_of elem.old))) }
         ensures counts { Counts self.old self.new (count (kids_of elem.old)) result 0 (λ _. count (kids_of elem.new)) }
     {
         let own = round.asked.own_answer(elem, self.says);
@@ -132,12 +148,12 @@ impl<L: Ledger> Walk<'_, '_, L> {
     fn pass_onto<'a>(
         &mut self,
         nodes: Vec<Node<'a>>,
-        round: Round,
+        round: &Round,
         passed: &mut Vec<Node<'a>>,
     ) -> Result<Finding, AllocError>
-        ensures passes { IfOk result (λ found. Passes self.old.says.now round
-            (λ around. nodes_of passed.new.items ≡ nodes_of passed.old.items ⊕ pass self.old.says.now around (nodes_of nodes.entry.items))
-            found (answer self.old.says.now round.asked (nodes_of nodes.entry.items))) }
+        ensures passes { IfOk result (λ found. Passes self.old.says.now round.now
+            (λ ancestors. nodes_of passed.new.items ≡ nodes_of passed.old.items ⊕ pass self.old.says.now ancestors (nodes_of nodes.entry.items))
+            found (answer self.old.says.now round.now.asked (nodes_of nodes.entry.items))) }
         ensures counts { Counts self.old self.new (visits self.old.says.now (nodes_of nodes.entry.items)) result
             (count (nodes_of passed.old.items)) (λ _. count (nodes_of passed.new.items)) }
     {
@@ -155,11 +171,11 @@ impl<L: Ledger> Walk<'_, '_, L> {
     fn pass_node<'a>(
         &mut self,
         node: Node<'a>,
-        round: Round,
+        round: &Round,
         made: &mut Made<'a>,
     ) -> Result<Finding, AllocError>
-        ensures passes { IfOk result (λ found. Passes self.old.says.now round
-            (λ around. AddsPiece made.old made.new (item_piece self.old.says.now around (item_of node.entry))) found (item_answer self.old.says.now round.asked (item_of node.entry))) }
+        ensures passes { IfOk result (λ found. Passes self.old.says.now round.now
+            (λ ancestors. AddsPiece made.old made.new (item_piece self.old.says.now ancestors (item_of node.entry))) found (item_answer self.old.says.now round.now.asked (item_of node.entry))) }
         ensures counts { Counts self.old self.new (item_visits self.old.says.now (item_of node.entry)) result (weight made.old) (λ _. weight made.new) }
     {
         self.steps.tick();
@@ -177,13 +193,13 @@ impl<L: Ledger> Walk<'_, '_, L> {
     fn pass_elem<'a>(
         &mut self,
         elem: Elem<'a>,
-        round: Round,
+        round: &Round,
         made: &mut Made<'a>,
     ) -> Result<Finding, AllocError>
-        ensures passes { IfOk result (PassesElem self.old.says.now round elem.entry elem_piece made.old made.new) }
+        ensures passes { IfOk result (PassesElem self.old.says.now round.now elem.entry elem_piece made.old made.new) }
         ensures counts { Counts self.old self.new (kids_visits self.old.says.now (tag_of elem.entry) (kids_of elem.entry)) result (1 + weight made.old) (λ _. weight made.new) }
     {
-        if is_block_para(&elem, self.says, round) {
+        if is_block_para(&elem, self.says, *round) {
             return self.pass_para(elem, round, made);
         }
         if is_thick(&elem) {
@@ -196,10 +212,10 @@ impl<L: Ledger> Walk<'_, '_, L> {
     fn pass_para<'a>(
         &mut self,
         elem: Elem<'a>,
-        round: Round,
+        round: &Round,
         made: &mut Made<'a>,
     ) -> Result<Finding, AllocError>
-        ensures passes { IfOk result (PassesElem self.old.says.now round elem.entry para_piece made.old made.new) }
+        ensures passes { IfOk result (PassesElem self.old.says.now round.now elem.entry para_piece made.old made.new) }
         ensures counts { Counts self.old self.new (count (kids_of elem.entry)) result (1 + weight made.old) (λ _. weight made.new) }
     {
         let cut = para_is_cut(elem.kids(), self.says);
@@ -214,10 +230,10 @@ impl<L: Ledger> Walk<'_, '_, L> {
     fn pass_other<'a>(
         &mut self,
         elem: Elem<'a>,
-        round: Round,
+        round: &Round,
         made: &mut Made<'a>,
     ) -> Result<Finding, AllocError>
-        ensures passes { IfOk result (PassesElem self.old.says.now round elem.entry other_piece made.old made.new) }
+        ensures passes { IfOk result (PassesElem self.old.says.now round.now elem.entry other_piece made.old made.new) }
         ensures counts { Counts self.old self.new (kids_visits self.old.says.now (tag_of elem.entry) (kids_of elem.entry)) result (1 + weight made.old) (λ _. weight made.new) }
     {
         let fate = fate_of(self.says, &elem);
@@ -226,8 +242,8 @@ impl<L: Ledger> Walk<'_, '_, L> {
             Fate::Free => {
                 let answer = round.asked.answer_of(&elem, self.says);
                 if elem.kind().is_content() {
-                    let inner = inside(round, &elem, fate);
-                    self.pass_freed(elem.into_kids(self.alloc), inner, made)?;
+                    let inner = inside(*round, &elem, fate);
+                    self.pass_freed(elem.into_kids(self.alloc), &inner, made)?;
                     return Ok(answer);
                 }
                 Ok(answer)
@@ -241,13 +257,13 @@ impl<L: Ledger> Walk<'_, '_, L> {
     fn pass_staying<'a>(
         &mut self,
         elem: Elem<'a>,
-        round: Round,
+        round: &Round,
         made: &mut Made<'a>,
     ) -> Result<Finding, AllocError>
-        ensures passes { IfOk result (PassesElem self.old.says.now round elem.entry left_piece made.old made.new) }
+        ensures passes { IfOk result (PassesElem self.old.says.now round.now elem.entry left_piece made.old made.new) }
         ensures counts { Counts self.old self.new (count (kids_of elem.entry)) result (1 + weight made.old) (λ _. weight made.new) }
     {
-        if !is_wide(&elem, round) {
+        if !is_wide(&elem, *round) {
             return self.pass_narrow(elem, round, made);
         }
         let mut elem = elem;
@@ -262,13 +278,13 @@ impl<L: Ledger> Walk<'_, '_, L> {
     fn pass_narrow<'a>(
         &mut self,
         elem: Elem<'a>,
-        round: Round,
+        round: &Round,
         made: &mut Made<'a>,
     ) -> Result<Finding, AllocError>
-        ensures passes { IfOk result (PassesElem self.old.says.now round elem.entry left_piece made.old made.new) }
+        ensures passes { IfOk result (PassesElem self.old.says.now round.now elem.entry left_piece made.old made.new) }
         ensures counts { Counts self.old self.new (count (kids_of elem.entry)) result (1 + weight made.old) (λ _. weight made.new) }
     {
-        if goes_at(&elem, self.says, round) {
+        if goes_at(&elem, self.says, *round) {
             return Ok(round.asked.answer_of(&elem, self.says));
         }
         let mut elem = elem;
@@ -282,12 +298,12 @@ impl<L: Ledger> Walk<'_, '_, L> {
     fn pass_freed<'a>(
         &mut self,
         kids: Vec<Node<'a>>,
-        round: Round,
+        round: &Round,
         made: &mut Made<'a>,
     ) -> Result<Finding, AllocError>
-        ensures passes { IfOk result (λ found. Passes self.old.says.now round
-            (λ around. AddsPiece made.old made.new (thin (pass self.old.says.now around (nodes_of kids.entry.items))))
-            found (answer self.old.says.now round.asked (nodes_of kids.entry.items))) }
+        ensures passes { IfOk result (λ found. Passes self.old.says.now round.now
+            (λ ancestors. AddsPiece made.old made.new (thin (pass self.old.says.now ancestors (nodes_of kids.entry.items))))
+            found (answer self.old.says.now round.now.asked (nodes_of kids.entry.items))) }
         ensures counts { Counts self.old self.new (visits self.old.says.now (nodes_of kids.entry.items)) result (weight made.old) (λ _. weight made.new) }
     {
         if made.has_no_chain() {

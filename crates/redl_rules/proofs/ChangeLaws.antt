@@ -8,7 +8,7 @@ use Rattle.redl_tree.specs.Roles.Names.{is}
 use Rattle.redl_tree.specs.Roles.Kinds.{is_change}
 use Rattle.redl_tree.specs.Roles.Places.{is_quiet, is_open, in_mark_props, in_row_props, in_cell_props, in_props, trace_of, row_trace_of, cell_trace_of, prop_of, placed, change_at, first_role, role}
 use Rattle.redl_tree.specs.Roles.Arounds.{around_of}
-use Rattle.redl_tree.specs.Rules.Sound.{only_last}
+use Rattle.redl_tree.specs.Rules.Tests.{only_last}
 use Rattle.redl_tree.specs.declared.around.Around.{Around}
 use Rattle.redl_tree.specs.declared.kinds.Trace.{Trace}
 use Rattle.redl_tree.specs.declared.kinds.Prop.{Prop}
@@ -42,7 +42,7 @@ no_props tag h =
     record { para = para.0; run = run.0; sect = sect.0; table = table.0; except = except.0; row = row.0; cell = cell.0 }
 
 -- where no ancestor is quiet, no change has its place
-holds_none : (above : List Tag) → list_any is_quiet above ≡ false → (prop : Prop) → in_props prop above ≡ false
+holds_none : (ancestors : List Tag) → list_any is_quiet ancestors ≡ false → (prop : Prop) → in_props prop ancestors ≡ false
 holds_none [] h Run = refl
 holds_none [] h Para = refl
 holds_none [] h Sect = refl
@@ -50,8 +50,8 @@ holds_none [] h Table = refl
 holds_none [] h Except = refl
 holds_none [] h RowProp = refl
 holds_none [] h CellProp = refl
-holds_none (tag ∷ above) h prop = of prop (no_props tag (or-false (is_quiet tag) (list_any is_quiet above) h).0) where
-  of : (prop : Prop) → IsNoProps tag → in_props prop (tag ∷ above) ≡ false
+holds_none (tag ∷ ancestors) h prop = of prop (no_props tag (or-false (is_quiet tag) (list_any is_quiet ancestors) h).0) where
+  of : (prop : Prop) → IsNoProps tag → in_props prop (tag ∷ ancestors) ≡ false
   of Run no_one = rw no_one.run refl
   of Para no_one = rw no_one.para refl
   of Sect no_one = rw no_one.sect refl
@@ -60,9 +60,9 @@ holds_none (tag ∷ above) h prop = of prop (no_props tag (or-false (is_quiet ta
   of RowProp no_one = rw no_one.row refl
   of CellProp no_one = rw no_one.cell refl
 
-no_change_at : (above : List Tag) (prop : Option Prop) → list_any is_quiet above ≡ false → change_at above prop ≡ None
-no_change_at above None h = refl
-no_change_at above (Some prop) h = rw (holds_none above h prop) refl
+no_change_at : (ancestors : List Tag) (prop : Option Prop) → list_any is_quiet ancestors ≡ false → change_at ancestors prop ≡ None
+no_change_at ancestors None h = refl
+no_change_at ancestors (Some prop) h = rw (holds_none ancestors h prop) refl
 
 -- ---- the first role
 
@@ -80,13 +80,13 @@ of_trace : (kind_of : Trace → Kind) (trace : Option Trace) → ((t : Trace) �
 of_trace kind_of None h = refl
 of_trace kind_of (Some t) h = h t
 
-no_change : (above : List Tag) (tag : Tag) → list_any is_quiet above ≡ false → is_change (role above tag) ≡ false
-no_change above tag h =
-    let last : is_change (first_role (change_at above (prop_of tag) ∷ [])) ≡ false = ap (λ (kind : Option Kind). is_change (first_role (kind ∷ []))) (no_change_at above (prop_of tag) h) in
-    let of_cell = past_first (in_cell_props above) (option_map Cell (cell_trace_of tag)) (change_at above (prop_of tag) ∷ []) (of_trace Cell (cell_trace_of tag) (λ t. refl)) last in
-    let of_row = past_first (in_row_props above) (option_map Row (row_trace_of tag)) _ (of_trace Row (row_trace_of tag) (λ t. refl)) of_cell in
-    let of_mark = past_first (in_mark_props above) (option_map Mark (trace_of tag)) _ (of_trace Mark (trace_of tag) (λ t. refl)) of_row in
-    past_first (is_open above) (option_map Content (trace_of tag)) _ (of_trace Content (trace_of tag) (λ t. refl)) of_mark
+no_change : (ancestors : List Tag) (tag : Tag) → list_any is_quiet ancestors ≡ false → is_change (role ancestors tag) ≡ false
+no_change ancestors tag h =
+    let last : is_change (first_role (change_at ancestors (prop_of tag) ∷ [])) ≡ false = ap (λ (kind : Option Kind). is_change (first_role (kind ∷ []))) (no_change_at ancestors (prop_of tag) h) in
+    let of_cell = past_first (in_cell_props ancestors) (option_map Cell (cell_trace_of tag)) (change_at ancestors (prop_of tag) ∷ []) (of_trace Cell (cell_trace_of tag) (λ t. refl)) last in
+    let of_row = past_first (in_row_props ancestors) (option_map Row (row_trace_of tag)) _ (of_trace Row (row_trace_of tag) (λ t. refl)) of_cell in
+    let of_mark = past_first (in_mark_props ancestors) (option_map Mark (trace_of tag)) _ (of_trace Mark (trace_of tag) (λ t. refl)) of_row in
+    past_first (is_open ancestors) (option_map Content (trace_of tag)) _ (of_trace Content (trace_of tag) (λ t. refl)) of_mark
 
 -- ---- lists of nodes
 
@@ -95,7 +95,7 @@ none_is_last test no_nodes h = refl
 none_is_last test (bytes b rest) h = none_is_last test rest h
 none_is_last test (element tag kids rest) h = rw (h tag) (none_is_last test rest h)
 
-pub no_change_in_content : (above : List Tag) (around : Around) (nodes : Nodes) → around ≡ around_of above → around.quiet ≡ false → only_last (λ kid. is_change (role above kid)) nodes ≡ true
-no_change_in_content above around nodes e h =
-    let none_quiet : list_any is_quiet above ≡ false = ap (λ (a : Around). a.quiet) (sym e) ∙ h in
-    none_is_last (λ kid. is_change (role above kid)) nodes (λ tag. no_change above tag none_quiet)
+pub no_change_in_content : (ancestors : List Tag) (around : Around) (nodes : Nodes) → around ≡ around_of ancestors → around.quiet ≡ false → only_last (λ kid. is_change (role ancestors kid)) nodes ≡ true
+no_change_in_content ancestors around nodes e h =
+    let none_quiet : list_any is_quiet ancestors ≡ false = ap (λ (a : Around). a.quiet) (sym e) ∙ h in
+    none_is_last (λ kid. is_change (role ancestors kid)) nodes (λ tag. no_change ancestors tag none_quiet)

@@ -1,12 +1,14 @@
 -- Which rules hold, a node and a story at a time.
-use Rattle.std.proofs.Common.{◌≡◌, refl, ap, ℕ, zero, suc, ◌+◌, ◌<◌, length, take, drop, set, get_or, arith, Bool, true, false, ◌&&◌, not, List, [], ◌∷◌, ◌++◌, map, Option, Some, option_map, if◌then◌else◌, sym, ◌∙◌}
+use Rattle.std.proofs.Common.{◌≡◌, refl, ap, ℕ, zero, suc, ◌+◌, ◌<◌, length, take, drop, set, get_or, arith, Bool, true, false, true≢false, ◌&&◌, not, List, [], ◌∷◌, ◌++◌, map, Option, Some, option_map, if◌then◌else◌, sym, ◌∙◌}
 use Rattle.std.specs.List.{position, position_from}
 use Rattle.std.proofs.lemmas.Iterator.Adapters.{position_from-zero}
-use Rattle.redl_tree.specs.Model.Nodes.{Tag, Nodes, no_nodes, element, Item, bytes_item, element_item, in_front}
+use Rattle.redl_tree.specs.Model.Nodes.{Tag, Nodes, no_nodes, bytes, element, Item, bytes_item, element_item, in_front}
+use Rattle.redl_tree.specs.Model.Kids.{has_element}
 use Rattle.redl_tree.specs.Model.View.{Parts}
 use Rattle.redl_tree.specs.Decisions.Packages.{stories}
 use Rattle.redl_rules.specs.declared.kept.Kept.{Kept}
-use Rattle.redl_tree.specs.Rules.Sound.{Test, everywhere, holds, first_broken}
+use Rattle.redl_tree.specs.Rules.Tests.{Test, everywhere}
+use Rattle.redl_tree.specs.Rules.Sound.{holds, first_broken}
 use Rattle.redl_rules.specs.Attributes.{rules, broken_rule}
 use Rattle.redl_rules.specs.Keeping.{kept_by, all_kept, each_and, in_both, kept_in, item_kept, element_kept, kept_among, least_broken}
 
@@ -80,17 +82,28 @@ each-end (suc n) (x ∷ xs) (y ∷ ys) long as_long = ap (λ bs. (x && y) ∷ bs
 
 -- what tells which rules hold of a node
 abbrev pub item_told : List Tag → Item → Test → Bool
-item_told above (bytes_item b) test = true
-item_told above (element_item tag kids) test = test above tag kids && everywhere test (tag ∷ above) kids
+item_told ancestors (bytes_item b) test = true
+item_told ancestors (element_item tag kids) test = test ancestors tag kids && everywhere test (tag ∷ ancestors) kids
 
-pub item_kept-told : (above : List Tag) (x : Item) → item_kept above x ≡ kept_by (item_told above x)
-item_kept-told above (bytes_item b) = refl
-item_kept-told above (element_item tag kids) = in_both-by (λ test. test above tag kids) (λ test. everywhere test (tag ∷ above) kids)
+pub item_kept-told : (ancestors : List Tag) (x : Item) → item_kept ancestors x ≡ kept_by (item_told ancestors x)
+item_kept-told ancestors (bytes_item b) = refl
+item_kept-told ancestors (element_item tag kids) = in_both-by (λ test. test ancestors tag kids) (λ test. everywhere test (tag ∷ ancestors) kids)
 
-pub kept_in-in_front : (above : List Tag) (x : Item) (ys : Nodes) → kept_in above (in_front x ys) ≡ in_both (kept_by (item_told above x)) (kept_in above ys)
-kept_in-in_front above (bytes_item b) ys = sym (in_both-by (λ test. true) (λ test. everywhere test above ys))
-kept_in-in_front above (element_item tag kids) ys =
-    sym (in_both-by (λ test. test above tag kids && everywhere test (tag ∷ above) kids) (λ test. everywhere test above ys))
+pub kept_in-in_front : (ancestors : List Tag) (x : Item) (ys : Nodes) → kept_in ancestors (in_front x ys) ≡ in_both (kept_by (item_told ancestors x)) (kept_in ancestors ys)
+kept_in-in_front ancestors (bytes_item b) ys = sym (in_both-by (λ test. true) (λ test. everywhere test ancestors ys))
+kept_in-in_front ancestors (element_item tag kids) ys =
+    sym (in_both-by (λ test. test ancestors tag kids && everywhere test (tag ∷ ancestors) kids) (λ test. everywhere test ancestors ys))
+
+-- where no element is, all rules hold
+none-told : (test : Test) (ancestors : List Tag) (nodes : Nodes) → has_element nodes ≡ false → everywhere test ancestors nodes ≡ true
+none-told test ancestors no_nodes none = refl
+none-told test ancestors (bytes b rest) none = none-told test ancestors rest none
+none-told test ancestors (element tag kids rest) none = absurd (true≢false none)
+
+pub kept-none : (kept : Kept) (ancestors : List Tag) (nodes : Nodes) → has_element nodes ≡ false → in_both kept (kept_in ancestors nodes) ≡ kept
+kept-none kept ancestors nodes none =
+    ap (in_both kept) (kept_by-same (λ test. everywhere test ancestors nodes) (λ test. true) (λ test. none-told test ancestors nodes none))
+    ∙ in_both-all kept
 
 -- ---- stories
 

@@ -7,7 +7,7 @@ use Rattle.redl_tree.proofs.AroundLaws.{around_of-∷}
 use Rattle.redl_rules.specs.declared.round.Round.{Round}
 use Rattle.redl_rules.specs.Rounds.{round_of, round_inside}
 
-pub round_of-∷ : (tag : Tag) (above : List Tag) → round_of (tag ∷ above) ≡ round_inside tag (role above tag) (round_of above)
-round_of-∷ tag above =
-    let Told : Around → Round = λ around. record (round_of (tag ∷ above)) { around = around } in
-    ap Told (around_of-∷ tag above)
+pub round_of-∷ : (tag : Tag) (ancestors : List Tag) → round_of (tag ∷ ancestors) ≡ round_inside tag (role ancestors tag) (round_of ancestors)
+round_of-∷ tag ancestors =
+    let Told : Around → Round = λ around. record (round_of (tag ∷ ancestors)) { around = around } in
+    ap Told (around_of-∷ tag ancestors)

@@ -1,18 +1,42 @@
 -- The rules by what the ancestors are to an element are the rules.
-use Rattle.std.proofs.Common.{◌≡◌, refl, List, [], ◌∷◌, Bool, true, false, ◌&&◌}
+use Rattle.std.proofs.Common.{◌≡◌, refl, ap, ◌∙◌, List, [], ◌∷◌, Bool, true, false, ◌&&◌, ◌||◌, not}
 use Rattle.redl_tree.specs.Model.Nodes.{Tag, Nodes}
-use Rattle.redl_tree.specs.Rules.Sound.{implies, once, each_once, test_3, test_5, test_6, test_9}
+use Rattle.redl_tree.specs.Rules.Tests.{implies, open_one, once, each_once, only_first, only_last}
+use Rattle.redl_tree.specs.Rules.CellEnds.{end_of, is_so}
+use Rattle.redl_tree.specs.Rules.Sound.{change_declares, test_1, test_2, test_3, test_5, test_6, test_9}
+use Rattle.redl_tree.specs.Decisions.Tables.{has_own}
+use Rattle.redl_tree.specs.Roles.Names.{is}
+use Rattle.redl_tree.specs.Roles.Kinds.{is_content, is_change}
+use Rattle.redl_tree.specs.declared.lists.Reach.TheVariants.{Direct}
 use Rattle.redl_tree.specs.Roles.Arounds.{parent_of, around_of}
 use Rattle.redl_tree.specs.Roles.Places.{role, in_para_props, in_mark_props, in_row_props, in_cell_props}
 use Rattle.redl_tree.specs.declared.around.Parent.{Parent}
-use Rattle.redl_tree.specs.declared.around.Parent.TheVariants.{ParaProps, MarkProps, RowProps, CellProps}
+use Rattle.redl_tree.specs.declared.around.Parent.TheVariants.{Para as InPara, Row as InRow, Cell as InCell, Body as InBody, ParaProps, MarkProps, RowProps, CellProps}
 use Rattle.redl_tree.proofs.AroundLaws.{and-true, same, fits-same}
 use Rattle.redl_rules.specs.Attributes.{declares}
 use Rattle.redl_rules.specs.Rounds.{round_of}
-use Rattle.redl_rules.specs.Rules.{marks_once, by_round_3, by_round_5, by_round_6, by_round_9}
+use Rattle.redl_rules.specs.Rules.{ends_well, has_cells, by_round_3, marks_once, props_in_place, by_round_6, is_in_para, by_round_9}
 
-pub test_3-by : (above : List Tag) (tag : Tag) (kids : Nodes) → test_3 above tag kids ≡ by_round_3 (round_of above) (role above tag) tag kids
-test_3-by above tag kids = refl
+pub test_3-by : (ancestors : List Tag) (tag : Tag) (kids : Nodes) → test_3 ancestors tag kids ≡ by_round_3 (round_of ancestors) (role ancestors tag) tag kids
+test_3-by ancestors tag kids = refl
+
+-- ---- rules of one parent
+
+pub test_1-by : (ancestors : List Tag) (tag : Tag) (kids : Nodes) → test_1 ancestors tag kids ≡ ends_well (parent_of (tag ∷ ancestors)) kids
+test_1-by ancestors tag kids = ap (λ b. implies b (is_so (end_of Direct kids))) (fits-same InCell (tag ∷ ancestors) refl) ∙ by (parent_of (tag ∷ ancestors))
+  where
+    by : (parent : Parent) → implies (same InCell parent) (is_so (end_of Direct kids)) ≡ ends_well parent kids
+    by InCell = refl
+    by _ = refl
+
+pub test_2-by : (ancestors : List Tag) (tag : Tag) (kids : Nodes) → test_2 ancestors tag kids ≡ has_cells (parent_of (tag ∷ ancestors)) kids
+test_2-by ancestors tag kids = ap (λ b. implies b (has_own "tc" Direct kids)) (fits-same InRow (tag ∷ ancestors) refl) ∙ by (parent_of (tag ∷ ancestors))
+  where
+    by : (parent : Parent) → implies (same InRow parent) (has_own "tc" Direct kids) ≡ has_cells parent kids
+    by InRow = refl
+    by _ = refl
+
+-- ---- rule 5
 
 -- what stands once where the nearest ancestor is so
 abbrev once_by : Nodes → Bool → Bool → Bool → Bool → Bool
@@ -40,14 +64,61 @@ once-told : (parent : Parent) (kids : Nodes) (para mark row cell : Bool) → par
     row ≡ same RowProps parent → cell ≡ same CellProps parent → once_by kids para mark row cell ≡ marks_once parent kids
 once-told parent kids para mark row cell is_para is_mark is_row is_cell = rw (is_para, is_mark, is_row, is_cell) (once-by parent kids)
 
-pub test_5-by : (above : List Tag) (tag : Tag) (kids : Nodes) → test_5 above tag kids ≡ by_round_5 (around_of (tag ∷ above)) kids
-test_5-by above tag kids =
-    let around = tag ∷ above in
-    once-told (parent_of around) kids (in_para_props around) (in_mark_props around) (in_row_props around) (in_cell_props around)
-    (fits-same ParaProps around refl) (fits-same MarkProps around refl) (fits-same RowProps around refl) (fits-same CellProps around refl)
+pub test_5-by : (ancestors : List Tag) (tag : Tag) (kids : Nodes) → test_5 ancestors tag kids ≡ marks_once (parent_of (tag ∷ ancestors)) kids
+test_5-by ancestors tag kids =
+    let inner = tag ∷ ancestors in
+    once-told (parent_of inner) kids (in_para_props inner) (in_mark_props inner) (in_row_props inner) (in_cell_props inner)
+    (fits-same ParaProps inner refl) (fits-same MarkProps inner refl) (fits-same RowProps inner refl) (fits-same CellProps inner refl)
 
-pub test_6-by : (above : List Tag) (tag : Tag) (kids : Nodes) → test_6 above tag kids ≡ by_round_6 (around_of above) tag kids
-test_6-by above tag kids = refl
+-- ---- rule 6
 
-pub test_9-by : (above : List Tag) (tag : Tag) (kids : Nodes) → test_9 declares above tag kids ≡ by_round_9 (around_of above) (role above tag) tag kids
-test_9-by above tag kids = refl
+-- what stands in its place where the parent of the kids is so
+abbrev pub placed_by : Nodes → Bool → Bool → Bool → Bool → Bool → Bool
+placed_by kids para row cell body control =
+    implies para (only_first (is "pPr") kids)
+    && implies row (once "trPr" kids)
+    && implies cell (once "tcPr" kids)
+    && implies body (only_last (is "sectPr") kids)
+    && implies control (once "sdtContent" kids)
+
+placed-by : (parent : Parent) (kids : Nodes) (control : Bool) →
+    placed_by kids (same InPara parent) (same InRow parent) (same InCell parent) (same InBody parent) control
+    ≡ (props_in_place parent kids && implies control (once "sdtContent" kids))
+placed-by InPara kids control = first (only_first (is "pPr") kids)
+  where
+    first : (a : Bool) → (a && true && true && true && implies control (once "sdtContent" kids)) ≡ (a && implies control (once "sdtContent" kids))
+    first true = refl
+    first false = refl
+placed-by InRow kids control = second (once "trPr" kids)
+  where
+    second : (a : Bool) → (a && true && true && implies control (once "sdtContent" kids)) ≡ (a && implies control (once "sdtContent" kids))
+    second true = refl
+    second false = refl
+placed-by InCell kids control = ap (λ a. a && implies control (once "sdtContent" kids)) (and-true (once "tcPr" kids))
+placed-by _ kids control = refl
+
+placed-told : (parent : Parent) (kids : Nodes) (para row cell body control : Bool) → para ≡ same InPara parent → row ≡ same InRow parent →
+    cell ≡ same InCell parent → body ≡ same InBody parent →
+    placed_by kids para row cell body control ≡ (props_in_place parent kids && implies control (once "sdtContent" kids))
+placed-told parent kids para row cell body control is_para is_row is_cell is_body =
+    rw (is_para, is_row, is_cell, is_body) (placed-by parent kids control)
+
+pub test_6-by : (ancestors : List Tag) (tag : Tag) (kids : Nodes) →
+    test_6 ancestors tag kids ≡ by_round_6 (around_of (tag ∷ ancestors)) (around_of ancestors) tag kids
+test_6-by ancestors tag kids =
+    let inner = tag ∷ ancestors in
+    placed-told (parent_of inner) kids (open_one "p" ancestors tag) (open_one "tr" ancestors tag) (open_one "tc" ancestors tag) (open_one "body" ancestors tag) (open_one "sdt" ancestors tag)
+    (fits-same InPara inner refl) (fits-same InRow inner refl) (fits-same InCell inner refl) (fits-same InBody inner refl)
+
+-- ---- rule 9
+
+para-told : (parent : Parent) → same InPara parent ≡ is_in_para parent
+para-told InPara = refl
+para-told _ = refl
+
+pub test_9-by : (ancestors : List Tag) (tag : Tag) (kids : Nodes) →
+    test_9 declares ancestors tag kids ≡ by_round_9 (parent_of (tag ∷ ancestors)) (role ancestors tag) tag kids
+test_9-by ancestors tag kids =
+    let kind = role ancestors tag in
+    ap (λ b. implies (b || is_content kind || is_change kind) (not (declares tag.tail)) && not (change_declares declares kind kids))
+    (fits-same InPara (tag ∷ ancestors) refl ∙ para-told (parent_of (tag ∷ ancestors)))

@@ -6,7 +6,8 @@ use Rattle.redl_markup.specs.Names.{Name}
 use Rattle.redl_markup.specs.Attributes.{attributes_of}
 use Rattle.redl_stamp.specs.Attribute.{attribute_value}
 use Rattle.redl_tree.specs.Model.Nodes.{Nodes}
-use Rattle.redl_tree.specs.Rules.Sound.{Test, tests, broken}
+use Rattle.redl_tree.specs.Rules.Tests.{Test}
+use Rattle.redl_tree.specs.Rules.Sound.{tests, broken}
 
 -- an attribute with the local name `id`, and with any prefix but that of declarations
 abbrev pub has_id : List ℕ → Bool

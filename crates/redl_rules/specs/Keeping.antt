@@ -3,7 +3,8 @@ use Rattle.std.specs.Prelude.{ℕ, List, [], ◌∷◌, Bool, true, ◌&&◌, no
 use Rattle.std.specs.List.{position_from}
 use Rattle.redl_tree.specs.Model.Nodes.{Tag, Nodes, Item, bytes_item, element_item}
 use Rattle.redl_tree.specs.Model.View.{Parts}
-use Rattle.redl_tree.specs.Rules.Sound.{Test, everywhere, holds}
+use Rattle.redl_tree.specs.Rules.Tests.{Test, everywhere}
+use Rattle.redl_tree.specs.Rules.Sound.{holds}
 use Rattle.redl_rules.specs.Attributes.{rules}
 use Rattle.redl_rules.specs.declared.kept.Kept.{Kept}
 
@@ -26,19 +27,19 @@ in_both a b = record { rules = each_and a.rules b.rules }
 
 -- the rules that hold of an element by itself
 abbrev pub kept_here : List Tag → Tag → Nodes → Kept
-kept_here around tag kids = kept_by (λ test. test around tag kids)
+kept_here ancestors tag kids = kept_by (λ test. test ancestors tag kids)
 
 -- the same of all elements among nodes, at every depth
 abbrev pub kept_in : List Tag → Nodes → Kept
-kept_in around nodes = kept_by (λ test. everywhere test around nodes)
+kept_in ancestors nodes = kept_by (λ test. everywhere test ancestors nodes)
 
 -- the same of an element and all below it, and of a node
 abbrev pub element_kept : List Tag → Tag → Nodes → Kept
-element_kept around tag kids = in_both (kept_here around tag kids) (kept_in (tag ∷ around) kids)
+element_kept ancestors tag kids = in_both (kept_here ancestors tag kids) (kept_in (tag ∷ ancestors) kids)
 
 abbrev pub item_kept : List Tag → Item → Kept
-item_kept around (bytes_item b) = all_kept
-item_kept around (element_item tag kids) = element_kept around tag kids
+item_kept ancestors (bytes_item b) = all_kept
+item_kept ancestors (element_item tag kids) = element_kept ancestors tag kids
 
 -- the same of stories
 abbrev pub kept_among : List Parts → Kept

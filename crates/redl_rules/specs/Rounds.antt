@@ -15,13 +15,13 @@ use Rattle.redl_rules.specs.declared.round.Round.{Round}
 
 -- what these ancestors are to the rules
 abbrev pub round_of : List Tag → Round
-round_of around = record {
-  around = around_of around;
-  here = place around;
-  in_content = in_content around;
-  below_content = below_content around;
-  among_blocks = among_blocks around;
-  below_change = below_change around;
+round_of ancestors = record {
+  around = around_of ancestors;
+  here = place ancestors;
+  in_content = in_content ancestors;
+  below_content = below_content ancestors;
+  among_blocks = among_blocks ancestors;
+  below_change = below_change ancestors;
 }
 
 -- the place of an element's kids

@@ -3,27 +3,15 @@
 ghost use Rattle.std.specs.Prelude.{◌≡◌, ◌∷◌, List};
 ghost use Rattle.redl_tree.specs.Model.Nodes.{Tag};
 ghost use Rattle.redl_tree.specs.Roles.Names.{named};
-ghost use Rattle.redl_tree.specs.Model.Kids.{some_element, has_element};
+ghost use Rattle.redl_tree.specs.Model.Kids.{some_element};
 ghost use Rattle.redl_tree.specs.Roles.Kinds.{is_change};
 ghost use Rattle.redl_tree.specs.Roles.Lists.{is_thick as is_thick_tag};
 ghost use Rattle.redl_tree.specs.Roles.Places.{role};
-ghost use Rattle.redl_tree.specs.Rules.Sound.{at_most_one, only_first, only_last};
+ghost use Rattle.redl_tree.specs.Rules.Tests.{at_most_one, only_first, only_last};
 ghost use Rattle.redl_tree.specs.Model.View.{nodes_of};
 ghost use Rattle.redl_tree.specs.Roles.Arounds.{around_of};
 
 use redl_tree::{Around, Node, is_named, is_thick};
-
-/// Whether there is an element among these.
-pub fn has_elements(nodes: &[Node]) -> bool
-    ensures { result ≡ has_element (nodes_of nodes.now) }
-{
-    for node in nodes {
-        if let Node::Elem(_) = node {
-            return true;
-        }
-    }
-    false
-}
 
 /// Whether some element has this name.
 pub fn has_named(nodes: &[Node], name: &[u8]) -> bool
@@ -102,8 +90,8 @@ pub fn is_only_last(nodes: &[Node], name: &[u8]) -> bool
 /// Whether no element comes after a change of properties. `around` is what is round these nodes.
 #[tactic(auto, using(crate::proofs::ChangeLaws::no_change_in_content))]
 pub fn changes_are_last(nodes: &[Node], around: Around) -> bool
-    ensures { (above : List Tag) → around ≡ around_of above
-        → result ≡ only_last (λ kid. is_change (role above kid)) (nodes_of nodes.now) }
+    ensures { (ancestors : List Tag) → around ≡ around_of ancestors
+        → result ≡ only_last (λ kid. is_change (role ancestors kid)) (nodes_of nodes.now) }
 {
     // A change stands in properties alone.
     !around.is_quiet() || changes_end_properties(nodes, around)
@@ -111,8 +99,8 @@ pub fn changes_are_last(nodes: &[Node], around: Around) -> bool
 
 /// The same, by the role of each element.
 fn changes_end_properties(nodes: &[Node], around: Around) -> bool
-    ensures { (above : List Tag) → around ≡ around_of above
-        → result ≡ only_last (λ kid. is_change (role above kid)) (nodes_of nodes.now) }
+    ensures { (ancestors : List Tag) → around ≡ around_of ancestors
+        → result ≡ only_last (λ kid. is_change (role ancestors kid)) (nodes_of nodes.now) }
 {
     let mut ended = false;
     for node in nodes {

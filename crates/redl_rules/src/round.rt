@@ -8,6 +8,7 @@ ghost use Rattle.redl_tree.specs.Roles.Lists.{nowhere, inside, is_block_list};
 ghost use Rattle.redl_tree.specs.Roles.Names.{is};
 ghost use Rattle.redl_tree.specs.Roles.Places.{role};
 ghost use Rattle.redl_rules.specs.Rounds.{round_of, round_inside};
+ghost use Rattle.redl_tree.specs.Roles.Arounds.{around_of, inside_of};
 
 use redl_tree::{Around, Elem, Kind, Place, is_named, trace_of};
 
@@ -42,23 +43,23 @@ impl Round {
         }
     }
 
-    /// What is round the kids of an element that stands here and has this role.
-    pub fn inside(self, elem: &Elem, kind: Kind) -> Round
-        ensures { (above : List Tag) → self ≡ round_of above
-            → kind ≡ role above (tag_of elem.now)
-            → result ≡ round_of (tag_of elem.now ∷ above) }
+    /// What is round the kids of an element that stands here and has this role, and is this to its kids.
+    pub fn inside(self, elem: &Elem, kind: Kind, inner: Around) -> Round
+        ensures { (ancestors : List Tag) → self ≡ round_of ancestors
+            → kind ≡ role ancestors (tag_of elem.now)
+            → inner ≡ around_of (tag_of elem.now ∷ ancestors)
+            → result ≡ round_of (tag_of elem.now ∷ ancestors) }
     {
-        self.step(elem, kind)
+        self.step(elem, kind, inner)
     }
 
-    fn step(self, elem: &Elem, kind: Kind) -> Round
-        ensures { result ≡ round_inside (tag_of elem.now) kind self }
+    fn step(self, elem: &Elem, kind: Kind, inner: Around) -> Round
+        ensures { inner ≡ inside_of (tag_of elem.now) self.around → result ≡ round_inside (tag_of elem.now) kind self }
     {
-        let around = self.around.inside(elem);
-        let here = self.place_inside(elem, around.is_quiet());
+        let here = self.place_inside(elem, inner.is_quiet());
         let in_content = trace_of(elem).is_some();
         Round {
-            around,
+            around: inner,
             here,
             in_content,
             below_content: self.is_below_content(elem, in_content),

@@ -7,40 +7,39 @@ ghost use Rattle.redl_tree.specs.Model.Kids.{some_element};
 ghost use Rattle.redl_tree.specs.Roles.Kinds.{is_content};
 ghost use Rattle.redl_tree.specs.Roles.Lists.{is_thick};
 ghost use Rattle.redl_tree.specs.Roles.Places.{props_name as props_name_of};
-ghost use Rattle.redl_tree.specs.Rules.Sound.{implies, is_banned as is_banned_tag, is_banned_below_change as is_banned_below_change_tag, test_1, test_2, test_4, test_7, test_8, former_declares, change_declares as change_declares_by, once, each_once, only_first, only_last};
+ghost use Rattle.redl_tree.specs.Rules.Tests.{implies, once, each_once, only_first, only_last};
+ghost use Rattle.redl_tree.specs.Rules.Sound.{is_banned as is_banned_tag, is_banned_below_change as is_banned_below_change_tag, test_4, test_7, test_8, former_declares, change_declares as change_declares_by};
 ghost use Rattle.redl_tree.specs.Model.View.{tag_of, kids_of, nodes_of};
 ghost use Rattle.redl_tree.specs.Roles.Arounds.{around_of};
 ghost use Rattle.redl_rules.specs.Attributes.{has_id as has_id_tail, declares};
 ghost use Rattle.redl_rules.specs.Rounds.{round_of};
-ghost use Rattle.redl_rules.specs.Rules.{open_in, loses_tags as loses_tags_of, by_round_3, by_round_5, by_round_6, by_round_9};
+ghost use Rattle.redl_rules.specs.Rules.{open_in, loses_tags as loses_tags_of, ends_well, has_cells, by_round_3, marks_once, props_in_place, by_round_6, by_round_9};
 
 use crate::attributes::{declares_names, has_id};
 use crate::ends::{end_of_nodes, has_own_cell, is_so_end};
-use crate::kids::{
-    changes_are_last, has_elements, has_thick, is_once, is_only_first, is_only_last,
-};
+use crate::kids::{changes_are_last, has_thick, is_once, is_only_first, is_only_last};
 use crate::round::Round;
-use redl_tree::{Around, Elem, Kind, Node, Parent, Prop, Reach, is_named, is_range_edge, prop_of};
+use redl_tree::{
+    Around, Elem, Kind, Node, Parent, Prop, Reach, has_elements, is_named, is_range_edge, prop_of,
+};
 
-/// A cell ends in a paragraph (rule 1).
-pub fn keeps_1(elem: &Elem, round: Round) -> bool
-    ensures { (above : List Tag) → round ≡ round_of above → result ≡ test_1 above (tag_of elem.now) (kids_of elem.now) }
+/// A cell ends in a paragraph (rule 1). `inner` is round the kids.
+pub fn keeps_1(elem: &Elem, inner: Around) -> bool
+    ensures { result ≡ ends_well inner.parent (kids_of elem.now) }
 {
-    if is_named(elem, b"tc") && !round.around.is_quiet() {
-        is_so_end(end_of_nodes(elem.kids(), Reach::Direct))
-    } else {
-        true
+    match inner.parent() {
+        Parent::Cell => is_so_end(end_of_nodes(elem.kids(), Reach::Direct)),
+        _ => true,
     }
 }
 
-/// A row has a cell (rule 2).
-pub fn keeps_2(elem: &Elem, round: Round) -> bool
-    ensures { (above : List Tag) → round ≡ round_of above → result ≡ test_2 above (tag_of elem.now) (kids_of elem.now) }
+/// A row has a cell (rule 2). `inner` is round the kids.
+pub fn keeps_2(elem: &Elem, inner: Around) -> bool
+    ensures { result ≡ has_cells inner.parent (kids_of elem.now) }
 {
-    if is_named(elem, b"tr") && !round.around.is_quiet() {
-        has_own_cell(elem.kids(), Reach::Direct)
-    } else {
-        true
+    match inner.parent() {
+        Parent::Row => has_own_cell(elem.kids(), Reach::Direct),
+        _ => true,
     }
 }
 
@@ -101,15 +100,15 @@ fn is_run_props_or_control(elem: &Elem) -> bool
 
 /// A change is the last kid (rule 4). `inner` is round the kids.
 pub fn keeps_4(elem: &Elem, inner: Around) -> bool
-    ensures { (above : List Tag) → inner ≡ around_of (tag_of elem.now ∷ above)
-        → result ≡ test_4 above (tag_of elem.now) (kids_of elem.now) }
+    ensures { (ancestors : List Tag) → inner ≡ around_of (tag_of elem.now ∷ ancestors)
+        → result ≡ test_4 ancestors (tag_of elem.now) (kids_of elem.now) }
 {
     changes_are_last(elem.kids(), inner)
 }
 
 /// Marks stand once (rule 5). `inner` is round the kids.
 pub fn keeps_5(elem: &Elem, inner: Around) -> bool
-    ensures { result ≡ by_round_5 inner (kids_of elem.now) }
+    ensures { result ≡ marks_once inner.parent (kids_of elem.now) }
 {
     let kids = elem.kids();
     match inner.parent() {
@@ -142,54 +141,35 @@ fn cell_is_once(kids: &[Node]) -> bool
     is_once(kids, b"cellIns") && is_once(kids, b"cellDel")
 }
 
-/// Properties stand once and in their place (rule 6).
-pub fn keeps_6(elem: &Elem, round: Round) -> bool
-    ensures { result ≡ by_round_6 round.around (tag_of elem.now) (kids_of elem.now) }
+/// Properties stand once and in their place, and a control has one content (rule 6). `inner` is round the kids.
+pub fn keeps_6(elem: &Elem, inner: Around, round: Round) -> bool
+    ensures { result ≡ by_round_6 inner round.around (tag_of elem.now) (kids_of elem.now) }
 {
-    if round.around.is_quiet() {
-        return true;
+    has_props_in_place(elem.kids(), inner.parent()) && keeps_control(elem, round)
+}
+
+fn has_props_in_place(kids: &[Node], parent: Parent) -> bool
+    ensures { result ≡ props_in_place parent (nodes_of kids.now) }
+{
+    match parent {
+        Parent::Para => is_only_first(kids, b"pPr"),
+        Parent::Row => is_once(kids, b"trPr"),
+        Parent::Cell => is_once(kids, b"tcPr"),
+        Parent::Body => is_only_last(kids, b"sectPr"),
+        _ => true,
     }
-    keeps_para(elem)
-        && keeps_row(elem)
-        && keeps_cell(elem)
-        && keeps_body(elem)
-        && keeps_control(elem)
 }
 
-fn keeps_para(elem: &Elem) -> bool
-    ensures { result ≡ implies (is "p" (tag_of elem.now)) (only_first (is "pPr") (kids_of elem.now)) }
+fn keeps_control(elem: &Elem, round: Round) -> bool
+    ensures { result ≡ implies (is "sdt" (tag_of elem.now) && not round.around.quiet) (once "sdtContent" (kids_of elem.now)) }
 {
-    !is_named(elem, b"p") || is_only_first(elem.kids(), b"pPr")
-}
-
-fn keeps_row(elem: &Elem) -> bool
-    ensures { result ≡ implies (is "tr" (tag_of elem.now)) (once "trPr" (kids_of elem.now)) }
-{
-    !is_named(elem, b"tr") || is_once(elem.kids(), b"trPr")
-}
-
-fn keeps_cell(elem: &Elem) -> bool
-    ensures { result ≡ implies (is "tc" (tag_of elem.now)) (once "tcPr" (kids_of elem.now)) }
-{
-    !is_named(elem, b"tc") || is_once(elem.kids(), b"tcPr")
-}
-
-fn keeps_body(elem: &Elem) -> bool
-    ensures { result ≡ implies (is "body" (tag_of elem.now)) (only_last (is "sectPr") (kids_of elem.now)) }
-{
-    !is_named(elem, b"body") || is_only_last(elem.kids(), b"sectPr")
-}
-
-fn keeps_control(elem: &Elem) -> bool
-    ensures { result ≡ implies (is "sdt" (tag_of elem.now)) (once "sdtContent" (kids_of elem.now)) }
-{
-    !is_named(elem, b"sdt") || is_once(elem.kids(), b"sdtContent")
+    round.around.is_quiet() || !is_named(elem, b"sdt") || is_once(elem.kids(), b"sdtContent")
 }
 
 /// A marker of a move holds no element (rule 7).
 pub fn keeps_7(elem: &Elem, round: Round) -> bool
-    ensures { (above : List Tag) → round ≡ round_of above
-        → result ≡ test_7 has_id_tail above (tag_of elem.now) (kids_of elem.now) }
+    ensures { (ancestors : List Tag) → round ≡ round_of ancestors
+        → result ≡ test_7 has_id_tail ancestors (tag_of elem.now) (kids_of elem.now) }
 {
     if round.around.is_quiet() || !is_range_edge(elem) {
         return true;
@@ -199,7 +179,7 @@ pub fn keeps_7(elem: &Elem, round: Round) -> bool
 
 /// Former properties hold no change element and no block (rule 8).
 pub fn keeps_8(elem: &Elem, round: Round) -> bool
-    ensures { (above : List Tag) → round ≡ round_of above → result ≡ test_8 above (tag_of elem.now) (kids_of elem.now) }
+    ensures { (ancestors : List Tag) → round ≡ round_of ancestors → result ≡ test_8 ancestors (tag_of elem.now) (kids_of elem.now) }
 {
     !round.below_change || !is_banned_below_change(elem)
 }
@@ -215,26 +195,27 @@ fn is_banned_below_change(elem: &Elem) -> bool
         || is_named(elem, b"txbxContent")
 }
 
-/// What a decision can take the tags of declares no namespace (rule 9). `kind` is the element's role.
-pub fn keeps_9(elem: &Elem, kind: Kind, round: Round) -> bool
-    ensures { result ≡ by_round_9 round.around kind (tag_of elem.now) (kids_of elem.now) }
+/// What a decision can take the tags of declares no namespace (rule 9). `kind` is the element's role, and `inner` is round
+/// the kids.
+pub fn keeps_9(elem: &Elem, kind: Kind, inner: Around) -> bool
+    ensures { result ≡ by_round_9 inner.parent kind (tag_of elem.now) (kids_of elem.now) }
 {
-    keeps_own_tag(elem, round, kind) && !change_declares(kind, elem.kids())
+    keeps_own_tag(elem, kind, inner.parent()) && !change_declares(kind, elem.kids())
 }
 
-fn keeps_own_tag(elem: &Elem, round: Round, kind: Kind) -> bool
-    ensures { result ≡ implies (loses_tags_of round.around kind (tag_of elem.now)) (not (declares (tag_of elem.now).tail)) }
+fn keeps_own_tag(elem: &Elem, kind: Kind, parent: Parent) -> bool
+    ensures { result ≡ implies (loses_tags_of parent kind) (not (declares (tag_of elem.now).tail)) }
 {
-    !loses_tags(elem, round, kind) || !declares_names(elem.tail())
+    !loses_tags(kind, parent) || !declares_names(elem.tail())
 }
 
-/// Whether some decision takes the tags of an element and leaves its kids.
-fn loses_tags(elem: &Elem, round: Round, kind: Kind) -> bool
-    ensures { result ≡ loses_tags_of round.around kind (tag_of elem.now) }
+/// Whether some decision takes the tags of an element of this role, which is so to its kids, and leaves the kids.
+fn loses_tags(kind: Kind, parent: Parent) -> bool
+    ensures { result ≡ loses_tags_of parent kind }
 {
-    match kind {
-        Kind::Content(_) | Kind::Change(_) => true,
-        _ => is_named(elem, b"p") && !round.around.is_quiet(),
+    match (parent, kind) {
+        (Parent::Para, _) | (_, Kind::Content(_) | Kind::Change(_)) => true,
+        _ => false,
     }
 }
 

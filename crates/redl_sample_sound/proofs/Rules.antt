@@ -15,7 +15,8 @@ use Rattle.redl_tree.specs.Model.Nodes.{Tag, Nodes, no_nodes, element}
 use Rattle.redl_tree.specs.Roles.Kinds.{is_change}
 use Rattle.redl_tree.specs.Roles.Names.{is}
 use Rattle.redl_tree.specs.Roles.Places.{role}
-use Rattle.redl_tree.specs.Rules.Sound.{Test, everywhere, only_last, test_1, test_2, test_3, test_4, test_5, test_6, test_7, test_8, test_9}
+use Rattle.redl_tree.specs.Rules.Tests.{Test, everywhere, only_last}
+use Rattle.redl_tree.specs.Rules.Sound.{test_1, test_2, test_3, test_4, test_5, test_6, test_7, test_8, test_9}
 
 -- ---- the shape
 
@@ -25,18 +26,18 @@ shape_is number = rw part_listed refl
 -- ---- blocks in the body
 
 -- the ancestors of a block
-abbrev around : List Tag
-around = body_tag ∷ document_tag ∷ []
+abbrev ancestors : List Tag
+ancestors = body_tag ∷ document_tag ∷ []
 
 -- the rules that ask nothing of attributes
 form_keeps : (form : Form) (digits : List ℕ) (rest : Nodes)
-    → (everywhere test_1 around (nodes_of digits (shape_of form) rest) ≡ everywhere test_1 around rest)
-    × (everywhere test_2 around (nodes_of digits (shape_of form) rest) ≡ everywhere test_2 around rest)
-    × (everywhere test_3 around (nodes_of digits (shape_of form) rest) ≡ everywhere test_3 around rest)
-    × (everywhere test_4 around (nodes_of digits (shape_of form) rest) ≡ everywhere test_4 around rest)
-    × (everywhere test_5 around (nodes_of digits (shape_of form) rest) ≡ everywhere test_5 around rest)
-    × (everywhere test_6 around (nodes_of digits (shape_of form) rest) ≡ everywhere test_6 around rest)
-    × (everywhere test_8 around (nodes_of digits (shape_of form) rest) ≡ everywhere test_8 around rest)
+    → (everywhere test_1 ancestors (nodes_of digits (shape_of form) rest) ≡ everywhere test_1 ancestors rest)
+    × (everywhere test_2 ancestors (nodes_of digits (shape_of form) rest) ≡ everywhere test_2 ancestors rest)
+    × (everywhere test_3 ancestors (nodes_of digits (shape_of form) rest) ≡ everywhere test_3 ancestors rest)
+    × (everywhere test_4 ancestors (nodes_of digits (shape_of form) rest) ≡ everywhere test_4 ancestors rest)
+    × (everywhere test_5 ancestors (nodes_of digits (shape_of form) rest) ≡ everywhere test_5 ancestors rest)
+    × (everywhere test_6 ancestors (nodes_of digits (shape_of form) rest) ≡ everywhere test_6 ancestors rest)
+    × (everywhere test_8 ancestors (nodes_of digits (shape_of form) rest) ≡ everywhere test_8 ancestors rest)
 form_keeps Plain digits rest = (refl, refl, refl, refl, refl, refl, refl)
 form_keeps Insertion digits rest = (refl, refl, refl, refl, refl, refl, refl)
 form_keeps Deletion digits rest = (refl, refl, refl, refl, refl, refl, refl)
@@ -49,7 +50,7 @@ form_keeps Move digits rest = (refl, refl, refl, refl, refl, refl, refl)
 -- a marker holds no element, whether it has an id or not
 form_keeps_7 : (f : List ℕ → Bool) (form : Form) (digits : List ℕ) (rest : Nodes)
     → f (tail_of digits named) ≡ true → f (tail_of digits (id ∷ [])) ≡ true
-    → everywhere (test_7 f) around (nodes_of digits (shape_of form) rest) ≡ everywhere (test_7 f) around rest
+    → everywhere (test_7 f) ancestors (nodes_of digits (shape_of form) rest) ≡ everywhere (test_7 f) ancestors rest
 form_keeps_7 f Plain digits rest move end = refl
 form_keeps_7 f Insertion digits rest move end = refl
 form_keeps_7 f Deletion digits rest move end = refl
@@ -62,7 +63,7 @@ form_keeps_7 f Move digits rest move end = rw (move, end) refl
 -- no tag declares a namespace
 form_keeps_9 : (f : List ℕ → Bool) (form : Form) (digits : List ℕ) (rest : Nodes)
     → f [] ≡ false → f (tail_of digits (by (codes "Ann"))) ≡ false → f (tail_of digits (by (codes "Bob"))) ≡ false → f (tail_of digits (by (codes "Cy"))) ≡ false
-    → everywhere (test_9 f) around (nodes_of digits (shape_of form) rest) ≡ everywhere (test_9 f) around rest
+    → everywhere (test_9 f) ancestors (nodes_of digits (shape_of form) rest) ≡ everywhere (test_9 f) ancestors rest
 form_keeps_9 f Plain digits rest none ann bob cy = rw none refl
 form_keeps_9 f Insertion digits rest none ann bob cy = rw (none, ann) refl
 form_keeps_9 f Deletion digits rest none ann bob cy = rw (none, bob) refl
@@ -74,7 +75,7 @@ form_keeps_9 f Move digits rest none ann bob cy = rw (none, cy) refl
 
 -- no block is a change or a section's properties
 form_ends : (form : Form) (digits : List ℕ) (rest : Nodes)
-    → (only_last (λ kid. is_change (role around kid)) (nodes_of digits (shape_of form) rest) ≡ only_last (λ kid. is_change (role around kid)) rest)
+    → (only_last (λ kid. is_change (role ancestors kid)) (nodes_of digits (shape_of form) rest) ≡ only_last (λ kid. is_change (role ancestors kid)) rest)
     × (only_last (is "sectPr") (nodes_of digits (shape_of form) rest) ≡ only_last (is "sectPr") rest)
 form_ends Plain digits rest = (refl, refl)
 form_ends Insertion digits rest = (refl, refl)
@@ -131,13 +132,13 @@ nothing_declared = rw nothing_listed refl
 
 -- a test holds of the body
 abbrev Keeps : Test → ℕ → Type 0
-Keeps test number = everywhere test around (body number) ≡ true
+Keeps test number = everywhere test ancestors (body number) ≡ true
 
 module _ (number : ℕ) (few : number ≤ 20000) where
   keeps : (test : Test) → ((form : Form) (digits : List ℕ) (rest : Nodes) → list_all is_safe digits ≡ true
-      → everywhere test around (nodes_of digits (shape_of form) rest) ≡ everywhere test around rest)
-      → everywhere test around last ≡ true → Keeps test number
-  keeps test step end = blocks_keep (everywhere test around) step 0 number (omega (arith, few)) last ∙ end
+      → everywhere test ancestors (nodes_of digits (shape_of form) rest) ≡ everywhere test ancestors rest)
+      → everywhere test ancestors last ≡ true → Keeps test number
+  keeps test step end = blocks_keep (everywhere test ancestors) step 0 number (omega (arith, few)) last ∙ end
 
   keeps_1 : Keeps test_1 number
   keeps_1 = keeps test_1 (λ form digits rest safe. (form_keeps form digits rest).0) refl
@@ -171,8 +172,8 @@ module _ (number : ℕ) (few : number ≤ 20000) where
       (declares_none digits (codes "ins") (codes "Ann") safe ann_is_tag) (declares_none digits (codes "ins") (codes "Bob") safe bob_is_tag)
       (declares_none digits (codes "ins") (codes "Cy") safe cy_is_tag)) (rw nothing_declared refl)
 
-  no_change : only_last (λ kid. is_change (role around kid)) (body number) ≡ true
-  no_change = blocks_keep (only_last (λ kid. is_change (role around kid))) (λ form digits rest safe. (form_ends form digits rest).0) 0 number (omega (arith, few)) last ∙ refl
+  no_change : only_last (λ kid. is_change (role ancestors kid)) (body number) ≡ true
+  no_change = blocks_keep (only_last (λ kid. is_change (role ancestors kid))) (λ form digits rest safe. (form_ends form digits rest).0) 0 number (omega (arith, few)) last ∙ refl
 
   no_section : only_last (is "sectPr") (body number) ≡ true
   no_section = blocks_keep (only_last (is "sectPr")) (λ form digits rest safe. (form_ends form digits rest).1) 0 number (omega (arith, few)) last ∙ refl

@@ -12,7 +12,8 @@ use Rattle.redl_tree.specs.Decisions.Packages.{pass_package, stories}
 use Rattle.redl_tree.specs.Decisions.Survivors.{survivors, text_pieces}
 use Rattle.redl_tree.specs.Model.Nodes.{Nodes}
 use Rattle.redl_tree.specs.Model.View.{Parts}
-use Rattle.redl_tree.specs.Rules.Sound.{Test, first_broken, holds}
+use Rattle.redl_tree.specs.Rules.Tests.{Test}
+use Rattle.redl_tree.specs.Rules.Sound.{first_broken, holds}
 use Rattle.redl_tree.specs.declared.kinds.Say.{Say}
 
 -- no rule is broken exactly where all hold

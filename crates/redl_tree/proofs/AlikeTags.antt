@@ -78,8 +78,8 @@ not_ordinary n o =
     (r.0, r.1, q.1, p.1)
 
 -- a tag after the pass is like the tag before it
-pub own_renamed : (says : List Say) (around : List Tag) (tag : Tag) → Own tag (renamed says around tag)
-own_renamed says around tag = at (is_revived says around)
+pub own_renamed : (says : List Say) (ancestors : List Tag) (tag : Tag) → Own tag (renamed says ancestors tag)
+own_renamed says ancestors tag = at (is_revived says ancestors)
   where
     self : Own tag tag
     self = record { like = like_self tag; tail = refl }

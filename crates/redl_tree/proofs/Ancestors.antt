@@ -15,7 +15,8 @@ use Rattle.redl_tree.specs.declared.lists.Reach.TheVariants.{Direct, Control, Be
 use Rattle.redl_tree.specs.declared.lists.Lot.{Lot}
 use Rattle.redl_tree.specs.declared.lists.Lot.TheVariants.{Blocks, Rows, Cells}
 use Rattle.redl_tree.specs.Roles.Kinds.{is_content, is_change}
-use Rattle.redl_tree.specs.Rules.Sound.{Test, implies, open_any, below_content, in_content, among_blocks, below_change, test_8}
+use Rattle.redl_tree.specs.Rules.Tests.{Test, implies, open_any}
+use Rattle.redl_tree.specs.Rules.Sound.{below_content, in_content, among_blocks, below_change, test_8}
 use Rattle.redl_tree.specs.declared.kinds.Trace.{Trace}
 use Rattle.redl_tree.specs.declared.kinds.Prop.{Prop}
 use Rattle.redl_tree.specs.declared.kinds.Prop.TheVariants.{Run, Para as ParaProp, Sect, Table, Except, Row as RowProp, Cell as CellProp}
@@ -51,14 +52,14 @@ false_of false h = refl
 -- the ancestors behind the content revisions that come first
 abbrev pub past_content : List Tag → List Tag
 past_content [] = []
-past_content (tag ∷ around) = if is_some (trace_of tag) then past_content around else tag ∷ around
+past_content (tag ∷ ancestors) = if is_some (trace_of tag) then past_content ancestors else tag ∷ ancestors
 
-pub among-past : (around : List Tag) → among_blocks around ≡ in_blocks (past_content around)
+pub among-past : (ancestors : List Tag) → among_blocks ancestors ≡ in_blocks (past_content ancestors)
 among-past [] = refl
-among-past (tag ∷ around) = at (is_some (trace_of tag)) (among-past around)
+among-past (tag ∷ ancestors) = at (is_some (trace_of tag)) (among-past ancestors)
   where
-    at : (b : Bool) → among_blocks around ≡ in_blocks (past_content around) →
-        (if b then among_blocks around else in_blocks (tag ∷ around)) ≡ in_blocks (if b then past_content around else tag ∷ around)
+    at : (b : Bool) → among_blocks ancestors ≡ in_blocks (past_content ancestors) →
+        (if b then among_blocks ancestors else in_blocks (tag ∷ ancestors)) ≡ in_blocks (if b then past_content ancestors else tag ∷ ancestors)
     at true h = h
     at false h = refl
 
@@ -67,40 +68,40 @@ abbrev pub banned : List String
 banned = "p" ∷ "tbl" ∷ "tr" ∷ "tc" ∷ "pPr" ∷ "tblPr" ∷ "tblPrEx" ∷ "trPr" ∷ "tcPr" ∷ "sectPr" ∷ []
 
 -- the parts of rule 3
-pub record Free3 (around : List Tag) (tag : Tag) : Type 0 where
-  pub below : open_any banned around tag ≡ true → below_content around ≡ true → ⊥
-  pub inside : open_any ("rPr" ∷ "sdtContent" ∷ []) around tag ≡ true → in_content around ≡ true → ⊥
-  pub blocks : is_thick tag ≡ true → in_content around ≡ true → in_blocks (past_content around) ≡ true → ⊥
+pub record Free3 (ancestors : List Tag) (tag : Tag) : Type 0 where
+  pub below : open_any banned ancestors tag ≡ true → below_content ancestors ≡ true → ⊥
+  pub inside : open_any ("rPr" ∷ "sdtContent" ∷ []) ancestors tag ≡ true → in_content ancestors ≡ true → ⊥
+  pub blocks : is_thick tag ≡ true → in_content ancestors ≡ true → in_blocks (past_content ancestors) ≡ true → ⊥
 
 -- Rule 3 as one of an element and its ancestors alone: its last part speaks of the kid, and not of the content revision
 -- round it.
 abbrev pub kid_3 : Test
-kid_3 around tag kids =
-    implies (open_any banned around tag) (not (below_content around))
-    && implies (open_any ("rPr" ∷ "sdtContent" ∷ []) around tag) (not (in_content around))
-    && implies (is_thick tag && in_content around) (not (in_blocks (past_content around)))
+kid_3 ancestors tag kids =
+    implies (open_any banned ancestors tag) (not (below_content ancestors))
+    && implies (open_any ("rPr" ∷ "sdtContent" ∷ []) ancestors tag) (not (in_content ancestors))
+    && implies (is_thick tag && in_content ancestors) (not (in_blocks (past_content ancestors)))
 
-pub free3 : (around : List Tag) (tag : Tag) (kids : Nodes) → kid_3 around tag kids ≡ true → Free3 around tag
-free3 around tag kids e =
+pub free3 : (ancestors : List Tag) (tag : Tag) (kids : Nodes) → kid_3 ancestors tag kids ≡ true → Free3 ancestors tag
+free3 ancestors tag kids e =
     let x = and_parts _ _ e in
     let y = and_parts _ _ x.0 in
     record {
-      below = λ p q. not_to (below_content around) (implies_of _ _ y.0 p) q;
-      inside = λ p q. not_to (in_content around) (implies_of _ _ y.1 p) q;
-      blocks = λ p q r. not_to (in_blocks (past_content around)) (implies_of _ _ x.1 (and_from (is_thick tag) (in_content around) p q)) r;
+      below = λ p q. not_to (below_content ancestors) (implies_of _ _ y.0 p) q;
+      inside = λ p q. not_to (in_content ancestors) (implies_of _ _ y.1 p) q;
+      blocks = λ p q r. not_to (in_blocks (past_content ancestors)) (implies_of _ _ x.1 (and_from (is_thick tag) (in_content ancestors) p q)) r;
     }
 
-pub kid_3_from : (around : List Tag) (tag : Tag) (kids : Nodes) → Free3 around tag → kid_3 around tag kids ≡ true
-kid_3_from around tag kids f =
+pub kid_3_from : (ancestors : List Tag) (tag : Tag) (kids : Nodes) → Free3 ancestors tag → kid_3 ancestors tag kids ≡ true
+kid_3_from ancestors tag kids f =
     and_from _ _ (and_from _ _
-    (implies_from _ _ (λ p. not_of (below_content around) (f.below p)))
-    (implies_from _ _ (λ p. not_of (in_content around) (f.inside p))))
-    (implies_from _ _ (λ p. let both = and_parts (is_thick tag) (in_content around) p in not_of (in_blocks (past_content around)) (f.blocks both.0 both.1)))
+    (implies_from _ _ (λ p. not_of (below_content ancestors) (f.below p)))
+    (implies_from _ _ (λ p. not_of (in_content ancestors) (f.inside p))))
+    (implies_from _ _ (λ p. let both = and_parts (is_thick tag) (in_content ancestors) p in not_of (in_blocks (past_content ancestors)) (f.blocks both.0 both.1)))
 
 -- the nearest ancestor passes a test and is open
 abbrev pub owned : (Tag → Bool) → List Tag → Bool
 owned test [] = false
-owned test (tag ∷ around) = test tag && is_open around
+owned test (tag ∷ ancestors) = test tag && is_open ancestors
 
 -- true, or of matter below a change member
 abbrev pub Stood : List Tag → Bool → Type 0
@@ -180,9 +181,9 @@ came_in old new (joins {old = p} {new = n} b c h) o e =
 
 abbrev pub reach_of : List Tag → Reach
 reach_of [] = Beyond
-reach_of (tag ∷ around) =
-    if is_open (tag ∷ around) then
-    (if has_blocks tag then Direct else if is "tbl" tag then Beyond else if is "tr" tag then Beyond else into (reach_of around) tag)
+reach_of (tag ∷ ancestors) =
+    if is_open (tag ∷ ancestors) then
+    (if has_blocks tag then Direct else if is "tbl" tag then Beyond else if is "tr" tag then Beyond else into (reach_of ancestors) tag)
     else Beyond
 
 abbrev blocks_of : Place → Reach
@@ -217,18 +218,18 @@ inside_reach tag here false true tr = refl
 inside_reach tag here false false true = refl
 inside_reach tag here false false false = into_beyond here.lot tag here.reach
 
-pub place_reach : (around : List Tag) → blocks_of (place around) ≡ reach_of around
+pub place_reach : (ancestors : List Tag) → blocks_of (place ancestors) ≡ reach_of ancestors
 place_reach [] = refl
-place_reach (tag ∷ around) =
-    at (is_open (tag ∷ around)) ∙ ap (λ r. if is_open (tag ∷ around) then (if has_blocks tag then Direct else if is "tbl" tag then Beyond else if is "tr" tag then Beyond else into r tag) else Beyond) (place_reach around)
+place_reach (tag ∷ ancestors) =
+    at (is_open (tag ∷ ancestors)) ∙ ap (λ r. if is_open (tag ∷ ancestors) then (if has_blocks tag then Direct else if is "tbl" tag then Beyond else if is "tr" tag then Beyond else into r tag) else Beyond) (place_reach ancestors)
   where
-    at : (o : Bool) → blocks_of (if o then inside tag (place around) else nowhere)
-        ≡ (if o then (if has_blocks tag then Direct else if is "tbl" tag then Beyond else if is "tr" tag then Beyond else into (blocks_of (place around)) tag) else Beyond)
-    at true = inside_reach tag (place around) (has_blocks tag) (is "tbl" tag) (is "tr" tag)
+    at : (o : Bool) → blocks_of (if o then inside tag (place ancestors) else nowhere)
+        ≡ (if o then (if has_blocks tag then Direct else if is "tbl" tag then Beyond else if is "tr" tag then Beyond else into (blocks_of (place ancestors)) tag) else Beyond)
+    at true = inside_reach tag (place ancestors) (has_blocks tag) (is "tbl" tag) (is "tr" tag)
     at false = refl
 
-pub in_blocks-reach : (around : List Tag) → in_blocks around ≡ is_direct (reach_of around)
-in_blocks-reach around = at (place around).lot (place around).reach ∙ ap is_direct (place_reach around)
+pub in_blocks-reach : (ancestors : List Tag) → in_blocks ancestors ≡ is_direct (reach_of ancestors)
+in_blocks-reach ancestors = at (place ancestors).lot (place ancestors).reach ∙ ap is_direct (place_reach ancestors)
   where
     at : (l : Lot) (r : Reach) → (is_direct r && is_blocks l) ≡ is_direct (if is_blocks l then r else Beyond)
     at Blocks Direct = refl
@@ -247,24 +248,24 @@ into_trace Direct a e = by_trace (λ t. into Direct t ≡ Beyond) a e (refl, (re
 into_trace Control a e = by_trace (λ t. into Control t ≡ Beyond) a e (refl, (refl, (refl, (refl, tt))))
 into_trace Beyond a e = refl
 
-pub reach_trace : (a : Tag) (around : List Tag) → is_some (trace_of a) ≡ true → reach_of (a ∷ around) ≡ Beyond
-reach_trace a around e = at (is_open (a ∷ around)) (has_blocks a) (is "tbl" a) (is "tr" a)
-    (by_trace (λ t. has_blocks t ≡ false) a e (refl, (refl, (refl, (refl, tt))))) (into_trace (reach_of around) a e)
+pub reach_trace : (a : Tag) (ancestors : List Tag) → is_some (trace_of a) ≡ true → reach_of (a ∷ ancestors) ≡ Beyond
+reach_trace a ancestors e = at (is_open (a ∷ ancestors)) (has_blocks a) (is "tbl" a) (is "tr" a)
+    (by_trace (λ t. has_blocks t ≡ false) a e (refl, (refl, (refl, (refl, tt))))) (into_trace (reach_of ancestors) a e)
   where
-    at : (o h b r : Bool) → h ≡ false → into (reach_of around) a ≡ Beyond →
-        (if o then (if h then Direct else if b then Beyond else if r then Beyond else into (reach_of around) a) else Beyond) ≡ Beyond
+    at : (o h b r : Bool) → h ≡ false → into (reach_of ancestors) a ≡ Beyond →
+        (if o then (if h then Direct else if b then Beyond else if r then Beyond else into (reach_of ancestors) a) else Beyond) ≡ Beyond
     at false h b r x y = refl
     at true true b r x y = absurd (true≢false x)
     at true false true r x y = refl
     at true false false true x y = refl
     at true false false false x y = y
 
-pub past_self : (around : List Tag) → in_content around ≡ false → past_content around ≡ around
+pub past_self : (ancestors : List Tag) → in_content ancestors ≡ false → past_content ancestors ≡ ancestors
 past_self [] e = refl
-past_self (a ∷ around) e = rw e refl
+past_self (a ∷ ancestors) e = rw e refl
 
-past_on : (a : Tag) (around : List Tag) → is_some (trace_of a) ≡ true → past_content (a ∷ around) ≡ past_content around
-past_on a around e = rw e refl
+past_on : (a : Tag) (ancestors : List Tag) → is_some (trace_of a) ≡ true → past_content (a ∷ ancestors) ≡ past_content ancestors
+past_on a ancestors e = rw e refl
 
 -- the step into an element, in the result and in the original, where the element is not a thick kid of content
 -- among Blocks, and no `sdtContent` that is a kid of content
@@ -291,9 +292,9 @@ not_direct Control a (inl e) h = by_name (λ t. into Control t ≡ Beyond) "sdt"
 not_direct Control a (inr e) h = by_name (λ t. into Control t ≡ Beyond) "customXml" a e refl
 not_direct Beyond a e h = refl
 
-beyond_head : (around : List Tag) → in_content around ≡ true → reach_of around ≡ Beyond
+beyond_head : (ancestors : List Tag) → in_content ancestors ≡ true → reach_of ancestors ≡ Beyond
 beyond_head [] e = refl
-beyond_head (a ∷ around) e = reach_trace a around e
+beyond_head (a ∷ ancestors) e = reach_trace a ancestors e
 
 thick_wrapper : (a : Tag) → (is "sdt" a ≡ true) ⊎ (is "customXml" a ≡ true) → is_thick a ≡ true
 thick_wrapper a (inl e) = by_name (λ t. is_thick t ≡ true) "sdt" a e refl
@@ -319,8 +320,8 @@ direct_less : (r s : Reach) → Less r s → is_direct r ≡ true → is_direct 
 direct_less r s (inl e) d = ap is_direct (sym e) ∙ d
 direct_less r s (inr e) d = absurd (true≢false (sym d ∙ ap is_direct e))
 
-reach_p : (b : Tag) (around : List Tag) → is "p" b ≡ true → reach_of (b ∷ around) ≡ Beyond
-reach_p b around e = at (is_open (b ∷ around)) (reach_of around)
+reach_p : (b : Tag) (ancestors : List Tag) → is "p" b ≡ true → reach_of (b ∷ ancestors) ≡ Beyond
+reach_p b ancestors e = at (is_open (b ∷ ancestors)) (reach_of ancestors)
   where
     at : (o : Bool) (r : Reach) → (if o then (if has_blocks b then Direct else if is "tbl" b then Beyond else if is "tr" b then Beyond else into r b) else Beyond) ≡ Beyond
     at false r = refl
@@ -381,25 +382,25 @@ open_any_like : (names : List String) (old new : List Tag) (a b : Tag) → Came 
     open_any names new b ≡ open_any names old a
 open_any_like names old new a b c l o = rw (like_any names a b l o, came_open old new c) refl
 
-pub past_open : (around : List Tag) → is_open (past_content around) ≡ is_open around
+pub past_open : (ancestors : List Tag) → is_open (past_content ancestors) ≡ is_open ancestors
 past_open [] = refl
-past_open (a ∷ around) = at (is_some (trace_of a)) refl (past_open around)
+past_open (a ∷ ancestors) = at (is_some (trace_of a)) refl (past_open ancestors)
   where
-    at : (x : Bool) → is_some (trace_of a) ≡ x → is_open (past_content around) ≡ is_open around →
-        is_open (if x then past_content around else a ∷ around) ≡ is_open (a ∷ around)
-    at true e ih = ih ∙ sym (open_∷ a around (trace_loud a e))
+    at : (x : Bool) → is_some (trace_of a) ≡ x → is_open (past_content ancestors) ≡ is_open ancestors →
+        is_open (if x then past_content ancestors else a ∷ ancestors) ≡ is_open (a ∷ ancestors)
+    at true e ih = ih ∙ sym (open_∷ a ancestors (trace_loud a e))
     at false e ih = refl
 
-pub blocks_open : (around : List Tag) → in_blocks around ≡ true → is_open around ≡ true
-blocks_open around e = at around (sym (in_blocks-reach around) ∙ e)
+pub blocks_open : (ancestors : List Tag) → in_blocks ancestors ≡ true → is_open ancestors ≡ true
+blocks_open ancestors e = at ancestors (sym (in_blocks-reach ancestors) ∙ e)
   where
     shut : (o : Bool) (r : Reach) → is_direct (if o then r else Beyond) ≡ true → o ≡ true
     shut true r e = refl
     shut false r e = e
 
-    at : (around : List Tag) → is_direct (reach_of around) ≡ true → is_open around ≡ true
+    at : (ancestors : List Tag) → is_direct (reach_of ancestors) ≡ true → is_open ancestors ≡ true
     at [] e = absurd (true≢false (sym e))
-    at (a ∷ around) e = shut (is_open (a ∷ around)) (if has_blocks a then Direct else if is "tbl" a then Beyond else if is "tr" a then Beyond else into (reach_of around) a) e
+    at (a ∷ ancestors) e = shut (is_open (a ∷ ancestors)) (if has_blocks a then Direct else if is "tbl" a then Beyond else if is "tr" a then Beyond else into (reach_of ancestors) a) e
 
 pub came_3 : (old new : List Tag) (a b : Tag) → Came old new → Like a b → Free3 old a → Free3 new b
 came_3 old new a b c l f = record {
@@ -445,28 +446,28 @@ content_first ks h true (Some t) = refl
 content_first ks h true None = h
 content_first ks h false t = h
 
-no_content_change : (around : List Tag) (prop : Option Prop) → is_content (first_role (change_at around prop ∷ [])) ≡ false
-no_content_change around None = refl
-no_content_change around (Some prop) = at (in_props prop around)
+no_content_change : (ancestors : List Tag) (prop : Option Prop) → is_content (first_role (change_at ancestors prop ∷ [])) ≡ false
+no_content_change ancestors None = refl
+no_content_change ancestors (Some prop) = at (in_props prop ancestors)
   where
     at : (b : Bool) → is_content (first_role (placed b (Some (Change prop)) ∷ [])) ≡ false
     at true = refl
     at false = refl
 
-pub content_role : (around : List Tag) (tag : Tag) → is_content (role around tag) ≡ (is_open around && is_some (trace_of tag))
-content_role around tag =
+pub content_role : (ancestors : List Tag) (tag : Tag) → is_content (role ancestors tag) ≡ (is_open ancestors && is_some (trace_of tag))
+content_role ancestors tag =
     content_first _
     (no_content_mark _
     (no_content_row _
-    (no_content (change_at around (prop_of tag)) (no_content_change around (prop_of tag)) (in_cell_props around) (cell_trace_of tag))
-    (in_row_props around) (row_trace_of tag))
-    (in_mark_props around) (trace_of tag))
-    (is_open around) (trace_of tag)
+    (no_content (change_at ancestors (prop_of tag)) (no_content_change ancestors (prop_of tag)) (in_cell_props ancestors) (cell_trace_of tag))
+    (in_row_props ancestors) (row_trace_of tag))
+    (in_mark_props ancestors) (trace_of tag))
+    (is_open ancestors) (trace_of tag)
 
 -- a change by its name and place
 abbrev pub at_props : List Tag → Option Prop → Bool
-at_props around None = false
-at_props around (Some prop) = in_props prop around
+at_props ancestors None = false
+at_props ancestors (Some prop) = in_props prop ancestors
 
 some_prop : (a b c d e f g : Bool) →
     is_some (if a then Some Run else if b then Some ParaProp else if c then Some Sect else if d then Some Table else if e then Some Except else if f then Some RowProp else if g then Some CellProp else None)
@@ -511,43 +512,43 @@ drop_none : (b : Bool) (ks : List (Option Kind)) → first_role (placed b None �
 drop_none true ks = refl
 drop_none false ks = refl
 
-pub change_first : (around : List Tag) (tag : Tag) (prop : Prop) → prop_of tag ≡ Some prop →
-    role around tag ≡ first_role (placed (in_props prop around) (Some (Change prop)) ∷ [])
-change_first around tag prop e =
+pub change_first : (ancestors : List Tag) (tag : Tag) (prop : Prop) → prop_of tag ≡ Some prop →
+    role ancestors tag ≡ first_role (placed (in_props prop ancestors) (Some (Change prop)) ∷ [])
+change_first ancestors tag prop e =
     let s : is_some (prop_of tag) ≡ true = ap is_some e in
     let t = by_prop (λ t. trace_of t ≡ None) tag s (refl, (refl, (refl, (refl, (refl, (refl, (refl, tt))))))) in
     let tr = by_prop (λ t. row_trace_of t ≡ None) tag s (refl, (refl, (refl, (refl, (refl, (refl, (refl, tt))))))) in
     let tc = by_prop (λ t. cell_trace_of t ≡ None) tag s (refl, (refl, (refl, (refl, (refl, (refl, (refl, tt))))))) in
-    let k : change_at around (prop_of tag) ≡ placed (in_props prop around) (Some (Change prop)) = ap (change_at around) e in
-    ap (λ x. first_role (placed (is_open around) (option_map Content x) ∷ placed (in_mark_props around) (option_map Mark x) ∷ placed (in_row_props around) (option_map Row (row_trace_of tag)) ∷ placed (in_cell_props around) (option_map Cell (cell_trace_of tag)) ∷ change_at around (prop_of tag) ∷ [])) t
-    ∙ drop_none (is_open around) _ ∙ drop_none (in_mark_props around) _
-    ∙ ap (λ x. first_role (placed (in_row_props around) (option_map Row x) ∷ placed (in_cell_props around) (option_map Cell (cell_trace_of tag)) ∷ change_at around (prop_of tag) ∷ [])) tr
-    ∙ drop_none (in_row_props around) _
-    ∙ ap (λ x. first_role (placed (in_cell_props around) (option_map Cell x) ∷ change_at around (prop_of tag) ∷ [])) tc
-    ∙ drop_none (in_cell_props around) _
+    let k : change_at ancestors (prop_of tag) ≡ placed (in_props prop ancestors) (Some (Change prop)) = ap (change_at ancestors) e in
+    ap (λ x. first_role (placed (is_open ancestors) (option_map Content x) ∷ placed (in_mark_props ancestors) (option_map Mark x) ∷ placed (in_row_props ancestors) (option_map Row (row_trace_of tag)) ∷ placed (in_cell_props ancestors) (option_map Cell (cell_trace_of tag)) ∷ change_at ancestors (prop_of tag) ∷ [])) t
+    ∙ drop_none (is_open ancestors) _ ∙ drop_none (in_mark_props ancestors) _
+    ∙ ap (λ x. first_role (placed (in_row_props ancestors) (option_map Row x) ∷ placed (in_cell_props ancestors) (option_map Cell (cell_trace_of tag)) ∷ change_at ancestors (prop_of tag) ∷ [])) tr
+    ∙ drop_none (in_row_props ancestors) _
+    ∙ ap (λ x. first_role (placed (in_cell_props ancestors) (option_map Cell x) ∷ change_at ancestors (prop_of tag) ∷ [])) tc
+    ∙ drop_none (in_cell_props ancestors) _
     ∙ ap (λ x. first_role (x ∷ [])) k
 
-pub change_role : (around : List Tag) (tag : Tag) → is_change (role around tag) ≡ at_props around (prop_of tag)
-change_role around tag = at (prop_of tag) refl
+pub change_role : (ancestors : List Tag) (tag : Tag) → is_change (role ancestors tag) ≡ at_props ancestors (prop_of tag)
+change_role ancestors tag = at (prop_of tag) refl
   where
     placed_change : (b : Bool) (prop : Prop) → is_change (first_role (placed b (Some (Change prop)) ∷ [])) ≡ b
     placed_change true prop = refl
     placed_change false prop = refl
 
-    at : (p : Option Prop) → prop_of tag ≡ p → is_change (role around tag) ≡ at_props around p
+    at : (p : Option Prop) → prop_of tag ≡ p → is_change (role ancestors tag) ≡ at_props ancestors p
     at None e =
-        skip (is_open around) (option_map Content (trace_of tag)) _ (map_content (trace_of tag))
-        (skip (in_mark_props around) (option_map Mark (trace_of tag)) _ (map_mark (trace_of tag))
-        (skip (in_row_props around) (option_map Row (row_trace_of tag)) _ (map_row (row_trace_of tag))
-        (skip (in_cell_props around) (option_map Cell (cell_trace_of tag)) (change_at around (prop_of tag) ∷ []) (map_cell (cell_trace_of tag))
-        (ap (λ p. is_change (first_role (change_at around p ∷ []))) e))))
-    at (Some prop) e = ap is_change (change_first around tag prop e) ∙ placed_change (in_props prop around) prop
+        skip (is_open ancestors) (option_map Content (trace_of tag)) _ (map_content (trace_of tag))
+        (skip (in_mark_props ancestors) (option_map Mark (trace_of tag)) _ (map_mark (trace_of tag))
+        (skip (in_row_props ancestors) (option_map Row (row_trace_of tag)) _ (map_row (row_trace_of tag))
+        (skip (in_cell_props ancestors) (option_map Cell (cell_trace_of tag)) (change_at ancestors (prop_of tag) ∷ []) (map_cell (cell_trace_of tag))
+        (ap (λ p. is_change (first_role (change_at ancestors p ∷ []))) e))))
+    at (Some prop) e = ap is_change (change_first ancestors tag prop e) ∙ placed_change (in_props prop ancestors) prop
 
 -- Places in properties, by ancestors
 
-within-owned : (name : String) (around : List Tag) → within (name ∷ []) around ≡ owned (is name) around
+within-owned : (name : String) (ancestors : List Tag) → within (name ∷ []) ancestors ≡ owned (is name) ancestors
 within-owned name [] = refl
-within-owned name (tag ∷ around) = refl
+within-owned name (tag ∷ ancestors) = refl
 
 pub restored_change : (a ch f : Tag) (o : List Tag) → is_change (role (a ∷ o) ch) ≡ true → below_change (f ∷ ch ∷ a ∷ o) ≡ true
 restored_change a ch f o e =
@@ -562,21 +563,21 @@ owner_came test like no_p old new (restored {old = p} {new = n} a b ch f c l q r
 owner_came test like no_p old new (joins {old = p} {new = n} b c h) g e =
     absurd (true_false (test b) (and_parts (test b) (is_open n) e).0 (no_p b h))
 
-pub in_below : (around : List Tag) → in_content around ≡ true → below_content around ≡ true
+pub in_below : (ancestors : List Tag) → in_content ancestors ≡ true → below_content ancestors ≡ true
 in_below [] e = e
-in_below (a ∷ around) e =
-    and_any (not (is "txbxContent" a)) (is_some (trace_of a)) (below_content around)
+in_below (a ∷ ancestors) e =
+    and_any (not (is "txbxContent" a)) (is_some (trace_of a)) (below_content ancestors)
     (by_trace (λ t. not (is "txbxContent" t) ≡ true) a e (refl, (refl, (refl, (refl, tt))))) e
 
 -- property elements never stand in a content revision
 abbrev pub Guarded : String → Type 0
-Guarded q = (around : List Tag) (a : Tag) → is q a ≡ true → Free3 around a → is_open around ≡ true → in_content around ≡ true → ⊥
+Guarded q = (ancestors : List Tag) (a : Tag) → is q a ≡ true → Free3 ancestors a → is_open ancestors ≡ true → in_content ancestors ≡ true → ⊥
 
 pub guard_below : (q : String) → ((a : Tag) → is q a ≡ true → is_any banned a ≡ true) → Guarded q
-guard_below q h around a e f o i = f.below (and_from _ _ (h a e) o) (in_below around i)
+guard_below q h ancestors a e f o i = f.below (and_from _ _ (h a e) o) (in_below ancestors i)
 
 guard_rPr : Guarded "rPr"
-guard_rPr around a e f o i = f.inside (and_from _ _ (by_name (λ t. is_any ("rPr" ∷ "sdtContent" ∷ []) t ≡ true) "rPr" a e refl) o) i
+guard_rPr ancestors a e f o i = f.inside (and_from _ _ (by_name (λ t. is_any ("rPr" ∷ "sdtContent" ∷ []) t ≡ true) "rPr" a e refl) o) i
 
 quiet_absurd : {X : Type 0} (a : Tag) (old new : List Tag) (b : Tag) → Came old (b ∷ new) → is_open old ≡ true → is_quiet b ≡ true → X
 quiet_absurd a old new b c o q = absurd (true_false (is_quiet b) q (open_head b new (came_open old (b ∷ new) c ∙ o)))
@@ -636,12 +637,12 @@ three_came q q2 o oq oq2 owner quiet quiet2 old new (restored {old = p} {new = n
 three_came q q2 o oq oq2 owner quiet quiet2 old new (joins {old = p} {new = n} b c h) e =
     absurd (p_not_quiet b h (quiet b (and_parts (is q b) (within (q2 ∷ o ∷ []) n) e).0))
 
-owner-owned : (around : List Tag) → in_run_owner around ≡ owned has_run_props around
+owner-owned : (ancestors : List Tag) → in_run_owner ancestors ≡ owned has_run_props ancestors
 owner-owned [] = refl
-owner-owned (tag ∷ around) = refl
+owner-owned (tag ∷ ancestors) = refl
 
-run_owned : (tag : Tag) (around : List Tag) → in_run_props (tag ∷ around) ≡ (is "rPr" tag && owned has_run_props around)
-run_owned tag around = ap (λ b. is "rPr" tag && b) (owner-owned around)
+run_owned : (tag : Tag) (ancestors : List Tag) → in_run_props (tag ∷ ancestors) ≡ (is "rPr" tag && owned has_run_props ancestors)
+run_owned tag ancestors = ap (λ b. is "rPr" tag && b) (owner-owned ancestors)
 
 quiet_rPr : (tag : Tag) → is "rPr" tag ≡ true → is_quiet tag ≡ true
 quiet_rPr tag e = by_name (λ t. is_quiet t ≡ true) "rPr" tag e refl

@@ -21,14 +21,14 @@ use Rattle.redl_tree.proofs.PassLaws.{pass-apart, if_false}
 
 -- the pass that goes node by node
 abbrev pub element_before : List Say → List Tag → Tag → Nodes → Nodes
-element_before says around tag passed =
-    by_fate (fate_of says tag) (is_content tag.kind) passed (element (renamed says around tag) passed no_nodes)
+element_before says ancestors tag passed =
+    by_fate (fate_of says tag) (is_content tag.kind) passed (element (renamed says ancestors tag) passed no_nodes)
 
 abbrev pub pass_before : List Say → List Tag → Nodes → Nodes
-pass_before says around no_nodes = no_nodes
-pass_before says around (bytes b rest) = bytes b (pass_before says around rest)
-pass_before says around (element tag kids rest) =
-    element_before says around tag (pass_before says (tag ∷ around) kids) ⊕ pass_before says around rest
+pass_before says ancestors no_nodes = no_nodes
+pass_before says ancestors (bytes b rest) = bytes b (pass_before says ancestors rest)
+pass_before says ancestors (element tag kids rest) =
+    element_before says ancestors tag (pass_before says (tag ∷ ancestors) kids) ⊕ pass_before says ancestors rest
 
 -- no member but content
 abbrev pub is_simple : Kind → Bool
@@ -151,9 +151,9 @@ none_goes true false false true in_row v x y z u e f g h k = g
 none_goes true false false false true v x y z u e f g h k = h
 none_goes true false false false false v x y z u e f g h k = k
 
-pub nothing_goes : (says : List Say) (around : List Tag) (tag : Tag) (kids : Nodes) → are_simple kids ≡ true → goes_at says around tag kids ≡ false
-nothing_goes says around tag kids h =
-    none_goes (is "tc" tag || is "tr" tag || is "tbl" tag || is_shell around tag) (is "tc" tag) (is "tr" tag) (is "tbl" tag) (in_cells around)
+pub nothing_goes : (says : List Say) (ancestors : List Tag) (tag : Tag) (kids : Nodes) → are_simple kids ≡ true → goes_at says ancestors tag kids ≡ false
+nothing_goes says ancestors tag kids h =
+    none_goes (is "tc" tag || is "tr" tag || is "tbl" tag || is_shell ancestors tag) (is "tc" tag) (is "tr" tag) (is "tbl" tag) (in_cells ancestors)
     (cell_is_cut says kids) (row_goes says kids) (rows_go says Direct kids) (cells_go says (into Direct tag) kids) (rows_go says (into Direct tag) kids)
     (no_cell_cut says kids h) (no_row says kids h) (no_rows says Direct kids h) (no_cells says (into Direct tag) kids h) (no_rows says (into Direct tag) kids h)
 
@@ -175,24 +175,24 @@ none_rejected says (element tag kids rest) h =
     let b = and_parts (are_simple kids) (are_simple rest) a.1 in
     rejected_simple (is_restore (fate_of says tag)) tag.kind kids (rejected says rest) a.0 ∙ none_rejected says rest b.1
 
-element-before : (says : List Say) (around : List Tag) (tag : Tag) (kids passed : Nodes) → are_simple kids ≡ true →
-    element_pass says around tag kids passed ≡ element_before says around tag passed
-element-before says around tag kids passed h =
+element-before : (says : List Say) (ancestors : List Tag) (tag : Tag) (kids passed : Nodes) → are_simple kids ≡ true →
+    element_pass says ancestors tag kids passed ≡ element_before says ancestors tag passed
+element-before says ancestors tag kids passed h =
     ap (by_fate (fate_of says tag) (is_content tag.kind) passed)
-    (if_false (goes_at says around tag kids) no_nodes (element (renamed says around tag) (after_change around tag (rejected says kids) passed) no_nodes) (nothing_goes says around tag kids h)
-    ∙ ap (λ r. element (renamed says around tag) (after_change around tag r passed) no_nodes) (none_rejected says kids h))
+    (if_false (goes_at says ancestors tag kids) no_nodes (element (renamed says ancestors tag) (after_change ancestors tag (rejected says kids) passed) no_nodes) (nothing_goes says ancestors tag kids h)
+    ∙ ap (λ r. element (renamed says ancestors tag) (after_change ancestors tag r passed) no_nodes) (none_rejected says kids h))
 
 -- the pass is the plain recursion where all members among the nodes are run content
-pub pass-before : (says : List Say) (around : List Tag) (nodes : Nodes) → are_simple nodes ≡ true → pass says around nodes ≡ pass_before says around nodes
-pass-before says around no_nodes h = refl
-pass-before says around (bytes b rest) h = ap (bytes b) (pass-before says around rest h)
-pass-before says around (element tag kids rest) h =
+pub pass-before : (says : List Say) (ancestors : List Tag) (nodes : Nodes) → are_simple nodes ≡ true → pass says ancestors nodes ≡ pass_before says ancestors nodes
+pass-before says ancestors no_nodes h = refl
+pass-before says ancestors (bytes b rest) h = ap (bytes b) (pass-before says ancestors rest h)
+pass-before says ancestors (element tag kids rest) h =
     let a = and_parts (is_simple tag.kind) (are_simple kids && are_simple rest) h in
     let b = and_parts (are_simple kids) (are_simple rest) a.1 in
-    pass-apart says around tag kids rest (rw (no_para_cut says kids b.0) (and_false (is_block_para says around tag)))
-    ∙ ap (λ p. element_pass says around tag kids p ⊕ pass says around rest) (pass-before says (tag ∷ around) kids b.0)
-    ∙ ap (λ n. n ⊕ pass says around rest) (element-before says around tag kids (pass_before says (tag ∷ around) kids) b.0)
-    ∙ ap (λ n. element_before says around tag (pass_before says (tag ∷ around) kids) ⊕ n) (pass-before says around rest b.1)
+    pass-apart says ancestors tag kids rest (rw (no_para_cut says kids b.0) (and_false (is_block_para says ancestors tag)))
+    ∙ ap (λ p. element_pass says ancestors tag kids p ⊕ pass says ancestors rest) (pass-before says (tag ∷ ancestors) kids b.0)
+    ∙ ap (λ n. n ⊕ pass says ancestors rest) (element-before says ancestors tag kids (pass_before says (tag ∷ ancestors) kids) b.0)
+    ∙ ap (λ n. element_before says ancestors tag (pass_before says (tag ∷ ancestors) kids) ⊕ n) (pass-before says ancestors rest b.1)
   where
     and_false : (b : Bool) → (b && false) ≡ false
     and_false true = refl

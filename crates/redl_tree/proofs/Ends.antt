@@ -12,7 +12,9 @@ use Rattle.redl_tree.specs.Decisions.Fates.{fate, fate_of, say_of, renamed}
 use Rattle.redl_tree.specs.Decisions.Tables.{goes, goes_at, para_is_cut}
 use Rattle.redl_tree.specs.Decisions.Groups.{Piece, para, thin, thick, paragraph_next, has_thick, joins, joined_tag, joined_kids, given, held_by, grouped_from}
 use Rattle.redl_tree.specs.Decisions.Pass.{kept_kids, element_pass, is_block_para, piece, pieces, pass}
-use Rattle.redl_tree.specs.Rules.Sound.{Test, open_one, in_content, is_so, end_of_one, or_before, end_of_two, end_of, test_1}
+use Rattle.redl_tree.specs.Rules.Tests.{Test, open_one}
+use Rattle.redl_tree.specs.Rules.CellEnds.{is_so, end_of_one, or_before, end_of_two, end_of}
+use Rattle.redl_tree.specs.Rules.Sound.{in_content, test_1}
 use Rattle.redl_tree.specs.declared.lists.Reach.{Reach}
 use Rattle.redl_tree.specs.declared.lists.Reach.TheVariants.{Direct, Control, Beyond}
 use Rattle.redl_tree.specs.declared.lists.Lot.TheVariants.{Blocks}
@@ -189,7 +191,7 @@ thick_from : From is_thick is_thick
 thick_from a b l e = sym (like_thick a b l) ∙ e
 
 abbrev AtBlocks : Reach → List Tag → Type 0
-AtBlocks reach around = (place around ≡ record { lot = Blocks; reach = reach }) × (is_open around ≡ true)
+AtBlocks reach ancestors = (place ancestors ≡ record { lot = Blocks; reach = reach }) × (is_open ancestors ≡ true)
 
 -- a list of blocks ends as it did
 record Keeps (xs ys : Nodes) : Type 0 where
@@ -206,28 +208,28 @@ record KeepsPieces (xs : Nodes) (ps : List Piece) : Type 0 where
   none : end_of Direct xs ≡ None → last_of ps ≡ None
   ok : EndsOk ps
 
-keeps_direct : (says : List Say) (around : List Tag) (nodes : Nodes) → KeepsPieces nodes (pieces says around nodes) → Keeps nodes (pass says around nodes)
-keeps_direct says around nodes k =
-    let e = ends_of None (pieces says around nodes) k.ok in
+keeps_direct : (says : List Say) (ancestors : List Tag) (nodes : Nodes) → KeepsPieces nodes (pieces says ancestors nodes) → Keeps nodes (pass says ancestors nodes)
+keeps_direct says ancestors nodes k =
+    let e = ends_of None (pieces says ancestors nodes) k.ok in
     record { good = λ x. e.good (k.good x); none = λ x. e.none (k.none x) }
 
-keeps_control : (says : List Say) (around : List Tag) (nodes : Nodes) → AtBlocks Control around → KeepsOne nodes (each says around nodes) → KeepsOne nodes (pass says around nodes)
-keeps_control says around nodes h k x = ap (end_of Control) (pass-each says around nodes (rw h.0 refl)) ∙ k x
+keeps_control : (says : List Say) (ancestors : List Tag) (nodes : Nodes) → AtBlocks Control ancestors → KeepsOne nodes (each says ancestors nodes) → KeepsOne nodes (pass says ancestors nodes)
+keeps_control says ancestors nodes h k x = ap (end_of Control) (pass-each says ancestors nodes (rw h.0 refl)) ∙ k x
 
 -- content revisions among blocks give no thick element
-foreign_thick : (ext : Test) → (says : List Say) (around : List Tag) (nodes : Nodes) → in_content around ≡ true → in_blocks (past_content around) ≡ true → is_open around ≡ true → Ground ext around nodes →
-    some_element is_thick (each says around nodes) ≡ false
-foreign_thick ext says around no_nodes i p o g = refl
-foreign_thick ext says around (bytes b rest) i p o g = foreign_thick ext says around rest i p o g
-foreign_thick ext says around (element a kids rest) i p o g =
-    some-⊕ is_thick (element_pass says around a kids (pass says (a ∷ around) kids)) (each says around rest)
-    (some_one is_thick thick_from a (element_pass says around a kids (pass says (a ∷ around) kids))
-    (one_pass says is_thick around a kids (pass says (a ∷ around) kids) (λ e.
-    let w = content_fits around a g.0.fits e in
-    ap (some_element is_thick) (content_each says (a ∷ around) kids w.1)
-    ∙ foreign_thick ext says (a ∷ around) kids w.1 (rw w.1 p) (open_∷ a around (by_trace (λ t. is_quiet t ≡ false) a w.1 (refl, (refl, (refl, (refl, tt))))) ∙ o) g.1))
-    (false_of (is_thick a) (λ t. (free3 around a kids g.0.rules.rule_3).blocks t i p)))
-    (foreign_thick ext says around rest i p o g.2)
+foreign_thick : (ext : Test) → (says : List Say) (ancestors : List Tag) (nodes : Nodes) → in_content ancestors ≡ true → in_blocks (past_content ancestors) ≡ true → is_open ancestors ≡ true → Ground ext ancestors nodes →
+    some_element is_thick (each says ancestors nodes) ≡ false
+foreign_thick ext says ancestors no_nodes i p o g = refl
+foreign_thick ext says ancestors (bytes b rest) i p o g = foreign_thick ext says ancestors rest i p o g
+foreign_thick ext says ancestors (element a kids rest) i p o g =
+    some-⊕ is_thick (element_pass says ancestors a kids (pass says (a ∷ ancestors) kids)) (each says ancestors rest)
+    (some_one is_thick thick_from a (element_pass says ancestors a kids (pass says (a ∷ ancestors) kids))
+    (one_pass says is_thick ancestors a kids (pass says (a ∷ ancestors) kids) (λ e.
+    let w = content_fits ancestors a g.0.fits e in
+    ap (some_element is_thick) (content_each says (a ∷ ancestors) kids w.1)
+    ∙ foreign_thick ext says (a ∷ ancestors) kids w.1 (rw w.1 p) (open_∷ a ancestors (by_trace (λ t. is_quiet t ≡ false) a w.1 (refl, (refl, (refl, (refl, tt))))) ∙ o) g.1))
+    (false_of (is_thick a) (λ t. (free3 ancestors a kids g.0.rules.rule_3).blocks t i p)))
+    (foreign_thick ext says ancestors rest i p o g.2)
 
 -- one element of a block list
 
@@ -252,11 +254,11 @@ p_left says a e (content t k is_t) = absurd (true_false (is_some (trace_of a)) (
 p_left says a e (marker k edge) = absurd (true_false (is_range_edge a) edge (by_name (λ t. is_range_edge t ≡ false) "p" a e refl))
 
 -- in a block list the paragraphs are those by name
-block_para : (says : List Say) (around : List Tag) (a : Tag) → AtBlocks Direct around → Fits around a → is_block_para says around a ≡ is "p" a
-block_para says around a h fit = at (is "p" a) refl (in_blocks around) (rw h.0 refl)
+block_para : (says : List Say) (ancestors : List Tag) (a : Tag) → AtBlocks Direct ancestors → Fits ancestors a → is_block_para says ancestors a ≡ is "p" a
+block_para says ancestors a h fit = at (is "p" a) refl (in_blocks ancestors) (rw h.0 refl)
   where
     at : (x : Bool) → is "p" a ≡ x → (y : Bool) → y ≡ true → (x && y && is_leave (fate_of says a)) ≡ x
-    at true e y b = rw b (p_left says a e (open_fits around a h.1 fit))
+    at true e y b = rw b (p_left says a e (open_fits ancestors a h.1 fit))
     at false e y b = refl
 
 wrapper_thick : (a : Tag) → is_wrapper a ≡ true → is_thick a ≡ true
@@ -265,86 +267,86 @@ wrapper_thick a e = by_names (λ t. is_thick t ≡ true) ("sdt" ∷ "customXml" 
 end_one : (reach : Reach) (t : Tag) (kids : Nodes) → end_of reach (element t kids no_nodes) ≡ end_of_one reach t (end_of (into reach t) kids)
 end_one reach t kids = two_last reach (end_of_one reach t (end_of (into reach t) kids))
 
-shell_no : (says : List Say) (around : List Tag) (a : Tag) (kids : Nodes) (reach : Reach) → AtBlocks reach around → is "tc" a ≡ false → is "tr" a ≡ false → is "tbl" a ≡ false → goes_at says around a kids ≡ false
-shell_no says around a kids reach h p q r =
-    no_and (is "tc" a || is "tr" a || is "tbl" a || is_shell around a) (goes says (in_cells around) a kids)
-    (or_from _ _ (or_from _ _ (or_from _ _ p q) r) (and_no (is_wrapper a) (in_rows around || in_cells around) (no_grid reach around h.0)))
+shell_no : (says : List Say) (ancestors : List Tag) (a : Tag) (kids : Nodes) (reach : Reach) → AtBlocks reach ancestors → is "tc" a ≡ false → is "tr" a ≡ false → is "tbl" a ≡ false → goes_at says ancestors a kids ≡ false
+shell_no says ancestors a kids reach h p q r =
+    no_and (is "tc" a || is "tr" a || is "tbl" a || is_shell ancestors a) (goes says (in_cells ancestors) a kids)
+    (or_from _ _ (or_from _ _ (or_from _ _ p q) r) (and_no (is_wrapper a) (in_rows ancestors || in_cells ancestors) (no_grid reach ancestors h.0)))
   where
-    no_grid : (reach : Reach) (around : List Tag) → place around ≡ record { lot = Blocks; reach = reach } → (in_rows around || in_cells around) ≡ false
-    no_grid Direct around e = rw e refl
-    no_grid Control around e = rw e refl
-    no_grid Beyond around e = rw e refl
+    no_grid : (reach : Reach) (ancestors : List Tag) → place ancestors ≡ record { lot = Blocks; reach = reach } → (in_rows ancestors || in_cells ancestors) ≡ false
+    no_grid Direct ancestors e = rw e refl
+    no_grid Control ancestors e = rw e refl
+    no_grid Beyond ancestors e = rw e refl
 
 so_wrapper : (p w t : Bool) (inner : Option Bool) → p ≡ false → w ≡ true → (if p then Some true else if w then Some (is_so inner) else if t then Some false else None) ≡ Some (is_so inner)
 so_wrapper p w t inner a b = rw (a, b) refl
 
-wrapper_end : (ext : Test) → (says : List Say) (around : List Tag) (a : Tag) (kids passed : Nodes) → AtBlocks Direct around → Fits around a → Ground ext (a ∷ around) kids → is_wrapper a ≡ true →
-    is_so (end_of Direct (element_pass says around a kids passed)) ≡ is_so (end_of (into Direct a) passed)
-wrapper_end ext says around a kids passed h fit g e =
+wrapper_end : (ext : Test) → (says : List Say) (ancestors : List Tag) (a : Tag) (kids passed : Nodes) → AtBlocks Direct ancestors → Fits ancestors a → Ground ext (a ∷ ancestors) kids → is_wrapper a ≡ true →
+    is_so (end_of Direct (element_pass says ancestors a kids passed)) ≡ is_so (end_of (into Direct a) passed)
+wrapper_end ext says ancestors a kids passed h fit g e =
     let two = λ (P : Tag → Type 0) (x : P (record a { space = W; local = codes "sdt" }))
     (y : P (record a { space = W; local = codes "customXml" })). by_names P ("sdt" ∷ "customXml" ∷ []) a e (x, (y, tt)) in
-    let t = renamed says around a in
-    let l = (own_renamed says around a).like in
+    let t = renamed says ancestors a in
+    let l = (own_renamed says ancestors a).like in
     ap (λ n. is_so (end_of Direct n))
-    (plain_stays ext says around a kids passed h.1 fit (two (λ t. is_quiet t ≡ false) refl refl) g (two (λ t. is_some (trace_of t) ≡ false) refl refl) (two (λ t. is_range_edge t ≡ false) refl refl)
-    (shell_no says around a kids Direct h (two (λ t. is "tc" t ≡ false) refl refl) (two (λ t. is "tr" t ≡ false) refl refl) (two (λ t. is "tbl" t ≡ false) refl refl)))
+    (plain_stays ext says ancestors a kids passed h.1 fit (two (λ t. is_quiet t ≡ false) refl refl) g (two (λ t. is_some (trace_of t) ≡ false) refl refl) (two (λ t. is_range_edge t ≡ false) refl refl)
+    (shell_no says ancestors a kids Direct h (two (λ t. is "tc" t ≡ false) refl refl) (two (λ t. is "tr" t ≡ false) refl refl) (two (λ t. is "tbl" t ≡ false) refl refl)))
     ∙ ap is_so (end_one Direct t passed)
     ∙ ap is_so (so_wrapper (is "p" t) (is_wrapper t) (is_thick t) (end_of (into Direct t) passed)
     (l.name "p" refl ∙ two (λ t. is "p" t ≡ false) refl refl) (like_any ("sdt" ∷ "customXml" ∷ []) a t l refl ∙ e))
     ∙ ap (λ r. is_so (end_of r passed)) (like_into Direct a t l)
 
 -- a thin element gives nothing thick
-thin_piece : (ext : Test) → (says : List Say) (around : List Tag) (a : Tag) (kids : Nodes) → AtBlocks Direct around → Fits around a → Ground ext (a ∷ around) kids → is_thick a ≡ false →
-    end_of Direct (element_pass says around a kids (pass says (a ∷ around) kids)) ≡ None
-thin_piece ext says around a kids h fit g e =
-    no_thick_end (element_pass says around a kids (pass says (a ∷ around) kids))
-    (some_one is_thick thick_from a (element_pass says around a kids (pass says (a ∷ around) kids))
-    (one_pass says is_thick around a kids (pass says (a ∷ around) kids) (λ k.
-    let w = content_fits around a fit k in
-    ap (some_element is_thick) (content_each says (a ∷ around) kids w.1)
-    ∙ foreign_thick ext says (a ∷ around) kids w.1 (past_here around a h w.1) (open_∷ a around (by_trace (λ t. is_quiet t ≡ false) a w.1 (refl, (refl, (refl, (refl, tt))))) ∙ h.1) g)) e)
+thin_piece : (ext : Test) → (says : List Say) (ancestors : List Tag) (a : Tag) (kids : Nodes) → AtBlocks Direct ancestors → Fits ancestors a → Ground ext (a ∷ ancestors) kids → is_thick a ≡ false →
+    end_of Direct (element_pass says ancestors a kids (pass says (a ∷ ancestors) kids)) ≡ None
+thin_piece ext says ancestors a kids h fit g e =
+    no_thick_end (element_pass says ancestors a kids (pass says (a ∷ ancestors) kids))
+    (some_one is_thick thick_from a (element_pass says ancestors a kids (pass says (a ∷ ancestors) kids))
+    (one_pass says is_thick ancestors a kids (pass says (a ∷ ancestors) kids) (λ k.
+    let w = content_fits ancestors a fit k in
+    ap (some_element is_thick) (content_each says (a ∷ ancestors) kids w.1)
+    ∙ foreign_thick ext says (a ∷ ancestors) kids w.1 (past_here ancestors a h w.1) (open_∷ a ancestors (by_trace (λ t. is_quiet t ≡ false) a w.1 (refl, (refl, (refl, (refl, tt))))) ∙ h.1) g)) e)
   where
-    not_content : (around : List Tag) → in_blocks around ≡ true → in_content around ≡ true → ⊥
+    not_content : (ancestors : List Tag) → in_blocks ancestors ≡ true → in_content ancestors ≡ true → ⊥
     not_content [] b i = true≢false (sym i)
-    not_content (c ∷ around) b i = true≢false (sym b ∙ in_blocks-reach (c ∷ around) ∙ ap is_direct (reach_trace c around i))
+    not_content (c ∷ ancestors) b i = true≢false (sym b ∙ in_blocks-reach (c ∷ ancestors) ∙ ap is_direct (reach_trace c ancestors i))
 
-    past_here : (around : List Tag) (a : Tag) → AtBlocks Direct around → is_some (trace_of a) ≡ true → in_blocks (past_content (a ∷ around)) ≡ true
-    past_here around a h t =
-        let b : in_blocks around ≡ true = rw h.0 refl in
-        rw (t, past_self around (false_of (in_content around) (not_content around b))) b
+    past_here : (ancestors : List Tag) (a : Tag) → AtBlocks Direct ancestors → is_some (trace_of a) ≡ true → in_blocks (past_content (a ∷ ancestors)) ≡ true
+    past_here ancestors a h t =
+        let b : in_blocks ancestors ≡ true = rw h.0 refl in
+        rw (t, past_self ancestors (false_of (in_content ancestors) (not_content ancestors b))) b
 
 -- where the kids of a part of a shell stand
-inside_blocks : (name : String) (reach inner : Reach) (around : List Tag) (a : Tag) → AtBlocks reach around → is name a ≡ true → is_quiet a ≡ false →
-    inside a (record { lot = Blocks; reach = reach }) ≡ record { lot = Blocks; reach = inner } → AtBlocks inner (a ∷ around)
-inside_blocks name reach inner around a h e q x = (rw (open_∷ a around q ∙ h.1, h.0) x, open_∷ a around q ∙ h.1)
+inside_blocks : (name : String) (reach inner : Reach) (ancestors : List Tag) (a : Tag) → AtBlocks reach ancestors → is name a ≡ true → is_quiet a ≡ false →
+    inside a (record { lot = Blocks; reach = reach }) ≡ record { lot = Blocks; reach = inner } → AtBlocks inner (a ∷ ancestors)
+inside_blocks name reach inner ancestors a h e q x = (rw (open_∷ a ancestors q ∙ h.1, h.0) x, open_∷ a ancestors q ∙ h.1)
 
 -- the two sorts of lists
-record Facts (says : List Say) (around : List Tag) (nodes : Nodes) : Type 0 where
-  of_blocks : AtBlocks Direct around → KeepsPieces nodes (pieces says around nodes)
-  of_control : AtBlocks Control around → KeepsOne nodes (each says around nodes)
+record Facts (says : List Say) (ancestors : List Tag) (nodes : Nodes) : Type 0 where
+  of_blocks : AtBlocks Direct ancestors → KeepsPieces nodes (pieces says ancestors nodes)
+  of_control : AtBlocks Control ancestors → KeepsOne nodes (each says ancestors nodes)
 
-wrapper_keeps : (says : List Say) (around : List Tag) (a : Tag) (kids : Nodes) → AtBlocks Direct around → is_wrapper a ≡ true → Facts says (a ∷ around) kids →
-    is_so (end_of (into Direct a) kids) ≡ true → is_so (end_of (into Direct a) (pass says (a ∷ around) kids)) ≡ true
-wrapper_keeps says around a kids h e f = at (is "sdt" a) refl (is "customXml" a) refl
+wrapper_keeps : (says : List Say) (ancestors : List Tag) (a : Tag) (kids : Nodes) → AtBlocks Direct ancestors → is_wrapper a ≡ true → Facts says (a ∷ ancestors) kids →
+    is_so (end_of (into Direct a) kids) ≡ true → is_so (end_of (into Direct a) (pass says (a ∷ ancestors) kids)) ≡ true
+wrapper_keeps says ancestors a kids h e f = at (is "sdt" a) refl (is "customXml" a) refl
   where
     of_some : (x y : Option Bool) → (x ≡ Some true → y ≡ Some true) → is_so x ≡ true → is_so y ≡ true
     of_some x y k s = ap is_so (k (not_so x s))
 
-    at : (x : Bool) → is "sdt" a ≡ x → (y : Bool) → is "customXml" a ≡ y → is_so (end_of (into Direct a) kids) ≡ true → is_so (end_of (into Direct a) (pass says (a ∷ around) kids)) ≡ true
+    at : (x : Bool) → is "sdt" a ≡ x → (y : Bool) → is "customXml" a ≡ y → is_so (end_of (into Direct a) kids) ≡ true → is_so (end_of (into Direct a) (pass says (a ∷ ancestors) kids)) ≡ true
     at true p y q =
         let r = by_name (λ t. into Direct t ≡ Control) "sdt" a p refl in
-        rw r (of_some (end_of Control kids) (end_of Control (pass says (a ∷ around) kids))
-        (keeps_control says (a ∷ around) kids (at_sdt p) (f.of_control (at_sdt p))))
+        rw r (of_some (end_of Control kids) (end_of Control (pass says (a ∷ ancestors) kids))
+        (keeps_control says (a ∷ ancestors) kids (at_sdt p) (f.of_control (at_sdt p))))
       where
-        at_sdt : is "sdt" a ≡ true → AtBlocks Control (a ∷ around)
-        at_sdt p = inside_blocks "sdt" Direct Control around a h p (by_name (λ t. is_quiet t ≡ false) "sdt" a p refl) (by_name (λ t. inside t (record { lot = Blocks; reach = Direct }) ≡ record { lot = Blocks; reach = Control }) "sdt" a p refl)
+        at_sdt : is "sdt" a ≡ true → AtBlocks Control (a ∷ ancestors)
+        at_sdt p = inside_blocks "sdt" Direct Control ancestors a h p (by_name (λ t. is_quiet t ≡ false) "sdt" a p refl) (by_name (λ t. inside t (record { lot = Blocks; reach = Direct }) ≡ record { lot = Blocks; reach = Control }) "sdt" a p refl)
     at false p true q =
         let r = by_name (λ t. into Direct t ≡ Direct) "customXml" a q refl in
-        rw r (of_some (end_of Direct kids) (end_of Direct (pass says (a ∷ around) kids))
-        (keeps_direct says (a ∷ around) kids (f.of_blocks (at_custom q))).good)
+        rw r (of_some (end_of Direct kids) (end_of Direct (pass says (a ∷ ancestors) kids))
+        (keeps_direct says (a ∷ ancestors) kids (f.of_blocks (at_custom q))).good)
       where
-        at_custom : is "customXml" a ≡ true → AtBlocks Direct (a ∷ around)
-        at_custom q = inside_blocks "customXml" Direct Direct around a h q (by_name (λ t. is_quiet t ≡ false) "customXml" a q refl) (by_name (λ t. inside t (record { lot = Blocks; reach = Direct }) ≡ record { lot = Blocks; reach = Direct }) "customXml" a q refl)
+        at_custom : is "customXml" a ≡ true → AtBlocks Direct (a ∷ ancestors)
+        at_custom q = inside_blocks "customXml" Direct Direct ancestors a h q (by_name (λ t. is_quiet t ≡ false) "customXml" a q refl) (by_name (λ t. inside t (record { lot = Blocks; reach = Direct }) ≡ record { lot = Blocks; reach = Direct }) "customXml" a q refl)
     at false p false q = absurd (true≢false (sym e ∙ or_from (is "sdt" a) (is "customXml" a || false) p (or_from (is "customXml" a) false q refl)))
 
 -- one element of a content Control
@@ -352,15 +354,15 @@ wrapper_keeps says around a kids h e f = at (is "sdt" a) refl (is "customXml" a)
 end_control : (t : Tag) (inner : Option Bool) → is "sdtContent" t ≡ true → end_of_one Control t inner ≡ inner
 end_control t inner e = rw e refl
 
-content_end : (ext : Test) → (says : List Say) (around : List Tag) (a : Tag) (kids passed : Nodes) → AtBlocks Control around → Fits around a → Ground ext (a ∷ around) kids → is "sdtContent" a ≡ true →
-    end_of Control (element_pass says around a kids passed) ≡ end_of Direct passed
-content_end ext says around a kids passed h fit g e =
-    let t = renamed says around a in
-    let l = (own_renamed says around a).like in
+content_end : (ext : Test) → (says : List Say) (ancestors : List Tag) (a : Tag) (kids passed : Nodes) → AtBlocks Control ancestors → Fits ancestors a → Ground ext (a ∷ ancestors) kids → is "sdtContent" a ≡ true →
+    end_of Control (element_pass says ancestors a kids passed) ≡ end_of Direct passed
+content_end ext says ancestors a kids passed h fit g e =
+    let t = renamed says ancestors a in
+    let l = (own_renamed says ancestors a).like in
     let te = l.name "sdtContent" refl ∙ e in
     ap (end_of Control)
-    (plain_stays ext says around a kids passed h.1 fit (by_name (λ t. is_quiet t ≡ false) "sdtContent" a e refl) g (by_name (λ t. is_some (trace_of t) ≡ false) "sdtContent" a e refl) (by_name (λ t. is_range_edge t ≡ false) "sdtContent" a e refl)
-    (by_name (λ t. goes_at says around t kids ≡ false) "sdtContent" a e refl))
+    (plain_stays ext says ancestors a kids passed h.1 fit (by_name (λ t. is_quiet t ≡ false) "sdtContent" a e refl) g (by_name (λ t. is_some (trace_of t) ≡ false) "sdtContent" a e refl) (by_name (λ t. is_range_edge t ≡ false) "sdtContent" a e refl)
+    (by_name (λ t. goes_at says ancestors t kids ≡ false) "sdtContent" a e refl))
     ∙ end_one Control t passed
     ∙ end_control t (end_of (into Control t) passed) te
     ∙ ap (λ r. end_of r passed) (like_into Control a t l ∙ by_name (λ t. into Control t ≡ Direct) "sdtContent" a e refl)
@@ -378,58 +380,58 @@ combine_some None (Some y) ce cr e f g = rw (g e) (some_last ce)
 combine_some None None ce cr e f g = cc
 
 -- a content of a control that ends well does so again
-control_keeps : (ext : Test) → (says : List Say) (around : List Tag) (a : Tag) (kids : Nodes) → AtBlocks Control around → Stands ext around a kids → Ground ext (a ∷ around) kids → Facts says (a ∷ around) kids →
-    end_of_one Control a (end_of (into Control a) kids) ≡ Some true → end_of Control (element_pass says around a kids (pass says (a ∷ around) kids)) ≡ Some true
-control_keeps ext says around a kids h hs g f = at (is "sdtContent" a) refl
+control_keeps : (ext : Test) → (says : List Say) (ancestors : List Tag) (a : Tag) (kids : Nodes) → AtBlocks Control ancestors → Stands ext ancestors a kids → Ground ext (a ∷ ancestors) kids → Facts says (a ∷ ancestors) kids →
+    end_of_one Control a (end_of (into Control a) kids) ≡ Some true → end_of Control (element_pass says ancestors a kids (pass says (a ∷ ancestors) kids)) ≡ Some true
+control_keeps ext says ancestors a kids h hs g f = at (is "sdtContent" a) refl
   where
-    at : (x : Bool) → is "sdtContent" a ≡ x → end_of_one Control a (end_of (into Control a) kids) ≡ Some true → end_of Control (element_pass says around a kids (pass says (a ∷ around) kids)) ≡ Some true
+    at : (x : Bool) → is "sdtContent" a ≡ x → end_of_one Control a (end_of (into Control a) kids) ≡ Some true → end_of Control (element_pass says ancestors a kids (pass says (a ∷ ancestors) kids)) ≡ Some true
     at true e w =
         let r = by_name (λ t. into Control t ≡ Direct) "sdtContent" a e refl in
-        let b = inside_blocks "sdtContent" Control Direct around a h e (by_name (λ t. is_quiet t ≡ false) "sdtContent" a e refl) (by_name (λ t. inside t (record { lot = Blocks; reach = Control }) ≡ record { lot = Blocks; reach = Direct }) "sdtContent" a e refl) in
+        let b = inside_blocks "sdtContent" Control Direct ancestors a h e (by_name (λ t. is_quiet t ≡ false) "sdtContent" a e refl) (by_name (λ t. inside t (record { lot = Blocks; reach = Control }) ≡ record { lot = Blocks; reach = Direct }) "sdtContent" a e refl) in
         let old : end_of_one Control a (end_of (into Control a) kids) ≡ end_of Direct kids = end_control a (end_of (into Control a) kids) e ∙ ap (λ r. end_of r kids) r in
-        content_end ext says around a kids (pass says (a ∷ around) kids) h hs.fits g e ∙ (keeps_direct says (a ∷ around) kids (f.of_blocks b)).good (sym old ∙ w)
+        content_end ext says ancestors a kids (pass says (a ∷ ancestors) kids) h hs.fits g e ∙ (keeps_direct says (a ∷ ancestors) kids (f.of_blocks b)).good (sym old ∙ w)
     at false e w = absurd (let bad : None ≡ Some true = sym (no_control a (end_of (into Control a) kids) e) ∙ w in cc)
       where
         no_control : (a : Tag) (inner : Option Bool) → is "sdtContent" a ≡ false → end_of_one Control a inner ≡ None
         no_control a inner e = rw e refl
 
-facts : (ext : Test) → (says : List Say) (around : List Tag) (nodes : Nodes) → Ground ext around nodes → Facts says around nodes
-facts ext says around no_nodes g = record {
+facts : (ext : Test) → (says : List Say) (ancestors : List Tag) (nodes : Nodes) → Ground ext ancestors nodes → Facts says ancestors nodes
+facts ext says ancestors no_nodes g = record {
   of_blocks = λ h. record { good = λ e. e; none = λ e. e; ok = tt };
   of_control = λ h e. e;
 }
-facts ext says around (bytes b rest) g =
-    let ih = facts ext says around rest g in
+facts ext says ancestors (bytes b rest) g =
+    let ih = facts ext says ancestors rest g in
     record {
       of_blocks = λ h. let k = ih.of_blocks h in record { good = λ e. ap (or_before None) (k.good e); none = λ e. ap (or_before None) (k.none e); ok = (refl, k.ok) };
       of_control = ih.of_control;
     }
-facts ext says around (element a kids rest) g =
-    let ih = facts ext says around rest g.2 in
-    let below = facts ext says (a ∷ around) kids g.1 in
+facts ext says ancestors (element a kids rest) g =
+    let ih = facts ext says ancestors rest g.2 in
+    let below = facts ext says (a ∷ ancestors) kids g.1 in
     record {
       of_blocks = λ h.
           let k = ih.of_blocks h in
-          let x = pass says (a ∷ around) kids in
-          let n = element_pass says around a kids x in
-          let one_of : (Bool → Piece) = λ b. if b then para (renamed says around a) (para_is_cut says kids) (kept_kids says around a kids x) else if is_thick a then thick n else thin n in
-          let p : PieceKeeps (end_of_one Direct a (end_of (into Direct a) kids)) (piece says around a kids x) =
-          subst (λ b. PieceKeeps (end_of_one Direct a (end_of (into Direct a) kids)) (one_of b)) (sym (block_para says around a h g.0.fits))
-          (piece_keeps (is "p" a) (is_wrapper a) (is_thick a) (para_is_cut says kids) (renamed says around a) (kept_kids says around a kids x) n (end_of (into Direct a) kids)
-          (λ e. (own_renamed says around a).like.name "p" refl ∙ e) (wrapper_thick a)
-          (λ w s. wrapper_end ext says around a kids x h g.0.fits g.1 w ∙ wrapper_keeps says around a kids h w below s)
-          (λ t. thin_piece ext says around a kids h g.0.fits g.1 t))
+          let x = pass says (a ∷ ancestors) kids in
+          let n = element_pass says ancestors a kids x in
+          let one_of : (Bool → Piece) = λ b. if b then para (renamed says ancestors a) (para_is_cut says kids) (kept_kids says ancestors a kids x) else if is_thick a then thick n else thin n in
+          let p : PieceKeeps (end_of_one Direct a (end_of (into Direct a) kids)) (piece says ancestors a kids x) =
+          subst (λ b. PieceKeeps (end_of_one Direct a (end_of (into Direct a) kids)) (one_of b)) (sym (block_para says ancestors a h g.0.fits))
+          (piece_keeps (is "p" a) (is_wrapper a) (is_thick a) (para_is_cut says kids) (renamed says ancestors a) (kept_kids says ancestors a kids x) n (end_of (into Direct a) kids)
+          (λ e. (own_renamed says ancestors a).like.name "p" refl ∙ e) (wrapper_thick a)
+          (λ w s. wrapper_end ext says ancestors a kids x h g.0.fits g.1 w ∙ wrapper_keeps says ancestors a kids h w below s)
+          (λ t. thin_piece ext says ancestors a kids h g.0.fits g.1 t))
           in
           record {
-            good = λ e. combine_good (end_of_one Direct a (end_of (into Direct a) kids)) (end_of Direct rest) (piece_end (piece says around a kids x)) (last_of (pieces says around rest)) e (λ n. p.good) k.good k.none;
-            none = λ e. combine_none (end_of_one Direct a (end_of (into Direct a) kids)) (end_of Direct rest) (piece_end (piece says around a kids x)) (last_of (pieces says around rest)) e p.none k.none;
+            good = λ e. combine_good (end_of_one Direct a (end_of (into Direct a) kids)) (end_of Direct rest) (piece_end (piece says ancestors a kids x)) (last_of (pieces says ancestors rest)) e (λ n. p.good) k.good k.none;
+            none = λ e. combine_none (end_of_one Direct a (end_of (into Direct a) kids)) (end_of Direct rest) (piece_end (piece says ancestors a kids x)) (last_of (pieces says ancestors rest)) e p.none k.none;
             ok = (p.ok, k.ok);
           };
       of_control = λ h e.
-          let x = pass says (a ∷ around) kids in
-          end-⊕ Control (element_pass says around a kids x) (each says around rest)
-          ∙ combine_some (end_of_one Control a (end_of (into Control a) kids)) (end_of Control rest) (end_of Control (element_pass says around a kids x)) (end_of Control (each says around rest)) e
-          (control_keeps ext says around a kids h g.0 g.1 below) (ih.of_control h);
+          let x = pass says (a ∷ ancestors) kids in
+          end-⊕ Control (element_pass says ancestors a kids x) (each says ancestors rest)
+          ∙ combine_some (end_of_one Control a (end_of (into Control a) kids)) (end_of Control rest) (end_of Control (element_pass says ancestors a kids x)) (end_of Control (each says ancestors rest)) e
+          (control_keeps ext says ancestors a kids h g.0 g.1 below) (ih.of_control h);
     }
 
 -- RULE 1

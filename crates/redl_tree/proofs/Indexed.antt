@@ -26,39 +26,39 @@ find_fact true test xs e = refl
 find_fact false test [] e = e
 find_fact false test (x ∷ xs) e = find_fact false test xs e
 
-kind_fits : (marked : Bool) (around : List Tag) (tag : Tag) → tag.kind ≡ (if marked then Marker else role around tag) →
-    (marked ≡ true → (is_open around ≡ true) × (is_range_edge tag ≡ true)) → Fits around tag
-kind_fits true around tag k h = inr (record { kind = k; open_place = (h refl).0; edge = (h refl).1 })
-kind_fits false around tag k h = inl k
+kind_fits : (marked : Bool) (ancestors : List Tag) (tag : Tag) → tag.kind ≡ (if marked then Marker else role ancestors tag) →
+    (marked ≡ true → (is_open ancestors ≡ true) × (is_range_edge tag ≡ true)) → Fits ancestors tag
+kind_fits true ancestors tag k h = inr (record { kind = k; open_place = (h refl).0; edge = (h refl).1 })
+kind_fits false ancestors tag k h = inl k
 
-labelled_fits : (value : Value) (moves : List Pair) (so_far : Numbering) (above : List Spot) (at : ℕ) (tag : Tag) (kids : Nodes) →
-    labelled_tag value moves so_far (seen_one above at tag kids) ≡ tag → Fits (tags_of above) tag
-labelled_fits value moves so_far above at tag kids e =
+labelled_fits : (value : Value) (moves : List Pair) (so_far : Numbering) (ancestors : List Spot) (at : ℕ) (tag : Tag) (kids : Nodes) →
+    labelled_tag value moves so_far (seen_one ancestors at tag kids) ≡ tag → Fits (tags_of ancestors) tag
+labelled_fits value moves so_far ancestors at tag kids e =
     let has_id : (List ℕ → Bool) = λ tail. is_some (value tail (codes "id")) in
-    kind_fits (is_some (move_of_marker value moves (seen_one above at tag kids))) (tags_of above) tag (sym (ap (λ t. t.kind) e))
+    kind_fits (is_some (move_of_marker value moves (seen_one ancestors at tag kids))) (tags_of ancestors) tag (sym (ap (λ t. t.kind) e))
     (λ m.
-    let marks = find_fact (is_marker has_id (tags_of above) tag) (is_of_pair at) moves m in
-    and_parts (is_open (tags_of above)) (is_range_edge tag)
-    (and_parts (is_open (tags_of above) && is_range_edge tag) (has_id tag.tail) marks).0)
+    let marks = find_fact (is_marker has_id (tags_of ancestors) tag) (is_of_pair at) moves m in
+    and_parts (is_open (tags_of ancestors)) (is_range_edge tag)
+    (and_parts (is_open (tags_of ancestors) && is_range_edge tag) (has_id tag.tail) marks).0)
 
-pub fits_from : (value : Value) (moves : List Pair) (so_far : Numbering) (above : List Spot) (at : ℕ) (nodes : Nodes) →
-    labelled value moves above at so_far nodes ≡ nodes → AllFit (tags_of above) nodes
-fits_from value moves so_far above at no_nodes e = tt
-fits_from value moves so_far above at (bytes b rest) e = fits_from value moves so_far above at rest cc
-fits_from value moves so_far above at (element tag kids rest) e = (
-  labelled_fits value moves so_far above at tag kids cc,
-  fits_from value moves (counted (revision_of value moves (seen_one above at tag kids)) so_far) (spot at tag kids ∷ above) (at + 1) kids cc,
+pub fits_from : (value : Value) (moves : List Pair) (so_far : Numbering) (ancestors : List Spot) (at : ℕ) (nodes : Nodes) →
+    labelled value moves ancestors at so_far nodes ≡ nodes → AllFit (tags_of ancestors) nodes
+fits_from value moves so_far ancestors at no_nodes e = tt
+fits_from value moves so_far ancestors at (bytes b rest) e = fits_from value moves so_far ancestors at rest cc
+fits_from value moves so_far ancestors at (element tag kids rest) e = (
+  labelled_fits value moves so_far ancestors at tag kids cc,
+  fits_from value moves (counted (revision_of value moves (seen_one ancestors at tag kids)) so_far) (spot at tag kids ∷ ancestors) (at + 1) kids cc,
   fits_from value moves
-      (numbering_after value moves (spot at tag kids ∷ above) (at + 1) (counted (revision_of value moves (seen_one above at tag kids)) so_far) kids)
-      above (at + 2 + tags kids) rest cc,
+      (numbering_after value moves (spot at tag kids ∷ ancestors) (at + 1) (counted (revision_of value moves (seen_one ancestors at tag kids)) so_far) kids)
+      ancestors (at + 2 + tags kids) rest cc,
 )
 
-pub root_name : (around : List Tag) (tag : Tag) → is_root around tag ≡ true → is_story_root tag ≡ true
-root_name around tag e = (and_parts (is_data_level (level_of around)) (is_story_root tag) e).1
+pub root_name : (ancestors : List Tag) (tag : Tag) → is_root ancestors tag ≡ true → is_story_root tag ≡ true
+root_name ancestors tag e = (and_parts (is_data_level (level_of ancestors)) (is_story_root tag) e).1
 
-pub root_loud : (around : List Tag) (tag : Tag) → is_root around tag ≡ true → is_quiet tag ≡ false
-root_loud around tag e =
-    by_names (λ t. is_quiet t ≡ false) ("document" ∷ "hdr" ∷ "ftr" ∷ "footnotes" ∷ "endnotes" ∷ "comments" ∷ []) tag (root_name around tag e) (refl, (refl, (refl, (refl, (refl, (refl, tt))))))
+pub root_loud : (ancestors : List Tag) (tag : Tag) → is_root ancestors tag ≡ true → is_quiet tag ≡ false
+root_loud ancestors tag e =
+    by_names (λ t. is_quiet t ≡ false) ("document" ∷ "hdr" ∷ "ftr" ∷ "footnotes" ∷ "endnotes" ∷ "comments" ∷ []) tag (root_name ancestors tag e) (refl, (refl, (refl, (refl, (refl, (refl, tt))))))
 
 -- a story of an indexed package
 pub record IsStory (story : Parts) : Type 0 where
@@ -74,19 +74,19 @@ AreStories-++ : (xs ys : List Parts) → AreStories xs → AreStories ys → Are
 AreStories-++ [] ys h k = k
 AreStories-++ (x ∷ xs) ys h k = (h.0, AreStories-++ xs ys h.1 k)
 
-stories_are : (value : Value) (around : List Tag) (next : ℕ) (nodes : Nodes) → changed_in (number_rule value) next around nodes ≡ nodes → AreStories (stories_in around nodes)
-stories_are value around next no_nodes e = tt
-stories_are value around next (bytes b rest) e = stories_are value around next rest cc
-stories_are value around next (element tag kids rest) e =
-    AreStories-++ (element_stories around tag kids) (stories_in around rest)
-    (here (is_root around tag) refl (cc) (stories_are value (tag ∷ around) next kids))
-    (stories_are value around (left_after (number_rule value) next (element_stories around tag kids)) rest cc)
+stories_are : (value : Value) (ancestors : List Tag) (next : ℕ) (nodes : Nodes) → changed_in (number_rule value) next ancestors nodes ≡ nodes → AreStories (stories_in ancestors nodes)
+stories_are value ancestors next no_nodes e = tt
+stories_are value ancestors next (bytes b rest) e = stories_are value ancestors next rest cc
+stories_are value ancestors next (element tag kids rest) e =
+    AreStories-++ (element_stories ancestors tag kids) (stories_in ancestors rest)
+    (here (is_root ancestors tag) refl (cc) (stories_are value (tag ∷ ancestors) next kids))
+    (stories_are value ancestors (left_after (number_rule value) next (element_stories ancestors tag kids)) rest cc)
   where
-    here : (b : Bool) → is_root around tag ≡ b → (if b then labelled_story value next tag kids else changed_in (number_rule value) next (tag ∷ around) kids) ≡ kids →
-        (changed_in (number_rule value) next (tag ∷ around) kids ≡ kids → AreStories (stories_in (tag ∷ around) kids)) →
-        AreStories (if b then record { tag = tag; kids = kids } ∷ [] else stories_in (tag ∷ around) kids)
+    here : (b : Bool) → is_root ancestors tag ≡ b → (if b then labelled_story value next tag kids else changed_in (number_rule value) next (tag ∷ ancestors) kids) ≡ kids →
+        (changed_in (number_rule value) next (tag ∷ ancestors) kids ≡ kids → AreStories (stories_in (tag ∷ ancestors) kids)) →
+        AreStories (if b then record { tag = tag; kids = kids } ∷ [] else stories_in (tag ∷ ancestors) kids)
     here true r e ih =
-        (record { root = root_name around tag r; loud = root_loud around tag r; fits = fits_from value (moves_among value (seen tag kids)) (start_with next) (root_spots tag kids) 1 kids e }, tt)
+        (record { root = root_name ancestors tag r; loud = root_loud ancestors tag r; fits = fits_from value (moves_among value (seen tag kids)) (start_with next) (root_spots tag kids) 1 kids e }, tt)
     here false r e ih = ih e
 
 pub indexed_stories : (value : Value) (nodes : Nodes) → IsIndexed value nodes → AreStories (stories nodes)

@@ -11,7 +11,9 @@ use Rattle.redl_tree.specs.Roles.Places.{is_quiet, is_open, within, has_run_prop
 use Rattle.redl_tree.specs.Roles.Lists.{into, has_blocks, still, inside, nowhere, place, is_block_list, is_direct, is_rows, is_cells, in_blocks, in_rows, in_cells, is_thick}
 use Rattle.redl_tree.specs.Roles.Kinds.{is_content, is_change}
 use Rattle.redl_tree.specs.Decisions.Tables.{has_own}
-use Rattle.redl_tree.specs.Rules.Sound.{Test, everywhere, implies, open_one, at_most_one, once, each_once, only_first, only_last, is_so, end_of_one, end_of_two, end_of, below_content, in_content, among_blocks, is_banned, is_marker, below_change, former_declares, change_declares, test_1, test_2, test_3, test_4, test_5, test_6, test_7, test_8, test_9, tests}
+use Rattle.redl_tree.specs.Rules.Tests.{Test, everywhere, implies, open_one, at_most_one, once, each_once, only_first, only_last}
+use Rattle.redl_tree.specs.Rules.CellEnds.{is_so, end_of_one, end_of_two, end_of}
+use Rattle.redl_tree.specs.Rules.Sound.{below_content, in_content, among_blocks, is_banned, is_marker, below_change, former_declares, change_declares, test_1, test_2, test_3, test_4, test_5, test_6, test_7, test_8, test_9, tests}
 use Rattle.redl_tree.specs.declared.kinds.Prop.{Prop}
 use Rattle.redl_tree.specs.declared.kinds.Prop.TheVariants.{Run, Para, Sect, Table, Except, Row as RowProp, Cell as CellProp}
 use Rattle.redl_tree.specs.declared.kinds.Kind.{Kind}
@@ -42,27 +44,27 @@ text-unlabelled (element tag kids rest) =
 
 -- the same ancestors without their labels
 abbrev pub bare : List Tag → List Tag
-bare around = map unlabelled_tag around
+bare ancestors = map unlabelled_tag ancestors
 
-any-bare : (test : Tag → Bool) → ((tag : Tag) → test (unlabelled_tag tag) ≡ test tag) → (around : List Tag) → list_any test (bare around) ≡ list_any test around
+any-bare : (test : Tag → Bool) → ((tag : Tag) → test (unlabelled_tag tag) ≡ test tag) → (ancestors : List Tag) → list_any test (bare ancestors) ≡ list_any test ancestors
 any-bare test same [] = refl
-any-bare test same (tag ∷ around) = rw (same tag, any-bare test same around) refl
+any-bare test same (tag ∷ ancestors) = rw (same tag, any-bare test same ancestors) refl
 
-pub open-bare : (around : List Tag) → is_open (bare around) ≡ is_open around
-open-bare around = ap not (any-bare is_quiet (λ tag. refl) around)
+pub open-bare : (ancestors : List Tag) → is_open (bare ancestors) ≡ is_open ancestors
+open-bare ancestors = ap not (any-bare is_quiet (λ tag. refl) ancestors)
 
-within-bare : (names : List String) (around : List Tag) → within names (bare around) ≡ within names around
-within-bare [] around = open-bare around
+within-bare : (names : List String) (ancestors : List Tag) → within names (bare ancestors) ≡ within names ancestors
+within-bare [] ancestors = open-bare ancestors
 within-bare (name ∷ names) [] = refl
-within-bare (name ∷ names) (tag ∷ around) = ap (λ b. is name tag && b) (within-bare names around)
+within-bare (name ∷ names) (tag ∷ ancestors) = ap (λ b. is name tag && b) (within-bare names ancestors)
 
-run_owner-bare : (around : List Tag) → in_run_owner (bare around) ≡ in_run_owner around
+run_owner-bare : (ancestors : List Tag) → in_run_owner (bare ancestors) ≡ in_run_owner ancestors
 run_owner-bare [] = refl
-run_owner-bare (tag ∷ around) = ap (λ b. has_run_props tag && b) (open-bare around)
+run_owner-bare (tag ∷ ancestors) = ap (λ b. has_run_props tag && b) (open-bare ancestors)
 
-run_props-bare : (around : List Tag) → in_run_props (bare around) ≡ in_run_props around
+run_props-bare : (ancestors : List Tag) → in_run_props (bare ancestors) ≡ in_run_props ancestors
 run_props-bare [] = refl
-run_props-bare (tag ∷ around) = ap (λ b. is "rPr" tag && b) (run_owner-bare around)
+run_props-bare (tag ∷ ancestors) = ap (λ b. is "rPr" tag && b) (run_owner-bare ancestors)
 
 or-same : (a b x y : Bool) → a ≡ x → b ≡ y → (a || b) ≡ (x || y)
 or-same a b x y e f = rw (e, f) refl
@@ -70,18 +72,18 @@ or-same a b x y e f = rw (e, f) refl
 and-same : (a b x y : Bool) → a ≡ x → b ≡ y → (a && b) ≡ (x && y)
 and-same a b x y e f = rw (e, f) refl
 
-pub in_props-bare : (prop : Prop) (around : List Tag) → in_props prop (bare around) ≡ in_props prop around
-in_props-bare Run around = or-same _ _ _ _ (run_props-bare around) (within-bare ("rPr" ∷ "pPr" ∷ "p" ∷ []) around)
-in_props-bare Para around = within-bare ("pPr" ∷ "p" ∷ []) around
-in_props-bare Sect around = or-same _ _ _ _ (within-bare ("sectPr" ∷ "body" ∷ []) around) (within-bare ("sectPr" ∷ "pPr" ∷ "p" ∷ []) around)
-in_props-bare Table around = within-bare ("tblPr" ∷ "tbl" ∷ []) around
-in_props-bare Except around = within-bare ("tblPrEx" ∷ "tr" ∷ []) around
-in_props-bare RowProp around = within-bare ("trPr" ∷ "tr" ∷ []) around
-in_props-bare CellProp around = within-bare ("tcPr" ∷ "tc" ∷ []) around
+pub in_props-bare : (prop : Prop) (ancestors : List Tag) → in_props prop (bare ancestors) ≡ in_props prop ancestors
+in_props-bare Run ancestors = or-same _ _ _ _ (run_props-bare ancestors) (within-bare ("rPr" ∷ "pPr" ∷ "p" ∷ []) ancestors)
+in_props-bare Para ancestors = within-bare ("pPr" ∷ "p" ∷ []) ancestors
+in_props-bare Sect ancestors = or-same _ _ _ _ (within-bare ("sectPr" ∷ "body" ∷ []) ancestors) (within-bare ("sectPr" ∷ "pPr" ∷ "p" ∷ []) ancestors)
+in_props-bare Table ancestors = within-bare ("tblPr" ∷ "tbl" ∷ []) ancestors
+in_props-bare Except ancestors = within-bare ("tblPrEx" ∷ "tr" ∷ []) ancestors
+in_props-bare RowProp ancestors = within-bare ("trPr" ∷ "tr" ∷ []) ancestors
+in_props-bare CellProp ancestors = within-bare ("tcPr" ∷ "tc" ∷ []) ancestors
 
-change_at-bare : (around : List Tag) (prop : Option Prop) → change_at (bare around) prop ≡ change_at around prop
-change_at-bare around None = refl
-change_at-bare around (Some prop) = ap (λ b. placed b (Some (Change prop))) (in_props-bare prop around)
+change_at-bare : (ancestors : List Tag) (prop : Option Prop) → change_at (bare ancestors) prop ≡ change_at ancestors prop
+change_at-bare ancestors None = refl
+change_at-bare ancestors (Some prop) = ap (λ b. placed b (Some (Change prop))) (in_props-bare prop ancestors)
 
 abbrev roles : Tag → Bool → Bool → Bool → Bool → Option Kind → Kind
 roles tag opened mark row cell change =
@@ -92,12 +94,12 @@ roles tag opened mark row cell change =
     ∷ change ∷ [])
 
 -- a role goes by names alone
-pub role-bare : (around : List Tag) (tag : Tag) → role (bare around) (unlabelled_tag tag) ≡ role around tag
-role-bare around tag =
-    by (is_open (bare around)) (in_mark_props (bare around)) (in_row_props (bare around)) (in_cell_props (bare around)) (change_at (bare around) (prop_of tag))
-    (is_open around) (in_mark_props around) (in_row_props around) (in_cell_props around) (change_at around (prop_of tag))
-    (open-bare around) (within-bare ("rPr" ∷ "pPr" ∷ "p" ∷ []) around) (within-bare ("trPr" ∷ "tr" ∷ []) around) (within-bare ("tcPr" ∷ "tc" ∷ []) around)
-    (change_at-bare around (prop_of tag))
+pub role-bare : (ancestors : List Tag) (tag : Tag) → role (bare ancestors) (unlabelled_tag tag) ≡ role ancestors tag
+role-bare ancestors tag =
+    by (is_open (bare ancestors)) (in_mark_props (bare ancestors)) (in_row_props (bare ancestors)) (in_cell_props (bare ancestors)) (change_at (bare ancestors) (prop_of tag))
+    (is_open ancestors) (in_mark_props ancestors) (in_row_props ancestors) (in_cell_props ancestors) (change_at ancestors (prop_of tag))
+    (open-bare ancestors) (within-bare ("rPr" ∷ "pPr" ∷ "p" ∷ []) ancestors) (within-bare ("trPr" ∷ "tr" ∷ []) ancestors) (within-bare ("tcPr" ∷ "tc" ∷ []) ancestors)
+    (change_at-bare ancestors (prop_of tag))
   where
     by : (a b c d : Bool) (e : Option Kind) (a' b' c' d' : Bool) (e' : Option Kind) → a ≡ a' → b ≡ b' → c ≡ c' → d ≡ d' → e ≡ e' → roles tag a b c d e ≡ roles tag a' b' c' d' e'
     by a b c d e a' b' c' d' e' p q r s t = rw (p, q, r, s, t) refl
@@ -114,20 +116,20 @@ inside-bare tag here =
     else if is "tr" tag then record { lot = Cells; reach = Direct }
     else still here.lot reach) (into-bare here.reach tag)
 
-pub place-bare : (around : List Tag) → place (bare around) ≡ place around
+pub place-bare : (ancestors : List Tag) → place (bare ancestors) ≡ place ancestors
 place-bare [] = refl
-place-bare (tag ∷ around) =
-    ap (λ here. if is_open (bare (tag ∷ around)) then here else nowhere) (inside-bare tag (place (bare around)) ∙ ap (inside tag) (place-bare around))
-    ∙ ap (λ b. if b then inside tag (place around) else nowhere) (open-bare (tag ∷ around))
+place-bare (tag ∷ ancestors) =
+    ap (λ here. if is_open (bare (tag ∷ ancestors)) then here else nowhere) (inside-bare tag (place (bare ancestors)) ∙ ap (inside tag) (place-bare ancestors))
+    ∙ ap (λ b. if b then inside tag (place ancestors) else nowhere) (open-bare (tag ∷ ancestors))
 
-in_blocks-bare : (around : List Tag) → in_blocks (bare around) ≡ in_blocks around
-in_blocks-bare around = ap is_block_list (place-bare around)
+in_blocks-bare : (ancestors : List Tag) → in_blocks (bare ancestors) ≡ in_blocks ancestors
+in_blocks-bare ancestors = ap is_block_list (place-bare ancestors)
 
-pub in_rows-bare : (around : List Tag) → in_rows (bare around) ≡ in_rows around
-in_rows-bare around = ap (λ here. is_direct here.reach && is_rows here.lot) (place-bare around)
+pub in_rows-bare : (ancestors : List Tag) → in_rows (bare ancestors) ≡ in_rows ancestors
+in_rows-bare ancestors = ap (λ here. is_direct here.reach && is_rows here.lot) (place-bare ancestors)
 
-pub in_cells-bare : (around : List Tag) → in_cells (bare around) ≡ in_cells around
-in_cells-bare around = ap (λ here. is_direct here.reach && is_cells here.lot) (place-bare around)
+pub in_cells-bare : (ancestors : List Tag) → in_cells (bare ancestors) ≡ in_cells ancestors
+in_cells-bare ancestors = ap (λ here. is_direct here.reach && is_cells here.lot) (place-bare ancestors)
 
 -- Kids
 
@@ -187,16 +189,16 @@ kids_of_all-bare name (element tag kids rest) = at (is name tag) (kids_of_all-ba
 
 -- a rule that looks at no label
 abbrev pub Blind : Test → Type 0
-Blind test = (around : List Tag) (tag : Tag) (kids : Nodes) → test (bare around) (unlabelled_tag tag) (unlabelled kids) ≡ test around tag kids
+Blind test = (ancestors : List Tag) (tag : Tag) (kids : Nodes) → test (bare ancestors) (unlabelled_tag tag) (unlabelled kids) ≡ test ancestors tag kids
 
-pub everywhere-bare : (test : Test) → Blind test → (around : List Tag) (nodes : Nodes) → everywhere test (bare around) (unlabelled nodes) ≡ everywhere test around nodes
-everywhere-bare test blind around no_nodes = refl
-everywhere-bare test blind around (bytes b rest) = everywhere-bare test blind around rest
-everywhere-bare test blind around (element tag kids rest) =
-    and-same _ _ _ _ (and-same _ _ _ _ (blind around tag kids) (everywhere-bare test blind (tag ∷ around) kids)) (everywhere-bare test blind around rest)
+pub everywhere-bare : (test : Test) → Blind test → (ancestors : List Tag) (nodes : Nodes) → everywhere test (bare ancestors) (unlabelled nodes) ≡ everywhere test ancestors nodes
+everywhere-bare test blind ancestors no_nodes = refl
+everywhere-bare test blind ancestors (bytes b rest) = everywhere-bare test blind ancestors rest
+everywhere-bare test blind ancestors (element tag kids rest) =
+    and-same _ _ _ _ (and-same _ _ _ _ (blind ancestors tag kids) (everywhere-bare test blind (tag ∷ ancestors) kids)) (everywhere-bare test blind ancestors rest)
 
-open_one-bare : (name : String) (around : List Tag) (tag : Tag) → open_one name (bare around) (unlabelled_tag tag) ≡ open_one name around tag
-open_one-bare name around tag = ap (λ b. is name tag && b) (open-bare around)
+open_one-bare : (name : String) (ancestors : List Tag) (tag : Tag) → open_one name (bare ancestors) (unlabelled_tag tag) ≡ open_one name ancestors tag
+open_one-bare name ancestors tag = ap (λ b. is name tag && b) (open-bare ancestors)
 
 end_of_one-bare : (reach : Reach) (tag : Tag) (inner : Option Bool) → end_of_one reach (unlabelled_tag tag) inner ≡ end_of_one reach tag inner
 end_of_one-bare Direct tag inner = refl
@@ -221,23 +223,23 @@ has_own-bare name reach (element tag kids rest) =
     ∙ ap (λ b. if is_direct reach && is name tag then true else b) (has_own-bare name (into reach tag) kids))
     (has_own-bare name reach rest)
 
-below_content-bare : (around : List Tag) → below_content (bare around) ≡ below_content around
+below_content-bare : (ancestors : List Tag) → below_content (bare ancestors) ≡ below_content ancestors
 below_content-bare [] = refl
-below_content-bare (tag ∷ around) = ap (λ b. not (is "txbxContent" tag) && (is_some (trace_of tag) || b)) (below_content-bare around)
+below_content-bare (tag ∷ ancestors) = ap (λ b. not (is "txbxContent" tag) && (is_some (trace_of tag) || b)) (below_content-bare ancestors)
 
-in_content-bare : (around : List Tag) → in_content (bare around) ≡ in_content around
+in_content-bare : (ancestors : List Tag) → in_content (bare ancestors) ≡ in_content ancestors
 in_content-bare [] = refl
-in_content-bare (tag ∷ around) = refl
+in_content-bare (tag ∷ ancestors) = refl
 
-among_blocks-bare : (around : List Tag) → among_blocks (bare around) ≡ among_blocks around
+among_blocks-bare : (ancestors : List Tag) → among_blocks (bare ancestors) ≡ among_blocks ancestors
 among_blocks-bare [] = refl
-among_blocks-bare (tag ∷ around) =
-    ap (λ b. if is_some (trace_of tag) then b else in_blocks (bare (tag ∷ around))) (among_blocks-bare around)
-    ∙ ap (λ b. if is_some (trace_of tag) then among_blocks around else b) (in_blocks-bare (tag ∷ around))
+among_blocks-bare (tag ∷ ancestors) =
+    ap (λ b. if is_some (trace_of tag) then b else in_blocks (bare (tag ∷ ancestors))) (among_blocks-bare ancestors)
+    ∙ ap (λ b. if is_some (trace_of tag) then among_blocks ancestors else b) (in_blocks-bare (tag ∷ ancestors))
 
-below_change-bare : (around : List Tag) → below_change (bare around) ≡ below_change around
+below_change-bare : (ancestors : List Tag) → below_change (bare ancestors) ≡ below_change ancestors
 below_change-bare [] = refl
-below_change-bare (tag ∷ around) = or-same _ _ _ _ (ap is_change (role-bare around tag)) (below_change-bare around)
+below_change-bare (tag ∷ ancestors) = or-same _ _ _ _ (ap is_change (role-bare ancestors tag)) (below_change-bare ancestors)
 
 former_declares-bare : (declares : List ℕ → Bool) (name : List ℕ) (nodes : Nodes) → former_declares declares name (unlabelled nodes) ≡ former_declares declares name nodes
 former_declares-bare declares name no_nodes = refl
@@ -254,62 +256,62 @@ change_declares-bare declares (Cell trace) nodes = refl
 change_declares-bare declares Marker nodes = refl
 
 pub blind_1 : Blind test_1
-blind_1 around tag kids = implies-same _ _ _ _ (open_one-bare "tc" around tag) (ap is_so (end_of-bare Direct kids))
+blind_1 ancestors tag kids = implies-same _ _ _ _ (open_one-bare "tc" ancestors tag) (ap is_so (end_of-bare Direct kids))
 
 pub blind_2 : Blind test_2
-blind_2 around tag kids = implies-same _ _ _ _ (open_one-bare "tr" around tag) (has_own-bare "tc" Direct kids)
+blind_2 ancestors tag kids = implies-same _ _ _ _ (open_one-bare "tr" ancestors tag) (has_own-bare "tc" Direct kids)
 
 pub blind_3 : Blind test_3
-blind_3 around tag kids =
+blind_3 ancestors tag kids =
     and-same _ _ _ _
     (and-same _ _ _ _
-    (implies-same _ _ _ _ (ap (λ b. is_banned tag && b) (open-bare around)) (ap not (below_content-bare around)))
-    (implies-same _ _ _ _ (and-same _ _ _ _ refl (open-bare around)) (ap not (in_content-bare around))))
-    (implies-same _ _ _ _ (and-same _ _ _ _ (ap is_content (role-bare around tag)) (among_blocks-bare around)) (ap not (some-bare is_thick is_thick (λ tag. refl) kids)))
+    (implies-same _ _ _ _ (ap (λ b. is_banned tag && b) (open-bare ancestors)) (ap not (below_content-bare ancestors)))
+    (implies-same _ _ _ _ (and-same _ _ _ _ refl (open-bare ancestors)) (ap not (in_content-bare ancestors))))
+    (implies-same _ _ _ _ (and-same _ _ _ _ (ap is_content (role-bare ancestors tag)) (among_blocks-bare ancestors)) (ap not (some-bare is_thick is_thick (λ tag. refl) kids)))
 
 pub blind_4 : Blind test_4
-blind_4 around tag kids =
-    last-bare (λ kid. is_change (role (bare (tag ∷ around)) kid)) (λ kid. is_change (role (tag ∷ around) kid)) (λ kid. ap is_change (role-bare (tag ∷ around) kid)) kids
+blind_4 ancestors tag kids =
+    last-bare (λ kid. is_change (role (bare (tag ∷ ancestors)) kid)) (λ kid. is_change (role (tag ∷ ancestors) kid)) (λ kid. ap is_change (role-bare (tag ∷ ancestors) kid)) kids
 
 pub blind_5 : Blind test_5
-blind_5 around tag kids =
+blind_5 ancestors tag kids =
     and-same _ _ _ _
     (and-same _ _ _ _
     (and-same _ _ _ _
-    (implies-same _ _ _ _ (within-bare ("pPr" ∷ "p" ∷ []) (tag ∷ around)) (once-bare "rPr" kids))
-    (implies-same _ _ _ _ (within-bare ("rPr" ∷ "pPr" ∷ "p" ∷ []) (tag ∷ around)) (each_once-bare ("ins" ∷ "del" ∷ "moveFrom" ∷ "moveTo" ∷ []) kids)))
-    (implies-same _ _ _ _ (within-bare ("trPr" ∷ "tr" ∷ []) (tag ∷ around)) (each_once-bare ("ins" ∷ "del" ∷ []) kids)))
-    (implies-same _ _ _ _ (within-bare ("tcPr" ∷ "tc" ∷ []) (tag ∷ around)) (each_once-bare ("cellIns" ∷ "cellDel" ∷ []) kids))
+    (implies-same _ _ _ _ (within-bare ("pPr" ∷ "p" ∷ []) (tag ∷ ancestors)) (once-bare "rPr" kids))
+    (implies-same _ _ _ _ (within-bare ("rPr" ∷ "pPr" ∷ "p" ∷ []) (tag ∷ ancestors)) (each_once-bare ("ins" ∷ "del" ∷ "moveFrom" ∷ "moveTo" ∷ []) kids)))
+    (implies-same _ _ _ _ (within-bare ("trPr" ∷ "tr" ∷ []) (tag ∷ ancestors)) (each_once-bare ("ins" ∷ "del" ∷ []) kids)))
+    (implies-same _ _ _ _ (within-bare ("tcPr" ∷ "tc" ∷ []) (tag ∷ ancestors)) (each_once-bare ("cellIns" ∷ "cellDel" ∷ []) kids))
 
 pub blind_6 : Blind test_6
-blind_6 around tag kids =
+blind_6 ancestors tag kids =
     and-same _ _ _ _
     (and-same _ _ _ _
     (and-same _ _ _ _
     (and-same _ _ _ _
-    (implies-same _ _ _ _ (open_one-bare "p" around tag) (first-bare (is "pPr") (is "pPr") (λ tag. refl) kids))
-    (implies-same _ _ _ _ (open_one-bare "tr" around tag) (once-bare "trPr" kids)))
-    (implies-same _ _ _ _ (open_one-bare "tc" around tag) (once-bare "tcPr" kids)))
-    (implies-same _ _ _ _ (open_one-bare "body" around tag) (last-bare (is "sectPr") (is "sectPr") (λ tag. refl) kids)))
-    (implies-same _ _ _ _ (open_one-bare "sdt" around tag) (once-bare "sdtContent" kids))
+    (implies-same _ _ _ _ (open_one-bare "p" ancestors tag) (first-bare (is "pPr") (is "pPr") (λ tag. refl) kids))
+    (implies-same _ _ _ _ (open_one-bare "tr" ancestors tag) (once-bare "trPr" kids)))
+    (implies-same _ _ _ _ (open_one-bare "tc" ancestors tag) (once-bare "tcPr" kids)))
+    (implies-same _ _ _ _ (open_one-bare "body" ancestors tag) (last-bare (is "sectPr") (is "sectPr") (λ tag. refl) kids)))
+    (implies-same _ _ _ _ (open_one-bare "sdt" ancestors tag) (once-bare "sdtContent" kids))
 
-pub marker-bare : (has_id : List ℕ → Bool) (around : List Tag) (tag : Tag) → is_marker has_id (bare around) (unlabelled_tag tag) ≡ is_marker has_id around tag
-marker-bare has_id around tag = ap (λ b. b && is_range_edge tag && has_id tag.tail) (open-bare around)
+pub marker-bare : (has_id : List ℕ → Bool) (ancestors : List Tag) (tag : Tag) → is_marker has_id (bare ancestors) (unlabelled_tag tag) ≡ is_marker has_id ancestors tag
+marker-bare has_id ancestors tag = ap (λ b. b && is_range_edge tag && has_id tag.tail) (open-bare ancestors)
 
 pub blind_7 : (has_id : List ℕ → Bool) → Blind (test_7 has_id)
-blind_7 has_id around tag kids =
-    implies-same _ _ _ _ (marker-bare has_id around tag) (ap not (some-bare (λ tag. true) (λ tag. true) (λ tag. refl) kids))
+blind_7 has_id ancestors tag kids =
+    implies-same _ _ _ _ (marker-bare has_id ancestors tag) (ap not (some-bare (λ tag. true) (λ tag. true) (λ tag. refl) kids))
 
 pub blind_8 : Blind test_8
-blind_8 around tag kids = implies-same _ _ _ _ refl (ap not (below_change-bare around))
+blind_8 ancestors tag kids = implies-same _ _ _ _ refl (ap not (below_change-bare ancestors))
 
 pub blind_9 : (declares : List ℕ → Bool) → Blind (test_9 declares)
-blind_9 declares around tag kids =
+blind_9 declares ancestors tag kids =
     and-same _ _ _ _
     (implies-same _ _ _ _
-    (or-same _ _ _ _ (or-same _ _ _ _ (open_one-bare "p" around tag) (ap is_content (role-bare around tag))) (ap is_change (role-bare around tag)))
+    (or-same _ _ _ _ (or-same _ _ _ _ (open_one-bare "p" ancestors tag) (ap is_content (role-bare ancestors tag))) (ap is_change (role-bare ancestors tag)))
     refl)
-    (ap not (ap (λ kind. change_declares declares kind (unlabelled kids)) (role-bare around tag) ∙ change_declares-bare declares (role around tag) kids))
+    (ap not (ap (λ kind. change_declares declares kind (unlabelled kids)) (role-bare ancestors tag) ∙ change_declares-bare declares (role ancestors tag) kids))
 
 -- rules that look at no label
 abbrev pub AreBlind : List Test → Type 0

@@ -12,7 +12,8 @@ use Rattle.redl_tree.specs.Roles.Places.{is_open, trace_of, row_trace_of, cell_t
 use Rattle.redl_tree.specs.Roles.Lists.{into, place, in_rows, in_cells}
 use Rattle.redl_tree.specs.Model.View.{Parts}
 use Rattle.redl_tree.specs.Decisions.Packages.{stories, changed_stories}
-use Rattle.redl_tree.specs.Rules.Sound.{Test, everywhere, is_marker, holds, tests, first_broken, broken, is_sound}
+use Rattle.redl_tree.specs.Rules.Tests.{Test, everywhere}
+use Rattle.redl_tree.specs.Rules.Sound.{is_marker, holds, tests, first_broken, broken, is_sound}
 use Rattle.redl_tree.specs.Model.Seen.{tags, Spot, spot, Seen, seen_one, seen_from, root_spots, seen, tags_of}
 use Rattle.redl_tree.specs.Revisions.Moves.{Marking, Pair, pairs, is_of_pair}
 use Rattle.redl_tree.specs.Revisions.Markers.{Value, edge_of, is_row_revision, is_cell_revision, is_revised, is_reached, is_in_grid, is_own, leaves_grid, any_leaves_grid, is_astray, is_loose, marker_of, moves_among, own_role, mark_end, move_at, move_of_member, move_of_marker, either, move_of, whole_role}
@@ -37,40 +38,40 @@ abbrev pub bare_spots : List Spot → List Spot
 bare_spots spots = map bare_spot spots
 
 abbrev pub bare_seen : Seen → Seen
-bare_seen s = record { own = bare_spot s.own; above = bare_spots s.above }
+bare_seen s = record { own = bare_spot s.own; ancestors = bare_spots s.ancestors }
 
 spot-bare : (at : ℕ) (tag : Tag) (kids : Nodes) → spot at (unlabelled_tag tag) (unlabelled kids) ≡ bare_spot (spot at tag kids)
 spot-bare at tag kids = ap (λ n. record { tag = unlabelled_tag tag; kids = unlabelled kids; start = at; end = at + 1 + n }) (tags-bare kids)
 
-seen_one-bare : (above : List Spot) (at : ℕ) (tag : Tag) (kids : Nodes) → seen_one (bare_spots above) at (unlabelled_tag tag) (unlabelled kids) ≡ bare_seen (seen_one above at tag kids)
-seen_one-bare above at tag kids = ap (λ s. record { own = s; above = bare_spots above }) (spot-bare at tag kids)
+seen_one-bare : (ancestors : List Spot) (at : ℕ) (tag : Tag) (kids : Nodes) → seen_one (bare_spots ancestors) at (unlabelled_tag tag) (unlabelled kids) ≡ bare_seen (seen_one ancestors at tag kids)
+seen_one-bare ancestors at tag kids = ap (λ s. record { own = s; ancestors = bare_spots ancestors }) (spot-bare at tag kids)
 
-seen_from-bare : (above : List Spot) (at : ℕ) (nodes : Nodes) → seen_from (bare_spots above) at (unlabelled nodes) ≡ map bare_seen (seen_from above at nodes)
-seen_from-bare above at no_nodes = refl
-seen_from-bare above at (bytes b rest) = seen_from-bare above at rest
-seen_from-bare above at (element tag kids rest) =
-    ap (λ s. s ∷ (seen_from (spot at (unlabelled_tag tag) (unlabelled kids) ∷ bare_spots above) (at + 1) (unlabelled kids) ++ seen_from (bare_spots above) (at + 2 + tags (unlabelled kids)) (unlabelled rest)))
-    (seen_one-bare above at tag kids)
-    ∙ ap (λ s. bare_seen (seen_one above at tag kids) ∷ (seen_from (s ∷ bare_spots above) (at + 1) (unlabelled kids) ++ seen_from (bare_spots above) (at + 2 + tags (unlabelled kids)) (unlabelled rest)))
+seen_from-bare : (ancestors : List Spot) (at : ℕ) (nodes : Nodes) → seen_from (bare_spots ancestors) at (unlabelled nodes) ≡ map bare_seen (seen_from ancestors at nodes)
+seen_from-bare ancestors at no_nodes = refl
+seen_from-bare ancestors at (bytes b rest) = seen_from-bare ancestors at rest
+seen_from-bare ancestors at (element tag kids rest) =
+    ap (λ s. s ∷ (seen_from (spot at (unlabelled_tag tag) (unlabelled kids) ∷ bare_spots ancestors) (at + 1) (unlabelled kids) ++ seen_from (bare_spots ancestors) (at + 2 + tags (unlabelled kids)) (unlabelled rest)))
+    (seen_one-bare ancestors at tag kids)
+    ∙ ap (λ s. bare_seen (seen_one ancestors at tag kids) ∷ (seen_from (s ∷ bare_spots ancestors) (at + 1) (unlabelled kids) ++ seen_from (bare_spots ancestors) (at + 2 + tags (unlabelled kids)) (unlabelled rest)))
     (spot-bare at tag kids)
-    ∙ ap (λ n. bare_seen (seen_one above at tag kids) ∷ (seen_from (bare_spots (spot at tag kids ∷ above)) (at + 1) (unlabelled kids) ++ seen_from (bare_spots above) (at + 2 + n) (unlabelled rest)))
+    ∙ ap (λ n. bare_seen (seen_one ancestors at tag kids) ∷ (seen_from (bare_spots (spot at tag kids ∷ ancestors)) (at + 1) (unlabelled kids) ++ seen_from (bare_spots ancestors) (at + 2 + n) (unlabelled rest)))
     (tags-bare kids)
-    ∙ ap (λ xs. bare_seen (seen_one above at tag kids) ∷ (xs ++ seen_from (bare_spots above) (at + 2 + tags kids) (unlabelled rest)))
-    (seen_from-bare (spot at tag kids ∷ above) (at + 1) kids)
-    ∙ ap (λ xs. bare_seen (seen_one above at tag kids) ∷ (map bare_seen (seen_from (spot at tag kids ∷ above) (at + 1) kids) ++ xs))
-    (seen_from-bare above (at + 2 + tags kids) rest)
-    ∙ ap (λ xs. bare_seen (seen_one above at tag kids) ∷ xs)
-    (sym (map-append bare_seen (seen_from (spot at tag kids ∷ above) (at + 1) kids) (seen_from above (at + 2 + tags kids) rest)))
+    ∙ ap (λ xs. bare_seen (seen_one ancestors at tag kids) ∷ (xs ++ seen_from (bare_spots ancestors) (at + 2 + tags kids) (unlabelled rest)))
+    (seen_from-bare (spot at tag kids ∷ ancestors) (at + 1) kids)
+    ∙ ap (λ xs. bare_seen (seen_one ancestors at tag kids) ∷ (map bare_seen (seen_from (spot at tag kids ∷ ancestors) (at + 1) kids) ++ xs))
+    (seen_from-bare ancestors (at + 2 + tags kids) rest)
+    ∙ ap (λ xs. bare_seen (seen_one ancestors at tag kids) ∷ xs)
+    (sym (map-append bare_seen (seen_from (spot at tag kids ∷ ancestors) (at + 1) kids) (seen_from ancestors (at + 2 + tags kids) rest)))
 
-tags_of-bare : (above : List Spot) → tags_of (bare_spots above) ≡ bare (tags_of above)
+tags_of-bare : (ancestors : List Spot) → tags_of (bare_spots ancestors) ≡ bare (tags_of ancestors)
 tags_of-bare [] = refl
-tags_of-bare (s ∷ above) = ap (λ ts. unlabelled_tag s.tag ∷ ts) (tags_of-bare above)
+tags_of-bare (s ∷ ancestors) = ap (λ ts. unlabelled_tag s.tag ∷ ts) (tags_of-bare ancestors)
 
 root_spots-bare : (root : Tag) (kids : Nodes) → root_spots (unlabelled_tag root) (unlabelled kids) ≡ bare_spots (root_spots root kids)
 root_spots-bare root kids = ap (λ s. s ∷ []) (spot-bare 0 root kids)
 
 pub seen-bare : (root : Tag) (kids : Nodes) → seen (unlabelled_tag root) (unlabelled kids) ≡ map bare_seen (seen root kids)
-seen-bare root kids = ap (λ above. seen_from above 1 (unlabelled kids)) (root_spots-bare root kids) ∙ seen_from-bare (root_spots root kids) 1 kids
+seen-bare root kids = ap (λ ancestors. seen_from ancestors 1 (unlabelled kids)) (root_spots-bare root kids) ∙ seen_from-bare (root_spots root kids) 1 kids
 
 -- Markers
 
@@ -89,39 +90,39 @@ revised-bare s =
     ap (λ b. is_some (trace_of s.tag) || (is "tr" s.tag && b) || (is "tc" s.tag && is_cell_revision (unlabelled s.kids))) (row_revision-bare s.kids)
     ∙ ap (λ b. is_some (trace_of s.tag) || (is "tr" s.tag && is_row_revision s.kids) || (is "tc" s.tag && b)) (cell_revision-bare s.kids)
 
-any_revised-bare : (above : List Spot) → list_any is_revised (bare_spots above) ≡ list_any is_revised above
+any_revised-bare : (ancestors : List Spot) → list_any is_revised (bare_spots ancestors) ≡ list_any is_revised ancestors
 any_revised-bare [] = refl
-any_revised-bare (s ∷ above) =
-    ap (λ b. b || list_any is_revised (bare_spots above)) (revised-bare s) ∙ ap (λ b. is_revised s || b) (any_revised-bare above)
+any_revised-bare (s ∷ ancestors) =
+    ap (λ b. b || list_any is_revised (bare_spots ancestors)) (revised-bare s) ∙ ap (λ b. is_revised s || b) (any_revised-bare ancestors)
 
-own-bare : (around : List Tag) (tag : Tag) → is_own (bare around) (unlabelled_tag tag) ≡ is_own around tag
-own-bare around tag =
-    ap (λ b. (b && is "tr" tag) || (in_cells (bare around) && is "tc" tag)) (in_rows-bare around)
-    ∙ ap (λ b. (in_rows around && is "tr" tag) || (b && is "tc" tag)) (in_cells-bare around)
+own-bare : (ancestors : List Tag) (tag : Tag) → is_own (bare ancestors) (unlabelled_tag tag) ≡ is_own ancestors tag
+own-bare ancestors tag =
+    ap (λ b. (b && is "tr" tag) || (in_cells (bare ancestors) && is "tc" tag)) (in_rows-bare ancestors)
+    ∙ ap (λ b. (in_rows ancestors && is "tr" tag) || (b && is "tc" tag)) (in_cells-bare ancestors)
 
-leaves_grid-bare : (around : List Tag) (tag : Tag) → leaves_grid (bare around) (unlabelled_tag tag) ≡ leaves_grid around tag
-leaves_grid-bare around tag =
-    ap (λ here. is_in_grid here && not (is_own (bare around) (unlabelled_tag tag)) && not (is_reached (into here.reach (unlabelled_tag tag)))) (place-bare around)
-    ∙ ap (λ b. is_in_grid (place around) && not b && not (is_reached (into (place around).reach (unlabelled_tag tag)))) (own-bare around tag)
-    ∙ ap (λ r. is_in_grid (place around) && not (is_own around tag) && not (is_reached r)) (into-bare (place around).reach tag)
+leaves_grid-bare : (ancestors : List Tag) (tag : Tag) → leaves_grid (bare ancestors) (unlabelled_tag tag) ≡ leaves_grid ancestors tag
+leaves_grid-bare ancestors tag =
+    ap (λ here. is_in_grid here && not (is_own (bare ancestors) (unlabelled_tag tag)) && not (is_reached (into here.reach (unlabelled_tag tag)))) (place-bare ancestors)
+    ∙ ap (λ b. is_in_grid (place ancestors) && not b && not (is_reached (into (place ancestors).reach (unlabelled_tag tag)))) (own-bare ancestors tag)
+    ∙ ap (λ r. is_in_grid (place ancestors) && not (is_own ancestors tag) && not (is_reached r)) (into-bare (place ancestors).reach tag)
 
-any_leaves_grid-bare : (around : List Tag) → any_leaves_grid (bare around) ≡ any_leaves_grid around
+any_leaves_grid-bare : (ancestors : List Tag) → any_leaves_grid (bare ancestors) ≡ any_leaves_grid ancestors
 any_leaves_grid-bare [] = refl
-any_leaves_grid-bare (tag ∷ around) =
-    ap (λ b. b || any_leaves_grid (bare around)) (leaves_grid-bare around tag) ∙ ap (λ b. leaves_grid around tag || b) (any_leaves_grid-bare around)
+any_leaves_grid-bare (tag ∷ ancestors) =
+    ap (λ b. b || any_leaves_grid (bare ancestors)) (leaves_grid-bare ancestors tag) ∙ ap (λ b. leaves_grid ancestors tag || b) (any_leaves_grid-bare ancestors)
 
-astray-bare : (around : List Tag) → is_astray (bare around) ≡ is_astray around
-astray-bare around =
-    ap (λ here. is_in_grid here || any_leaves_grid (bare around)) (place-bare around)
-    ∙ ap (λ b. is_in_grid (place around) || b) (any_leaves_grid-bare around)
+astray-bare : (ancestors : List Tag) → is_astray (bare ancestors) ≡ is_astray ancestors
+astray-bare ancestors =
+    ap (λ here. is_in_grid here || any_leaves_grid (bare ancestors)) (place-bare ancestors)
+    ∙ ap (λ b. is_in_grid (place ancestors) || b) (any_leaves_grid-bare ancestors)
 
-loose-bare : (above : List Spot) → is_loose (bare_spots above) ≡ is_loose above
-loose-bare above =
-    ap (λ b. b || is_astray (tags_of (bare_spots above))) (any_revised-bare above)
-    ∙ ap (λ b. list_any is_revised above || b) (ap is_astray (tags_of-bare above) ∙ astray-bare (tags_of above))
+loose-bare : (ancestors : List Spot) → is_loose (bare_spots ancestors) ≡ is_loose ancestors
+loose-bare ancestors =
+    ap (λ b. b || is_astray (tags_of (bare_spots ancestors))) (any_revised-bare ancestors)
+    ∙ ap (λ b. list_any is_revised ancestors || b) (ap is_astray (tags_of-bare ancestors) ∙ astray-bare (tags_of ancestors))
 
-spots_open : (above : List Spot) → is_open (tags_of (bare_spots above)) ≡ is_open (tags_of above)
-spots_open above = ap is_open (tags_of-bare above) ∙ open-bare (tags_of above)
+spots_open : (ancestors : List Spot) → is_open (tags_of (bare_spots ancestors)) ≡ is_open (tags_of ancestors)
+spots_open ancestors = ap is_open (tags_of-bare ancestors) ∙ open-bare (tags_of ancestors)
 
 -- the marker that an element is in an open place, where it is loose or not
 abbrev marker_if : Value → Seen → Bool → Option Marking
@@ -132,8 +133,8 @@ marker_if value s loose =
 
 pub marker_of-bare : (value : Value) (s : Seen) → marker_of value (bare_seen s) ≡ marker_of value s
 marker_of-bare value s =
-    ap (λ b. if b then marker_if value s (is_loose (bare_spots s.above)) else None) (spots_open s.above)
-    ∙ ap (λ l. if is_open (tags_of s.above) then marker_if value s l else None) (loose-bare s.above)
+    ap (λ b. if b then marker_if value s (is_loose (bare_spots s.ancestors)) else None) (spots_open s.ancestors)
+    ∙ ap (λ l. if is_open (tags_of s.ancestors) then marker_if value s l else None) (loose-bare s.ancestors)
 
 pub markers-bare : (value : Value) (xs : List Seen) → filter_map (marker_of value) (map bare_seen xs) ≡ filter_map (marker_of value) xs
 markers-bare value [] = refl
@@ -145,22 +146,22 @@ moves-bare value root kids = ap (moves_among value) (seen-bare root kids) ∙ ap
 -- Roles and revisions
 
 own_role-bare : (s : Seen) → own_role (bare_seen s) ≡ own_role s
-own_role-bare s = ap (λ around. role around (unlabelled_tag s.own.tag)) (tags_of-bare s.above) ∙ role-bare (tags_of s.above) s.own.tag
+own_role-bare s = ap (λ ancestors. role ancestors (unlabelled_tag s.own.tag)) (tags_of-bare s.ancestors) ∙ role-bare (tags_of s.ancestors) s.own.tag
 
 move_of_marker-bare : (value : Value) (moves : List Pair) (s : Seen) → move_of_marker value moves (bare_seen s) ≡ move_of_marker value moves s
 move_of_marker-bare value moves s =
     ap (λ b. find (λ pair. b && is_of_pair s.own.start pair) moves)
-    (ap (λ around. is_marker (λ tail. is_some (value tail (codes "id"))) around (unlabelled_tag s.own.tag)) (tags_of-bare s.above)
-    ∙ marker-bare (λ tail. is_some (value tail (codes "id"))) (tags_of s.above) s.own.tag)
+    (ap (λ ancestors. is_marker (λ tail. is_some (value tail (codes "id"))) ancestors (unlabelled_tag s.own.tag)) (tags_of-bare s.ancestors)
+    ∙ marker-bare (λ tail. is_some (value tail (codes "id"))) (tags_of s.ancestors) s.own.tag)
 
-mark_end-bare : (start : ℕ) (above : List Spot) → mark_end start (bare_spots above) ≡ mark_end start above
+mark_end-bare : (start : ℕ) (ancestors : List Spot) → mark_end start (bare_spots ancestors) ≡ mark_end start ancestors
 mark_end-bare start [] = refl
 mark_end-bare start (x ∷ []) = refl
 mark_end-bare start (x ∷ y ∷ []) = refl
-mark_end-bare start (x ∷ y ∷ z ∷ above) = refl
+mark_end-bare start (x ∷ y ∷ z ∷ ancestors) = refl
 
 move_of_member-bare : (moves : List Pair) (kind : Kind) (s : Seen) → move_of_member moves kind (bare_seen s) ≡ move_of_member moves kind s
-move_of_member-bare moves (Mark trace) s = ap (move_at moves trace) (mark_end-bare s.own.start s.above)
+move_of_member-bare moves (Mark trace) s = ap (move_at moves trace) (mark_end-bare s.own.start s.ancestors)
 move_of_member-bare moves (Content trace) s = refl
 move_of_member-bare moves Plain s = refl
 move_of_member-bare moves (Row trace) s = refl
@@ -188,73 +189,73 @@ revision_of-bare value moves s =
 module _ (value : Value) (moves : List Pair) where
   -- how far the numbering is behind an element's start tag
   abbrev begun : List Spot → ℕ → Numbering → Tag → Nodes → Numbering
-  begun above at so_far tag kids = counted (revision_of value moves (seen_one above at tag kids)) so_far
+  begun ancestors at so_far tag kids = counted (revision_of value moves (seen_one ancestors at tag kids)) so_far
 
-  begun-bare : (above : List Spot) (at : ℕ) (so_far : Numbering) (tag : Tag) (kids : Nodes) → begun (bare_spots above) at so_far (unlabelled_tag tag) (unlabelled kids) ≡ begun above at so_far tag kids
-  begun-bare above at so_far tag kids =
-      ap (λ r. counted r so_far) (ap (revision_of value moves) (seen_one-bare above at tag kids) ∙ revision_of-bare value moves (seen_one above at tag kids))
+  begun-bare : (ancestors : List Spot) (at : ℕ) (so_far : Numbering) (tag : Tag) (kids : Nodes) → begun (bare_spots ancestors) at so_far (unlabelled_tag tag) (unlabelled kids) ≡ begun ancestors at so_far tag kids
+  begun-bare ancestors at so_far tag kids =
+      ap (λ r. counted r so_far) (ap (revision_of value moves) (seen_one-bare ancestors at tag kids) ∙ revision_of-bare value moves (seen_one ancestors at tag kids))
 
-  kids-bare : (above : List Spot) (at : ℕ) (so_far : Numbering) (tag : Tag) (kids : Nodes) →
-      numbering_after value moves (bare_spots (spot at tag kids ∷ above)) (at + 1) (begun above at so_far tag kids) (unlabelled kids)
-      ≡ numbering_after value moves (spot at tag kids ∷ above) (at + 1) (begun above at so_far tag kids) kids →
-      numbering_after value moves (spot at (unlabelled_tag tag) (unlabelled kids) ∷ bare_spots above) (at + 1) (begun (bare_spots above) at so_far (unlabelled_tag tag) (unlabelled kids)) (unlabelled kids)
-      ≡ numbering_after value moves (spot at tag kids ∷ above) (at + 1) (begun above at so_far tag kids) kids
-  kids-bare above at so_far tag kids ih =
-      ap (λ s. numbering_after value moves (s ∷ bare_spots above) (at + 1) (begun (bare_spots above) at so_far (unlabelled_tag tag) (unlabelled kids)) (unlabelled kids)) (spot-bare at tag kids)
-      ∙ ap (λ x. numbering_after value moves (bare_spots (spot at tag kids ∷ above)) (at + 1) x (unlabelled kids)) (begun-bare above at so_far tag kids)
+  kids-bare : (ancestors : List Spot) (at : ℕ) (so_far : Numbering) (tag : Tag) (kids : Nodes) →
+      numbering_after value moves (bare_spots (spot at tag kids ∷ ancestors)) (at + 1) (begun ancestors at so_far tag kids) (unlabelled kids)
+      ≡ numbering_after value moves (spot at tag kids ∷ ancestors) (at + 1) (begun ancestors at so_far tag kids) kids →
+      numbering_after value moves (spot at (unlabelled_tag tag) (unlabelled kids) ∷ bare_spots ancestors) (at + 1) (begun (bare_spots ancestors) at so_far (unlabelled_tag tag) (unlabelled kids)) (unlabelled kids)
+      ≡ numbering_after value moves (spot at tag kids ∷ ancestors) (at + 1) (begun ancestors at so_far tag kids) kids
+  kids-bare ancestors at so_far tag kids ih =
+      ap (λ s. numbering_after value moves (s ∷ bare_spots ancestors) (at + 1) (begun (bare_spots ancestors) at so_far (unlabelled_tag tag) (unlabelled kids)) (unlabelled kids)) (spot-bare at tag kids)
+      ∙ ap (λ x. numbering_after value moves (bare_spots (spot at tag kids ∷ ancestors)) (at + 1) x (unlabelled kids)) (begun-bare ancestors at so_far tag kids)
       ∙ ih
 
-  after-bare : (above : List Spot) (at : ℕ) (so_far : Numbering) (nodes : Nodes) → numbering_after value moves (bare_spots above) at so_far (unlabelled nodes) ≡ numbering_after value moves above at so_far nodes
-  after-bare above at so_far no_nodes = refl
-  after-bare above at so_far (bytes b rest) = after-bare above at so_far rest
-  after-bare above at so_far (element tag kids rest) =
-      ap (λ n. numbering_after value moves (bare_spots above) (at + 2 + n)
-      (numbering_after value moves (spot at (unlabelled_tag tag) (unlabelled kids) ∷ bare_spots above) (at + 1) (begun (bare_spots above) at so_far (unlabelled_tag tag) (unlabelled kids)) (unlabelled kids))
+  after-bare : (ancestors : List Spot) (at : ℕ) (so_far : Numbering) (nodes : Nodes) → numbering_after value moves (bare_spots ancestors) at so_far (unlabelled nodes) ≡ numbering_after value moves ancestors at so_far nodes
+  after-bare ancestors at so_far no_nodes = refl
+  after-bare ancestors at so_far (bytes b rest) = after-bare ancestors at so_far rest
+  after-bare ancestors at so_far (element tag kids rest) =
+      ap (λ n. numbering_after value moves (bare_spots ancestors) (at + 2 + n)
+      (numbering_after value moves (spot at (unlabelled_tag tag) (unlabelled kids) ∷ bare_spots ancestors) (at + 1) (begun (bare_spots ancestors) at so_far (unlabelled_tag tag) (unlabelled kids)) (unlabelled kids))
       (unlabelled rest)) (tags-bare kids)
-      ∙ ap (λ x. numbering_after value moves (bare_spots above) (at + 2 + tags kids) x (unlabelled rest))
-      (kids-bare above at so_far tag kids (after-bare (spot at tag kids ∷ above) (at + 1) (begun above at so_far tag kids) kids))
-      ∙ after-bare above (at + 2 + tags kids) (numbering_after value moves (spot at tag kids ∷ above) (at + 1) (begun above at so_far tag kids) kids) rest
+      ∙ ap (λ x. numbering_after value moves (bare_spots ancestors) (at + 2 + tags kids) x (unlabelled rest))
+      (kids-bare ancestors at so_far tag kids (after-bare (spot at tag kids ∷ ancestors) (at + 1) (begun ancestors at so_far tag kids) kids))
+      ∙ after-bare ancestors (at + 2 + tags kids) (numbering_after value moves (spot at tag kids ∷ ancestors) (at + 1) (begun ancestors at so_far tag kids) kids) rest
 
-  labelled_tag-bare : (so_far : Numbering) (above : List Spot) (at : ℕ) (tag : Tag) (kids : Nodes) →
-      labelled_tag value moves so_far (seen_one (bare_spots above) at (unlabelled_tag tag) (unlabelled kids)) ≡ labelled_tag value moves so_far (seen_one above at tag kids)
-  labelled_tag-bare so_far above at tag kids =
-      let s = seen_one above at tag kids in
-      ap (labelled_tag value moves so_far) (seen_one-bare above at tag kids)
+  labelled_tag-bare : (so_far : Numbering) (ancestors : List Spot) (at : ℕ) (tag : Tag) (kids : Nodes) →
+      labelled_tag value moves so_far (seen_one (bare_spots ancestors) at (unlabelled_tag tag) (unlabelled kids)) ≡ labelled_tag value moves so_far (seen_one ancestors at tag kids)
+  labelled_tag-bare so_far ancestors at tag kids =
+      let s = seen_one ancestors at tag kids in
+      ap (labelled_tag value moves so_far) (seen_one-bare ancestors at tag kids)
       ∙ ap (λ kind. record tag { kind = kind; rev = number_for (revision_of value moves (bare_seen s)) so_far }) (whole_role-bare value moves s)
       ∙ ap (λ r. record tag { kind = whole_role value moves s; rev = number_for r so_far }) (revision_of-bare value moves s)
 
   -- labels are replaced
-  labelled-bare : (above : List Spot) (at : ℕ) (so_far : Numbering) (nodes : Nodes) → labelled value moves (bare_spots above) at so_far (unlabelled nodes) ≡ labelled value moves above at so_far nodes
-  labelled-bare above at so_far no_nodes = refl
-  labelled-bare above at so_far (bytes b rest) = ap (bytes b) (labelled-bare above at so_far rest)
-  labelled-bare above at so_far (element tag kids rest) =
-      let above' = bare_spots above in
+  labelled-bare : (ancestors : List Spot) (at : ℕ) (so_far : Numbering) (nodes : Nodes) → labelled value moves (bare_spots ancestors) at so_far (unlabelled nodes) ≡ labelled value moves ancestors at so_far nodes
+  labelled-bare ancestors at so_far no_nodes = refl
+  labelled-bare ancestors at so_far (bytes b rest) = ap (bytes b) (labelled-bare ancestors at so_far rest)
+  labelled-bare ancestors at so_far (element tag kids rest) =
+      let ancestors' = bare_spots ancestors in
       let tag' = unlabelled_tag tag in
       let kids' = unlabelled kids in
-      let inner = spot at tag kids ∷ above in
-      let inner' = spot at tag' kids' ∷ above' in
-      let first = begun above at so_far tag kids in
-      let first' = begun above' at so_far tag' kids' in
+      let inner = spot at tag kids ∷ ancestors in
+      let inner' = spot at tag' kids' ∷ ancestors' in
+      let first = begun ancestors at so_far tag kids in
+      let first' = begun ancestors' at so_far tag' kids' in
       let later' = numbering_after value moves inner' (at + 1) first' kids' in
-      ap (λ t. element t (labelled value moves inner' (at + 1) first' kids') (labelled value moves above' (at + 2 + tags kids') later' (unlabelled rest)))
-      (labelled_tag-bare so_far above at tag kids)
-      ∙ ap (λ xs. element (labelled_tag value moves so_far (seen_one above at tag kids)) xs (labelled value moves above' (at + 2 + tags kids') later' (unlabelled rest)))
-      (ap (λ s. labelled value moves (s ∷ above') (at + 1) first' kids') (spot-bare at tag kids)
-      ∙ ap (λ x. labelled value moves (bare_spots inner) (at + 1) x kids') (begun-bare above at so_far tag kids)
+      ap (λ t. element t (labelled value moves inner' (at + 1) first' kids') (labelled value moves ancestors' (at + 2 + tags kids') later' (unlabelled rest)))
+      (labelled_tag-bare so_far ancestors at tag kids)
+      ∙ ap (λ xs. element (labelled_tag value moves so_far (seen_one ancestors at tag kids)) xs (labelled value moves ancestors' (at + 2 + tags kids') later' (unlabelled rest)))
+      (ap (λ s. labelled value moves (s ∷ ancestors') (at + 1) first' kids') (spot-bare at tag kids)
+      ∙ ap (λ x. labelled value moves (bare_spots inner) (at + 1) x kids') (begun-bare ancestors at so_far tag kids)
       ∙ labelled-bare inner (at + 1) first kids)
-      ∙ ap (element (labelled_tag value moves so_far (seen_one above at tag kids)) (labelled value moves inner (at + 1) first kids))
-      (ap (λ n. labelled value moves above' (at + 2 + n) later' (unlabelled rest)) (tags-bare kids)
-      ∙ ap (λ x. labelled value moves above' (at + 2 + tags kids) x (unlabelled rest)) (kids-bare above at so_far tag kids (after-bare inner (at + 1) first kids))
-      ∙ labelled-bare above (at + 2 + tags kids) (numbering_after value moves inner (at + 1) first kids) rest)
+      ∙ ap (element (labelled_tag value moves so_far (seen_one ancestors at tag kids)) (labelled value moves inner (at + 1) first kids))
+      (ap (λ n. labelled value moves ancestors' (at + 2 + n) later' (unlabelled rest)) (tags-bare kids)
+      ∙ ap (λ x. labelled value moves ancestors' (at + 2 + tags kids) x (unlabelled rest)) (kids-bare ancestors at so_far tag kids (after-bare inner (at + 1) first kids))
+      ∙ labelled-bare ancestors (at + 2 + tags kids) (numbering_after value moves inner (at + 1) first kids) rest)
 
-  unlabelled-labelled : (above : List Spot) (at : ℕ) (so_far : Numbering) (nodes : Nodes) → unlabelled (labelled value moves above at so_far nodes) ≡ unlabelled nodes
-  unlabelled-labelled above at so_far no_nodes = refl
-  unlabelled-labelled above at so_far (bytes b rest) = ap (bytes b) (unlabelled-labelled above at so_far rest)
-  unlabelled-labelled above at so_far (element tag kids rest) =
-      ap (λ xs. element (unlabelled_tag tag) xs (unlabelled (labelled value moves above (at + 2 + tags kids) (numbering_after value moves (spot at tag kids ∷ above) (at + 1) (begun above at so_far tag kids) kids) rest)))
-      (unlabelled-labelled (spot at tag kids ∷ above) (at + 1) (begun above at so_far tag kids) kids)
+  unlabelled-labelled : (ancestors : List Spot) (at : ℕ) (so_far : Numbering) (nodes : Nodes) → unlabelled (labelled value moves ancestors at so_far nodes) ≡ unlabelled nodes
+  unlabelled-labelled ancestors at so_far no_nodes = refl
+  unlabelled-labelled ancestors at so_far (bytes b rest) = ap (bytes b) (unlabelled-labelled ancestors at so_far rest)
+  unlabelled-labelled ancestors at so_far (element tag kids rest) =
+      ap (λ xs. element (unlabelled_tag tag) xs (unlabelled (labelled value moves ancestors (at + 2 + tags kids) (numbering_after value moves (spot at tag kids ∷ ancestors) (at + 1) (begun ancestors at so_far tag kids) kids) rest)))
+      (unlabelled-labelled (spot at tag kids ∷ ancestors) (at + 1) (begun ancestors at so_far tag kids) kids)
       ∙ ap (element (unlabelled_tag tag) (unlabelled kids))
-      (unlabelled-labelled above (at + 2 + tags kids) (numbering_after value moves (spot at tag kids ∷ above) (at + 1) (begun above at so_far tag kids) kids) rest)
+      (unlabelled-labelled ancestors (at + 2 + tags kids) (numbering_after value moves (spot at tag kids ∷ ancestors) (at + 1) (begun ancestors at so_far tag kids) kids) rest)
 
 -- Stories
 
@@ -266,13 +267,13 @@ module _ (value : Value) (next : ℕ) (root : Tag) where
   story-bare : (kids : Nodes) → labelled_story value next (unlabelled_tag root) (unlabelled kids) ≡ labelled_story value next root kids
   story-bare kids =
       ap (λ moves. labelled value moves (root_spots (unlabelled_tag root) (unlabelled kids)) 1 (start_with next) (unlabelled kids)) (moves-bare value root kids)
-      ∙ ap (λ above. labelled value (moves_among value (seen root kids)) above 1 (start_with next) (unlabelled kids)) (root_spots-bare root kids)
+      ∙ ap (λ ancestors. labelled value (moves_among value (seen root kids)) ancestors 1 (start_with next) (unlabelled kids)) (root_spots-bare root kids)
       ∙ labelled-bare value (moves_among value (seen root kids)) (root_spots root kids) 1 (start_with next) kids
 
   pub story_next-bare : (kids : Nodes) → next_after_story value next (unlabelled_tag root) (unlabelled kids) ≡ next_after_story value next root kids
   story_next-bare kids =
       ap (λ moves. (numbering_after value moves (root_spots (unlabelled_tag root) (unlabelled kids)) 1 (start_with next) (unlabelled kids)).next) (moves-bare value root kids)
-      ∙ ap (λ above. (numbering_after value (moves_among value (seen root kids)) above 1 (start_with next) (unlabelled kids)).next) (root_spots-bare root kids)
+      ∙ ap (λ ancestors. (numbering_after value (moves_among value (seen root kids)) ancestors 1 (start_with next) (unlabelled kids)).next) (root_spots-bare root kids)
       ∙ ap (λ so_far. so_far.next) (after-bare value (moves_among value (seen root kids)) (root_spots root kids) 1 (start_with next) kids)
 
   -- a labelled story is labelled again as it is

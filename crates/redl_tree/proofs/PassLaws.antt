@@ -36,17 +36,17 @@ if_true true x y e = refl
 if_true false x y e = absurd (true≢false (sym e))
 
 -- a paragraph that is left gives itself
-pub para_pass : (says : List Say) (around : List Tag) (tag : Tag) (kids passed : Nodes) → is_block_para says around tag ≡ true →
-    element_pass says around tag kids passed ≡ element (renamed says around tag) (kept_kids says around tag kids passed) no_nodes
-para_pass says around tag kids passed e =
-    let a = and_parts (is "p" tag && in_blocks around) (is_leave (fate_of says tag)) e in
-    let b = and_parts (is "p" tag) (in_blocks around) a.0 in
-    let stays = element (renamed says around tag) (kept_kids says around tag kids passed) no_nodes in
-    leave_of (fate_of says tag) (is_content tag.kind) passed (if goes_at says around tag kids then no_nodes else stays) a.1
-    ∙ if_false (goes_at says around tag kids) no_nodes stays (by_name (λ t. goes_at says around t kids ≡ false) "p" tag b.0 refl)
+pub para_pass : (says : List Say) (ancestors : List Tag) (tag : Tag) (kids passed : Nodes) → is_block_para says ancestors tag ≡ true →
+    element_pass says ancestors tag kids passed ≡ element (renamed says ancestors tag) (kept_kids says ancestors tag kids passed) no_nodes
+para_pass says ancestors tag kids passed e =
+    let a = and_parts (is "p" tag && in_blocks ancestors) (is_leave (fate_of says tag)) e in
+    let b = and_parts (is "p" tag) (in_blocks ancestors) a.0 in
+    let stays = element (renamed says ancestors tag) (kept_kids says ancestors tag kids passed) no_nodes in
+    leave_of (fate_of says tag) (is_content tag.kind) passed (if goes_at says ancestors tag kids then no_nodes else stays) a.1
+    ∙ if_false (goes_at says ancestors tag kids) no_nodes stays (by_name (λ t. goes_at says ancestors t kids ≡ false) "p" tag b.0 refl)
 
-pub block_p : (says : List Say) (around : List Tag) (tag : Tag) → is_block_para says around tag ≡ true → is "p" tag ≡ true
-block_p says around tag e = (and_parts (is "p" tag) (in_blocks around) (and_parts (is "p" tag && in_blocks around) (is_leave (fate_of says tag)) e).0).0
+pub block_p : (says : List Say) (ancestors : List Tag) (tag : Tag) → is_block_para says ancestors tag ≡ true → is "p" tag ≡ true
+block_p says ancestors tag e = (and_parts (is "p" tag) (in_blocks ancestors) (and_parts (is "p" tag && in_blocks ancestors) (is_leave (fate_of says tag)) e).0).0
 
 -- what a node of a list gives by itself
 abbrev pub alone : Piece → Nodes
@@ -60,11 +60,11 @@ alone-if true heavy cut tag kids n h = sym (h refl)
 alone-if false true cut tag kids n h = refl
 alone-if false false cut tag kids n h = refl
 
-pub alone-piece : (says : List Say) (around : List Tag) (tag : Tag) (kids passed : Nodes) →
-    alone (piece says around tag kids passed) ≡ element_pass says around tag kids passed
-alone-piece says around tag kids passed =
-    alone-if (is_block_para says around tag) (is_thick tag) (para_is_cut says kids) (renamed says around tag) (kept_kids says around tag kids passed)
-    (element_pass says around tag kids passed) (para_pass says around tag kids passed)
+pub alone-piece : (says : List Say) (ancestors : List Tag) (tag : Tag) (kids passed : Nodes) →
+    alone (piece says ancestors tag kids passed) ≡ element_pass says ancestors tag kids passed
+alone-piece says ancestors tag kids passed =
+    alone-if (is_block_para says ancestors tag) (is_thick tag) (para_is_cut says kids) (renamed says ancestors tag) (kept_kids says ancestors tag kids passed)
+    (element_pass says ancestors tag kids passed) (para_pass says ancestors tag kids passed)
 
 abbrev pub all_alone : List Piece → Nodes
 all_alone [] = no_nodes
@@ -72,16 +72,16 @@ all_alone (p ∷ ps) = alone p ⊕ all_alone ps
 
 -- the nodes of a list passed one by one
 abbrev pub each : List Say → List Tag → Nodes → Nodes
-each says around no_nodes = no_nodes
-each says around (bytes b rest) = bytes b (each says around rest)
-each says around (element tag kids rest) = element_pass says around tag kids (pass says (tag ∷ around) kids) ⊕ each says around rest
+each says ancestors no_nodes = no_nodes
+each says ancestors (bytes b rest) = bytes b (each says ancestors rest)
+each says ancestors (element tag kids rest) = element_pass says ancestors tag kids (pass says (tag ∷ ancestors) kids) ⊕ each says ancestors rest
 
-pub all_alone-each : (says : List Say) (around : List Tag) (nodes : Nodes) → all_alone (pieces says around nodes) ≡ each says around nodes
-all_alone-each says around no_nodes = refl
-all_alone-each says around (bytes b rest) = ap (bytes b) (all_alone-each says around rest)
-all_alone-each says around (element tag kids rest) =
-    ap (λ n. n ⊕ all_alone (pieces says around rest)) (alone-piece says around tag kids (pass says (tag ∷ around) kids))
-    ∙ ap (λ n. element_pass says around tag kids (pass says (tag ∷ around) kids) ⊕ n) (all_alone-each says around rest)
+pub all_alone-each : (says : List Say) (ancestors : List Tag) (nodes : Nodes) → all_alone (pieces says ancestors nodes) ≡ each says ancestors nodes
+all_alone-each says ancestors no_nodes = refl
+all_alone-each says ancestors (bytes b rest) = ap (bytes b) (all_alone-each says ancestors rest)
+all_alone-each says ancestors (element tag kids rest) =
+    ap (λ n. n ⊕ all_alone (pieces says ancestors rest)) (alone-piece says ancestors tag kids (pass says (tag ∷ ancestors) kids))
+    ∙ ap (λ n. element_pass says ancestors tag kids (pass says (tag ∷ ancestors) kids) ⊕ n) (all_alone-each says ancestors rest)
 
 step_apart : (followed p heavy cut : Bool) (tag : Tag) (kids n : Nodes) (ps : List Piece) → (p && cut) ≡ false → (p ≡ true → n ≡ element tag kids no_nodes) →
     grouped_from followed None ((if p then para tag cut kids else if heavy then thick n else thin n) ∷ ps) ≡ n ⊕ grouped_from followed None ps
@@ -90,12 +90,12 @@ step_apart followed true heavy false tag kids n ps e h = ap (λ x. x ⊕ grouped
 step_apart followed false true cut tag kids n ps e h = refl
 step_apart followed false false cut tag kids n ps e h = refl
 
-pub pass-apart : (says : List Say) (around : List Tag) (tag : Tag) (kids rest : Nodes) → (is_block_para says around tag && para_is_cut says kids) ≡ false →
-    pass says around (element tag kids rest) ≡ element_pass says around tag kids (pass says (tag ∷ around) kids) ⊕ pass says around rest
-pass-apart says around tag kids rest e =
-    let passed = pass says (tag ∷ around) kids in
-    step_apart false (is_block_para says around tag) (is_thick tag) (para_is_cut says kids) (renamed says around tag) (kept_kids says around tag kids passed)
-    (element_pass says around tag kids passed) (pieces says around rest) e (para_pass says around tag kids passed)
+pub pass-apart : (says : List Say) (ancestors : List Tag) (tag : Tag) (kids rest : Nodes) → (is_block_para says ancestors tag && para_is_cut says kids) ≡ false →
+    pass says ancestors (element tag kids rest) ≡ element_pass says ancestors tag kids (pass says (tag ∷ ancestors) kids) ⊕ pass says ancestors rest
+pass-apart says ancestors tag kids rest e =
+    let passed = pass says (tag ∷ ancestors) kids in
+    step_apart false (is_block_para says ancestors tag) (is_thick tag) (para_is_cut says kids) (renamed says ancestors tag) (kept_kids says ancestors tag kids passed)
+    (element_pass says ancestors tag kids passed) (pieces says ancestors rest) e (para_pass says ancestors tag kids passed)
 
 no_and : (a b : Bool) → a ≡ false → (a && b) ≡ false
 no_and true b e = absurd (true≢false e)
@@ -106,19 +106,19 @@ and_no true b e = e
 and_no false b e = refl
 
 -- outside of block lists all nodes are passed one by one
-pub pass-outside : (says : List Say) (around : List Tag) (tag : Tag) (kids rest : Nodes) → in_blocks around ≡ false →
-    pass says around (element tag kids rest) ≡ element_pass says around tag kids (pass says (tag ∷ around) kids) ⊕ pass says around rest
-pass-outside says around tag kids rest e =
-    pass-apart says around tag kids rest
-    (no_and (is_block_para says around tag) (para_is_cut says kids)
-    (no_and (is "p" tag && in_blocks around) (is_leave (fate_of says tag)) (and_no (is "p" tag) (in_blocks around) e)))
+pub pass-outside : (says : List Say) (ancestors : List Tag) (tag : Tag) (kids rest : Nodes) → in_blocks ancestors ≡ false →
+    pass says ancestors (element tag kids rest) ≡ element_pass says ancestors tag kids (pass says (tag ∷ ancestors) kids) ⊕ pass says ancestors rest
+pass-outside says ancestors tag kids rest e =
+    pass-apart says ancestors tag kids rest
+    (no_and (is_block_para says ancestors tag) (para_is_cut says kids)
+    (no_and (is "p" tag && in_blocks ancestors) (is_leave (fate_of says tag)) (and_no (is "p" tag) (in_blocks ancestors) e)))
 
-pub pass-each : (says : List Say) (around : List Tag) (nodes : Nodes) → in_blocks around ≡ false → pass says around nodes ≡ each says around nodes
-pass-each says around no_nodes e = refl
-pass-each says around (bytes b rest) e = ap (bytes b) (pass-each says around rest e)
-pass-each says around (element tag kids rest) e =
-    pass-outside says around tag kids rest e
-    ∙ ap (λ n. element_pass says around tag kids (pass says (tag ∷ around) kids) ⊕ n) (pass-each says around rest e)
+pub pass-each : (says : List Say) (ancestors : List Tag) (nodes : Nodes) → in_blocks ancestors ≡ false → pass says ancestors nodes ≡ each says ancestors nodes
+pass-each says ancestors no_nodes e = refl
+pass-each says ancestors (bytes b rest) e = ap (bytes b) (pass-each says ancestors rest e)
+pass-each says ancestors (element tag kids rest) e =
+    pass-outside says ancestors tag kids rest e
+    ∙ ap (λ n. element_pass says ancestors tag kids (pass says (tag ∷ ancestors) kids) ⊕ n) (pass-each says ancestors rest e)
 
 pub without-⊕ : (test : Tag → Bool) (xs ys : Nodes) → without test (xs ⊕ ys) ≡ without test xs ⊕ without test ys
 without-⊕ test no_nodes ys = refl
@@ -233,8 +233,8 @@ pub grouped-append : (followed : Bool) (xs ys : List Piece) → (ends_cut xs && 
     grouped followed (xs ++ ys) ≡ grouped (has_thick ys || followed) xs ⊕ grouped followed ys
 grouped-append followed xs ys e = grouped_from-append followed xs ys None e tt
 
-pub pieces-⊕ : (says : List Say) (around : List Tag) (xs ys : Nodes) → pieces says around (xs ⊕ ys) ≡ pieces says around xs ++ pieces says around ys
-pieces-⊕ says around no_nodes ys = refl
-pieces-⊕ says around (bytes b rest) ys = ap (λ ps. thin (bytes b no_nodes) ∷ ps) (pieces-⊕ says around rest ys)
-pieces-⊕ says around (element tag kids rest) ys =
-    ap (λ ps. piece says around tag kids (pass says (tag ∷ around) kids) ∷ ps) (pieces-⊕ says around rest ys)
+pub pieces-⊕ : (says : List Say) (ancestors : List Tag) (xs ys : Nodes) → pieces says ancestors (xs ⊕ ys) ≡ pieces says ancestors xs ++ pieces says ancestors ys
+pieces-⊕ says ancestors no_nodes ys = refl
+pieces-⊕ says ancestors (bytes b rest) ys = ap (λ ps. thin (bytes b no_nodes) ∷ ps) (pieces-⊕ says ancestors rest ys)
+pieces-⊕ says ancestors (element tag kids rest) ys =
+    ap (λ ps. piece says ancestors tag kids (pass says (tag ∷ ancestors) kids) ∷ ps) (pieces-⊕ says ancestors rest ys)

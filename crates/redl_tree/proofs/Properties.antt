@@ -9,7 +9,8 @@ use Rattle.redl_tree.specs.Roles.Places.{is_quiet, is_open, within, prop_of, rol
 use Rattle.redl_tree.specs.Roles.Kinds.{is_change}
 use Rattle.redl_tree.specs.Decisions.Restored.{Rejected, rejected, after_change, present, restored, outlasts}
 use Rattle.redl_tree.specs.Decisions.Pass.{pass}
-use Rattle.redl_tree.specs.Rules.Sound.{Test, open_one, once, each_once, only_first, only_last, below_change, test_4, test_5, test_6}
+use Rattle.redl_tree.specs.Rules.Tests.{Test, open_one, once, each_once, only_first, only_last}
+use Rattle.redl_tree.specs.Rules.Sound.{below_change, test_4, test_5, test_6}
 use Rattle.redl_tree.specs.declared.kinds.Prop.{Prop}
 use Rattle.redl_tree.specs.declared.kinds.Prop.TheVariants.{Run, Para as ParaProp, Sect, Table, Except, Row as RowProp, Cell as CellProp}
 use Rattle.redl_tree.specs.declared.kinds.Say.{Say}
@@ -22,10 +23,10 @@ use Rattle.redl_tree.proofs.Walk.{Holds, Ground, Kept, NoMarkBelow, made, change
 use Rattle.redl_tree.proofs.ShutLists.{rule_8_of, shut_pass}
 use Rattle.redl_tree.proofs.TopLaws.{first_none, add_if, count_named, count-⊕, count_none, From, Foreign, tops, sub_some, sub_last, sub_first, sub_once, sub_count, once_less, last_none, foreign_shut}
 
-pub fits_of : (ext : Test) → (around : List Tag) (nodes : Nodes) → Ground ext around nodes → AllFit around nodes
-fits_of ext around no_nodes g = tt
-fits_of ext around (bytes b rest) g = fits_of ext around rest g
-fits_of ext around (element tag kids rest) g = (g.0.fits, fits_of ext (tag ∷ around) kids g.1, fits_of ext around rest g.2)
+pub fits_of : (ext : Test) → (ancestors : List Tag) (nodes : Nodes) → Ground ext ancestors nodes → AllFit ancestors nodes
+fits_of ext ancestors no_nodes g = tt
+fits_of ext ancestors (bytes b rest) g = fits_of ext ancestors rest g
+fits_of ext ancestors (element tag kids rest) g = (g.0.fits, fits_of ext (tag ∷ ancestors) kids g.1, fits_of ext ancestors rest g.2)
 
 from_name : (name : String) → ordinary name ≡ true → From (is name) (is name)
 from_name name o a b l e = sym (l.name name o) ∙ e
@@ -69,30 +70,30 @@ only_none n names h (element t k rest) =
 -- RULE 6
 
 foreign_below : (name : String) → ((a : Tag) → is name a ≡ true → is_any banned a ≡ true) → Foreign (is name)
-foreign_below name h around a f o i = false_of (is name a) (λ e. f.below (and_from _ _ (h a e) o) (in_below around i))
+foreign_below name h ancestors a f o i = false_of (is name a) (λ e. f.below (and_from _ _ (h a e) o) (in_below ancestors i))
 
 pub foreign_inside : Foreign (is "sdtContent")
-foreign_inside around a f o i =
+foreign_inside ancestors a f o i =
     false_of (is "sdtContent" a) (λ e. f.inside (and_from _ _ (by_name (λ t. is_any ("rPr" ∷ "sdtContent" ∷ []) t ≡ true) "sdtContent" a e refl) o) i)
 
 -- of an element among the content no change is rejected
 pub made_open : (ext : Test) → (says : List Say) (old : List Tag) (a : Tag) (kids : Nodes) → is_open old ≡ true → is_quiet a ≡ false → Ground ext (a ∷ old) kids → made says old a kids ≡ pass says (a ∷ old) kids
 made_open ext says old a kids o q g = ap (λ u. after_change old a u (pass says (a ∷ old) kids)) (open_none_rejected says (a ∷ old) kids (open_∷ a old q ∙ o) (fits_of ext (a ∷ old) kids g))
 
-pass_once : (ext : Test) → (says : List Say) (name : String) → ordinary name ≡ true → Foreign (is name) → (around : List Tag) (kids : Nodes) → Ground ext around kids → once name kids ≡ true → once name (pass says around kids) ≡ true
-pass_once ext says name o fo around kids g e =
-    let t = tops ext says (is name) (from_name name o) fo around kids g in
-    sub_once name o t.middle (pass says around kids) t.second (sub_once name o kids t.middle t.first e)
+pass_once : (ext : Test) → (says : List Say) (name : String) → ordinary name ≡ true → Foreign (is name) → (ancestors : List Tag) (kids : Nodes) → Ground ext ancestors kids → once name kids ≡ true → once name (pass says ancestors kids) ≡ true
+pass_once ext says name o fo ancestors kids g e =
+    let t = tops ext says (is name) (from_name name o) fo ancestors kids g in
+    sub_once name o t.middle (pass says ancestors kids) t.second (sub_once name o kids t.middle t.first e)
 
-pass_first : (ext : Test) → (says : List Say) (name : String) → ordinary name ≡ true → Foreign (is name) → (around : List Tag) (kids : Nodes) → Ground ext around kids → only_first (is name) kids ≡ true → only_first (is name) (pass says around kids) ≡ true
-pass_first ext says name o fo around kids g e =
-    let t = tops ext says (is name) (from_name name o) fo around kids g in
-    sub_first name o t.middle (pass says around kids) t.second (sub_first name o kids t.middle t.first e)
+pass_first : (ext : Test) → (says : List Say) (name : String) → ordinary name ≡ true → Foreign (is name) → (ancestors : List Tag) (kids : Nodes) → Ground ext ancestors kids → only_first (is name) kids ≡ true → only_first (is name) (pass says ancestors kids) ≡ true
+pass_first ext says name o fo ancestors kids g e =
+    let t = tops ext says (is name) (from_name name o) fo ancestors kids g in
+    sub_first name o t.middle (pass says ancestors kids) t.second (sub_first name o kids t.middle t.first e)
 
-pass_last : (ext : Test) → (says : List Say) (name : String) → ordinary name ≡ true → Foreign (is name) → (around : List Tag) (kids : Nodes) → Ground ext around kids → only_last (is name) kids ≡ true → only_last (is name) (pass says around kids) ≡ true
-pass_last ext says name o fo around kids g e =
-    let t = tops ext says (is name) (from_name name o) fo around kids g in
-    sub_last (is name) (is name) (from_name name o) t.middle (pass says around kids) t.second (sub_last (is name) (is name) (from_name name o) kids t.middle t.first e)
+pass_last : (ext : Test) → (says : List Say) (name : String) → ordinary name ≡ true → Foreign (is name) → (ancestors : List Tag) (kids : Nodes) → Ground ext ancestors kids → only_last (is name) kids ≡ true → only_last (is name) (pass says ancestors kids) ≡ true
+pass_last ext says name o fo ancestors kids g e =
+    let t = tops ext says (is name) (from_name name o) fo ancestors kids g in
+    sub_last (is name) (is name) (from_name name o) t.middle (pass says ancestors kids) t.second (sub_last (is name) (is name) (from_name name o) kids t.middle t.first e)
 
 joined_first : (kids more : Nodes) → only_first (is "pPr") kids ≡ true → some_element (is "pPr") more ≡ false → only_first (is "pPr") (only (is "pPr") kids ⊕ more) ≡ true
 joined_first no_nodes more e none = first_none "pPr" more none
@@ -106,49 +107,49 @@ joined_first (element t k rest) more e none =
     at false h = first_none "pPr" (only (is "pPr") rest ⊕ more) h
 
 -- the parts of rule 6
-pub record Rule6 (around : List Tag) (tag : Tag) (kids : Nodes) : Type 0 where
-  pub para : open_one "p" around tag ≡ true → only_first (is "pPr") kids ≡ true
-  pub row : open_one "tr" around tag ≡ true → once "trPr" kids ≡ true
-  pub cell : open_one "tc" around tag ≡ true → once "tcPr" kids ≡ true
-  pub body : open_one "body" around tag ≡ true → only_last (is "sectPr") kids ≡ true
-  pub Control : open_one "sdt" around tag ≡ true → once "sdtContent" kids ≡ true
+pub record Rule6 (ancestors : List Tag) (tag : Tag) (kids : Nodes) : Type 0 where
+  pub para : open_one "p" ancestors tag ≡ true → only_first (is "pPr") kids ≡ true
+  pub row : open_one "tr" ancestors tag ≡ true → once "trPr" kids ≡ true
+  pub cell : open_one "tc" ancestors tag ≡ true → once "tcPr" kids ≡ true
+  pub body : open_one "body" ancestors tag ≡ true → only_last (is "sectPr") kids ≡ true
+  pub Control : open_one "sdt" ancestors tag ≡ true → once "sdtContent" kids ≡ true
 
-pub rule_6_of : (around : List Tag) (tag : Tag) (kids : Nodes) → test_6 around tag kids ≡ true → Rule6 around tag kids
-rule_6_of around tag kids e =
+pub rule_6_of : (ancestors : List Tag) (tag : Tag) (kids : Nodes) → test_6 ancestors tag kids ≡ true → Rule6 ancestors tag kids
+rule_6_of ancestors tag kids e =
     let a = and_parts _ _ e in
     let b = and_parts _ _ a.0 in
     let c = and_parts _ _ b.0 in
     let d = and_parts _ _ c.0 in
     record { para = λ h. implies_of _ _ d.0 h; row = λ h. implies_of _ _ d.1 h; cell = λ h. implies_of _ _ c.1 h; body = λ h. implies_of _ _ b.1 h; Control = λ h. implies_of _ _ a.1 h }
 
-pub rule_6_from : (around : List Tag) (tag : Tag) (kids : Nodes) → Rule6 around tag kids → test_6 around tag kids ≡ true
-rule_6_from around tag kids r =
+pub rule_6_from : (ancestors : List Tag) (tag : Tag) (kids : Nodes) → Rule6 ancestors tag kids → test_6 ancestors tag kids ≡ true
+rule_6_from ancestors tag kids r =
     and_from _ _ (and_from _ _ (and_from _ _ (and_from _ _
-    (implies_from (open_one "p" around tag) (only_first (is "pPr") kids) r.para)
-    (implies_from (open_one "tr" around tag) (once "trPr" kids) r.row))
-    (implies_from (open_one "tc" around tag) (once "tcPr" kids) r.cell))
-    (implies_from (open_one "body" around tag) (only_last (is "sectPr") kids) r.body))
-    (implies_from (open_one "sdt" around tag) (once "sdtContent" kids) r.Control)
+    (implies_from (open_one "p" ancestors tag) (only_first (is "pPr") kids) r.para)
+    (implies_from (open_one "tr" ancestors tag) (once "trPr" kids) r.row))
+    (implies_from (open_one "tc" ancestors tag) (once "tcPr" kids) r.cell))
+    (implies_from (open_one "body" ancestors tag) (only_last (is "sectPr") kids) r.body))
+    (implies_from (open_one "sdt" ancestors tag) (once "sdtContent" kids) r.Control)
 
 pub open_came : (name : String) → ordinary name ≡ true → (old new : List Tag) (a b : Tag) → Came old new → Like a b → open_one name new b ≡ true → (is name a ≡ true) × (is_open old ≡ true)
 open_came name o old new a b c l e =
     let both = and_parts (is name b) (is_open new) e in
     (sym (l.name name o) ∙ both.0, sym (came_open old new c) ∙ both.1)
 
-pub no_p : {X : Type 0} (name : String) (around : List Tag) (a : Tag) → is "p" a ≡ true → ((t : Tag) → is "p" t ≡ true → is name t ≡ false) → open_one name around a ≡ true → X
-no_p name around a e h o = absurd (true_false (is name a) (and_parts (is name a) (is_open around) o).0 (h a e))
+pub no_p : {X : Type 0} (name : String) (ancestors : List Tag) (a : Tag) → is "p" a ≡ true → ((t : Tag) → is "p" t ≡ true → is name t ≡ false) → open_one name ancestors a ≡ true → X
+no_p name ancestors a e h o = absurd (true_false (is name a) (and_parts (is name a) (is_open ancestors) o).0 (h a e))
 
-para_6 : (around : List Tag) (a : Tag) (kids : Nodes) → is "p" a ≡ true → (is_open around ≡ true → only_first (is "pPr") kids ≡ true) → Rule6 around a kids
-para_6 around a kids e h = record {
-  para = λ o. h (and_parts (is "p" a) (is_open around) o).1;
-  row = λ o. no_p "tr" around a e (λ t q. by_name (λ t. is "tr" t ≡ false) "p" t q refl) o;
-  cell = λ o. no_p "tc" around a e (λ t q. by_name (λ t. is "tc" t ≡ false) "p" t q refl) o;
-  body = λ o. no_p "body" around a e (λ t q. by_name (λ t. is "body" t ≡ false) "p" t q refl) o;
-  Control = λ o. no_p "sdt" around a e (λ t q. by_name (λ t. is "sdt" t ≡ false) "p" t q refl) o;
+para_6 : (ancestors : List Tag) (a : Tag) (kids : Nodes) → is "p" a ≡ true → (is_open ancestors ≡ true → only_first (is "pPr") kids ≡ true) → Rule6 ancestors a kids
+para_6 ancestors a kids e h = record {
+  para = λ o. h (and_parts (is "p" a) (is_open ancestors) o).1;
+  row = λ o. no_p "tr" ancestors a e (λ t q. by_name (λ t. is "tr" t ≡ false) "p" t q refl) o;
+  cell = λ o. no_p "tc" ancestors a e (λ t q. by_name (λ t. is "tc" t ≡ false) "p" t q refl) o;
+  body = λ o. no_p "body" ancestors a e (λ t q. by_name (λ t. is "body" t ≡ false) "p" t q refl) o;
+  Control = λ o. no_p "sdt" ancestors a e (λ t q. by_name (λ t. is "sdt" t ≡ false) "p" t q refl) o;
 }
 
-pub shut_one : {X : Type 0} (name : String) (around : List Tag) (a : Tag) → is_open around ≡ false → open_one name around a ≡ true → X
-shut_one name around a s o = absurd (true_false (is_open around) (and_parts (is name a) (is_open around) o).1 s)
+pub shut_one : {X : Type 0} (name : String) (ancestors : List Tag) (a : Tag) → is_open ancestors ≡ false → open_one name ancestors a ≡ true → X
+shut_one name ancestors a s o = absurd (true_false (is_open ancestors) (and_parts (is name a) (is_open ancestors) o).1 s)
 
 pub kept_6 : (ext : Test) → (says : List Say) → Kept ext says test_6
 kept_6 ext says = record {
@@ -200,10 +201,10 @@ kept_6 ext says = record {
 -- RULE 4
 
 -- below a change no element of a list is one, by its name
-no_props : (ext : Test) → (around : List Tag) (nodes : Nodes) → below_change around ≡ true → Ground ext around nodes → some_element (λ t. is_some (prop_of t)) nodes ≡ false
-no_props ext around no_nodes e g = refl
-no_props ext around (bytes b rest) e g = no_props ext around rest e g
-no_props ext around (element t k rest) e g = or_from (is_some (prop_of t)) _ (rule_8_of around t k g.0.rules.rule_8 e).prop (no_props ext around rest e g.2)
+no_props : (ext : Test) → (ancestors : List Tag) (nodes : Nodes) → below_change ancestors ≡ true → Ground ext ancestors nodes → some_element (λ t. is_some (prop_of t)) nodes ≡ false
+no_props ext ancestors no_nodes e g = refl
+no_props ext ancestors (bytes b rest) e g = no_props ext ancestors rest e g
+no_props ext ancestors (element t k rest) e g = or_from (is_some (prop_of t)) _ (rule_8_of ancestors t k g.0.rules.rule_8 e).prop (no_props ext ancestors rest e g.2)
 
 some_less : (n m : Tag → Bool) → ((t : Tag) → m t ≡ true → n t ≡ true) → (xs : Nodes) → some_element n xs ≡ false → some_element m xs ≡ false
 some_less n m h no_nodes e = refl
@@ -213,44 +214,44 @@ some_less n m h (element t k rest) e =
     or_from (m t) _ (false_of (m t) (λ w. true_false (n t) (h t w) both.0)) (some_less n m h rest both.1)
 
 abbrev change_at : List Tag → Tag → Bool
-change_at around t = is_change (role around t)
+change_at ancestors t = is_change (role ancestors t)
 
-no_change_named : (around : List Tag) (names : Tag → Bool) →
-    ((t : Tag) → is_some (prop_of t) ≡ true → names t ≡ false) → (t : Tag) → names t ≡ true → change_at around t ≡ false
-no_change_named around names h t e = false_of (change_at around t) (λ w. true_false (names t) e (h t (change_name around t w)))
+no_change_named : (ancestors : List Tag) (names : Tag → Bool) →
+    ((t : Tag) → is_some (prop_of t) ≡ true → names t ≡ false) → (t : Tag) → names t ≡ true → change_at ancestors t ≡ false
+no_change_named ancestors names h t e = false_of (change_at ancestors t) (λ w. true_false (names t) e (h t (change_name ancestors t w)))
 
-module _ (ext : Test) (around old : List Tag) (ch : Tag) (below : below_change (ch ∷ old) ≡ true) where
-  former_none : (former : Nodes) → ((former ≡ no_nodes) ⊎ ((f : Tag) × Ground ext (f ∷ ch ∷ old) former)) → some_element (change_at around) former ≡ false
+module _ (ext : Test) (ancestors old : List Tag) (ch : Tag) (below : below_change (ch ∷ old) ≡ true) where
+  former_none : (former : Nodes) → ((former ≡ no_nodes) ⊎ ((f : Tag) × Ground ext (f ∷ ch ∷ old) former)) → some_element (change_at ancestors) former ≡ false
   former_none former (inl e) = rw e refl
   former_none former (inr (f, g)) =
-      some_less (λ t. is_some (prop_of t)) (change_at around) (λ t w. change_name around t w) former
+      some_less (λ t. is_some (prop_of t)) (change_at ancestors) (λ t w. change_name ancestors t w) former
       (no_props ext (f ∷ ch ∷ old) former (any_drop (change_at (ch ∷ old) f) (below_change (ch ∷ old)) below) g)
 
   -- a restored list holds no change
   restored_none : (prop : Prop) (current former : Nodes) → ((former ≡ no_nodes) ⊎ ((f : Tag) × Ground ext (f ∷ ch ∷ old) former)) →
-      some_element (change_at around) (restored prop current former) ≡ false
+      some_element (change_at ancestors) (restored prop current former) ≡ false
   restored_none Run current former g =
-      some-⊕ (change_at around) (only (outlasts Run) current) (without (outlasts Run) former)
-      (only_none (change_at around) (outlasts Run) (no_change_named around (outlasts Run) (λ t e. by_prop (λ t. outlasts Run t ≡ false) t e (refl, (refl, (refl, (refl, (refl, (refl, (refl, tt))))))))) current)
-      (some-without (change_at around) (outlasts Run) former (former_none former g))
+      some-⊕ (change_at ancestors) (only (outlasts Run) current) (without (outlasts Run) former)
+      (only_none (change_at ancestors) (outlasts Run) (no_change_named ancestors (outlasts Run) (λ t e. by_prop (λ t. outlasts Run t ≡ false) t e (refl, (refl, (refl, (refl, (refl, (refl, (refl, tt))))))))) current)
+      (some-without (change_at ancestors) (outlasts Run) former (former_none former g))
   restored_none ParaProp current former g =
-      some-⊕ (change_at around) (without (outlasts ParaProp) former) (only (outlasts ParaProp) current)
-      (some-without (change_at around) (outlasts ParaProp) former (former_none former g))
-      (only_none (change_at around) (outlasts ParaProp) (no_change_named around (outlasts ParaProp) (λ t e. by_prop (λ t. outlasts ParaProp t ≡ false) t e (refl, (refl, (refl, (refl, (refl, (refl, (refl, tt))))))))) current)
+      some-⊕ (change_at ancestors) (without (outlasts ParaProp) former) (only (outlasts ParaProp) current)
+      (some-without (change_at ancestors) (outlasts ParaProp) former (former_none former g))
+      (only_none (change_at ancestors) (outlasts ParaProp) (no_change_named ancestors (outlasts ParaProp) (λ t e. by_prop (λ t. outlasts ParaProp t ≡ false) t e (refl, (refl, (refl, (refl, (refl, (refl, (refl, tt))))))))) current)
   restored_none Sect current former g =
-      some-⊕ (change_at around) (only (outlasts Sect) current) (without (outlasts Sect) former)
-      (only_none (change_at around) (outlasts Sect) (no_change_named around (outlasts Sect) (λ t e. by_prop (λ t. outlasts Sect t ≡ false) t e (refl, (refl, (refl, (refl, (refl, (refl, (refl, tt))))))))) current)
-      (some-without (change_at around) (outlasts Sect) former (former_none former g))
+      some-⊕ (change_at ancestors) (only (outlasts Sect) current) (without (outlasts Sect) former)
+      (only_none (change_at ancestors) (outlasts Sect) (no_change_named ancestors (outlasts Sect) (λ t e. by_prop (λ t. outlasts Sect t ≡ false) t e (refl, (refl, (refl, (refl, (refl, (refl, (refl, tt))))))))) current)
+      (some-without (change_at ancestors) (outlasts Sect) former (former_none former g))
   restored_none Table current former g = former_none former g
   restored_none Except current former g = former_none former g
   restored_none RowProp current former g =
-      some-⊕ (change_at around) (without (outlasts RowProp) former) (only (outlasts RowProp) current)
-      (some-without (change_at around) (outlasts RowProp) former (former_none former g))
-      (only_none (change_at around) (outlasts RowProp) (no_change_named around (outlasts RowProp) (λ t e. by_prop (λ t. outlasts RowProp t ≡ false) t e (refl, (refl, (refl, (refl, (refl, (refl, (refl, tt))))))))) current)
+      some-⊕ (change_at ancestors) (without (outlasts RowProp) former) (only (outlasts RowProp) current)
+      (some-without (change_at ancestors) (outlasts RowProp) former (former_none former g))
+      (only_none (change_at ancestors) (outlasts RowProp) (no_change_named ancestors (outlasts RowProp) (λ t e. by_prop (λ t. outlasts RowProp t ≡ false) t e (refl, (refl, (refl, (refl, (refl, (refl, (refl, tt))))))))) current)
   restored_none CellProp current former g =
-      some-⊕ (change_at around) (without (outlasts CellProp) former) (only (outlasts CellProp) current)
-      (some-without (change_at around) (outlasts CellProp) former (former_none former g))
-      (only_none (change_at around) (outlasts CellProp) (no_change_named around (outlasts CellProp) (λ t e. by_prop (λ t. outlasts CellProp t ≡ false) t e (refl, (refl, (refl, (refl, (refl, (refl, (refl, tt))))))))) current)
+      some-⊕ (change_at ancestors) (without (outlasts CellProp) former) (only (outlasts CellProp) current)
+      (some-without (change_at ancestors) (outlasts CellProp) former (former_none former g))
+      (only_none (change_at ancestors) (outlasts CellProp) (no_change_named ancestors (outlasts CellProp) (λ t e. by_prop (λ t. outlasts CellProp t ≡ false) t e (refl, (refl, (refl, (refl, (refl, (refl, (refl, tt))))))))) current)
 
 some_never : (n : Tag → Bool) → ((t : Tag) → n t ≡ false) → (xs : Nodes) → some_element n xs ≡ false
 some_never n h no_nodes = refl
@@ -258,9 +259,9 @@ some_never n h (bytes b rest) = some_never n h rest
 some_never n h (element t k rest) = or_from (n t) _ (h t) (some_never n h rest)
 
 -- no kid of what is no property element is a change
-loud_last : (around : List Tag) (b : Tag) → is_quiet b ≡ false → (xs : Nodes) → only_last (change_at (b ∷ around)) xs ≡ true
-loud_last around b q xs =
-    last_none (change_at (b ∷ around)) xs (some_never (change_at (b ∷ around)) (λ t. false_of (change_at (b ∷ around) t) (λ w. true_false (is_quiet b) (change_parent around b t w) q)) xs)
+loud_last : (ancestors : List Tag) (b : Tag) → is_quiet b ≡ false → (xs : Nodes) → only_last (change_at (b ∷ ancestors)) xs ≡ true
+loud_last ancestors b q xs =
+    last_none (change_at (b ∷ ancestors)) xs (some_never (change_at (b ∷ ancestors)) (λ t. false_of (change_at (b ∷ ancestors) t) (λ w. true_false (is_quiet b) (change_parent ancestors b t w) q)) xs)
 
 shut_head : (a : Tag) (old : List Tag) → is_quiet a ≡ true → is_open (a ∷ old) ≡ false
 shut_head a old q = rw q refl
@@ -272,8 +273,8 @@ from_change old new c n a b l e = at (change_came old new a b c l e)
     at (inl s) = s
     at (inr s) = absurd (true_false (below_change old) s n)
 
-from_props : (around : List Tag) → From (λ t. is_some (prop_of t)) (change_at around)
-from_props around a b l e = ap is_some (sym (like_prop a b l)) ∙ change_name around b e
+from_props : (ancestors : List Tag) → From (λ t. is_some (prop_of t)) (change_at ancestors)
+from_props ancestors a b l e = ap is_some (sym (like_prop a b l)) ∙ change_name ancestors b e
 
 stays_4 : (ext : Test) → (says : List Say) (old new : List Tag) (a b : Tag) (kids : Nodes) → Came old new → Para old new a → Holds ext old a kids → Ground ext (a ∷ old) kids → Like a b →
     only_last (change_at (b ∷ new)) (made says old a kids) ≡ true
@@ -320,26 +321,26 @@ kept_4 ext says = record {
 -- RULE 5
 
 -- the parts of rule 5
-pub record Rule5 (around : List Tag) (tag : Tag) (kids : Nodes) : Type 0 where
-  pub para : (is "pPr" tag && within ("p" ∷ []) around) ≡ true → once "rPr" kids ≡ true
-  pub mark : in_mark_props (tag ∷ around) ≡ true → each_once ("ins" ∷ "del" ∷ "moveFrom" ∷ "moveTo" ∷ []) kids ≡ true
-  pub row : in_row_props (tag ∷ around) ≡ true → each_once ("ins" ∷ "del" ∷ []) kids ≡ true
-  pub cell : in_cell_props (tag ∷ around) ≡ true → each_once ("cellIns" ∷ "cellDel" ∷ []) kids ≡ true
+pub record Rule5 (ancestors : List Tag) (tag : Tag) (kids : Nodes) : Type 0 where
+  pub para : (is "pPr" tag && within ("p" ∷ []) ancestors) ≡ true → once "rPr" kids ≡ true
+  pub mark : in_mark_props (tag ∷ ancestors) ≡ true → each_once ("ins" ∷ "del" ∷ "moveFrom" ∷ "moveTo" ∷ []) kids ≡ true
+  pub row : in_row_props (tag ∷ ancestors) ≡ true → each_once ("ins" ∷ "del" ∷ []) kids ≡ true
+  pub cell : in_cell_props (tag ∷ ancestors) ≡ true → each_once ("cellIns" ∷ "cellDel" ∷ []) kids ≡ true
 
-pub rule_5_of : (around : List Tag) (tag : Tag) (kids : Nodes) → test_5 around tag kids ≡ true → Rule5 around tag kids
-rule_5_of around tag kids e =
+pub rule_5_of : (ancestors : List Tag) (tag : Tag) (kids : Nodes) → test_5 ancestors tag kids ≡ true → Rule5 ancestors tag kids
+rule_5_of ancestors tag kids e =
     let a = and_parts _ _ e in
     let b = and_parts _ _ a.0 in
     let c = and_parts _ _ b.0 in
     record { para = λ h. implies_of _ _ c.0 h; mark = λ h. implies_of _ _ c.1 h; row = λ h. implies_of _ _ b.1 h; cell = λ h. implies_of _ _ a.1 h }
 
-pub rule_5_from : (around : List Tag) (tag : Tag) (kids : Nodes) → Rule5 around tag kids → test_5 around tag kids ≡ true
-rule_5_from around tag kids r =
+pub rule_5_from : (ancestors : List Tag) (tag : Tag) (kids : Nodes) → Rule5 ancestors tag kids → test_5 ancestors tag kids ≡ true
+rule_5_from ancestors tag kids r =
     and_from _ _ (and_from _ _ (and_from _ _
-    (implies_from (is "pPr" tag && within ("p" ∷ []) around) (once "rPr" kids) r.para)
-    (implies_from (in_mark_props (tag ∷ around)) (each_once ("ins" ∷ "del" ∷ "moveFrom" ∷ "moveTo" ∷ []) kids) r.mark))
-    (implies_from (in_row_props (tag ∷ around)) (each_once ("ins" ∷ "del" ∷ []) kids) r.row))
-    (implies_from (in_cell_props (tag ∷ around)) (each_once ("cellIns" ∷ "cellDel" ∷ []) kids) r.cell)
+    (implies_from (is "pPr" tag && within ("p" ∷ []) ancestors) (once "rPr" kids) r.para)
+    (implies_from (in_mark_props (tag ∷ ancestors)) (each_once ("ins" ∷ "del" ∷ "moveFrom" ∷ "moveTo" ∷ []) kids) r.mark))
+    (implies_from (in_row_props (tag ∷ ancestors)) (each_once ("ins" ∷ "del" ∷ []) kids) r.row))
+    (implies_from (in_cell_props (tag ∷ ancestors)) (each_once ("cellIns" ∷ "cellDel" ∷ []) kids) r.cell)
 
 count_if : (name : String) (c b : Bool) (t : Tag) (k x : Nodes) (n : ℕ) → is name t ≡ b → count_named name x ≤ n →
     count_named name (if c then element t k x else x) ≤ add_if b n
@@ -474,27 +475,27 @@ each_less (n ∷ ns) xs ys h e =
     let both = and_parts (once n xs) (each_once ns xs) e in
     and_from _ _ (once_less n xs ys h.0 both.0) (each_less ns xs ys h.1 both.1)
 
-shut_within : (name : String) → ((t : Tag) → is name t ≡ true → is_quiet t ≡ false) → (around : List Tag) → is_open around ≡ false → within (name ∷ []) around ≡ false
+shut_within : (name : String) → ((t : Tag) → is name t ≡ true → is_quiet t ≡ false) → (ancestors : List Tag) → is_open ancestors ≡ false → within (name ∷ []) ancestors ≡ false
 shut_within name h [] e = refl
-shut_within name h (t ∷ around) e =
-    false_of (is name t && is_open around) (λ w.
-    let both = and_parts (is name t) (is_open around) w in
-    true≢false (sym (open_∷ t around (h t both.0) ∙ both.1) ∙ e))
+shut_within name h (t ∷ ancestors) e =
+    false_of (is name t && is_open ancestors) (λ w.
+    let both = and_parts (is name t) (is_open ancestors) w in
+    true≢false (sym (open_∷ t ancestors (h t both.0) ∙ both.1) ∙ e))
 
 head_change : {X : Type 0} (name : String) (old : List Tag) (a : Tag) → is name a ≡ true → ((t : Tag) → is_some (prop_of t) ≡ true → is name t ≡ false) → is_change (role old a) ≡ true → X
 head_change name old a e h r = absurd (true_false (is name a) e (h a (change_name old a r)))
 
-no_five : (around : List Tag) (a : Tag) (kids : Nodes) → is "pPr" a ≡ false → is "rPr" a ≡ false → is "trPr" a ≡ false → is "tcPr" a ≡ false → Rule5 around a kids
-no_five around a kids p q r t = record {
-  para = λ o. absurd (true_false (is "pPr" a) (and_parts (is "pPr" a) (within ("p" ∷ []) around) o).0 p);
-  mark = λ o. absurd (true_false (is "rPr" a) (and_parts (is "rPr" a) (within ("pPr" ∷ "p" ∷ []) around) o).0 q);
-  row = λ o. absurd (true_false (is "trPr" a) (and_parts (is "trPr" a) (within ("tr" ∷ []) around) o).0 r);
-  cell = λ o. absurd (true_false (is "tcPr" a) (and_parts (is "tcPr" a) (within ("tc" ∷ []) around) o).0 t);
+no_five : (ancestors : List Tag) (a : Tag) (kids : Nodes) → is "pPr" a ≡ false → is "rPr" a ≡ false → is "trPr" a ≡ false → is "tcPr" a ≡ false → Rule5 ancestors a kids
+no_five ancestors a kids p q r t = record {
+  para = λ o. absurd (true_false (is "pPr" a) (and_parts (is "pPr" a) (within ("p" ∷ []) ancestors) o).0 p);
+  mark = λ o. absurd (true_false (is "rPr" a) (and_parts (is "rPr" a) (within ("pPr" ∷ "p" ∷ []) ancestors) o).0 q);
+  row = λ o. absurd (true_false (is "trPr" a) (and_parts (is "trPr" a) (within ("tr" ∷ []) ancestors) o).0 r);
+  cell = λ o. absurd (true_false (is "tcPr" a) (and_parts (is "tcPr" a) (within ("tc" ∷ []) ancestors) o).0 t);
 }
 
-p_five : (around : List Tag) (a : Tag) (kids : Nodes) → is "p" a ≡ true → Rule5 around a kids
-p_five around a kids e =
-    no_five around a kids (by_name (λ t. is "pPr" t ≡ false) "p" a e refl) (by_name (λ t. is "rPr" t ≡ false) "p" a e refl)
+p_five : (ancestors : List Tag) (a : Tag) (kids : Nodes) → is "p" a ≡ true → Rule5 ancestors a kids
+p_five ancestors a kids e =
+    no_five ancestors a kids (by_name (λ t. is "pPr" t ≡ false) "p" a e refl) (by_name (λ t. is "rPr" t ≡ false) "p" a e refl)
     (by_name (λ t. is "trPr" t ≡ false) "p" a e refl) (by_name (λ t. is "tcPr" t ≡ false) "p" a e refl)
 
 stood_or_not : {X : Type 0} (old : List Tag) (a : Tag) (b : Bool) → Stood (a ∷ old) b → (b ≡ true → X) → (is_change (role old a) ≡ true → X) → (below_change old ≡ true → X) → X

@@ -13,7 +13,8 @@ use Rattle.redl_tree.specs.Decisions.Fates.{fate, fate_of, say_of, renamed}
 use Rattle.redl_tree.specs.Decisions.Restored.{after_change}
 use Rattle.redl_tree.specs.Decisions.Tables.{own, has_own, cell_is_cut, row_is_cut, row_goes, cells_go, all_of_some, goes, goes_at}
 use Rattle.redl_tree.specs.Decisions.Pass.{by_fate, kept_kids, element_pass, pass}
-use Rattle.redl_tree.specs.Rules.Sound.{Test, open_one, test_2}
+use Rattle.redl_tree.specs.Rules.Tests.{Test, open_one}
+use Rattle.redl_tree.specs.Rules.Sound.{test_2}
 use Rattle.redl_tree.specs.declared.lists.Reach.{Reach}
 use Rattle.redl_tree.specs.declared.lists.Reach.TheVariants.{Direct, Control, Beyond}
 use Rattle.redl_tree.specs.declared.lists.Lot.TheVariants.{Cells}
@@ -77,20 +78,20 @@ full_right [] ys e = e
 full_right (x ∷ xs) ys e = refl
 
 -- An element among the content that is no revision and doesn't go stays.
-pub plain_stays : (ext : Test) → (says : List Say) (around : List Tag) (a : Tag) (kids passed : Nodes) → is_open around ≡ true → Fits around a → is_quiet a ≡ false → Ground ext (a ∷ around) kids →
-    is_some (trace_of a) ≡ false → is_range_edge a ≡ false → goes_at says around a kids ≡ false →
-    element_pass says around a kids passed ≡ element (renamed says around a) passed no_nodes
-plain_stays ext says around a kids passed o fit q g t e w = of_kind (open_fits around a o fit)
+pub plain_stays : (ext : Test) → (says : List Say) (ancestors : List Tag) (a : Tag) (kids passed : Nodes) → is_open ancestors ≡ true → Fits ancestors a → is_quiet a ≡ false → Ground ext (a ∷ ancestors) kids →
+    is_some (trace_of a) ≡ false → is_range_edge a ≡ false → goes_at says ancestors a kids ≡ false →
+    element_pass says ancestors a kids passed ≡ element (renamed says ancestors a) passed no_nodes
+plain_stays ext says ancestors a kids passed o fit q g t e w = of_kind (open_fits ancestors a o fit)
   where
     stays : (f : Fate) (ic gone : Bool) (x y : Nodes) → f ≡ Leave → gone ≡ false → by_fate f ic x (if gone then no_nodes else y) ≡ y
     stays f ic gone x y p r = rw (p, r) refl
 
-    of_plain : a.kind ≡ Plain → element_pass says around a kids passed ≡ element (renamed says around a) passed no_nodes
+    of_plain : a.kind ≡ Plain → element_pass says ancestors a kids passed ≡ element (renamed says ancestors a) passed no_nodes
     of_plain k =
-        stays (fate_of says a) (is_content a.kind) (goes_at says around a kids) passed (element (renamed says around a) (kept_kids says around a kids passed) no_nodes) (ap (λ x. fate x (say_of says a.rev)) k) w
-        ∙ ap (λ u. element (renamed says around a) (after_change around a u passed) no_nodes) (open_none_rejected says (a ∷ around) kids (open_∷ a around q ∙ o) (fits_of ext (a ∷ around) kids g))
+        stays (fate_of says a) (is_content a.kind) (goes_at says ancestors a kids) passed (element (renamed says ancestors a) (kept_kids says ancestors a kids passed) no_nodes) (ap (λ x. fate x (say_of says a.rev)) k) w
+        ∙ ap (λ u. element (renamed says ancestors a) (after_change ancestors a u passed) no_nodes) (open_none_rejected says (a ∷ ancestors) kids (open_∷ a ancestors q ∙ o) (fits_of ext (a ∷ ancestors) kids g))
 
-    of_kind : OpenKind a → element_pass says around a kids passed ≡ element (renamed says around a) passed no_nodes
+    of_kind : OpenKind a → element_pass says ancestors a kids passed ≡ element (renamed says ancestors a) passed no_nodes
     of_kind (plain k h) = of_plain k
     of_kind (content tr k h) = absurd (true≢false (sym (ap is_some h) ∙ t))
     of_kind (marker k h) = absurd (true_false (is_range_edge a) h e)
@@ -100,12 +101,12 @@ own_one name reach t kids = refl
 
 -- among cells, at a reach
 abbrev AtCells : Reach → List Tag → Type 0
-AtCells reach around = (place around ≡ record { lot = Cells; reach = reach }) × (is_open around ≡ true)
+AtCells reach ancestors = (place ancestors ≡ record { lot = Cells; reach = reach }) × (is_open ancestors ≡ true)
 
-cells_blocks : (reach : Reach) (around : List Tag) → AtCells reach around → in_blocks around ≡ false
-cells_blocks Direct around h = rw h.0 refl
-cells_blocks Control around h = rw h.0 refl
-cells_blocks Beyond around h = rw h.0 refl
+cells_blocks : (reach : Reach) (ancestors : List Tag) → AtCells reach ancestors → in_blocks ancestors ≡ false
+cells_blocks Direct ancestors h = rw h.0 refl
+cells_blocks Control ancestors h = rw h.0 refl
+cells_blocks Beyond ancestors h = rw h.0 refl
 
 -- the parts of a shell round cells
 data Part_of : Reach → Tag → Reach → Type 0 where
@@ -129,83 +130,83 @@ part_of Control a = at (is "sdtContent" a) refl
 part_of Beyond a = none_in Beyond a
 
 -- what is needed of a part of a shell
-record ShellPart (says : List Say) (around : List Tag) (a : Tag) (kids : Nodes) (reach inner : Reach) : Type 0 where
+record ShellPart (says : List Say) (ancestors : List Tag) (a : Tag) (kids : Nodes) (reach inner : Reach) : Type 0 where
   quiet : is_quiet a ≡ false
   no_trace : is_some (trace_of a) ≡ false
   no_edge : is_range_edge a ≡ false
   no_cell : is "tc" a ≡ false
   no_para : is "p" a ≡ false
-  stays : list_all (cell_is_cut says) (own "tc" inner kids) ≡ false → goes_at says around a kids ≡ false
-  inside : AtCells inner (a ∷ around)
+  stays : list_all (cell_is_cut says) (own "tc" inner kids) ≡ false → goes_at says ancestors a kids ≡ false
+  inside : AtCells inner (a ∷ ancestors)
 
 not_all_some : {X : Type 0} (test : X → Bool) (xs : List X) → list_all test xs ≡ false → all_of_some test xs ≡ false
 not_all_some test [] e = refl
 not_all_some test (x ∷ xs) e = e
 
-shell_goes : (says : List Say) (around : List Tag) (a : Tag) (kids : Nodes) (x : Reach) → in_cells around ≡ true → is "tc" a ≡ false → is "tr" a ≡ false → is "tbl" a ≡ false → into Direct a ≡ x →
-    list_all (cell_is_cut says) (own "tc" x kids) ≡ false → goes_at says around a kids ≡ false
-shell_goes says around a kids x c p q r e h =
-    and_no (is "tc" a || is "tr" a || is "tbl" a || is_shell around a) (goes says (in_cells around) a kids)
+shell_goes : (says : List Say) (ancestors : List Tag) (a : Tag) (kids : Nodes) (x : Reach) → in_cells ancestors ≡ true → is "tc" a ≡ false → is "tr" a ≡ false → is "tbl" a ≡ false → into Direct a ≡ x →
+    list_all (cell_is_cut says) (own "tc" x kids) ≡ false → goes_at says ancestors a kids ≡ false
+shell_goes says ancestors a kids x c p q r e h =
+    and_no (is "tc" a || is "tr" a || is "tbl" a || is_shell ancestors a) (goes says (in_cells ancestors) a kids)
     (rw (p, q, r, c, e) (not_all_some (cell_is_cut says) (own "tc" x kids) h))
 
-shell_part : (says : List Say) (around : List Tag) (a : Tag) (kids : Nodes) (reach inner : Reach) → AtCells reach around → Part_of reach a inner → list_all (cell_is_cut says) (own "tc" inner kids) ≡ false →
-    ShellPart says around a kids reach inner
-shell_part says around a kids reach inner h (control_in a2 e) all = record {
+shell_part : (says : List Say) (ancestors : List Tag) (a : Tag) (kids : Nodes) (reach inner : Reach) → AtCells reach ancestors → Part_of reach a inner → list_all (cell_is_cut says) (own "tc" inner kids) ≡ false →
+    ShellPart says ancestors a kids reach inner
+shell_part says ancestors a kids reach inner h (control_in a2 e) all = record {
   quiet = by_name (λ t. is_quiet t ≡ false) "sdt" a e refl;
   no_trace = by_name (λ t. is_some (trace_of t) ≡ false) "sdt" a e refl;
   no_edge = by_name (λ t. is_range_edge t ≡ false) "sdt" a e refl;
   no_cell = by_name (λ t. is "tc" t ≡ false) "sdt" a e refl;
   no_para = by_name (λ t. is "p" t ≡ false) "sdt" a e refl;
-  stays = λ x. shell_goes says around a kids Control (rw h.0 refl) (by_name (λ t. is "tc" t ≡ false) "sdt" a e refl) (by_name (λ t. is "tr" t ≡ false) "sdt" a e refl) (by_name (λ t. is "tbl" t ≡ false) "sdt" a e refl) (by_name (λ t. into Direct t ≡ Control) "sdt" a e refl) x;
+  stays = λ x. shell_goes says ancestors a kids Control (rw h.0 refl) (by_name (λ t. is "tc" t ≡ false) "sdt" a e refl) (by_name (λ t. is "tr" t ≡ false) "sdt" a e refl) (by_name (λ t. is "tbl" t ≡ false) "sdt" a e refl) (by_name (λ t. into Direct t ≡ Control) "sdt" a e refl) x;
   inside = (
-    rw (open_∷ a around (by_name (λ t. is_quiet t ≡ false) "sdt" a e refl) ∙ h.1, h.0) (by_name (λ t. inside t (record { lot = Cells; reach = Direct }) ≡ record { lot = Cells; reach = Control }) "sdt" a e refl),
-    open_∷ a around (by_name (λ t. is_quiet t ≡ false) "sdt" a e refl) ∙ h.1,
+    rw (open_∷ a ancestors (by_name (λ t. is_quiet t ≡ false) "sdt" a e refl) ∙ h.1, h.0) (by_name (λ t. inside t (record { lot = Cells; reach = Direct }) ≡ record { lot = Cells; reach = Control }) "sdt" a e refl),
+    open_∷ a ancestors (by_name (λ t. is_quiet t ≡ false) "sdt" a e refl) ∙ h.1,
   );
 }
-shell_part says around a kids reach inner h (custom_in a2 e) all = record {
+shell_part says ancestors a kids reach inner h (custom_in a2 e) all = record {
   quiet = by_name (λ t. is_quiet t ≡ false) "customXml" a e refl;
   no_trace = by_name (λ t. is_some (trace_of t) ≡ false) "customXml" a e refl;
   no_edge = by_name (λ t. is_range_edge t ≡ false) "customXml" a e refl;
   no_cell = by_name (λ t. is "tc" t ≡ false) "customXml" a e refl;
   no_para = by_name (λ t. is "p" t ≡ false) "customXml" a e refl;
-  stays = λ x. shell_goes says around a kids Direct (rw h.0 refl) (by_name (λ t. is "tc" t ≡ false) "customXml" a e refl) (by_name (λ t. is "tr" t ≡ false) "customXml" a e refl) (by_name (λ t. is "tbl" t ≡ false) "customXml" a e refl) (by_name (λ t. into Direct t ≡ Direct) "customXml" a e refl) x;
+  stays = λ x. shell_goes says ancestors a kids Direct (rw h.0 refl) (by_name (λ t. is "tc" t ≡ false) "customXml" a e refl) (by_name (λ t. is "tr" t ≡ false) "customXml" a e refl) (by_name (λ t. is "tbl" t ≡ false) "customXml" a e refl) (by_name (λ t. into Direct t ≡ Direct) "customXml" a e refl) x;
   inside = (
-    rw (open_∷ a around (by_name (λ t. is_quiet t ≡ false) "customXml" a e refl) ∙ h.1, h.0) (by_name (λ t. inside t (record { lot = Cells; reach = Direct }) ≡ record { lot = Cells; reach = Direct }) "customXml" a e refl),
-    open_∷ a around (by_name (λ t. is_quiet t ≡ false) "customXml" a e refl) ∙ h.1,
+    rw (open_∷ a ancestors (by_name (λ t. is_quiet t ≡ false) "customXml" a e refl) ∙ h.1, h.0) (by_name (λ t. inside t (record { lot = Cells; reach = Direct }) ≡ record { lot = Cells; reach = Direct }) "customXml" a e refl),
+    open_∷ a ancestors (by_name (λ t. is_quiet t ≡ false) "customXml" a e refl) ∙ h.1,
   );
 }
-shell_part says around a kids reach inner h (content_in a2 e) all = record {
+shell_part says ancestors a kids reach inner h (content_in a2 e) all = record {
   quiet = by_name (λ t. is_quiet t ≡ false) "sdtContent" a e refl;
   no_trace = by_name (λ t. is_some (trace_of t) ≡ false) "sdtContent" a e refl;
   no_edge = by_name (λ t. is_range_edge t ≡ false) "sdtContent" a e refl;
   no_cell = by_name (λ t. is "tc" t ≡ false) "sdtContent" a e refl;
   no_para = by_name (λ t. is "p" t ≡ false) "sdtContent" a e refl;
-  stays = λ x. by_name (λ t. goes_at says around t kids ≡ false) "sdtContent" a e refl;
+  stays = λ x. by_name (λ t. goes_at says ancestors t kids ≡ false) "sdtContent" a e refl;
   inside = (
-    rw (open_∷ a around (by_name (λ t. is_quiet t ≡ false) "sdtContent" a e refl) ∙ h.1, h.0) (by_name (λ t. inside t (record { lot = Cells; reach = Control }) ≡ record { lot = Cells; reach = Direct }) "sdtContent" a e refl),
-    open_∷ a around (by_name (λ t. is_quiet t ≡ false) "sdtContent" a e refl) ∙ h.1,
+    rw (open_∷ a ancestors (by_name (λ t. is_quiet t ≡ false) "sdtContent" a e refl) ∙ h.1, h.0) (by_name (λ t. inside t (record { lot = Cells; reach = Control }) ≡ record { lot = Cells; reach = Direct }) "sdtContent" a e refl),
+    open_∷ a ancestors (by_name (λ t. is_quiet t ≡ false) "sdtContent" a e refl) ∙ h.1,
   );
 }
-shell_part says around a kids reach inner h (none_in r2 a2) all = absurd (true≢false (ap (list_all (cell_is_cut says)) (sym (own_beyond "tc" kids)) ∙ all))
+shell_part says ancestors a kids reach inner h (none_in r2 a2) all = absurd (true≢false (ap (list_all (cell_is_cut says)) (sym (own_beyond "tc" kids)) ∙ all))
 
 -- one element of such a list leaves a cell that stays
-cell_left : (ext : Test) → (says : List Say) (around : List Tag) (a : Tag) (kids : Nodes) → is_open around ≡ true → Fits around a → Ground ext (a ∷ around) kids → is "tc" a ≡ true → cell_is_cut says kids ≡ false → (passed : Nodes) →
-    is_empty (own "tc" Direct (element_pass says around a kids passed)) ≡ false
-cell_left ext says around a kids o fit g e c passed =
+cell_left : (ext : Test) → (says : List Say) (ancestors : List Tag) (a : Tag) (kids : Nodes) → is_open ancestors ≡ true → Fits ancestors a → Ground ext (a ∷ ancestors) kids → is "tc" a ≡ true → cell_is_cut says kids ≡ false → (passed : Nodes) →
+    is_empty (own "tc" Direct (element_pass says ancestors a kids passed)) ≡ false
+cell_left ext says ancestors a kids o fit g e c passed =
     ap (λ n. is_empty (own "tc" Direct n))
-    (plain_stays ext says around a kids passed o fit (by_name (λ t. is_quiet t ≡ false) "tc" a e refl) g
+    (plain_stays ext says ancestors a kids passed o fit (by_name (λ t. is_quiet t ≡ false) "tc" a e refl) g
     (by_name (λ t. is_some (trace_of t) ≡ false) "tc" a e refl) (by_name (λ t. is_range_edge t ≡ false) "tc" a e refl) (cell_goes_not a e c))
-    ∙ ap is_empty (own_one "tc" Direct (renamed says around a) passed)
-    ∙ here (is "tc" (renamed says around a)) ((own_renamed says around a).like.name "tc" refl ∙ e)
+    ∙ ap is_empty (own_one "tc" Direct (renamed says ancestors a) passed)
+    ∙ here (is "tc" (renamed says ancestors a)) ((own_renamed says ancestors a).like.name "tc" refl ∙ e)
   where
     goes_not : (x g : Bool) → g ≡ false → (x && g) ≡ false
     goes_not true g e = e
     goes_not false g e = refl
 
-    cell_goes_not : (a : Tag) → is "tc" a ≡ true → cell_is_cut says kids ≡ false → goes_at says around a kids ≡ false
-    cell_goes_not a e c = goes_not (is "tc" a || is "tr" a || is "tbl" a || is_shell around a) (goes says (in_cells around) a kids) (rw e c)
+    cell_goes_not : (a : Tag) → is "tc" a ≡ true → cell_is_cut says kids ≡ false → goes_at says ancestors a kids ≡ false
+    cell_goes_not a e c = goes_not (is "tc" a || is "tr" a || is "tbl" a || is_shell ancestors a) (goes says (in_cells ancestors) a kids) (rw e c)
 
-    here : (b : Bool) → b ≡ true → is_empty ((if b then passed ∷ [] else own "tc" (into Direct (renamed says around a)) passed) ++ []) ≡ false
+    here : (b : Bool) → b ≡ true → is_empty ((if b then passed ∷ [] else own "tc" (into Direct (renamed says ancestors a)) passed) ++ []) ≡ false
     here true h = refl
     here false h = absurd (true≢false (sym h))
 
@@ -213,48 +214,48 @@ if_first : (b : Bool) (x y : List Nodes) → b ≡ false → (if b then x else y
 if_first true x y e = absurd (true≢false e)
 if_first false x y e = refl
 
-shell_left : (ext : Test) → (says : List Say) (around : List Tag) (a : Tag) (kids passed : Nodes) (reach inner : Reach) → is_open around ≡ true → Fits around a → Ground ext (a ∷ around) kids → ShellPart says around a kids reach inner → into reach a ≡ inner →
-    list_all (cell_is_cut says) (own "tc" inner kids) ≡ false → is_empty (own "tc" inner passed) ≡ false → is_empty (own "tc" reach (element_pass says around a kids passed)) ≡ false
-shell_left ext says around a kids passed reach inner o fit g sp e all full =
-    let t = renamed says around a in
-    let l = (own_renamed says around a).like in
-    ap (λ n. is_empty (own "tc" reach n)) (plain_stays ext says around a kids passed o fit sp.quiet g sp.no_trace sp.no_edge (sp.stays all))
+shell_left : (ext : Test) → (says : List Say) (ancestors : List Tag) (a : Tag) (kids passed : Nodes) (reach inner : Reach) → is_open ancestors ≡ true → Fits ancestors a → Ground ext (a ∷ ancestors) kids → ShellPart says ancestors a kids reach inner → into reach a ≡ inner →
+    list_all (cell_is_cut says) (own "tc" inner kids) ≡ false → is_empty (own "tc" inner passed) ≡ false → is_empty (own "tc" reach (element_pass says ancestors a kids passed)) ≡ false
+shell_left ext says ancestors a kids passed reach inner o fit g sp e all full =
+    let t = renamed says ancestors a in
+    let l = (own_renamed says ancestors a).like in
+    ap (λ n. is_empty (own "tc" reach n)) (plain_stays ext says ancestors a kids passed o fit sp.quiet g sp.no_trace sp.no_edge (sp.stays all))
     ∙ ap is_empty (own_one "tc" reach t passed)
     ∙ ap (λ x. is_empty (x ++ [])) (if_first (is_direct reach && is "tc" t) (passed ∷ []) (own "tc" (into reach t) passed) (and_no (is_direct reach) (is "tc" t) (l.name "tc" refl ∙ sp.no_cell)))
     ∙ ap (λ r. is_empty (own "tc" r passed ++ [])) (like_into reach a t l ∙ e)
     ∙ full_left (own "tc" inner passed) [] full
 
 abbrev first_of : List Say → List Tag → Tag → Nodes → Nodes
-first_of says around a kids = element_pass says around a kids (pass says (a ∷ around) kids)
+first_of says ancestors a kids = element_pass says ancestors a kids (pass says (a ∷ ancestors) kids)
 
 and_true : (b : Bool) → (b && true) ≡ false → b ≡ false
 and_true true e = e
 and_true false e = refl
 
-first_left : (ext : Test) → (says : List Say) (around : List Tag) (a : Tag) (kids : Nodes) (reach : Reach) → AtCells reach around → Fits around a → Ground ext (a ∷ around) kids → (b : Bool) → (is_direct reach && is "tc" a) ≡ b →
+first_left : (ext : Test) → (says : List Say) (ancestors : List Tag) (a : Tag) (kids : Nodes) (reach : Reach) → AtCells reach ancestors → Fits ancestors a → Ground ext (a ∷ ancestors) kids → (b : Bool) → (is_direct reach && is "tc" a) ≡ b →
     list_all (cell_is_cut says) (if b then kids ∷ [] else own "tc" (into reach a) kids) ≡ false →
-    (AtCells (into reach a) (a ∷ around) → list_all (cell_is_cut says) (own "tc" (into reach a) kids) ≡ false → is_empty (own "tc" (into reach a) (each says (a ∷ around) kids)) ≡ false) →
-    is_empty (own "tc" reach (first_of says around a kids)) ≡ false
-first_left ext says around a kids Direct h fit g true w x ih =
-    cell_left ext says around a kids h.1 fit g w (and_true (cell_is_cut says kids) x) (pass says (a ∷ around) kids)
-first_left ext says around a kids Control h fit g true w x ih = absurd (true≢false (sym w))
-first_left ext says around a kids Beyond h fit g true w x ih = absurd (true≢false (sym w))
-first_left ext says around a kids reach h fit g false w x ih =
-    let sp = shell_part says around a kids reach (into reach a) h (part_of reach a) x in
-    shell_left ext says around a kids (pass says (a ∷ around) kids) reach (into reach a) h.1 fit g sp refl x
-    (ap (λ n. is_empty (own "tc" (into reach a) n)) (pass-each says (a ∷ around) kids (cells_blocks (into reach a) (a ∷ around) sp.inside)) ∙ ih sp.inside x)
+    (AtCells (into reach a) (a ∷ ancestors) → list_all (cell_is_cut says) (own "tc" (into reach a) kids) ≡ false → is_empty (own "tc" (into reach a) (each says (a ∷ ancestors) kids)) ≡ false) →
+    is_empty (own "tc" reach (first_of says ancestors a kids)) ≡ false
+first_left ext says ancestors a kids Direct h fit g true w x ih =
+    cell_left ext says ancestors a kids h.1 fit g w (and_true (cell_is_cut says kids) x) (pass says (a ∷ ancestors) kids)
+first_left ext says ancestors a kids Control h fit g true w x ih = absurd (true≢false (sym w))
+first_left ext says ancestors a kids Beyond h fit g true w x ih = absurd (true≢false (sym w))
+first_left ext says ancestors a kids reach h fit g false w x ih =
+    let sp = shell_part says ancestors a kids reach (into reach a) h (part_of reach a) x in
+    shell_left ext says ancestors a kids (pass says (a ∷ ancestors) kids) reach (into reach a) h.1 fit g sp refl x
+    (ap (λ n. is_empty (own "tc" (into reach a) n)) (pass-each says (a ∷ ancestors) kids (cells_blocks (into reach a) (a ∷ ancestors) sp.inside)) ∙ ih sp.inside x)
 
 -- where a cell isn't cut, a cell is left
-cells_left : (ext : Test) → (says : List Say) (around : List Tag) (reach : Reach) (nodes : Nodes) → AtCells reach around → Ground ext around nodes → list_all (cell_is_cut says) (own "tc" reach nodes) ≡ false →
-    is_empty (own "tc" reach (each says around nodes)) ≡ false
-cells_left ext says around reach no_nodes h g e = absurd (true≢false e)
-cells_left ext says around reach (bytes b rest) h g e = cells_left ext says around reach rest h g e
-cells_left ext says around reach (element a kids rest) h g e =
-    ap is_empty (own-⊕ "tc" reach (first_of says around a kids) (each says around rest))
+cells_left : (ext : Test) → (says : List Say) (ancestors : List Tag) (reach : Reach) (nodes : Nodes) → AtCells reach ancestors → Ground ext ancestors nodes → list_all (cell_is_cut says) (own "tc" reach nodes) ≡ false →
+    is_empty (own "tc" reach (each says ancestors nodes)) ≡ false
+cells_left ext says ancestors reach no_nodes h g e = absurd (true≢false e)
+cells_left ext says ancestors reach (bytes b rest) h g e = cells_left ext says ancestors reach rest h g e
+cells_left ext says ancestors reach (element a kids rest) h g e =
+    ap is_empty (own-⊕ "tc" reach (first_of says ancestors a kids) (each says ancestors rest))
     ∙ ⊎_elim
-    (λ x. full_left (own "tc" reach (first_of says around a kids)) (own "tc" reach (each says around rest))
-    (first_left ext says around a kids reach h g.0.fits g.1 (is_direct reach && is "tc" a) refl x (λ w y. cells_left ext says (a ∷ around) (into reach a) kids w g.1 y)))
-    (λ x. full_right (own "tc" reach (first_of says around a kids)) (own "tc" reach (each says around rest)) (cells_left ext says around reach rest h g.2 x))
+    (λ x. full_left (own "tc" reach (first_of says ancestors a kids)) (own "tc" reach (each says ancestors rest))
+    (first_left ext says ancestors a kids reach h g.0.fits g.1 (is_direct reach && is "tc" a) refl x (λ w y. cells_left ext says (a ∷ ancestors) (into reach a) kids w g.1 y)))
+    (λ x. full_right (own "tc" reach (first_of says ancestors a kids)) (own "tc" reach (each says ancestors rest)) (cells_left ext says ancestors reach rest h g.2 x))
     (all-++ (cell_is_cut says) (if is_direct reach && is "tc" a then kids ∷ [] else own "tc" (into reach a) kids) (own "tc" reach rest) e)
 
 -- RULE 2

@@ -8,7 +8,8 @@ use Rattle.redl_tree.specs.Roles.Places.{is_open, is_range_edge, trace_of, prop_
 use Rattle.redl_tree.specs.Roles.Kinds.{is_content, is_change}
 use Rattle.redl_tree.specs.Decisions.Restored.{rejected, after_change}
 use Rattle.redl_tree.specs.Decisions.Pass.{pieces, pass}
-use Rattle.redl_tree.specs.Rules.Sound.{Test, everywhere, open_one, is_marker, former_declares, change_declares, below_change, test_7, test_8, test_9}
+use Rattle.redl_tree.specs.Rules.Tests.{Test, everywhere, open_one}
+use Rattle.redl_tree.specs.Rules.Sound.{is_marker, former_declares, change_declares, below_change, test_7, test_8, test_9}
 use Rattle.redl_tree.specs.declared.kinds.Say.{Say}
 use Rattle.redl_tree.specs.declared.kinds.Prop.{Prop}
 use Rattle.redl_tree.specs.declared.kinds.Kind.{Kind}
@@ -43,22 +44,22 @@ kept_8 ext says = record {
 -- RULE 7
 
 abbrev never : Test
-never around tag kids = false
+never ancestors tag kids = false
 
-never_none : (around : List Tag) (xs : Nodes) → everywhere never around xs ≡ true → has_element xs ≡ false
-never_none around no_nodes e = refl
-never_none around (bytes b rest) e = never_none around rest e
-never_none around (element tag kids rest) e = absurd (true≢false (sym e))
+never_none : (ancestors : List Tag) (xs : Nodes) → everywhere never ancestors xs ≡ true → has_element xs ≡ false
+never_none ancestors no_nodes e = refl
+never_none ancestors (bytes b rest) e = never_none ancestors rest e
+never_none ancestors (element tag kids rest) e = absurd (true≢false (sym e))
 
-bare_pieces : (says : List Say) (around new : List Tag) (xs : Nodes) → has_element xs ≡ false → GoodPieces never new (pieces says around xs)
-bare_pieces says around new no_nodes e = tt
-bare_pieces says around new (bytes b rest) e = ((refl, λ b e. refl), bare_pieces says around new rest e)
-bare_pieces says around new (element tag kids rest) e = absurd (true≢false e)
+bare_pieces : (says : List Say) (ancestors new : List Tag) (xs : Nodes) → has_element xs ≡ false → GoodPieces never new (pieces says ancestors xs)
+bare_pieces says ancestors new no_nodes e = tt
+bare_pieces says ancestors new (bytes b rest) e = ((refl, λ b e. refl), bare_pieces says ancestors new rest e)
+bare_pieces says ancestors new (element tag kids rest) e = absurd (true≢false e)
 
-bare_pass : (says : List Say) (around : List Tag) (xs : Nodes) → has_element xs ≡ false → has_element (pass says around xs) ≡ false
-bare_pass says around xs e =
-    never_none [] (pass says around xs)
-    (grouped_good never (λ new a c kids more p h none. h) [] false None (pieces says around xs) (bare_pieces says around [] xs e) tt)
+bare_pass : (says : List Say) (ancestors : List Tag) (xs : Nodes) → has_element xs ≡ false → has_element (pass says ancestors xs) ≡ false
+bare_pass says ancestors xs e =
+    never_none [] (pass says ancestors xs)
+    (grouped_good never (λ new a c kids more p h none. h) [] false None (pieces says ancestors xs) (bare_pieces says ancestors [] xs e) tt)
 
 bare_rejected : (says : List Say) (xs : Nodes) → has_element xs ≡ false → rejected says xs ≡ None
 bare_rejected says no_nodes e = refl
@@ -69,11 +70,11 @@ bare_made : (says : List Say) (old : List Tag) (a : Tag) (kids : Nodes) → has_
 bare_made says old a kids e = rw (bare_rejected says kids e) (bare_pass says (a ∷ old) kids e)
 
 module _ (has_id : List ℕ → Bool) where
-  marker_edge : (around : List Tag) (tag : Tag) → is_marker has_id around tag ≡ true → (is_open around ≡ true) × (is_range_edge tag ≡ true)
-  marker_edge around tag e = and_parts (is_open around) (is_range_edge tag) (and_parts (is_open around && is_range_edge tag) (has_id tag.tail) e).0
+  marker_edge : (ancestors : List Tag) (tag : Tag) → is_marker has_id ancestors tag ≡ true → (is_open ancestors ≡ true) × (is_range_edge tag ≡ true)
+  marker_edge ancestors tag e = and_parts (is_open ancestors) (is_range_edge tag) (and_parts (is_open ancestors && is_range_edge tag) (has_id tag.tail) e).0
 
-  p_no_marker : (around : List Tag) (a : Tag) → is "p" a ≡ true → is_marker has_id around a ≡ true → ⊥
-  p_no_marker around a e m = true_false (is_range_edge a) (marker_edge around a m).1 (by_name (λ t. is_range_edge t ≡ false) "p" a e refl)
+  p_no_marker : (ancestors : List Tag) (a : Tag) → is "p" a ≡ true → is_marker has_id ancestors a ≡ true → ⊥
+  p_no_marker ancestors a e m = true_false (is_range_edge a) (marker_edge ancestors a m).1 (by_name (λ t. is_range_edge t ≡ false) "p" a e refl)
 
   marker_came : (old new : List Tag) (a b : Tag) → Came old new → Own a b → is_marker has_id new b ≡ is_marker has_id old a
   marker_came old new a b c o = rw (came_open old new c, like_edge a b o.like, o.tail) refl
@@ -91,7 +92,7 @@ module _ (has_id : List ℕ → Bool) where
 -- RULE 9
 
 abbrev tags_decided : List Tag → Tag → Bool
-tags_decided around tag = open_one "p" around tag || is_content (role around tag) || is_change (role around tag)
+tags_decided ancestors tag = open_one "p" ancestors tag || is_content (role ancestors tag) || is_change (role ancestors tag)
 
 or3 : (x y z : Bool) (X : Type 0) → ((x || y) || z) ≡ true → (x ≡ true → X) → (y ≡ true → X) → (z ≡ true → X) → X
 or3 true y z X e f g h = f refl
@@ -123,19 +124,19 @@ p_no_change : (new : List Tag) (a : Tag) → is "p" a ≡ true → is_change (ro
 p_no_change new a e r = true_false (is_some (prop_of a)) (change_name new a r) (by_name (λ t. is_some (prop_of t) ≡ false) "p" a e refl)
 
 -- a change is one of the properties that its name tells
-role_prop : (around : List Tag) (tag : Tag) (prop : Prop) → role around tag ≡ Change prop → prop_of tag ≡ Some prop
-role_prop around tag prop e = at (prop_of tag) refl
+role_prop : (ancestors : List Tag) (tag : Tag) (prop : Prop) → role ancestors tag ≡ Change prop → prop_of tag ≡ Some prop
+role_prop ancestors tag prop e = at (prop_of tag) refl
   where
     same : (x : Bool) (p : Prop) → first_role (placed x (Some (Change p)) ∷ []) ≡ Change prop → p ≡ prop
     same true p h = cc
     same false p h = cc
 
     at : (p : Option Prop) → prop_of tag ≡ p → prop_of tag ≡ Some prop
-    at None h = absurd (true≢false (sym (ap is_change e) ∙ change_role around tag ∙ ap (at_props around) h))
-    at (Some p) h = h ∙ ap Some (same (in_props p around) p (sym (change_first around tag p h) ∙ e))
+    at None h = absurd (true≢false (sym (ap is_change e) ∙ change_role ancestors tag ∙ ap (at_props ancestors) h))
+    at (Some p) h = h ∙ ap Some (same (in_props p ancestors) p (sym (change_first ancestors tag p h) ∙ e))
 
-prop_role : (around : List Tag) (tag : Tag) (prop : Prop) → is_change (role around tag) ≡ true → prop_of tag ≡ Some prop → role around tag ≡ Change prop
-prop_role around tag prop r e = change_first around tag prop e ∙ at (in_props prop around) (sym (ap is_change (change_first around tag prop e)) ∙ r)
+prop_role : (ancestors : List Tag) (tag : Tag) (prop : Prop) → is_change (role ancestors tag) ≡ true → prop_of tag ≡ Some prop → role ancestors tag ≡ Change prop
+prop_role ancestors tag prop r e = change_first ancestors tag prop e ∙ at (in_props prop ancestors) (sym (ap is_change (change_first ancestors tag prop e)) ∙ r)
   where
     at : (x : Bool) → is_change (first_role (placed x (Some (Change prop)) ∷ [])) ≡ true → first_role (placed x (Some (Change prop)) ∷ []) ≡ Change prop
     at true h = refl

@@ -13,7 +13,8 @@ use Rattle.redl_tree.specs.Decisions.Pass.{pass}
 use Rattle.redl_tree.specs.Decisions.Packages.{is_story_root, stories, pass_package}
 use Rattle.redl_tree.specs.Revisions.Markers.{Value}
 use Rattle.redl_tree.specs.Revisions.Numbers.{IsIndexed, numbered_package}
-use Rattle.redl_tree.specs.Rules.Sound.{Test, everywhere, in_content, among_blocks, holds, tests, is_sound, test_1, test_2, test_3, test_4, test_5, test_6, test_7, test_8, test_9}
+use Rattle.redl_tree.specs.Rules.Tests.{Test, everywhere}
+use Rattle.redl_tree.specs.Rules.Sound.{in_content, among_blocks, holds, tests, is_sound, test_1, test_2, test_3, test_4, test_5, test_6, test_7, test_8, test_9}
 use Rattle.redl_tree.specs.declared.kinds.Say.{Say}
 use Rattle.redl_tree.proofs.Build.{one}
 use Rattle.redl_tree.proofs.Named.{by_names}
@@ -30,113 +31,113 @@ use Rattle.redl_tree.proofs.NumberLaws.{numbered-indexed, sound-numbered}
 
 -- Rule 3 says of a content revision what the form of the walk says of its kids.
 
-open_among : (around : List Tag) → among_blocks around ≡ true → is_open around ≡ true
-open_among around e = sym (past_open around) ∙ blocks_open (past_content around) (sym (among-past around) ∙ e)
+open_among : (ancestors : List Tag) → among_blocks ancestors ≡ true → is_open ancestors ≡ true
+open_among ancestors e = sym (past_open ancestors) ∙ blocks_open (past_content ancestors) (sym (among-past ancestors) ∙ e)
 
 -- content among blocks has no thick kid
 abbrev NoThick : List Tag → Nodes → Type 0
-NoThick around nodes = in_content around ≡ true → among_blocks around ≡ true → some_element is_thick nodes ≡ false
+NoThick ancestors nodes = in_content ancestors ≡ true → among_blocks ancestors ≡ true → some_element is_thick nodes ≡ false
 
-among_on : (tag : Tag) (around : List Tag) → is_some (trace_of tag) ≡ true → among_blocks (tag ∷ around) ≡ among_blocks around
-among_on tag around e = rw e refl
+among_on : (tag : Tag) (ancestors : List Tag) → is_some (trace_of tag) ≡ true → among_blocks (tag ∷ ancestors) ≡ among_blocks ancestors
+among_on tag ancestors e = rw e refl
 
-to_kid_3 : (around : List Tag) (nodes : Nodes) → NoThick around nodes → everywhere test_3 around nodes ≡ true → everywhere kid_3 around nodes ≡ true
-to_kid_3 around no_nodes h e = refl
-to_kid_3 around (bytes b rest) h e = to_kid_3 around rest h e
-to_kid_3 around (element tag kids rest) h e =
-    let x = and_parts (test_3 around tag kids && everywhere test_3 (tag ∷ around) kids) (everywhere test_3 around rest) e in
-    let y = and_parts (test_3 around tag kids) (everywhere test_3 (tag ∷ around) kids) x.0 in
+to_kid_3 : (ancestors : List Tag) (nodes : Nodes) → NoThick ancestors nodes → everywhere test_3 ancestors nodes ≡ true → everywhere kid_3 ancestors nodes ≡ true
+to_kid_3 ancestors no_nodes h e = refl
+to_kid_3 ancestors (bytes b rest) h e = to_kid_3 ancestors rest h e
+to_kid_3 ancestors (element tag kids rest) h e =
+    let x = and_parts (test_3 ancestors tag kids && everywhere test_3 (tag ∷ ancestors) kids) (everywhere test_3 ancestors rest) e in
+    let y = and_parts (test_3 ancestors tag kids) (everywhere test_3 (tag ∷ ancestors) kids) x.0 in
     let z = and_parts _ _ y.0 in
-    let own : kid_3 around tag kids ≡ true =
-    and_from _ _ z.0 (implies_from (is_thick tag && in_content around) (not (in_blocks (past_content around))) (λ t.
-    let both = and_parts (is_thick tag) (in_content around) t in
-    not_of (in_blocks (past_content around)) (λ b.
-    true_false (is_thick tag) both.0 (or_parts (is_thick tag) (some_element is_thick rest) (h both.1 (among-past around ∙ b))).0)))
+    let own : kid_3 ancestors tag kids ≡ true =
+    and_from _ _ z.0 (implies_from (is_thick tag && in_content ancestors) (not (in_blocks (past_content ancestors))) (λ t.
+    let both = and_parts (is_thick tag) (in_content ancestors) t in
+    not_of (in_blocks (past_content ancestors)) (λ b.
+    true_false (is_thick tag) both.0 (or_parts (is_thick tag) (some_element is_thick rest) (h both.1 (among-past ancestors ∙ b))).0)))
     in
-    and_from _ _ (and_from _ _ own (to_kid_3 (tag ∷ around) kids (λ i a.
-    let among = sym (among_on tag around i) ∙ a in
+    and_from _ _ (and_from _ _ own (to_kid_3 (tag ∷ ancestors) kids (λ i a.
+    let among = sym (among_on tag ancestors i) ∙ a in
     false_of (some_element is_thick kids) (not_to (some_element is_thick kids)
-    (implies_of _ _ z.1 (and_from (is_content (role around tag)) (among_blocks around) (content_role around tag ∙ and_from (is_open around) (is_some (trace_of tag)) (open_among around among) i) among))))
+    (implies_of _ _ z.1 (and_from (is_content (role ancestors tag)) (among_blocks ancestors) (content_role ancestors tag ∙ and_from (is_open ancestors) (is_some (trace_of tag)) (open_among ancestors among) i) among))))
     y.1))
-    (to_kid_3 around rest (λ i a. (or_parts (is_thick tag) (some_element is_thick rest) (h i a)).1) x.1)
+    (to_kid_3 ancestors rest (λ i a. (or_parts (is_thick tag) (some_element is_thick rest) (h i a)).1) x.1)
 
-no_thick : (around : List Tag) (nodes : Nodes) → everywhere kid_3 around nodes ≡ true → NoThick around nodes
-no_thick around no_nodes e i a = refl
-no_thick around (bytes b rest) e i a = no_thick around rest e i a
-no_thick around (element tag kids rest) e i a =
-    let x = and_parts (kid_3 around tag kids && everywhere kid_3 (tag ∷ around) kids) (everywhere kid_3 around rest) e in
-    let y = and_parts (kid_3 around tag kids) (everywhere kid_3 (tag ∷ around) kids) x.0 in
+no_thick : (ancestors : List Tag) (nodes : Nodes) → everywhere kid_3 ancestors nodes ≡ true → NoThick ancestors nodes
+no_thick ancestors no_nodes e i a = refl
+no_thick ancestors (bytes b rest) e i a = no_thick ancestors rest e i a
+no_thick ancestors (element tag kids rest) e i a =
+    let x = and_parts (kid_3 ancestors tag kids && everywhere kid_3 (tag ∷ ancestors) kids) (everywhere kid_3 ancestors rest) e in
+    let y = and_parts (kid_3 ancestors tag kids) (everywhere kid_3 (tag ∷ ancestors) kids) x.0 in
     or_from (is_thick tag) (some_element is_thick rest)
-    (false_of (is_thick tag) (λ t. (free3 around tag kids y.0).blocks t i (sym (among-past around) ∙ a)))
-    (no_thick around rest x.1 i a)
+    (false_of (is_thick tag) (λ t. (free3 ancestors tag kids y.0).blocks t i (sym (among-past ancestors) ∙ a)))
+    (no_thick ancestors rest x.1 i a)
 
-from_kid_3 : (around : List Tag) (nodes : Nodes) → everywhere kid_3 around nodes ≡ true → everywhere test_3 around nodes ≡ true
-from_kid_3 around no_nodes e = refl
-from_kid_3 around (bytes b rest) e = from_kid_3 around rest e
-from_kid_3 around (element tag kids rest) e =
-    let x = and_parts (kid_3 around tag kids && everywhere kid_3 (tag ∷ around) kids) (everywhere kid_3 around rest) e in
-    let y = and_parts (kid_3 around tag kids) (everywhere kid_3 (tag ∷ around) kids) x.0 in
+from_kid_3 : (ancestors : List Tag) (nodes : Nodes) → everywhere kid_3 ancestors nodes ≡ true → everywhere test_3 ancestors nodes ≡ true
+from_kid_3 ancestors no_nodes e = refl
+from_kid_3 ancestors (bytes b rest) e = from_kid_3 ancestors rest e
+from_kid_3 ancestors (element tag kids rest) e =
+    let x = and_parts (kid_3 ancestors tag kids && everywhere kid_3 (tag ∷ ancestors) kids) (everywhere kid_3 ancestors rest) e in
+    let y = and_parts (kid_3 ancestors tag kids) (everywhere kid_3 (tag ∷ ancestors) kids) x.0 in
     let z = and_parts _ _ y.0 in
-    let own : test_3 around tag kids ≡ true =
-    and_from _ _ z.0 (implies_from (is_content (role around tag) && among_blocks around) (not (some_element is_thick kids)) (λ t.
-    let both = and_parts (is_content (role around tag)) (among_blocks around) t in
-    let trace = (and_parts (is_open around) (is_some (trace_of tag)) (sym (content_role around tag) ∙ both.0)).1 in
-    ap not (no_thick (tag ∷ around) kids y.1 trace (among_on tag around trace ∙ both.1))))
+    let own : test_3 ancestors tag kids ≡ true =
+    and_from _ _ z.0 (implies_from (is_content (role ancestors tag) && among_blocks ancestors) (not (some_element is_thick kids)) (λ t.
+    let both = and_parts (is_content (role ancestors tag)) (among_blocks ancestors) t in
+    let trace = (and_parts (is_open ancestors) (is_some (trace_of tag)) (sym (content_role ancestors tag) ∙ both.0)).1 in
+    ap not (no_thick (tag ∷ ancestors) kids y.1 trace (among_on tag ancestors trace ∙ both.1))))
     in
-    and_from _ _ (and_from _ _ own (from_kid_3 (tag ∷ around) kids y.1)) (from_kid_3 around rest x.1)
+    and_from _ _ (and_from _ _ own (from_kid_3 (tag ∷ ancestors) kids y.1)) (from_kid_3 ancestors rest x.1)
 
 -- The rules of some nodes
 
-pub record AllRules (ext : Test) (around : List Tag) (nodes : Nodes) : Type 0 where
-  pub rule_1 : everywhere test_1 around nodes ≡ true
-  pub rule_2 : everywhere test_2 around nodes ≡ true
-  pub rule_3 : everywhere kid_3 around nodes ≡ true
-  pub rule_4 : everywhere test_4 around nodes ≡ true
-  pub rule_5 : everywhere test_5 around nodes ≡ true
-  pub rule_6 : everywhere test_6 around nodes ≡ true
-  pub rule_8 : everywhere test_8 around nodes ≡ true
-  pub own : everywhere ext around nodes ≡ true
+pub record AllRules (ext : Test) (ancestors : List Tag) (nodes : Nodes) : Type 0 where
+  pub rule_1 : everywhere test_1 ancestors nodes ≡ true
+  pub rule_2 : everywhere test_2 ancestors nodes ≡ true
+  pub rule_3 : everywhere kid_3 ancestors nodes ≡ true
+  pub rule_4 : everywhere test_4 ancestors nodes ≡ true
+  pub rule_5 : everywhere test_5 ancestors nodes ≡ true
+  pub rule_6 : everywhere test_6 ancestors nodes ≡ true
+  pub rule_8 : everywhere test_8 ancestors nodes ≡ true
+  pub own : everywhere ext ancestors nodes ≡ true
 
-record Split (test : Test) (around : List Tag) (tag : Tag) (kids rest : Nodes) : Type 0 where
-  own : test around tag kids ≡ true
-  below : everywhere test (tag ∷ around) kids ≡ true
-  after : everywhere test around rest ≡ true
+record Split (test : Test) (ancestors : List Tag) (tag : Tag) (kids rest : Nodes) : Type 0 where
+  own : test ancestors tag kids ≡ true
+  below : everywhere test (tag ∷ ancestors) kids ≡ true
+  after : everywhere test ancestors rest ≡ true
 
-split : (test : Test) (around : List Tag) (tag : Tag) (kids rest : Nodes) → everywhere test around (element tag kids rest) ≡ true → Split test around tag kids rest
-split test around tag kids rest e =
-    let x = and_parts (test around tag kids && everywhere test (tag ∷ around) kids) (everywhere test around rest) e in
-    let y = and_parts (test around tag kids) (everywhere test (tag ∷ around) kids) x.0 in
+split : (test : Test) (ancestors : List Tag) (tag : Tag) (kids rest : Nodes) → everywhere test ancestors (element tag kids rest) ≡ true → Split test ancestors tag kids rest
+split test ancestors tag kids rest e =
+    let x = and_parts (test ancestors tag kids && everywhere test (tag ∷ ancestors) kids) (everywhere test ancestors rest) e in
+    let y = and_parts (test ancestors tag kids) (everywhere test (tag ∷ ancestors) kids) x.0 in
     record { own = y.0; below = y.1; after = x.1 }
 
 -- of one element, of its kids, and of the nodes behind it
-record Three (ext : Test) (around : List Tag) (tag : Tag) (kids rest : Nodes) : Type 0 where
-  own : Holds ext around tag kids
-  below : AllRules ext (tag ∷ around) kids
-  after : AllRules ext around rest
+record Three (ext : Test) (ancestors : List Tag) (tag : Tag) (kids rest : Nodes) : Type 0 where
+  own : Holds ext ancestors tag kids
+  below : AllRules ext (tag ∷ ancestors) kids
+  after : AllRules ext ancestors rest
 
-three : (ext : Test) (around : List Tag) (tag : Tag) (kids rest : Nodes) → AllRules ext around (element tag kids rest) → Three ext around tag kids rest
-three ext around tag kids rest r =
-    let s1 = split test_1 around tag kids rest r.rule_1 in
-    let s2 = split test_2 around tag kids rest r.rule_2 in
-    let s3 = split kid_3 around tag kids rest r.rule_3 in
-    let s4 = split test_4 around tag kids rest r.rule_4 in
-    let s5 = split test_5 around tag kids rest r.rule_5 in
-    let s6 = split test_6 around tag kids rest r.rule_6 in
-    let s8 = split test_8 around tag kids rest r.rule_8 in
-    let sx = split ext around tag kids rest r.own in
+three : (ext : Test) (ancestors : List Tag) (tag : Tag) (kids rest : Nodes) → AllRules ext ancestors (element tag kids rest) → Three ext ancestors tag kids rest
+three ext ancestors tag kids rest r =
+    let s1 = split test_1 ancestors tag kids rest r.rule_1 in
+    let s2 = split test_2 ancestors tag kids rest r.rule_2 in
+    let s3 = split kid_3 ancestors tag kids rest r.rule_3 in
+    let s4 = split test_4 ancestors tag kids rest r.rule_4 in
+    let s5 = split test_5 ancestors tag kids rest r.rule_5 in
+    let s6 = split test_6 ancestors tag kids rest r.rule_6 in
+    let s8 = split test_8 ancestors tag kids rest r.rule_8 in
+    let sx = split ext ancestors tag kids rest r.own in
     record {
       own = record { rule_1 = s1.own; rule_2 = s2.own; rule_3 = s3.own; rule_4 = s4.own; rule_5 = s5.own; rule_6 = s6.own; rule_8 = s8.own; own = sx.own };
       below = record { rule_1 = s1.below; rule_2 = s2.below; rule_3 = s3.below; rule_4 = s4.below; rule_5 = s5.below; rule_6 = s6.below; rule_8 = s8.below; own = sx.below };
       after = record { rule_1 = s1.after; rule_2 = s2.after; rule_3 = s3.after; rule_4 = s4.after; rule_5 = s5.after; rule_6 = s6.after; rule_8 = s8.after; own = sx.after };
     }
 
-pub ground : (ext : Test) (around : List Tag) (nodes : Nodes) → AllFit around nodes → AllRules ext around nodes → Ground ext around nodes
-ground ext around no_nodes f r = tt
-ground ext around (bytes b rest) f r =
-    ground ext around rest f (record { rule_1 = r.rule_1; rule_2 = r.rule_2; rule_3 = r.rule_3; rule_4 = r.rule_4; rule_5 = r.rule_5; rule_6 = r.rule_6; rule_8 = r.rule_8; own = r.own })
-ground ext around (element tag kids rest) f r =
-    let t = three ext around tag kids rest r in
-    (record { fits = f.0; rules = t.own }, ground ext (tag ∷ around) kids f.1 t.below, ground ext around rest f.2 t.after)
+pub ground : (ext : Test) (ancestors : List Tag) (nodes : Nodes) → AllFit ancestors nodes → AllRules ext ancestors nodes → Ground ext ancestors nodes
+ground ext ancestors no_nodes f r = tt
+ground ext ancestors (bytes b rest) f r =
+    ground ext ancestors rest f (record { rule_1 = r.rule_1; rule_2 = r.rule_2; rule_3 = r.rule_3; rule_4 = r.rule_4; rule_5 = r.rule_5; rule_6 = r.rule_6; rule_8 = r.rule_8; own = r.own })
+ground ext ancestors (element tag kids rest) f r =
+    let t = three ext ancestors tag kids rest r in
+    (record { fits = f.0; rules = t.own }, ground ext (tag ∷ ancestors) kids f.1 t.below, ground ext ancestors rest f.2 t.after)
 
 -- the law of soundness for one story and one rule
 pub sound_story : (ext : Test) (says : List Say) (test : Test) → Kept ext says test → (root : Tag) (kids : Nodes) → is_story_root root ≡ true → is_quiet root ≡ false →

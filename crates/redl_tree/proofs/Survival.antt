@@ -144,17 +144,17 @@ texts-grouped followed held (p ∷ ps) l t =
 -- Survivors as a recursion
 
 abbrev pub gone_at : List Say → List Tag → Tag → Nodes → Bool
-gone_at says around tag kids =
-    (is_content tag.kind && is_cut (fate_of says tag)) || is_drop (fate_of says tag) || goes_at says around tag kids
+gone_at says ancestors tag kids =
+    (is_content tag.kind && is_cut (fate_of says tag)) || is_drop (fate_of says tag) || goes_at says ancestors tag kids
 
 abbrev pub kept : List Say → List Tag → Nodes → List (List ℕ)
-kept says around no_nodes = []
-kept says around (bytes b rest) = b ∷ kept says around rest
-kept says around (element tag kids rest) =
-    (if is_quiet tag || gone_at says around tag kids then [] else kept says (tag ∷ around) kids) ++ kept says around rest
+kept says ancestors no_nodes = []
+kept says ancestors (bytes b rest) = b ∷ kept says ancestors rest
+kept says ancestors (element tag kids rest) =
+    (if is_quiet tag || gone_at says ancestors tag kids then [] else kept says (tag ∷ ancestors) kids) ++ kept says ancestors rest
 
-quiet_renamed : (says : List Say) (around : List Tag) (tag : Tag) → is_quiet (renamed says around tag) ≡ is_quiet tag
-quiet_renamed says around tag = at (is_revived says around)
+quiet_renamed : (says : List Say) (ancestors : List Tag) (tag : Tag) → is_quiet (renamed says ancestors tag) ≡ is_quiet tag
+quiet_renamed says ancestors tag = at (is_revived says ancestors)
   where
     at_instr : (b : Bool) → is "delInstrText" tag ≡ b → is_quiet (if b then record tag { local = codes "instrText" } else tag) ≡ is_quiet tag
     at_instr true e = by_name (λ t. is_quiet (record t { local = codes "instrText" }) ≡ is_quiet t) "delInstrText" tag e refl
@@ -168,26 +168,26 @@ quiet_renamed says around tag = at (is_revived says around)
     at true = at_text (is "delText" tag) refl
     at false = refl
 
-texts-stays : (says : List Say) (around : List Tag) (tag : Tag) (kids passed : Nodes) (goes : Bool) (inner : List (List ℕ)) →
+texts-stays : (says : List Say) (ancestors : List Tag) (tag : Tag) (kids passed : Nodes) (goes : Bool) (inner : List (List ℕ)) →
     (is_quiet tag ≡ false → (rejected says kids ≡ None) × (texts passed ≡ inner)) →
-    texts (if goes then no_nodes else element (renamed says around tag) (after_change around tag (rejected says kids) passed) no_nodes)
+    texts (if goes then no_nodes else element (renamed says ancestors tag) (after_change ancestors tag (rejected says kids) passed) no_nodes)
     ≡ (if is_quiet tag || goes then [] else inner)
-texts-stays says around tag kids passed goes inner h = at (is_quiet tag) refl goes
+texts-stays says ancestors tag kids passed goes inner h = at (is_quiet tag) refl goes
   where
     at : (q : Bool) → is_quiet tag ≡ q → (goes : Bool) →
-        texts (if goes then no_nodes else element (renamed says around tag) (after_change around tag (rejected says kids) passed) no_nodes)
+        texts (if goes then no_nodes else element (renamed says ancestors tag) (after_change ancestors tag (rejected says kids) passed) no_nodes)
         ≡ (if q || goes then [] else inner)
     at true e true = refl
     at false e true = refl
     at true e false =
-        let made = after_change around tag (rejected says kids) passed in
-        texts-one (renamed says around tag) made
-        ∙ if_true (is_quiet (renamed says around tag)) [] (texts made) (quiet_renamed says around tag ∙ e)
+        let made = after_change ancestors tag (rejected says kids) passed in
+        texts-one (renamed says ancestors tag) made
+        ∙ if_true (is_quiet (renamed says ancestors tag)) [] (texts made) (quiet_renamed says ancestors tag ∙ e)
     at false e false =
-        let made = after_change around tag (rejected says kids) passed in
-        texts-one (renamed says around tag) made
-        ∙ if_false (is_quiet (renamed says around tag)) [] (texts made) (quiet_renamed says around tag ∙ e)
-        ∙ ap (λ u. texts (after_change around tag u passed)) (h e).0 ∙ (h e).1
+        let made = after_change ancestors tag (rejected says kids) passed in
+        texts-one (renamed says ancestors tag) made
+        ∙ if_false (is_quiet (renamed says ancestors tag)) [] (texts made) (quiet_renamed says ancestors tag ∙ e)
+        ∙ ap (λ u. texts (after_change ancestors tag u passed)) (h e).0 ∙ (h e).1
 
 -- the fates of a trace
 abbrev IsTraceFate : Fate → Type 0
@@ -251,36 +251,36 @@ trace_some tag t e = rw e refl
 trace_quiet : (tag : Tag) → is_some (trace_of tag) ≡ true → is_quiet tag ≡ false
 trace_quiet tag e = by_trace (λ t. is_quiet t ≡ false) tag e (refl, (refl, (refl, (refl, tt))))
 
-trace_stays : (says : List Say) (around : List Tag) (tag : Tag) (kids : Nodes) → is_some (trace_of tag) ≡ true → goes_at says around tag kids ≡ false
-trace_stays says around tag kids e = by_trace (λ t. goes_at says around t kids ≡ false) tag e (refl, (refl, (refl, (refl, tt))))
+trace_stays : (says : List Say) (ancestors : List Tag) (tag : Tag) (kids : Nodes) → is_some (trace_of tag) ≡ true → goes_at says ancestors tag kids ≡ false
+trace_stays says ancestors tag kids e = by_trace (λ t. goes_at says ancestors t kids ≡ false) tag e (refl, (refl, (refl, (refl, tt))))
 
-element_of_kind : (says : List Say) (around : List Tag) (tag : Tag) (kids passed : Nodes) (inner : List (List ℕ)) → OpenKind tag →
-    (texts (if goes_at says around tag kids then no_nodes else element (renamed says around tag) (after_change around tag (rejected says kids) passed) no_nodes)
-    ≡ (if is_quiet tag || goes_at says around tag kids then [] else inner)) →
+element_of_kind : (says : List Say) (ancestors : List Tag) (tag : Tag) (kids passed : Nodes) (inner : List (List ℕ)) → OpenKind tag →
+    (texts (if goes_at says ancestors tag kids then no_nodes else element (renamed says ancestors tag) (after_change ancestors tag (rejected says kids) passed) no_nodes)
+    ≡ (if is_quiet tag || goes_at says ancestors tag kids then [] else inner)) →
     (is_quiet tag ≡ false → texts passed ≡ inner) →
-    texts (element_pass says around tag kids passed) ≡ (if is_quiet tag || gone_at says around tag kids then [] else inner)
-element_of_kind says around tag kids passed inner (plain k t) stays ih =
-    plain_texts tag.kind (say_of says tag.rev) (is_quiet tag) (goes_at says around tag kids) passed
-    (if goes_at says around tag kids then no_nodes else element (renamed says around tag) (after_change around tag (rejected says kids) passed) no_nodes)
+    texts (element_pass says ancestors tag kids passed) ≡ (if is_quiet tag || gone_at says ancestors tag kids then [] else inner)
+element_of_kind says ancestors tag kids passed inner (plain k t) stays ih =
+    plain_texts tag.kind (say_of says tag.rev) (is_quiet tag) (goes_at says ancestors tag kids) passed
+    (if goes_at says ancestors tag kids then no_nodes else element (renamed says ancestors tag) (after_change ancestors tag (rejected says kids) passed) no_nodes)
     inner k stays
-element_of_kind says around tag kids passed inner (marker k t) stays ih =
-    marker_texts tag.kind (say_of says tag.rev) (is_quiet tag) (goes_at says around tag kids) passed
-    (if goes_at says around tag kids then no_nodes else element (renamed says around tag) (after_change around tag (rejected says kids) passed) no_nodes)
+element_of_kind says ancestors tag kids passed inner (marker k t) stays ih =
+    marker_texts tag.kind (say_of says tag.rev) (is_quiet tag) (goes_at says ancestors tag kids) passed
+    (if goes_at says ancestors tag kids then no_nodes else element (renamed says ancestors tag) (after_change ancestors tag (rejected says kids) passed) no_nodes)
     inner k stays
-element_of_kind says around tag kids passed inner (content_kind t k e) stays ih =
+element_of_kind says ancestors tag kids passed inner (content_kind t k e) stays ih =
     let quiet = trace_quiet tag (trace_some tag t e) in
-    content_kind_texts tag.kind t (say_of says tag.rev) (is_quiet tag) (goes_at says around tag kids) passed
-    (if goes_at says around tag kids then no_nodes else element (renamed says around tag) (after_change around tag (rejected says kids) passed) no_nodes)
-    inner k quiet (trace_stays says around tag kids (trace_some tag t e)) stays (ih quiet)
+    content_kind_texts tag.kind t (say_of says tag.rev) (is_quiet tag) (goes_at says ancestors tag kids) passed
+    (if goes_at says ancestors tag kids then no_nodes else element (renamed says ancestors tag) (after_change ancestors tag (rejected says kids) passed) no_nodes)
+    inner k quiet (trace_stays says ancestors tag kids (trace_some tag t e)) stays (ih quiet)
 
 -- what one element among the content leaves of the text pieces of its kids
-element_texts : (says : List Say) (around : List Tag) (tag : Tag) (kids passed : Nodes) (inner : List (List ℕ)) → is_open around ≡ true →
-    Fits around tag → AllFit (tag ∷ around) kids → (is_quiet tag ≡ false → texts passed ≡ inner) →
-    texts (element_pass says around tag kids passed) ≡ (if is_quiet tag || gone_at says around tag kids then [] else inner)
-element_texts says around tag kids passed inner o fit below ih =
-    element_of_kind says around tag kids passed inner (open_fits around tag o fit)
-    (texts-stays says around tag kids passed (goes_at says around tag kids) inner
-    (λ q. (open_none_rejected says (tag ∷ around) kids (open_∷ tag around q ∙ o) below, ih q)))
+element_texts : (says : List Say) (ancestors : List Tag) (tag : Tag) (kids passed : Nodes) (inner : List (List ℕ)) → is_open ancestors ≡ true →
+    Fits ancestors tag → AllFit (tag ∷ ancestors) kids → (is_quiet tag ≡ false → texts passed ≡ inner) →
+    texts (element_pass says ancestors tag kids passed) ≡ (if is_quiet tag || gone_at says ancestors tag kids then [] else inner)
+element_texts says ancestors tag kids passed inner o fit below ih =
+    element_of_kind says ancestors tag kids passed inner (open_fits ancestors tag o fit)
+    (texts-stays says ancestors tag kids passed (goes_at says ancestors tag kids) inner
+    (λ q. (open_none_rejected says (tag ∷ ancestors) kids (open_∷ tag ancestors q ∙ o) below, ih q)))
     ih
 
 -- what a node of a list leaves of the text pieces is what it gives by itself
@@ -299,105 +299,105 @@ piece_loud-if true heavy cut tag kids n h = h refl
 piece_loud-if false true cut tag kids n h = tt
 piece_loud-if false false cut tag kids n h = tt
 
-piece_loud : (says : List Say) (around : List Tag) (tag : Tag) (kids passed : Nodes) → IsLoudPiece (piece says around tag kids passed)
-piece_loud says around tag kids passed =
-    piece_loud-if (is_block_para says around tag) (is_thick tag) (para_is_cut says kids) (renamed says around tag) (kept_kids says around tag kids passed)
-    (element_pass says around tag kids passed) (λ e. quiet_renamed says around tag ∙ quiet_p tag (block_p says around tag e))
+piece_loud : (says : List Say) (ancestors : List Tag) (tag : Tag) (kids passed : Nodes) → IsLoudPiece (piece says ancestors tag kids passed)
+piece_loud says ancestors tag kids passed =
+    piece_loud-if (is_block_para says ancestors tag) (is_thick tag) (para_is_cut says kids) (renamed says ancestors tag) (kept_kids says ancestors tag kids passed)
+    (element_pass says ancestors tag kids passed) (λ e. quiet_renamed says ancestors tag ∙ quiet_p tag (block_p says ancestors tag e))
 
-pub pieces_loud : (says : List Say) (around : List Tag) (nodes : Nodes) → AreLoud (pieces says around nodes)
-pieces_loud says around no_nodes = tt
-pieces_loud says around (bytes b rest) = (tt, pieces_loud says around rest)
-pieces_loud says around (element tag kids rest) = (piece_loud says around tag kids (pass says (tag ∷ around) kids), pieces_loud says around rest)
+pub pieces_loud : (says : List Say) (ancestors : List Tag) (nodes : Nodes) → AreLoud (pieces says ancestors nodes)
+pieces_loud says ancestors no_nodes = tt
+pieces_loud says ancestors (bytes b rest) = (tt, pieces_loud says ancestors rest)
+pieces_loud says ancestors (element tag kids rest) = (piece_loud says ancestors tag kids (pass says (tag ∷ ancestors) kids), pieces_loud says ancestors rest)
 
 -- what the pieces of a list among the content leave
-texts-pieces : (says : List Say) (around : List Tag) (nodes : Nodes) → is_open around ≡ true → AllFit around nodes →
-    pieces_texts (pieces says around nodes) ≡ kept says around nodes
-texts-pieces says around no_nodes o fit = refl
-texts-pieces says around (bytes b rest) o fit = ap (λ ts. b ∷ ts) (texts-pieces says around rest o fit)
-texts-pieces says around (element tag kids rest) o fit =
-    let passed = pass says (tag ∷ around) kids in
-    let inner = kept says (tag ∷ around) kids in
+texts-pieces : (says : List Say) (ancestors : List Tag) (nodes : Nodes) → is_open ancestors ≡ true → AllFit ancestors nodes →
+    pieces_texts (pieces says ancestors nodes) ≡ kept says ancestors nodes
+texts-pieces says ancestors no_nodes o fit = refl
+texts-pieces says ancestors (bytes b rest) o fit = ap (λ ts. b ∷ ts) (texts-pieces says ancestors rest o fit)
+texts-pieces says ancestors (element tag kids rest) o fit =
+    let passed = pass says (tag ∷ ancestors) kids in
+    let inner = kept says (tag ∷ ancestors) kids in
     let here : (is_quiet tag ≡ false → texts passed ≡ inner) =
-    λ q. texts-grouped false None (pieces says (tag ∷ around) kids) (pieces_loud says (tag ∷ around) kids) tt
-    ∙ texts-pieces says (tag ∷ around) kids (open_∷ tag around q ∙ o) fit.1
+    λ q. texts-grouped false None (pieces says (tag ∷ ancestors) kids) (pieces_loud says (tag ∷ ancestors) kids) tt
+    ∙ texts-pieces says (tag ∷ ancestors) kids (open_∷ tag ancestors q ∙ o) fit.1
     in
-    ap (λ ts. ts ++ pieces_texts (pieces says around rest))
-    (texts-alone (piece says around tag kids passed) (piece_loud says around tag kids passed)
-    ∙ ap texts (alone-piece says around tag kids passed)
-    ∙ element_texts says around tag kids passed inner o fit.0 fit.1 here)
-    ∙ ap (λ ts. (if is_quiet tag || gone_at says around tag kids then [] else inner) ++ ts) (texts-pieces says around rest o fit.2)
+    ap (λ ts. ts ++ pieces_texts (pieces says ancestors rest))
+    (texts-alone (piece says ancestors tag kids passed) (piece_loud says ancestors tag kids passed)
+    ∙ ap texts (alone-piece says ancestors tag kids passed)
+    ∙ element_texts says ancestors tag kids passed inner o fit.0 fit.1 here)
+    ∙ ap (λ ts. (if is_quiet tag || gone_at says ancestors tag kids then [] else inner) ++ ts) (texts-pieces says ancestors rest o fit.2)
 
 -- Stretches
 
 abbrev pub tags_above : List Parts → List Tag
-tags_above above = map (λ parts. parts.tag) above
+tags_above ancestors = map (λ parts. parts.tag) ancestors
 
 -- the texts that pass a test on what stands above, where the test looks at one element after the other
 abbrev pub left_by : (List Parts → Tag → Nodes → Bool) → List Parts → Nodes → List (List ℕ)
-left_by ends above no_nodes = []
-left_by ends above (bytes b rest) = b ∷ left_by ends above rest
-left_by ends above (element tag kids rest) =
-    (if ends above tag kids then [] else left_by ends (record { tag = tag; kids = kids } ∷ above) kids) ++ left_by ends above rest
+left_by ends ancestors no_nodes = []
+left_by ends ancestors (bytes b rest) = b ∷ left_by ends ancestors rest
+left_by ends ancestors (element tag kids rest) =
+    (if ends ancestors tag kids then [] else left_by ends (record { tag = tag; kids = kids } ∷ ancestors) kids) ++ left_by ends ancestors rest
 
 module _ (live : List Parts → Bool) (ends : List Parts → Tag → Nodes → Bool)
-    (step : (above : List Parts) (tag : Tag) (kids : Nodes) → live (record { tag = tag; kids = kids } ∷ above) ≡ (not (ends above tag kids) && live above)) where
-  dead_below : (above : List Parts) (tag : Tag) (kids : Nodes) → live above ≡ false → live (record { tag = tag; kids = kids } ∷ above) ≡ false
-  dead_below above tag kids d = step above tag kids ∙ at (not (ends above tag kids)) (live above) d
+    (step : (ancestors : List Parts) (tag : Tag) (kids : Nodes) → live (record { tag = tag; kids = kids } ∷ ancestors) ≡ (not (ends ancestors tag kids) && live ancestors)) where
+  dead_below : (ancestors : List Parts) (tag : Tag) (kids : Nodes) → live ancestors ≡ false → live (record { tag = tag; kids = kids } ∷ ancestors) ≡ false
+  dead_below ancestors tag kids d = step ancestors tag kids ∙ at (not (ends ancestors tag kids)) (live ancestors) d
     where
       at : (a b : Bool) → b ≡ false → (a && b) ≡ false
       at true b e = e
       at false b e = refl
 
-  dead_stretches : (above : List Parts) (nodes : Nodes) → live above ≡ false → filter (λ s. live s.above) (stretches_in above nodes) ≡ []
-  dead_stretches above no_nodes d = refl
-  dead_stretches above (bytes b rest) d = if_false (live above) (record { text = b; above = above } ∷ filter (λ s. live s.above) (stretches_in above rest)) (filter (λ s. live s.above) (stretches_in above rest)) d ∙ dead_stretches above rest d
-  dead_stretches above (element tag kids rest) d =
-      let below = record { tag = tag; kids = kids } ∷ above in
-      filter-append (λ s. live s.above) (stretches_in below kids) (stretches_in above rest)
-      ∙ ap (λ ts. ts ++ filter (λ s. live s.above) (stretches_in above rest)) (dead_stretches below kids (dead_below above tag kids d))
-      ∙ dead_stretches above rest d
+  dead_stretches : (ancestors : List Parts) (nodes : Nodes) → live ancestors ≡ false → filter (λ s. live s.ancestors) (stretches_in ancestors nodes) ≡ []
+  dead_stretches ancestors no_nodes d = refl
+  dead_stretches ancestors (bytes b rest) d = if_false (live ancestors) (record { text = b; ancestors = ancestors } ∷ filter (λ s. live s.ancestors) (stretches_in ancestors rest)) (filter (λ s. live s.ancestors) (stretches_in ancestors rest)) d ∙ dead_stretches ancestors rest d
+  dead_stretches ancestors (element tag kids rest) d =
+      let below = record { tag = tag; kids = kids } ∷ ancestors in
+      filter-append (λ s. live s.ancestors) (stretches_in below kids) (stretches_in ancestors rest)
+      ∙ ap (λ ts. ts ++ filter (λ s. live s.ancestors) (stretches_in ancestors rest)) (dead_stretches below kids (dead_below ancestors tag kids d))
+      ∙ dead_stretches ancestors rest d
 
-  stretches_left : (above : List Parts) (nodes : Nodes) → live above ≡ true →
-      map (λ s. s.text) (filter (λ s. live s.above) (stretches_in above nodes)) ≡ left_by ends above nodes
-  stretches_left above no_nodes l = refl
-  stretches_left above (bytes b rest) l =
-      ap (λ ss. map (λ s. s.text) ss) (if_true (live above) (record { text = b; above = above } ∷ filter (λ s. live s.above) (stretches_in above rest)) (filter (λ s. live s.above) (stretches_in above rest)) l)
-      ∙ ap (λ ts. b ∷ ts) (stretches_left above rest l)
-  stretches_left above (element tag kids rest) l =
-      let below = record { tag = tag; kids = kids } ∷ above in
-      let inside = filter (λ s. live s.above) (stretches_in below kids) in
-      let after = filter (λ s. live s.above) (stretches_in above rest) in
-      ap (λ ss. map (λ s. s.text) ss) (filter-append (λ s. live s.above) (stretches_in below kids) (stretches_in above rest))
+  stretches_left : (ancestors : List Parts) (nodes : Nodes) → live ancestors ≡ true →
+      map (λ s. s.text) (filter (λ s. live s.ancestors) (stretches_in ancestors nodes)) ≡ left_by ends ancestors nodes
+  stretches_left ancestors no_nodes l = refl
+  stretches_left ancestors (bytes b rest) l =
+      ap (λ ss. map (λ s. s.text) ss) (if_true (live ancestors) (record { text = b; ancestors = ancestors } ∷ filter (λ s. live s.ancestors) (stretches_in ancestors rest)) (filter (λ s. live s.ancestors) (stretches_in ancestors rest)) l)
+      ∙ ap (λ ts. b ∷ ts) (stretches_left ancestors rest l)
+  stretches_left ancestors (element tag kids rest) l =
+      let below = record { tag = tag; kids = kids } ∷ ancestors in
+      let inside = filter (λ s. live s.ancestors) (stretches_in below kids) in
+      let after = filter (λ s. live s.ancestors) (stretches_in ancestors rest) in
+      ap (λ ss. map (λ s. s.text) ss) (filter-append (λ s. live s.ancestors) (stretches_in below kids) (stretches_in ancestors rest))
       ∙ map-append (λ s. s.text) inside after
       ∙ ap (λ ts. ts ++ map (λ s. s.text) after)
-      (at (ends above tag kids) (live below) inside (left_by ends below kids) l (step above tag kids) (dead_stretches below kids) (stretches_left below kids))
-      ∙ ap (λ ts. (if ends above tag kids then [] else left_by ends below kids) ++ ts) (stretches_left above rest l)
+      (at (ends ancestors tag kids) (live below) inside (left_by ends below kids) l (step ancestors tag kids) (dead_stretches below kids) (stretches_left below kids))
+      ∙ ap (λ ts. (if ends ancestors tag kids then [] else left_by ends below kids) ++ ts) (stretches_left ancestors rest l)
     where
-      at : (e b : Bool) (inside : List Stretch) (left : List (List ℕ)) → live above ≡ true → b ≡ (not e && live above) →
+      at : (e b : Bool) (inside : List Stretch) (left : List (List ℕ)) → live ancestors ≡ true → b ≡ (not e && live ancestors) →
           (b ≡ false → inside ≡ []) → (b ≡ true → map (λ s. s.text) inside ≡ left) →
           map (λ s. s.text) inside ≡ (if e then [] else left)
       at true b inside left l is d h = ap (λ ss. map (λ s. s.text) ss) (d is)
       at false b inside left l is d h = h (is ∙ l)
 
-left_by-quiet : (above : List Parts) (nodes : Nodes) → left_by (λ above tag kids. is_quiet tag) above nodes ≡ texts nodes
-left_by-quiet above no_nodes = refl
-left_by-quiet above (bytes b rest) = ap (λ ts. b ∷ ts) (left_by-quiet above rest)
-left_by-quiet above (element tag kids rest) =
-    ap (λ ts. (if is_quiet tag then [] else ts) ++ left_by (λ above tag kids. is_quiet tag) above rest) (left_by-quiet (record { tag = tag; kids = kids } ∷ above) kids)
-    ∙ ap (λ ts. (if is_quiet tag then [] else texts kids) ++ ts) (left_by-quiet above rest)
+left_by-quiet : (ancestors : List Parts) (nodes : Nodes) → left_by (λ ancestors tag kids. is_quiet tag) ancestors nodes ≡ texts nodes
+left_by-quiet ancestors no_nodes = refl
+left_by-quiet ancestors (bytes b rest) = ap (λ ts. b ∷ ts) (left_by-quiet ancestors rest)
+left_by-quiet ancestors (element tag kids rest) =
+    ap (λ ts. (if is_quiet tag then [] else ts) ++ left_by (λ ancestors tag kids. is_quiet tag) ancestors rest) (left_by-quiet (record { tag = tag; kids = kids } ∷ ancestors) kids)
+    ∙ ap (λ ts. (if is_quiet tag then [] else texts kids) ++ ts) (left_by-quiet ancestors rest)
 
 abbrev ends_under : List Say → List Parts → Tag → Nodes → Bool
-ends_under says above tag kids = is_quiet tag || is_gone says above (record { tag = tag; kids = kids })
+ends_under says ancestors tag kids = is_quiet tag || is_gone says ancestors (record { tag = tag; kids = kids })
 
 -- below the root
-left_by-kept : (says : List Say) (parent : Parts) (above : List Parts) (nodes : Nodes) →
-    left_by (ends_under says) (parent ∷ above) nodes ≡ kept says (tags_above (parent ∷ above)) nodes
-left_by-kept says parent above no_nodes = refl
-left_by-kept says parent above (bytes b rest) = ap (λ ts. b ∷ ts) (left_by-kept says parent above rest)
-left_by-kept says parent above (element tag kids rest) =
-    ap (λ ts. (if ends_under says (parent ∷ above) tag kids then [] else ts) ++ left_by (ends_under says) (parent ∷ above) rest)
-    (left_by-kept says (record { tag = tag; kids = kids }) (parent ∷ above) kids)
-    ∙ ap (λ ts. (if ends_under says (parent ∷ above) tag kids then [] else kept says (tag ∷ tags_above (parent ∷ above)) kids) ++ ts) (left_by-kept says parent above rest)
+left_by-kept : (says : List Say) (parent : Parts) (ancestors : List Parts) (nodes : Nodes) →
+    left_by (ends_under says) (parent ∷ ancestors) nodes ≡ kept says (tags_above (parent ∷ ancestors)) nodes
+left_by-kept says parent ancestors no_nodes = refl
+left_by-kept says parent ancestors (bytes b rest) = ap (λ ts. b ∷ ts) (left_by-kept says parent ancestors rest)
+left_by-kept says parent ancestors (element tag kids rest) =
+    ap (λ ts. (if ends_under says (parent ∷ ancestors) tag kids then [] else ts) ++ left_by (ends_under says) (parent ∷ ancestors) rest)
+    (left_by-kept says (record { tag = tag; kids = kids }) (parent ∷ ancestors) kids)
+    ∙ ap (λ ts. (if ends_under says (parent ∷ ancestors) tag kids then [] else kept says (tag ∷ tags_above (parent ∷ ancestors)) kids) ++ ts) (left_by-kept says parent ancestors rest)
 
 not_or : (a b : Bool) → not (a || b) ≡ (not a && not b)
 not_or true b = refl
@@ -412,16 +412,16 @@ not_ors false false false a = refl
 
 pub text_pieces-texts : (root : Tag) (kids : Nodes) → is_quiet root ≡ false → text_pieces (record { tag = root; kids = kids }) ≡ texts kids
 text_pieces-texts root kids q =
-    stretches_left (λ above. not (list_any (λ parts. is_quiet parts.tag) above)) (λ above tag kids. is_quiet tag)
-    (λ above tag kids. not_or (is_quiet tag) (list_any (λ parts. is_quiet parts.tag) above))
+    stretches_left (λ ancestors. not (list_any (λ parts. is_quiet parts.tag) ancestors)) (λ ancestors tag kids. is_quiet tag)
+    (λ ancestors tag kids. not_or (is_quiet tag) (list_any (λ parts. is_quiet parts.tag) ancestors))
     (record { tag = root; kids = kids } ∷ []) kids (rw q refl)
     ∙ left_by-quiet (record { tag = root; kids = kids } ∷ []) kids
 
 pub survivors-kept : (says : List Say) (root : Tag) (kids : Nodes) → is_quiet root ≡ false →
     survivors says (record { tag = root; kids = kids }) ≡ kept says (root ∷ []) kids
 survivors-kept says root kids q =
-    stretches_left (λ above. not (list_any (λ parts. is_quiet parts.tag) above) && not (any_gone says above)) (ends_under says)
-    (λ above tag kids. not_ors (is_quiet tag) (list_any (λ parts. is_quiet parts.tag) above) (is_gone says above (record { tag = tag; kids = kids })) (any_gone says above))
+    stretches_left (λ ancestors. not (list_any (λ parts. is_quiet parts.tag) ancestors) && not (any_gone says ancestors)) (ends_under says)
+    (λ ancestors tag kids. not_ors (is_quiet tag) (list_any (λ parts. is_quiet parts.tag) ancestors) (is_gone says ancestors (record { tag = tag; kids = kids })) (any_gone says ancestors))
     (record { tag = root; kids = kids } ∷ []) kids (rw q refl)
     ∙ left_by-kept says (record { tag = root; kids = kids }) [] kids
 

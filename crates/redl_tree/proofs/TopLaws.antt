@@ -13,7 +13,8 @@ use Rattle.redl_tree.specs.Decisions.Fates.{fate_of, renamed}
 use Rattle.redl_tree.specs.Decisions.Tables.{goes_at}
 use Rattle.redl_tree.specs.Decisions.Groups.{Piece, para, thin, thick, has_thick, joins, ended, joined_tag, joined_kids, settled, given, held_by, grouped_from}
 use Rattle.redl_tree.specs.Decisions.Pass.{by_fate, kept_kids, element_pass, pieces, pass}
-use Rattle.redl_tree.specs.Rules.Sound.{Test, implies, once, only_first, only_last, in_content}
+use Rattle.redl_tree.specs.Rules.Tests.{Test, implies, once, only_first, only_last}
+use Rattle.redl_tree.specs.Rules.Sound.{in_content}
 use Rattle.redl_tree.specs.declared.kinds.Say.{Say}
 use Rattle.redl_tree.specs.declared.kinds.Fate.{Fate}
 use Rattle.redl_tree.specs.declared.kinds.Fate.TheVariants.{Leave, Free, Cut, Clear, Restore, Drop}
@@ -255,44 +256,44 @@ sub_one n a ka zs xs ys (foreign_one w fo) s = spills a ka zs ys (zs ⊕ ys) fo 
 
 -- content revisions hold none of these
 abbrev pub Foreign : (Tag → Bool) → Type 0
-Foreign n = (around : List Tag) (a : Tag) → Free3 around a → is_open around ≡ true → in_content around ≡ true → n a ≡ false
+Foreign n = (ancestors : List Tag) (a : Tag) → Free3 ancestors a → is_open ancestors ≡ true → in_content ancestors ≡ true → n a ≡ false
 
 pub some_one : (n : Tag → Bool) → From n n → (a : Tag) (zs : Nodes) → One n a zs → n a ≡ false → some_element n zs ≡ false
 some_one n f a zs (stays_one b kb l) e = or_from (n b) false (from_false n n f a b l e) refl
 some_one n f a zs gone_one e = refl
 some_one n f a zs (foreign_one w fo) e = fo
 
-pub content_each : (says : List Say) (around : List Tag) (nodes : Nodes) → in_content around ≡ true → pass says around nodes ≡ each says around nodes
+pub content_each : (says : List Say) (ancestors : List Tag) (nodes : Nodes) → in_content ancestors ≡ true → pass says ancestors nodes ≡ each says ancestors nodes
 content_each says [] nodes e = absurd (true≢false (sym e))
-content_each says (c ∷ around) nodes e =
-    pass-each says (c ∷ around) nodes (in_blocks-reach (c ∷ around) ∙ ap is_direct (reach_trace c around e))
+content_each says (c ∷ ancestors) nodes e =
+    pass-each says (c ∷ ancestors) nodes (in_blocks-reach (c ∷ ancestors) ∙ ap is_direct (reach_trace c ancestors e))
 
 -- so they give none of them
-pub foreign_each : (ext : Test) → (says : List Say) (n : Tag → Bool) → From n n → Foreign n → (around : List Tag) (nodes : Nodes) → in_content around ≡ true → is_open around ≡ true → Ground ext around nodes →
-    some_element n (each says around nodes) ≡ false
-foreign_each ext says n f fo around no_nodes i o g = refl
-foreign_each ext says n f fo around (bytes b rest) i o g = foreign_each ext says n f fo around rest i o g
-foreign_each ext says n f fo around (element a kids rest) i o g =
-    some-⊕ n (element_pass says around a kids (pass says (a ∷ around) kids)) (each says around rest)
-    (some_one n f a (element_pass says around a kids (pass says (a ∷ around) kids))
-    (one_pass says n around a kids (pass says (a ∷ around) kids) (λ e.
-    let w = content_fits around a g.0.fits e in
-    ap (some_element n) (content_each says (a ∷ around) kids w.1)
-    ∙ foreign_each ext says n f fo (a ∷ around) kids w.1 (open_∷ a around (by_trace (λ t. is_quiet t ≡ false) a w.1 (refl, (refl, (refl, (refl, tt))))) ∙ o) g.1))
-    (fo around a (free3 around a kids g.0.rules.rule_3) o i))
-    (foreign_each ext says n f fo around rest i o g.2)
+pub foreign_each : (ext : Test) → (says : List Say) (n : Tag → Bool) → From n n → Foreign n → (ancestors : List Tag) (nodes : Nodes) → in_content ancestors ≡ true → is_open ancestors ≡ true → Ground ext ancestors nodes →
+    some_element n (each says ancestors nodes) ≡ false
+foreign_each ext says n f fo ancestors no_nodes i o g = refl
+foreign_each ext says n f fo ancestors (bytes b rest) i o g = foreign_each ext says n f fo ancestors rest i o g
+foreign_each ext says n f fo ancestors (element a kids rest) i o g =
+    some-⊕ n (element_pass says ancestors a kids (pass says (a ∷ ancestors) kids)) (each says ancestors rest)
+    (some_one n f a (element_pass says ancestors a kids (pass says (a ∷ ancestors) kids))
+    (one_pass says n ancestors a kids (pass says (a ∷ ancestors) kids) (λ e.
+    let w = content_fits ancestors a g.0.fits e in
+    ap (some_element n) (content_each says (a ∷ ancestors) kids w.1)
+    ∙ foreign_each ext says n f fo (a ∷ ancestors) kids w.1 (open_∷ a ancestors (by_trace (λ t. is_quiet t ≡ false) a w.1 (refl, (refl, (refl, (refl, tt))))) ∙ o) g.1))
+    (fo ancestors a (free3 ancestors a kids g.0.rules.rule_3) o i))
+    (foreign_each ext says n f fo ancestors rest i o g.2)
 
 -- the nodes of a list, each by itself
-sub_each : (ext : Test) → (says : List Say) (n : Tag → Bool) → From n n → Foreign n → (around : List Tag) (nodes : Nodes) → Ground ext around nodes → Sub n nodes (each says around nodes)
-sub_each ext says n f fo around no_nodes g = done
-sub_each ext says n f fo around (bytes b rest) g = fewer b (more b (sub_each ext says n f fo around rest g))
-sub_each ext says n f fo around (element a kids rest) g =
-    sub_one n a kids (element_pass says around a kids (pass says (a ∷ around) kids)) rest (each says around rest)
-    (one_pass says n around a kids (pass says (a ∷ around) kids) (λ e.
-    let w = content_fits around a g.0.fits e in
-    ap (some_element n) (content_each says (a ∷ around) kids w.1)
-    ∙ foreign_each ext says n f fo (a ∷ around) kids w.1 (open_∷ a around (by_trace (λ t. is_quiet t ≡ false) a w.1 (refl, (refl, (refl, (refl, tt))))) ∙ w.0) g.1))
-    (sub_each ext says n f fo around rest g.2)
+sub_each : (ext : Test) → (says : List Say) (n : Tag → Bool) → From n n → Foreign n → (ancestors : List Tag) (nodes : Nodes) → Ground ext ancestors nodes → Sub n nodes (each says ancestors nodes)
+sub_each ext says n f fo ancestors no_nodes g = done
+sub_each ext says n f fo ancestors (bytes b rest) g = fewer b (more b (sub_each ext says n f fo ancestors rest g))
+sub_each ext says n f fo ancestors (element a kids rest) g =
+    sub_one n a kids (element_pass says ancestors a kids (pass says (a ∷ ancestors) kids)) rest (each says ancestors rest)
+    (one_pass says n ancestors a kids (pass says (a ∷ ancestors) kids) (λ e.
+    let w = content_fits ancestors a g.0.fits e in
+    ap (some_element n) (content_each says (a ∷ ancestors) kids w.1)
+    ∙ foreign_each ext says n f fo (a ∷ ancestors) kids w.1 (open_∷ a ancestors (by_trace (λ t. is_quiet t ≡ false) a w.1 (refl, (refl, (refl, (refl, tt))))) ∙ w.0) g.1))
+    (sub_each ext says n f fo ancestors rest g.2)
 
 -- joining paragraphs brings nothing to the top
 
@@ -329,18 +330,18 @@ pub record Tops (n : Tag → Bool) (xs ys : Nodes) : Type 0 where
   pub first : Sub n xs middle
   pub second : Sub n middle ys
 
-pub tops : (ext : Test) → (says : List Say) (n : Tag → Bool) → From n n → Foreign n → (around : List Tag) (nodes : Nodes) → Ground ext around nodes → Tops n nodes (pass says around nodes)
-tops ext says n f fo around nodes g = record {
-  middle = each says around nodes;
-  first = sub_each ext says n f fo around nodes g;
-  second = rw (all_alone-each says around nodes) at (sub_grouped n false None (pieces says around nodes));
+pub tops : (ext : Test) → (says : List Say) (n : Tag → Bool) → From n n → Foreign n → (ancestors : List Tag) (nodes : Nodes) → Ground ext ancestors nodes → Tops n nodes (pass says ancestors nodes)
+tops ext says n f fo ancestors nodes g = record {
+  middle = each says ancestors nodes;
+  first = sub_each ext says n f fo ancestors nodes g;
+  second = rw (all_alone-each says ancestors nodes) at (sub_grouped n false None (pieces says ancestors nodes));
 }
 
 -- among properties there is nothing that is freed
-pub foreign_shut : (ext : Test) → (says : List Say) (n m : Tag → Bool) → (around : List Tag) (nodes : Nodes) → is_open around ≡ false → Ground ext around nodes → Sub m nodes (each says around nodes)
-foreign_shut ext says n m around no_nodes o g = done
-foreign_shut ext says n m around (bytes b rest) o g = fewer b (more b (foreign_shut ext says n m around rest o g))
-foreign_shut ext says n m around (element a kids rest) o g =
-    sub_one m a kids (element_pass says around a kids (pass says (a ∷ around) kids)) rest (each says around rest)
-    (one_pass says m around a kids (pass says (a ∷ around) kids) (λ e. absurd (true_false (is_open around) (content_fits around a g.0.fits e).0 o)))
-    (foreign_shut ext says n m around rest o g.2)
+pub foreign_shut : (ext : Test) → (says : List Say) (n m : Tag → Bool) → (ancestors : List Tag) (nodes : Nodes) → is_open ancestors ≡ false → Ground ext ancestors nodes → Sub m nodes (each says ancestors nodes)
+foreign_shut ext says n m ancestors no_nodes o g = done
+foreign_shut ext says n m ancestors (bytes b rest) o g = fewer b (more b (foreign_shut ext says n m ancestors rest o g))
+foreign_shut ext says n m ancestors (element a kids rest) o g =
+    sub_one m a kids (element_pass says ancestors a kids (pass says (a ∷ ancestors) kids)) rest (each says ancestors rest)
+    (one_pass says m ancestors a kids (pass says (a ∷ ancestors) kids) (λ e. absurd (true_false (is_open ancestors) (content_fits ancestors a g.0.fits e).0 o)))
+    (foreign_shut ext says n m ancestors rest o g.2)

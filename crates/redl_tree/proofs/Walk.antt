@@ -13,7 +13,8 @@ use Rattle.redl_tree.specs.Decisions.Restored.{Rejected, rejected, rejected_as, 
 use Rattle.redl_tree.specs.Decisions.Tables.{goes_at, para_is_cut}
 use Rattle.redl_tree.specs.Decisions.Groups.{Piece, para, thin, thick, has_thick, joins as joins_piece, taken, ended, joined_tag, joined_kids, settled, given, held_by, grouped_from}
 use Rattle.redl_tree.specs.Decisions.Pass.{by_fate, kept_kids, element_pass, is_block_para, pieces, pass}
-use Rattle.redl_tree.specs.Rules.Sound.{Test, everywhere, test_1, test_2, test_4, test_5, test_6, test_8, below_change}
+use Rattle.redl_tree.specs.Rules.Tests.{Test, everywhere}
+use Rattle.redl_tree.specs.Rules.Sound.{test_1, test_2, test_4, test_5, test_6, test_8, below_change}
 use Rattle.redl_tree.specs.declared.kinds.Prop.{Prop}
 use Rattle.redl_tree.specs.declared.kinds.Prop.TheVariants.{Run, Para as ParaProp, Sect, Table, Except, Row as RowProp, Cell as CellProp}
 use Rattle.redl_tree.specs.declared.kinds.Kind.{Kind}
@@ -30,66 +31,66 @@ use Rattle.redl_tree.proofs.Ancestors.{Came, kept, freed, restored as restored_c
 use Rattle.redl_tree.proofs.PassLaws.{block_p}
 
 -- What the rules say of an element of the original. `ext` is one rule more, of attributes.
-pub record Holds (ext : Test) (around : List Tag) (tag : Tag) (kids : Nodes) : Type 0 where
-  pub rule_1 : test_1 around tag kids ≡ true
-  pub rule_2 : test_2 around tag kids ≡ true
-  pub rule_3 : kid_3 around tag kids ≡ true
-  pub rule_4 : test_4 around tag kids ≡ true
-  pub rule_5 : test_5 around tag kids ≡ true
-  pub rule_6 : test_6 around tag kids ≡ true
-  pub rule_8 : test_8 around tag kids ≡ true
-  pub own : ext around tag kids ≡ true
+pub record Holds (ext : Test) (ancestors : List Tag) (tag : Tag) (kids : Nodes) : Type 0 where
+  pub rule_1 : test_1 ancestors tag kids ≡ true
+  pub rule_2 : test_2 ancestors tag kids ≡ true
+  pub rule_3 : kid_3 ancestors tag kids ≡ true
+  pub rule_4 : test_4 ancestors tag kids ≡ true
+  pub rule_5 : test_5 ancestors tag kids ≡ true
+  pub rule_6 : test_6 ancestors tag kids ≡ true
+  pub rule_8 : test_8 ancestors tag kids ≡ true
+  pub own : ext ancestors tag kids ≡ true
 
 -- all that is known of an element below the root
-pub record Stands (ext : Test) (around : List Tag) (tag : Tag) (kids : Nodes) : Type 0 where
-  pub fits : Fits around tag
-  pub rules : Holds ext around tag kids
+pub record Stands (ext : Test) (ancestors : List Tag) (tag : Tag) (kids : Nodes) : Type 0 where
+  pub fits : Fits ancestors tag
+  pub rules : Holds ext ancestors tag kids
 
 abbrev pub Ground : (ext : Test) → List Tag → Nodes → Type 0
-Ground ext around no_nodes = Unit {0}
-Ground ext around (bytes b rest) = Ground ext around rest
-Ground ext around (element tag kids rest) = Stands ext around tag kids × Ground ext (tag ∷ around) kids × Ground ext around rest
+Ground ext ancestors no_nodes = Unit {0}
+Ground ext ancestors (bytes b rest) = Ground ext ancestors rest
+Ground ext ancestors (element tag kids rest) = Stands ext ancestors tag kids × Ground ext (tag ∷ ancestors) kids × Ground ext ancestors rest
 
 -- Tests and lists
 
-pub everywhere-⊕ : (test : Test) (around : List Tag) (xs ys : Nodes) → everywhere test around xs ≡ true → everywhere test around ys ≡ true →
-    everywhere test around (xs ⊕ ys) ≡ true
-everywhere-⊕ test around no_nodes ys p q = q
-everywhere-⊕ test around (bytes b rest) ys p q = everywhere-⊕ test around rest ys p q
-everywhere-⊕ test around (element tag kids rest) ys p q =
-    let x = and_parts (test around tag kids && everywhere test (tag ∷ around) kids) (everywhere test around rest) p in
-    and_from _ _ x.0 (everywhere-⊕ test around rest ys x.1 q)
+pub everywhere-⊕ : (test : Test) (ancestors : List Tag) (xs ys : Nodes) → everywhere test ancestors xs ≡ true → everywhere test ancestors ys ≡ true →
+    everywhere test ancestors (xs ⊕ ys) ≡ true
+everywhere-⊕ test ancestors no_nodes ys p q = q
+everywhere-⊕ test ancestors (bytes b rest) ys p q = everywhere-⊕ test ancestors rest ys p q
+everywhere-⊕ test ancestors (element tag kids rest) ys p q =
+    let x = and_parts (test ancestors tag kids && everywhere test (tag ∷ ancestors) kids) (everywhere test ancestors rest) p in
+    and_from _ _ x.0 (everywhere-⊕ test ancestors rest ys x.1 q)
 
-pub everywhere-one : (test : Test) (around : List Tag) (tag : Tag) (kids : Nodes) → test around tag kids ≡ true → everywhere test (tag ∷ around) kids ≡ true →
-    everywhere test around (one tag kids) ≡ true
-everywhere-one test around tag kids p q = and_from _ _ (and_from _ _ p q) refl
+pub everywhere-one : (test : Test) (ancestors : List Tag) (tag : Tag) (kids : Nodes) → test ancestors tag kids ≡ true → everywhere test (tag ∷ ancestors) kids ≡ true →
+    everywhere test ancestors (one tag kids) ≡ true
+everywhere-one test ancestors tag kids p q = and_from _ _ (and_from _ _ p q) refl
 
 pub if_both : (P : Nodes → Type 0) (b : Bool) (x y : Nodes) → (b ≡ true → P x) → (b ≡ false → P y) → P (if b then x else y)
 if_both P true x y h k = h refl
 if_both P false x y h k = k refl
 
-pub everywhere-only : (names : Tag → Bool) (test : Test) (around : List Tag) (xs : Nodes) → everywhere test around xs ≡ true → everywhere test around (only names xs) ≡ true
-everywhere-only names test around no_nodes p = refl
-everywhere-only names test around (bytes b rest) p = everywhere-only names test around rest p
-everywhere-only names test around (element tag kids rest) p =
-    let x = and_parts (test around tag kids && everywhere test (tag ∷ around) kids) (everywhere test around rest) p in
-    let ih = everywhere-only names test around rest x.1 in
-    if_both (λ n. everywhere test around n ≡ true) (names tag) (element tag kids (only names rest)) (only names rest)
+pub everywhere-only : (names : Tag → Bool) (test : Test) (ancestors : List Tag) (xs : Nodes) → everywhere test ancestors xs ≡ true → everywhere test ancestors (only names xs) ≡ true
+everywhere-only names test ancestors no_nodes p = refl
+everywhere-only names test ancestors (bytes b rest) p = everywhere-only names test ancestors rest p
+everywhere-only names test ancestors (element tag kids rest) p =
+    let x = and_parts (test ancestors tag kids && everywhere test (tag ∷ ancestors) kids) (everywhere test ancestors rest) p in
+    let ih = everywhere-only names test ancestors rest x.1 in
+    if_both (λ n. everywhere test ancestors n ≡ true) (names tag) (element tag kids (only names rest)) (only names rest)
     (λ e. and_from _ _ x.0 ih) (λ e. ih)
 
-pub everywhere-without : (names : Tag → Bool) (test : Test) (around : List Tag) (xs : Nodes) → everywhere test around xs ≡ true → everywhere test around (without names xs) ≡ true
-everywhere-without names test around no_nodes p = refl
-everywhere-without names test around (bytes b rest) p = everywhere-without names test around rest p
-everywhere-without names test around (element tag kids rest) p =
-    let x = and_parts (test around tag kids && everywhere test (tag ∷ around) kids) (everywhere test around rest) p in
-    let ih = everywhere-without names test around rest x.1 in
-    if_both (λ n. everywhere test around n ≡ true) (names tag) (without names rest) (element tag kids (without names rest))
+pub everywhere-without : (names : Tag → Bool) (test : Test) (ancestors : List Tag) (xs : Nodes) → everywhere test ancestors xs ≡ true → everywhere test ancestors (without names xs) ≡ true
+everywhere-without names test ancestors no_nodes p = refl
+everywhere-without names test ancestors (bytes b rest) p = everywhere-without names test ancestors rest p
+everywhere-without names test ancestors (element tag kids rest) p =
+    let x = and_parts (test ancestors tag kids && everywhere test (tag ∷ ancestors) kids) (everywhere test ancestors rest) p in
+    let ih = everywhere-without names test ancestors rest x.1 in
+    if_both (λ n. everywhere test ancestors n ≡ true) (names tag) (without names rest) (element tag kids (without names rest))
     (λ e. ih) (λ e. and_from _ _ x.0 ih)
 
-everywhere_none : (test : Test) (around : List Tag) (xs : Nodes) → has_element xs ≡ false → everywhere test around xs ≡ true
-everywhere_none test around no_nodes e = refl
-everywhere_none test around (bytes b rest) e = everywhere_none test around rest e
-everywhere_none test around (element tag kids rest) e = absurd (true≢false e)
+everywhere_none : (test : Test) (ancestors : List Tag) (xs : Nodes) → has_element xs ≡ false → everywhere test ancestors xs ≡ true
+everywhere_none test ancestors no_nodes e = refl
+everywhere_none test ancestors (bytes b rest) e = everywhere_none test ancestors rest e
+everywhere_none test ancestors (element tag kids rest) e = absurd (true≢false e)
 
 -- What a test of the result needs of the original
 
@@ -120,27 +121,27 @@ pub record Kept (ext : Test) (says : List Say) (test : Test) : Type 0 where
       (is "rPr" a && within ("pPr" ∷ "p" ∷ []) new) ≡ false → test new a kids ≡ true
 
 -- no place below a change is open
-props_shut : (prop : Prop) (around : List Tag) → in_props prop around ≡ true → is_open around ≡ false
-props_shut prop around e = false_of (is_open around) (λ o. true≢false (sym e ∙ not_props prop around o))
+props_shut : (prop : Prop) (ancestors : List Tag) → in_props prop ancestors ≡ true → is_open ancestors ≡ false
+props_shut prop ancestors e = false_of (is_open ancestors) (λ o. true≢false (sym e ∙ not_props prop ancestors o))
 
-role_shut : (around : List Tag) (tag : Tag) → is_change (role around tag) ≡ true → is_open around ≡ false
-role_shut around tag e = at (prop_of tag) (sym (change_role around tag) ∙ e)
+role_shut : (ancestors : List Tag) (tag : Tag) → is_change (role ancestors tag) ≡ true → is_open ancestors ≡ false
+role_shut ancestors tag e = at (prop_of tag) (sym (change_role ancestors tag) ∙ e)
   where
-    at : (p : Option Prop) → at_props around p ≡ true → is_open around ≡ false
+    at : (p : Option Prop) → at_props ancestors p ≡ true → is_open ancestors ≡ false
     at None e = absurd (true≢false (sym e))
-    at (Some prop) e = props_shut prop around e
+    at (Some prop) e = props_shut prop ancestors e
 
-shut_more : (tag : Tag) (around : List Tag) → is_open around ≡ false → is_open (tag ∷ around) ≡ false
-shut_more tag around e = false_of (is_open (tag ∷ around)) (λ o. true≢false (sym (open_tail tag around o) ∙ e))
+shut_more : (tag : Tag) (ancestors : List Tag) → is_open ancestors ≡ false → is_open (tag ∷ ancestors) ≡ false
+shut_more tag ancestors e = false_of (is_open (tag ∷ ancestors)) (λ o. true≢false (sym (open_tail tag ancestors o) ∙ e))
 
-pub change_shut : (around : List Tag) → below_change around ≡ true → is_open around ≡ false
+pub change_shut : (ancestors : List Tag) → below_change ancestors ≡ true → is_open ancestors ≡ false
 change_shut [] e = absurd (true≢false (sym e))
-change_shut (tag ∷ around) e = at (is_change (role around tag)) refl (below_change around) refl e (λ k. change_shut around k)
+change_shut (tag ∷ ancestors) e = at (is_change (role ancestors tag)) refl (below_change ancestors) refl e (λ k. change_shut ancestors k)
   where
-    at : (x : Bool) → is_change (role around tag) ≡ x → (y : Bool) → below_change around ≡ y → (x || y) ≡ true →
-        (below_change around ≡ true → is_open around ≡ false) → is_open (tag ∷ around) ≡ false
-    at true r y b e ih = shut_more tag around (role_shut around tag r)
-    at false r y b e ih = shut_more tag around (ih (b ∙ e))
+    at : (x : Bool) → is_change (role ancestors tag) ≡ x → (y : Bool) → below_change ancestors ≡ y → (x || y) ≡ true →
+        (below_change ancestors ≡ true → is_open ancestors ≡ false) → is_open (tag ∷ ancestors) ≡ false
+    at true r y b e ih = shut_more tag ancestors (role_shut ancestors tag r)
+    at false r y b e ih = shut_more tag ancestors (ih (b ∙ e))
 
 -- Former properties
 
@@ -164,10 +165,10 @@ no_mark new (element tag kids rest) e = (and_no (is "rPr" tag) (within ("pPr" �
 
 pub shut_para : (new : List Tag) → is_open new ≡ false → within ("p" ∷ []) new ≡ false
 shut_para [] e = refl
-shut_para (tag ∷ around) e =
-    false_of (is "p" tag && is_open around) (λ h.
-    let both = and_parts (is "p" tag) (is_open around) h in
-    true≢false (sym (open_∷ tag around (by_name (λ t. is_quiet t ≡ false) "p" tag both.0 refl) ∙ both.1) ∙ e))
+shut_para (tag ∷ ancestors) e =
+    false_of (is "p" tag && is_open ancestors) (λ h.
+    let both = and_parts (is "p" tag) (is_open ancestors) h in
+    true≢false (sym (open_∷ tag ancestors (by_name (λ t. is_quiet t ≡ false) "p" tag both.0 refl) ∙ both.1) ∙ e))
 
 former_walk : (ext : Test) → (says : List Say) (test : Test) → Kept ext says test → (old new : List Tag) (nodes : Nodes) → Came old new → below_change old ≡ true → Ground ext old nodes → NoMark new nodes →
     everywhere test new nodes ≡ true
@@ -180,16 +181,16 @@ former_walk ext says test k old new (element tag kids rest) c e g m =
     (no_mark (tag ∷ new) kids (and_no (is "pPr" tag) (within ("p" ∷ []) new) (shut_para new (came_open old new c ∙ change_shut old e))))))
     (former_walk ext says test k old new rest c e g.2 m.1)
 
-Ground-if : (ext : Test) → (around : List Tag) (b : Bool) (x y : Nodes) → Ground ext around x → Ground ext around y → Ground ext around (if b then x else y)
-Ground-if ext around true x y h k = h
-Ground-if ext around false x y h k = k
+Ground-if : (ext : Test) → (ancestors : List Tag) (b : Bool) (x y : Nodes) → Ground ext ancestors x → Ground ext ancestors y → Ground ext ancestors (if b then x else y)
+Ground-if ext ancestors true x y h k = h
+Ground-if ext ancestors false x y h k = k
 
-Ground-without : (ext : Test) → (names : Tag → Bool) (around : List Tag) (xs : Nodes) → Ground ext around xs → Ground ext around (without names xs)
-Ground-without ext names around no_nodes g = tt
-Ground-without ext names around (bytes b rest) g = Ground-without ext names around rest g
-Ground-without ext names around (element tag kids rest) g =
-    let ih = Ground-without ext names around rest g.2 in
-    Ground-if ext around (names tag) (without names rest) (element tag kids (without names rest)) ih (g.0, g.1, ih)
+Ground-without : (ext : Test) → (names : Tag → Bool) (ancestors : List Tag) (xs : Nodes) → Ground ext ancestors xs → Ground ext ancestors (without names xs)
+Ground-without ext names ancestors no_nodes g = tt
+Ground-without ext names ancestors (bytes b rest) g = Ground-without ext names ancestors rest g
+Ground-without ext names ancestors (element tag kids rest) g =
+    let ih = Ground-without ext names ancestors rest g.2 in
+    Ground-if ext ancestors (names tag) (without names rest) (element tag kids (without names rest)) ih (g.0, g.1, ih)
 
 NoMark-without : (new : List Tag) (xs : Nodes) → NoMark new (without (outlasts ParaProp) xs)
 NoMark-without new no_nodes = tt
@@ -203,12 +204,12 @@ NoMark-without new (element tag kids rest) = at (is "rPr" tag) refl (is "sectPr"
     at false e false ih = (no_and (is "rPr" tag) (within ("pPr" ∷ "p" ∷ []) new) e, ih)
 
 -- the change that is rejected, and its kids
-pub record Found (ext : Test) (around : List Tag) (u : Rejected) : Type 0 where
+pub record Found (ext : Test) (ancestors : List Tag) (u : Rejected) : Type 0 where
   pub change : Tag
   pub kids : Nodes
-  pub role_is : role around change ≡ Change u.prop
-  pub rule_8 : test_8 around change kids ≡ true
-  pub ground : Ground ext (change ∷ around) kids
+  pub role_is : role ancestors change ≡ Change u.prop
+  pub rule_8 : test_8 ancestors change kids ≡ true
+  pub ground : Ground ext (change ∷ ancestors) kids
   pub former_is : former_kids (props_name u.prop) kids ≡ u.former
 
 rejected_cases : (b : Bool) (k : Kind) (kids : Nodes) (later : Option Rejected) (u : Rejected) → rejected_as b k kids later ≡ Some u →
@@ -225,34 +226,34 @@ rejected_cases true (Change prop) kids later u e =
 rejected_cases true Marker kids later u e = inr e
 rejected_cases false k kids later u e = inr e
 
-pub rejected_found : (ext : Test) → (says : List Say) (around : List Tag) (nodes : Nodes) (u : Rejected) → Ground ext around nodes → rejected says nodes ≡ Some u → Found ext around u
-rejected_found ext says around no_nodes u g e = cc
-rejected_found ext says around (bytes b rest) u g e = rejected_found ext says around rest u g e
-rejected_found ext says around (element tag kids rest) u g e =
-    at (rejected_cases (is_restore (fate_of says tag)) tag.kind kids (rejected says rest) u e) (λ k. rejected_found ext says around rest u g.2 k)
+pub rejected_found : (ext : Test) → (says : List Say) (ancestors : List Tag) (nodes : Nodes) (u : Rejected) → Ground ext ancestors nodes → rejected says nodes ≡ Some u → Found ext ancestors u
+rejected_found ext says ancestors no_nodes u g e = cc
+rejected_found ext says ancestors (bytes b rest) u g e = rejected_found ext says ancestors rest u g e
+rejected_found ext says ancestors (element tag kids rest) u g e =
+    at (rejected_cases (is_restore (fate_of says tag)) tag.kind kids (rejected says rest) u e) (λ k. rejected_found ext says ancestors rest u g.2 k)
   where
-    of_fit : Fits around tag → tag.kind ≡ Change u.prop → role around tag ≡ Change u.prop
+    of_fit : Fits ancestors tag → tag.kind ≡ Change u.prop → role ancestors tag ≡ Change u.prop
     of_fit (inl k) c = sym k ∙ c
     of_fit (inr m) c = absurd (let h : Marker ≡ Change u.prop = sym m.kind ∙ c in cc)
 
-    at : ((tag.kind ≡ Change u.prop) × (former_kids (props_name u.prop) kids ≡ u.former)) ⊎ (rejected says rest ≡ Some u) → (rejected says rest ≡ Some u → Found ext around u) → Found ext around u
+    at : ((tag.kind ≡ Change u.prop) × (former_kids (props_name u.prop) kids ≡ u.former)) ⊎ (rejected says rest ≡ Some u) → (rejected says rest ≡ Some u → Found ext ancestors u) → Found ext ancestors u
     at (inl (k, n)) ih = record { change = tag; kids = kids; role_is = of_fit g.0.fits k; rule_8 = g.0.rules.rule_8; ground = g.1; former_is = n }
     at (inr h) ih = ih h
 
-pub former_found : (ext : Test) → (local : List ℕ) (around : List Tag) (nodes : Nodes) → Ground ext around nodes →
-    (former_kids local nodes ≡ no_nodes) ⊎ ((f : Tag) × Ground ext (f ∷ around) (former_kids local nodes))
-former_found ext local around no_nodes g = inl refl
-former_found ext local around (bytes b rest) g = former_found ext local around rest g
-former_found ext local around (element tag kids rest) g = at (named local tag) (former_found ext local around rest g.2)
+pub former_found : (ext : Test) → (local : List ℕ) (ancestors : List Tag) (nodes : Nodes) → Ground ext ancestors nodes →
+    (former_kids local nodes ≡ no_nodes) ⊎ ((f : Tag) × Ground ext (f ∷ ancestors) (former_kids local nodes))
+former_found ext local ancestors no_nodes g = inl refl
+former_found ext local ancestors (bytes b rest) g = former_found ext local ancestors rest g
+former_found ext local ancestors (element tag kids rest) g = at (named local tag) (former_found ext local ancestors rest g.2)
   where
-    at : (b : Bool) → (former_kids local rest ≡ no_nodes) ⊎ ((f : Tag) × Ground ext (f ∷ around) (former_kids local rest)) →
-        ((if b then kids else former_kids local rest) ≡ no_nodes) ⊎ ((f : Tag) × Ground ext (f ∷ around) (if b then kids else former_kids local rest))
+    at : (b : Bool) → (former_kids local rest ≡ no_nodes) ⊎ ((f : Tag) × Ground ext (f ∷ ancestors) (former_kids local rest)) →
+        ((if b then kids else former_kids local rest) ≡ no_nodes) ⊎ ((f : Tag) × Ground ext (f ∷ ancestors) (if b then kids else former_kids local rest))
     at true ih = inr (tag, g.1)
     at false ih = ih
 
-pub rejected_former : (ext : Test) → (around : List Tag) (u : Rejected) (f : Found ext around u) →
-    (u.former ≡ no_nodes) ⊎ ((x : Tag) × Ground ext (x ∷ f.change ∷ around) u.former)
-rejected_former ext around u f = rw f.former_is at (former_found ext (props_name u.prop) (f.change ∷ around) f.kids f.ground)
+pub rejected_former : (ext : Test) → (ancestors : List Tag) (u : Rejected) (f : Found ext ancestors u) →
+    (u.former ≡ no_nodes) ⊎ ((x : Tag) × Ground ext (x ∷ f.change ∷ ancestors) u.former)
+rejected_former ext ancestors u f = rw f.former_is at (former_found ext (props_name u.prop) (f.change ∷ ancestors) f.kids f.ground)
 
 -- which property element has a change
 abbrev pub owner_of : Prop → String
@@ -264,26 +265,26 @@ owner_of Except = "tblPrEx"
 owner_of RowProp = "trPr"
 owner_of CellProp = "tcPr"
 
-run_props_name : (tag : Tag) (around : List Tag) → in_run_props (tag ∷ around) ≡ true → is "rPr" tag ≡ true
-run_props_name tag around e = (and_parts (is "rPr" tag) (in_run_owner around) e).0
+run_props_name : (tag : Tag) (ancestors : List Tag) → in_run_props (tag ∷ ancestors) ≡ true → is "rPr" tag ≡ true
+run_props_name tag ancestors e = (and_parts (is "rPr" tag) (in_run_owner ancestors) e).0
 
 or_same : (x y : Bool) (a b : Bool) → ((x && a) || (y && b)) ≡ true → (x ≡ true → y ≡ true) → y ≡ true
 or_same true y a b e h = h refl
 or_same false true a b e h = refl
 or_same false false a b e h = absurd (true≢false (sym e))
 
-pub props_owner : (prop : Prop) (tag : Tag) (around : List Tag) → in_props prop (tag ∷ around) ≡ true → is (owner_of prop) tag ≡ true
-props_owner Run tag around e = at (in_run_props (tag ∷ around)) refl e
+pub props_owner : (prop : Prop) (tag : Tag) (ancestors : List Tag) → in_props prop (tag ∷ ancestors) ≡ true → is (owner_of prop) tag ≡ true
+props_owner Run tag ancestors e = at (in_run_props (tag ∷ ancestors)) refl e
   where
-    at : (x : Bool) → in_run_props (tag ∷ around) ≡ x → (x || in_mark_props (tag ∷ around)) ≡ true → is "rPr" tag ≡ true
-    at true h e = run_props_name tag around h
-    at false h e = (and_parts (is "rPr" tag) (within ("pPr" ∷ "p" ∷ []) around) e).0
-props_owner ParaProp tag around e = (and_parts (is "pPr" tag) (within ("p" ∷ []) around) e).0
-props_owner Sect tag around e = or_same (is "sectPr" tag) (is "sectPr" tag) (within ("body" ∷ []) around) (within ("pPr" ∷ "p" ∷ []) around) e (λ h. h)
-props_owner Table tag around e = (and_parts (is "tblPr" tag) (within ("tbl" ∷ []) around) e).0
-props_owner Except tag around e = (and_parts (is "tblPrEx" tag) (within ("tr" ∷ []) around) e).0
-props_owner RowProp tag around e = (and_parts (is "trPr" tag) (within ("tr" ∷ []) around) e).0
-props_owner CellProp tag around e = (and_parts (is "tcPr" tag) (within ("tc" ∷ []) around) e).0
+    at : (x : Bool) → in_run_props (tag ∷ ancestors) ≡ x → (x || in_mark_props (tag ∷ ancestors)) ≡ true → is "rPr" tag ≡ true
+    at true h e = run_props_name tag ancestors h
+    at false h e = (and_parts (is "rPr" tag) (within ("pPr" ∷ "p" ∷ []) ancestors) e).0
+props_owner ParaProp tag ancestors e = (and_parts (is "pPr" tag) (within ("p" ∷ []) ancestors) e).0
+props_owner Sect tag ancestors e = or_same (is "sectPr" tag) (is "sectPr" tag) (within ("body" ∷ []) ancestors) (within ("pPr" ∷ "p" ∷ []) ancestors) e (λ h. h)
+props_owner Table tag ancestors e = (and_parts (is "tblPr" tag) (within ("tbl" ∷ []) ancestors) e).0
+props_owner Except tag ancestors e = (and_parts (is "tblPrEx" tag) (within ("tr" ∷ []) ancestors) e).0
+props_owner RowProp tag ancestors e = (and_parts (is "trPr" tag) (within ("tr" ∷ []) ancestors) e).0
+props_owner CellProp tag ancestors e = (and_parts (is "tcPr" tag) (within ("tc" ∷ []) ancestors) e).0
 
 pub owner_quiet : (prop : Prop) (tag : Tag) → is (owner_of prop) tag ≡ true → is_quiet tag ≡ true
 owner_quiet Run tag e = by_name (λ t. is_quiet t ≡ true) "rPr" tag e refl
@@ -294,26 +295,26 @@ owner_quiet Except tag e = by_name (λ t. is_quiet t ≡ true) "tblPrEx" tag e r
 owner_quiet RowProp tag e = by_name (λ t. is_quiet t ≡ true) "trPr" tag e refl
 owner_quiet CellProp tag e = by_name (λ t. is_quiet t ≡ true) "tcPr" tag e refl
 
-pub change_props : (around : List Tag) (ch : Tag) (prop : Prop) → role around ch ≡ Change prop → in_props prop around ≡ true
-change_props around ch prop e = at (prop_of ch) refl
+pub change_props : (ancestors : List Tag) (ch : Tag) (prop : Prop) → role ancestors ch ≡ Change prop → in_props prop ancestors ≡ true
+change_props ancestors ch prop e = at (prop_of ch) refl
   where
     same : (x : Bool) (p : Prop) → first_role (placed x (Some (Change p)) ∷ []) ≡ Change prop → (x ≡ true) × (p ≡ prop)
     same true p h = (refl, cc)
     same false p h = cc
 
-    at : (p : Option Prop) → prop_of ch ≡ p → in_props prop around ≡ true
-    at None h = absurd (true≢false (sym (ap is_change e) ∙ change_role around ch ∙ ap (at_props around) h))
+    at : (p : Option Prop) → prop_of ch ≡ p → in_props prop ancestors ≡ true
+    at None h = absurd (true≢false (sym (ap is_change e) ∙ change_role ancestors ch ∙ ap (at_props ancestors) h))
     at (Some p) h =
-        let both = same (in_props p around) p (sym (change_first around ch p h) ∙ e) in
+        let both = same (in_props p ancestors) p (sym (change_first ancestors ch p h) ∙ e) in
         rw both.1 at both.0
 
 -- the parent of a change is a property element
-pub change_parent : (around : List Tag) (parent a : Tag) → is_change (role (parent ∷ around) a) ≡ true → is_quiet parent ≡ true
-change_parent around parent a e = at (prop_of a) (sym (change_role (parent ∷ around) a) ∙ e)
+pub change_parent : (ancestors : List Tag) (parent a : Tag) → is_change (role (parent ∷ ancestors) a) ≡ true → is_quiet parent ≡ true
+change_parent ancestors parent a e = at (prop_of a) (sym (change_role (parent ∷ ancestors) a) ∙ e)
   where
-    at : (p : Option Prop) → at_props (parent ∷ around) p ≡ true → is_quiet parent ≡ true
+    at : (p : Option Prop) → at_props (parent ∷ ancestors) p ≡ true → is_quiet parent ≡ true
     at None h = absurd (true≢false (sym h))
-    at (Some prop) h = owner_quiet prop parent (props_owner prop parent around h)
+    at (Some prop) h = owner_quiet prop parent (props_owner prop parent ancestors h)
 
 -- Restored properties
 
@@ -484,10 +485,10 @@ pub record Settled (old new : List Tag) : Type 0 where
   pub para : (a : Tag) → Free3 old a → Para old new a
   pub mark : NoMarkBelow old new
 
-pub change_name : (around : List Tag) (a : Tag) → is_change (role around a) ≡ true → is_some (prop_of a) ≡ true
-change_name around a e = at (prop_of a) (sym (change_role around a) ∙ e)
+pub change_name : (ancestors : List Tag) (a : Tag) → is_change (role ancestors a) ≡ true → is_some (prop_of a) ≡ true
+change_name ancestors a e = at (prop_of a) (sym (change_role ancestors a) ∙ e)
   where
-    at : (p : Option Prop) → at_props around p ≡ true → is_some p ≡ true
+    at : (p : Option Prop) → at_props ancestors p ≡ true → is_some p ≡ true
     at None h = h
     at (Some p) h = refl
 

@@ -6,5 +6,6 @@ pub mod Groups
 pub mod Beside
 pub mod Pass
 pub mod Packages
+pub mod Taken
 pub mod StoryWalk
 pub mod Survivors

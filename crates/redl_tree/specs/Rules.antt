@@ -1,2 +1,4 @@
 -- The structure rules.
+pub mod Tests
+pub mod CellEnds
 pub mod Sound

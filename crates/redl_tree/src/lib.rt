@@ -8,6 +8,7 @@
 mod around;
 mod copy;
 mod count;
+mod kids;
 mod kinds;
 mod level;
 mod lists;
@@ -21,6 +22,7 @@ mod write;
 pub use around::{Around, Parent};
 pub use copy::{copy_node, copy_nodes};
 pub use count::count_nodes;
+pub use kids::has_elements;
 pub use kinds::{Fate, Kind, Prop, Say, Space, Trace};
 pub use level::{Level, is_named_pkg, is_story_root};
 pub use lists::{Lot, Place, Reach, is_thick, is_wrapper};

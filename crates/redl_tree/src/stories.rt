@@ -2,7 +2,8 @@
 
 ghost use Rattle.std.specs.Prelude.{◌≡◌, ◌≤◌, ◌+◌, ℕ, List, Bool, true, OnOk};
 ghost use Rattle.redl_tree.specs.Model.Count.{count, item_count};
-ghost use Rattle.redl_tree.specs.Model.Nodes.{Tag};
+ghost use Rattle.redl_tree.specs.Model.Nodes.{Tag, Nodes};
+ghost use Rattle.redl_tree.specs.Decisions.Taken.{TakesAll, TakesAt};
 ghost use Rattle.redl_tree.specs.Decisions.Packages.{level_of, stories, stories_in, element_stories, StoryRule, left_after, changed_stories, changed_in, changed_package};
 ghost use Rattle.redl_tree.specs.Decisions.StoryWalk.{changed_kids, changed_item, item_stories};
 ghost use Rattle.redl_tree.specs.Model.View.{nodes_of, item_of, tag_of, kids_of, held_of, spaced_of};
@@ -23,6 +24,9 @@ pub trait StoryChange<S> {
     // What becomes of a story by it, and what is left of it for the next one.
     ghost rule: { StoryRule Self.Given };
 
+    // Which stories it takes, by what the stories before have left for it. Most changes take every story.
+    ghost Takes: { Self.Given → Tag → Nodes → Type 0 };
+
     // Whether the nodes that are looked at are counted, and how many were.
     ghost is_counted: { Bool };
 
@@ -35,6 +39,7 @@ pub trait StoryChange<S> {
 
     /// Changes the kids of the root of a story.
     fn change(&self, root: &mut Elem, state: &mut S) -> Result<(), Self::Error>
+        requires taken { Self.Takes (Self.given self.now state.old) (tag_of root.old) (kids_of root.old) }
         ensures tag { OnOk result (tag_of root.new ≡ tag_of root.old) }
         ensures kids { OnOk result (kids_of root.new ≡ (Self.rule).kids (Self.given self.now state.old) (tag_of root.old) (kids_of root.old)) }
         ensures left { OnOk result (Self.given self.now state.new ≡ (Self.rule).left (Self.given self.now state.old) (tag_of root.old) (kids_of root.old)) }
@@ -52,6 +57,7 @@ pub fn change_stories<S, C: StoryChange<S>>(
     change: &C,
     state: &mut S,
 ) -> Result<(), C::Error>
+    requires taken { TakesAll C.rule C.Takes (C.given change.now state.old) (stories (nodes_of nodes.old)) }
     ensures nodes { OnOk result (nodes_of nodes.new ≡ changed_package C.rule (C.given change.now state.old) (nodes_of nodes.old)) }
     ensures stories { OnOk result (stories (nodes_of nodes.new) ≡ changed_stories C.rule (C.given change.now state.old) (stories (nodes_of nodes.old))) }
     ensures left { OnOk result (C.given change.now state.new ≡ left_after C.rule (C.given change.now state.old) (stories (nodes_of nodes.old))) }
@@ -71,10 +77,11 @@ fn change_among<S, C: StoryChange<S>>(
     change: &C,
     state: &mut S,
 ) -> Result<(), C::Error>
-    ensures nodes { OnOk result ((around : List Tag) → level ≡ level_of around
-        → nodes_of nodes.new ≡ changed_in C.rule (C.given change.now state.old) around (nodes_of nodes.old)) }
-    ensures left { OnOk result ((around : List Tag) → level ≡ level_of around
-        → C.given change.now state.new ≡ left_after C.rule (C.given change.now state.old) (stories_in around (nodes_of nodes.old))) }
+    requires taken { TakesAt C.rule C.Takes (C.given change.now state.old) level (λ ancestors. stories_in ancestors (nodes_of nodes.old)) }
+    ensures nodes { OnOk result ((ancestors : List Tag) → level ≡ level_of ancestors
+        → nodes_of nodes.new ≡ changed_in C.rule (C.given change.now state.old) ancestors (nodes_of nodes.old)) }
+    ensures left { OnOk result ((ancestors : List Tag) → level ≡ level_of ancestors
+        → C.given change.now state.new ≡ left_after C.rule (C.given change.now state.old) (stories_in ancestors (nodes_of nodes.old))) }
     ensures entered { C.is_counted ≡ true → C.steps state.new ≤ C.steps state.old + count (nodes_of nodes.old) }
     ensures made { OnOk result (C.is_counted ≡ true → C.steps state.old + count (nodes_of nodes.new) ≤ C.steps state.new) }
 {
@@ -91,10 +98,11 @@ fn change_node<S, C: StoryChange<S>>(
     change: &C,
     state: &mut S,
 ) -> Result<(), C::Error>
-    ensures node { OnOk result ((around : List Tag) → level ≡ level_of around
-        → item_of node.new ≡ changed_item C.rule (C.given change.now state.old) around (item_of node.old)) }
-    ensures left { OnOk result ((around : List Tag) → level ≡ level_of around
-        → C.given change.now state.new ≡ left_after C.rule (C.given change.now state.old) (item_stories around (item_of node.old))) }
+    requires taken { TakesAt C.rule C.Takes (C.given change.now state.old) level (λ ancestors. item_stories ancestors (item_of node.old)) }
+    ensures node { OnOk result ((ancestors : List Tag) → level ≡ level_of ancestors
+        → item_of node.new ≡ changed_item C.rule (C.given change.now state.old) ancestors (item_of node.old)) }
+    ensures left { OnOk result ((ancestors : List Tag) → level ≡ level_of ancestors
+        → C.given change.now state.new ≡ left_after C.rule (C.given change.now state.old) (item_stories ancestors (item_of node.old))) }
     ensures entered { C.is_counted ≡ true → C.steps state.new ≤ C.steps state.old + item_count (item_of node.old) }
     ensures made { OnOk result (C.is_counted ≡ true → C.steps state.old + item_count (item_of node.new) ≤ C.steps state.new) }
 {
@@ -113,11 +121,12 @@ fn change_elem<S, C: StoryChange<S>>(
     change: &C,
     state: &mut S,
 ) -> Result<(), C::Error>
+    requires taken { TakesAt C.rule C.Takes (C.given change.now state.old) level (λ ancestors. element_stories ancestors (tag_of elem.old) (kids_of elem.old)) }
     ensures tag { OnOk result (tag_of elem.new ≡ tag_of elem.old) }
-    ensures kids { OnOk result ((around : List Tag) → level ≡ level_of around
-        → kids_of elem.new ≡ changed_kids C.rule (C.given change.now state.old) around (tag_of elem.old) (kids_of elem.old)) }
-    ensures left { OnOk result ((around : List Tag) → level ≡ level_of around
-        → C.given change.now state.new ≡ left_after C.rule (C.given change.now state.old) (element_stories around (tag_of elem.old) (kids_of elem.old))) }
+    ensures kids { OnOk result ((ancestors : List Tag) → level ≡ level_of ancestors
+        → kids_of elem.new ≡ changed_kids C.rule (C.given change.now state.old) ancestors (tag_of elem.old) (kids_of elem.old)) }
+    ensures left { OnOk result ((ancestors : List Tag) → level ≡ level_of ancestors
+        → C.given change.now state.new ≡ left_after C.rule (C.given change.now state.old) (element_stories ancestors (tag_of elem.old) (kids_of elem.old))) }
     ensures entered { C.is_counted ≡ true → C.steps state.new ≤ C.steps state.old + count (kids_of elem.old) }
     ensures made { OnOk result (C.is_counted ≡ true → C.steps state.old + count (kids_of elem.new) ≤ C.steps state.new) }
 {
@@ -135,11 +144,12 @@ fn change_body<S, C: StoryChange<S>>(
     change: &C,
     state: &mut S,
 ) -> Result<(), C::Error>
+    requires taken { TakesAt C.rule C.Takes (C.given change.now state.old) level (λ ancestors. stories_in ancestors (held_of body.old).kids) }
     ensures close { OnOk result ((held_of body.new).close ≡ (held_of body.old).close) }
-    ensures kids { OnOk result ((around : List Tag) → level ≡ level_of around
-        → (held_of body.new).kids ≡ changed_in C.rule (C.given change.now state.old) around (held_of body.old).kids) }
-    ensures left { OnOk result ((around : List Tag) → level ≡ level_of around
-        → C.given change.now state.new ≡ left_after C.rule (C.given change.now state.old) (stories_in around (held_of body.old).kids)) }
+    ensures kids { OnOk result ((ancestors : List Tag) → level ≡ level_of ancestors
+        → (held_of body.new).kids ≡ changed_in C.rule (C.given change.now state.old) ancestors (held_of body.old).kids) }
+    ensures left { OnOk result ((ancestors : List Tag) → level ≡ level_of ancestors
+        → C.given change.now state.new ≡ left_after C.rule (C.given change.now state.old) (stories_in ancestors (held_of body.old).kids)) }
     ensures entered { C.is_counted ≡ true → C.steps state.new ≤ C.steps state.old + count (held_of body.old).kids }
     ensures made { OnOk result (C.is_counted ≡ true → C.steps state.old + count (held_of body.new).kids ≤ C.steps state.new) }
 {
@@ -158,11 +168,12 @@ fn change_spaced<S, C: StoryChange<S>>(
     change: &C,
     state: &mut S,
 ) -> Result<(), C::Error>
+    requires taken { TakesAt C.rule C.Takes (C.given change.now state.old) level (λ ancestors. stories_in ancestors (spaced_of spaced.old.value).kids) }
     ensures close { OnOk result ((spaced_of spaced.new.value).close ≡ (spaced_of spaced.old.value).close) }
-    ensures kids { OnOk result ((around : List Tag) → level ≡ level_of around
-        → (spaced_of spaced.new.value).kids ≡ changed_in C.rule (C.given change.now state.old) around (spaced_of spaced.old.value).kids) }
-    ensures left { OnOk result ((around : List Tag) → level ≡ level_of around
-        → C.given change.now state.new ≡ left_after C.rule (C.given change.now state.old) (stories_in around (spaced_of spaced.old.value).kids)) }
+    ensures kids { OnOk result ((ancestors : List Tag) → level ≡ level_of ancestors
+        → (spaced_of spaced.new.value).kids ≡ changed_in C.rule (C.given change.now state.old) ancestors (spaced_of spaced.old.value).kids) }
+    ensures left { OnOk result ((ancestors : List Tag) → level ≡ level_of ancestors
+        → C.given change.now state.new ≡ left_after C.rule (C.given change.now state.old) (stories_in ancestors (spaced_of spaced.old.value).kids)) }
     ensures entered { C.is_counted ≡ true → C.steps state.new ≤ C.steps state.old + count (spaced_of spaced.old.value).kids }
     ensures made { OnOk result (C.is_counted ≡ true → C.steps state.old + count (spaced_of spaced.new.value).kids ≤ C.steps state.new) }
 {

@@ -46,6 +46,7 @@ impl<'a> Model for Tag<'a> {
 }
 
 // The local name in a start tag with this text, where the prefix has `prefix` bytes and the name `name` bytes.
+#[inline(always)]
 fn local_read(text: &[u8], prefix: u32, name: u32) -> &[u8]
     requires { IsCut text.now prefix name }
     ensures { result.now ≡ local_in text.now prefix name }
@@ -98,6 +99,7 @@ impl<'a> Tag<'a> {
     }
 
     /// The name without its prefix.
+    #[inline(always)]
     pub fn local(&self) -> &'a [u8]
         ensures { result.now ≡ self.now.local }
     {
@@ -116,6 +118,7 @@ impl<'a> Tag<'a> {
     }
 
     /// The namespace of the name.
+    #[inline(always)]
     pub fn space(&self) -> Space
         ensures { result ≡ self.now.space }
     {

@@ -22,7 +22,9 @@ use Rattle.redl_words.specs.declared.verb.Verb.TheVariants as verbs
 use Rattle.redl_words.specs.declared.command.Command as code
 use Rattle.redl_words.specs.Commands.{Command, settle, list, write, decide, join, check, sample, is_name, Item, format, lock, journal, named_journal, choice, item_words, Admits, of_list, of_write, of_decide, Form as Kind, formats_of, locks_of, journals_of, say_word, IsSettle, IsList, IsWrite, IsDecide, IsJoin, IsCheck, IsSample, IsCommand, HasNoCommand, HasUtf8}
 use Rattle.redl_words.specs.Views.{command_of}
-use Rattle.redl_words.specs.Reading.{Finds, Gathered, nothing, gathered, verb_in, say_in, settle_in, format_or_text, list_in, write_in, decide_with, decide_in, names_in, join_in, check_in, sample_in, command_with, command_in}
+use Rattle.redl_words.specs.Reading.Answers.{Finds}
+use Rattle.redl_words.specs.Reading.Items.{Gathered, nothing, gathered}
+use Rattle.redl_words.specs.Reading.Commands.{verb_in, say_in, settle_in, format_or_text, list_in, write_in, decide_with, decide_in, names_in, join_in, check_in, sample_in, command_with, command_in}
 use Rattle.redl_words.proofs.SelectionLaws.{bytes_same, map_some}
 use Rattle.redl_words.proofs.ItemLaws.{items_take, read_again}
 

@@ -19,7 +19,9 @@ use Rattle.redl_words.specs.declared.options.ItemOption.{ItemOption}
 use Rattle.redl_words.specs.declared.options.ItemOption.TheVariants as options
 use Rattle.redl_words.specs.declared.error.WordsError.{WordsError}
 use Rattle.redl_words.specs.declared.error.WordsError.TheVariants.{Usage, NoMemory}
-use Rattle.redl_words.specs.Reading.{Fails, Finds, Goes, Gathered, nothing, with_journal, with_plain_journal, has_plain_journals, deciding_option, own_option, option_in, with_format, with_option, with_word, gathered, selection_in}
+use Rattle.redl_words.specs.Reading.Answers.{Fails, Finds}
+use Rattle.redl_words.specs.Reading.Selections.{selection_in}
+use Rattle.redl_words.specs.Reading.Items.{Goes, Gathered, nothing, with_journal, with_plain_journal, has_plain_journals, deciding_option, own_option, option_in, with_format, with_option, with_word, gathered}
 use Rattle.redl_words.proofs.SelectionLaws.{bytes_same, selection_takes, selection_again}
 
 -- the form of the definition

@@ -23,7 +23,7 @@ use Rattle.redl_index.specs.KindNames.{kind_name, kind_named}
 use Rattle.redl_index.proofs.KindNameLaws.{kind_named-exact}
 use Rattle.redl_select.specs.Selections.{Selection, all, numbers, author, span, kind}
 use Rattle.redl_words.specs.Selections.{ListsNumbers, GivesSpan, NamesKind, Means}
-use Rattle.redl_words.specs.Reading.{numbers_after, numbers_in, moments_in, span_in, labelled, selection_parts, selection_in}
+use Rattle.redl_words.specs.Reading.Selections.{numbers_after, numbers_in, moments_in, span_in, labelled, selection_parts, selection_in}
 use Rattle.redl_words.proofs.DateLaws.{date_has_no_slash}
 
 pub bytes_same : (xs ys : List ℕ) → bytes_eq xs ys ≡ true → xs ≡ ys

@@ -1,7 +1,8 @@
 //! Items: what stands behind the name of a package, in any order.
 
 ghost use Rattle.std.specs.Prelude.{◌≡◌, ◌≤◌, ◌∷◌, All, IfOk, IsUtf8, length};
-ghost use Rattle.redl_words.specs.Reading.{Finds, Goes, gathered, items_view, nothing, with_option, with_plain_journal, with_word};
+ghost use Rattle.redl_words.specs.Reading.Answers.{Finds};
+ghost use Rattle.redl_words.specs.Reading.Items.{Goes, gathered, items_view, nothing, with_option, with_plain_journal, with_word};
 
 use crate::error::WordsError;
 use crate::names::{add_copy, is_file_name};
@@ -36,7 +37,7 @@ impl Items {
     }
 
     /// Adds a journal that stands without an option.
-    #[tactic(auto, unfolding(crate::specs::Reading::with_plain_journal))]
+    #[tactic(auto, unfolding(crate::specs::Reading::Items::with_plain_journal))]
     fn add_plain_journal(
         &mut self,
         alloc: Global,
@@ -53,7 +54,7 @@ impl Items {
     }
 
     /// Sets the format, which may come once.
-    #[tactic(auto, unfolding(crate::specs::Reading::with_option))]
+    #[tactic(auto, unfolding(crate::specs::Reading::Items::with_option))]
     fn set_format(&mut self, alloc: Global, name: &Text) -> Result<(), WordsError>
         ensures { Finds (λ _. items_view self.new) result (with_option ItemOption.Format name.now (items_view self.old)) }
     {
@@ -65,7 +66,7 @@ impl Items {
     }
 
     /// Adds a locked author.
-    #[tactic(auto, unfolding(crate::specs::Reading::with_option))]
+    #[tactic(auto, unfolding(crate::specs::Reading::Items::with_option))]
     fn add_lock(&mut self, alloc: Global, author: &Text) -> Result<(), WordsError>
         ensures { Finds (λ _. items_view self.new) result (with_option ItemOption.Lock author.now (items_view self.old)) }
     {
@@ -74,7 +75,7 @@ impl Items {
     }
 
     /// Adds a journal that an option names.
-    #[tactic(auto, unfolding(crate::specs::Reading::with_option))]
+    #[tactic(auto, unfolding(crate::specs::Reading::Items::with_option))]
     fn add_journal(&mut self, alloc: Global, name: &Text) -> Result<(), WordsError>
         ensures { Finds (λ _. items_view self.new) result (with_option ItemOption.Journal name.now (items_view self.old)) }
     {
@@ -86,7 +87,7 @@ impl Items {
     }
 
     /// Adds what the reviewer decides on a selection.
-    #[tactic(auto, unfolding(crate::specs::Reading::with_option))]
+    #[tactic(auto, unfolding(crate::specs::Reading::Items::with_option))]
     fn add_choice(&mut self, alloc: Global, word: Word, text: &Text) -> Result<(), WordsError>
         requires { IsUtf8 text.now }
         ensures { Finds (λ _. items_view self.new) result (with_option (ItemOption.Choice word) text.now (items_view self.old)) }
@@ -116,7 +117,7 @@ impl Items {
     }
 
     /// Adds what a word says that is an option, with the word after it.
-    #[tactic(auto, unfolding(crate::specs::Reading::with_word))]
+    #[tactic(auto, unfolding(crate::specs::Reading::Items::with_word))]
     fn add_pair(
         &mut self,
         alloc: Global,

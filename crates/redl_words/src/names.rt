@@ -3,7 +3,8 @@
 ghost use Rattle.std.specs.Prelude.{◌≡◌, ◌++◌, ◌∷◌, [], OnOk, IfOk};
 ghost use Rattle.std.specs.List.{list_all};
 ghost use Rattle.redl_words.specs.Commands.{is_name};
-ghost use Rattle.redl_words.specs.Reading.{Finds, names_in};
+ghost use Rattle.redl_words.specs.Reading.Answers.{Finds};
+ghost use Rattle.redl_words.specs.Reading.Commands.{names_in};
 
 use crate::error::WordsError;
 use redl_io::Text;

@@ -1,7 +1,7 @@
 //! Options: the words that say what the next word is.
 
 ghost use Rattle.std.specs.Prelude.{◌≡◌};
-ghost use Rattle.redl_words.specs.Reading.{option_in, own_option, deciding_option};
+ghost use Rattle.redl_words.specs.Reading.Items.{option_in, own_option, deciding_option};
 
 use redl_journal::Word;
 
@@ -24,7 +24,7 @@ pub(crate) enum ItemOption {
 }
 
 /// The option that a word is in a command of this form.
-#[tactic(auto, unfolding(crate::specs::Reading::option_in))]
+#[tactic(auto, unfolding(crate::specs::Reading::Items::option_in))]
 pub(crate) fn read_option(form: Form, word: &[u8]) -> Option<ItemOption>
     ensures { result ≡ option_in form word.now }
 {

@@ -2,7 +2,8 @@
 
 ghost use Rattle.std.specs.Prelude.{◌≡◌, All, IfOk, IsErrOf, IsUtf8};
 ghost use Rattle.redl_words.specs.Commands.{HasNoCommand, HasUtf8, IsCommand};
-ghost use Rattle.redl_words.specs.Reading.{Finds, check_in, command_in, decide_in, format_or_text, join_in, list_in, sample_in, say_in, settle_in, write_in};
+ghost use Rattle.redl_words.specs.Reading.Answers.{Finds};
+ghost use Rattle.redl_words.specs.Reading.Commands.{check_in, command_in, decide_in, format_or_text, join_in, list_in, sample_in, say_in, settle_in, write_in};
 ghost use Rattle.redl_words.specs.Views.{command_of};
 
 use crate::command::Command;
@@ -30,7 +31,7 @@ pub fn read_words(alloc: Global, words: &[Text]) -> Result<Command, WordsError>
 }
 
 /// The same, in the words of reading.
-#[tactic(auto, unfolding(crate::specs::Reading::command_in))]
+#[tactic(auto, unfolding(crate::specs::Reading::Commands::command_in))]
 fn read_command(alloc: Global, words: &[Text]) -> Result<Command, WordsError>
     requires { All IsUtf8 words.now }
     ensures { Finds command_of result (command_in words.now) }
@@ -51,7 +52,7 @@ fn read_command(alloc: Global, words: &[Text]) -> Result<Command, WordsError>
 }
 
 /// The words after `settle`.
-#[tactic(auto, unfolding(crate::specs::Reading::settle_in))]
+#[tactic(auto, unfolding(crate::specs::Reading::Commands::settle_in))]
 fn read_settle(alloc: Global, words: &[Text]) -> Result<Command, WordsError>
     ensures { Finds command_of result (settle_in words.now) }
 {
@@ -69,7 +70,7 @@ fn read_settle(alloc: Global, words: &[Text]) -> Result<Command, WordsError>
 }
 
 /// Whether the word says accept. `None` where it says neither accept nor reject.
-#[tactic(auto, unfolding(crate::specs::Reading::say_in))]
+#[tactic(auto, unfolding(crate::specs::Reading::Commands::say_in))]
 fn read_say(word: &[u8]) -> Option<bool>
     ensures { result ≡ say_in word.now }
 {
@@ -83,7 +84,7 @@ fn read_say(word: &[u8]) -> Option<bool>
 }
 
 /// The words after `list`.
-#[tactic(auto, unfolding(crate::specs::Reading::list_in))]
+#[tactic(auto, unfolding(crate::specs::Reading::Commands::list_in))]
 fn read_list(alloc: Global, words: &[Text]) -> Result<Command, WordsError>
     requires { All IsUtf8 words.now }
     ensures { Finds command_of result (list_in words.now) }
@@ -116,7 +117,7 @@ fn format_or_text(alloc: Global, format: Option<Text>) -> Result<Text, AllocErro
 }
 
 /// The words after `write`.
-#[tactic(auto, unfolding(crate::specs::Reading::write_in))]
+#[tactic(auto, unfolding(crate::specs::Reading::Commands::write_in))]
 fn read_write(alloc: Global, words: &[Text]) -> Result<Command, WordsError>
     requires { All IsUtf8 words.now }
     ensures { Finds command_of result (write_in words.now) }
@@ -137,7 +138,7 @@ fn read_write(alloc: Global, words: &[Text]) -> Result<Command, WordsError>
 }
 
 /// The words after `decide`.
-#[tactic(auto, unfolding(crate::specs::Reading::decide_in))]
+#[tactic(auto, unfolding(crate::specs::Reading::Commands::decide_in))]
 fn read_decide(alloc: Global, words: &[Text]) -> Result<Command, WordsError>
     requires { All IsUtf8 words.now }
     ensures { Finds command_of result (decide_in words.now) }
@@ -164,7 +165,7 @@ fn read_decide(alloc: Global, words: &[Text]) -> Result<Command, WordsError>
 }
 
 /// The words after `join`.
-#[tactic(auto, unfolding(crate::specs::Reading::join_in))]
+#[tactic(auto, unfolding(crate::specs::Reading::Commands::join_in))]
 fn read_join(alloc: Global, words: &[Text]) -> Result<Command, WordsError>
     ensures { Finds command_of result (join_in words.now) }
 {
@@ -176,7 +177,7 @@ fn read_join(alloc: Global, words: &[Text]) -> Result<Command, WordsError>
 }
 
 /// The words after `check`.
-#[tactic(auto, unfolding(crate::specs::Reading::check_in))]
+#[tactic(auto, unfolding(crate::specs::Reading::Commands::check_in))]
 fn read_check(alloc: Global, words: &[Text]) -> Result<Command, WordsError>
     ensures { Finds command_of result (check_in words.now) }
 {
@@ -191,7 +192,7 @@ fn read_check(alloc: Global, words: &[Text]) -> Result<Command, WordsError>
 }
 
 /// The words after `sample`.
-#[tactic(auto, unfolding(crate::specs::Reading::sample_in))]
+#[tactic(auto, unfolding(crate::specs::Reading::Commands::sample_in))]
 fn read_sample(words: &[Text]) -> Result<Command, WordsError>
     ensures { Finds command_of result (sample_in words.now) }
 {

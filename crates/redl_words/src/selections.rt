@@ -6,7 +6,8 @@ ghost use Rattle.redl_reading.specs.Lists.{field_at};
 ghost use Rattle.redl_index.specs.KindNames.{kind_named};
 ghost use Rattle.redl_select.specs.Views.{selection_of};
 ghost use Rattle.redl_select.specs.Selections.{kind};
-ghost use Rattle.redl_words.specs.Reading.{Finds, labelled, moments_in, numbers_in, selection_in, span_in, unlabelled};
+ghost use Rattle.redl_words.specs.Reading.Answers.{Finds};
+ghost use Rattle.redl_words.specs.Reading.Selections.{labelled, moments_in, numbers_in, selection_in, span_in, unlabelled};
 
 use crate::error::WordsError;
 use redl_index::RevKind;
@@ -17,7 +18,7 @@ use redl_stamp::read_moment;
 use std::alloc::Global;
 
 /// The selection that a text means.
-#[tactic(auto, unfolding(crate::specs::Reading::selection_in))]
+#[tactic(auto, unfolding(crate::specs::Reading::Selections::selection_in))]
 pub(crate) fn read_selection(alloc: Global, text: &str) -> Result<Selection, WordsError>
     ensures { Finds selection_of result (selection_in text.now) }
 {
@@ -53,7 +54,7 @@ fn read_unlabelled(text: &str) -> Result<Selection, WordsError>
 }
 
 /// The selection with this label and this value.
-#[tactic(auto, unfolding(crate::specs::Reading::labelled))]
+#[tactic(auto, unfolding(crate::specs::Reading::Selections::labelled))]
 fn read_labelled(alloc: Global, label: &str, value: &str) -> Result<Selection, WordsError>
     ensures { Finds selection_of result (labelled label.now value.now) }
 {
@@ -108,7 +109,7 @@ fn read_span(text: &str) -> Result<Selection, WordsError>
 }
 
 /// The moments of two dates with a slash between.
-#[tactic(auto, unfolding(crate::specs::Reading::moments_in))]
+#[tactic(auto, unfolding(crate::specs::Reading::Selections::moments_in))]
 fn span(text: &str) -> Option<(i64, i64)>
     ensures { result ≡ moments_in text.now }
 {

@@ -1,7 +1,7 @@
 //! Verbs: the first words of command lines.
 
 ghost use Rattle.std.specs.Prelude.{◌≡◌};
-ghost use Rattle.redl_words.specs.Reading.{verb_in};
+ghost use Rattle.redl_words.specs.Reading.Commands.{verb_in};
 
 /// Which command the words ask for.
 #[derive(Clone, Copy)]
@@ -16,7 +16,7 @@ pub(crate) enum Verb {
 }
 
 /// The verb that a word is.
-#[tactic(auto, unfolding(crate::specs::Reading::verb_in))]
+#[tactic(auto, unfolding(crate::specs::Reading::Commands::verb_in))]
 pub(crate) fn read_verb(word: &[u8]) -> Option<Verb>
     ensures { result ≡ verb_in word.now }
 {

@@ -11,8 +11,8 @@ ghost use Rattle.redl_xml.specs.Buildings.{frame_view, building_view};
 
 use crate::namespaces::enter;
 use crate::open_element::OpenElement;
-use crate::scope::Scopes;
 use crate::sizes::{Limits, Sizes};
+use crate::spaces::Spaces;
 use crate::start::kept;
 use redl_markup::{MarkupError, Name, Piece, StartTag};
 use redl_tree::{Elem, Node};
@@ -26,20 +26,22 @@ pub(crate) struct Building<'a> {
     pub(crate) open: Vec<OpenElement<'a>>,
     before: Vec<Vec<Node<'a>>>,
     pub(crate) kids: Vec<Node<'a>>,
-    scopes: Scopes<'a>,
+    scopes: Spaces<'a>,
 }
 
-/// Adds a node. Most elements have one alone, so the first one takes memory for no more.
+/// Adds a node. Most elements have few, so each of the first ones takes memory for no more.
+#[inline(always)]
 pub(crate) fn push_node<'a>(nodes: &mut Vec<Node<'a>>, node: Node<'a>) -> Result<(), AllocError>
     ensures { OnOk result (nodes_of nodes.new.items ≡ nodes_of nodes.old.items ⊕ in_front (item_of node.entry) no_nodes) }
 {
-    if nodes.is_empty() {
+    if nodes.len() < 3 {
         nodes.reserve_exact(1)?;
     }
     nodes.push(node)?;
     Ok(())
 }
 
+#[inline(always)]
 fn name_of<'a>(opened: &OpenElement<'a>) -> Name<'a>
     ensures { name_view result ≡ (frame_view opened.now no_nodes).name }
 {
@@ -57,10 +59,11 @@ impl<'a> Building<'a> {
             open: Vec::new(alloc),
             before: Vec::new(alloc),
             kids: Vec::new(alloc),
-            scopes: Scopes::new(alloc),
+            scopes: Spaces::new(alloc),
         }
     }
 
+    #[inline(always)]
     fn start(&mut self, alloc: Global, tag: &StartTag<'a>) -> Result<(), MarkupError>
         ensures ok { OnOk result (placed (start_tag tag.now.name tag.now.tail) (building_view self.old) ≡ Some (building_view self.new)) }
         ensures unreadable { IsErrOf result MarkupError.Unreadable → placed (start_tag tag.now.name tag.now.tail) (building_view self.old) ≡ None }
@@ -76,6 +79,7 @@ impl<'a> Building<'a> {
         Ok(())
     }
 
+    #[inline(always)]
     fn empty(&mut self, alloc: Global, tag: &StartTag<'a>) -> Result<(), MarkupError>
         ensures ok { OnOk result (placed (empty_tag tag.now.name tag.now.tail) (building_view self.old) ≡ Some (building_view self.new)) }
         ensures unreadable { IsErrOf result MarkupError.Unreadable → placed (empty_tag tag.now.name tag.now.tail) (building_view self.old) ≡ None }
@@ -87,6 +91,7 @@ impl<'a> Building<'a> {
         Ok(())
     }
 
+    #[inline(always)]
     fn stretch(&mut self, bytes: &'a [u8]) -> Result<(), MarkupError>
         ensures ok { OnOk result (placed (stretch bytes.entry.now) (building_view self.old) ≡ Some (building_view self.new)) }
         ensures unreadable { IsErrOf result MarkupError.Unreadable → placed (stretch bytes.entry.now) (building_view self.old) ≡ None }
@@ -98,6 +103,7 @@ impl<'a> Building<'a> {
         Ok(())
     }
 
+    #[inline(always)]
     fn end(&mut self, alloc: Global, name: Name<'a>, space: &'a [u8]) -> Result<(), MarkupError>
         ensures ok { OnOk result (placed (end_tag (name_view name.entry) space.entry.now) (building_view self.old) ≡ Some (building_view self.new)) }
         ensures unreadable { IsErrOf result MarkupError.Unreadable → placed (end_tag (name_view name.entry) space.entry.now) (building_view self.old) ≡ None }
@@ -118,6 +124,7 @@ impl<'a> Building<'a> {
     }
 
     /// Adds a piece. `Unreadable` if it is not allowed there.
+    #[inline(always)]
     pub(crate) fn place(&mut self, alloc: Global, piece: Piece<'a>) -> Result<(), MarkupError>
         ensures ok { OnOk result (placed (piece_view piece.entry) (building_view self.old) ≡ Some (building_view self.new)) }
         ensures unreadable { IsErrOf result MarkupError.Unreadable → placed (piece_view piece.entry) (building_view self.old) ≡ None }
@@ -131,6 +138,7 @@ impl<'a> Building<'a> {
     }
 
     /// Drops the nodes so far if the sizes are past a limit.
+    #[inline(always)]
     pub(crate) fn keep_within(&mut self, limits: Limits, sizes: Sizes)
         ensures kept { sizes.deepest ≤ limits.depth → sizes.nodes ≤ limits.nodes → building_view self.new ≡ building_view self.old }
         ensures rest { without_nodes (building_view self.new) ≡ without_nodes (building_view self.old) }

@@ -28,6 +28,7 @@ struct Document<'a> {
 
 /// The leading stretch of this place, which may be empty, and the bytes after it.
 #[tactic(auto, unfolding(crate::specs::Documents::stretch_in))]
+#[inline(never)]
 fn stretch(alloc: Global, bytes: &[u8], place: Place) -> Result<(&[u8], &[u8]), MarkupError>
     ensures { Finds (λ x. (x.0.now, x.1.now)) result (Some (stretch_in place bytes.now)) }
 {

@@ -15,6 +15,7 @@ mod namespaces;
 mod open_element;
 mod scope;
 mod sizes;
+mod spaces;
 mod start;
 
 /// The greatest depth of an element, with the root at depth 1.

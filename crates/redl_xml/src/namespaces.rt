@@ -11,7 +11,7 @@ ghost use Rattle.redl_markup.specs.Views.{name_view, attribute_view};
 ghost use Rattle.redl_xml.specs.Scopes.{space_named, is_xml_namespace, is_xml_prefix, is_xmlns, declared_prefix, may_declare, is_known, is_known_attribute, is_element_prefix, is_plain_name};
 ghost use Rattle.redl_xml.specs.Elements.{with_attribute, with_attributes, known, entered, declared_in};
 
-use crate::scope::Scopes;
+use crate::spaces::Spaces;
 use redl_markup::{Attribute, MarkupError, Name, StartTag, decode_value, next_attribute};
 use redl_tree::Space;
 use std::alloc::{AllocError, Global};
@@ -82,21 +82,22 @@ fn may_declare(prefix: &[u8], value: &[u8], decoded: &[u8]) -> bool
 }
 
 #[tactic(auto, unfolding(crate::specs::Scopes::is_known))]
-fn is_known<'a>(scopes: &Scopes<'a>, prefix: &'a [u8]) -> bool
+fn is_known<'a>(scopes: &Spaces<'a>, prefix: &'a [u8]) -> bool
     ensures { result ≡ is_known scopes.now prefix.now }
 {
     prefix.is_empty() || is_xml_prefix(prefix) || scopes.space(prefix).is_some()
 }
 
 /// Whether an element may have a prefix. An attribute with such a prefix is no declaration.
-fn is_element_prefix<'a>(scopes: &Scopes<'a>, prefix: &'a [u8]) -> bool
+#[cold]
+fn is_element_prefix<'a>(scopes: &Spaces<'a>, prefix: &'a [u8]) -> bool
     ensures { result ≡ is_element_prefix scopes.now prefix.now }
 {
     !is_xmlns(prefix) && is_known(scopes, prefix)
 }
 
 /// Whether an attribute with this name is a declaration, or has a prefix that may be used.
-fn is_known_attribute<'a>(scopes: &Scopes<'a>, name: Name<'a>) -> bool
+fn is_known_attribute<'a>(scopes: &Spaces<'a>, name: Name<'a>) -> bool
     ensures { result ≡ (is_there (declared_prefix (name_view name.entry)) || is_known scopes.now (name_view name.entry).prefix) }
 {
     declared_prefix(name).is_some() || is_known(scopes, name.prefix)
@@ -105,7 +106,7 @@ fn is_known_attribute<'a>(scopes: &Scopes<'a>, name: Name<'a>) -> bool
 /// Adds the declaration of an attribute, if it is one.
 #[tactic(auto, unfolding(crate::specs::Elements::with_attribute))]
 fn declare_attribute<'a>(
-    scopes: &mut Scopes<'a>,
+    scopes: &mut Spaces<'a>,
     alloc: Global,
     attribute: Attribute<'a>,
 ) -> Result<(), MarkupError>
@@ -124,7 +125,7 @@ fn declare_attribute<'a>(
 
 /// Adds the declarations among the attributes of a tail.
 fn declare_attributes<'a>(
-    scopes: &mut Scopes<'a>,
+    scopes: &mut Spaces<'a>,
     alloc: Global,
     tail: &'a [u8],
 ) -> Result<(), MarkupError>
@@ -139,7 +140,7 @@ fn declare_attributes<'a>(
 }
 
 /// Whether the prefixes of a tail's attributes may be used.
-fn are_known<'a>(scopes: &Scopes<'a>, tail: &'a [u8]) -> bool
+fn are_known<'a>(scopes: &Spaces<'a>, tail: &'a [u8]) -> bool
     ensures { result ≡ list_all (is_known_attribute scopes.now) (attributes_of tail.now) }
 {
     let mut more = tail;
@@ -153,14 +154,16 @@ fn are_known<'a>(scopes: &Scopes<'a>, tail: &'a [u8]) -> bool
 }
 
 /// The space of an element, if its prefix may be used.
+#[inline(always)]
 #[tactic(auto, unfolding(crate::specs::Scopes::is_known, crate::specs::Elements::known))]
-fn element_space<'a>(scopes: &Scopes<'a>, name: Name<'a>) -> Option<Space>
-    ensures { Gives (λ space. (space, scopes.now)) result (known (name_view name.entry) [] scopes.now) }
+fn element_space<'a>(scopes: &mut Spaces<'a>, name: Name<'a>) -> Option<Space>
+    ensures space { Gives (λ space. (space, scopes.old)) result (known (name_view name.entry) [] scopes.old) }
+    ensures same { scopes.new ≡ scopes.old }
 {
     if is_xmlns(name.prefix) {
         return None;
     }
-    match scopes.space(name.prefix) {
+    match scopes.recall(name.prefix) {
         Some(space) => Some(space),
         None if name.prefix.is_empty() || is_xml_prefix(name.prefix) => Some(Space::Other),
         None => None,
@@ -169,8 +172,9 @@ fn element_space<'a>(scopes: &Scopes<'a>, name: Name<'a>) -> Option<Space>
 
 /// The space of an element, if its prefix and those of its attributes may be used.
 #[tactic(auto, unfolding(crate::specs::Elements::known))]
-fn known_space<'a>(scopes: &Scopes<'a>, name: Name<'a>, tail: &'a [u8]) -> Option<Space>
-    ensures { Gives (λ space. (space, scopes.now)) result (known (name_view name.entry) (attributes_of tail.now) scopes.now) }
+fn known_space<'a>(scopes: &mut Spaces<'a>, name: Name<'a>, tail: &'a [u8]) -> Option<Space>
+    ensures space { Gives (λ space. (space, scopes.old)) result (known (name_view name.entry) (attributes_of tail.entry.now) scopes.old) }
+    ensures same { scopes.new ≡ scopes.old }
 {
     if are_known(scopes, tail) {
         element_space(scopes, name)
@@ -180,7 +184,8 @@ fn known_space<'a>(scopes: &Scopes<'a>, name: Name<'a>, tail: &'a [u8]) -> Optio
 }
 
 /// Whether no attribute with one of these names is a declaration, and the prefix of each may be used.
-fn are_plain<'a>(scopes: &Scopes<'a>, own: &'a [u8], names: &[Name<'a>]) -> bool
+#[inline(always)]
+fn are_plain<'a>(scopes: &Spaces<'a>, own: &'a [u8], names: &[Name<'a>]) -> bool
     requires { is_element_prefix scopes.now own.now ≡ true }
     ensures { result ≡ list_all (is_plain_name scopes.now) (map name_view names.now) }
 {
@@ -209,12 +214,34 @@ pub(crate) struct Entered {
     pub(crate) declared: usize,
 }
 
+/// Enters an element of this name and tail: adds its declarations, and gives its space.
+#[cold]
+#[tactic(auto, unfolding(crate::specs::Elements::entered))]
+fn enter_declaring<'a>(
+    scopes: &mut Spaces<'a>,
+    alloc: Global,
+    name: Name<'a>,
+    tail: &'a [u8],
+) -> Result<Entered, MarkupError>
+    ensures read { Finds (λ x. (x.space, scopes.new)) result (entered scopes.old (name_view name.entry) tail.entry.now) }
+    ensures declared { IfOk result (λ x. x.declared ≡ declared_in tail.entry.now) }
+{
+    let around = scopes.len();
+    declare_attributes(scopes, alloc, tail)?;
+    let space = known_space(scopes, name, tail).ok_or(MarkupError::Unreadable)?;
+    Ok(Entered {
+        space,
+        declared: scopes.len() - around,
+    })
+}
+
 /// Enters an element: adds its declarations, and gives its space.
 ///
 /// `Unreadable` exactly if a declaration is not allowed, or a prefix of the tag may not be used.
 #[tactic(auto, unfolding(crate::specs::Elements::entered))]
+#[inline(always)]
 pub(crate) fn enter<'a>(
-    scopes: &mut Scopes<'a>,
+    scopes: &mut Spaces<'a>,
     alloc: Global,
     tag: &StartTag<'a>,
 ) -> Result<Entered, MarkupError>
@@ -228,11 +255,5 @@ pub(crate) fn enter<'a>(
             return Ok(Entered { space, declared: 0 });
         }
     }
-    let around = scopes.len();
-    declare_attributes(scopes, alloc, tag.tail())?;
-    let space = known_space(scopes, name, tag.tail()).ok_or(MarkupError::Unreadable)?;
-    Ok(Entered {
-        space,
-        declared: scopes.len() - around,
-    })
+    enter_declaring(scopes, alloc, name, tag.tail())
 }

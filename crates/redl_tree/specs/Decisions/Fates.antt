@@ -53,10 +53,10 @@ fate_of says tag = fate tag.kind (say_of says tag.rev)
 -- Deleted text is a `delText` and deleted field code a `delInstrText` (17.3.3, 17.16). Either is live text again
 -- where some content revision of old matter round it, at any distance, is freed, and none round it is left.
 abbrev pub is_revived : List Say → List Tag → Bool
-is_revived says around =
-    is_open around
-    && list_any (λ tag. is_old_content tag.kind && is_free (fate_of says tag)) around
-    && not (list_any (λ tag. is_old_content tag.kind && is_leave (fate_of says tag)) around)
+is_revived says ancestors =
+    is_open ancestors
+    && list_any (λ tag. is_old_content tag.kind && is_free (fate_of says tag)) ancestors
+    && not (list_any (λ tag. is_old_content tag.kind && is_leave (fate_of says tag)) ancestors)
 
 -- deleted text as live text, and deleted field code as live field code
 abbrev pub live_name : Tag → Tag
@@ -67,4 +67,4 @@ live_name tag =
 
 -- the tag of an element after the pass
 abbrev pub renamed : List Say → List Tag → Tag → Tag
-renamed says around tag = if is_revived says around then live_name tag else tag
+renamed says ancestors tag = if is_revived says ancestors then live_name tag else tag

@@ -1,7 +1,7 @@
 -- Where nodes stand in a package, which of its elements are the roots of stories, what becomes of a package whose stories are
 -- changed, and the pass of a package.
 -- A package is one XML text in the Flat OPC form: a `package` of parts, whose data is XML or not.
--- `around` is the list of the tags of a node's ancestors, the nearest first.
+-- `ancestors` is the list of the tags of a node's ancestors, the nearest first.
 use Rattle.std.specs.Prelude.{ℕ, List, [], ◌∷◌, ◌++◌, Bool, true, false, ◌&&◌, bytes_eq, codes, if◌then◌else◌}
 use Rattle.redl_tree.specs.Model.Nodes.{Tag, Nodes, no_nodes, bytes, element}
 use Rattle.redl_tree.specs.Roles.Names.{is_any}
@@ -35,7 +35,7 @@ level_below Below tag = Below
 -- the level of nodes with these ancestors
 abbrev pub level_of : List Tag → Level
 level_of [] = Top
-level_of (tag ∷ around) = level_below (level_of around) tag
+level_of (tag ∷ ancestors) = level_below (level_of ancestors) tag
 
 -- in the XML data of a part
 abbrev pub is_data_level : Level → Bool
@@ -48,15 +48,15 @@ is_story_root tag = is_any ("document" ∷ "hdr" ∷ "ftr" ∷ "footnotes" ∷ "
 
 -- an element with these ancestors is the root of a story: it is in the data of a part, and has one of the six names
 abbrev pub is_root : List Tag → Tag → Bool
-is_root around tag = is_data_level (level_of around) && is_story_root tag
+is_root ancestors tag = is_data_level (level_of ancestors) && is_story_root tag
 
 -- the stories among nodes with these ancestors, in their order, each by its root's tag and kids
 abbrev pub stories_in : List Tag → Nodes → List Parts
-stories_in around no_nodes = []
-stories_in around (bytes b rest) = stories_in around rest
-stories_in around (element tag kids rest) =
-    (if is_root around tag then record { tag = tag; kids = kids } ∷ [] else stories_in (tag ∷ around) kids)
-    ++ stories_in around rest
+stories_in ancestors no_nodes = []
+stories_in ancestors (bytes b rest) = stories_in ancestors rest
+stories_in ancestors (element tag kids rest) =
+    (if is_root ancestors tag then record { tag = tag; kids = kids } ∷ [] else stories_in (tag ∷ ancestors) kids)
+    ++ stories_in ancestors rest
 
 -- the stories of a package
 abbrev pub stories : Nodes → List Parts
@@ -64,8 +64,8 @@ stories nodes = stories_in [] nodes
 
 -- the stories of an element with these ancestors: itself as the root of one, or those inside it
 abbrev pub element_stories : List Tag → Tag → Nodes → List Parts
-element_stories around tag kids =
-    if is_root around tag then record { tag = tag; kids = kids } ∷ [] else stories_in (tag ∷ around) kids
+element_stories ancestors tag kids =
+    if is_root ancestors tag then record { tag = tag; kids = kids } ∷ [] else stories_in (tag ∷ ancestors) kids
 
 -- How stories are changed, one after the other: the kids that the root of a story gets, and what the next story starts with
 -- (the same says, the labels that are left, the next number).
@@ -87,11 +87,11 @@ changed_stories rule given (story ∷ later) =
 
 -- Nodes with these ancestors, once the stories among them are changed: the root of each gets its new kids, and all else stays.
 abbrev pub changed_in : {S : Type 0} → StoryRule S → S → List Tag → Nodes → Nodes
-changed_in rule given around no_nodes = no_nodes
-changed_in rule given around (bytes b rest) = bytes b (changed_in rule given around rest)
-changed_in rule given around (element tag kids rest) =
-    element tag (if is_root around tag then rule.kids given tag kids else changed_in rule given (tag ∷ around) kids)
-    (changed_in rule (left_after rule given (element_stories around tag kids)) around rest)
+changed_in rule given ancestors no_nodes = no_nodes
+changed_in rule given ancestors (bytes b rest) = bytes b (changed_in rule given ancestors rest)
+changed_in rule given ancestors (element tag kids rest) =
+    element tag (if is_root ancestors tag then rule.kids given tag kids else changed_in rule given (tag ∷ ancestors) kids)
+    (changed_in rule (left_after rule given (element_stories ancestors tag kids)) ancestors rest)
 
 -- a package whose stories are changed
 abbrev pub changed_package : {S : Type 0} → StoryRule S → S → Nodes → Nodes
@@ -112,7 +112,7 @@ is_plain _ = false
 
 -- the roots of the stories among nodes with these ancestors have no role
 abbrev pub roots_are_plain : List Tag → Nodes → Bool
-roots_are_plain around no_nodes = true
-roots_are_plain around (bytes b rest) = roots_are_plain around rest
-roots_are_plain around (element tag kids rest) =
-    (if is_root around tag then is_plain tag.kind else roots_are_plain (tag ∷ around) kids) && roots_are_plain around rest
+roots_are_plain ancestors no_nodes = true
+roots_are_plain ancestors (bytes b rest) = roots_are_plain ancestors rest
+roots_are_plain ancestors (element tag kids rest) =
+    (if is_root ancestors tag then is_plain tag.kind else roots_are_plain (tag ∷ ancestors) kids) && roots_are_plain ancestors rest

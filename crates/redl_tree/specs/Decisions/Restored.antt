@@ -61,9 +61,9 @@ rejected says (element tag kids rest) =
 -- The current kids of a property element with these ancestors. Only the `rPr` of a paragraph's mark has revisions of a mark
 -- to keep: from any other `rPr`, elements with their names are left out.
 abbrev pub present : List Tag → Tag → Nodes → Nodes
-present around tag kids = if is "rPr" tag && not (in_para_props around) then without (outlasts Run) kids else kids
+present ancestors tag kids = if is "rPr" tag && not (in_para_props ancestors) then without (outlasts Run) kids else kids
 
 -- the kids of an element that stays, whose passed kids are `passed`, after this rejected change if there is one
 abbrev pub after_change : List Tag → Tag → Option Rejected → Nodes → Nodes
-after_change around tag None passed = passed
-after_change around tag (Some change) passed = restored change.prop (present around tag passed) change.former
+after_change ancestors tag None passed = passed
+after_change ancestors tag (Some change) passed = restored change.prop (present ancestors tag passed) change.former

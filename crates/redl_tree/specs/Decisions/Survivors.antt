@@ -13,14 +13,14 @@ use Rattle.redl_tree.specs.declared.kinds.Say.{Say}
 -- the bytes of one node, and its ancestors, the nearest first
 pub record Stretch : Type 0 where
   pub text : List ℕ
-  pub above : List Parts
+  pub ancestors : List Parts
 
 -- the stretches among nodes with these ancestors, in their order
 abbrev pub stretches_in : List Parts → Nodes → List Stretch
-stretches_in above no_nodes = []
-stretches_in above (bytes b rest) = record { text = b; above = above } ∷ stretches_in above rest
-stretches_in above (element tag kids rest) =
-    stretches_in (record { tag = tag; kids = kids } ∷ above) kids ++ stretches_in above rest
+stretches_in ancestors no_nodes = []
+stretches_in ancestors (bytes b rest) = record { text = b; ancestors = ancestors } ∷ stretches_in ancestors rest
+stretches_in ancestors (element tag kids rest) =
+    stretches_in (record { tag = tag; kids = kids } ∷ ancestors) kids ++ stretches_in ancestors rest
 
 -- the stretches of a story
 abbrev pub stretches : Parts → List Stretch
@@ -28,21 +28,21 @@ stretches story = stretches_in (story ∷ []) story.kids
 
 -- a stretch is text where no ancestor is quiet
 abbrev pub is_text : Stretch → Bool
-is_text stretch = not (list_any (λ parts. is_quiet parts.tag) stretch.above)
+is_text stretch = not (list_any (λ parts. is_quiet parts.tag) stretch.ancestors)
 
 -- An element that goes with all that it holds: a content revision that is cut, a marker that is dropped, or a table, row,
 -- cell or shell that goes. The root of a story stays.
 abbrev pub is_gone : List Say → List Parts → Parts → Bool
 is_gone says [] parts = false
-is_gone says (parent ∷ above) parts =
+is_gone says (parent ∷ ancestors) parts =
     (is_content parts.tag.kind && is_cut (fate_of says parts.tag))
     || is_drop (fate_of says parts.tag)
-    || goes_at says (map (λ other. other.tag) (parent ∷ above)) parts.tag parts.kids
+    || goes_at says (map (λ other. other.tag) (parent ∷ ancestors)) parts.tag parts.kids
 
 -- some of these ancestors goes with all that it holds
 abbrev pub any_gone : List Say → List Parts → Bool
 any_gone says [] = false
-any_gone says (parts ∷ above) = is_gone says above parts || any_gone says above
+any_gone says (parts ∷ ancestors) = is_gone says ancestors parts || any_gone says ancestors
 
 -- the text pieces of a story, in their order
 abbrev pub text_pieces : Parts → List (List ℕ)
@@ -51,4 +51,4 @@ text_pieces story = map (λ stretch. stretch.text) (filter is_text (stretches st
 -- the text pieces that survive a pass: no ancestor goes
 abbrev pub survivors : List Say → Parts → List (List ℕ)
 survivors says story =
-    map (λ stretch. stretch.text) (filter (λ stretch. is_text stretch && not (any_gone says stretch.above)) (stretches story))
+    map (λ stretch. stretch.text) (filter (λ stretch. is_text stretch && not (any_gone says stretch.ancestors)) (stretches story))

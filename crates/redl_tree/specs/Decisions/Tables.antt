@@ -76,5 +76,5 @@ goes says in_row tag kids =
 
 -- an element with these ancestors is a table, row, cell or shell, and goes
 abbrev pub goes_at : List Say → List Tag → Tag → Nodes → Bool
-goes_at says around tag kids =
-    (is "tc" tag || is "tr" tag || is "tbl" tag || is_shell around tag) && goes says (in_cells around) tag kids
+goes_at says ancestors tag kids =
+    (is "tc" tag || is "tr" tag || is "tbl" tag || is_shell ancestors tag) && goes says (in_cells ancestors) tag kids

@@ -19,7 +19,7 @@ pub record Spot : Type 0 where
 -- an element and its ancestors, the nearest first
 pub record Seen : Type 0 where
   pub own : Spot
-  pub above : List Spot
+  pub ancestors : List Spot
 
 -- an element whose start tag has this position
 abbrev pub spot : ℕ → Tag → Nodes → Spot
@@ -27,15 +27,15 @@ spot at tag kids = record { tag = tag; kids = kids; start = at; end = at + 1 + t
 
 -- the same with these ancestors
 abbrev pub seen_one : List Spot → ℕ → Tag → Nodes → Seen
-seen_one above at tag kids = record { own = spot at tag kids; above = above }
+seen_one ancestors at tag kids = record { own = spot at tag kids; ancestors = ancestors }
 
 -- the elements among nodes with these ancestors, in the order of their start tags, where the first tag has this position
 abbrev pub seen_from : List Spot → ℕ → Nodes → List Seen
-seen_from above at no_nodes = []
-seen_from above at (bytes b rest) = seen_from above at rest
-seen_from above at (element tag kids rest) =
-    seen_one above at tag kids
-    ∷ (seen_from (spot at tag kids ∷ above) (at + 1) kids ++ seen_from above (at + 2 + tags kids) rest)
+seen_from ancestors at no_nodes = []
+seen_from ancestors at (bytes b rest) = seen_from ancestors at rest
+seen_from ancestors at (element tag kids rest) =
+    seen_one ancestors at tag kids
+    ∷ (seen_from (spot at tag kids ∷ ancestors) (at + 1) kids ++ seen_from ancestors (at + 2 + tags kids) rest)
 
 -- the root of a story, as the list of ancestors of its kids
 abbrev pub root_spots : Tag → Nodes → List Spot

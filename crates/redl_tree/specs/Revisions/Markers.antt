@@ -58,27 +58,27 @@ is_in_grid here = not (is_blocks here.lot) && is_reached here.reach
 
 -- an element with these ancestors is an own row of its table, or an own cell of its row
 abbrev pub is_own : List Tag → Tag → Bool
-is_own above tag = (in_rows above && is "tr" tag) || (in_cells above && is "tc" tag)
+is_own ancestors tag = (in_rows ancestors && is "tr" tag) || (in_cells ancestors && is "tc" tag)
 
 -- An element in a table or row that is no own row or cell and no part of a shell. What it holds is in no own row of that
 -- table, or in no own cell of that row.
 abbrev pub leaves_grid : List Tag → Tag → Bool
-leaves_grid above tag =
-    is_in_grid (place above) && not (is_own above tag) && not (is_reached (into (place above).reach tag))
+leaves_grid ancestors tag =
+    is_in_grid (place ancestors) && not (is_own ancestors tag) && not (is_reached (into (place ancestors).reach tag))
 
 -- one of these ancestors is such an element
 abbrev pub any_leaves_grid : List Tag → Bool
 any_leaves_grid [] = false
-any_leaves_grid (tag ∷ above) = leaves_grid above tag || any_leaves_grid above
+any_leaves_grid (tag ∷ ancestors) = leaves_grid ancestors tag || any_leaves_grid ancestors
 
 -- an element with these ancestors is in a table but in none of its own rows, or in a row but in none of its own cells
 abbrev pub is_astray : List Tag → Bool
-is_astray above = is_in_grid (place above) || any_leaves_grid above
+is_astray ancestors = is_in_grid (place ancestors) || any_leaves_grid ancestors
 
 -- A marker is loose where it may go by itself: below a content revision or an inserted or deleted row or cell, or in a table
 -- or row outside the own rows and cells.
 abbrev pub is_loose : List Spot → Bool
-is_loose above = list_any is_revised above || is_astray (tags_of above)
+is_loose ancestors = list_any is_revised ancestors || is_astray (tags_of ancestors)
 
 -- an element as a marker of this kind with this id
 abbrev pub marking : Value → Seen → Edge → List ℕ → Marking
@@ -87,13 +87,13 @@ marking value seen edge id = record {
   id = id;
   name = value seen.own.tag.tail (codes "name");
   at = seen.own.start;
-  loose = is_loose seen.above;
+  loose = is_loose seen.ancestors;
 }
 
 -- the marker that an element is: an open edge of a range with an `id`
 abbrev pub marker_of : Value → Seen → Option Marking
 marker_of value seen =
-    if is_open (tags_of seen.above)
+    if is_open (tags_of seen.ancestors)
     then option_and_then (λ edge. option_map (marking value seen edge) (value seen.own.tag.tail (codes "id"))) (edge_of seen.own.tag)
     else None
 
@@ -103,11 +103,11 @@ moves_among value story = pairs (filter_map (marker_of value) story)
 
 -- the role of an element, without looking at moves
 abbrev pub own_role : Seen → Kind
-own_role seen = role (tags_of seen.above) seen.own.tag
+own_role seen = role (tags_of seen.ancestors) seen.own.tag
 
 -- The position of a member of a paragraph's mark: the end tag of its paragraph, since the mark is the end of the paragraph.
 abbrev pub mark_end : ℕ → List Spot → ℕ
-mark_end start (run_props ∷ para_props ∷ para ∷ above) = para.end
+mark_end start (run_props ∷ para_props ∷ para ∷ ancestors) = para.end
 mark_end start _ = start
 
 -- the move of content that was moved from or to this position
@@ -119,13 +119,13 @@ move_at moves _ at = None
 -- the move that a member with this role belongs to; run content has the position of its start tag
 abbrev pub move_of_member : List Pair → Kind → Seen → Option Pair
 move_of_member moves (Content trace) seen = move_at moves trace seen.own.start
-move_of_member moves (Mark trace) seen = move_at moves trace (mark_end seen.own.start seen.above)
+move_of_member moves (Mark trace) seen = move_at moves trace (mark_end seen.own.start seen.ancestors)
 move_of_member moves _ seen = None
 
 -- the move that an element is a marker of
 abbrev pub move_of_marker : Value → List Pair → Seen → Option Pair
 move_of_marker value moves seen =
-    find (λ pair. is_marker (λ tail. is_some (value tail (codes "id"))) (tags_of seen.above) seen.own.tag && is_of_pair seen.own.start pair) moves
+    find (λ pair. is_marker (λ tail. is_some (value tail (codes "id"))) (tags_of seen.ancestors) seen.own.tag && is_of_pair seen.own.start pair) moves
 
 -- the first of two moves, if it is there, else the second
 abbrev pub either : Option Pair → Option Pair → Option Pair

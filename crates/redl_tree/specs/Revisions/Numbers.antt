@@ -63,11 +63,11 @@ revision_of value moves seen = membership (whole_role value moves seen) (move_of
 
 -- the state after nodes with these ancestors in their story, where the first tag has this position
 abbrev pub numbering_after : Value → List Pair → List Spot → ℕ → Numbering → Nodes → Numbering
-numbering_after value moves above at so_far no_nodes = so_far
-numbering_after value moves above at so_far (bytes b rest) = numbering_after value moves above at so_far rest
-numbering_after value moves above at so_far (element tag kids rest) =
-    numbering_after value moves above (at + 2 + tags kids)
-    (numbering_after value moves (spot at tag kids ∷ above) (at + 1) (counted (revision_of value moves (seen_one above at tag kids)) so_far) kids)
+numbering_after value moves ancestors at so_far no_nodes = so_far
+numbering_after value moves ancestors at so_far (bytes b rest) = numbering_after value moves ancestors at so_far rest
+numbering_after value moves ancestors at so_far (element tag kids rest) =
+    numbering_after value moves ancestors (at + 2 + tags kids)
+    (numbering_after value moves (spot at tag kids ∷ ancestors) (at + 1) (counted (revision_of value moves (seen_one ancestors at tag kids)) so_far) kids)
     rest
 
 -- a tag with its role as its kind, and with its number
@@ -79,13 +79,13 @@ labelled_tag value moves so_far seen = record seen.own.tag {
 
 -- nodes with the kind and the number of each element
 abbrev pub labelled : Value → List Pair → List Spot → ℕ → Numbering → Nodes → Nodes
-labelled value moves above at so_far no_nodes = no_nodes
-labelled value moves above at so_far (bytes b rest) = bytes b (labelled value moves above at so_far rest)
-labelled value moves above at so_far (element tag kids rest) =
-    element (labelled_tag value moves so_far (seen_one above at tag kids))
-    (labelled value moves (spot at tag kids ∷ above) (at + 1) (counted (revision_of value moves (seen_one above at tag kids)) so_far) kids)
-    (labelled value moves above (at + 2 + tags kids)
-    (numbering_after value moves (spot at tag kids ∷ above) (at + 1) (counted (revision_of value moves (seen_one above at tag kids)) so_far) kids)
+labelled value moves ancestors at so_far no_nodes = no_nodes
+labelled value moves ancestors at so_far (bytes b rest) = bytes b (labelled value moves ancestors at so_far rest)
+labelled value moves ancestors at so_far (element tag kids rest) =
+    element (labelled_tag value moves so_far (seen_one ancestors at tag kids))
+    (labelled value moves (spot at tag kids ∷ ancestors) (at + 1) (counted (revision_of value moves (seen_one ancestors at tag kids)) so_far) kids)
+    (labelled value moves ancestors (at + 2 + tags kids)
+    (numbering_after value moves (spot at tag kids ∷ ancestors) (at + 1) (counted (revision_of value moves (seen_one ancestors at tag kids)) so_far) kids)
     rest)
 
 -- the state before a story, where this is the next number

@@ -18,26 +18,26 @@ use Rattle.redl_tree.specs.declared.around.Parent.TheVariants.{Other, Para as In
 
 -- What the nearest of these ancestors is. No two of the lines hold of the same ancestors.
 abbrev pub parent_of : List Tag → Parent
-parent_of around =
-    if within ("p" ∷ []) around then InPara
-    else if within ("tr" ∷ []) around then InRow
-    else if within ("tc" ∷ []) around then InCell
-    else if within ("tbl" ∷ []) around then InTable
-    else if within ("body" ∷ []) around then InBody
-    else if in_run_owner around then InRun
-    else if in_para_props around then ParaProps
-    else if in_mark_props around then MarkProps
-    else if in_run_props around then RunProps
-    else if in_sect_props around then SectProps
-    else if in_table_props around then TableProps
-    else if in_except_props around then ExceptProps
-    else if in_row_props around then RowProps
-    else if in_cell_props around then CellProps
+parent_of ancestors =
+    if within ("p" ∷ []) ancestors then InPara
+    else if within ("tr" ∷ []) ancestors then InRow
+    else if within ("tc" ∷ []) ancestors then InCell
+    else if within ("tbl" ∷ []) ancestors then InTable
+    else if within ("body" ∷ []) ancestors then InBody
+    else if in_run_owner ancestors then InRun
+    else if in_para_props ancestors then ParaProps
+    else if in_mark_props ancestors then MarkProps
+    else if in_run_props ancestors then RunProps
+    else if in_sect_props ancestors then SectProps
+    else if in_table_props ancestors then TableProps
+    else if in_except_props ancestors then ExceptProps
+    else if in_row_props ancestors then RowProps
+    else if in_cell_props ancestors then CellProps
     else Other
 
 -- what these ancestors are to an element, the nearest first
 abbrev pub around_of : List Tag → Around
-around_of around = record { quiet = list_any is_quiet around; parent = parent_of around }
+around_of ancestors = record { quiet = list_any is_quiet ancestors; parent = parent_of ancestors }
 
 -- what an open element is to its kids, or else this
 abbrev pub opened : Tag → Parent → Parent

@@ -42,7 +42,7 @@ inside tag here =
 -- the place of what has these ancestors; only open elements count
 abbrev pub place : List Tag → Place
 place [] = nowhere
-place (tag ∷ around) = if is_open (tag ∷ around) then inside tag (place around) else nowhere
+place (tag ∷ ancestors) = if is_open (tag ∷ ancestors) then inside tag (place ancestors) else nowhere
 
 -- the kids are reached as such
 abbrev pub is_direct : Reach → Bool
@@ -70,15 +70,15 @@ is_block_list here = is_direct here.reach && is_blocks here.lot
 
 -- the kids of these ancestors are a block list
 abbrev pub in_blocks : List Tag → Bool
-in_blocks around = is_block_list (place around)
+in_blocks ancestors = is_block_list (place ancestors)
 
 -- the kids of these ancestors are rows of a table
 abbrev pub in_rows : List Tag → Bool
-in_rows around = is_direct (place around).reach && is_rows (place around).lot
+in_rows ancestors = is_direct (place ancestors).reach && is_rows (place ancestors).lot
 
 -- the kids of these ancestors are cells of a row
 abbrev pub in_cells : List Tag → Bool
-in_cells around = is_direct (place around).reach && is_cells (place around).lot
+in_cells ancestors = is_direct (place ancestors).reach && is_cells (place ancestors).lot
 
 -- a content control or a custom XML element
 abbrev pub is_wrapper : Tag → Bool
@@ -86,7 +86,7 @@ is_wrapper tag = is_any ("sdt" ∷ "customXml" ∷ []) tag
 
 -- a shell: a content control or custom XML element round rows or cells
 abbrev pub is_shell : List Tag → Tag → Bool
-is_shell around tag = is_wrapper tag && (in_rows around || in_cells around)
+is_shell ancestors tag = is_wrapper tag && (in_rows ancestors || in_cells ancestors)
 
 -- A block by itself: a paragraph, a table, a wrapper, imported content (17.17.2), and whatever stands outside
 -- W and M. All other nodes are thin: they stand between blocks, as bookmarks do.

@@ -1,5 +1,5 @@
 -- Where an element stands, by the names of its ancestors, and its role there (ECMA-376 Part 1, 17.13.5).
--- `around` is the list of the tags of an element's ancestors, the nearest first; for a role, those in its story.
+-- `ancestors` is the list of the tags of an element's ancestors, the nearest first; for a role, those in its story.
 use Prim.Native.String.{String}
 use Rattle.std.specs.Prelude.{ℕ, codes, List, [], ◌∷◌, Bool, true, false, ◌&&◌, ◌||◌, not, Option, Some, None, if◌then◌else◌}
 use Rattle.std.specs.List.{list_any}
@@ -22,14 +22,14 @@ is_quiet tag =
 
 -- an element is open where no ancestor is quiet
 abbrev pub is_open : List Tag → Bool
-is_open around = not (list_any is_quiet around)
+is_open ancestors = not (list_any is_quiet ancestors)
 
 -- The nearest ancestors have these names, and the last one of these is open:
 -- with "rPr", "pPr" and "p", the place in an `rPr` in a `pPr` in an open `p`.
 abbrev pub within : List String → List Tag → Bool
-within [] around = is_open around
+within [] ancestors = is_open ancestors
 within (name ∷ names) [] = false
-within (name ∷ names) (tag ∷ around) = is name tag && within names around
+within (name ∷ names) (tag ∷ ancestors) = is name tag && within names ancestors
 
 -- what an element marks: inserted, deleted, moved from here, or moved to here
 abbrev pub trace_of : Tag → Option Trace
@@ -81,47 +81,47 @@ has_run_props tag = is_any ("r" ∷ "sdtPr" ∷ "sdtEndPr" ∷ []) tag || is_mat
 -- the nearest ancestor is such an element, and open
 abbrev pub in_run_owner : List Tag → Bool
 in_run_owner [] = false
-in_run_owner (tag ∷ around) = has_run_props tag && is_open around
+in_run_owner (tag ∷ ancestors) = has_run_props tag && is_open ancestors
 
 -- in the `rPr` of such an element
 abbrev pub in_run_props : List Tag → Bool
 in_run_props [] = false
-in_run_props (tag ∷ around) = is "rPr" tag && in_run_owner around
+in_run_props (tag ∷ ancestors) = is "rPr" tag && in_run_owner ancestors
 
 -- in the run properties of a paragraph's mark (17.3.1.29)
 abbrev pub in_mark_props : List Tag → Bool
-in_mark_props around = within ("rPr" ∷ "pPr" ∷ "p" ∷ []) around
+in_mark_props ancestors = within ("rPr" ∷ "pPr" ∷ "p" ∷ []) ancestors
 
 -- in the properties of a paragraph (17.3.1.26)
 abbrev pub in_para_props : List Tag → Bool
-in_para_props around = within ("pPr" ∷ "p" ∷ []) around
+in_para_props ancestors = within ("pPr" ∷ "p" ∷ []) ancestors
 
 -- in the properties of a section: of the last one in the body, or of one that ends with a paragraph (17.6)
 abbrev pub in_sect_props : List Tag → Bool
-in_sect_props around = within ("sectPr" ∷ "body" ∷ []) around || within ("sectPr" ∷ "pPr" ∷ "p" ∷ []) around
+in_sect_props ancestors = within ("sectPr" ∷ "body" ∷ []) ancestors || within ("sectPr" ∷ "pPr" ∷ "p" ∷ []) ancestors
 
 -- in the properties of a table, in a row's exceptions to these, and in the properties of a row and of a cell (17.4)
 abbrev pub in_table_props : List Tag → Bool
-in_table_props around = within ("tblPr" ∷ "tbl" ∷ []) around
+in_table_props ancestors = within ("tblPr" ∷ "tbl" ∷ []) ancestors
 
 abbrev pub in_except_props : List Tag → Bool
-in_except_props around = within ("tblPrEx" ∷ "tr" ∷ []) around
+in_except_props ancestors = within ("tblPrEx" ∷ "tr" ∷ []) ancestors
 
 abbrev pub in_row_props : List Tag → Bool
-in_row_props around = within ("trPr" ∷ "tr" ∷ []) around
+in_row_props ancestors = within ("trPr" ∷ "tr" ∷ []) ancestors
 
 abbrev pub in_cell_props : List Tag → Bool
-in_cell_props around = within ("tcPr" ∷ "tc" ∷ []) around
+in_cell_props ancestors = within ("tcPr" ∷ "tc" ∷ []) ancestors
 
 -- where a change of these properties stands
 abbrev pub in_props : Prop → List Tag → Bool
-in_props Run around = in_run_props around || in_mark_props around
-in_props Para around = in_para_props around
-in_props Sect around = in_sect_props around
-in_props Table around = in_table_props around
-in_props Except around = in_except_props around
-in_props RowProp around = in_row_props around
-in_props CellProp around = in_cell_props around
+in_props Run ancestors = in_run_props ancestors || in_mark_props ancestors
+in_props Para ancestors = in_para_props ancestors
+in_props Sect ancestors = in_sect_props ancestors
+in_props Table ancestors = in_table_props ancestors
+in_props Except ancestors = in_except_props ancestors
+in_props RowProp ancestors = in_row_props ancestors
+in_props CellProp ancestors = in_cell_props ancestors
 
 -- a role, where the element stands at its place
 abbrev pub placed : Bool → Option Kind → Option Kind
@@ -129,8 +129,8 @@ placed true kind = kind
 placed false kind = None
 
 abbrev pub change_at : List Tag → Option Prop → Option Kind
-change_at around None = None
-change_at around (Some prop) = placed (in_props prop around) (Some (Change prop))
+change_at ancestors None = None
+change_at ancestors (Some prop) = placed (in_props prop ancestors) (Some (Change prop))
 
 -- the first role that an element has
 abbrev pub first_role : List (Option Kind) → Kind
@@ -141,9 +141,9 @@ first_role (None ∷ kinds) = first_role kinds
 -- The role of an element, markers of moves aside: it marks open content, the mark of a paragraph, a row or a cell as
 -- inserted, deleted or moved, or it is a change of properties. No element has two of these.
 abbrev pub role : List Tag → Tag → Kind
-role around tag =
-    first_role (placed (is_open around) (option_map Content (trace_of tag))
-    ∷ placed (in_mark_props around) (option_map Mark (trace_of tag))
-    ∷ placed (in_row_props around) (option_map Row (row_trace_of tag))
-    ∷ placed (in_cell_props around) (option_map Cell (cell_trace_of tag))
-    ∷ change_at around (prop_of tag) ∷ [])
+role ancestors tag =
+    first_role (placed (is_open ancestors) (option_map Content (trace_of tag))
+    ∷ placed (in_mark_props ancestors) (option_map Mark (trace_of tag))
+    ∷ placed (in_row_props ancestors) (option_map Row (row_trace_of tag))
+    ∷ placed (in_cell_props ancestors) (option_map Cell (cell_trace_of tag))
+    ∷ change_at ancestors (prop_of tag) ∷ [])

@@ -10,24 +10,24 @@ use Rattle.redl_markers.specs.Ends.{one_end, ends_from}
 use Rattle.redl_markers.specs.Free.{Every, IsFree}
 use Rattle.redl_markers.specs.Walks.{item_seen, item_ends}
 use Rattle.redl_markers.proofs.FreeLaws.{every-step}
-use Rattle.redl_markers.proofs.WalkLaws.{tags-step}
-use Rattle.redl_index.specs.Contexts.{context_of, inside_context}
+use Rattle.redl_markers.proofs.WalkLaws.{tags-step, none-seen}
+use Rattle.redl_index.specs.Contexts.{context_of}
 use Rattle.redl_index.specs.Mentions.{Sight}
 use Rattle.redl_index.specs.Stories.{tails_in, sight_of}
 use Rattle.redl_index.specs.Tallies.{Tally, noted, noted_all, IsTally}
-use Rattle.redl_index.proofs.ContextLaws.{context-inside}
+use Rattle.redl_index.proofs.ContextLaws.{context-below}
 use Rattle.redl_index.proofs.TallyLaws.{sight-is, noted-step, ends-left}
 use Rattle.redl_index.proofs.find.+members.Goals as goal
 
 pub find_in_elem-returns-clause-found : goal.find_in_elem-returns-clause-found
-find_in_elem-returns-clause-found g t c = λ above later tally here ends free had.
+find_in_elem-returns-clause-found t c = λ ancestors later tally here ends free had.
     let story = c.args.story.now in
     let at = c.args.walk.now.at in
     let tag = tag_of c.args.elem.now in
     let kids = kids_of c.args.elem.now in
-    let x = seen_one above at tag kids in
+    let x = seen_one ancestors at tag kids in
     let end = at + 1 + tags kids in
-    let up = spot at tag kids ∷ above in
+    let up = spot at tag kids ∷ ancestors in
     let left = ends_from (at + 1) kids ++ later in
     let split = ends ∙ append_assoc (one_end tag end) (ends_from (at + 1) kids) later in
     let next = c.inside-inside.new.self.at + 1 in
@@ -35,31 +35,35 @@ find_in_elem-returns-clause-found g t c = λ above later tally here ends free ha
     let moved : at + 1 ≡ next = ap (λ n. n + 1) (sym c.inside-inside.ensures.at) in
     let same : kids ≡ below = sym c.kids.ensures.kids in
     let one = noted story.part tally (sight_of story x) in
-    let Noted : Sight → Type 0 = λ sight. IsTally g.K.Kept.stands_for c.add.new.self (noted story.part tally sight) in
-    let added : IsTally g.K.Kept.stands_for c.add.new.self one =
-    subst Noted (sight-is (tails_in story) tag.tail (c.sight-sight.ensures.kind above kids here free.0) (c.sight-sight.ensures.start above kids here free.0))
+    let Noted : Sight → Type 0 = λ sight. IsTally c.add.new.self (noted story.part tally sight) in
+    let added : IsTally c.add.new.self one =
+    subst Noted (sight-is (tails_in story) tag.tail (c.of-sight.ensures.kind ancestors kids here free.0) (c.of-sight.ensures.start ancestors kids here free.0))
     (c.in_ok-add.ensures.tally tally had) in
     let Ends : ℕ → Nodes → Type 0 = λ n ns. c.inside-inside.new.self.ends.now ≡ ends_from n ns ++ later in
-    let Free : ℕ → Nodes → Type 0 = λ n ns. Every (IsFree story.moves) (seen_from up n ns) in
-    let Found : ℕ → Nodes → Type 0 = λ n ns. IsTally g.K.Kept.stands_for c.find_in_nodes.new.found (noted_all story.part one (map (sight_of story) (seen_from up n ns))) in
+    let Free : List Spot → ℕ → Nodes → Type 0 = λ spots n ns. Every (IsFree story.moves.now) (seen_from spots n ns) in
+    let Found : List Spot → ℕ → Nodes → Type 0 = λ spots n ns. IsTally c.find_in_nodes.new.found (noted_all story.part one (map (sight_of story) (seen_from spots n ns))) in
     let ends_there = subst (λ n. Ends n below) moved (subst (λ ns. Ends (at + 1) ns) same (c.inside-inside.ensures.ends end left split)) in
-    let free_there = subst (λ n. Free n below) moved (subst (λ ns. Free (at + 1) ns) same free.1) in
-    let inside = c.inside-inside.ensures.context end left split ∙ ap (inside_context tag end) here ∙ context-inside at tag kids above in
-    subst (λ ns. Found (at + 1) ns) (sym same) (subst (λ n. Found n below) (sym moved) (c.in_ok-find_in_nodes.ensures.found up later one inside ends_there free_there added))
+    context-below story.moves.now (λ spots. Found spots (at + 1) kids) at tag kids ancestors c.args.here c.inside-inside.result (c.inside-inside.ensures.context end left split) here free.1
+    (λ spots known free_in.
+    let free_there = subst (λ n. Free spots n below) moved (subst (λ ns. Free spots (at + 1) ns) same free_in) in
+    subst (λ ns. Found spots (at + 1) ns) (sym same)
+    (subst (λ n. Found spots n below) (sym moved) (c.in_ok-find_in_nodes.ensures.found spots later one known ends_there free_there added)))
+    (λ none holds.
+    subst (λ xs. IsTally c.find_in_nodes.new.found (noted_all story.part one (map (sight_of story) xs))) (none-seen ancestors up (at + 1) kids none) holds)
 
 pub find_in_node-returns-in-Elem-clause-found : goal.find_in_node-returns-in-Elem-clause-found
-find_in_node-returns-in-Elem-clause-found g t c =
+find_in_node-returns-in-Elem-clause-found t c =
     let story = c.args.story.now in
     let at = c.args.walk.now.at in
     let elem = c.in-Elem.elem in
     let is : element_item (tag_of elem) (kids_of elem) ≡ item_of c.args.node.now = sym (ap item_of c.in-Elem.is ∙ item_of-Elem elem) in
-    let P : Item → Type 0 = λ x. (above : List Spot) (later : List ℕ) (tally : Tally) → c.args.here ≡ context_of above → c.args.walk.now.ends.now ≡ item_ends at x ++ later
-    → Every (IsFree story.moves) (item_seen above at x) → IsTally g.K.Kept.stands_for c.args.found.now tally
-    → IsTally g.K.Kept.stands_for c.find_in_elem.new.found (noted_all story.part tally (map (sight_of story) (item_seen above at x))) in
+    let P : Item → Type 0 = λ x. (ancestors : List Spot) (later : List ℕ) (tally : Tally) → c.args.here ≡ context_of ancestors → c.args.walk.now.ends.now ≡ item_ends at x ++ later
+    → Every (IsFree story.moves.now) (item_seen ancestors at x) → IsTally c.args.found.now tally
+    → IsTally c.find_in_elem.new.found (noted_all story.part tally (map (sight_of story) (item_seen ancestors at x))) in
     on_ok_weaker c.find_in_elem.result (λ found. subst P is found) c.find_in_elem.ensures.found
 
 pub find_in_nodes-loop-node-preserved : goal.find_in_nodes-loop-node-preserved
-find_in_nodes-loop-node-preserved g t c =
+find_in_nodes-loop-node-preserved t c =
     let nodes = c.args.nodes.now in
     let story = c.args.story.now in
     let i = c.loop-node.node-index in
@@ -77,24 +81,24 @@ find_in_nodes-loop-node-preserved g t c =
       ends = λ later e.
           c.in_ok-find_in_node.ensures.ends (ends_from next rest ++ later)
           (ends-left at next (item_of x) rest left moved here [] c.loop-node.walk.ends.now later (c.loop-node.invariant.ends later e));
-      found = λ above later tally is e free had.
-          let so_far = c.loop-node.invariant.found above later tally is e free had in
-          let split = every-step (IsFree story.moves) above at next (item_of x) rest left moved here so_far.2 in
-          let more = c.in_ok-find_in_node.ensures.found above (ends_from next rest ++ later) so_far.0 is
-          (ends-left at next (item_of x) rest left moved here above c.loop-node.walk.ends.now later (c.loop-node.invariant.ends later e)) split.0 so_far.1 in (
-            noted_all story.part so_far.0 (map (sight_of story) (item_seen above at (item_of x))),
+      found = λ ancestors later tally is e free had.
+          let so_far = c.loop-node.invariant.found ancestors later tally is e free had in
+          let split = every-step (IsFree story.moves.now) ancestors at next (item_of x) rest left moved here so_far.2 in
+          let more = c.in_ok-find_in_node.ensures.found ancestors (ends_from next rest ++ later) so_far.0 is
+          (ends-left at next (item_of x) rest left moved here ancestors c.loop-node.walk.ends.now later (c.loop-node.invariant.ends later e)) split.0 so_far.1 in (
+            noted_all story.part so_far.0 (map (sight_of story) (item_seen ancestors at (item_of x))),
             more,
             split.1,
-            noted-step at next (item_of x) rest left moved here above story.part (sight_of story) so_far.0 ∙ so_far.3,
+            noted-step at next (item_of x) rest left moved here ancestors story.part (sight_of story) so_far.0 ∙ so_far.3,
           );
     }
 
 pub find_in_nodes-returns-clause-found : goal.find_in_nodes-returns-clause-found
-find_in_nodes-returns-clause-found g t c = λ above later tally is e free had.
+find_in_nodes-returns-clause-found t c = λ ancestors later tally is e free had.
     let story = c.args.story.now in
-    let so_far = c.loop-node.invariant.found above later tally is e free had in
+    let so_far = c.loop-node.invariant.found ancestors later tally is e free had in
     let over = nodes_end c.args.nodes.now c.loop-node.node-index (omega (arith, c.loop-node-test.false)) in
-    let P : Tally → Type 0 = λ found. IsTally g.K.Kept.stands_for c.loop-node.found found in
+    let P : Tally → Type 0 = λ found. IsTally c.loop-node.found found in
     subst P
-    (ap (λ ns. noted_all story.part so_far.0 (map (sight_of story) (seen_from above c.loop-node.walk.at ns))) (sym over) ∙ so_far.3)
+    (ap (λ ns. noted_all story.part so_far.0 (map (sight_of story) (seen_from ancestors c.loop-node.walk.at ns))) (sym over) ∙ so_far.3)
     so_far.1

@@ -1,101 +1,102 @@
-use Rattle.std.proofs.Common.{◌≡◌, ◌∙◌, refl, subst, [], ◌+◌, ◌++◌, ◌<◌, ◌≤◌, ap, sym, List, length, Some, None, option_map, option_to_list, arith}
+use Rattle.std.proofs.Common.{◌≡◌, ◌∙◌, ◌+◌, ◌++◌, ◌∷◌, ◌<◌, ◌≤◌, ap, sym, List, length, map, Some, None, option_map, option_to_list, get_or, arith, rules}
 use Rattle.std.proofs.lemmas.List.{append-nil}
+use Rattle.std.proofs.lemmas.Option.{slice_get-get_or}
 use Rattle.redl_opc.specs.Elements.{element_of}
 use Rattle.redl_opc.specs.Parts.{story}
 use Rattle.redl_opc.specs.Shape.{parts_of}
-use Rattle.redl_opc.specs.Stories.{story_view, stories_of_part, stories_from}
-use Rattle.redl_opc.proofs.WalkLaws.{count_from-start, count_from-part, count_from-story, parts-end, stories_from-start, stories_from-end}
-use Rattle.redl_opc.specs.declared.label.Label.{Label}
-use Rattle.redl_index.specs.Labels.{story_labels, labels_of}
-use Rattle.redl_index.specs.Revisions.{numbered, revisions_in, revisions_from, revisions_of, story_revisions}
+use Rattle.redl_opc.specs.Stories.{story_view, stories_from}
+use Rattle.redl_opc.proofs.WalkLaws.{count_from-start, count_from-part, count_from-story, parts-end, stories_from-start, stories_from-part}
+use Rattle.redl_index.specs.Known.{known_in}
+use Rattle.redl_index.specs.Revisions.{numbered, revisions_in, revisions_from}
 use Rattle.redl_index.specs.declared.revision.Revision.{Revision}
-use Rattle.redl_index.proofs.RevisionLaws.{found-part, labelled-part, length-revisions_of}
+use Rattle.redl_index.proofs.RevisionLaws.{found-part}
+use Rattle.redl_index.proofs.UnlabelledLaws.{known-at}
 use Rattle.redl_index.proofs.find.find_in_stories.Goals as goal
 
 pub loop-part-init : goal.loop-part-init
-loop-part-init g c =
+loop-part-init c =
     let pkg = c.args.pkg.now in
     record {
-      at_most = omega (arith, g.met.K.Kept.as_many c.args.found.now.kept [] c.requires.kept, count_from-start pkg);
-      found = (
-        [],
-        c.requires.kept,
-        refl,
-        ap (λ (ls : List Label). ls ++ labels_of 1 (stories_from 0 pkg)) c.requires.labels
-            ∙ ap (labels_of 1) (stories_from-start pkg c.parts-part-end.ensures.shape),
-      );
+      at_most = omega (arith, ap (λ (rs : List Revision). length rs) c.nothing-found.ensures, count_from-start pkg);
+      found = ap (λ (rs : List Revision). rs ++ numbered (1 + length rs) (revisions_from 0 (parts_of pkg))) c.nothing-found.ensures;
+      known = c.requires.known ∙ ap (map known_in) (sym (stories_from-start pkg c.parts-part-end.ensures.shape));
     }
 
 pub loop-part-preserved : goal.loop-part-preserved
-loop-part-preserved g c =
+loop-part-preserved c =
     let pkg = c.args.pkg.now in
     let part = c.loop-part.part in
-    let so_far = c.loop-part.invariant.found in
-    let old = so_far.0 in
-    let had = c.loop-part.found.labels in
-    let found = c.find_in_story.new.found in
+    let old = c.loop-part.found.index in
     let root = element_of c.in-Some.root.now in
     let is_story : story pkg part ≡ Some root = c.in-Some.ensures.value in
-    let within : part < length (parts_of pkg) = omega (arith, c.parts-part-end.ensures.value) in
-    let now = old ++ numbered (1 + length old) (story_revisions part root.tag root.kids) in
+    let within : part < length (parts_of pkg) = omega (arith, c.parts-part-end.ensures.value, c.loop-part-test.true) in
+    let now = c.find_in_story.new.found.index in
     let now_is : now ≡ old ++ numbered (1 + length old) (revisions_in part (story pkg part)) =
-    ap (λ o. old ++ numbered (1 + length old) (revisions_in part o)) (sym is_story) in
-    let labels_are : found.labels ≡ had ++ labels_of (1 + length old) (stories_of_part pkg part) =
-    c.in_ok-find_in_story.ensures.labels old so_far.1 ∙ ap (λ ls. had ++ ls) (sym (append-nil (story_labels (1 + length old) root.tag root.kids)))
-    ∙ ap (λ o. had ++ labels_of (1 + length old) (option_to_list (option_map story_view o))) (sym is_story) in
+    c.in_ok-find_in_story.ensures.index ∙ ap (λ o. old ++ numbered (1 + length old) (revisions_in part o)) (sym is_story) in
+    let here : stories_from part pkg ≡ story_view root ∷ stories_from (part + 1) pkg =
+    stories_from-part pkg part within ∙ ap (λ o. option_to_list (option_map story_view o) ++ stories_from (part + 1) pkg) is_story in
     record {
       at_most = omega (arith, c.in_ok-find_in_story.ensures.at_most, count_from-story pkg part root within is_story, c.loop-part.invariant.at_most);
-      found = (
-        now,
-        c.in_ok-find_in_story.ensures.kept old so_far.1,
-        found-part pkg part within old now now_is ∙ so_far.2,
-        labelled-part pkg part within old now now_is had found.labels labels_are ∙ so_far.3,
-      );
+      found = found-part pkg part within old now now_is ∙ c.loop-part.invariant.found;
+      known = (known-at c.args.known.now c.loop-part.place (known_in (story_view root)) (map known_in (stories_from (part + 1) pkg)) (c.loop-part.invariant.known ∙ ap (map known_in) here)).later;
     }
 
 pub loop-part-preserved-in_default : goal.loop-part-preserved-in_default
-loop-part-preserved-in_default g c =
+loop-part-preserved-in_default c =
     let pkg = c.args.pkg.now in
     let part = c.loop-part.part in
-    let so_far = c.loop-part.invariant.found in
-    let old = so_far.0 in
-    let had = c.loop-part.found.labels in
+    let old = c.loop-part.found.index in
     let none : story pkg part ≡ None = c.in_default.ensures.value in
-    let within : part < length (parts_of pkg) = omega (arith, c.parts-part-end.ensures.value) in
+    let within : part < length (parts_of pkg) = omega (arith, c.parts-part-end.ensures.value, c.loop-part-test.true) in
     let found_is : old ≡ old ++ numbered (1 + length old) (revisions_in part (story pkg part)) =
     sym (append-nil old) ∙ ap (λ o. old ++ numbered (1 + length old) (revisions_in part o)) (sym none) in
-    let labels_are : had ≡ had ++ labels_of (1 + length old) (stories_of_part pkg part) =
-    sym (append-nil had) ∙ ap (λ o. had ++ labels_of (1 + length old) (option_to_list (option_map story_view o))) (sym none) in
+    let here : stories_from part pkg ≡ stories_from (part + 1) pkg =
+    stories_from-part pkg part within ∙ ap (λ o. option_to_list (option_map story_view o) ++ stories_from (part + 1) pkg) none in
     record {
       at_most = omega (arith, count_from-part pkg part within, c.loop-part.invariant.at_most);
-      found = (
-        old,
-        so_far.1,
-        found-part pkg part within old old found_is ∙ so_far.2,
-        labelled-part pkg part within old old found_is had had labels_are ∙ so_far.3,
-      );
+      found = found-part pkg part within old old found_is ∙ c.loop-part.invariant.found;
+      known = c.loop-part.invariant.known ∙ ap (map known_in) here;
     }
 
-pub find_in_story-requires-clause-few : goal.find_in_story-requires-clause-few
-find_in_story-requires-clause-few g c =
+pub loop-part-preserved-in_default-get : goal.loop-part-preserved-in_default-get
+loop-part-preserved-in_default-get c =
     let pkg = c.args.pkg.now in
     let part = c.loop-part.part in
-    let within : part < length (parts_of pkg) = omega (arith, c.parts-part-end.ensures.value) in
+    let known = c.args.known.now in
+    let root = element_of c.in-Some.root.now in
+    let within : part < length (parts_of pkg) = omega (arith, c.parts-part-end.ensures.value, c.loop-part-test.true) in
+    let here : stories_from part pkg ≡ story_view root ∷ stories_from (part + 1) pkg =
+    stories_from-part pkg part within ∙ ap (λ o. option_to_list (option_map story_view o) ++ stories_from (part + 1) pkg) c.in-Some.ensures.value in
+    let at = known-at known c.loop-part.place (known_in (story_view root)) (map known_in (stories_from (part + 1) pkg)) (c.loop-part.invariant.known ∙ ap (map known_in) here) in
+    let past : length known ≤ c.loop-part.place = search rules in
+    absurd (omega (arith, at.within, past))
+
+pub find_in_story-requires-clause-few : goal.find_in_story-requires-clause-few
+find_in_story-requires-clause-few c =
+    let pkg = c.args.pkg.now in
+    let part = c.loop-part.part in
+    let within : part < length (parts_of pkg) = omega (arith, c.parts-part-end.ensures.value, c.loop-part-test.true) in
     let left = count_from-story pkg part (element_of c.in-Some.root.now) within c.in-Some.ensures.value in
     omega (arith, left, c.loop-part.invariant.at_most, c.parts-part-end.ensures.few)
 
-pub returns : goal.returns
-returns g c =
+pub find_in_story-requires-clause-known : goal.find_in_story-requires-clause-known
+find_in_story-requires-clause-known c =
     let pkg = c.args.pkg.now in
     let part = c.loop-part.part in
-    let so_far = c.loop-part.invariant.found in
-    let old = so_far.0 in
+    let root = element_of c.in-Some.root.now in
+    let within : part < length (parts_of pkg) = omega (arith, c.parts-part-end.ensures.value, c.loop-part-test.true) in
+    let here : stories_from part pkg ≡ story_view root ∷ stories_from (part + 1) pkg =
+    stories_from-part pkg part within ∙ ap (λ o. option_to_list (option_map story_view o) ++ stories_from (part + 1) pkg) c.in-Some.ensures.value in
+    let known = c.args.known.now in
+    let next = c.in-Some-get.next.now in
+    let at = known-at known c.loop-part.place (known_in (story_view root)) (map known_in (stories_from (part + 1) pkg)) (c.loop-part.invariant.known ∙ ap (map known_in) here) in
+    let same : get_or known c.loop-part.place next ≡ next = search rules in
+    at.here next (slice_get-get_or known c.loop-part.place next at.within ∙ ap Some same)
+
+pub returns : goal.returns
+returns c =
+    let pkg = c.args.pkg.now in
+    let part = c.loop-part.part in
+    let old = c.loop-part.found.index in
     let past : length (parts_of pkg) ≤ part = omega (arith, c.parts-part-end.ensures.value, c.loop-part-test.false) in
-    let index : old ≡ revisions_of pkg =
-    sym (append-nil old) ∙ ap (λ parts. old ++ numbered (1 + length old) (revisions_from part parts)) (sym (parts-end pkg part past)) ∙ so_far.2 in
-    record {
-      kept = subst (λ (revisions : List Revision). g.K.Kept.stands_for c.loop-part.found.kept revisions) index so_far.1;
-      count = g.met.K.Kept.as_many c.loop-part.found.kept old so_far.1 ∙ ap length index ∙ length-revisions_of pkg c.parts-part-end.ensures.shape;
-      labels = sym (append-nil c.loop-part.found.labels)
-          ∙ ap (λ ss. c.loop-part.found.labels ++ labels_of (1 + length old) ss) (sym (stories_from-end pkg part past)) ∙ so_far.3;
-    }
+    sym (append-nil old) ∙ ap (λ parts. old ++ numbered (1 + length old) (revisions_from part parts)) (sym (parts-end pkg part past)) ∙ c.loop-part.invariant.found

@@ -14,10 +14,10 @@ abbrev pub invariant-find_in_nodes-loop-node : goal.invariant-find_in_nodes-loop
 invariant-find_in_nodes-loop-node l = record {
   after : l.at + tags (nodes_of (drop l.node-index l.nodes)) ≡ l.first + tags (nodes_of l.nodes);
   ends : l.found.ends.items ++ ends_from l.at (nodes_of (drop l.node-index l.nodes)) ≡ l.initial.found.ends.items ++ ends_from l.first (nodes_of l.nodes);
-  marks : (above : List Spot) → l.trail ≡ trail_of above
-      → markings l.found.marks.items ++ filter_map (marker_of attribute_value) (seen_from above l.at (nodes_of (drop l.node-index l.nodes)))
-      ≡ markings l.initial.found.marks.items ++ filter_map (marker_of attribute_value) (seen_from above l.first (nodes_of l.nodes));
-  tails : (above : List Spot) → l.trail ≡ trail_of above
-      → map (λ tail. tail.now) l.found.tails.items ++ filter_map marker_tail (seen_from above l.at (nodes_of (drop l.node-index l.nodes)))
-      ≡ map (λ tail. tail.now) l.initial.found.tails.items ++ filter_map marker_tail (seen_from above l.first (nodes_of l.nodes));
+  marks : (ancestors : List Spot) → l.trail ≡ trail_of ancestors
+      → markings l.found.marks.items ++ filter_map (marker_of attribute_value) (seen_from ancestors l.at (nodes_of (drop l.node-index l.nodes)))
+      ≡ markings l.initial.found.marks.items ++ filter_map (marker_of attribute_value) (seen_from ancestors l.first (nodes_of l.nodes));
+  tails : (ancestors : List Spot) → l.trail ≡ trail_of ancestors
+      → map (λ tail. tail.now) l.found.tails.items ++ filter_map marker_tail (seen_from ancestors l.at (nodes_of (drop l.node-index l.nodes)))
+      ≡ map (λ tail. tail.now) l.initial.found.tails.items ++ filter_map marker_tail (seen_from ancestors l.first (nodes_of l.nodes));
 }

@@ -11,7 +11,7 @@ use Rattle.redl_tree.specs.Decisions.Groups.{grouped_from}
 use Rattle.redl_tree.specs.Model.Kids.{some_element}
 use Rattle.redl_tree.specs.Roles.Names.{is}
 use Rattle.redl_tree.specs.Model.Nodes.{◌⊕◌}
-use Rattle.redl_tree.specs.Rules.Sound.{end_of}
+use Rattle.redl_tree.specs.Rules.CellEnds.{end_of}
 use Rattle.redl_tree.specs.Model.View.{nodes_of}
 use Rattle.redl_tree.specs.declared.lists.Reach.TheVariants.{Direct}
 use Rattle.redl_paras.proofs.grouping.group.Goals as goal

@@ -1,9 +1,13 @@
 use Rattle.std.proofs.Common.{◌≡◌, length, ap, ◌∙◌, arith}
 use Rattle.std.proofs.lemmas.List.{take_at}
 use Rattle.redl_resolve.proofs.KeepsLaws.{keeps_text, keeps_rules}
-use Rattle.redl_tree.specs.Decisions.Packages.{pass_package}
+use Rattle.redl_tree.specs.Decisions.Packages.{stories, pass_rule, pass_package}
 use Rattle.redl_tree.specs.Model.View.{nodes_of}
+use Rattle.redl_tree.proofs.TakenLaws.{takes-every}
 use Rattle.redl_resolve.proofs.stories.into_passed.Goals as goal
+
+pub change_stories-requires : goal.change_stories-requires
+change_stories-requires g c = record { taken = takes-every pass_rule (λ given tag kids. Unit {0}) (λ given tag kids. tt) c.args.says.now (stories (nodes_of c.deref_mut.result.now)) }
 
 pub returns-clause-survival : goal.returns-clause-survival
 returns-clause-survival g c =

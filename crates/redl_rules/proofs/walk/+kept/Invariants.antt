@@ -7,5 +7,5 @@ use Rattle.redl_rules.proofs.walk.+kept.Given as goal
 
 abbrev pub invariant-kept_by_nodes-loop-node : goal.invariant-kept_by_nodes-loop-node
 invariant-kept_by_nodes-loop-node l =
-    (above : List Tag) → l.round ≡ round_of above
-    → in_both l.kept (kept_in above (nodes_of (drop l.node-index l.nodes))) ≡ kept_in above (nodes_of l.nodes)
+    (ancestors : List Tag) → l.round ≡ round_of ancestors
+    → in_both l.kept (kept_in ancestors (nodes_of (drop l.node-index l.nodes))) ≡ kept_in ancestors (nodes_of l.nodes)

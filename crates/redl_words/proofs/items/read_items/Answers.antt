@@ -1,5 +1,5 @@
 use Rattle.std.proofs.Common.{sym, ap, ◌∙◌}
-use Rattle.redl_words.specs.Reading.{Gathered, gathered, items_view}
+use Rattle.redl_words.specs.Reading.Items.{Gathered, gathered, items_view}
 use Rattle.redl_words.proofs.ItemLaws.{no_words_left}
 use Rattle.redl_words.proofs.items.read_items.Goals as goal
 

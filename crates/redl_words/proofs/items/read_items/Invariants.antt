@@ -1,5 +1,5 @@
 use Rattle.std.proofs.Common.{◌≡◌, All, IsUtf8, length}
-use Rattle.redl_words.specs.Reading.{gathered, items_view, nothing}
+use Rattle.redl_words.specs.Reading.Items.{gathered, items_view, nothing}
 use Rattle.redl_words.proofs.items.read_items.Given as goal
 
 abbrev pub invariant-loop-word : goal.invariant-loop-word

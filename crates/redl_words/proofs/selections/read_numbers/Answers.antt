@@ -4,7 +4,7 @@ use Rattle.std.proofs.lemmas.List.{length_push}
 use Rattle.std.proofs.lemmas.Iterator.Consumers.{YieldsList-turn, YieldsList-end}
 use Rattle.std.proofs.lemmas.Iterator.Splits.{YieldsList-from_str_split}
 use Rattle.redl_journal.specs.Reading.{number_in}
-use Rattle.redl_words.specs.Reading.{numbers_in}
+use Rattle.redl_words.specs.Reading.Selections.{numbers_in}
 use Rattle.redl_words.proofs.SelectionLaws.{numbers_stop, numbers_go, numbers_end}
 use Rattle.redl_words.proofs.selections.read_numbers.Goals as goal
 

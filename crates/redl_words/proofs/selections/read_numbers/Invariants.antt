@@ -1,6 +1,6 @@
 use Rattle.std.proofs.Common.{◌≡◌, ◌==◌, [], drop, length}
 use Rattle.std.specs.List.{slice_split}
-use Rattle.redl_words.specs.Reading.{numbers_after}
+use Rattle.redl_words.specs.Reading.Selections.{numbers_after}
 use Rattle.redl_words.proofs.selections.read_numbers.Given as goal
 
 abbrev pub invariant-loop-digits : goal.invariant-loop-digits

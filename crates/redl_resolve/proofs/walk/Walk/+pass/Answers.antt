@@ -6,6 +6,7 @@ use Rattle.redl_tables.proofs.AskedLaws.{answer-more, wide-goes}
 use Rattle.redl_tables.proofs.CutLaws.{then-nothing}
 use Rattle.redl_tables.specs.Asked.{answer, asked_inside}
 use Rattle.redl_tables.specs.Lines.{and_then, is_gone}
+use Rattle.redl_resolve.proofs.LeafLaws.{pass-leaf, rejected-leaf, answer-leaf}
 use Rattle.redl_resolve.proofs.ChainLaws.{passed_more, thin_none, count-push}
 use Rattle.redl_resolve.proofs.PassLaws.{pieces-in_front, visits-in_front, visits-few, visits-whole, rejected-visits, goes_on-then, after-count, by_fate-gone, by_fate-remark, no_restore, no_restore-free, passed_each-in_front, passed_each-pass, none-left}
 use Rattle.redl_resolve.specs.Stays.{all_stay, passed_each, item_passed_each}
@@ -23,7 +24,11 @@ use Rattle.redl_tree.specs.Decisions.Groups.{thin, grouped}
 use Rattle.redl_tree.specs.Roles.Kinds.{is_content, is_restore}
 use Rattle.redl_tree.specs.Model.Nodes.{no_nodes, element, in_front, ◌⊕◌}
 use Rattle.redl_tree.specs.Decisions.Pass.{pass, pieces, kept_kids}
-use Rattle.redl_tree.specs.Decisions.Restored.{rejected}
+use Rattle.redl_tree.specs.Decisions.Restored.{rejected, after_change}
+use Rattle.redl_tree.specs.Model.Kids.{has_element}
+use Rattle.redl_tree.specs.Decisions.Fates.{live_name}
+use Rattle.redl_resolve.specs.Rounds.{revives}
+use Rattle.redl_resolve.specs.declared.rounds.Round.{Round}
 use Rattle.redl_tree.specs.Model.View.{nodes_of, item_of, tag_of, kids_of}
 use Rattle.redl_resolve.proofs.walk.Walk.+pass.Goals as goal
 
@@ -43,33 +48,48 @@ pass_freed-returns-then-has_no_chain-clause-passes g t c =
     let passed = nodes_of c.args.made.now.passed.items in
     let more = nodes_of c.pass_onto.new.passed.items in
     record {
-      becomes = λ around round_is rest.
-          let freed = pass c.args.self.now.says.now around (nodes_of c.args.kids.items) in
+      becomes = λ ancestors round_is rest.
+          let freed = pass c.args.self.now.says.now ancestors (nodes_of c.args.kids.items) in
           ap (λ ps. more ⊕ grouped false (pieces_of ps ++ rest)) none
-          ∙ ap (λ n. n ⊕ grouped false rest) (c.in_ok-answer.ensures.passes.becomes around round_is)
+          ∙ ap (λ n. n ⊕ grouped false rest) (c.in_ok-answer.ensures.passes.becomes ancestors round_is)
           ∙ passed_more passed freed rest
           ∙ ap (λ ps. passed ⊕ grouped false (pieces_of ps ++ thin freed ∷ rest)) (sym none);
       answer = c.in_ok-answer.ensures.passes.answer;
     }
 
+pub pass_left-returns-clause-passes : goal.pass_left-returns-clause-passes
+pass_left-returns-clause-passes g t c =
+    let says = c.args.self.now.says.now in
+    let tag = tag_of c.args.elem.now in
+    let kids = kids_of c.args.elem.now in
+    let leaf : has_element kids ≡ false = sym (ap has_element c.kids.ensures.kids) ∙ sym c.has_elements.ensures ∙ c.if-has_elements.false in
+    record {
+      becomes = λ ancestors is. record {
+        tag = c.rename.ensures.tag ∙ ap (λ (r : Round). if revives r then live_name tag else tag) is;
+        kids = c.rename.ensures.kids
+            ∙ sym (ap (λ change. after_change ancestors tag change (pass says (tag ∷ ancestors) kids)) (rejected-leaf says kids leaf) ∙ pass-leaf says (tag ∷ ancestors) kids leaf);
+      };
+      answer = sym (answer-leaf says (asked_inside tag c.args.round.now.asked) kids leaf);
+    }
+
 -- what is closed in its start tag has no kids, so there is no change among them, and their pass has none
-pub pass_left-return_kids-requires : goal.pass_left-return_kids-requires
-pass_left-return_kids-requires g t c = λ closed.
+pub pass_through-return_kids-requires : goal.pass_through-return_kids-requires
+pass_through-return_kids-requires g t c = λ closed.
     let says = c.args.self.now.says.now in
     let given = nodes_of c.take_kids-kids.result.items in
     let passed = nodes_of c.in_ok-passed.passed.items in
     let bare = closed_is_bare c.args.elem.now (ap (λ tag. tag.close) (sym c.take_kids-kids.ensures.tag) ∙ closed) in
     let former : former_of c.in_ok-former.former ≡ None = c.in_ok-former.ensures ∙ ap (rejected says) (c.kids.ensures.kids ∙ bare) in
-    c.in_ok-kept.ensures ∙ ap (λ change. after_in c.args.round (tag_of c.take_kids-kids.new.self) change passed) former
+    c.in_ok-kept.ensures ∙ ap (λ change. after_in c.args.round.now (tag_of c.take_kids-kids.new.self) change passed) former
     ∙ none-left given passed (c.take_kids-kids.ensures.kids ∙ bare)
     (omega (arith, c.pass_kids.ensures.counts.entered, visits-few says given, c.in_ok-passed.ensures.counts.made))
 
-pub pass_left-returns-clause-counts : goal.pass_left-returns-clause-counts
-pass_left-returns-clause-counts g t c =
+pub pass_through-returns-clause-counts : goal.pass_through-returns-clause-counts
+pass_through-returns-clause-counts g t c =
     let says = c.args.self.now.says.now in
     let kids = kids_of c.args.elem.now in
     let kept_count : count (kids_of c.rename.new.elem) ≡ count (nodes_of c.in_ok-kept.kept.items) = ap count (c.rename.ensures.kids ∙ c.return_kids.ensures.kids) in
-    let few = after-count c.args.round (tag_of c.take_kids-kids.new.self) (former_of c.in_ok-former.former) (nodes_of c.in_ok-passed.passed.items) in
+    let few = after-count c.args.round.now (tag_of c.take_kids-kids.new.self) (former_of c.in_ok-former.former) (nodes_of c.in_ok-passed.passed.items) in
     record {
       goes_on = record { same_says = c.in_ok-passed.ensures.counts.goes_on.same_says; same_counter = c.in_ok-passed.ensures.counts.goes_on.same_counter };
       entered = omega (
@@ -84,8 +104,8 @@ pass_left-returns-clause-counts g t c =
       made = omega (arith, kept_count, ap count c.in_ok-kept.ensures, few, c.in_ok-passed.ensures.counts.made, c.count_former.ensures);
     }
 
-pub pass_left-returns-in_err-kept-clause-counts : goal.pass_left-returns-in_err-kept-clause-counts
-pass_left-returns-in_err-kept-clause-counts g t c =
+pub pass_through-returns-in_err-kept-clause-counts : goal.pass_through-returns-in_err-kept-clause-counts
+pass_through-returns-in_err-kept-clause-counts g t c =
     let says = c.args.self.now.says.now in
     record {
       goes_on = record { same_says = c.in_ok-passed.ensures.counts.goes_on.same_says; same_counter = c.in_ok-passed.ensures.counts.goes_on.same_counter };
@@ -101,8 +121,8 @@ pass_left-returns-in_err-kept-clause-counts g t c =
       made = search rules;
     }
 
-pub pass_left-returns-in_err-passed-clause-counts : goal.pass_left-returns-in_err-passed-clause-counts
-pass_left-returns-in_err-passed-clause-counts g t c =
+pub pass_through-returns-in_err-passed-clause-counts : goal.pass_through-returns-in_err-passed-clause-counts
+pass_through-returns-in_err-passed-clause-counts g t c =
     let says = c.args.self.now.says.now in
     record {
       goes_on = c.in_err-passed.ensures.counts.goes_on;
@@ -128,12 +148,12 @@ pass_onto-loop-node-preserved g t c =
     let counts = rw same at c.in_ok-here.ensures.counts.entered in
     record {
       goes_on = goes_on-then c.loop-node.invariant.goes_on c.in_ok-here.ensures.counts.goes_on;
-      becomes = λ around round_is.
-          passes.becomes around round_is (pieces says around more)
-          ∙ ap (λ ps. whole made ps) (sym (pieces-in_front says around (item_of node) more))
-          ∙ ap (λ xs. whole made (pieces says around (nodes_of xs))) (sym here)
-          ∙ c.loop-node.invariant.becomes around round_is;
-      answer = answer-more says c.args.round.asked (item_of node) more _ c.loop-node.all _ _ (ap nodes_of here) (c.and-all.ensures ∙ ap (and_then c.loop-node.all) passes.answer) c.loop-node.invariant.answer;
+      becomes = λ ancestors round_is.
+          passes.becomes ancestors round_is (pieces says ancestors more)
+          ∙ ap (λ ps. whole made ps) (sym (pieces-in_front says ancestors (item_of node) more))
+          ∙ ap (λ xs. whole made (pieces says ancestors (nodes_of xs))) (sym here)
+          ∙ c.loop-node.invariant.becomes ancestors round_is;
+      answer = answer-more says c.args.round.now.asked (item_of node) more _ c.loop-node.all _ _ (ap nodes_of here) (c.and-all.ensures ∙ ap (and_then c.loop-node.all) passes.answer) c.loop-node.invariant.answer;
       entered = omega (
         arith,
         counts,
@@ -169,10 +189,10 @@ pass_onto-returns-clause-passes g t c =
     let says = c.args.self.now.says.now in
     let none : into_iter_items c.loop-node.node-iterator ≡ [] = nil_from_length _ (sym c.loop-node.node-iterator.rest.ok.0 ∙ c.in-None.ensures.steps.0) in
     record {
-      becomes = λ around round_is.
+      becomes = λ ancestors round_is.
           c.in_ok-passed.ensures.whole
-          ∙ ap (λ xs. whole c.loop-node.made (pieces says around (nodes_of xs))) (sym none)
-          ∙ c.loop-node.invariant.becomes around round_is;
+          ∙ ap (λ xs. whole c.loop-node.made (pieces says ancestors (nodes_of xs))) (sym none)
+          ∙ c.loop-node.invariant.becomes ancestors round_is;
       answer = search rules;
     }
 
@@ -183,10 +203,10 @@ pass_narrow-returns-then-goes_at-clause-passes g t c =
     let kids = kids_of c.args.elem in
     let made = c.args.made.now in
     record {
-      becomes = λ around round_is rest.
-          let stays = element (renamed says around tag) (kept_kids says around tag kids (pass says (tag ∷ around) kids)) no_nodes in
+      becomes = λ ancestors round_is rest.
+          let stays = element (renamed says ancestors tag) (kept_kids says ancestors tag kids (pass says (tag ∷ ancestors) kids)) no_nodes in
           ap (λ n. nodes_of made.passed.items ⊕ n) (thin_none (pieces_of made.chain.items) rest)
-          ∙ ap (λ n. whole made (thin n ∷ rest)) (sym (if_true (goes_at says around tag kids) no_nodes stays (sym (c.goes_at.ensures around round_is) ∙ c.if-goes_at.true)));
+          ∙ ap (λ n. whole made (thin n ∷ rest)) (sym (if_true (goes_at says ancestors tag kids) no_nodes stays (sym (c.goes_at.ensures ancestors round_is) ∙ c.if-goes_at.true)));
       answer = c.answer_of.ensures;
     }
 
@@ -195,7 +215,7 @@ pass_other-returns-else-is_content-clause-passes g t c =
     let freed : fate_of c.args.self.now.says.now (tag_of c.args.elem) ≡ Free = sym c.fate_of-fate.ensures ∙ c.in-Free.is in
     let made = c.args.made.now in
     record {
-      becomes = λ around round_is rest.
+      becomes = λ ancestors round_is rest.
           ap (λ n. nodes_of made.passed.items ⊕ n) (thin_none (pieces_of made.chain.items) rest)
           ∙ ap (λ n. whole made (thin n ∷ rest)) (sym (by_fate-remark _ _ _ _ freed (sym (ap is_content c.kind.ensures) ∙ sym c.is_content.ensures ∙ c.if-is_content.false)));
       answer = c.answer_of-answer.ensures;
@@ -230,7 +250,7 @@ pass_other-returns-in_default-clause-passes g t c =
     let not_freed : fate ≢ Free = λ freed. c.in_default.not-Free (c.fate_of-fate.ensures ∙ freed) in
     let made = c.args.made.now in
     record {
-      becomes = λ around round_is rest.
+      becomes = λ ancestors round_is rest.
           ap (λ n. nodes_of made.passed.items ⊕ n) (thin_none (pieces_of made.chain.items) rest)
           ∙ ap (λ n. whole made (thin n ∷ rest)) (sym (by_fate-gone _ _ _ _ not_left not_freed));
       answer = c.answer_of.ensures;
@@ -246,12 +266,12 @@ pass_kids-returns-then-all_stay g t c =
     take_at c.pass_each.new.nodes _ _ (omega (arith, c.pass_each.auto.nodes, c.deref_mut.ensures.len)) in
     record {
       passes = record {
-        becomes = λ around round_is.
-            let stay : all_stay says around (nodes_of kids) ≡ true =
-            ap (λ xs. all_stay says around (nodes_of xs)) (sym seen) ∙ sym (c.all_stay.ensures.stay around round_is) ∙ c.if-all_stay.true in
-            ap nodes_of items ∙ c.in_ok-answer.ensures.passes.becomes around round_is
-            ∙ ap (λ xs. passed_each says around (nodes_of xs)) value ∙ passed_each-pass says around (nodes_of kids) stay;
-        answer = c.in_ok-answer.ensures.passes.answer ∙ ap (λ xs. answer says c.args.round.asked (nodes_of xs)) value;
+        becomes = λ ancestors round_is.
+            let stay : all_stay says ancestors (nodes_of kids) ≡ true =
+            ap (λ xs. all_stay says ancestors (nodes_of xs)) (sym seen) ∙ sym (c.all_stay.ensures.stay ancestors round_is) ∙ c.if-all_stay.true in
+            ap nodes_of items ∙ c.in_ok-answer.ensures.passes.becomes ancestors round_is
+            ∙ ap (λ xs. passed_each says ancestors (nodes_of xs)) value ∙ passed_each-pass says ancestors (nodes_of kids) stay;
+        answer = c.in_ok-answer.ensures.passes.answer ∙ ap (λ xs. answer says c.args.round.now.asked (nodes_of xs)) value;
       };
       counts = record {
         goes_on = c.in_ok-answer.ensures.counts.goes_on;
@@ -286,17 +306,17 @@ pass_each-loop-i-preserved g t c =
         λ k d below. get_or-set_other items i k passed d (omega arith) ∙ c.loop-i.invariant.unvisited.1 k d (omega arith),
       );
       goes_on = goes_on-then c.loop-i.invariant.goes_on c.in_ok-here.ensures.counts.goes_on;
-      becomes = λ around round_is.
-          let made = passes.becomes around round_is
-          ∙ ap (λ z. item_passed_each says around (item_of z)) (sym (c.index-nodes-i).is) in
-          let placed = in_front (item_passed_each says around (item_of x)) no_nodes in
+      becomes = λ ancestors round_is.
+          let made = passes.becomes ancestors round_is
+          ∙ ap (λ z. item_passed_each says ancestors (item_of z)) (sym (c.index-nodes-i).is) in
+          let placed = in_front (item_passed_each says ancestors (item_of x)) no_nodes in
           built_more _ _ _
           (ap nodes_of front ∙ nodes_of-push _ _ ∙ ap (λ y. nodes_of (take i items) ⊕ in_front y no_nodes) made)
-          (ap (passed_each says around) here ∙ passed_each-in_front says around (item_of x) _
-          ∙ ap (λ xs. placed ⊕ passed_each says around (nodes_of xs)) (sym back)) (c.loop-i.invariant.becomes around round_is);
-      answer = answer-more says c.args.round.asked (item_of x) _ _ c.loop-i.all _ _
+          (ap (passed_each says ancestors) here ∙ passed_each-in_front says ancestors (item_of x) _
+          ∙ ap (λ xs. placed ⊕ passed_each says ancestors (nodes_of xs)) (sym back)) (c.loop-i.invariant.becomes ancestors round_is);
+      answer = answer-more says c.args.round.now.asked (item_of x) _ _ c.loop-i.all _ _
           (here ∙ ap (λ xs. in_front (item_of x) (nodes_of xs)) (sym back))
-          (c.and-all.ensures ∙ ap (and_then c.loop-i.all) (passes.answer ∙ ap (λ z. item_answer says c.args.round.asked (item_of z)) (sym (c.index-nodes-i).is)))
+          (c.and-all.ensures ∙ ap (and_then c.loop-i.all) (passes.answer ∙ ap (λ z. item_answer says c.args.round.now.asked (item_of z)) (sym (c.index-nodes-i).is)))
           c.loop-i.invariant.answer;
       entered = omega (
         arith,
@@ -343,11 +363,11 @@ pass_each-returns g t c =
     let none = nodes_end items c.loop-i.i past in
     record {
       passes = record {
-        becomes = λ around round_is.
-            let left = ap (passed_each says around) none in
+        becomes = λ ancestors round_is.
+            let left = ap (passed_each says ancestors) none in
             ap nodes_of (sym (take_all c.loop-i.i items past)) ∙ sym (⊕-no_nodes _) ∙ ap (λ ns. nodes_of (take c.loop-i.i items) ⊕ ns) (sym left)
-            ∙ c.loop-i.invariant.becomes around round_is;
-        answer = sym (then-nothing c.loop-i.all) ∙ ap (λ ns. and_then c.loop-i.all (answer says c.args.round.asked ns)) (sym none) ∙ c.loop-i.invariant.answer;
+            ∙ c.loop-i.invariant.becomes ancestors round_is;
+        answer = sym (then-nothing c.loop-i.all) ∙ ap (λ ns. and_then c.loop-i.all (answer says c.args.round.now.asked ns)) (sym none) ∙ c.loop-i.invariant.answer;
       };
       counts = record {
         goes_on = c.loop-i.invariant.goes_on;
@@ -364,15 +384,15 @@ pass_staying-returns-clause-passes g t c =
     let old = c.args.made.now in
     let wide : c.is_wide.result ≡ true = c.if-not-is_wide.false in
     record {
-      becomes = λ around round_is rest.
-          let new_tag = renamed says around tag in
-          let stays = c.in_ok-below.ensures.passes.becomes around round_is in
-          let gone : c.is_gone.result ≡ goes_at says around tag kids =
+      becomes = λ ancestors round_is rest.
+          let new_tag = renamed says ancestors tag in
+          let stays = c.in_ok-below.ensures.passes.becomes ancestors round_is in
+          let gone : c.is_gone.result ≡ goes_at says ancestors tag kids =
           c.is_gone.ensures ∙ ap is_gone (c.in_ok-below.ensures.passes.answer ∙ ap (λ r. answer says (asked_inside tag r.asked) kids) round_is)
-          ∙ sym (wide-goes says around tag kids (c.is_wide.ensures.cell wide) (c.is_wide.ensures.row wide) (c.is_wide.ensures.wide says around round_is wide)) in
+          ∙ sym (wide-goes says ancestors tag kids (c.is_wide.ensures.cell wide) (c.is_wide.ensures.row wide) (c.is_wide.ensures.wide says ancestors round_is wide)) in
           c.in_ok-give_unless.ensures.whole rest
           ∙ ap (λ b. whole old (thin (if b then no_nodes else element (tag_of c.pass_left.new.elem) (kids_of c.pass_left.new.elem) no_nodes) ∷ rest)) gone
-          ∙ ap (λ x. whole old (thin (if goes_at says around tag kids then no_nodes else element x (kids_of c.pass_left.new.elem) no_nodes) ∷ rest)) stays.tag
-          ∙ ap (λ k. whole old (thin (if goes_at says around tag kids then no_nodes else element new_tag k no_nodes) ∷ rest)) stays.kids;
+          ∙ ap (λ x. whole old (thin (if goes_at says ancestors tag kids then no_nodes else element x (kids_of c.pass_left.new.elem) no_nodes) ∷ rest)) stays.tag
+          ∙ ap (λ k. whole old (thin (if goes_at says ancestors tag kids then no_nodes else element new_tag k no_nodes) ∷ rest)) stays.kids;
       answer = search rules;
     }

@@ -20,8 +20,8 @@ invariant-pass_onto-loop-node g l =
     let left = nodes_of (into_iter_items l.node-iterator) in
     record {
       goes_on : GoesOn l.initial.self l.self;
-      becomes : (around : List Tag) → l.round ≡ round_of says around
-          → whole l.made (pieces says around left) ≡ nodes_of l.fn.passed.items ⊕ pass says around (nodes_of l.fn.nodes.items);
+      becomes : (ancestors : List Tag) → l.round ≡ round_of says ancestors
+          → whole l.made (pieces says ancestors left) ≡ nodes_of l.fn.passed.items ⊕ pass says ancestors (nodes_of l.fn.nodes.items);
       answer : and_then l.all (answer says l.round.asked left) ≡ answer says l.round.asked (nodes_of l.fn.nodes.items);
       entered : l.self.steps.now + visits says left ≤ l.initial.self.steps.now + visits says (nodes_of l.fn.nodes.items);
       made : l.initial.self.steps.now + weight l.made ≤ l.self.steps.now + count (nodes_of l.fn.passed.items);
@@ -36,8 +36,8 @@ invariant-pass_each-loop-i g l =
     record {
       unvisited : goal.unvisited-pass_each-loop-i g l;
       goes_on : GoesOn l.initial.self l.self;
-      becomes : (around : List Tag) → l.round ≡ round_of says around
-          → passed ⊕ passed_each says around left ≡ passed_each says around (nodes_of l.initial.nodes);
+      becomes : (ancestors : List Tag) → l.round ≡ round_of says ancestors
+          → passed ⊕ passed_each says ancestors left ≡ passed_each says ancestors (nodes_of l.initial.nodes);
       answer : and_then l.all (answer says l.round.asked left) ≡ answer says l.round.asked (nodes_of l.initial.nodes);
       entered : l.self.steps.now + count left ≤ l.initial.self.steps.now + count (nodes_of l.initial.nodes);
       made : l.initial.self.steps.now + count passed ≤ l.self.steps.now;

@@ -6,6 +6,6 @@ use Rattle.redl_tree.proofs.AroundLaws.{role-in}
 use Rattle.redl_tree.proofs.around.Around.role.Goals as goal
 
 pub returns-clause-role : goal.returns-clause-role
-returns-clause-role c around is =
+returns-clause-role c ancestors is =
     let tag = tag_of c.args.elem.now in
-    c.role_by_answers.ensures ∙ ap (λ (here : Around). role_in here tag) is ∙ sym (role-in around tag)
+    c.role_by_answers.ensures ∙ ap (λ (here : Around). role_in here tag) is ∙ sym (role-in ancestors tag)

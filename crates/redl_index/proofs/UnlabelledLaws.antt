@@ -1,0 +1,118 @@
+-- What is known of the stories of a package serves for all of them, and labels them as the definition does.
+use Rattle.std.proofs.Common.{◌≡◌, ◌∙◌, refl, ap, sym, subst, ℕ, zero, suc, ◌+◌, ◌^◌, ◌<◌, ◌≤◌, List, [], ◌∷◌, ◌++◌, map, drop, length, slice_get, Some, Bool, true, false, arith, if◌then◌else◌}
+use Rattle.redl_tree.specs.Model.Count.{count}
+use Rattle.redl_tree.specs.Model.Nodes.{Tag, Nodes, no_nodes, bytes, element}
+use Rattle.redl_tree.specs.Model.Seen.{seen, root_spots}
+use Rattle.redl_tree.specs.Model.View.{Parts}
+use Rattle.redl_tree.specs.Decisions.Packages.{is_data_level, level_of, is_story_root, is_root, stories_in, stories, left_after, changed_package}
+use Rattle.redl_tree.specs.Decisions.Taken.{TakesAll}
+use Rattle.redl_tree.specs.Revisions.Markers.{moves_among}
+use Rattle.redl_tree.specs.Revisions.Numbers.{start_with, next_after_story, number_rule}
+use Rattle.redl_tree.proofs.NameLaws.{and-right}
+use Rattle.redl_tree.proofs.NumberLaws.{unlabelled-story}
+use Rattle.redl_tree.proofs.StoryLaws.{Agree, changed_in-agree}
+use Rattle.redl_opc.specs.Labels.{SetsLabels}
+use Rattle.redl_stamp.specs.Attribute.{attribute_value}
+use Rattle.redl_markers.specs.Free.{Every}
+use Rattle.redl_index.specs.Known.{Marked, known_of, known_in}
+use Rattle.redl_index.specs.declared.known.Known.{Known}
+use Rattle.redl_index.specs.Numbers.{numbered_package}
+use Rattle.redl_index.specs.Unlabelled.{Left, left_rule, IsNext}
+use Rattle.redl_index.proofs.LabelLaws.{GoesOn, numbering-goes}
+
+-- ---- the rule is that of the definition
+
+pub sets-labels : SetsLabels left_rule
+sets-labels left tag kids = unlabelled-story attribute_value left.next tag kids
+
+rules-agree : (left : Left) (xs : List Parts) → Agree left_rule (number_rule attribute_value) left left.next xs
+rules-agree left [] = tt
+rules-agree left (story ∷ xs) = (refl, rules-agree (left_rule.left left story.tag story.kids) xs)
+
+pub labelled-numbered : (left : Left) (nodes : Nodes) → left.next ≡ 1 → changed_package left_rule left nodes ≡ numbered_package nodes
+labelled-numbered left nodes is =
+    changed_in-agree left_rule (number_rule attribute_value) left left.next [] nodes (rules-agree left (stories nodes))
+    ∙ ap (λ next. changed_package (number_rule attribute_value) next nodes) is
+
+pub next-left : (left : Left) (xs : List Parts) → (left_after left_rule left xs).next ≡ left_after (number_rule attribute_value) left.next xs
+next-left left [] = refl
+next-left left (story ∷ xs) = next-left (left_rule.left left story.tag story.kids) xs
+
+-- ---- each story is the next one that is known
+
+abbrev HasRoot : Parts → Type 0
+HasRoot story = is_story_root story.tag ≡ true
+
+-- the nodes of stories, their roots included
+abbrev pub size : List Parts → ℕ
+size [] = 0
+size (story ∷ xs) = (1 + count story.kids) + size xs
+
+every-both : (xs ys : List Parts) → Every HasRoot xs → Every HasRoot ys → Every HasRoot (xs ++ ys)
+every-both [] ys here later = later
+every-both (x ∷ xs) ys here later = (here.0, every-both xs ys here.1 later)
+
+size-append : (xs ys : List Parts) → size (xs ++ ys) ≡ size xs + size ys
+size-append [] ys = omega arith
+size-append (x ∷ xs) ys = omega (arith, size-append xs ys)
+
+roots-in : (ancestors : List Tag) (nodes : Nodes) → Every HasRoot (stories_in ancestors nodes)
+roots-in ancestors no_nodes = tt
+roots-in ancestors (bytes b rest) = roots-in ancestors rest
+roots-in ancestors (element tag kids rest) =
+    every-both (if is_root ancestors tag then record { tag = tag; kids = kids } ∷ [] else stories_in (tag ∷ ancestors) kids) (stories_in ancestors rest)
+    (by (is_root ancestors tag) refl (roots-in (tag ∷ ancestors) kids)) (roots-in ancestors rest)
+  where
+    by : (b : Bool) → is_root ancestors tag ≡ b → Every HasRoot (stories_in (tag ∷ ancestors) kids)
+        → Every HasRoot (if b then record { tag = tag; kids = kids } ∷ [] else stories_in (tag ∷ ancestors) kids)
+    by true is below = (and-right (is_data_level (level_of ancestors)) (is_story_root tag) is, tt)
+    by false is below = below
+
+size-in : (ancestors : List Tag) (nodes : Nodes) → size (stories_in ancestors nodes) ≤ count nodes
+size-in ancestors no_nodes = omega arith
+size-in ancestors (bytes b rest) = omega (arith, size-in ancestors rest)
+size-in ancestors (element tag kids rest) =
+    let here = if is_root ancestors tag then record { tag = tag; kids = kids } ∷ [] else stories_in (tag ∷ ancestors) kids in
+    omega (arith, size-append here (stories_in ancestors rest), by (is_root ancestors tag) (size-in (tag ∷ ancestors) kids), size-in ancestors rest)
+  where
+    by : (b : Bool) → size (stories_in (tag ∷ ancestors) kids) ≤ count kids
+        → size (if b then record { tag = tag; kids = kids } ∷ [] else stories_in (tag ∷ ancestors) kids) ≤ 1 + count kids
+    by true below = omega arith
+    by false below = omega (arith, below)
+
+story-goes : (next : ℕ) (tag : Tag) (kids : Nodes) → GoesOn next (next_after_story attribute_value next tag kids) (count kids)
+story-goes next tag kids = numbering-goes (moves_among attribute_value (seen tag kids)) (root_spots tag kids) 1 (start_with next) kids
+
+takes-known : (next : ℕ) (xs : List Parts) → Every HasRoot xs → 0 < next → next + size xs ≤ 2 ^ 32
+    → TakesAll left_rule IsNext (record { next = next; stories = map known_in xs }) xs
+takes-known next [] roots begun few = tt
+takes-known next (story ∷ xs) roots begun few =
+    let goes = story-goes next story.tag story.kids in (
+      record { root = roots.0; known = refl; begun = begun; few = omega (arith, few) },
+      takes-known (next_after_story attribute_value next story.tag story.kids) xs roots.1 (omega (arith, begun, goes.at_least)) (omega (arith, few, goes.at_most)),
+    )
+
+pub takes-stories : (known : List Marked) (nodes : Nodes) → known ≡ map known_in (stories nodes) → count nodes < 2 ^ 32
+    → TakesAll left_rule IsNext (record { next = 1; stories = known }) (stories nodes)
+takes-stories known nodes is few =
+    let P : List Marked → Type 0 = λ stories_known. TakesAll left_rule IsNext (record { next = 1; stories = stories_known }) (stories nodes) in
+    subst P (sym is) (takes-known 1 (stories nodes) (roots-in [] nodes) (omega arith) (omega (arith, size-in [] nodes, few)))
+
+-- ---- what is known of the next story, at a place in the list
+
+-- this is known at a place, and that of the later ones
+pub record IsKnownAt (known : List Known) (place : ℕ) (now : Marked) (more : List Marked) : Type 0 where
+  pub within : place < length known
+  pub here : (k : Known) → slice_get known place ≡ Some k → known_of k ≡ now
+  pub later : map known_of (drop (place + 1) known) ≡ more
+
+pub known-at : (known : List Known) (place : ℕ) (now : Marked) (more : List Marked) → map known_of (drop place known) ≡ now ∷ more → IsKnownAt known place now more
+known-at [] zero now more is = absurd (cc)
+known-at [] (suc place) now more is = absurd (cc)
+known-at (k ∷ known) zero now more is =
+    let same : known_of k ≡ now = cc in
+    record { within = omega arith; here = λ other there. let it : k ≡ other = cc in ap known_of (sym it) ∙ same; later = cc }
+known-at (k ∷ known) (suc place) now more is =
+    let rest = known-at known place now more is in
+    let next : suc place + 1 ≡ suc (place + 1) = omega arith in
+    record { within = omega (arith, rest.within); here = rest.here; later = ap (λ n. map known_of (drop n (k ∷ known))) next ∙ rest.later }

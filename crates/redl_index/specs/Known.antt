@@ -1,0 +1,35 @@
+-- What is known of the stories of a package before their revisions are numbered.
+use Rattle.std.specs.Prelude.{ℕ, List, map, length, replicate}
+use Rattle.redl_tree.specs.Model.Nodes.{Tag, Nodes}
+use Rattle.redl_tree.specs.Model.View.{Parts}
+use Rattle.redl_tree.specs.Revisions.Moves.{Marking}
+use Rattle.redl_markers.specs.Ends.{ends_from}
+use Rattle.redl_markers.specs.Found.{markers_of, marker_tails}
+use Rattle.redl_index.specs.declared.known.Known.{Known}
+
+-- a story by its markers, their attributes, the ends of its paragraphs, and the numbers of its moves by places among the markers
+pub record Marked : Type 0 where
+  pub marks : List Marking
+  pub tails : List (List ℕ)
+  pub ends : List ℕ
+  pub numbers : List ℕ
+
+abbrev pub known_of : Known → Marked
+known_of known = record {
+  marks = known.moves;
+  tails = map (λ tail. tail.now) known.tails.items;
+  ends = known.ends.items;
+  numbers = known.numbers.moves.items;
+}
+
+abbrev pub parts_by : Tag → Nodes → Parts
+parts_by tag kids = record { tag = tag; kids = kids }
+
+-- what there is to know of a story, none of whose moves has a number yet
+abbrev pub known_in : Parts → Marked
+known_in story = record {
+  marks = markers_of story.tag story.kids;
+  tails = marker_tails story.tag story.kids;
+  ends = ends_from 1 story.kids;
+  numbers = replicate (length (markers_of story.tag story.kids)) 0;
+}

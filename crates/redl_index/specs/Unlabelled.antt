@@ -1,0 +1,53 @@
+-- The stories of a package that are still to be labelled, as the code keeps them, and labels a node at a time.
+use Rattle.std.specs.Prelude.{◌≡◌, ◌<◌, ◌^◌, ◌+◌, ℕ, List, ◌∷◌, drop, map, slice_get, Some, IsTrue}
+use Rattle.redl_tree.specs.Model.Count.{count}
+use Rattle.redl_tree.specs.Model.Nodes.{Tag, Nodes, Item, bytes_item, element_item}
+use Rattle.redl_tree.specs.Model.Seen.{Spot, spot, seen_one}
+use Rattle.redl_tree.specs.Decisions.Packages.{StoryRule, is_story_root}
+use Rattle.redl_tree.specs.Revisions.Moves.{Pair}
+use Rattle.redl_tree.specs.Revisions.Numbers.{Numbering, counted, revision_of, numbering_after, labelled, labelled_tag, labelled_story, next_after_story}
+use Rattle.redl_stamp.specs.Attribute.{attribute_value}
+use Rattle.redl_index.specs.Known.{Marked, known_of, known_in, parts_by}
+use Rattle.redl_index.specs.declared.label.Unlabelled.{Unlabelled}
+
+-- the next number, and what is known of the stories that are left
+pub record Left : Type 0 where
+  pub next : ℕ
+  pub stories : List Marked
+
+abbrev pub left_of : Unlabelled → Left
+left_of left = record { next = left.next; stories = map known_of (drop left.place left.stories.items) }
+
+-- Each story is labelled from the next number on.
+abbrev pub left_rule : StoryRule Left
+left_rule = record {
+  kids = λ left tag kids. labelled_story attribute_value left.next tag kids;
+  left = λ left tag kids. record { next = next_after_story attribute_value left.next tag kids; stories = drop 1 left.stories };
+}
+
+-- the story with this root is the next one that is known, and 32 bits hold its numbers
+pub record IsNext (left : Left) (tag : Tag) (kids : Nodes) : Type 0 where
+  pub root : IsTrue (is_story_root tag)
+  pub known : slice_get left.stories 0 ≡ Some (known_in (parts_by tag kids))
+  pub begun : 0 < left.next
+  pub few : left.next + count kids < 2 ^ 32
+
+-- ---- labels a node at a time
+
+-- how far the numbering is after an element and all in it
+abbrev pub element_numbering : List Pair → List Spot → ℕ → Numbering → Tag → Nodes → Numbering
+element_numbering moves ancestors at so_far tag kids =
+    numbering_after attribute_value moves (spot at tag kids ∷ ancestors) (at + 1)
+    (counted (revision_of attribute_value moves (seen_one ancestors at tag kids)) so_far) kids
+
+abbrev pub item_numbering : List Pair → List Spot → ℕ → Numbering → Item → Numbering
+item_numbering moves ancestors at so_far (bytes_item b) = so_far
+item_numbering moves ancestors at so_far (element_item tag kids) = element_numbering moves ancestors at so_far tag kids
+
+-- a node with its labels
+abbrev pub labelled_item : List Pair → List Spot → ℕ → Numbering → Item → Item
+labelled_item moves ancestors at so_far (bytes_item b) = bytes_item b
+labelled_item moves ancestors at so_far (element_item tag kids) =
+    element_item (labelled_tag attribute_value moves so_far (seen_one ancestors at tag kids))
+    (labelled attribute_value moves (spot at tag kids ∷ ancestors) (at + 1)
+    (counted (revision_of attribute_value moves (seen_one ancestors at tag kids)) so_far) kids)

@@ -1,0 +1,64 @@
+//! What is known of the stories of a package before their revisions are numbered.
+
+ghost use Rattle.std.specs.Prelude.{◌≡◌, ◌<◌, ◌^◌, map, None, IfOk};
+ghost use Rattle.redl_tree.specs.Model.Count.{count};
+ghost use Rattle.redl_tree.specs.Model.View.{tag_of, kids_of};
+ghost use Rattle.redl_tree.specs.Decisions.Packages.{stories};
+ghost use Rattle.redl_opc.specs.Shape.{refusal};
+ghost use Rattle.redl_index.specs.Known.{known_of, known_in, parts_by};
+
+use crate::numbers::Numbers;
+use redl_markers::find_markers;
+use redl_moves::Moves;
+use redl_opc::Package;
+use redl_tree::Elem;
+use std::alloc::{AllocError, Global};
+
+/// What is known of a story: its moves, the attributes of its markers, where its paragraphs end, and the numbers that its moves have
+/// so far.
+#[derive(Drop)]
+pub(crate) struct Known<'a> {
+    pub(crate) moves: Moves,
+    pub(crate) tails: Vec<&'a [u8]>,
+    pub(crate) ends: Vec<u64>,
+    pub(crate) numbers: Numbers,
+}
+
+/// What is known of each story of a package, in their order. `Err` means out of memory.
+pub(crate) fn known_stories<'a>(
+    alloc: Global,
+    pkg: &Package<'a>,
+) -> Result<Vec<Known<'a>>, AllocError>
+    ensures known { IfOk result (λ known. map known_of known.items ≡ map known_in (stories pkg.now)) }
+    ensures shape { IfOk result (λ known. refusal pkg.now ≡ None) }
+    ensures few { IfOk result (λ known. count pkg.now < 2 ^ 32) }
+{
+    let mut known = Vec::new(alloc);
+    for part in 0..pkg.parts() {
+        let Some(root) = pkg.story(part) else {
+            continue;
+        };
+        known.push(Known::of(alloc, root)?)?;
+    }
+    Ok(known)
+}
+
+impl<'a> Known<'a> {
+    /// What is known of the story with this root. `Err` means out of memory.
+    fn of(alloc: Global, root: &Elem<'a>) -> Result<Known<'a>, AllocError>
+        requires few { count (kids_of root.now) < 2 ^ 32 }
+        ensures { IfOk result (λ known. known_of known ≡ known_in (parts_by (tag_of root.now) (kids_of root.now))) }
+    {
+        let found = find_markers(alloc, root)?;
+        let numbers = vec![in alloc; 0; found.marks.len()]?;
+        Ok(Known {
+            moves: Moves::of(alloc, found.marks)?,
+            tails: found.tails,
+            ends: found.ends,
+            numbers: Numbers {
+                next: 0,
+                moves: numbers,
+            },
+        })
+    }
+}

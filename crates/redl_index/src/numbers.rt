@@ -1,0 +1,100 @@
+//! The numbers that the elements of a story get, in the order of their start tags.
+
+ghost use Rattle.std.specs.Prelude.{◌≡◌, ◌+◌, ◌≤◌, ◌^◌, ◌<◌, ℕ, List, Option, get_or, set, length, is_some, option_map};
+ghost use Rattle.redl_tree.specs.Revisions.Moves.{Marking, Pair, place_of};
+ghost use Rattle.redl_tree.specs.Revisions.Numbers.{Numbering, in_own, in_move, membership, number_for, counted};
+ghost use Rattle.redl_moves.specs.Starts.{start_in};
+ghost use Rattle.redl_index.specs.Kinds.{kind_of};
+ghost use Rattle.redl_index.specs.Numberings.{IsNumbering, IsPlaced};
+
+use crate::story::Sight;
+use redl_tree::Kind;
+
+/// The next number, and the numbers that the moves of a story have so far, each at the place of its source's start among the
+/// markers. 0 stands for no number.
+#[derive(Drop)]
+pub(crate) struct Numbers {
+    pub(crate) next: u32,
+    pub(crate) moves: Vec<u32>,
+}
+
+impl Numbers {
+    /// The number of an element that is seen so, 0 where it is in no revision. The first element of a revision takes the next
+    /// number.
+    pub(crate) fn number(&mut self, sight: Sight) -> u32
+        requires few { self.old.next + 1 < 2 ^ 32 }
+        ensures at_most { self.new.next ≤ self.old.next + 1 }
+        ensures number { (marks : List Marking) (pair : Option Pair) (so_far : Numbering) → sight.start ≡ option_map (start_in marks) pair
+            → IsPlaced marks pair → IsNumbering marks self.old so_far → result ≡ number_for (membership sight.kind pair) so_far }
+        ensures counted { (marks : List Marking) (pair : Option Pair) (so_far : Numbering) → sight.start ≡ option_map (start_in marks) pair
+            → IsPlaced marks pair → IsNumbering marks self.old so_far → IsNumbering marks self.new (counted (membership sight.kind pair) so_far) }
+    {
+        if !is_member(sight.kind) {
+            return 0;
+        }
+        match sight.start {
+            Some(start) => self.number_of_move(start.place),
+            None => self.take(),
+        }
+    }
+
+    /// The number of the move whose source starts with the marker at this place.
+    fn number_of_move(&mut self, place: u32) -> u32
+        requires few { self.old.next + 1 < 2 ^ 32 }
+        ensures at_most { self.new.next ≤ self.old.next + 1 }
+        ensures number { (marks : List Marking) (start : ℕ) (so_far : Numbering) → place ≡ place_of marks start → place < length marks
+            → IsNumbering marks self.old so_far → result ≡ number_for (in_move start) so_far }
+        ensures counted { (marks : List Marking) (start : ℕ) (so_far : Numbering) → place ≡ place_of marks start → place < length marks
+            → IsNumbering marks self.old so_far → IsNumbering marks self.new (counted (in_move start) so_far) }
+    {
+        let known = self.known(place);
+        if known != 0 {
+            return known;
+        }
+        let number = self.take();
+        self.note(place, number);
+        number
+    }
+
+    /// The next number.
+    fn take(&mut self) -> u32
+        requires few { self.old.next + 1 < 2 ^ 32 }
+        ensures number { result ≡ self.old.next }
+        ensures next { self.new.next ≡ self.old.next + 1 }
+        ensures moves { self.new.moves.items ≡ self.old.moves.items }
+    {
+        let number = self.next;
+        self.next += 1;
+        number
+    }
+
+    /// The number at a place, or 0.
+    fn known(&self, place: u32) -> u32
+        ensures { result ≡ get_or self.now.moves.items place 0 }
+    {
+        match self.moves.get(place as usize) {
+            Some(number) => *number,
+            None => 0,
+        }
+    }
+
+    /// Notes the number of the move at a place.
+    fn note(&mut self, place: u32, number: u32)
+        ensures next { self.new.next ≡ self.old.next }
+        ensures moves { self.new.moves.items ≡ set self.old.moves.items place number }
+    {
+        if let Some(noted) = self.moves.get_mut(place as usize) {
+            *noted = number;
+        }
+    }
+}
+
+/// Whether an element of this kind is in a revision.
+fn is_member(kind: Kind) -> bool
+    ensures { result ≡ is_some (kind_of kind) }
+{
+    match kind {
+        Kind::Plain => false,
+        _ => true,
+    }
+}

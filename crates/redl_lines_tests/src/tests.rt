@@ -1,0 +1,185 @@
+//! Tests of what no clause says: each end with its exit status and its lines, by hand.
+
+use redl_io::MemSink;
+use redl_join::Book;
+use redl_journal::read;
+use redl_lines::{Cause, End, Failure, Limit, PackageFault, RefusedEntries, tell};
+use std::alloc::{AllocError, Global};
+use std::test::Fail;
+
+// Whether a call that ended so has this status and these lines.
+fn ends_with(alloc: Global, end: &End<'_>, code: u8, lines: &str) -> Result<bool, AllocError> {
+    let mut err = MemSink::new(alloc, 300, Vec::new(alloc))?;
+    tell(end, &mut err);
+    Ok(end.status().code() == code && err.bytes() == lines.as_bytes())
+}
+
+fn fails_with(alloc: Global, cause: Cause, code: u8, lines: &str) -> Result<bool, AllocError> {
+    ends_with(alloc, &End::Failed(Failure::Cause(cause)), code, lines)
+}
+
+#[test]
+fn a_fault_of_the_package_has_its_line(rt: HostRuntime) -> Result<(), Fail> {
+    for (fault, line) in [
+        (
+            PackageFault::NotReadable,
+            "redline: package: not readable\n",
+        ),
+        (
+            PackageFault::NotPackage,
+            "redline: package: not a package\n",
+        ),
+        (PackageFault::PartShape, "redline: package: part shape\n"),
+        (PackageFault::NoDocument, "redline: package: no document\n"),
+        (PackageFault::Rule(9), "redline: package: rule 9\n"),
+    ] {
+        let same = fails_with(rt.alloc(), Cause::Package(fault), 3, line)?;
+        assert!(rt; same, "{line}");
+    }
+    Ok(())
+}
+
+#[test]
+fn a_limit_has_its_line(rt: HostRuntime) -> Result<(), Fail> {
+    for (limit, line) in [
+        (
+            Limit::PackageBytes,
+            "redline: limit package bytes 67108864\n",
+        ),
+        (
+            Limit::JournalBytes,
+            "redline: limit journal bytes 67108864\n",
+        ),
+        (Limit::Depth, "redline: limit depth 512\n"),
+        (Limit::Nodes, "redline: limit nodes 2097152\n"),
+        (Limit::Sample, "redline: limit sample 20000\n"),
+    ] {
+        let same = fails_with(rt.alloc(), Cause::Limit(limit), 7, line)?;
+        assert!(rt; same, "{line}");
+    }
+    Ok(())
+}
+
+#[test]
+fn a_cause_has_its_status_and_line(rt: HostRuntime) -> Result<(), Fail> {
+    let document = Cause::OtherDocument {
+        journal: "J",
+        found: [0x0a; 32],
+        expected: [0xf1; 32],
+    };
+    let count = Cause::OtherCount {
+        journal: "J",
+        found: 0,
+        expected: 4_294_967_295,
+    };
+    for (cause, code, line) in [
+        (Cause::Usage, 2, "redline: cannot read the command line\n"),
+        (Cause::NoFormat("pdf"), 2, "redline: no format pdf\n"),
+        (Cause::NoFormat(""), 2, "redline: no format \n"),
+        (Cause::Malformed("J"), 4, "redline: journal J: malformed\n"),
+        (
+            document,
+            4,
+            "redline: journal J: document 0a0a0a0a0a0a0a0a0a0a0a0a0a0a0a0a0a0a0a0a0a0a0a0a0a0a0a0a0a0a0a0a, expected f1f1f1f1f1f1f1f1f1f1f1f1f1f1f1f1f1f1f1f1f1f1f1f1f1f1f1f1f1f1f1f1\n",
+        ),
+        (
+            count,
+            4,
+            "redline: journal J: revisions 0, expected 4294967295\n",
+        ),
+        (
+            Cause::NoSequence(b"Dee"),
+            9,
+            "redline: no sequence number left for Dee\n",
+        ),
+    ] {
+        assert!(rt; fails_with(rt.alloc(), cause, code, line)?, "{line}");
+    }
+    Ok(())
+}
+
+#[test]
+fn what_the_outside_forces_has_its_status_and_line(rt: HostRuntime) -> Result<(), Fail> {
+    for (failure, code, line) in [
+        (Failure::Unread("a b"), 5, "redline: cannot read a b\n"),
+        (Failure::NoMemory, 8, "redline: no memory\n"),
+    ] {
+        let same = ends_with(rt.alloc(), &End::Failed(failure), code, line)?;
+        assert!(rt; same, "{line}");
+    }
+    Ok(())
+}
+
+const HEAD: &[u8] =
+    b"redline-journal 1\ndocument e3b0c44298fc1c149afbf4c8996fb92427ae41e4649b934ca495991b7852b855\nrevisions 3\n";
+
+// The text of a journal with these lines.
+fn journal(alloc: Global, lines: &str) -> Result<Vec<u8>, AllocError> {
+    let mut text = Vec::from_slice(alloc, HEAD)?;
+    text.extend_from_slice(lines.as_bytes())?;
+    Ok(text)
+}
+
+// The entries with these lines, which a package of two revisions refused.
+fn refused(alloc: Global, lines: &str) -> Result<RefusedEntries, Fail> {
+    let text = journal(alloc, lines)?;
+    let mut entries = Book::new(alloc);
+    for entry in read(alloc, &text)?.entries {
+        entries.add(entry)?;
+    }
+    Ok(RefusedEntries { entries, count: 2 })
+}
+
+// Whether a call that wrote its output, or whose output failed, and that refused these entries ends with this status and
+// these lines.
+fn tells_refused(
+    alloc: Global,
+    entries: &str,
+    writes: bool,
+    code: u8,
+    lines: &str,
+) -> Result<bool, Fail> {
+    let refused = refused(alloc, entries)?;
+    let end = if writes {
+        End::Written(refused)
+    } else {
+        End::Unwritten(refused)
+    };
+    Ok(ends_with(alloc, &end, code, lines)?)
+}
+
+#[test]
+fn a_refused_entry_has_a_line_with_its_cause(rt: HostRuntime) -> Result<(), Fail> {
+    for (entries, code, lines) in [
+        ("", 0, ""),
+        (
+            "1\t0\twithdraw\tAnn Gray\n",
+            1,
+            "redline: refused 1 0 withdraw Ann Gray: unknown revision\n",
+        ),
+        (
+            "2\t3\taccept\tBob\n1\t1\treject\tBob\n7\t2\taccept\tAnn\n",
+            1,
+            "redline: refused 7 2 accept Ann: locked author\nredline: refused 1 1 reject Bob: locked author\nredline: refused 2 3 accept Bob: unknown revision\n",
+        ),
+    ] {
+        let same = tells_refused(rt.alloc(), entries, true, code, lines)?;
+        assert!(rt; same, "{lines}");
+    }
+    Ok(())
+}
+
+#[test]
+fn a_failed_output_is_told_last(rt: HostRuntime) -> Result<(), Fail> {
+    for (entries, lines) in [
+        ("", "redline: cannot write\n"),
+        (
+            "1\t2\taccept\tAnn\n",
+            "redline: refused 1 2 accept Ann: locked author\nredline: cannot write\n",
+        ),
+    ] {
+        let same = tells_refused(rt.alloc(), entries, false, 6, lines)?;
+        assert!(rt; same, "{lines}");
+    }
+    Ok(())
+}

@@ -1,0 +1,104 @@
+-- A value whose bytes need no test of their own.
+use Rattle.std.proofs.Common.{◌≡◌, ℕ, Bool, true, false, eqb, List, [], ◌∷◌, ◌++◌, Option, Some, None, refl, sym, ap, subst, ◌∙◌, inl, inr, cond}
+use Rattle.std.specs.Prelude.{◌&&◌, codes}
+use Rattle.std.specs.List.{list_all}
+use Rattle.std.proofs.lemmas.Bool.{eqb-true, not-true, and_parts, cases_Bool}
+use Rattle.redl_reading.specs.Lists.{behind, front, after, is_other, field_at}
+use Rattle.redl_reading.specs.Steps.{◌>>=◌}
+use Rattle.redl_reading.proofs.Runs.{stops, front-after, front_passes, after_stops}
+use Rattle.redl_reading.proofs.Words.{behind_takes}
+use Rattle.redl_reading.proofs.Fields.{field_again}
+use Rattle.redl_markup.specs.Characters.{is_space}
+use Rattle.redl_markup.specs.Names.{Name}
+use Rattle.redl_markup.specs.ScanNames.{name_at}
+use Rattle.redl_markup.specs.ScanTags.{quote_at, quoted_at, opening_at, equated_at, is_plain, is_value, is_value_byte, value_at, attribute_at}
+use Rattle.redl_markup.proofs.Attributes.{plain_value}
+
+-- ---- the parts of an attribute
+
+pub opened : (bs : List ℕ) → equated_at bs ≡ (opening_at bs >>= λ q. field_at q.0 q.1)
+unfolding equated_at quoted_at opening_at
+opened bs = by_equals (behind (codes "=") (after is_space bs)) where
+  by_equals : (o : Option (List ℕ)) → (o >>= λ more. quote_at (after is_space more) >>= λ q. field_at q.0 q.1) ≡ ((o >>= λ more. quote_at (after is_space more)) >>= λ q. field_at q.0 q.1)
+  by_equals None = refl
+  by_equals (Some more) = refl
+
+-- what follows a quote decides what the value is
+pub opened_as : (bs : List ℕ) (o : Option (ℕ × List ℕ)) (r : Option (List ℕ × List ℕ)) → opening_at bs ≡ o → (o >>= λ q. field_at q.0 q.1) ≡ r → equated_at bs ≡ r
+opened_as bs o r e f = opened bs ∙ ap (λ (p : Option (ℕ × List ℕ)). p >>= λ q. field_at q.0 q.1) e ∙ f
+
+value_is : (bs : List ℕ) (o : Option (List ℕ × List ℕ)) → equated_at bs ≡ o → value_at bs ≡ (o >>= λ value. cond (is_value value.0) (Some value) None)
+unfolding value_at
+value_is bs o e = ap (λ (p : Option (List ℕ × List ℕ)). p >>= λ value. cond (is_value value.0) (Some value) None) e
+
+pub no_value : (bs : List ℕ) → equated_at bs ≡ None → value_at bs ≡ None
+no_value bs e = value_is bs None e
+
+-- a value that was read, and whether it is a legal one
+pub some_value : (bs : List ℕ) (quote : ℕ) (more value rest : List ℕ) (legal : Bool) → opening_at bs ≡ Some (quote, more) → field_at quote more ≡ Some (value, rest) → is_value value ≡ legal → value_at bs ≡ cond legal (Some (value, rest)) None
+some_value bs quote more value rest legal e f test =
+    value_is bs (Some (value, rest)) (opened_as bs (Some (quote, more)) (Some (value, rest)) e f) ∙ ap (λ (t : Bool). cond t (Some (value, rest)) None) test
+
+-- the answers of the steps
+abbrev Found : Type 0
+Found = (Name × List ℕ) × List ℕ
+
+abbrev with_name : Name → List ℕ × List ℕ → Option Found
+with_name name value = Some ((name, value.0), value.1)
+
+abbrev if_legal : List ℕ × List ℕ → Option (List ℕ × List ℕ)
+if_legal value = cond (is_value value.0) (Some value) None
+
+abbrev with_name_if_legal : Name → List ℕ × List ℕ → Option Found
+with_name_if_legal name value = cond (is_value value.0) (with_name name value) None
+
+by_test : (name : Name) (value : List ℕ × List ℕ) (legal : Bool) → cond legal (with_name name value) None ≡ (cond legal (Some value) None >>= with_name name)
+by_test name value true = refl
+by_test name value false = refl
+
+by_equated : (name : Name) (o : Option (List ℕ × List ℕ)) → (o >>= with_name_if_legal name) ≡ ((o >>= if_legal) >>= with_name name)
+by_equated name None = refl
+by_equated name (Some value) = by_test name value (is_value value.0)
+
+by_value : (bs : List ℕ) → attribute_at bs ≡ (name_at bs >>= λ name. value_at name.1 >>= with_name name.0)
+unfolding attribute_at value_at
+by_value bs = by_name (name_at bs) where
+  by_name : (o : Option (Name × List ℕ)) → (o >>= λ name. equated_at name.1 >>= with_name_if_legal name.0) ≡ (o >>= λ name. (equated_at name.1 >>= if_legal) >>= with_name name.0)
+  by_name None = refl
+  by_name (Some name) = by_equated name.0 (equated_at name.1)
+
+pub no_name : (bs : List ℕ) → name_at bs ≡ None → attribute_at bs ≡ None
+no_name bs e = by_value bs ∙ ap (λ (o : Option (Name × List ℕ)). o >>= λ name. value_at name.1 >>= with_name name.0) e
+
+pub some_name : (bs : List ℕ) (name : Name) (more : List ℕ) (o : Option (List ℕ × List ℕ)) → name_at bs ≡ Some (name, more) → value_at more ≡ o → attribute_at bs ≡ (o >>= with_name name)
+some_name bs name more o e f =
+    by_value bs ∙ ap (λ (n : Option (Name × List ℕ)). n >>= λ x. value_at x.1 >>= with_name x.0) e ∙ ap (λ (v : Option (List ℕ × List ℕ)). v >>= with_name name) f
+
+-- ---- a plain value
+
+-- what stops a run of plain bytes is not among them
+none_alike : (q : ℕ) (a : List ℕ) → is_value_byte q ≡ false → list_all is_value_byte a ≡ true → list_all (is_other q) a ≡ true
+none_alike q [] ends all = refl
+none_alike q (b ∷ bs) ends all =
+    let both = and_parts (is_value_byte b) (list_all is_value_byte bs) all in
+    elim (cases_Bool (eqb b q)) [
+      | inl same ↦ absurd (let h : is_value_byte q ≡ true = subst (λ (z : ℕ). is_value_byte z ≡ true) (eqb-true b q same) both.0 in let k : true ≡ false = sym h ∙ ends in cc)
+      | inr other ↦ rw other (none_alike q bs ends both.1)
+    ]
+
+are_plain : (a : List ℕ) → list_all is_value_byte a ≡ true → list_all is_plain a ≡ true
+unfolding is_value_byte
+are_plain [] all = refl
+are_plain (b ∷ bs) all =
+    let both = and_parts (is_value_byte b) (list_all is_value_byte bs) all in
+    let here = and_parts (is_plain b && is_other 34 b) (is_other 39 b) both.0 in
+    let plain = and_parts (is_plain b) (is_other 34 b) here.0 in
+    rw plain.0 (are_plain bs both.1)
+
+pub plain_found : (quote : ℕ) (bs value rest more : List ℕ) → value ≡ front is_value_byte bs → rest ≡ after is_value_byte bs → behind (quote ∷ []) rest ≡ Some more → (field_at quote bs ≡ Some (value, more)) × (is_value value ≡ true)
+plain_found quote bs value rest more before behind_it e =
+    let takes : after is_value_byte bs ≡ quote ∷ more = sym behind_it ∙ behind_takes (quote ∷ []) rest more e in
+    let ends : is_value_byte quote ≡ false = not-true (is_value_byte quote) (ap (stops is_value_byte) (sym takes) ∙ after_stops is_value_byte bs) in
+    let all : list_all is_value_byte value ≡ true = ap (list_all is_value_byte) before ∙ front_passes is_value_byte bs in
+    let whole : bs ≡ value ++ (quote ∷ more) = sym (front-after is_value_byte bs) ∙ ap (λ (z : List ℕ). z ++ after is_value_byte bs) (sym before) ∙ ap (λ (z : List ℕ). value ++ z) takes in
+    (ap (field_at quote) whole ∙ field_again quote value more (none_alike quote value ends all), plain_value value (are_plain value all))

@@ -1,0 +1,89 @@
+-- Reading the words of a command line from the left, as functions on lists.
+use Rattle.std.specs.Prelude.{◌&&◌, ℕ, Bool, true, false, List, [], ◌∷◌, Option, Some, None, codes, if◌then◌else◌, option_map}
+use Rattle.std.specs.List.{list_all}
+use Rattle.std.specs.Str.{bytes_eq}
+use Rattle.redl_journal.specs.declared.entry.Word.{Word}
+use Rattle.redl_journal.specs.Reading.{number_in, is_reviewer}
+use Rattle.redl_reading.specs.Steps.{◌>>=◌}
+use Rattle.redl_select.specs.Selections.{Selection}
+use Rattle.redl_words.specs.declared.options.Form.TheVariants as forms
+use Rattle.redl_words.specs.declared.verb.Verb.{Verb}
+use Rattle.redl_words.specs.declared.verb.Verb.TheVariants as verbs
+use Rattle.redl_words.specs.Commands.{Command, settle, list, write, decide, join, check, sample, is_name, say_word}
+use Rattle.redl_words.specs.Reading.Items.{nothing, gathered}
+
+unfoldable pub verb_in : List ℕ → Option Verb
+verb_in word =
+    if bytes_eq word (codes "settle") then Some verbs.Settle
+    else if bytes_eq word (codes "list") then Some verbs.List
+    else if bytes_eq word (codes "write") then Some verbs.Write
+    else if bytes_eq word (codes "decide") then Some verbs.Decide
+    else if bytes_eq word (codes "join") then Some verbs.Join
+    else if bytes_eq word (codes "check") then Some verbs.Check
+    else if bytes_eq word (codes "sample") then Some verbs.Sample
+    else None
+
+-- the say of `settle`: whether it is accept
+unfoldable pub say_in : List ℕ → Option Bool
+say_in word = if bytes_eq word (say_word true) then Some true else if bytes_eq word (say_word false) then Some false else None
+
+unfoldable pub settle_in : List (List ℕ) → Option Command
+settle_in (say ∷ p ∷ []) = if is_name p then option_map (λ accept. settle accept p) (say_in say) else None
+settle_in _ = None
+
+-- the format of this name, or `text` without one
+abbrev pub format_or_text : Option (List ℕ) → List ℕ
+format_or_text None = codes "text"
+format_or_text (Some name) = name
+
+unfoldable pub list_in : List (List ℕ) → Option Command
+list_in [] = None
+list_in (p ∷ rest) =
+    if is_name p then option_map (λ items. list p (format_or_text items.format) items.locks items.journals) (gathered forms.List nothing rest) else None
+
+unfoldable pub write_in : List (List ℕ) → Option Command
+write_in [] = None
+write_in (p ∷ rest) = if is_name p then option_map (λ items. write p items.locks items.journals) (gathered forms.Write nothing rest) else None
+
+-- the command with these items, which needs a choice
+abbrev pub decide_with : List ℕ → List ℕ → List (List ℕ) → List (List ℕ) → List (Word × Selection) → Option Command
+decide_with p reviewer journals locks [] = None
+decide_with p reviewer journals locks (choice ∷ choices) = Some (decide p reviewer journals locks (choice ∷ choices))
+
+unfoldable pub decide_in : List (List ℕ) → Option Command
+decide_in (p ∷ reviewer ∷ rest) =
+    if is_name p && is_reviewer reviewer
+    then (gathered forms.Decide nothing rest >>= λ items. decide_with p reviewer items.journals items.locks items.choices)
+    else None
+decide_in _ = None
+
+-- the words, where each can name a file
+abbrev pub names_in : List (List ℕ) → Option (List (List ℕ))
+names_in words = if list_all is_name words then Some words else None
+
+unfoldable pub join_in : List (List ℕ) → Option Command
+join_in [] = None
+join_in (name ∷ names) = option_map join (names_in (name ∷ names))
+
+unfoldable pub check_in : List (List ℕ) → Option Command
+check_in (p ∷ []) = if is_name p then Some (check p) else None
+check_in _ = None
+
+unfoldable pub sample_in : List (List ℕ) → Option Command
+sample_in (digits ∷ []) = option_map sample (number_in digits)
+sample_in _ = None
+
+-- the command of these words after its verb
+abbrev pub command_with : Verb → List (List ℕ) → Option Command
+command_with verbs.Settle rest = settle_in rest
+command_with verbs.List rest = list_in rest
+command_with verbs.Write rest = write_in rest
+command_with verbs.Decide rest = decide_in rest
+command_with verbs.Join rest = join_in rest
+command_with verbs.Check rest = check_in rest
+command_with verbs.Sample rest = sample_in rest
+
+-- the command of these words
+unfoldable pub command_in : List (List ℕ) → Option Command
+command_in [] = None
+command_in (word ∷ rest) = verb_in word >>= λ verb. command_with verb rest

@@ -1,0 +1,104 @@
+-- Reading the words behind a verb: files, journals, choices and options.
+use Rattle.std.specs.Borrow.{Bor}
+use Rattle.std.specs.Prelude.{◌≡◌, ℕ, Bool, true, false, List, [], ◌∷◌, ◌++◌, Option, Some, None, Result, Ok, Err, codes, if◌then◌else◌}
+use Rattle.std.specs.Str.{bytes_eq}
+use Rattle.redl_journal.specs.declared.entry.Word.{Word}
+use Rattle.redl_journal.specs.declared.entry.Word.TheVariants.{Accept, Reject, Withdraw}
+use Rattle.redl_reading.specs.Steps.{◌>>=◌}
+use Rattle.redl_select.specs.Selections.{Selection}
+use Rattle.redl_words.specs.declared.error.WordsError.{WordsError}
+use Rattle.redl_words.specs.declared.options.Form.{Form}
+use Rattle.redl_words.specs.declared.options.Form.TheVariants as forms
+use Rattle.redl_words.specs.declared.options.ItemOption.{ItemOption}
+use Rattle.redl_words.specs.declared.options.ItemOption.TheVariants as options
+use Rattle.redl_words.specs.declared.items.Items as code
+use Rattle.redl_words.specs.Commands.{is_name, option_of}
+use Rattle.redl_words.specs.Views.{choices_view}
+use Rattle.redl_words.specs.Reading.Answers.{Fails}
+use Rattle.redl_words.specs.Reading.Selections.{selection_in}
+
+-- what the items of a command say
+pub record Gathered : Type 0 where
+  pub format : Option (List ℕ)
+  pub locks : List (List ℕ)
+  pub journals : List (List ℕ)
+  pub choices : List (Word × Selection)
+
+-- the code's items as plain data
+abbrev pub items_view : code.Items → Gathered
+items_view items = record {
+  format = items.format;
+  locks = items.locks.items;
+  journals = items.journals.items;
+  choices = choices_view items.choices.items;
+}
+
+abbrev pub nothing : Gathered
+nothing = record { format = None; locks = []; journals = []; choices = [] }
+
+-- a command of this form may have journals without an option
+abbrev pub has_plain_journals : Form → Bool
+has_plain_journals forms.List = true
+has_plain_journals forms.Write = true
+has_plain_journals forms.Decide = false
+
+-- with one journal more
+abbrev pub with_journal : List ℕ → Gathered → Gathered
+with_journal name items = record items { journals = items.journals ++ name ∷ [] }
+
+-- with a journal that stands without an option
+unfoldable pub with_plain_journal : Form → List ℕ → Gathered → Option Gathered
+with_plain_journal form name items = if has_plain_journals form then Some (with_journal name items) else None
+
+-- the option that a word is, in a command that decides
+abbrev pub deciding_option : List ℕ → Option ItemOption
+deciding_option word =
+    if bytes_eq word (codes "--journal") then Some options.Journal
+    else if bytes_eq word (option_of Accept) then Some (options.Choice Accept)
+    else if bytes_eq word (option_of Reject) then Some (options.Choice Reject)
+    else if bytes_eq word (option_of Withdraw) then Some (options.Choice Withdraw)
+    else None
+
+-- the option that a word is, besides `--lock`
+abbrev pub own_option : Form → List ℕ → Option ItemOption
+own_option forms.List word = if bytes_eq word (codes "--format") then Some options.Format else None
+own_option forms.Write word = None
+own_option forms.Decide word = deciding_option word
+
+-- the option that a word is
+unfoldable pub option_in : Form → List ℕ → Option ItemOption
+option_in form word = if bytes_eq word (codes "--lock") then Some options.Lock else own_option form word
+
+-- with a format, where there is none so far
+abbrev pub with_format : List ℕ → Option (List ℕ) → Gathered → Option Gathered
+with_format name None items = Some (record items { format = Some name })
+with_format name (Some other) items = None
+
+-- with an option and its value
+unfoldable pub with_option : ItemOption → List ℕ → Gathered → Option Gathered
+with_option options.Format value items = with_format value items.format items
+with_option options.Lock value items = Some (record items { locks = items.locks ++ value ∷ [] })
+with_option options.Journal value items = if is_name value then Some (with_journal value items) else None
+with_option (options.Choice word) value items = do
+  selection ← selection_in value
+  Some (record items { choices = items.choices ++ (word, selection) ∷ [] })
+
+-- with the option that a word is, and its value
+unfoldable pub with_word : Form → List ℕ → List ℕ → Gathered → Option Gathered
+with_word form word value items = do
+  option ← option_in form word
+  with_option option value items
+
+-- what the items in these words say, after others
+unfoldable pub gathered : Form → Gathered → List (List ℕ) → Option Gathered
+gathered form items [] = Some items
+gathered form items (word ∷ []) = if is_name word then with_plain_journal form word items else None
+gathered form items (word ∷ value ∷ later) =
+    if is_name word
+    then (with_plain_journal form word items >>= λ more. gathered form more (value ∷ later))
+    else (with_word form word value items >>= λ more. gathered form more later)
+
+-- After the first item, what is gathered from the words that are left is what is gathered from all of them.
+abbrev pub Goes : Form → Gathered → List (List ℕ) → Gathered → Result (Bor (List (List ℕ))) WordsError → Type 0
+Goes form before words after (Ok rest) = gathered form before words ≡ gathered form after rest.now
+Goes form before words after (Err error) = Fails error (gathered form before words)
