@@ -15,3 +15,5 @@ pub mod Alike
 pub mod Characters
 pub mod Blocks
 pub mod Numbers
+pub mod Plain
+pub mod NearBlocks

@@ -1,9 +1,9 @@
 -- A value whose bytes need no test of their own.
 use Rattle.std.proofs.Common.{◌≡◌, ℕ, Bool, true, false, eqb, List, [], ◌∷◌, ◌++◌, Option, Some, None, refl, sym, ap, subst, ◌∙◌, inl, inr, cond}
-use Rattle.std.specs.Prelude.{◌&&◌, codes}
+use Rattle.std.specs.Prelude.{◌&&◌, ◌||◌, not, codes}
 use Rattle.std.specs.List.{list_all}
-use Rattle.std.proofs.lemmas.Bool.{eqb-true, not-true, and_parts, cases_Bool}
-use Rattle.redl_reading.specs.Lists.{behind, front, after, is_other, field_at}
+use Rattle.std.proofs.lemmas.Bool.{eqb-true, not-true, and_parts, and_from, cases_Bool}
+use Rattle.redl_reading.specs.Lists.{behind, front, after, is_other, is_none_of, field_at}
 use Rattle.redl_reading.specs.Steps.{◌>>=◌}
 use Rattle.redl_reading.proofs.Runs.{stops, front-after, front_passes, after_stops}
 use Rattle.redl_reading.proofs.Words.{behind_takes}
@@ -11,7 +11,7 @@ use Rattle.redl_reading.proofs.Fields.{field_again}
 use Rattle.redl_markup.specs.Characters.{is_space}
 use Rattle.redl_markup.specs.Names.{Name}
 use Rattle.redl_markup.specs.ScanNames.{name_at}
-use Rattle.redl_markup.specs.ScanTags.{quote_at, quoted_at, opening_at, equated_at, is_plain, is_value, is_value_byte, value_at, attribute_at}
+use Rattle.redl_markup.specs.ScanTags.{quote_at, quoted_at, opening_at, equated_at, is_plain, is_value, value_at, attribute_at}
 use Rattle.redl_markup.proofs.Attributes.{plain_value}
 
 -- ---- the parts of an attribute
@@ -76,29 +76,31 @@ some_name bs name more o e f =
 
 -- ---- a plain value
 
--- what stops a run of plain bytes is not among them
-none_alike : (q : ℕ) (a : List ℕ) → is_value_byte q ≡ false → list_all is_value_byte a ≡ true → list_all (is_other q) a ≡ true
-none_alike q [] ends all = refl
-none_alike q (b ∷ bs) ends all =
-    let both = and_parts (is_value_byte b) (list_all is_value_byte bs) all in
-    elim (cases_Bool (eqb b q)) [
-      | inl same ↦ absurd (let h : is_value_byte q ≡ true = subst (λ (z : ℕ). is_value_byte z ≡ true) (eqb-true b q same) both.0 in let k : true ≡ false = sym h ∙ ends in cc)
-      | inr other ↦ rw other (none_alike q bs ends both.1)
-    ]
+-- the bytes before a quote, `<` and `&` have no such quote
+none_alike : (q : ℕ) (a : List ℕ) → list_all (is_none_of q 60 38) a ≡ true → list_all (is_other q) a ≡ true
+none_alike q [] all = refl
+none_alike q (b ∷ bs) all =
+    let both = and_parts (is_none_of q 60 38 b) (list_all (is_none_of q 60 38) bs) all in
+    and_from (is_other q b) (list_all (is_other q) bs) (here (eqb b q) (eqb b 60) (eqb b 38) both.0) (none_alike q bs both.1) where
+      here : (x y z : Bool) → not (x || y || z) ≡ true → not x ≡ true
+      here false y z h = refl
+      here true y z h = h
 
-are_plain : (a : List ℕ) → list_all is_value_byte a ≡ true → list_all is_plain a ≡ true
-unfolding is_value_byte
-are_plain [] all = refl
-are_plain (b ∷ bs) all =
-    let both = and_parts (is_value_byte b) (list_all is_value_byte bs) all in
-    let here = and_parts (is_plain b && is_other 34 b) (is_other 39 b) both.0 in
-    let plain = and_parts (is_plain b) (is_other 34 b) here.0 in
-    rw plain.0 (are_plain bs both.1)
+-- and neither `<` nor `&`
+are_plain : (q : ℕ) (a : List ℕ) → list_all (is_none_of q 60 38) a ≡ true → list_all is_plain a ≡ true
+are_plain q [] all = refl
+are_plain q (b ∷ bs) all =
+    let both = and_parts (is_none_of q 60 38 b) (list_all (is_none_of q 60 38) bs) all in
+    and_from (is_plain b) (list_all is_plain bs) (here (eqb b q) (eqb b 60) (eqb b 38) both.0) (are_plain q bs both.1) where
+      here : (x y z : Bool) → not (x || y || z) ≡ true → (not y && not z) ≡ true
+      here false false false h = refl
+      here false false true h = h
+      here false true z h = h
+      here true y z h = absurd cc
 
-pub plain_found : (quote : ℕ) (bs value rest more : List ℕ) → value ≡ front is_value_byte bs → rest ≡ after is_value_byte bs → behind (quote ∷ []) rest ≡ Some more → (field_at quote bs ≡ Some (value, more)) × (is_value value ≡ true)
+pub plain_found : (quote : ℕ) (bs value rest more : List ℕ) → value ≡ front (is_none_of quote 60 38) bs → rest ≡ after (is_none_of quote 60 38) bs → behind (quote ∷ []) rest ≡ Some more → (field_at quote bs ≡ Some (value, more)) × (is_value value ≡ true)
 plain_found quote bs value rest more before behind_it e =
-    let takes : after is_value_byte bs ≡ quote ∷ more = sym behind_it ∙ behind_takes (quote ∷ []) rest more e in
-    let ends : is_value_byte quote ≡ false = not-true (is_value_byte quote) (ap (stops is_value_byte) (sym takes) ∙ after_stops is_value_byte bs) in
-    let all : list_all is_value_byte value ≡ true = ap (list_all is_value_byte) before ∙ front_passes is_value_byte bs in
-    let whole : bs ≡ value ++ (quote ∷ more) = sym (front-after is_value_byte bs) ∙ ap (λ (z : List ℕ). z ++ after is_value_byte bs) (sym before) ∙ ap (λ (z : List ℕ). value ++ z) takes in
-    (ap (field_at quote) whole ∙ field_again quote value more (none_alike quote value ends all), plain_value value (are_plain value all))
+    let takes : after (is_none_of quote 60 38) bs ≡ quote ∷ more = sym behind_it ∙ behind_takes (quote ∷ []) rest more e in
+    let all : list_all (is_none_of quote 60 38) value ≡ true = ap (list_all (is_none_of quote 60 38)) before ∙ front_passes (is_none_of quote 60 38) bs in
+    let whole : bs ≡ value ++ (quote ∷ more) = sym (front-after (is_none_of quote 60 38) bs) ∙ ap (λ (z : List ℕ). z ++ after (is_none_of quote 60 38) bs) (sym before) ∙ ap (λ (z : List ℕ). value ++ z) takes in
+    (ap (field_at quote) whole ∙ field_again quote value more (none_alike quote value all), plain_value value (are_plain quote value all))

@@ -6,14 +6,15 @@ ghost use Rattle.std.specs.Str.{IsUtf8};
 ghost use Rattle.redl_markup.specs.Attributes.{attributes_of};
 ghost use Rattle.redl_reading.specs.Lists.{is_other, field_at};
 ghost use Rattle.redl_reading.specs.Steps.{Gives};
-ghost use Rattle.redl_markup.specs.ScanTags.{quote_at, opening_at, equated_at, is_plain, is_value, is_value_byte, value_at, attribute_at, attribute_behind, attribute_in};
+ghost use Rattle.redl_markup.specs.ScanTags.{quote_at, opening_at, equated_at, is_plain, is_value, value_at, attribute_at, attribute_behind, attribute_in};
 ghost use Rattle.redl_markup.specs.Views.{attribute_view};
 
 use crate::name::Name;
+use crate::near::near_until_any;
 use crate::reference::are_references;
 use crate::space::spaces;
 use crate::word::name;
-use redl_reading::{field, run, skip};
+use redl_reading::{field, skip};
 
 /// An attribute as it is written: its name, and its value without the quotes.
 #[derive(Clone, Copy, Debug, PartialEq, Eq)]
@@ -72,21 +73,12 @@ fn is_value(bytes: &[u8]) -> bool
     is_plain(bytes) || has_no_tag(bytes) && are_references(bytes)
 }
 
-/// Whether a byte ends no value and is neither `<` nor `&`.
-#[tactic(auto, unfolding(crate::specs::ScanTags::is_value_byte))]
-#[inline(always)]
-fn is_value_byte(b: u8) -> bool
-    ensures { result ≡ is_value_byte b }
-{
-    !matches!(b, b'"' | b'&' | b'\'' | b'<')
-}
-
 /// A value before this quote, and the bytes after the quote, if the value needs no test of its own. Most values are so.
 #[inline(always)]
 fn plain_value(bytes: &[u8], quote: u8) -> Option<(&[u8], &[u8])>
     ensures { IfSome result (λ x. (field_at quote bytes.now ≡ Some (x.0.now, x.1.now)) × (is_value x.0.now ≡ true)) }
 {
-    let (value, rest) = run(bytes, |b| is_value_byte(b));
+    let (value, rest) = near_until_any(bytes, quote, b'<', b'&');
     let rest = skip(rest, &[quote])?;
     Some((value, rest))
 }

@@ -1,16 +1,18 @@
 //! Stretches without a tag.
 
-ghost use Rattle.std.specs.Prelude.{◌≡◌, length, codes};
+ghost use Rattle.std.specs.Prelude.{◌≡◌, length, codes, Some, IfSome};
 ghost use Rattle.std.specs.List.{list_all};
 ghost use Rattle.redl_markup.specs.Characters.{is_space};
 ghost use Rattle.redl_reading.specs.Lists.{lacks};
 ghost use Rattle.redl_reading.specs.Steps.{Gives};
-ghost use Rattle.redl_markup.specs.Stretches.{is_run};
+ghost use Rattle.redl_markup.specs.Stretches.{is_run, ends_stretch};
 ghost use Rattle.redl_markup.specs.ScanStretches.{items_end, stretch_at};
 ghost use Rattle.redl_markup.specs.Pieces.{stretch as a_stretch};
+ghost use Rattle.redl_markup.specs.declared.place.Place.TheVariants.{InElement};
 
 use crate::declaration::after_head;
 use crate::item::{begins_item, item};
+use crate::near::near_until_any;
 use crate::place::Place;
 use crate::reference::are_references;
 use crate::space::is_space;
@@ -62,11 +64,38 @@ fn end_of_items(bytes: &[u8], place: Place) -> Option<&[u8]>
     }
 }
 
+/// A stretch in an element that is text without references and `]`.
+fn plain_stretch(bytes: &[u8]) -> Option<(&[u8], &[u8])>
+    ensures { IfSome result (λ x. stretch_at InElement bytes.now ≡ Some (a_stretch x.0.now, x.1.now)) }
+{
+    let (text, rest) = near_until_any(bytes, b'<', b'&', b']');
+    if text.is_empty() || !ends_stretch(rest) {
+        return None;
+    }
+    Some((text, rest))
+}
+
+/// Whether a stretch may end before these bytes: they are empty, or begin with a tag.
+fn ends_stretch(bytes: &[u8]) -> bool
+    ensures { result ≡ ends_stretch bytes.now }
+{
+    match bytes {
+        [] => true,
+        [first, ..] => *first == b'<' && !begins_item(bytes),
+    }
+}
+
 /// The longest stretch without a tag, and the bytes after it.
 #[tactic(auto, unfolding(crate::specs::ScanStretches::stretch_at))]
 pub(crate) fn stretch(bytes: &[u8], place: Place) -> Option<(&[u8], &[u8])>
     ensures { Gives (λ x. (a_stretch x.0.now, x.1.now)) result (stretch_at place bytes.now) }
 {
+    if let Place::InElement = place {
+        // Most stretches in elements are plain text.
+        if let Some((text, rest)) = plain_stretch(bytes) {
+            return Some((text, rest));
+        }
+    }
     let rest = end_of_items(after_head(bytes, place), place)?;
     let stretch = before(bytes, rest);
     if stretch.is_empty() {

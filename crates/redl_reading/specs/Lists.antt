@@ -1,5 +1,5 @@
 -- Leading words of a list, and the longest leading run whose elements pass a test.
-use Rattle.std.specs.Prelude.{◌≡◌, ◌<◌, ℕ, ◌-◌, Bool, true, false, ◌==◌, ◌&&◌, List, [], ◌∷◌, length, take, Option, Some, None, if◌then◌else◌, not}
+use Rattle.std.specs.Prelude.{◌≡◌, ◌<◌, ℕ, ◌-◌, Bool, true, false, ◌==◌, ◌&&◌, ◌||◌, List, [], ◌∷◌, length, take, Option, Some, None, if◌then◌else◌, not}
 use Rattle.redl_reading.specs.Steps.{or_else, ◌>>=◌}
 
 -- what follows a leading word
@@ -46,6 +46,10 @@ is_filled (b ∷ bs) = true
 
 abbrev pub is_other : ℕ → ℕ → Bool
 is_other a b = not (b == a)
+
+-- none of three bytes
+abbrev pub is_none_of : ℕ → ℕ → ℕ → ℕ → Bool
+is_none_of a b c x = not (x == a || x == b || x == c)
 
 -- the bytes before the first byte `end`, and those after it
 unfoldable pub field_at : ℕ → List ℕ → Option (List ℕ × List ℕ)
