@@ -20,7 +20,7 @@ mod top;
 mod words;
 
 /// The most bytes that a package may have.
-pub const PACKAGE_LIMIT: usize = 67_108_864;
+pub const PACKAGE_LIMIT: usize = 134_217_728;
 
 /// The most bytes that all journals of a call may have together.
 pub const JOURNALS_LIMIT: usize = 67_108_864;

@@ -3,7 +3,7 @@ use Rattle.std.specs.Prelude.{ℕ}
 
 -- the bytes of a package
 abbrev pub package_bytes : ℕ
-package_bytes = 67108864
+package_bytes = 134217728
 
 -- the bytes of all journals of a call together
 abbrev pub journal_bytes : ℕ

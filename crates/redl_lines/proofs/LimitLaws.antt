@@ -10,8 +10,8 @@ use Rattle.redl_lines.specs.Lines.{sample_paragraphs}
 own : IsNumeralModel (AllDigits 10) (digits_value 10)
 own = numerals_by_value (AllDigits 10) tells_digits
 
-pub package_bytes_digits : decimal package_bytes ≡ codes "67108864"
-package_bytes_digits = decimal-digits_value own (codes "67108864") (omega arith, (omega arith, (omega arith, (omega arith, (omega arith, (omega arith, (omega arith, (omega arith, tt)))))))) (omega arith) (λ e. absurd (omega (arith, e))) (omega arith)
+pub package_bytes_digits : decimal package_bytes ≡ codes "134217728"
+package_bytes_digits = decimal-digits_value own (codes "134217728") (omega arith, (omega arith, (omega arith, (omega arith, (omega arith, (omega arith, (omega arith, (omega arith, (omega arith, tt))))))))) (omega arith) (λ e. absurd (omega (arith, e))) (omega arith)
 
 pub journal_bytes_digits : decimal journal_bytes ≡ codes "67108864"
 journal_bytes_digits = decimal-digits_value own (codes "67108864") (omega arith, (omega arith, (omega arith, (omega arith, (omega arith, (omega arith, (omega arith, (omega arith, tt)))))))) (omega arith) (λ e. absurd (omega (arith, e))) (omega arith)

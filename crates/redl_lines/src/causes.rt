@@ -84,7 +84,7 @@ fn limit_line(limit: Limit) -> &'static [u8]
     ensures { result.now ≡ limit_line_of limit }
 {
     match limit {
-        Limit::PackageBytes => b"redline: limit package bytes 67108864\n",
+        Limit::PackageBytes => b"redline: limit package bytes 134217728\n",
         Limit::JournalBytes => b"redline: limit journal bytes 67108864\n",
         Limit::Depth => b"redline: limit depth 512\n",
         Limit::Nodes => b"redline: limit nodes 2097152\n",

@@ -44,7 +44,7 @@ fn a_limit_has_its_line(rt: HostRuntime) -> Result<(), Fail> {
     for (limit, line) in [
         (
             Limit::PackageBytes,
-            "redline: limit package bytes 67108864\n",
+            "redline: limit package bytes 134217728\n",
         ),
         (
             Limit::JournalBytes,

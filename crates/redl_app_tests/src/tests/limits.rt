@@ -55,8 +55,8 @@ fn long_journals(alloc: Global) -> Result<Vec<(Text, Vec<u8>)>, AllocError> {
 fn limits_are_kept_to_the_byte(rt: HostRuntime) -> Result<(), Fail> {
     let alloc = rt.alloc();
     let mut files = long_journals(alloc)?;
-    add_file(alloc, &mut files, "M", &long_package(alloc, 67_108_864)?)?;
-    add_file(alloc, &mut files, "N", &long_package(alloc, 67_108_865)?)?;
+    add_file(alloc, &mut files, "M", &long_package(alloc, 134_217_728)?)?;
+    add_file(alloc, &mut files, "N", &long_package(alloc, 134_217_729)?)?;
     let mut shelf = SureShelf::new(files);
     let over = "redline: limit journal bytes 67108864\n";
     for (line, status, lines) in [
@@ -65,7 +65,7 @@ fn limits_are_kept_to_the_byte(rt: HostRuntime) -> Result<(), Fail> {
         (
             "settle accept N",
             Status::Limit,
-            "redline: limit package bytes 67108864\n",
+            "redline: limit package bytes 134217728\n",
         ),
         ("write P H H", Status::Done, ""),
         ("write P H H J", Status::Limit, over),
