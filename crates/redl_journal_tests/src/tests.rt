@@ -7,6 +7,9 @@ use std::test::Fail;
 
 const TITLE: &[u8] = b"redline-journal 1\ndocument ";
 
+// The same of version 2, whose entries have ranks.
+const RANKED: &[u8] = b"redline-journal 2\ndocument ";
+
 const ZEROS: &[u8] = b"0000000000000000000000000000000000000000000000000000000000000000";
 
 // The SHA-256 of the empty text.
@@ -35,7 +38,8 @@ fn is_malformed(alloc: Global, parts: &[&[u8]]) -> Result<bool, AllocError> {
 fn heads_of_no_journal_are_refused(rt: HostRuntime) -> Result<(), Fail> {
     for (fault, parts) in [
         ("nothing", [b"".as_slice(), b"".as_slice(), b"".as_slice()]),
-        ("version 2", [b"redline-journal 2\ndocument ", ZEROS, COUNT]),
+        ("version 3", [b"redline-journal 3\ndocument ", ZEROS, COUNT]),
+        ("version 02", [b"redline-journal 02\ndocument ", ZEROS, COUNT]),
         ("no title", [b"document ", ZEROS, COUNT]),
         ("63 digits", [TITLE, &ZEROS[1..], COUNT]),
         ("upper-case digits", [TITLE, UPPER, COUNT]),
@@ -63,6 +67,7 @@ fn lines_of_no_entry_are_refused(rt: HostRuntime) -> Result<(), Fail> {
         ("carriage return", b"1\t1\taccept\tAnn\r\n"),
         ("empty line", b"1\t1\taccept\tAnn\n\n"),
         ("space for a tab", b"1 1\taccept\tAnn\n"),
+        ("a rank in version 1", b"1\t1\taccept\t0\tAnn\n"),
     ] {
         assert!(rt;
             is_malformed(rt.alloc(), &[TITLE, ZEROS, COUNT, line])?,
@@ -72,32 +77,73 @@ fn lines_of_no_entry_are_refused(rt: HostRuntime) -> Result<(), Fail> {
     Ok(())
 }
 
-// Whether the text has this number of entries and is written again as it was read.
-fn comes_back(alloc: Global, text: &[u8], entries: usize) -> Result<bool, Fail> {
+#[test]
+fn lines_without_a_rank_are_refused_in_version_2(rt: HostRuntime) -> Result<(), Fail> {
+    for (fault, line) in [
+        ("no rank", b"1\t1\taccept\tAnn\n".as_slice()),
+        ("rank 10", b"1\t1\taccept\t10\tAnn\n"),
+        ("rank 02", b"1\t1\taccept\t02\tAnn\n"),
+        ("an empty rank", b"1\t1\taccept\t\tAnn\n"),
+        ("the rank last", b"1\t1\taccept\tAnn\t2\n"),
+    ] {
+        assert!(rt;
+            is_malformed(rt.alloc(), &[RANKED, ZEROS, COUNT, line])?,
+            "{fault}"
+        );
+    }
+    Ok(())
+}
+
+// Whether the text has this number of entries and is written so.
+fn is_written(alloc: Global, text: &[u8], entries: usize, want: &[u8]) -> Result<bool, Fail> {
     let journal = read(alloc, text)?;
     let mut sink = MemSink::new(alloc, 2_000, Vec::new(alloc))?;
     let answer = write(&journal, &mut sink);
-    Ok(journal.entries.len() == entries && answer.is_ok() && sink.bytes() == text)
+    Ok(journal.entries.len() == entries && answer.is_ok() && sink.bytes() == want)
 }
 
 #[test]
 fn journals_are_written_as_they_were_read(rt: HostRuntime) -> Result<(), Fail> {
-    for (rest, entries) in [
-        (b"\nrevisions 0\n".as_slice(), 0),
+    for (title, rest, entries) in [
+        (TITLE, b"\nrevisions 0\n".as_slice(), 0),
         (
+            TITLE,
             b"\nrevisions 3\n1\t1\twithdraw\tAnn\n1\t1\twithdraw\tAnn\n1\t1\taccept\tAnn\n",
             3,
         ),
         (
+            TITLE,
             b"\nrevisions 9\n4294967295\t0\taccept\tCy & Co\n1\t4294967295\treject\tJ\xc3\xb6rg\n",
             2,
         ),
+        (
+            RANKED,
+            b"\nrevisions 3\n1\t1\treject\t9\tChief\n1\t1\taccept\t0\tAnn\n",
+            2,
+        ),
     ] {
-        let text = text_of(rt.alloc(), &[TITLE, EMPTY, rest])?;
+        let text = text_of(rt.alloc(), &[title, EMPTY, rest])?;
         assert!(rt;
-            comes_back(rt.alloc(), &text, entries)?,
+            is_written(rt.alloc(), &text, entries, &text)?,
             "{entries} entries"
         );
+    }
+    Ok(())
+}
+
+#[test]
+fn ranks_of_0_are_written_in_version_1(rt: HostRuntime) -> Result<(), Fail> {
+    for (ranked, plain, entries) in [
+        (b"\nrevisions 3\n".as_slice(), b"\nrevisions 3\n".as_slice(), 0),
+        (
+            b"\nrevisions 3\n1\t1\taccept\t0\tAnn\n",
+            b"\nrevisions 3\n1\t1\taccept\tAnn\n",
+            1,
+        ),
+    ] {
+        let text = text_of(rt.alloc(), &[RANKED, EMPTY, ranked])?;
+        let want = text_of(rt.alloc(), &[TITLE, EMPTY, plain])?;
+        assert!(rt; is_written(rt.alloc(), &text, entries, &want)?, "{entries} entries");
     }
     Ok(())
 }
@@ -109,30 +155,28 @@ fn has_copy(
     seq: u32,
     rev: u32,
     word: Word,
+    rank: u8,
     reviewer: &[u8],
 ) -> Result<bool, AllocError> {
     let copy = entry.copy(alloc)?;
-    Ok(
-        copy.seq == seq
-            && copy.rev == rev
-            && copy.word == word
-            && copy.reviewer.as_bytes() == reviewer,
-    )
+    Ok((copy.seq, copy.rev, copy.rank) == (seq, rev, rank)
+        && copy.word == word
+        && copy.reviewer.as_bytes() == reviewer)
 }
 
 #[test]
 fn entries_are_read_field_by_field(rt: HostRuntime) -> Result<(), Fail> {
-    let rest = b"\nrevisions 300\n7\t205\treject\tBob\n12\t0\taccept\tAnn B\n";
-    let text = text_of(rt.alloc(), &[TITLE, EMPTY, rest])?;
+    let rest = b"\nrevisions 300\n7\t205\treject\t0\tBob\n12\t0\taccept\t7\tAnn B\n";
+    let text = text_of(rt.alloc(), &[RANKED, EMPTY, rest])?;
     let journal = read(rt.alloc(), &text)?;
     let head = (journal.count, journal.digest[0], journal.digest[31]);
     assert!(rt; head == (300, 0xe3, 0x55), "{head:?}");
-    for (entry, (seq, rev, word, reviewer)) in journal.entries.iter().zip([
-        (7, 205, Word::Reject, b"Bob".as_slice()),
-        (12, 0, Word::Accept, b"Ann B"),
+    for (entry, (seq, rev, word, rank, reviewer)) in journal.entries.iter().zip([
+        (7, 205, Word::Reject, 0, b"Bob".as_slice()),
+        (12, 0, Word::Accept, 7, b"Ann B"),
     ]) {
         assert!(rt;
-            has_copy(rt.alloc(), entry, seq, rev, word, reviewer)?,
+            has_copy(rt.alloc(), entry, seq, rev, word, rank, reviewer)?,
             "{seq}"
         );
     }
