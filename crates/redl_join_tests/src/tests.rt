@@ -11,14 +11,33 @@ use std::test::Fail;
 const HEAD: &[u8] =
     b"redline-journal 1\ndocument e3b0c44298fc1c149afbf4c8996fb92427ae41e4649b934ca495991b7852b855\nrevisions 3\n";
 
-// The entries of a journal with these lines.
+// The same of version 2, whose entries have ranks.
+const RANKED: &[u8] =
+    b"redline-journal 2\ndocument e3b0c44298fc1c149afbf4c8996fb92427ae41e4649b934ca495991b7852b855\nrevisions 3\n";
+
+// The entries of a journal with these lines, which have ranks if all of them have.
 fn entries_of(alloc: Global, lines: &[u8]) -> Result<Vec<Entry>, Fail>
     ensures { IfOk result (λ entries. All IsAllowed entries.items) }
 {
-    let mut text = Vec::from_slice(alloc, HEAD)?;
+    let head = if has_ranks(lines) { RANKED } else { HEAD };
+    let mut text = Vec::from_slice(alloc, head)?;
     text.extend_from_slice(lines)?;
     let journal = read(alloc, &text)?;
     Ok(journal.entries)
+}
+
+// Whether the first line has four tabs.
+fn has_ranks(lines: &[u8]) -> bool {
+    let mut tabs = 0_u32;
+    for byte in lines {
+        if *byte == b'\n' {
+            break;
+        }
+        if *byte == b'\t' {
+            tabs = tabs.saturating_add(1);
+        }
+    }
+    tabs == 4
 }
 
 // The book of the entries of journals with these lines.
@@ -69,6 +88,41 @@ fn verdicts_of_small_books(rt: HostRuntime) -> Result<(), Fail> {
     Ok(())
 }
 
+#[test]
+fn the_highest_rank_with_a_word_decides(rt: HostRuntime) -> Result<(), Fail> {
+    for (case, lines, want) in [
+        (
+            "a higher rank",
+            b"1\t1\treject\t2\tChief\n1\t1\taccept\t0\tAnn\n".as_slice(),
+            Verdict::Reject,
+        ),
+        (
+            "the same rank",
+            b"1\t1\treject\t2\tChief\n1\t1\taccept\t2\tAnn\n",
+            Verdict::Disputed,
+        ),
+        (
+            "a higher rank that was withdrawn",
+            b"2\t1\twithdraw\t2\tChief\n1\t1\treject\t2\tChief\n1\t1\taccept\t0\tAnn\n",
+            Verdict::Accept,
+        ),
+        (
+            "two ranks under one seq",
+            b"1\t1\taccept\t2\tAnn\n1\t1\treject\t3\tAnn\n",
+            Verdict::Reject,
+        ),
+        (
+            "an older word of a higher rank",
+            b"1\t1\taccept\t9\tAnn\n2\t1\treject\t0\tAnn\n",
+            Verdict::Reject,
+        ),
+    ] {
+        let verdict = verdict_of(rt.alloc(), lines)?;
+        assert!(rt; verdict == want, "{case}: {verdict:?}");
+    }
+    Ok(())
+}
+
 // Whether the book is written as this text.
 fn has_text(alloc: Global, book: &Book, text: &[u8]) -> Result<bool, AllocError> {
     let mut sink = MemSink::new(alloc, 2_000, Vec::new(alloc))?;
@@ -83,6 +137,19 @@ fn journals_join_in_any_order(rt: HostRuntime) -> Result<(), Fail> {
     let text =
         b"redline-journal 1\ndocument 0000000000000000000000000000000000000000000000000000000000000000\nrevisions 3\n1\t2\taccept\tAnn\n1\t1\taccept\tBob\n2\t1\treject\tBob\n";
     for journals in [[first, second, first], [second, first, second]] {
+        let book = book_of(rt.alloc(), &journals)?;
+        assert!(rt; has_text(rt.alloc(), &book, text)?);
+    }
+    Ok(())
+}
+
+#[test]
+fn a_book_with_a_rank_is_written_in_version_2(rt: HostRuntime) -> Result<(), Fail> {
+    let ann = b"1\t1\taccept\tAnn\n".as_slice();
+    let chief = b"1\t1\treject\t2\tChief\n1\t1\taccept\t2\tAnn\n".as_slice();
+    let text =
+        b"redline-journal 2\ndocument 0000000000000000000000000000000000000000000000000000000000000000\nrevisions 3\n1\t1\taccept\t0\tAnn\n1\t1\taccept\t2\tAnn\n1\t1\treject\t2\tChief\n";
+    for journals in [[ann, chief], [chief, ann]] {
         let book = book_of(rt.alloc(), &journals)?;
         assert!(rt; has_text(rt.alloc(), &book, text)?);
     }
@@ -110,6 +177,7 @@ fn a_removed_entry_no_longer_counts(rt: HostRuntime) -> Result<(), Fail> {
         seq: 2,
         rev: 1,
         word: Word::Reject,
+        rank: 0,
     };
     for was_there in [true, false] {
         let found = after_removal(&mut book, &entry);
