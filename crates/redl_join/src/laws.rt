@@ -1,7 +1,9 @@
 //! Laws of all books.
-ghost use Rattle.std.specs.Prelude.{◌≡◌, ◌↔◌, ◌++◌, List, [], Contains};
+ghost use Rattle.std.specs.Prelude.{◌≡◌, ◌↔◌, ◌++◌, ℕ, List, [], Contains};
 ghost use Rattle.redl_journal.specs.declared.entry.Entry.{Entry};
 ghost use Rattle.redl_join.specs.Books.{IsBook, has_entry, union};
+ghost use Rattle.redl_join.specs.LastWords.{last_words};
+ghost use Rattle.redl_join.specs.Verdicts.{verdict_at};
 
 /// Books with the same entries are equal, so they give the same answers, whatever calls made them.
 pub fn same_book()
@@ -18,4 +20,9 @@ pub fn same_union()
 /// The union with one list of entries and then with another is the union with both.
 pub fn union_of_both()
     ensures { (book entries others : List Entry) → union (union book entries) others ≡ union book (entries ++ others) }
+{}
+
+/// The last words on a revision alone make its verdict.
+pub fn verdict_of_last_words()
+    ensures { (book : List Entry) (rev : ℕ) → verdict_at (last_words book rev) rev ≡ verdict_at book rev }
 {}

@@ -10,6 +10,7 @@ mod blocks;
 mod book;
 mod by_revision;
 mod entry_list;
+mod last_words;
 mod latest;
 mod laws;
 mod numbers;
@@ -17,5 +18,6 @@ mod verdict;
 
 pub use book::Book;
 pub use entry_list::Entries;
-pub use laws::{same_book, same_union, union_of_both};
+pub use last_words::LastWords;
+pub use laws::{same_book, same_union, union_of_both, verdict_of_last_words};
 pub use verdict::Verdict;

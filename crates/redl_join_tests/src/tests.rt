@@ -123,6 +123,32 @@ fn the_highest_rank_with_a_word_decides(rt: HostRuntime) -> Result<(), Fail> {
     Ok(())
 }
 
+// The seqs and ranks of the last words on the revision, as one number: each as its seq times 10 and its rank, in hundreds.
+fn last_words_on(book: &Book, rev: u32) -> Result<u32, AllocError> {
+    let words = book.last_words()?;
+    let mut all = 0_u32;
+    for word in words.on(rev) {
+        let own = word
+            .seq
+            .saturating_mul(10)
+            .saturating_add(u32::from(word.rank));
+        all = all.saturating_mul(100).saturating_add(own);
+    }
+    Ok(all)
+}
+
+#[test]
+fn the_last_words_of_each_reviewer(rt: HostRuntime) -> Result<(), Fail> {
+    let lines =
+        b"1\t1\taccept\t5\tAnn\n2\t1\treject\t3\tAnn\n2\t1\taccept\t0\tAnn\n3\t2\taccept\t1\tAnn\n1\t1\taccept\t0\tBob\n2\t1\twithdraw\t4\tBob\n".as_slice();
+    let book = book_of(rt.alloc(), &[lines])?;
+    for (rev, want) in [(0, 0), (1, 202324), (2, 31), (3, 0)] {
+        let words = last_words_on(&book, rev)?;
+        assert!(rt; words == want, "{rev}: {words}");
+    }
+    Ok(())
+}
+
 // Whether the book is written as this text.
 fn has_text(alloc: Global, book: &Book, text: &[u8]) -> Result<bool, AllocError> {
     let mut sink = MemSink::new(alloc, 2_000, Vec::new(alloc))?;
