@@ -1,0 +1,5 @@
+mod Rows
+pub mod PlainLaws
+pub mod ViewLaws
+pub mod PackageLaws
+pub mod WalkLaws

@@ -1,0 +1,4 @@
+pub mod PlainText
+pub mod Ends
+pub mod Views
+pub mod Walks

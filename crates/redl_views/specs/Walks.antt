@@ -1,0 +1,163 @@
+-- The walk as code takes it: it carries a summary of the ancestors in place of their list. It goes below no properties, so all
+-- ancestors are open.
+use Rattle.std.specs.Prelude.{ℕ, List, [], ◌∷◌, ◌++◌, Bool, true, false, ◌&&◌, ◌||◌, not, Option, Some, None, if◌then◌else◌}
+use Rattle.std.specs.List.{list_any}
+use Rattle.std.specs.Option.{option_map}
+use Rattle.redl_tree.specs.Model.Nodes.{Tag, Nodes, no_nodes, bytes, element, Item, bytes_item, element_item}
+use Rattle.redl_tree.specs.Model.View.{Parts}
+use Rattle.redl_tree.specs.Roles.Names.{is}
+use Rattle.redl_tree.specs.Roles.Places.{is_quiet}
+use Rattle.redl_tree.specs.Roles.Kinds.{is_content, is_old_content, is_free, is_leave}
+use Rattle.redl_tree.specs.Roles.Lists.{place, inside, is_block_list, is_direct, is_rows, is_cells, is_wrapper, is_thick}
+use Rattle.redl_tree.specs.Decisions.Fates.{fate_of}
+use Rattle.redl_tree.specs.Decisions.Tables.{goes, para_is_cut}
+use Rattle.redl_tree.specs.declared.kinds.Say.{Say}
+use Rattle.redl_views.specs.PlainText.{start_shown, end_shown}
+use Rattle.redl_shown.specs.Shown.{shown}
+use Rattle.redl_views.specs.Ends.{by_fate_of, has_taken}
+use Rattle.redl_views.specs.Views.{is_freed, in_shown}
+use Rattle.redl_views.specs.declared.summary.Summary.{Summary}
+use Rattle.redl_views.specs.declared.next.Next.{Next}
+use Rattle.redl_views.specs.declared.next.Next.TheVariants.{Nothing, Paragraph, Other}
+
+-- ---- the ancestors
+
+-- a content revision of old matter that is freed, and one that is left
+abbrev pub frees : List Say → Tag → Bool
+frees says tag = is_old_content tag.kind && is_free (fate_of says tag)
+
+abbrev pub leaves : List Say → Tag → Bool
+leaves says tag = is_old_content tag.kind && is_leave (fate_of says tag)
+
+abbrev pub summary_of : List Say → List Tag → Summary
+summary_of says ancestors = record {
+  freed = list_any (frees says) ancestors;
+  left = list_any (leaves says) ancestors;
+  place = place ancestors;
+  shown = in_shown says ancestors;
+}
+
+-- a `t`, or deleted text that is live again
+abbrev pub is_text : Summary → Tag → Bool
+is_text above tag = is "t" tag || (above.freed && not above.left && is "delText" tag)
+
+-- the summary for the kids of an element
+abbrev pub inside_of : List Say → Tag → Summary → Summary
+inside_of says tag above = record {
+  freed = frees says tag || above.freed;
+  left = leaves says tag || above.left;
+  place = inside tag above.place;
+  shown = if is_freed says tag then above.shown else is_text above tag;
+}
+
+-- a paragraph of a block list that is cut
+abbrev pub is_block_para : List Say → Summary → Tag → Bool
+is_block_para says above tag = is "p" tag && is_block_list above.place && is_leave (fate_of says tag)
+
+abbrev pub is_cut_para : List Say → Summary → Tag → Nodes → Bool
+is_cut_para says above tag kids = is_block_para says above tag && para_is_cut says kids
+
+-- a table, row, cell or shell that goes
+abbrev pub is_going : List Say → Summary → Tag → Nodes → Bool
+is_going says above tag kids =
+    (is "tc" tag || is "tr" tag || is "tbl" tag || (is_wrapper tag && ((is_direct above.place.reach && is_rows above.place.lot) || (is_direct above.place.reach && is_cells above.place.lot))))
+    && goes says (is_direct above.place.reach && is_cells above.place.lot) tag kids
+
+-- ---- what follows in a list, and what becomes of ends
+
+-- an element as the next thick node, where it is one
+abbrev pub elem_next : List Say → Summary → Tag → Next
+elem_next says above tag = if is_block_para says above tag then Paragraph else if is_thick tag then Other else Nothing
+
+abbrev pub item_next : List Say → Summary → Item → Next
+item_next says above (bytes_item b) = Nothing
+item_next says above (element_item tag kids) = elem_next says above tag
+
+-- the first one of these, or else the other
+abbrev pub or_next : Next → Next → Next
+or_next Nothing later = later
+or_next Paragraph later = Paragraph
+or_next Other later = Other
+
+-- the next thick node
+abbrev pub next_of : List Say → Summary → Nodes → Next
+next_of says above no_nodes = Nothing
+next_of says above (bytes b rest) = next_of says above rest
+next_of says above (element tag kids rest) = or_next (elem_next says above tag) (next_of says above rest)
+
+abbrev pub is_paragraph : Next → Bool
+is_paragraph Paragraph = true
+is_paragraph _ = false
+
+-- a cut paragraph loses its end, where this follows and it would hold an element or not
+abbrev pub is_lost : Next → Bool → Bool
+is_lost Nothing full = false
+is_lost Paragraph full = true
+is_lost Other full = not full
+
+-- some kid of an element, or the element itself, becomes an element that is no properties of a paragraph
+abbrev pub one_gives : List Say → Summary → Tag → Nodes → Bool → Bool
+one_gives says above tag kids inside =
+    by_fate_of (fate_of says tag) (is_content tag.kind) inside (not (is "pPr" tag) && not (is_going says above tag kids)) false
+
+abbrev pub gives : List Say → Summary → Nodes → Bool
+gives says above no_nodes = false
+gives says above (bytes b rest) = gives says above rest
+gives says above (element tag kids rest) =
+    one_gives says above tag kids (gives says (inside_of says tag above) kids) || gives says above rest
+
+-- what the next paragraph takes up after an element whose kids give an element or not (`full`)
+abbrev pub taken_after : List Say → Summary → Option Bool → Tag → Nodes → Nodes → Bool → Option Bool
+taken_after says above taken tag kids rest full =
+    if is_cut_para says above tag kids && is_paragraph (next_of says above rest) then Some (has_taken taken || full)
+    else if is_thick tag then None
+    else option_map (λ b. b || one_gives says above tag kids full) taken
+
+abbrev pub loses_end : List Say → Summary → Option Bool → Tag → Nodes → Nodes → Bool → Bool
+loses_end says above taken tag kids rest full =
+    is_cut_para says above tag kids && is_lost (next_of says above rest) (has_taken taken || full)
+
+-- ---- the walk
+
+-- an element that stays and may show something: it holds no properties, and is no table, row, cell or shell that goes
+abbrev pub is_walked : List Say → Summary → Tag → Nodes → Bool
+is_walked says above tag kids = is_leave (fate_of says tag) && not (is_quiet tag) && not (is_going says above tag kids)
+
+abbrev pub elem_view : List Say → Summary → Tag → Nodes → List ℕ → Bool → List ℕ
+elem_view says above tag kids inner loses =
+    by_fate_of (fate_of says tag) (is_content tag.kind) inner
+    (if is_quiet tag || is_going says above tag kids then [] else start_shown tag ++ (inner ++ (if loses then [] else end_shown tag)))
+    []
+
+abbrev pub view : List Say → Summary → Option Bool → Nodes → List ℕ
+view says above taken no_nodes = []
+view says above taken (bytes b rest) = (if above.shown then shown b else []) ++ view says above taken rest
+view says above taken (element tag kids rest) =
+    elem_view says above tag kids (view says (inside_of says tag above) None kids)
+    (loses_end says above taken tag kids rest (gives says (inside_of says tag above) kids))
+    ++ view says above (taken_after says above taken tag kids rest (gives says (inside_of says tag above) kids)) rest
+
+-- ---- one node of a list, which these follow
+
+-- what a node shows
+abbrev pub item_view : List Say → Summary → Option Bool → Item → Nodes → List ℕ
+item_view says above taken (bytes_item b) rest = if above.shown then shown b else []
+item_view says above taken (element_item tag kids) rest =
+    elem_view says above tag kids (view says (inside_of says tag above) None kids)
+    (loses_end says above taken tag kids rest (gives says (inside_of says tag above) kids))
+
+-- whether it gives an element
+abbrev pub item_gives : List Say → Summary → Item → Bool
+item_gives says above (bytes_item b) = false
+item_gives says above (element_item tag kids) = one_gives says above tag kids (gives says (inside_of says tag above) kids)
+
+-- what the next paragraph takes up after it
+abbrev pub item_taken : List Say → Summary → Option Bool → Item → Nodes → Option Bool
+item_taken says above taken (bytes_item b) rest = taken
+item_taken says above taken (element_item tag kids) rest =
+    taken_after says above taken tag kids rest (gives says (inside_of says tag above) kids)
+
+-- a story, where it is the main one
+abbrev pub story_walk : List Say → Parts → List ℕ
+story_walk says story =
+    if is "document" story.tag then view says (summary_of says (story.tag ∷ [])) None story.kids else []

@@ -1,0 +1,12 @@
+//! The plain text of a document before or after its revisions: a package and a say for each revision go in, text goes out.
+//!
+//! Read `view`. It promises the plain text of `specs/PlainText.antt` of what the pass leaves, and writes it in one walk over
+//! the original: it makes no tree and takes no memory. How a program shows a text is left to its reader.
+#![tactic(auto)]
+
+mod next;
+mod package;
+mod summary;
+mod walk;
+
+pub use package::view;

@@ -1,0 +1,252 @@
+//! The walk over the nodes of a story. It puts what the pass of the nodes would show, and makes no tree.
+//!
+//! A paragraph's end is decided at its end tag, when all that it takes up was walked: what follows it in the original is
+//! known from the list, and whether it would hold an element is what the walks answer.
+
+ghost use Rattle.std.specs.Prelude.{◌≡◌, ◌||◌, [], None, false, IfOk, if◌then◌else◌};
+ghost use Rattle.std.specs.Option.{option_map};
+ghost use Rattle.redl_views.specs.Ends.{has_taken as has_taken_by};
+ghost use Rattle.redl_views.specs.Views.{is_freed as is_freed_by};
+ghost use Rattle.redl_io.specs.Sink.{Puts};
+ghost use Rattle.redl_tree.specs.Model.View.{nodes_of, item_of, tag_of, kids_of};
+ghost use Rattle.redl_views.specs.PlainText.{start_shown as start_shown_by, end_shown as end_shown_by};
+ghost use Rattle.redl_shown.specs.Shown.{shown};
+ghost use Rattle.redl_views.specs.Walks.{view, gives, item_view, item_gives, item_taken, elem_view, inside_of, one_gives as one_gives_by, taken_after as taken_after_by, loses_end as loses_end_by, is_lost as is_lost_by, is_walked as is_walked_by};
+
+use crate::next::{Next, next_of};
+use crate::summary::{Summary, inside, is_content, is_cut_para, is_going};
+use redl_io::{Failed, Sink, put_piece};
+use redl_shown::put_shown;
+use redl_tables::fate_of;
+use redl_tree::{Elem, Fate, Node, Say, is_named, is_quiet, is_thick};
+
+/// What the walk of a node tells the list: whether it gives an element, and what the next paragraph takes up.
+#[derive(Clone, Copy)]
+pub(crate) struct Step {
+    /// It becomes an element that is no properties of a paragraph, at the top.
+    pub gives: bool,
+    /// Where a paragraph is joined with the next one: whether what is taken up has an element.
+    pub taken: Option<bool>,
+}
+
+/// Puts what the nodes of a list show, and answers whether one of them gives an element.
+#[cycle(view)]
+pub(crate) fn view_nodes<K: Sink>(
+    nodes: &[Node],
+    says: &[Say],
+    above: Summary,
+    out: &mut K,
+) -> Result<bool, Failed>
+    ensures puts { Puts K.told K.faults K.settled K.lenders out.old out.new (view says.now above None (nodes_of nodes.now)) result }
+    ensures gives { IfOk result (λ answer. answer ≡ gives says.now above (nodes_of nodes.now)) }
+{
+    let mut gives = false;
+    let mut taken = None;
+    for i in 0..nodes.len() {
+        let step = view_node(&nodes[i], &nodes[i + 1..], says, above, taken, out)?;
+        gives = either(gives, step.gives);
+        taken = step.taken;
+    }
+    Ok(gives)
+}
+
+fn either(one: bool, other: bool) -> bool
+    ensures { result ≡ (one || other) }
+{
+    one || other
+}
+
+#[cycle(view)]
+fn view_node<K: Sink>(
+    node: &Node,
+    rest: &[Node],
+    says: &[Say],
+    above: Summary,
+    taken: Option<bool>,
+    out: &mut K,
+) -> Result<Step, Failed>
+    ensures puts { Puts K.told K.faults K.settled K.lenders out.old out.new (item_view says.now above taken (item_of node.now) (nodes_of rest.now)) result }
+    ensures gives { IfOk result (λ step. step.gives ≡ item_gives says.now above (item_of node.now)) }
+    ensures taken { IfOk result (λ step. step.taken ≡ item_taken says.now above taken (item_of node.now) (nodes_of rest.now)) }
+{
+    match node {
+        Node::Elem(elem) => view_elem(elem, rest, says, above, taken, out),
+        Node::Bytes(text) => view_bytes(text, above, taken, out),
+    }
+}
+
+fn view_bytes<K: Sink>(
+    text: &[u8],
+    above: Summary,
+    taken: Option<bool>,
+    out: &mut K,
+) -> Result<Step, Failed>
+    ensures puts { Puts K.told K.faults K.settled K.lenders out.old out.new (if above.shown then shown text.now else []) result }
+    ensures gives { IfOk result (λ step. step.gives ≡ false) }
+    ensures taken { IfOk result (λ step. step.taken ≡ taken) }
+{
+    if above.shown {
+        put_shown(text, out)?;
+    }
+    Ok(Step {
+        gives: false,
+        taken,
+    })
+}
+
+#[cycle(view)]
+fn view_elem<K: Sink>(
+    elem: &Elem,
+    rest: &[Node],
+    says: &[Say],
+    above: Summary,
+    taken: Option<bool>,
+    out: &mut K,
+) -> Result<Step, Failed>
+    ensures puts { Puts K.told K.faults K.settled K.lenders out.old out.new
+        (elem_view says.now above (tag_of elem.now) (kids_of elem.now) (view says.now (inside_of says.now (tag_of elem.now) above) None (kids_of elem.now))
+        (loses_end_by says.now above taken (tag_of elem.now) (kids_of elem.now) (nodes_of rest.now) (gives says.now (inside_of says.now (tag_of elem.now) above) (kids_of elem.now)))) result }
+    ensures gives { IfOk result (λ step. step.gives ≡ one_gives_by says.now above (tag_of elem.now) (kids_of elem.now) (gives says.now (inside_of says.now (tag_of elem.now) above) (kids_of elem.now))) }
+    ensures taken { IfOk result (λ step. step.taken ≡ taken_after_by says.now above taken (tag_of elem.now) (kids_of elem.now) (nodes_of rest.now) (gives says.now (inside_of says.now (tag_of elem.now) above) (kids_of elem.now))) }
+{
+    if is_freed(says, elem) {
+        let full = view_nodes(elem.kids(), says, inside(says, elem, above), out)?;
+        return Ok(answer(elem, rest, says, above, taken, full));
+    }
+    if !is_walked(says, elem, above) {
+        return Ok(answer(elem, rest, says, above, taken, false));
+    }
+    put_start(elem, out)?;
+    let full = view_nodes(elem.kids(), says, inside(says, elem, above), out)?;
+    put_end(elem, loses_end(elem, rest, says, above, taken, full), out)?;
+    Ok(answer(elem, rest, says, above, taken, full))
+}
+
+// Whether an element is content whose kids take its place.
+fn is_freed(says: &[Say], elem: &Elem) -> bool
+    ensures { result ≡ is_freed_by says.now (tag_of elem.now) }
+{
+    is_content(elem.kind()) && fate_of(says, elem) == Fate::Free
+}
+
+// Whether an element stays and may show something: it holds no properties, and is no table, row, cell or shell that goes.
+fn is_walked(says: &[Say], elem: &Elem, above: Summary) -> bool
+    ensures { result ≡ is_walked_by says.now above (tag_of elem.now) (kids_of elem.now) }
+{
+    fate_of(says, elem) == Fate::Leave && !is_quiet(elem) && !is_going(says, elem, above)
+}
+
+// What an element tells its list, whose kids give an element or not.
+fn answer(
+    elem: &Elem,
+    rest: &[Node],
+    says: &[Say],
+    above: Summary,
+    taken: Option<bool>,
+    full: bool,
+) -> Step
+    ensures gives { result.gives ≡ one_gives_by says.now above (tag_of elem.now) (kids_of elem.now) full }
+    ensures taken { result.taken ≡ taken_after_by says.now above taken (tag_of elem.now) (kids_of elem.now) (nodes_of rest.now) full }
+{
+    let gives = one_gives(elem, says, above, full);
+    Step {
+        gives,
+        taken: taken_after(elem, rest, says, above, taken, full, gives),
+    }
+}
+
+fn one_gives(elem: &Elem, says: &[Say], above: Summary, full: bool) -> bool
+    ensures { result ≡ one_gives_by says.now above (tag_of elem.now) (kids_of elem.now) full }
+{
+    match fate_of(says, elem) {
+        Fate::Leave => !is_named(elem, b"pPr") && !is_going(says, elem, above),
+        Fate::Free => is_content(elem.kind()) && full,
+        _ => false,
+    }
+}
+
+fn taken_after(
+    elem: &Elem,
+    rest: &[Node],
+    says: &[Say],
+    above: Summary,
+    taken: Option<bool>,
+    full: bool,
+    gives: bool,
+) -> Option<bool>
+    requires { gives ≡ one_gives_by says.now above (tag_of elem.now) (kids_of elem.now) full }
+    ensures { result ≡ taken_after_by says.now above taken (tag_of elem.now) (kids_of elem.now) (nodes_of rest.now) full }
+{
+    if is_cut_para(says, elem, above) && next_of(rest, says, above) == Next::Paragraph {
+        return Some(has_taken(taken) || full);
+    }
+    if is_thick(elem) {
+        return None;
+    }
+    or_taken(taken, gives)
+}
+
+fn has_taken(taken: Option<bool>) -> bool
+    ensures { result ≡ has_taken_by taken }
+{
+    match taken {
+        Some(full) => full,
+        None => false,
+    }
+}
+
+fn or_taken(taken: Option<bool>, gives: bool) -> Option<bool>
+    ensures { result ≡ option_map (λ b. b || gives) taken }
+{
+    match taken {
+        Some(full) => Some(full || gives),
+        None => None,
+    }
+}
+
+// Whether a paragraph loses its end.
+fn loses_end(
+    elem: &Elem,
+    rest: &[Node],
+    says: &[Say],
+    above: Summary,
+    taken: Option<bool>,
+    full: bool,
+) -> bool
+    ensures { result ≡ loses_end_by says.now above taken (tag_of elem.now) (kids_of elem.now) (nodes_of rest.now) full }
+{
+    is_cut_para(says, elem, above) && is_lost(next_of(rest, says, above), has_taken(taken) || full)
+}
+
+fn is_lost(next: Next, full: bool) -> bool
+    ensures { result ≡ is_lost_by next full }
+{
+    match next {
+        Next::Nothing => false,
+        Next::Paragraph => true,
+        Next::Other => !full,
+    }
+}
+
+// Puts what an element shows at its start tag: a tab or a line break.
+fn put_start<K: Sink>(elem: &Elem, out: &mut K) -> Result<(), Failed>
+    ensures { Puts K.told K.faults K.settled K.lenders out.old out.new (start_shown_by (tag_of elem.now)) result }
+{
+    if is_named(elem, b"tab") {
+        return put_piece(b"\t", out);
+    }
+    if is_named(elem, b"br") || is_named(elem, b"cr") {
+        return put_piece(b"\n", out);
+    }
+    Ok(())
+}
+
+// Puts the end of a paragraph, unless it is lost.
+fn put_end<K: Sink>(elem: &Elem, loses: bool, out: &mut K) -> Result<(), Failed>
+    ensures { Puts K.told K.faults K.settled K.lenders out.old out.new (if loses then [] else end_shown_by (tag_of elem.now)) result }
+{
+    if !loses && is_named(elem, b"p") {
+        return put_piece(b"\n", out);
+    }
+    Ok(())
+}
