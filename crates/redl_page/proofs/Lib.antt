@@ -1,0 +1,5 @@
+mod EscapingRows
+mod DocumentRows
+pub mod EscapingLaws
+pub mod PieceLaws
+pub mod MemberLaws

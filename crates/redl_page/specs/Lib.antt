@@ -1,0 +1,5 @@
+pub mod Escaping
+pub mod Pieces
+pub mod Signs
+pub mod Shapes
+pub mod Document

@@ -1,0 +1,39 @@
+//! What is round the nodes of a list.
+
+ghost use Rattle.std.specs.Prelude.{◌≡◌};
+ghost use Rattle.redl_tree.specs.Model.View.{tag_of};
+
+use redl_tree::{Elem, is_named, is_quiet};
+
+/// What is round the nodes of a list.
+#[derive(Clone, Copy)]
+pub(crate) struct Place {
+    /// No ancestor holds properties.
+    pub loud: bool,
+    /// The parent is a text.
+    pub shows: bool,
+}
+
+impl Place {
+    ghost use Rattle.redl_page.specs.Document.{in_story, inside};
+
+    /// The place of the kids of a story's root.
+    pub(crate) fn in_story() -> Place
+        ensures { result ≡ in_story }
+    {
+        Place {
+            loud: true,
+            shows: false,
+        }
+    }
+
+    /// The place of the kids of an element that has this place.
+    pub(crate) fn inside(self, elem: &Elem) -> Place
+        ensures { result ≡ inside (tag_of elem.now) self }
+    {
+        Place {
+            loud: self.loud && !is_quiet(elem),
+            shows: self.loud && (is_named(elem, b"t") || is_named(elem, b"delText")),
+        }
+    }
+}

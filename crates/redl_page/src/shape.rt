@@ -1,0 +1,175 @@
+//! How elements are shown that are in no revision.
+
+ghost use Rattle.std.specs.Prelude.{◌≡◌, codes, if◌then◌else◌};
+ghost use Rattle.redl_tree.specs.Model.View.{nodes_of, item_of, tag_of, kids_of};
+ghost use Rattle.redl_page.specs.Shapes.{closing, holds_blocks, inline_named, is_block, is_other_form, is_paragraph, item_holds, opening, shape_named, shape_of};
+
+use redl_tree::{Elem, Node, Space, is_named};
+
+/// What an element is shown as that is in no revision.
+#[derive(Clone, Copy, Debug, PartialEq, Eq)]
+pub(crate) enum Shape {
+    /// It shows nothing of its own.
+    Nothing,
+    Paragraph,
+    /// A paragraph that holds blocks, which a `p` of HTML can't.
+    Division,
+    Table,
+    Row,
+    Cell,
+    /// What a text box holds.
+    TextBox,
+    Tab,
+    Break,
+    Hyphen,
+    Picture,
+    /// The second form of content that is kept in two.
+    OtherForm,
+}
+
+impl Shape {
+    /// The shape of an element, where no ancestor holds properties or one does.
+    pub(crate) fn of(elem: &Elem, loud: bool) -> Shape
+        ensures { result ≡ shape_of loud (tag_of elem.now) (kids_of elem.now) }
+    {
+        if !loud {
+            return Shape::Nothing;
+        }
+        Shape::named(elem)
+    }
+
+    fn named(elem: &Elem) -> Shape
+        ensures { result ≡ shape_named (tag_of elem.now) (kids_of elem.now) }
+    {
+        if is_named(elem, b"p") {
+            return Shape::of_paragraph(elem);
+        }
+        if is_named(elem, b"tbl") {
+            return Shape::Table;
+        }
+        if is_named(elem, b"tr") {
+            return Shape::Row;
+        }
+        if is_named(elem, b"tc") {
+            return Shape::Cell;
+        }
+        if is_named(elem, b"txbxContent") {
+            return Shape::TextBox;
+        }
+        if is_other_form(elem) {
+            return Shape::OtherForm;
+        }
+        Shape::inline(elem)
+    }
+
+    fn of_paragraph(elem: &Elem) -> Shape
+        ensures { result ≡ (if holds_blocks (kids_of elem.now) then Shape.Division else Shape.Paragraph) }
+    {
+        if holds_blocks(elem.kids()) {
+            return Shape::Division;
+        }
+        Shape::Paragraph
+    }
+
+    fn inline(elem: &Elem) -> Shape
+        ensures { result ≡ inline_named (tag_of elem.now) }
+    {
+        if is_named(elem, b"tab") {
+            return Shape::Tab;
+        }
+        if is_named(elem, b"br") || is_named(elem, b"cr") {
+            return Shape::Break;
+        }
+        if is_named(elem, b"noBreakHyphen") {
+            return Shape::Hyphen;
+        }
+        if is_named(elem, b"drawing") || is_named(elem, b"pict") || is_named(elem, b"object") {
+            return Shape::Picture;
+        }
+        Shape::Nothing
+    }
+
+    /// Whether it is that of a paragraph.
+    pub(crate) fn is_paragraph(self) -> bool
+        ensures { result ≡ is_paragraph self }
+    {
+        matches!(self, Shape::Paragraph | Shape::Division)
+    }
+
+    /// What comes before the kids.
+    pub(crate) fn opening(self) -> &'static [u8]
+        ensures { result.now ≡ codes (opening self) }
+    {
+        match self {
+            Shape::Nothing => b"",
+            Shape::Paragraph => b"<p>",
+            Shape::Division => b"<div class=\"p\">",
+            Shape::Table => b"<table>\n",
+            Shape::Row => b"<tr>",
+            Shape::Cell => b"<td>",
+            Shape::TextBox => b"<span class=\"box\">",
+            Shape::Tab => b"\t",
+            Shape::Break => b"<br>",
+            Shape::Hyphen => b"&#8209;",
+            Shape::Picture => b"<span class=\"picture\">picture</span>",
+            Shape::OtherForm => b"<details><summary>kept in another form</summary>",
+        }
+    }
+
+    /// What comes after them.
+    pub(crate) fn closing(self) -> &'static [u8]
+        ensures { result.now ≡ codes (closing self) }
+    {
+        match self {
+            Shape::Paragraph => b"</p>\n",
+            Shape::Division => b"</div>\n",
+            Shape::Table => b"</table>\n",
+            Shape::Row => b"</tr>\n",
+            Shape::Cell => b"</td>",
+            Shape::TextBox => b"</span>",
+            Shape::OtherForm => b"</details>",
+            Shape::Nothing => b"",
+            Shape::Tab => b"",
+            Shape::Break => b"",
+            Shape::Hyphen => b"",
+            Shape::Picture => b"",
+        }
+    }
+}
+
+// Whether an element is the second form of content that a file keeps in two.
+fn is_other_form(elem: &Elem) -> bool
+    ensures { result ≡ is_other_form (tag_of elem.now) }
+{
+    elem.space() == Space::Other && elem.local() == b"Fallback".as_slice()
+}
+
+// Whether a `p` of HTML can't hold an element.
+fn is_block(elem: &Elem) -> bool
+    ensures { result ≡ is_block (tag_of elem.now) }
+{
+    is_named(elem, b"p") || is_named(elem, b"tbl") || is_other_form(elem)
+}
+
+/// Whether there is such an element at some depth.
+#[cycle(blocks)]
+fn holds_blocks(nodes: &[Node]) -> bool
+    ensures { result ≡ holds_blocks (nodes_of nodes.now) }
+{
+    for node in nodes {
+        if node_holds(node) {
+            return true;
+        }
+    }
+    false
+}
+
+#[cycle(blocks)]
+fn node_holds(node: &Node) -> bool
+    ensures { result ≡ item_holds (item_of node.now) }
+{
+    match node {
+        Node::Elem(elem) => is_block(elem) || holds_blocks(elem.kids()),
+        Node::Bytes(_) => false,
+    }
+}
