@@ -1,3 +1,4 @@
+pub mod ArrayLaws
 pub mod DateLaws
 pub mod JsonLaws
 pub mod NameLaws

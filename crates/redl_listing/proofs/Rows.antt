@@ -7,7 +7,7 @@ use Rattle.redl_stamp.specs.Moment.{first_moment, last_moment}
 use Rattle.redl_join.specs.declared.verdict.Verdict.TheVariants.{Undecided, Disputed}
 use Rattle.redl_listing.specs.declared.row.Row.{Row}
 use Rattle.redl_listing.specs.Dates.{year_and_day, month_and_day, date_text}
-use Rattle.redl_listing.specs.Texts.{tab, newline, shown, escape, text_row, decided_fields, tab_row, text_listing, tab_listing, json_listing}
+use Rattle.redl_listing.specs.Texts.{tab, newline, shown, escape, text_row, decided_columns, named_fields, decided_fields, tab_row, text_listing, tab_listing, json_listing}
 
 -- an insertion of Ann's
 insertion : Row
@@ -34,19 +34,19 @@ move = record {
 }
 
 row_text : text_listing (insertion ∷ []) true ≡ codes "      1 ins          open     2024-05-06T07:08:09Z Ann" ++ newline
-unfolding insertion text_row shown digits year_and_day month_and_day
+unfolding insertion text_row decided_columns shown digits year_and_day month_and_day
 row_text = refl
 
 row_text_long : text_listing (move ∷ []) false ≡ codes "12345678 move         disputed -                    A?\\?" ++ newline
-unfolding move text_row shown digits
+unfolding move text_row decided_columns shown digits
 row_text_long = refl
 
 row_tab : tab_listing (insertion ∷ []) true ≡ codes "1" ++ tab ++ codes "ins" ++ tab ++ codes "open" ++ tab ++ codes "2024-05-06T07:08:09Z" ++ tab ++ codes "1" ++ tab ++ codes "/word/document.xml" ++ tab ++ codes "Ann" ++ newline
-unfolding insertion tab_row decided_fields escape digits year_and_day month_and_day
+unfolding insertion tab_row decided_fields named_fields escape digits year_and_day month_and_day
 row_tab = refl
 
 row_tab_escaped : tab_listing (move ∷ []) false ≡ codes "12345678" ++ tab ++ codes "move" ++ tab ++ codes "disputed" ++ tab ++ codes "-" ++ tab ++ codes "0" ++ tab ++ codes "/a" ++ tab ++ (codes "A\\t\\\\" ++ 127 ∷ []) ++ newline
-unfolding move tab_row decided_fields escape digits
+unfolding move tab_row decided_fields named_fields escape digits
 row_tab_escaped = refl
 
 row_json_empty : json_listing [] true ≡ codes "[]" ++ newline

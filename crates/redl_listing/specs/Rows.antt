@@ -1,5 +1,5 @@
 -- The rows of a listing: what it says of each revision (our own rule).
-use Rattle.std.specs.Prelude.{Bool, ℕ, List, [], map, IsTrue, IfSome, unwrap_or, slice_get}
+use Rattle.std.specs.Prelude.{ℕ, List, [], map, IsTrue, IfSome, unwrap_or, slice_get}
 use Rattle.std.specs.List.{zip}
 use Rattle.std.specs.Str.{IsUtf8}
 use Rattle.redl_stamp.specs.Moment.{IsMoment}
@@ -30,8 +30,3 @@ row_of parts revision verdict = record {
 -- the rows of revisions, each with what was decided on it
 abbrev pub rows_of : List (List ℕ) → List Revision → List Verdict → List Row
 rows_of parts revisions verdicts = map (λ pair. row_of parts pair.0 pair.1) (zip revisions verdicts)
-
--- what a format was given: the rows so far, and whether it was closed
-pub record Listing : Type 0 where
-  pub rows : List Row
-  pub closed : Bool

@@ -1,7 +1,6 @@
 -- The texts of the three formats (our own rule).
-use Rattle.std.specs.Prelude.{ℕ, ◌≡◌, ◌≤◌, ◌+◌, ◌-◌, ◌==◌, ◌||◌, nat_lt, Bool, true, false, List, [], ◌∷◌, ◌++◌, length, map, replicate, decimal, codes, if◌then◌else◌, Option, Some, None, ℤ, Vec, vec_len, vec_capacity}
-use Rattle.std.specs.Global.{Global}
-use Rattle.std.specs.List.{flat_map, join_with_byte}
+use Rattle.std.specs.Prelude.{ℕ, ◌-◌, ◌==◌, ◌||◌, nat_lt, Bool, true, false, List, [], ◌∷◌, ◌++◌, length, map, replicate, decimal, codes, if◌then◌else◌, Option, Some, None, ℤ}
+use Rattle.std.specs.List.{flat_map}
 use Rattle.json.specs.Token.{Token, null as null_token, string as string_token}
 use Rattle.serde_json.specs.Data.{Data, null, string, number, unsigned, object, member, no_members}
 use Rattle.serde_json.specs.Written.{compact_text}
@@ -10,6 +9,7 @@ use Rattle.redl_join.specs.declared.verdict.Verdict.{Verdict}
 use Rattle.redl_join.specs.declared.verdict.Verdict.TheVariants.{Undecided, Accept, Reject, Disputed}
 use Rattle.redl_listing.specs.declared.row.Row.{Row}
 use Rattle.redl_listing.specs.Dates.{date_text, moment_text}
+use Rattle.redl_listing.specs.Formats.{array_of, lines_of}
 
 -- the name of what was decided
 abbrev pub verdict_name : Verdict → List ℕ
@@ -45,15 +45,18 @@ shown byte = if nat_lt byte 32 || byte == 127 then 63 else byte
 abbrev pub is_shown : ℕ → Bool
 is_shown byte = shown byte == byte
 
--- number, kind, verdict, date and author in columns
+-- number, kind and verdict in columns, with a space after each
+unfoldable pub decided_columns : Row → List ℕ
+decided_columns row =
+    right_in 7 (decimal row.number) ++ (space ++ (left_in 12 (kind_name row.kind) ++ (space ++ (left_in 8 (verdict_name row.verdict) ++ space))))
+
+-- these, and date and author
 unfoldable pub text_row : Row → List ℕ
-text_row row =
-    right_in 7 (decimal row.number) ++ (space ++ (left_in 12 (kind_name row.kind) ++ (space ++ (left_in 8 (verdict_name row.verdict)
-    ++ (space ++ (left_in 20 (date_text row.seconds) ++ (space ++ (map shown row.author ++ newline))))))))
+text_row row = decided_columns row ++ (left_in 20 (date_text row.seconds) ++ (space ++ (map shown row.author ++ newline)))
 
 -- a line for each row; closing adds nothing
 abbrev pub text_listing : List Row → Bool → List ℕ
-text_listing rows closed = flat_map text_row rows
+text_listing = lines_of text_row
 
 -- ---- fields with tabs between
 
@@ -75,10 +78,13 @@ is_unescaped byte =
     else if byte == 13 then false
     else true
 
--- number, kind, verdict and date, with a tab after each
+-- number and kind, with a tab after each
+unfoldable pub named_fields : Row → List ℕ
+named_fields row = decimal row.number ++ (tab ++ (kind_name row.kind ++ tab))
+
+-- these, and verdict and date, with a tab after each
 unfoldable pub decided_fields : Row → List ℕ
-decided_fields row =
-    decimal row.number ++ (tab ++ (kind_name row.kind ++ (tab ++ (verdict_name row.verdict ++ (tab ++ (date_text row.seconds ++ tab))))))
+decided_fields row = named_fields row ++ (verdict_name row.verdict ++ (tab ++ (date_text row.seconds ++ tab)))
 
 -- these, and members, part and author with tabs between
 unfoldable pub tab_row : Row → List ℕ
@@ -87,7 +93,7 @@ tab_row row =
 
 -- a line for each row; closing adds nothing
 abbrev pub tab_listing : List Row → Bool → List ℕ
-tab_listing rows closed = flat_map tab_row rows
+tab_listing = lines_of tab_row
 
 -- ---- JSON (RFC 8259)
 
@@ -116,21 +122,6 @@ json_object row =
 unfoldable pub json_row : Row → List ℕ
 json_row row = compact_text (json_object row)
 
--- the end of the array
-abbrev pub json_end : Bool → List ℕ
-json_end false = []
-json_end true = codes "]" ++ newline
-
 -- an array of the rows, which closing ends
 abbrev pub json_listing : List Row → Bool → List ℕ
-json_listing rows closed = codes "[" ++ (join_with_byte 44 (map json_row rows) ++ json_end closed)
-
--- a comma, unless there is no row
-abbrev pub comma_after : List Row → List ℕ
-comma_after [] = []
-comma_after (row ∷ rows) = 44 ∷ []
-
--- what code keeps of the array: its text, and until it is closed room for its end
-pub record IsJsonDraft (rows : List Row) (closed : Bool) (text : Vec ℕ Global) : Type 0 where
-  pub listing : text.items ≡ json_listing rows closed
-  pub room : closed ≡ false → vec_len text + 2 ≤ vec_capacity text
+json_listing = array_of json_row

@@ -62,7 +62,7 @@ fn time_text(second: u32) -> [u8; 8]
 }
 
 /// The moment so many seconds after 1970-01-01T00:00:00Z, as `YYYY-MM-DDThh:mm:ssZ` in UTC.
-pub(crate) fn moment_text(seconds: i64) -> [u8; 20]
+pub fn moment_text(seconds: i64) -> [u8; 20]
     requires { IsMoment seconds }
     ensures { result ≡ moment_text seconds }
 {

@@ -1,41 +1,44 @@
-//! Rows with the text that was made of them.
+//! Items with the text that was made of them.
 
-ghost use Rattle.std.specs.Prelude.{◌≡◌, ◌+◌, ◌≤◌, ◌++◌, ◌∷◌, [], OnOk, OnErr, length, vec_len, vec_capacity};
+ghost use Rattle.std.specs.Prelude.{◌≡◌, ◌+◌, ◌≤◌, ◌++◌, ◌∷◌, [], false, OnOk, OnErr, length, vec_len, vec_capacity};
 
-use crate::row::Row;
 use std::alloc::{AllocError, Global};
 
-/// The rows that a format was given, and the text so far.
+/// The items that a format was given, the text so far, and whether it was closed.
 #[derive(Drop)]
-pub(crate) struct Draft {
-    pub(crate) rows: Vec<Row>,
+pub(crate) struct Draft<I> {
+    pub(crate) items: Vec<I>,
     pub(crate) text: Vec<u8>,
+    pub(crate) closed: bool,
 }
 
-impl Draft {
-    /// No row and no text. It takes no memory.
-    pub(crate) fn new(alloc: Global) -> Draft
-        ensures rows { result.rows.items ≡ [] }
-        ensures text { result.text.items ≡ [] }
+impl<I: Drop> Draft<I> {
+    /// No item, and this text.
+    pub(crate) fn new(alloc: Global, text: Vec<u8>) -> Draft<I>
+        ensures items { result.items.items ≡ [] }
+        ensures text { result.text ≡ text }
+        ensures open { result.closed ≡ false }
     {
         Draft {
-            rows: Vec::new(alloc),
-            text: Vec::new(alloc),
+            items: Vec::new(alloc),
+            text,
+            closed: false,
         }
     }
 
-    /// Adds a row and its piece of the text, and keeps room for `room` more bytes. `Err` means out of memory: the row is
+    /// Adds an item and its piece of the text, and keeps room for `room` more bytes. `Err` means out of memory: the item is
     /// dropped, and the rest is as before.
-    pub(crate) fn add(&mut self, row: Row, piece: &[u8], room: u32) -> Result<(), AllocError>
-        ensures rows { OnOk result (self.new.rows.items ≡ self.old.rows.items ++ row ∷ []) }
+    pub(crate) fn add(&mut self, item: I, piece: &[u8], room: u32) -> Result<(), AllocError>
+        ensures items { OnOk result (self.new.items.items ≡ self.old.items.items ++ item ∷ []) }
         ensures text { OnOk result (self.new.text.items ≡ self.old.text.items ++ piece.now) }
         ensures room { OnOk result (vec_len self.new.text + room ≤ vec_capacity self.new.text) }
-        ensures same_rows { OnErr result (self.new.rows.items ≡ self.old.rows.items) }
+        ensures same_items { OnErr result (self.new.items.items ≡ self.old.items.items) }
         ensures same_text { OnErr result (self.new.text.items ≡ self.old.text.items) }
+        ensures closed { self.new.closed ≡ self.old.closed }
         ensures capacity { vec_capacity self.old.text ≤ vec_capacity self.new.text }
     {
         self.text.reserve(piece.len() + room as usize)?;
-        self.rows.push(row)?;
+        self.items.push(item)?;
         self.text.extend_from_slice(piece).unwrap();
         Ok(())
     }

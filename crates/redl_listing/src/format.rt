@@ -1,11 +1,28 @@
 //! Formats of listings.
 
 ghost use Rattle.std.specs.Prelude.{◌≡◌, ◌++◌, ◌∷◌, [], List, ℕ, Bool, true, false, OnOk, OnErr};
+ghost use Rattle.redl_listing.specs.Formats.{lines_of, array_of};
 ghost use Rattle.redl_listing.specs.Rows.{IsRow};
 ghost use Rattle.redl_listing.specs.declared.row.Row.{Row};
 
+use crate::array_format::ArrayFormat;
+use crate::json_rows::JsonRows;
+use crate::line_format::LineFormat;
+use crate::named::Named;
+use crate::piece::Piece;
 use crate::row::Row;
+use crate::tab_rows::TabRows;
+use crate::text_rows::TextRows;
 use std::alloc::AllocError;
+
+/// The format `text`.
+pub type TextFormat = LineFormat<Row, TextRows>;
+
+/// The format `tab`.
+pub type TabFormat = LineFormat<Row, TabRows>;
+
+/// The format `json`.
+pub type JsonFormat = ArrayFormat<Row, JsonRows>;
 
 /// A row was not taken, since an allocation failed.
 #[derive(Clone, Copy, Debug, PartialEq, Eq, thiserror::Error)]
@@ -63,4 +80,66 @@ pub trait RowFormat: Drop {
     /// The text for the rows so far. It takes no memory.
     fn text(&self) -> &[u8]
         ensures { result.now ≡ text_for self.now (rows_so_far self.now) (is_closed self.now) };
+}
+
+impl Named for Box<dyn RowFormat> {
+    ghost name_of = { λ format. (RowFormat-box format).format_name format.value };
+
+    fn title(&self) -> &str {
+        self.name()
+    }
+}
+
+impl<P: Piece<Row>> RowFormat for LineFormat<Row, P> {
+    ghost format_name = { λ _. P.title };
+
+    ghost rows_so_far = { λ format. format.items };
+
+    ghost is_closed = { λ format. format.closed };
+
+    ghost text_for = { λ _. lines_of P.piece_of };
+
+    fn name(&self) -> &str {
+        P::title()
+    }
+
+    fn row(&mut self, row: &Row) -> Result<(), RowError> {
+        self.add(row)?;
+        Ok(())
+    }
+
+    fn close(&mut self) {
+        LineFormat::close(self);
+    }
+
+    fn text(&self) -> &[u8] {
+        LineFormat::text(self)
+    }
+}
+
+impl<P: Piece<Row>> RowFormat for ArrayFormat<Row, P> {
+    ghost format_name = { λ _. P.title };
+
+    ghost rows_so_far = { λ format. format.items };
+
+    ghost is_closed = { λ format. format.closed };
+
+    ghost text_for = { λ _. array_of P.piece_of };
+
+    fn name(&self) -> &str {
+        P::title()
+    }
+
+    fn row(&mut self, row: &Row) -> Result<(), RowError> {
+        self.add(row)?;
+        Ok(())
+    }
+
+    fn close(&mut self) {
+        ArrayFormat::close(self);
+    }
+
+    fn text(&self) -> &[u8] {
+        ArrayFormat::text(self)
+    }
 }

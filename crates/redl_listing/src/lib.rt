@@ -2,23 +2,33 @@
 //!
 //! Read `list` first. It takes the first format with a name out of a list of boxed formats, gives it a row for each revision,
 //! closes it and hands its text out. It rests on what `RowFormat` promises, whatever boxes the caller made.
-//! `TextFormat`, `TabFormat` and `JsonFormat` are the three formats of the program.
+//! `TextFormat`, `TabFormat` and `JsonFormat` are the formats of the program: lines or an array of any kind of `Item`, with a
+//! `Piece` for each. Formats of other items, as of a report's lines, are made of the same `LineFormat`, `ArrayFormat` and `Named`.
 //! Which revisions there are and what was decided on them is left to the crates below.
 #![tactic(auto)]
 
+mod array_format;
 mod dates;
 mod draft;
 mod fields;
 mod format;
-mod json_format;
+mod json_rows;
+mod line_format;
 mod listing;
+mod named;
+mod piece;
 mod row;
-mod tab_format;
-mod text_format;
+mod tab_rows;
+mod text_rows;
 
-pub use format::{RowError, RowFormat};
-pub use json_format::JsonFormat;
-pub use listing::{add_format, has_name, list};
+pub use array_format::ArrayFormat;
+pub use dates::moment_text;
+pub use format::{JsonFormat, RowError, RowFormat, TabFormat, TextFormat};
+pub use json_rows::JsonRows;
+pub use line_format::LineFormat;
+pub use listing::{add_format, list};
+pub use named::{Named, has_name, take_named};
+pub use piece::{Item, Piece};
 pub use row::Row;
-pub use tab_format::TabFormat;
-pub use text_format::TextFormat;
+pub use tab_rows::TabRows;
+pub use text_rows::TextRows;

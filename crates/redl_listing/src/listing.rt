@@ -1,7 +1,7 @@
 //! Listing revisions in a format.
 
 ghost use Rattle.std.specs.Prelude.{◌≡◌, ◌++◌, ◌∷◌, ◌<◌, ◌↔◌, [], All, Bool, List, length, true, false, IfOk, IsTrue, OnOk, OnErr};
-ghost use Rattle.std.specs.Str.{IsUtf8, bytes_eq};
+ghost use Rattle.std.specs.Str.{IsUtf8};
 ghost use Rattle.redl_index.specs.Revisions.{IsTold};
 ghost use Rattle.redl_index.specs.declared.revision.Revision.{Revision};
 ghost use Rattle.redl_listing.specs.Rows.{IsRow, rows_of};
@@ -9,6 +9,7 @@ ghost use Rattle.redl_listing.specs.Formats.{first_named, without_named, IsListe
 ghost use Rattle.redl_listing.specs.declared.row.Row.{Row};
 
 use crate::format::{RowError, RowFormat};
+use crate::named::take_named;
 use crate::row::Row;
 use redl_index::{Index, Revision};
 use redl_io::Text;
@@ -70,26 +71,6 @@ pub fn list(
     add_rows(alloc, &mut format, pkg_names, index.revisions(), verdicts)?;
     finish(&mut format, made)?;
     Ok(true)
-}
-
-/// Takes the first format with this name out.
-fn take_named(formats: &mut Vec<Box<dyn RowFormat>>, name: &str) -> Option<Box<dyn RowFormat>>
-    ensures found { result ≡ first_named (λ format. format_name format) name.now formats.old.items }
-    ensures left { formats.new.items ≡ without_named (λ format. format_name format) name.now formats.old.items }
-{
-    for place in 0..formats.len() {
-        if has_name(&formats[place], name) {
-            return Some(formats.remove(place));
-        }
-    }
-    None
-}
-
-/// Whether the format has this name.
-pub fn has_name(format: &Box<dyn RowFormat>, name: &str) -> bool
-    ensures { result ≡ bytes_eq (format_name format.now) name.now }
-{
-    format.name() == name
 }
 
 /// Gives the format a row for each revision.

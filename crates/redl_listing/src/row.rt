@@ -5,6 +5,7 @@ ghost use Rattle.std.specs.Str.{IsUtf8};
 ghost use Rattle.redl_index.specs.Revisions.{IsTold};
 ghost use Rattle.redl_listing.specs.Rows.{IsRow, row_of};
 
+use crate::piece::Item;
 use redl_index::{RevKind, Revision};
 use redl_io::Text;
 use redl_join::Verdict;
@@ -71,11 +72,14 @@ impl Row {
         self.members = revision.members;
         Ok(())
     }
+}
 
-    /// An equal row. `Err` means out of memory.
-    pub fn copy(&self, alloc: Global) -> Result<Row, AllocError>
-        ensures { IfOk result (λ row. row ≡ self.now) }
-    {
+impl Item for Row {
+    ghost use Rattle.redl_listing.specs.Rows.{IsRow};
+
+    ghost is_item = { IsRow };
+
+    fn copy(&self, alloc: Global) -> Result<Row, AllocError> {
         let author = self.author.copy(alloc)?;
         let part = self.part.copy(alloc)?;
         Ok(Row {

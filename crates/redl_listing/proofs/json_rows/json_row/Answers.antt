@@ -2,7 +2,7 @@
 use Rattle.std.proofs.Common.{rules, ◌≡◌, ◌++◌, List, ℕ, ap, ◌∙◌}
 use Rattle.json.specs.Print.{print}
 use Rattle.redl_listing.proofs.JsonLaws.{row_tokens, row-printed}
-use Rattle.redl_listing.proofs.json_format.json_row.Goals as goal
+use Rattle.redl_listing.proofs.json_rows.json_row.Goals as goal
 
 pub returns : goal.returns
 returns c =

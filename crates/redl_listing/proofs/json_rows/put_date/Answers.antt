@@ -5,7 +5,7 @@ use Rattle.std.specs.Str.{IsUtf8}
 use Rattle.json.specs.Token.{string}
 use Rattle.redl_listing.specs.Texts.{date_token}
 use Rattle.redl_listing.proofs.DateLaws.{moment_text-utf8}
-use Rattle.redl_listing.proofs.json_format.put_date.Goals as goal
+use Rattle.redl_listing.proofs.json_rows.put_date.Goals as goal
 
 pub put_text-requires : goal.put_text-requires
 put_text-requires c =
