@@ -10,6 +10,7 @@ import os
 import sys
 
 import contract
+import page
 import reading
 
 HERE = os.path.dirname(os.path.abspath(__file__))
@@ -172,6 +173,7 @@ def make_contract(folder):
     folder.save("contract.joined.journal", reading.journal(read, reading.in_order(entries)))
     for form in ["text", "tab", "json"]:
         folder.save("contract.list." + form, reading.listed(read, entries, form))
+    folder.save("contract.page.html", page.page(read, entries))
     # Ann accepts all of Cara's changes in one go, but for the two in the sentence on prices.
     of_cara = [number for number, it in enumerate(read.revisions, 1) if it.author == "Cara Lee"]
     book, _ = reading.decide(read, "Ann Gray", CONTRACT_SAYS["ann"], [("accept", of_cara), ("withdraw", [5])])

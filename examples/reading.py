@@ -233,12 +233,13 @@ class Package:
 
     def __init__(self, text):
         self.text, self.nodes = text, parse(text)
-        self.revisions = []
+        self.revisions, self.stories = [], []
         for part in [element for element in elements(self.nodes) if element.local == "part"]:
             for data in [kid for kid in part.kids if isinstance(kid, Element) and kid.local == "xmlData"]:
                 for root in [kid for kid in data.kids if isinstance(kid, Element)]:
                     if root.is_w(*STORIES):
                         root.parent = None
+                        self.stories.append((part.attribute("name"), root))
                         self.number(root, part.attribute("name"))
 
     def number(self, root, part):

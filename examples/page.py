@@ -1,0 +1,284 @@
+"""A second writer of the page that a reviewer opens in a browser, as docs/PROGRAMS.md tells it.
+
+    python3 page.py PACKAGE [--lock AUTHOR ..] [JOURNAL ..]        the page, on standard output
+
+It shares no code with the program but the page's script and style, which are texts of their own. The gate compares the
+program's pages with what this makes of the same files, and the browser's test can run on either.
+"""
+import base64
+import datetime
+import hashlib
+import os
+import re
+import sys
+
+import reading
+
+SKIN = os.path.join(os.path.dirname(os.path.dirname(os.path.abspath(__file__))), "crates", "redline", "page")
+
+REFERENCES = {"&": "&amp;", "<": "&lt;", ">": "&gt;", '"': "&quot;", "'": "&#39;"}
+FORBIDDEN = re.compile("[\x00-\x08\x0b\x0c\x0e-\x1f\x7f]")
+
+
+def escaped(text):
+    """Text from outside, as it stands in the page: five characters as references, and no control character."""
+    return FORBIDDEN.sub("\ufffd", re.sub("[&<>\"']", lambda found: REFERENCES[found.group()], text))
+
+
+# The document
+
+
+def shown(stretch):
+    """The text that a stretch between tags shows."""
+    pieces = re.findall(r"<!--.*?-->|<\?.*?\?>|<!\[CDATA\[.*?\]\]>|[^<]+", stretch, re.S)
+    plain = lambda piece: "".join(reading.decoded(it) if it.startswith("&") else it for it in re.findall("&[^;]*;|[^&]+", piece))
+    return "".join(it[9:-3] if it.startswith("<![CDATA[") else "" if it.startswith("<") else plain(it) for it in pieces)
+
+
+def first_kid(element, local):
+    return next(iter(reading.kids_named(element.kids, local)), None) if element else None
+
+
+def style_of(para):
+    style = first_kid(first_kid(para, "pPr"), "pStyle")
+    return style and style.attribute("val")
+
+
+def has_style(run, local):
+    switch = first_kid(first_kid(run, "rPr"), local)
+    return switch is not None and switch.attribute("val") not in ("0", "false", "off")
+
+
+def holds_blocks(para):
+    return any(it.is_w("p", "tbl") or is_second_form(it) for it in reading.elements(para.kids))
+
+
+def is_second_form(element):
+    return element.space == "other" and element.local == "Fallback"
+
+
+def marks_of(para):
+    runs = [run for props in reading.kids_named(para.kids, "pPr") for run in reading.kids_named(props.kids, "rPr")]
+    return [kid for run in runs for kid in run.kids if isinstance(kid, reading.Element) and kid.role == "mark"]
+
+
+class Page:
+    def __init__(self, package, entries, locks=()):
+        self.package, self.locks = package, locks
+        self.book = reading.admitted(package, entries, locks)
+
+    def author(self, number):
+        return escaped(self.package.revisions[number - 1].author)
+
+    # Members of revisions
+
+    def opened(self, name, sort, number):
+        return '<%s class="%s" data-revision="%d" data-author="%s">' % (name, sort, number, self.author(number))
+
+    def signed(self, element, sort):
+        """The start of the element that shows a member which was inserted, deleted or moved, and its end."""
+        name = "ins" if element.trace in ("inserted", "to") else "del"
+        sort += " move" if element.trace in ("from", "to") else ""
+        return self.opened(name, sort, element.number), "</%s>" % name
+
+    def sign(self, element, sort, word):
+        start, end = self.signed(element, sort)
+        return start + word + end
+
+    def change(self, element):
+        props = self.opened("span", "props", element.number) + element.role + "</span>"
+        if element.role == "table-props":
+            return "<caption>" + props + "</caption>"
+        return edge(props) if element.role in ("row-props", "except-props") else props
+
+    def marker(self, element):
+        sides = {"moveFromRangeStart": ("from", "to", "moved away"), "moveToRangeStart": ("to", "from", "moved here")}
+        if element.local not in sides:
+            return ""
+        here, there, words = sides[element.local]
+        number = element.number
+        link = '<a id="%s-%d" href="#%s-%d" data-revision="%d" data-author="%s">%s</a>'
+        return link % (here, number, there, number, number, self.author(number), words)
+
+    def member(self, element):
+        if element.role == "content":
+            return self.signed(element, "text")
+        if element.role == "mark":
+            return "", ""
+        if element.role == "row":
+            return edge(self.sign(element, "row", "row")), ""
+        if element.role == "cell":
+            return self.sign(element, "cell", "cell"), ""
+        return (self.marker(element) if element.role == "marker" else self.change(element)), ""
+
+    # All elements
+
+    def paragraph(self, element):
+        style = style_of(element)
+        start, end = ('<div class="p"', "</div>\n") if holds_blocks(element) else ("<p", "</p>\n")
+        if style is not None:
+            start += ' data-style="%s"' % escaped(style)
+        return start + ">", "".join(self.sign(mark, "mark", "¶") for mark in marks_of(element)) + end
+
+    def around(self, element):
+        """What stands before and behind what an element holds."""
+        if element.role:
+            return self.member(element)
+        if not reading.is_open(element):
+            return "", ""
+        if is_second_form(element):
+            return "<details><summary>kept in another form</summary>", "</details>"
+        if element.space != "W":
+            return "", ""
+        if element.local == "p":
+            return self.paragraph(element)
+        if element.local == "r":
+            names = [name for name in "bi" if has_style(element, name)]
+            return "".join("<%s>" % it for it in names), "".join("</%s>" % it for it in reversed(names))
+        if element.local in ("footnoteReference", "endnoteReference") or (
+            element.local in ("footnote", "endnote") and element.attribute("type") is None
+        ):
+            return "<sup>%s</sup>" % escaped(element.attribute("id") or ""), ""
+        return FIXED.get(element.local, ("", ""))
+
+    def nodes(self, nodes, parent):
+        out = []
+        for node in nodes:
+            if not isinstance(node, str):
+                start, end = self.around(node)
+                out.append(start + self.nodes(node.kids, node) + end)
+            elif parent.is_w("t", "delText") and reading.is_open(parent):
+                out.append(escaped(shown(node)))
+        return "".join(out)
+
+    def document(self):
+        out = ""
+        for place, (name, root) in enumerate(self.package.stories):
+            heading = "<h2>%s</h2>\n" % escaped(name) if place else ""
+            out += "<section>\n" + heading + self.nodes(root.kids, root) + "</section>\n"
+        return out
+
+    # The list of changes
+
+    def says(self, number):
+        here = [entry for entry in self.book if entry[2] == number]
+        latest = {}
+        for entry in here:
+            latest[entry[0]] = max(entry[1], latest.get(entry[0], 0))
+        say = lambda word, rank, who: '<p data-word="%s" data-rank="%d">%s</p>' % (word, rank, escaped(who))
+        return "".join(say(entry[3], rank_of(entry), entry[0]) for entry in here if entry[1] == latest[entry[0]])
+
+    def row(self, number, revision):
+        date = "-"
+        if revision.date is not None:
+            date = datetime.datetime.fromtimestamp(revision.date, datetime.timezone.utc).strftime("%Y-%m-%dT%H:%M:%SZ")
+        locked = "yes" if reading.refusal(self.package, ("", 1, number, "accept"), self.locks) else "no"
+        values = (number, revision.kind, escaped(revision.author), date, reading.verdict(number, self.book), locked)
+        start = '<li id="revision-%d" data-kind="%s" data-author="%s" data-date="%s" data-verdict="%s" data-locked="%s">'
+        return start % values + self.says(number) + "</li>\n"
+
+    def reviewers(self):
+        greatest = {}
+        for who, sequence, *_ in self.book:
+            greatest[who] = max(sequence, greatest.get(who, 0))
+        return "".join('<li data-sequence="%d">%s</li>\n' % (sequence, escaped(who)) for who, sequence in greatest.items())
+
+
+def edge(inside):
+    return '<td class="edge">' + inside + "</td>"
+
+
+def rank_of(entry):
+    return entry[4] if len(entry) > 4 else 0
+
+
+FIXED = {
+    "tbl": ("<table>\n", "</table>\n"),
+    "tr": ("<tr>", "</tr>\n"),
+    "tc": ("<td>", "</td>"),
+    "txbxContent": ('<span class="box">', "</span>"),
+    "tab": ("\t", ""),
+    "br": ("<br>", ""),
+    "cr": ("<br>", ""),
+    "noBreakHyphen": ("\u2011", ""),
+    "drawing": ('<span class="picture">picture</span>', ""),
+    "pict": ('<span class="picture">picture</span>', ""),
+    "object": ('<span class="picture">picture</span>', ""),
+}
+
+WHOLE = """<!DOCTYPE html>
+<html lang="en">
+<head>
+<meta charset="utf-8">
+<meta http-equiv="Content-Security-Policy" content="{policy}">
+<meta name="viewport" content="width=device-width, initial-scale=1">
+<title>Redline: changes to decide</title>
+<style>{style}</style>
+</head>
+<body data-document="{digest}" data-revisions="{count}">
+<main lang="">
+{document}</main>
+<aside aria-label="Changes">
+<ol>
+{rows}</ol>
+<ul>
+{reviewers}</ul>
+</aside>
+<script>{script}</script>
+</body>
+</html>
+"""
+
+
+def policy(style, script):
+    """The security policy of the page: this style and this script alone, and nothing is ever fetched."""
+    digest = lambda text: "'sha256-%s'" % base64.b64encode(hashlib.sha256(text.encode()).digest()).decode()
+    rules = "default-src 'none'; script-src %s; style-src %s; base-uri 'none'; form-action 'none'; require-trusted-types-for 'script'"
+    return rules % (digest(script), digest(style))
+
+
+def skin():
+    """The policy, the style and the script of the page."""
+    text = lambda name: open(os.path.join(SKIN, name), newline="", encoding="utf-8").read()
+    style, script = text("style.css"), text("script.js")
+    return policy(style, script), style, script
+
+
+def page(package, entries, locks=()):
+    """The page of a package with the entries of journals, as text."""
+    rules, style, script = skin()
+    of = Page(package, entries, locks)
+    values = {
+        "policy": rules,
+        "style": style,
+        "script": script,
+        "digest": hashlib.sha256(package.text.encode()).hexdigest(),
+        "count": str(len(package.revisions)),
+        "document": of.document(),
+        "rows": "".join(of.row(number, it) for number, it in enumerate(package.revisions, 1)),
+        "reviewers": of.reviewers(),
+    }
+    return re.sub("{(%s)}" % "|".join(values), lambda found: values[found.group(1)], WHOLE)
+
+
+def read(name):
+    with open(name, newline="", encoding="utf-8") as file:
+        return file.read()
+
+
+def entries_of(journal):
+    """The entries of a journal's text: reviewer, sequence, revision, word and, in version 2, rank."""
+    lines = [line.split("\t") for line in journal.split("\n")[3:-1]]
+    return [(who, int(sequence), int(revision), word, *map(int, rank)) for sequence, revision, word, *rank, who in lines]
+
+
+def main(words):
+    locks = [words[place + 1] for place, word in enumerate(words) if word == "--lock"]
+    names = [word for place, word in enumerate(words) if word != "--lock" and (place == 0 or words[place - 1] != "--lock")]
+    entries = sum((entries_of(read(name)) for name in names[1:]), [])
+    sys.stdout.reconfigure(encoding="utf-8", newline="")
+    sys.stdout.write(page(reading.Package(read(names[0])), entries, locks))
+
+
+if __name__ == "__main__":
+    main(sys.argv[1:])
