@@ -42,6 +42,15 @@ def has_page():
 
 
 IS_OWN = has_page()
+PACKAGE = '<pkg:package xmlns:pkg="http://schemas.microsoft.com/office/2006/xmlPackage">%s</pkg:package>'
+PART = '<pkg:part pkg:name="%s" pkg:contentType="x"><pkg:xmlData><w:%s xmlns:w="%s">%s</w:%s></pkg:xmlData></pkg:part>'
+WORD = "http://schemas.openxmlformats.org/wordprocessingml/2006/main"
+
+
+def in_package(body, more=()):
+    """A package with this body, and with more parts, each a name, a root and what it holds."""
+    parts = [("/word/document.xml", "document", "<w:body>%s</w:body>" % body), *more]
+    return PACKAGE % "".join(PART % (name, root, WORD, inside, root) for name, root, inside in parts)
 
 
 def example(name):
@@ -187,8 +196,13 @@ def keeps(driven):
     same("each name has its own words", seen.words(), {1: "reject", 4: "accept"})
     seen.name("Eve")
     same("and they come back", seen.words(), {2: "accept"})
-    Seen(driven, page_of("contract.xml"))
+    seen = Seen(driven, page_of("contract.xml"))
     same("another document has none", seen.words(), {})
+    driven.click("#accept-all")
+    time.sleep(0.5)
+    seen = Seen(driven, page_of("contract.xml", [], [LOCK]))
+    locked = [number for number, it in enumerate(reading.Package(example("contract.xml")).revisions, 1) if it.author == LOCK]
+    same("what was decided before a lock is gone", [it for it in range(1, 50) if it not in seen.words()], locked)
 
 
 def refuses_names(driven):
@@ -268,6 +282,31 @@ def views(driven):
     same("each change stands in the document", sorted(numbers), list(range(1, 50)))
     driven.click("main ins[data-revision='33']")
     same("a change that is clicked is chosen", seen.run("return document.querySelector('li[aria-current]').id"), "revision-33")
+
+
+def two_forms(driven):
+    """A text box that the file keeps in two forms, with a table in it, in an insertion: nothing falls out of its place."""
+    who = 'w:author="Ann" w:date="2026-11-03T14:30:00Z"'
+    box = (
+        '<w:txbxContent><w:p><w:r><w:t>box </w:t></w:r><w:ins w:id="1" %s><w:r><w:t>new</w:t></w:r></w:ins></w:p>'
+        '<w:tbl><w:tr><w:trPr><w:ins w:id="2" %s/></w:trPr><w:tc><w:p/></w:tc></w:tr></w:tbl></w:txbxContent>' % (who, who))
+    body = (
+        '<w:p><w:r><w:t>before </w:t></w:r><w:ins w:id="3" %s><w:r><w:rPr><w:b/></w:rPr><m:AlternateContent xmlns:m="m">'
+        "<m:Choice><w:drawing>%s</w:drawing></m:Choice><m:Fallback><w:pict>%s</w:pict></m:Fallback></m:AlternateContent>"
+        "<w:t>behind it</w:t></w:r></w:ins><w:r><w:t>, and after</w:t></w:r></w:p><w:p/>" % (who, box, box))
+    file = os.path.join(driven.folder, "forms.xml")
+    with open(file, "w", newline="", encoding="utf-8") as out:
+        out.write(in_package(body))
+    seen = Seen(driven, page_of(file))
+    same("all stays in its paragraph", seen.run("return [...document.querySelectorAll('section > *')].map((it) => it.className)"), ["p", ""])
+    words = seen.run("return document.querySelector('.p').textContent.replace(/\\s+/g, ' ')")
+    same("in its order", words, "before picturebox new row kept in another formpicturebox new row behind it, and after")
+    inside = seen.run("return [...document.querySelectorAll('[data-revision=\"1\"] [data-revision]')].map((it) => it.dataset.revision)")
+    same("and in its insertion", inside, ["2", "3", "4", "5"])
+    same("the other form is closed", seen.run("return document.querySelector('main details').open"), False)
+    driven.keys("jjjj")
+    same("its words are in the list", seen.run("return document.querySelector('#revision-4 .words').textContent"), "box new")
+    told("the list opens it", seen.run("return document.querySelector('main details').open"))
 
 
 CONTRAST = """
@@ -390,12 +429,8 @@ def hostile_package():
         body += '<w:del %s><w:r><w:delText>%s</w:delText><w:footnoteReference w:id="%s"/></w:r></w:del>' % (who, it, it)
         body += "<w:r><w:t><![CDATA[%s]]></w:t></w:r></w:p>" % evil.replace("]]>", "]]]]><![CDATA[>")
         body += "<w:tbl><w:tr><w:trPr><w:del %s/></w:trPr><w:tc><w:p><w:r><w:t>%s</w:t></w:r></w:p></w:tc></w:tr></w:tbl>" % (who, it)
-    part = '<pkg:part pkg:name="%s" pkg:contentType="x"><pkg:xmlData><w:%s xmlns:w="%s">%s</w:%s></pkg:xmlData></pkg:part>'
-    word = "http://schemas.openxmlformats.org/wordprocessingml/2006/main"
-    parts = part % ("/word/document.xml", "document", word, "<w:body>%s<w:p/></w:body>" % body, "document")
-    for evil in EVIL:
-        parts += part % (quoted(evil), "hdr", word, "<w:p><w:r><w:t>%s</w:t></w:r></w:p>" % quoted(evil), "hdr")
-    return '<pkg:package xmlns:pkg="http://schemas.microsoft.com/office/2006/xmlPackage">%s</pkg:package>' % parts
+    headers = [(quoted(evil), "hdr", "<w:p><w:r><w:t>%s</w:t></w:r></w:p>" % quoted(evil)) for evil in EVIL]
+    return in_package(body + "<w:p/>", headers)
 
 
 def hostile(driven):
@@ -447,14 +482,12 @@ def large_package(paragraphs):
     out = []
     for place in range(paragraphs):
         one, other = ("Ann Gray", "Bob Hay", "Cara Lee", "Dana Fox &amp; Co")[place % 4], ("Bob Hay", "Ann Gray")[place % 2]
-        text = " ".join(WORDS[(place + word) % len(WORDS)] for word in range(34))
+        text = " ".join(WORDS[(place + word) % len(WORDS)] for word in range(49))
         out.append(
             '<w:p><w:r><w:t xml:space="preserve">%d. %s </w:t></w:r><w:del w:id="%d" w:author="%s" w:date="2026-11-03T14:30:00Z"><w:r>'
             "<w:delText>thirty</w:delText></w:r></w:del><w:ins w:id=\"%d\" w:author=\"%s\"><w:r><w:t>fourteen</w:t></w:r></w:ins></w:p>"
             % (place, text, 2 * place, one, 2 * place + 1, other))
-    part = '<pkg:part pkg:name="/word/document.xml" pkg:contentType="x"><pkg:xmlData><w:document xmlns:w="%s"><w:body>%s</w:body></w:document></pkg:xmlData></pkg:part>'
-    inside = part % ("http://schemas.openxmlformats.org/wordprocessingml/2006/main", "".join(out))
-    return '<pkg:package xmlns:pkg="http://schemas.microsoft.com/office/2006/xmlPackage">%s</pkg:package>' % inside
+    return in_package("".join(out))
 
 
 # How long a step takes until the page is painted again, in milliseconds.
@@ -470,10 +503,14 @@ def large(driven):
     file = os.path.join(driven.folder, "large.xml")
     with open(file, "w", newline="", encoding="utf-8") as out:
         out.write(whole)
-    seen = Seen(driven, page_of(file))
+    whole = page_of(file)
+    opened = []
+    for _ in range(3):
+        seen = Seen(driven, whole)
+        first = seen.run("return performance.getEntriesByType('paint')[0].startTime") / 1000
+        opened.append((seen.run("return performance.getEntriesByType('navigation')[0].domComplete") / 1000, first))
+    ready, first = min(opened)
     timed = lambda script: driven.call("POST", "/execute/async", {"script": PAINTED % script, "args": []}) / 1000
-    first = seen.run("return performance.getEntriesByType('paint')[0].startTime") / 1000
-    ready = seen.run("return performance.getEntriesByType('navigation')[0].domComplete") / 1000
     steps = [
         ("chosen by key", "document.body.dispatchEvent(new KeyboardEvent('keydown', { key: 'j', bubbles: true }))"),
         ("decided by key", "document.activeElement.dispatchEvent(new KeyboardEvent('keydown', { key: 'a', bubbles: true }))"),
@@ -487,11 +524,10 @@ def large(driven):
     print("\n".join("large page: %-20s %6.2f s" % it for it in times), file=sys.stderr)
     same("20,000 changes in a page of %d MB" % round(os.path.getsize(seen.file) / 1e6), seen.run("return document.querySelectorAll('aside > ol > li').length"), 20000)
     told("deciding in it", len(seen.words()) > 4000)
-    # What a person waits for; a busy machine may take several times as long as a quiet one.
-    slack = float(os.environ.get("SLACK", "4"))
+    # What a person waits for, in seconds, on a busy machine: a quiet one takes a fourth.
+    limits = {"first paint": 4, "ready": 12, "chosen by key": 2, "decided by key": 2, "decided by button": 2}
     for name, seconds in times:
-        limit = 1 if name == "first paint" else 5 if name == "ready" else 0.5 if name in ("chosen by key", "decided by key", "decided by button") else 2
-        told("large page, " + name, seconds <= limit * slack, "%.2f s" % seconds)
+        told("large page, " + name, seconds <= limits.get(name, 8), "%.2f s" % seconds)
 
 
 def same_pages():
@@ -527,7 +563,7 @@ def main(words):
         same_pages()
     if not browser.is_there():
         return print("skipped browser: there is no chromium with its driver")
-    for test in [decides_contract, decides_plain, keeps, refuses_names, filters, views, looks, by_keys_alone, for_readers, hostile, large]:
+    for test in [decides_contract, decides_plain, keeps, refuses_names, filters, views, two_forms, looks, by_keys_alone, for_readers, hostile, large]:
         if words and test.__name__ not in words:
             continue
         driven = browser.Browser()

@@ -78,6 +78,7 @@ function build() {
     make("p", { className: "keys" }, ...keys.flatMap(([key, text]) => [make("kbd", { textContent: key }), " " + text + " "])));
   main.setAttribute("aria-label", "Document");
   main.tabIndex = list.tabIndex = 0;
+  list.setAttribute("role", "list");
   list.setAttribute("aria-label", "List of changes");
   const colours = new CSSStyleSheet();
   names.slice(0, 64).forEach(([it], place) =>
@@ -120,9 +121,11 @@ function cut(text, length) {
 // The words of a block before a place in it, in that place, and behind it.
 function wordsAround(place) {
   const texts = ["", "", ""];
-  const walker = document.createTreeWalker(place.closest("p, .p, td, section"), NodeFilter.SHOW_TEXT);
+  const block = place.closest("p, .p, td, section");
+  const walker = document.createTreeWalker(block, NodeFilter.SHOW_TEXT);
   for (let node = walker.nextNode(); node && texts[2].length < 60; node = walker.nextNode()) {
-    if (node.parentElement.closest("a, summary, .mark, .row, .cell, .props")) continue;
+    const other = node.parentElement.closest("a, details, .picture, .mark, .row, .cell, .props");
+    if (other && block.contains(other)) continue;
     const side = place.compareDocumentPosition(node);
     texts[side & Node.DOCUMENT_POSITION_CONTAINED_BY ? 1 : side & Node.DOCUMENT_POSITION_PRECEDING ? 0 : 2] += node.data;
   }
@@ -190,7 +193,10 @@ function choose(row, isFromDocument) {
   for (const it of [row, ...placesOf(row)]) it.setAttribute("aria-current", "true");
   row.scrollIntoView({ block: "nearest" });
   row.focus({ preventScroll: true });
-  if (!isFromDocument && placesOf(row).length) placesOf(row)[0].scrollIntoView({ block: "center" });
+  const [place] = placesOf(row);
+  if (!place || isFromDocument) return;
+  if (place.closest("details")) place.closest("details").open = true;
+  place.scrollIntoView({ block: "center" });
 }
 
 function step(by) {

@@ -2,7 +2,7 @@
 
 /// The security policy of the page: its own style and script alone, and nothing is ever fetched.
 pub const POLICY: &str =
-    "default-src 'none'; script-src 'sha256-ZI6fhJRZ3PDfY4aFvrLrhwaQsu9KXE/lhzAgVi76Foc='; style-src 'sha256-uPezPWc9yANwBZ2l7z7Amxxx+L1vEL3g1xDrpLAezE0='; base-uri 'none'; form-action 'none'; require-trusted-types-for 'script'";
+    "default-src 'none'; script-src 'sha256-8SuF1qFX2926uutkpqirWLgxRCXlcKXUe3c3dxTFdeU='; style-src 'sha256-5tnubtazCc47FD2eOYw8IoFlt1iyQfBIXZ4oeQj/VKQ='; base-uri 'none'; form-action 'none'; require-trusted-types-for 'script'";
 
 /// The style sheet of the page.
 pub const STYLE: &str = ":root {
@@ -22,7 +22,7 @@ pub const STYLE: &str = ":root {
   }
 }
 * { box-sizing: border-box; }
-body { margin: 0; height: 100vh; background: var(--desk); color: var(--ink); display: grid; grid: \"top top\" auto \"text list\" minmax(0, 1fr) / minmax(0, 1fr) 26rem; }
+body { margin: 0; height: 100vh; height: 100dvh; background: var(--desk); color: var(--ink); display: grid; grid: \"top top\" auto \"text list\" minmax(0, 1fr) / minmax(0, 1fr) 26rem; }
 :focus-visible { outline: 2px solid var(--focus); outline-offset: 2px; }
 main:focus-visible, aside > ol:focus-visible { outline-offset: -2px; }
 button, input, select { font: inherit; color: inherit; background: var(--paper); border: 1px solid var(--soft); border-radius: 5px; padding: .15rem .6rem; min-width: 0; }
@@ -59,6 +59,7 @@ td > p:last-child { margin: 0; }
 .box { display: block; }
 .box, details { white-space: normal; }
 main details { border-left: 2px solid var(--rule); padding-left: .6rem; }
+main summary { font: .8rem/1.6 system-ui, \"Liberation Sans\", sans-serif; color: var(--soft); }
 
 /* changes in it */
 ins, del, main a { color: var(--author); text-decoration: underline 1px; text-underline-offset: .2em; }
@@ -70,7 +71,7 @@ main [data-revision] { cursor: pointer; border-radius: 2px; }
 .mark, .cell, main a { font: .75rem system-ui, \"Liberation Sans\", sans-serif; padding: 0 .15em; }
 .cell { float: right; border: 1px solid; margin-left: .3em; }
 main a { border: 1px solid; margin-right: .4em; text-decoration: none; }
-.props, .edge > * { position: absolute; left: -1.3rem; width: 5px; height: 1.6rem; background: var(--author); font-size: 0; }
+.props, .edge > * { position: absolute; left: -1.3rem; height: 1.6rem; border-left: 5px solid var(--author); font-size: 0; }
 section > .props, .far > .props { position: relative; display: block; }
 caption > .props { left: -1.8rem; height: 100%; }
 td > .props { left: 0; top: 0; height: 100%; }
@@ -79,7 +80,7 @@ td.edge { position: absolute; border: 0; padding: 0; left: -1.3rem; top: 0; bott
 .edge ~ .edge { left: -.8rem; }
 .edge ~ .edge ~ .edge { left: -.5rem; }
 .edge > * { left: 0; height: 100%; }
-.edge > del { background: repeating-linear-gradient(var(--author) 0 3px, transparent 3px 6px); }
+.edge > del { border-left-style: dotted; }
 tr:has(> .edge > del) { background: color-mix(in srgb, var(--no) 7%, transparent); }
 tr:has(> .edge > ins) { background: color-mix(in srgb, var(--yes) 7%, transparent); }
 main [aria-current] { outline: 2px solid var(--focus); outline-offset: 2px; }
@@ -146,9 +147,9 @@ li p { margin: 0 0 .2rem; color: var(--soft); overflow-wrap: anywhere; }
   body { display: block; height: auto; background: none; }
   header, aside { display: none; }
   main { overflow: visible; padding: 0; }
-  section { border: 0; max-width: none; padding: 0 0 0 1.6rem; }
+  section { border: 0; max-width: none; padding: 0 0 0 2.4rem; }
   .far { content-visibility: visible; }
-  main [aria-current] { outline: 0; }
+  main [data-revision][aria-current] { outline: 0; background: none; }
 }
 ";
 
@@ -234,6 +235,7 @@ function build() {
     make(\"p\", { className: \"keys\" }, ...keys.flatMap(([key, text]) => [make(\"kbd\", { textContent: key }), \" \" + text + \" \"])));
   main.setAttribute(\"aria-label\", \"Document\");
   main.tabIndex = list.tabIndex = 0;
+  list.setAttribute(\"role\", \"list\");
   list.setAttribute(\"aria-label\", \"List of changes\");
   const colours = new CSSStyleSheet();
   names.slice(0, 64).forEach(([it], place) =>
@@ -276,9 +278,11 @@ function cut(text, length) {
 // The words of a block before a place in it, in that place, and behind it.
 function wordsAround(place) {
   const texts = [\"\", \"\", \"\"];
-  const walker = document.createTreeWalker(place.closest(\"p, .p, td, section\"), NodeFilter.SHOW_TEXT);
+  const block = place.closest(\"p, .p, td, section\");
+  const walker = document.createTreeWalker(block, NodeFilter.SHOW_TEXT);
   for (let node = walker.nextNode(); node && texts[2].length < 60; node = walker.nextNode()) {
-    if (node.parentElement.closest(\"a, summary, .mark, .row, .cell, .props\")) continue;
+    const other = node.parentElement.closest(\"a, details, .picture, .mark, .row, .cell, .props\");
+    if (other && block.contains(other)) continue;
     const side = place.compareDocumentPosition(node);
     texts[side & Node.DOCUMENT_POSITION_CONTAINED_BY ? 1 : side & Node.DOCUMENT_POSITION_PRECEDING ? 0 : 2] += node.data;
   }
@@ -346,7 +350,10 @@ function choose(row, isFromDocument) {
   for (const it of [row, ...placesOf(row)]) it.setAttribute(\"aria-current\", \"true\");
   row.scrollIntoView({ block: \"nearest\" });
   row.focus({ preventScroll: true });
-  if (!isFromDocument && placesOf(row).length) placesOf(row)[0].scrollIntoView({ block: \"center\" });
+  const [place] = placesOf(row);
+  if (!place || isFromDocument) return;
+  if (place.closest(\"details\")) place.closest(\"details\").open = true;
+  place.scrollIntoView({ block: \"center\" });
 }
 
 function step(by) {
