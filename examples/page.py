@@ -17,7 +17,8 @@ import reading
 SKIN = os.path.join(os.path.dirname(os.path.dirname(os.path.abspath(__file__))), "crates", "redline", "page")
 
 REFERENCES = {"&": "&amp;", "<": "&lt;", ">": "&gt;", '"': "&quot;", "'": "&#39;"}
-FORBIDDEN = re.compile("[\x00-\x08\x0b\x0c\x0e-\x1f\x7f]")
+# The control characters that HTML doesn't allow.
+FORBIDDEN = re.compile("[\x00-\x08\x0b\x0e-\x1f\x7f-\x9f]")
 
 
 def escaped(text):
@@ -118,7 +119,7 @@ class Page:
         start, end = ('<div class="p"', "</div>\n") if holds_blocks(element) else ("<p", "</p>\n")
         if style is not None:
             start += ' data-style="%s"' % escaped(style)
-        return start + ">", "".join(self.sign(mark, "mark", "¶") for mark in marks_of(element)) + end
+        return start + ">", "".join(self.sign(mark, "mark", "&para;") for mark in marks_of(element)) + end
 
     def around(self, element):
         """What stands before and behind what an element holds."""
@@ -200,7 +201,7 @@ FIXED = {
     "tab": ("\t", ""),
     "br": ("<br>", ""),
     "cr": ("<br>", ""),
-    "noBreakHyphen": ("\u2011", ""),
+    "noBreakHyphen": ("&#8209;", ""),
     "drawing": ('<span class="picture">picture</span>', ""),
     "pict": ('<span class="picture">picture</span>', ""),
     "object": ('<span class="picture">picture</span>', ""),

@@ -410,6 +410,8 @@ EVIL = [
     "url(//evil.example/x)}*{background:url(//evil.example/y)",
     "\"]{}*{color:red}",
 ]
+# Control characters, and what they are shown as.
+CONTROLS, CONTROLS_SHOWN = "a\x7fb\u0085c\u009fd", "a\ufffdb\ufffdc\ufffdd"
 NAMES = {"class", "data-revision", "data-author", "data-style", "id", "href", "data-say", "aria-current", "lang", "role", "aria-level", "aria-label", "tabindex"}
 
 
@@ -429,6 +431,7 @@ def hostile_package():
         body += '<w:del %s><w:r><w:delText>%s</w:delText><w:footnoteReference w:id="%s"/></w:r></w:del>' % (who, it, it)
         body += "<w:r><w:t><![CDATA[%s]]></w:t></w:r></w:p>" % evil.replace("]]>", "]]]]><![CDATA[>")
         body += "<w:tbl><w:tr><w:trPr><w:del %s/></w:trPr><w:tc><w:p><w:r><w:t>%s</w:t></w:r></w:p></w:tc></w:tr></w:tbl>" % (who, it)
+    body += "<w:p><w:r><w:t>%s</w:t></w:r></w:p>" % CONTROLS
     headers = [(quoted(evil), "hdr", "<w:p><w:r><w:t>%s</w:t></w:r></w:p>" % quoted(evil)) for evil in EVIL]
     return in_package(body + "<w:p/>", headers)
 
@@ -461,6 +464,8 @@ def hostile(driven):
     same("no strange element", elements - {"section", "h2", "p", "ins", "del", "sup", "table", "tbody", "tr", "td"}, set())
     texts = seen.run("return [...document.querySelectorAll('main ins.text')].map((it) => it.textContent)")
     same("hostile texts are texts", texts, EVIL)
+    texts = seen.run("return [...document.querySelectorAll('main p')].map((it) => it.textContent)")
+    told("control characters are seen as such", CONTROLS_SHOWN in texts)
     texts = seen.run("return [...document.querySelectorAll('h2')].map((it) => it.textContent)")
     same("hostile names of parts are texts", texts, EVIL)
     styles = seen.run("return [...document.querySelectorAll('main [data-style]')].map((it) => it.dataset.style)")
