@@ -14,6 +14,8 @@ import sys
 
 import reading
 
+# What the page shows besides texts and changes: the styles of paragraphs, bold and italic runs, the signs of notes.
+SHOWS = ("styles", "runs", "notes")
 SKIN = os.path.join(os.path.dirname(os.path.dirname(os.path.abspath(__file__))), "crates", "redline", "page")
 
 REFERENCES = {"&": "&amp;", "<": "&lt;", ">": "&gt;", '"': "&quot;", "'": "&#39;"}
@@ -42,7 +44,7 @@ def first_kid(element, local):
 
 def style_of(para):
     style = first_kid(first_kid(para, "pPr"), "pStyle")
-    return style and style.attribute("val")
+    return style.attribute("val") if style and "styles" in SHOWS else None
 
 
 def has_style(run, local):
@@ -134,11 +136,10 @@ class Page:
         if element.local == "p":
             return self.paragraph(element)
         if element.local == "r":
-            names = [name for name in "bi" if has_style(element, name)]
+            names = [name for name in "bi" if "runs" in SHOWS and has_style(element, name)]
             return "".join("<%s>" % it for it in names), "".join("</%s>" % it for it in reversed(names))
-        if element.local in ("footnoteReference", "endnoteReference") or (
-            element.local in ("footnote", "endnote") and element.attribute("type") is None
-        ):
+        is_note = element.is_w("footnote", "endnote") and element.attribute("type") is None
+        if "notes" in SHOWS and (is_note or element.is_w("footnoteReference", "endnoteReference")):
             return "<sup>%s</sup>" % escaped(element.attribute("id") or ""), ""
         return FIXED.get(element.local, ("", ""))
 
