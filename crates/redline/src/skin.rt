@@ -2,7 +2,7 @@
 
 /// The security policy of the page: its own style and script alone, and nothing is ever fetched.
 pub const POLICY: &str =
-    "default-src 'none'; script-src 'sha256-8SuF1qFX2926uutkpqirWLgxRCXlcKXUe3c3dxTFdeU='; style-src 'sha256-5tnubtazCc47FD2eOYw8IoFlt1iyQfBIXZ4oeQj/VKQ='; base-uri 'none'; form-action 'none'; require-trusted-types-for 'script'";
+    "default-src 'none'; script-src 'sha256-+bYmbcxoUUWNnY6wkx+AvreMZP2T0eGgnIfWF42iaFM='; style-src 'sha256-5tnubtazCc47FD2eOYw8IoFlt1iyQfBIXZ4oeQj/VKQ='; base-uri 'none'; form-action 'none'; require-trusted-types-for 'script'";
 
 /// The style sheet of the page.
 pub const STYLE: &str = ":root {
@@ -272,7 +272,7 @@ function placesOf(row) {
 }
 
 function cut(text, length) {
-  return text.length > length ? text.slice(0, length).replace(/\\s\\S*$/, \"\") + \"…\" : text;
+  return text.length > length ? text.slice(0, length).replace(/\\s\\S*$/, \"\") + \"\\u2026\" : text;
 }
 
 // The words of a block before a place in it, in that place, and behind it.
@@ -287,7 +287,7 @@ function wordsAround(place) {
     texts[side & Node.DOCUMENT_POSITION_CONTAINED_BY ? 1 : side & Node.DOCUMENT_POSITION_PRECEDING ? 0 : 2] += node.data;
   }
   const [before, words, after] = texts.map((it) => it.replace(/\\s+/g, \" \"));
-  return [before.length > 32 ? \"…\" + before.slice(-32).replace(/^\\S*\\s/, \"\") : before, cut(words, 120), cut(after, 32)];
+  return [before.length > 32 ? \"\\u2026\" + before.slice(-32).replace(/^\\S*\\s/, \"\") : before, cut(words, 120), cut(after, 32)];
 }
 
 // What a change is about: its own words between those around it, or the texts of its row or cell.
@@ -301,7 +301,7 @@ function excerpt(row) {
     made.append(make(place.localName, { textContent: cut(texts.join(\" | \"), 120) || \"empty\" }));
   } else if (place) {
     const [before, words, after] = wordsAround(place);
-    const sign = place.matches(\".mark\") ? \"¶\" : place.matches(\".props\") ? \"▎\" : \"…\";
+    const sign = place.matches(\".mark\") ? \"\\u00b6\" : place.matches(\".props\") ? \"\\u258e\" : \"\\u2026\";
     made.append(before, make(place.localName, { textContent: words.trim() ? words : sign }), after);
   }
   return made;
