@@ -7,6 +7,7 @@ The pages are those of the program that REDLINE names, where it has the command 
 What a journal comes to is the program's `write`, else that of examples/reading.py.
 """
 import os
+import re
 import subprocess
 import sys
 import time
@@ -282,6 +283,23 @@ def views(driven):
     same("each change stands in the document", sorted(numbers), list(range(1, 50)))
     driven.click("main ins[data-revision='33']")
     same("a change that is clicked is chosen", seen.run("return document.querySelector('li[aria-current]').id"), "revision-33")
+
+
+def read_whole(driven):
+    """The browser makes of each page what its text says: no element of a change is dropped or put elsewhere."""
+    for name in ["contract.xml", "plain.xml", "letter.xml", "terms.xml", "joins.xml", "properties.xml", "rows.xml", "moves.xml"]:
+        whole = page_of(name)
+        seen = Seen(driven, whole)
+        depth, nest = 0, []
+        for tag in re.findall(r"<(/?)([a-z0-9]+)([^>]*)>", whole.decode().split("<main lang=\"\">")[1].split("</main>")[0]):
+            depth += -1 if tag[0] else 0
+            if "data-revision" in tag[2]:
+                nest.append([depth, tag[1]])
+            depth += 0 if tag[0] or tag[1] in ("br",) else 1
+        came = seen.run(
+            "const depth = (it) => it.matches('main') ? 0 : 1 + depth(it.parentElement) - (it.matches('tbody') ? 1 : 0);"
+            "return [...document.querySelectorAll('main [data-revision]')].map((it) => [depth(it) - 1, it.localName])")
+        same("read whole: " + name, came, nest)
 
 
 def two_forms(driven):
@@ -568,7 +586,7 @@ def main(words):
         same_pages()
     if not browser.is_there():
         return print("skipped browser: there is no chromium with its driver")
-    for test in [decides_contract, decides_plain, keeps, refuses_names, filters, views, two_forms, looks, by_keys_alone, for_readers, hostile, large]:
+    for test in [decides_contract, decides_plain, keeps, refuses_names, filters, views, read_whole, two_forms, looks, by_keys_alone, for_readers, hostile, large]:
         if words and test.__name__ not in words:
             continue
         driven = browser.Browser()
