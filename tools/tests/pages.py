@@ -303,15 +303,15 @@ def read_whole(driven):
 
 
 def two_forms(driven):
-    """A text box that the file keeps in two forms, with a table in it, in an insertion: nothing falls out of its place."""
+    """A text box that the file keeps in two forms, with a table in it: nothing behind it falls out of the paragraph."""
     who = 'w:author="Ann" w:date="2026-11-03T14:30:00Z"'
     box = (
         '<w:txbxContent><w:p><w:r><w:t>box </w:t></w:r><w:ins w:id="1" %s><w:r><w:t>new</w:t></w:r></w:ins></w:p>'
-        '<w:tbl><w:tr><w:trPr><w:ins w:id="2" %s/></w:trPr><w:tc><w:p/></w:tc></w:tr></w:tbl></w:txbxContent>' % (who, who))
+        '<w:tbl><w:tr><w:trPr><w:ins w:id="2" %s/></w:trPr><w:tc><w:p/></w:tc></w:tr></w:tbl><w:p/></w:txbxContent>' % (who, who))
     body = (
-        '<w:p><w:r><w:t>before </w:t></w:r><w:ins w:id="3" %s><w:r><w:rPr><w:b/></w:rPr><m:AlternateContent xmlns:m="m">'
-        "<m:Choice><w:drawing>%s</w:drawing></m:Choice><m:Fallback><w:pict>%s</w:pict></m:Fallback></m:AlternateContent>"
-        "<w:t>behind it</w:t></w:r></w:ins><w:r><w:t>, and after</w:t></w:r></w:p><w:p/>" % (who, box, box))
+        '<w:p><w:r><w:t>before </w:t></w:r><w:r><w:rPr><w:b/></w:rPr><m:AlternateContent xmlns:m="m"><m:Choice><w:drawing>%s</w:drawing></m:Choice>'
+        "<m:Fallback><w:pict>%s</w:pict></m:Fallback></m:AlternateContent><w:t>behind it</w:t></w:r>"
+        '<w:ins w:id="3" %s><w:r><w:t>, and after</w:t></w:r></w:ins></w:p><w:p/>' % (box, box, who))
     file = os.path.join(driven.folder, "forms.xml")
     with open(file, "w", newline="", encoding="utf-8") as out:
         out.write(in_package(body))
@@ -319,11 +319,11 @@ def two_forms(driven):
     same("all stays in its paragraph", seen.run("return [...document.querySelectorAll('section > *')].map((it) => it.className)"), ["p", ""])
     words = seen.run("return document.querySelector('.p').textContent.replace(/\\s+/g, ' ')")
     same("in its order", words, "before picturebox new row kept in another formpicturebox new row behind it, and after")
-    inside = seen.run("return [...document.querySelectorAll('[data-revision=\"1\"] [data-revision]')].map((it) => it.dataset.revision)")
-    same("and in its insertion", inside, ["2", "3", "4", "5"])
+    inside = seen.run("return [...document.querySelectorAll('section > .p [data-revision]')].map((it) => it.dataset.revision)")
+    same("with its changes", inside, ["1", "2", "3", "4", "5"])
     same("the other form is closed", seen.run("return document.querySelector('main details').open"), False)
-    driven.keys("jjjj")
-    same("its words are in the list", seen.run("return document.querySelector('#revision-4 .words').textContent"), "box new")
+    driven.keys("jjj")
+    same("its words are in the list", seen.run("return document.querySelector('#revision-3 .words').textContent"), "box new")
     told("the list opens it", seen.run("return document.querySelector('main details').open"))
 
 
