@@ -1,0 +1,24 @@
+//! One hint, as a line.
+
+ghost use Rattle.std.specs.Prelude.{◌≡◌, ◌++◌, codes, OnOk};
+
+use std::alloc::AllocError;
+
+/// Adds the line of a hint with this text. `Err` means out of memory.
+pub(crate) fn add_hint(hints: &mut Vec<u8>, text: &str) -> Result<(), AllocError>
+    ensures { OnOk result (hints.new.items ≡ ((hints.old.items ++ codes "redline: hint: ") ++ text.now) ++ codes "\n") }
+{
+    hints.extend_from_slice(b"redline: hint: ")?;
+    hints.extend_from_slice(text.as_bytes())?;
+    hints.extend_from_slice(b"\n")
+}
+
+/// Adds the line of a hint with this text and, after it, a name. `Err` means out of memory.
+pub(crate) fn add_hint_on(hints: &mut Vec<u8>, text: &str, name: &str) -> Result<(), AllocError>
+    ensures { OnOk result (hints.new.items ≡ (((hints.old.items ++ codes "redline: hint: ") ++ text.now) ++ name.now) ++ codes "\n") }
+{
+    hints.extend_from_slice(b"redline: hint: ")?;
+    hints.extend_from_slice(text.as_bytes())?;
+    hints.extend_from_slice(name.as_bytes())?;
+    hints.extend_from_slice(b"\n")
+}

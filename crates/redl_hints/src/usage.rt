@@ -1,0 +1,158 @@
+//! Words that are no command.
+
+use crate::hint::{add_hint, add_hint_on};
+use crate::selections::fault_of_selection;
+use redl_io::Text;
+use std::alloc::{AllocError, Global};
+use strsim::levenshtein;
+
+// Longer words are not compared with names.
+const LONGEST: usize = 24;
+
+/// Adds hints on words that are no command, by the program's help. `Err` means out of memory.
+pub(crate) fn add_usage_hints(
+    alloc: Global,
+    words: &[Text],
+    help: &str,
+    hints: &mut Vec<u8>,
+) -> Result<(), AllocError> {
+    if let Some(first) = words.first() {
+        add_command_hint(alloc, text_of(first), help, hints)?;
+    }
+    add_option_hints(alloc, words, help, hints)?;
+    add_selection_hints(words, help, hints)?;
+    add_hint(hints, "see redline --help")
+}
+
+fn text_of(word: &Text) -> &str {
+    std::str::from_utf8(word.as_bytes()).unwrap_or("")
+}
+
+// The forms of the command with this name, or the command with the nearest name.
+fn add_command_hint(
+    alloc: Global,
+    name: &str,
+    help: &str,
+    hints: &mut Vec<u8>,
+) -> Result<(), AllocError> {
+    let mut names = Vec::new(alloc);
+    let mut is_known = false;
+    for line in help.lines() {
+        if let Some(usage) = usage_of(line) {
+            let command = first_word(usage);
+            names.push(command)?;
+            if command == name {
+                is_known = true;
+                add_hint_on(hints, "usage: redline ", usage)?;
+            }
+        }
+    }
+    if is_known {
+        return Ok(());
+    }
+    add_nearest(alloc, name, &names, "the nearest command is ", hints)
+}
+
+// The words of a command in its line of the help: what comes before a gap.
+fn usage_of(line: &str) -> Option<&str> {
+    let (usage, _) = line.strip_prefix("  redline ")?.split_once("  ")?;
+    Some(usage)
+}
+
+fn first_word(text: &str) -> &str {
+    match text.split_once(' ') {
+        Some((first, _)) => first,
+        None => text,
+    }
+}
+
+// A hint for each word that is written like an option and is none.
+fn add_option_hints(
+    alloc: Global,
+    words: &[Text],
+    help: &str,
+    hints: &mut Vec<u8>,
+) -> Result<(), AllocError> {
+    let mut names = Vec::new(alloc);
+    for word in help.split(' ') {
+        if let Some(name) = option_in(word) {
+            names.push(name)?;
+        }
+    }
+    for word in words {
+        add_option_hint(alloc, text_of(word), &names, hints)?;
+    }
+    Ok(())
+}
+
+// The option that a word of the help names, without what follows it.
+fn option_in(word: &str) -> Option<&str> {
+    if !word.starts_with("--") {
+        return None;
+    }
+    let end = word.trim_end_matches(|c: char| !c.is_ascii_alphabetic());
+    if end.is_empty() { None } else { Some(end) }
+}
+
+fn add_option_hint(
+    alloc: Global,
+    word: &str,
+    names: &[&str],
+    hints: &mut Vec<u8>,
+) -> Result<(), AllocError> {
+    if !word.starts_with("--") || names.iter().any(|name| *name == word) {
+        return Ok(());
+    }
+    match word.split_once('=') {
+        Some((name, _)) if names.iter().any(|known| *known == name) => {
+            add_hint_on(
+                hints,
+                "the value is a word of its own, with a space before it: ",
+                name,
+            )
+        }
+        _ => add_nearest(alloc, word, names, "the nearest option is ", hints),
+    }
+}
+
+// A hint that names the nearest of some names, where two letters or fewer differ.
+fn add_nearest(
+    alloc: Global,
+    word: &str,
+    names: &[&str],
+    text: &str,
+    hints: &mut Vec<u8>,
+) -> Result<(), AllocError> {
+    let mut nearest = None;
+    let mut least = 3;
+    if word.len() > LONGEST {
+        return Ok(());
+    }
+    for name in names {
+        let distance = levenshtein(alloc, word, name)?;
+        if distance < least {
+            least = distance;
+            nearest = Some(*name);
+        }
+    }
+    match nearest {
+        Some(name) => add_hint_on(hints, text, name),
+        None => Ok(()),
+    }
+}
+
+// A hint for each selection that is probably wrong.
+fn add_selection_hints(words: &[Text], help: &str, hints: &mut Vec<u8>) -> Result<(), AllocError> {
+    for pair in words.windows(2) {
+        if takes_selection(text_of(&pair[0])) {
+            if let Some(fault) = fault_of_selection(help, text_of(&pair[1])) {
+                add_hint(hints, fault)?;
+            }
+        }
+    }
+    Ok(())
+}
+
+fn takes_selection(option: &str) -> bool {
+    matches!(option, "--accept" | "--reject" | "--withdraw")
+}
