@@ -1,7 +1,8 @@
 //! The program: real files, standard output and standard error, and the words of the command line.
 //!
-//! All that it does is a call of `run`, whose clauses say what goes out and which exit status comes when. Only where
-//! `--help` or `--version` is the one word, it writes a text of its own.
+//! All that it does is a call of `run`, whose clauses say what goes out and which exit status comes when; hints follow the
+//! lines that the call told. Only where the words ask for help or for the version, or there are none, it writes a text of its
+//! own.
 //! The words are copied first; a word that isn't UTF-8 ends the program before the call. Then the formats of listings are
 //! made; where memory runs out there, the program ends as it does for the words.
 #![tactic(auto)]
@@ -14,6 +15,7 @@ ghost use Rattle.std.specs.Vec.Iter.{into_iter_items};
 
 use help::{HELP, VERSION};
 use redl_app::{Status, WordsError, add_word, refuse_words, run, tell_text};
+use redl_hints::{Told, tell_hints};
 use redl_io::{FileShelf, Shelf, Sink, StdSink, Text};
 use redl_listing::{JsonFormat, TabFormat, TextFormat, add_format};
 use std::alloc::{AllocError, Global};
@@ -26,15 +28,30 @@ use std::rt::Env;
 fn main(rt: HostRuntime) -> ExitCode {
     let mut shelf = FileShelf::new(&rt);
     let mut out = StdSink::new(rt.stdout());
-    let mut err = StdSink::new(rt.stderr());
+    let mut err = Told::new(rt.alloc(), StdSink::new(rt.stderr()));
     let status = match read_words(&rt) {
         Ok(words) => match own_text(&words) {
             Some(text) => tell_text(rt.alloc(), text, &mut out, &mut err),
-            None => run_words(rt.alloc(), &words, &mut shelf, &mut out, &mut err),
+            None => run_with_hints(rt.alloc(), &words, &mut shelf, &mut out, &mut err),
         },
         Err(error) => refuse_words(error, &mut err),
     };
     ExitCode::from(status.code())
+}
+
+// Does what the words ask, and then tells what probably went wrong.
+fn run_with_hints<F: Shelf, O: Sink, E: Sink>(
+    alloc: Global,
+    words: &[Text],
+    shelf: &mut F,
+    out: &mut O,
+    err: &mut Told<E>,
+) -> Status
+    requires { All IsUtf8 words.now }
+{
+    let status = run_words(alloc, words, shelf, out, err);
+    tell_hints(alloc, words, HELP, shelf, err);
+    status
 }
 
 // Does what the words ask, with the formats of listings.
@@ -70,13 +87,20 @@ fn run_with_formats<F: Shelf, O: Sink, E: Sink>(
     Ok(run(alloc, words, shelf, out, err, &mut formats))
 }
 
-// What the program tells of itself, where the words ask for that alone.
+// What the program tells of itself, where the words ask for that alone, or where there are none.
 fn own_text(words: &[Text]) -> Option<&'static str> {
     match words {
-        [word] if word.as_bytes() == b"--help".as_slice() => Some(HELP),
+        [] => Some(HELP),
         [word] if word.as_bytes() == b"--version".as_slice() => Some(VERSION),
+        [word] if asks_for_help(word) => Some(HELP),
+        [_, word] if word.as_bytes() == b"--help".as_slice() => Some(HELP),
         _ => None,
     }
+}
+
+fn asks_for_help(word: &Text) -> bool {
+    let word = word.as_bytes();
+    word == b"--help".as_slice() || word == b"-h".as_slice() || word == b"help".as_slice()
 }
 
 // The words of the command line.
