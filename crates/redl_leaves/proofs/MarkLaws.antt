@@ -1,0 +1,58 @@
+-- Tests over nodes, a node at a time.
+use Prim.Native.String.{String}
+use Rattle.std.proofs.Common.{◌≡◌, ◌<◌, ◌+◌, ℕ, List, length, get_or, drop, Bool, true, false, refl, sym, ap, ◌∙◌, ◌&&◌, ◌||◌, if◌then◌else◌}
+use Rattle.std.proofs.Math.Bool.{or_assoc}
+use Rattle.redl_tree.specs.Model.Nodes.{Tag, Nodes, no_nodes, bytes, element, Item, bytes_item, element_item, in_front, ◌⊕◌}
+use Rattle.redl_tree.specs.Model.Kids.{some_element, kids_of_all}
+use Rattle.redl_tree.specs.Model.View.{nodes_of, item_of}
+use Rattle.redl_tree.specs.Roles.Names.{is}
+use Rattle.redl_tree.specs.Roles.Kinds.{is_mark}
+use Rattle.redl_tree.specs.Leaves.Slots.{has_mark}
+use Rattle.redl_tree.specs.declared.node.Node.{Node}
+use Rattle.redl_tree.proofs.Laws.{⊕_assoc, nodes_here}
+use Rattle.redl_leaves.specs.Marks.{marks_run, marks_para, item_marks, item_marks_run, item_marks_para}
+
+some-⊕ : (test : Tag → Bool) (xs ys : Nodes) → some_element test (xs ⊕ ys) ≡ (some_element test xs || some_element test ys)
+some-⊕ test no_nodes ys = refl
+some-⊕ test (bytes b rest) ys = some-⊕ test rest ys
+some-⊕ test (element tag kids rest) ys =
+    ap (λ b. test tag || b) (some-⊕ test rest ys) ∙ sym (or_assoc (test tag) (some_element test rest) (some_element test ys))
+
+kids-⊕ : (name : String) (xs ys : Nodes) → kids_of_all name (xs ⊕ ys) ≡ kids_of_all name xs ⊕ kids_of_all name ys
+kids-⊕ name no_nodes ys = refl
+kids-⊕ name (bytes b rest) ys = kids-⊕ name rest ys
+kids-⊕ name (element tag kids rest) ys = at (is name tag) (kids-⊕ name rest ys)
+  where
+    at : (b : Bool) → kids_of_all name (rest ⊕ ys) ≡ kids_of_all name rest ⊕ kids_of_all name ys
+        → (if b then kids ⊕ kids_of_all name (rest ⊕ ys) else kids_of_all name (rest ⊕ ys)) ≡ (if b then kids ⊕ kids_of_all name rest else kids_of_all name rest) ⊕ kids_of_all name ys
+    at true ih = ap (λ n. kids ⊕ n) ih ∙ sym (⊕_assoc kids (kids_of_all name rest) (kids_of_all name ys))
+    at false ih = ih
+
+pub run-in_front : (x : Item) (ys : Nodes) → marks_run (in_front x ys) ≡ (item_marks x || marks_run ys)
+run-in_front (bytes_item b) ys = refl
+run-in_front (element_item tag kids) ys = refl
+
+pub para-in_front : (x : Item) (ys : Nodes) → marks_para (in_front x ys) ≡ (item_marks_run x || marks_para ys)
+para-in_front (bytes_item b) ys = refl
+para-in_front (element_item tag kids) ys = at (is "rPr" tag)
+  where
+    at : (b : Bool) → marks_run (if b then kids ⊕ kids_of_all "rPr" ys else kids_of_all "rPr" ys) ≡ ((b && marks_run kids) || marks_para ys)
+    at true = some-⊕ (λ tag. is_mark tag.kind) kids (kids_of_all "rPr" ys)
+    at false = refl
+
+pub mark-in_front : (x : Item) (ys : Nodes) → has_mark (in_front x ys) ≡ (item_marks_para x || has_mark ys)
+mark-in_front (bytes_item b) ys = refl
+mark-in_front (element_item tag kids) ys = at (is "pPr" tag)
+  where
+    at : (b : Bool) → marks_para (if b then kids ⊕ kids_of_all "pPr" ys else kids_of_all "pPr" ys) ≡ ((b && marks_para kids) || has_mark ys)
+    at true =
+        ap marks_run (kids-⊕ "rPr" kids (kids_of_all "pPr" ys))
+        ∙ some-⊕ (λ tag. is_mark tag.kind) (kids_of_all "rPr" kids) (kids_of_all "rPr" (kids_of_all "pPr" ys))
+    at false = refl
+
+-- one step of a loop over nodes that looks for one of which a test holds
+pub step : (whole : Nodes → Bool) (one : Item → Bool) → ((x : Item) (ys : Nodes) → whole (in_front x ys) ≡ (one x || whole ys))
+    → (xs : List Node) (i : ℕ) (x : Node) (b : Bool) → i < length xs → x ≡ get_or xs i x → one (item_of x) ≡ b
+    → whole (nodes_of (drop i xs)) ≡ (b || whole (nodes_of (drop (i + 1) xs)))
+step whole one law xs i x b within is e =
+    ap whole (nodes_here xs i x within is) ∙ law (item_of x) (nodes_of (drop (i + 1) xs)) ∙ ap (λ c. c || whole (nodes_of (drop (i + 1) xs))) e

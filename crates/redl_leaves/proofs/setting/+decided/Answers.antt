@@ -1,0 +1,25 @@
+use Rattle.std.proofs.Common.{true, false, sym, ap, ◌∙◌, arith}
+use Rattle.redl_leaves.proofs.MarkLaws.{step}
+use Rattle.redl_leaves.proofs.MemberLaws.{member-in_front}
+use Rattle.redl_leaves.specs.Members.{item_member}
+use Rattle.redl_tree.proofs.Laws.{nodes_end}
+use Rattle.redl_tree.specs.Leaves.Settings.{has_member, is_decided}
+use Rattle.redl_leaves.proofs.setting.+decided.Goals as goal
+
+pub has_decided-loop-kid-preserved : goal.has_decided-loop-kid-preserved
+has_decided-loop-kid-preserved t c =
+    let test = is_decided c.args.says.now in
+    sym (step (has_member test) (item_member test) (member-in_front test) c.args.nodes.now c.loop-kid.kid-index c.kid-item.result false (omega arith) c.kid-item.is
+    (sym c.is_decided_in.ensures ∙ c.if-is_decided_in.false))
+    ∙ c.loop-kid.invariant
+
+pub has_decided-returns-then-is_decided_in : goal.has_decided-returns-then-is_decided_in
+has_decided-returns-then-is_decided_in t c =
+    let test = is_decided c.args.says.now in
+    sym (step (has_member test) (item_member test) (member-in_front test) c.args.nodes.now c.loop-kid.kid-index c.kid-item.result true (omega arith) c.kid-item.is
+    (sym c.is_decided_in.ensures ∙ c.if-is_decided_in.true))
+    ∙ c.loop-kid.invariant
+
+pub has_decided-returns : goal.has_decided-returns
+has_decided-returns t c =
+    sym (ap (has_member (is_decided c.args.says.now)) (nodes_end c.args.nodes.now c.loop-kid.kid-index (omega arith))) ∙ c.loop-kid.invariant

@@ -1,0 +1,148 @@
+//! Where the kids of a container stand, and which of them are containers.
+
+ghost use Rattle.std.specs.Prelude.{◌≡◌, ◌∷◌, ◌&&◌, ◌||◌, List, []};
+ghost use Rattle.redl_leaves.specs.Spots.{spot_of, root_named, opens_at, opens_below, is_shell_at, is_own_at, is_between_at, place_inside};
+ghost use Rattle.redl_tree.specs.Model.Nodes.{Tag};
+ghost use Rattle.redl_tree.specs.Model.View.{tag_of};
+ghost use Rattle.redl_tree.specs.Roles.Lists.{is_block_list, is_direct, is_rows, is_cells};
+ghost use Rattle.redl_tree.specs.Roles.Names.{is};
+ghost use Rattle.redl_tree.specs.Roles.Places.{is_quiet as is_quiet_by};
+ghost use Rattle.redl_tree.specs.Leaves.Containers.{is_control};
+
+use redl_tree::{Elem, Lot, Place, Reach, is_named, is_quiet, is_wrapper};
+
+/// Which story's root some nodes stand in directly. At most one is true.
+#[derive(Clone, Copy)]
+pub struct Root {
+    pub document: bool,
+    pub footnotes: bool,
+    pub endnotes: bool,
+    pub comments: bool,
+}
+
+/// Where the kids of a container stand.
+#[derive(Clone, Copy)]
+pub struct Spot {
+    /// Some ancestor holds properties.
+    pub quiet: bool,
+    /// Whether they are blocks, rows or cells.
+    pub place: Place,
+    /// The root that they stand in directly.
+    pub root: Root,
+}
+
+impl Spot {
+    /// Where the kids of a story's root stand.
+    pub fn in_root(root: &Elem) -> Spot
+        ensures { result ≡ spot_of (tag_of root.now ∷ []) }
+    {
+        Spot {
+            quiet: is_quiet(root),
+            place: place_in(Place::nowhere(), root, false),
+            root: Root {
+                document: is_named(root, b"document"),
+                footnotes: is_named(root, b"footnotes"),
+                endnotes: is_named(root, b"endnotes"),
+                comments: is_named(root, b"comments"),
+            },
+        }
+    }
+
+    /// Where the kids of an element stand that stands here.
+    pub(crate) fn inside(self, elem: &Elem) -> Spot
+        ensures { (parent : Tag) → (above : List Tag) → self ≡ spot_of (parent ∷ above) → result ≡ spot_of (tag_of elem.now ∷ parent ∷ above) }
+    {
+        Spot {
+            quiet: is_quiet_in(self, elem),
+            place: place_in(self.place, elem, self.quiet),
+            root: Root {
+                document: false,
+                footnotes: false,
+                endnotes: false,
+                comments: false,
+            },
+        }
+    }
+
+    /// Whether they are blocks.
+    pub(crate) fn among_blocks(self) -> bool
+        ensures { result ≡ is_block_list self.place }
+    {
+        self.place.is_block_list()
+    }
+
+    /// Whether an element that stands here is a container.
+    pub(crate) fn opens(self, elem: &Elem) -> bool
+        ensures { result ≡ opens_at self (tag_of elem.now) }
+    {
+        opens_in_root(self.root, elem)
+            || (self.among_blocks() && (is_named(elem, b"tbl") || is_wrapper(elem)))
+            || (self.are_rows() && is_named(elem, b"tr"))
+            || (self.are_cells() && is_named(elem, b"tc"))
+            || self.is_shell(elem)
+            || (self.is_in_control() && is_named(elem, b"sdtContent"))
+    }
+
+    fn are_rows(self) -> bool
+        ensures { result ≡ (is_direct self.place.reach && is_rows self.place.lot) }
+    {
+        self.place.reach == Reach::Direct && self.place.lot == Lot::Rows
+    }
+
+    fn are_cells(self) -> bool
+        ensures { result ≡ (is_direct self.place.reach && is_cells self.place.lot) }
+    {
+        self.place.reach == Reach::Direct && self.place.lot == Lot::Cells
+    }
+
+    pub(crate) fn is_shell(self, elem: &Elem) -> bool
+        ensures { result ≡ is_shell_at self (tag_of elem.now) }
+    {
+        is_wrapper(elem) && (self.are_rows() || self.are_cells())
+    }
+
+    fn is_in_control(self) -> bool
+        ensures { result ≡ is_control self.place.reach }
+    {
+        self.place.reach == Reach::Control
+    }
+
+    /// Whether an element is an own row or cell.
+    pub(crate) fn is_own(self, elem: &Elem) -> bool
+        ensures { result ≡ is_own_at self (tag_of elem.now) }
+    {
+        (self.are_rows() && is_named(elem, b"tr")) || (self.are_cells() && is_named(elem, b"tc"))
+    }
+
+    /// Whether the own rows or cells in an element are those of the table or row round it.
+    pub(crate) fn is_between(self, elem: &Elem) -> bool
+        ensures { result ≡ is_between_at self (tag_of elem.now) }
+    {
+        self.is_shell(elem) || (self.is_in_control() && is_named(elem, b"sdtContent"))
+    }
+}
+
+fn is_quiet_in(spot: Spot, elem: &Elem) -> bool
+    ensures { result ≡ (is_quiet_by (tag_of elem.now) || spot.quiet) }
+{
+    is_quiet(elem) || spot.quiet
+}
+
+// The place of the kids of an element at a place.
+fn place_in(place: Place, elem: &Elem, quiet: bool) -> Place
+    ensures { result ≡ place_inside (tag_of elem.now) place quiet }
+{
+    if is_quiet(elem) || quiet {
+        return Place::nowhere();
+    }
+    place.inside(elem)
+}
+
+fn opens_in_root(root: Root, elem: &Elem) -> bool
+    ensures { result ≡ opens_below root (tag_of elem.now) }
+{
+    (root.document && is_named(elem, b"body"))
+        || (root.footnotes && is_named(elem, b"footnote"))
+        || (root.endnotes && is_named(elem, b"endnote"))
+        || (root.comments && is_named(elem, b"comment"))
+}
