@@ -1,0 +1,89 @@
+-- What leaves hold, a node and a slot at a time.
+use Rattle.std.proofs.Common.{◌≡◌, ◌<◌, ◌≤◌, ◌+◌, ◌==◌, ℕ, List, length, get_or, drop, Bool, true, false, ◌&&◌, ◌||◌, refl, sym, ap, ◌∙◌}
+use Rattle.redl_tree.proofs.Laws.{nodes_here, nodes_end}
+use Rattle.redl_tree.specs.Leaves.Leaf.{leaf_count}
+use Rattle.redl_tree.specs.Leaves.Settings.{has_member}
+use Rattle.redl_tree.specs.Leaves.States.{States, slots_of}
+use Rattle.redl_tree.specs.Model.Nodes.{Nodes, Item, in_front}
+use Rattle.redl_tree.specs.Model.View.{nodes_of, item_of}
+use Rattle.redl_tree.specs.declared.node.Node.{Node}
+use Rattle.redl_leaves.proofs.MemberLaws.{member-in_front}
+use Rattle.redl_leaves.proofs.ViewLaws.{states_here, states_end}
+use Rattle.redl_editor.specs.Holdings.{is_rev, is_held, nodes_hold, item_holds, slots_hold, view_holds, view_count, Notes}
+use Rattle.redl_leaves.specs.Members.{item_member}
+use Rattle.redl_leaves.specs.View.{SlotView, leaf_view, container_view, before, view_of, states_of}
+use Rattle.redl_editor.specs.declared.holding.Held.{Held}
+use Rattle.redl_leaves.specs.declared.slots.Slot.{Slot}
+
+either-later : (a b c : Bool) → ((a || b) || c) ≡ (a || (b || c))
+either-later true b c = refl
+either-later false b c = refl
+
+either-none : (a : Bool) → (a || false) ≡ a
+either-none true = refl
+either-none false = refl
+
+spread : (a b c : Bool) → ((a || b) && c) ≡ ((a && c) || (b && c))
+spread true true true = refl
+spread true true false = refl
+spread true false true = refl
+spread true false false = refl
+spread false b c = refl
+
+-- ---- nodes
+
+holds-front : (here : ℕ) (x : Item) (rest : Nodes) (rev leaf : ℕ)
+    → nodes_hold here (in_front x rest) rev leaf ≡ (item_holds here x rev leaf || nodes_hold here rest rev leaf)
+holds-front here x rest rev leaf =
+    ap (λ b. b && here == leaf) (member-in_front (is_rev rev) x rest) ∙ spread (item_member (is_rev rev) x) (has_member (is_rev rev) rest) (here == leaf)
+
+-- what is noted so far, and what is left, are all
+abbrev pub NotesLeft : (ℕ → ℕ → Bool) → (ℕ → ℕ → Bool) → List Held → List Held → Type 0
+NotesLeft left all old now = (rev leaf : ℕ) → (is_held now rev leaf || left rev leaf) ≡ (is_held old rev leaf || all rev leaf)
+
+pub notes-more : (left rest here all : ℕ → ℕ → Bool) (old now new : List Held) → ((rev leaf : ℕ) → left rev leaf ≡ (here rev leaf || rest rev leaf))
+    → NotesLeft left all old now → Notes here now new → NotesLeft rest all old new
+notes-more left rest here all old now new split so_far notes = λ rev leaf.
+    ap (λ b. b || rest rev leaf) (notes rev leaf)
+    ∙ either-later (is_held now rev leaf) (here rev leaf) (rest rev leaf)
+    ∙ ap (λ b. is_held now rev leaf || b) (sym (split rev leaf))
+    ∙ so_far rev leaf
+
+pub notes-ended : (left all : ℕ → ℕ → Bool) (old now : List Held) → ((rev leaf : ℕ) → left rev leaf ≡ false) → NotesLeft left all old now → Notes all old now
+notes-ended left all old now none so_far = λ rev leaf.
+    sym (either-none (is_held now rev leaf)) ∙ ap (λ b. is_held now rev leaf || b) (sym (none rev leaf)) ∙ so_far rev leaf
+
+pub holds-here : (here : ℕ) (xs : List Node) (i : ℕ) (x : Node) → i < length xs → x ≡ get_or xs i x → (rev leaf : ℕ)
+    → nodes_hold here (nodes_of (drop i xs)) rev leaf ≡ (item_holds here (item_of x) rev leaf || nodes_hold here (nodes_of (drop (i + 1) xs)) rev leaf)
+holds-here here xs i x within is rev leaf =
+    ap (λ n. nodes_hold here n rev leaf) (nodes_here xs i x within is) ∙ holds-front here (item_of x) (nodes_of (drop (i + 1) xs)) rev leaf
+
+pub holds-end : (here : ℕ) (xs : List Node) (i : ℕ) → length xs ≤ i → (rev leaf : ℕ) → nodes_hold here (nodes_of (drop i xs)) rev leaf ≡ false
+holds-end here xs i past rev leaf = ap (λ n. nodes_hold here n rev leaf) (nodes_end xs i past)
+
+-- ---- slots
+
+slots-front : (first : ℕ) (x : SlotView) (rest : States) (rev leaf : ℕ)
+    → slots_hold first (slots_of (before x rest)) rev leaf ≡ (view_holds first x rev leaf || slots_hold (first + view_count x) (slots_of rest) rev leaf)
+slots-front first (leaf_view here present) rest rev leaf = refl
+slots-front first (container_view tag tally inner) rest rev leaf = refl
+
+pub slots-here : (first : ℕ) (xs : List Slot) (i : ℕ) (x : Slot) → i < length xs → x ≡ get_or xs i x → (rev leaf : ℕ)
+    → slots_hold first (slots_of (states_of (drop i xs))) rev leaf
+    ≡ (view_holds first (view_of x) rev leaf || slots_hold (first + view_count (view_of x)) (slots_of (states_of (drop (i + 1) xs))) rev leaf)
+slots-here first xs i x within is rev leaf =
+    ap (λ s. slots_hold first (slots_of s) rev leaf) (states_here xs i x within is) ∙ slots-front first (view_of x) (states_of (drop (i + 1) xs)) rev leaf
+
+pub slots-end : (first : ℕ) (xs : List Slot) (i : ℕ) → length xs ≤ i → (rev leaf : ℕ) → slots_hold first (slots_of (states_of (drop i xs))) rev leaf ≡ false
+slots-end first xs i past rev leaf = ap (λ s. slots_hold first (slots_of s) rev leaf) (states_end xs i past)
+
+count-front : (x : SlotView) (rest : States) → leaf_count (slots_of (before x rest)) ≡ view_count x + leaf_count (slots_of rest)
+count-front (leaf_view here present) rest = refl
+count-front (container_view tag tally inner) rest = refl
+
+pub count-here : (xs : List Slot) (i : ℕ) (x : Slot) → i < length xs → x ≡ get_or xs i x
+    → leaf_count (slots_of (states_of (drop i xs))) ≡ view_count (view_of x) + leaf_count (slots_of (states_of (drop (i + 1) xs)))
+count-here xs i x within is = ap (λ s. leaf_count (slots_of s)) (states_here xs i x within is) ∙ count-front (view_of x) (states_of (drop (i + 1) xs))
+
+pub count-end : (xs : List Slot) (i : ℕ) → length xs ≤ i → leaf_count (slots_of (states_of (drop i xs))) ≡ 0
+count-end xs i past = ap (λ s. leaf_count (slots_of s)) (states_end xs i past)

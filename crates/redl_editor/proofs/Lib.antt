@@ -1,0 +1,15 @@
+pub mod PlaceLaws
+pub mod WalkLaws
+pub mod HoldLaws
+pub mod HeldLaws
+pub mod TouchLaws
+pub mod CoverLaws
+pub mod MakeLaws
+pub mod ChangeLaws
+pub mod BegunLaws
+pub mod FormerLaws
+pub mod KeptLaws
+pub mod CostLaws
+pub mod FindLaws
+pub mod WriteLaws
+pub mod DocumentLaws

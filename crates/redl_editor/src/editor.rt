@@ -1,0 +1,156 @@
+//! The editor.
+
+ghost use Rattle.std.specs.Prelude.{◌≡◌, ◌≤◌, ◌+◌, ◌∷◌, [], length, map, replicate, true, IfOk, OnOk, OnErr, IsOk};
+ghost use Rattle.redl_editor.specs.Changes.{setting_of, is_changed, former_of};
+ghost use Rattle.redl_editor.specs.Costs.{parts_cost};
+ghost use Rattle.redl_editor.specs.Documents.{IsNumbered, count_at, present_at};
+ghost use Rattle.redl_io.specs.Sink.{Puts};
+ghost use Rattle.redl_leaves.specs.Lends.{lent_nodes};
+ghost use Rattle.redl_tree.specs.Decisions.Fates.{say_of};
+ghost use Rattle.redl_tree.specs.Decisions.Packages.{roots_are_plain, pass_package, stories};
+ghost use Rattle.redl_tree.specs.Leaves.Settings.{set_each, set_say};
+ghost use Rattle.redl_tree.specs.Model.Text.{text};
+ghost use Rattle.redl_tree.specs.declared.kinds.Say.TheVariants.{Keep};
+
+use crate::bulk::set_all;
+use crate::changing::Change;
+use crate::finding::{count_leaves, find_present};
+use crate::story::Story;
+use crate::table::{Table, tables_of};
+use crate::taking::take_stories;
+use crate::writing::write_package;
+use redl_io::{Failed, Sink};
+use redl_opc::Package;
+use redl_resolve::Steps;
+use redl_tree::{Node, Say};
+use std::alloc::{AllocError, Global};
+use std::marker::Model;
+use std::sync::ledger::Ledger;
+
+/// A package and a say for each of its revisions, which contracts see as its original nodes and these says. Its stories are kept leaf by
+/// leaf, each as it is at present.
+#[derive(Drop)]
+pub struct Editor<'a> {
+    alloc: Global,
+    nodes: Vec<Node<'a>>,
+    stories: Vec<Story<'a>>,
+    tables: Vec<Table>,
+    says: Vec<Say>,
+}
+
+impl<'a> Model for Editor<'a> {
+    ghost use Rattle.std.specs.Coded.{codes};
+    ghost use Rattle.redl_editor.specs.Documents.{Document, document_code, IsConsistent};
+    ghost use Rattle.redl_editor.specs.Stories.{original_package};
+
+    ghost Value = { Document };
+
+    ghost coded = { document_code (Prim.hlevel codes) (Prim.hlevel codes) };
+
+    ghost view = { λ editor. record { nodes = original_package editor.nodes.items editor.stories.items; says = editor.says.items } };
+
+    ghost invariant = { λ editor. IsConsistent editor.nodes.items editor.stories.items editor.tables.items editor.says.items };
+}
+
+impl<'a> Editor<'a> {
+    /// An editor of this package, where each of so many revisions is undecided. `Err` means out of memory, and drops the package.
+    ///
+    /// The package has the kinds and numbers that an index gave it.
+    pub fn new(alloc: Global, pkg: Package<'a>, revisions: u32) -> Result<Editor<'a>, AllocError>
+        requires numbered { IsNumbered pkg }
+        requires plain { roots_are_plain [] pkg ≡ true }
+        ensures { IfOk result (λ editor. editor ≡ record { nodes = pkg.entry; says = replicate revisions Keep }) }
+    {
+        let mut nodes = pkg.into_nodes();
+        let stories = take_stories(alloc, &mut nodes)?;
+        let tables = tables_of(alloc, &stories)?;
+        let says = vec![in alloc; Say::Keep; revisions as usize]?;
+        Ok(Editor {
+            alloc,
+            nodes,
+            stories,
+            tables,
+            says,
+        })
+    }
+
+    /// The say of each revision. The first is that of revision 1.
+    pub fn says(&self) -> &[Say]
+        ensures { result.now ≡ self.now.says }
+    {
+        &self.says
+    }
+
+    /// The number of stories of the package.
+    pub fn stories(&self) -> usize
+        ensures { result ≡ length (stories self.now.nodes) }
+    {
+        self.stories.len()
+    }
+
+    /// The number of leaves of a story, and 0 where the package has no story with this number. Stories are numbered from 0.
+    pub fn leaves(&self, story: usize) -> usize
+        ensures { result ≡ count_at self.now story }
+    {
+        count_leaves(&self.tables, story)
+    }
+
+    /// The nodes of a leaf as it is at present: none of them where a table, a row, a cell or a content control round it goes. It takes
+    /// no memory. `None` exactly where the story has no leaf with this number. Leaves are numbered from 0 in each story.
+    pub fn leaf(&self, story: usize, place: usize) -> Option<&[Node<'a>]>
+        ensures { lent_nodes result ≡ present_at self.now story place }
+    {
+        find_present(&self.stories, &self.tables, story, place)
+    }
+
+    /// Sets what is said of a revision. See `set_many`.
+    pub fn set<L: Ledger>(
+        &mut self,
+        rev: u32,
+        say: Say,
+        steps: &mut Steps<L>,
+    ) -> Result<(), AllocError>
+        ensures says { OnOk result (self.new ≡ record self.old { says = set_say self.old.says rev say }) }
+        ensures untouched { OnErr result (self.new ≡ self.old) }
+        ensures own { say_of self.old.says rev ≡ say → IsOk result }
+        ensures steps { steps.new ≤ steps.old + parts_cost (is_changed self.old.says (set_say self.old.says rev say)) (stories self.old.nodes) }
+    {
+        self.set_many(&[Change { rev, say }], steps)
+    }
+
+    /// Sets what is said of revisions, one after the other. Each leaf that holds a member or a marker of a revision of which something
+    /// else is said then is made anew once. Revisions that the package does not have are passed over.
+    ///
+    /// `Err` means out of memory, and nothing is changed.
+    pub fn set_many<L: Ledger>(
+        &mut self,
+        changes: &[Change],
+        steps: &mut Steps<L>,
+    ) -> Result<(), AllocError>
+        ensures says { OnOk result (self.new ≡ record self.old { says = set_each self.old.says (map setting_of changes.now) }) }
+        ensures untouched { OnErr result (self.new ≡ self.old) }
+
+        // Where all of it is said already it takes no memory.
+        ensures own { former_of self.old.says (map setting_of changes.now) ≡ [] → IsOk result }
+
+        // At most the sizes of these leaves and the lengths of their paths, also with an error.
+        ensures steps { steps.new ≤ steps.old
+            + parts_cost (is_changed self.old.says (set_each self.old.says (map setting_of changes.now))) (stories self.old.nodes) }
+    {
+        set_all(
+            self.alloc,
+            &mut self.stories,
+            &self.tables,
+            &mut self.says,
+            changes,
+            steps,
+        )
+    }
+
+    /// Puts the text of the package as it is at present, and takes no memory. `Failed` comes only where the sink failed.
+    pub fn write<K: Sink>(&self, out: &mut K) -> Result<(), Failed>
+        ensures { Puts K.told K.faults K.settled K.lenders out.old out.new (text (pass_package self.now.says self.now.nodes)) result }
+    {
+        write_package(&self.nodes, &self.stories, out)
+    }
+}
