@@ -14,8 +14,9 @@ import sys
 
 import reading
 
-# What the page shows besides texts and changes: the styles of paragraphs, bold and italic runs, the signs of notes.
-SHOWS = ("styles", "runs", "notes")
+# What the page shows besides texts and changes. The program shows none of "styles" (of paragraphs), "runs" (bold and italic
+# ones) and "notes" (the signs of footnotes) yet.
+SHOWS = ()
 SKIN = os.path.join(os.path.dirname(os.path.dirname(os.path.abspath(__file__))), "crates", "redline", "page")
 
 REFERENCES = {"&": "&amp;", "<": "&lt;", ">": "&gt;", '"': "&quot;", "'": "&#39;"}
