@@ -2,7 +2,7 @@
 
 /// The security policy of the page: its own style and script alone, and nothing is ever fetched.
 pub const POLICY: &str =
-    "default-src 'none'; script-src 'sha256-+bYmbcxoUUWNnY6wkx+AvreMZP2T0eGgnIfWF42iaFM='; style-src 'sha256-5tnubtazCc47FD2eOYw8IoFlt1iyQfBIXZ4oeQj/VKQ='; base-uri 'none'; form-action 'none'; require-trusted-types-for 'script'";
+    "default-src 'none'; script-src 'sha256-+bYmbcxoUUWNnY6wkx+AvreMZP2T0eGgnIfWF42iaFM='; style-src 'sha256-64OO0xpKmb5UcadTROsDgQxNzhXoWL+0zlWIzmoHWvE='; base-uri 'none'; form-action 'none'; require-trusted-types-for 'script'";
 
 /// The style sheet of the page.
 pub const STYLE: &str = ":root {
@@ -80,7 +80,7 @@ td.edge { position: absolute; border: 0; padding: 0; left: -1.3rem; top: 0; bott
 .edge ~ .edge { left: -.8rem; }
 .edge ~ .edge ~ .edge { left: -.5rem; }
 .edge > * { left: 0; height: 100%; }
-.edge > del { border-left-style: dotted; }
+main .edge > del { border-left-style: dashed; border-radius: 0; }
 tr:has(> .edge > del) { background: color-mix(in srgb, var(--no) 7%, transparent); }
 tr:has(> .edge > ins) { background: color-mix(in srgb, var(--yes) 7%, transparent); }
 main [aria-current] { outline: 2px solid var(--focus); outline-offset: 2px; }
