@@ -81,11 +81,8 @@ fn selects(sel: &Selection, revision: &Revision) -> bool
 }
 
 /// Whether the moment is from the first on and before the second. Without a moment it isn't.
-fn is_within(start: i64, end: i64, moment: Option<i64>) -> bool
+pub(crate) fn is_within(start: i64, end: i64, moment: Option<i64>) -> bool
     ensures { result ≡ is_within start end moment }
 {
-    match moment {
-        Some(moment) => start <= moment && moment < end,
-        None => false,
-    }
+    moment.is_some_and(|moment| start <= moment && moment < end)
 }

@@ -1,0 +1,47 @@
+//! What nobody may decide.
+ghost use Rattle.std.specs.Prelude.{◌≡◌};
+
+use crate::chosen::is_within;
+use redl_index::{RevKind, Revision};
+use redl_io::Text;
+
+/// A lock on revisions of a package, which nobody decides then.
+#[derive(Drop)]
+pub enum Lock {
+    /// On the revisions by the author with this name, compared byte by byte.
+    Author(Text),
+    /// On the revisions of this kind. A paired move has the kind move alone.
+    Kind(RevKind),
+    /// On the revisions made from the first moment on and before the second, in seconds from 1970-01-01T00:00:00Z. It holds no
+    /// revision without a date.
+    Span(i64, i64),
+}
+
+impl Lock {
+    ghost use Rattle.redl_select.specs.Locks.{holds, is_author, is_kind};
+
+    /// Whether it is a lock on the revisions of an author.
+    pub fn is_on_author(&self) -> bool
+        ensures { result ≡ is_author self.now }
+    {
+        matches!(self, Lock::Author(_))
+    }
+
+    /// Whether it is a lock on the revisions of a kind.
+    pub fn is_on_kind(&self) -> bool
+        ensures { result ≡ is_kind self.now }
+    {
+        matches!(self, Lock::Kind(_))
+    }
+
+    /// Whether it holds this revision.
+    pub fn holds(&self, revision: &Revision) -> bool
+        ensures { result ≡ holds revision.now self.now }
+    {
+        match self {
+            Lock::Author(name) => revision.author.as_bytes() == name.as_bytes(),
+            Lock::Kind(kind) => revision.kind == *kind,
+            Lock::Span(start, end) => is_within(*start, *end, revision.seconds),
+        }
+    }
+}
