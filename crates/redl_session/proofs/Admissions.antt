@@ -1,11 +1,12 @@
 -- What admitted and refused entries come to, one after another.
-use Rattle.std.proofs.Common.{◌≡◌, ℕ, Bool, true, false, cond, List, [], ◌∷◌, ◌++◌, append-nil, None, Some, Contains, refl, sym, ap, ◌∙◌}
+use Rattle.std.proofs.Common.{◌≡◌, Bool, true, false, cond, List, [], ◌∷◌, ◌++◌, append-nil, None, Some, Contains, refl, sym, ap, ◌∙◌}
 use Rattle.std.proofs.lemmas.List.Elements.{filter-append, filter_map-append}
 use Rattle.std.specs.Prelude.{◌↔◌, ◌&&◌, is_none, length}
 use Rattle.redl_index.specs.declared.revision.Revision.{Revision}
 use Rattle.redl_join.specs.Books.{IsBook, union, with_entry}
 use Rattle.redl_join.proofs.Unions.{has_entry-filter, has_entry-same, union-append, union-same}
 use Rattle.redl_journal.specs.declared.entry.Entry.{Entry}
+use Rattle.redl_select.specs.declared.lock.Lock.{Lock}
 use Rattle.redl_session.specs.Refusals.{admitted, cause_of, refusal_of, refusals, TakesFirst}
 use Rattle.redl_session.specs.Says.{says_of}
 use Rattle.redl_session.specs.Sessions.{State, StopsAfter, after, says}
@@ -14,36 +15,36 @@ use Rattle.redl_session.specs.declared.refusal.Refusal.{Refusal}
 
 -- ---- one more entry
 
-admitted-one : (revisions : List Revision) (locks : List (List ℕ)) (entries : List Entry) (entry : Entry)
+admitted-one : (revisions : List Revision) (locks : List Lock) (entries : List Entry) (entry : Entry)
     → admitted revisions locks (entries ++ entry ∷ []) ≡ admitted revisions locks entries ++ admitted revisions locks (entry ∷ [])
 admitted-one revisions locks entries entry = filter-append (λ e. is_none (cause_of revisions locks e)) entries (entry ∷ [])
 
-refusals-one : (revisions : List Revision) (locks : List (List ℕ)) (entries : List Entry) (entry : Entry)
+refusals-one : (revisions : List Revision) (locks : List Lock) (entries : List Entry) (entry : Entry)
     → refusals revisions locks (entries ++ entry ∷ []) ≡ refusals revisions locks entries ++ refusals revisions locks (entry ∷ [])
 refusals-one revisions locks entries entry = filter_map-append (refusal_of revisions locks) entries (entry ∷ [])
 
 -- an entry that is not refused
-pub union-admits : (revisions : List Revision) (locks : List (List ℕ)) (book entries : List Entry) (entry : Entry) → cause_of revisions locks entry ≡ None
+pub union-admits : (revisions : List Revision) (locks : List Lock) (book entries : List Entry) (entry : Entry) → cause_of revisions locks entry ≡ None
     → union book (admitted revisions locks (entries ++ entry ∷ [])) ≡ with_entry (union book (admitted revisions locks entries)) entry
 union-admits revisions locks book entries entry none =
     let own : admitted revisions locks (entry ∷ []) ≡ entry ∷ [] = rw none refl in
     ap (union book) (admitted-one revisions locks entries entry ∙ ap (λ (es : List Entry). admitted revisions locks entries ++ es) own)
     ∙ union-append book (admitted revisions locks entries) (entry ∷ [])
 
-pub refusals-admits : (revisions : List Revision) (locks : List (List ℕ)) (entries : List Entry) (entry : Entry) → cause_of revisions locks entry ≡ None
+pub refusals-admits : (revisions : List Revision) (locks : List Lock) (entries : List Entry) (entry : Entry) → cause_of revisions locks entry ≡ None
     → refusals revisions locks (entries ++ entry ∷ []) ≡ refusals revisions locks entries
 refusals-admits revisions locks entries entry none =
     let own : refusals revisions locks (entry ∷ []) ≡ [] = rw none refl in
     refusals-one revisions locks entries entry ∙ ap (λ (rs : List Refusal). refusals revisions locks entries ++ rs) own ∙ append-nil (refusals revisions locks entries)
 
 -- a refused one
-pub admitted-refuses : (revisions : List Revision) (locks : List (List ℕ)) (entries : List Entry) (entry : Entry) (why : AdmitError) → cause_of revisions locks entry ≡ Some why
+pub admitted-refuses : (revisions : List Revision) (locks : List Lock) (entries : List Entry) (entry : Entry) (why : AdmitError) → cause_of revisions locks entry ≡ Some why
     → admitted revisions locks (entries ++ entry ∷ []) ≡ admitted revisions locks entries
 admitted-refuses revisions locks entries entry why is =
     let own : admitted revisions locks (entry ∷ []) ≡ [] = rw is refl in
     admitted-one revisions locks entries entry ∙ ap (λ (es : List Entry). admitted revisions locks entries ++ es) own ∙ append-nil (admitted revisions locks entries)
 
-pub refusals-refuses : (revisions : List Revision) (locks : List (List ℕ)) (entries : List Entry) (entry : Entry) (why : AdmitError) → cause_of revisions locks entry ≡ Some why
+pub refusals-refuses : (revisions : List Revision) (locks : List Lock) (entries : List Entry) (entry : Entry) (why : AdmitError) → cause_of revisions locks entry ≡ Some why
     → refusals revisions locks (entries ++ entry ∷ []) ≡ refusals revisions locks entries ++ record { entry = entry; why = why } ∷ []
 refusals-refuses revisions locks entries entry why is =
     let own : refusals revisions locks (entry ∷ []) ≡ record { entry = entry; why = why } ∷ [] = rw is refl in

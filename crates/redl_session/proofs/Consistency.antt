@@ -10,6 +10,7 @@ use Rattle.redl_join.specs.Verdicts.{verdict_at}
 use Rattle.redl_journal.proofs.EntryOrder.{entry_order-total}
 use Rattle.redl_journal.specs.declared.entry.Entry.{Entry}
 use Rattle.redl_session.proofs.SaysLaws.{says_of-with}
+use Rattle.redl_select.specs.declared.lock.Lock.{Lock}
 use Rattle.redl_session.specs.Refusals.{TakesFirst, admitted}
 use Rattle.redl_session.specs.Says.{say_of_verdict, says_of}
 use Rattle.redl_session.specs.Sessions.{IsConsistent}
@@ -39,7 +40,7 @@ pub book-repeat : (book new : List Entry) (entry : Entry) → IsBook book → ne
 book-repeat book new entry sorted is before = is ∙ kept-present book entry sorted (not_false (has_entry book entry) before)
 
 -- many entries, all of them or a first part
-pub ordered-taken : {T E : Type 0} (result : Result T E) (revisions : List Revision) (locks : List (List ℕ)) (book new entries : List Entry) → IsBook book
+pub ordered-taken : {T E : Type 0} (result : Result T E) (revisions : List Revision) (locks : List Lock) (book new entries : List Entry) → IsBook book
     → OnOk result (new ≡ union book (admitted revisions locks entries)) → OnErr result (TakesFirst revisions locks book new entries) → IsBook new
 ordered-taken (Ok x) revisions locks book new entries sorted all first = rw all (book-union book (admitted revisions locks entries) sorted)
 ordered-taken (Err e) revisions locks book new entries sorted all first = rw first.taken (book-union book (admitted revisions locks first.first) sorted)

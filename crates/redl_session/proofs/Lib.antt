@@ -2,3 +2,4 @@ pub mod Admissions
 pub mod Left
 pub mod SaysLaws
 pub mod Consistency
+mod BarRows

@@ -1,3 +1,4 @@
+pub mod Bars
 pub mod Refusals
 pub mod Says
 pub mod Sessions

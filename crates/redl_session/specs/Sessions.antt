@@ -1,29 +1,30 @@
 -- Sessions, as contracts see them, and what admitted entries make of them.
-use Rattle.std.specs.Prelude.{◌≡◌, ℕ, List, [], ◌∷◌, ◌++◌, None, is_none, length, refl, if◌then◌else◌}
-use Rattle.std.specs.Coded.{Coded, code_by, coded_list, coded×, coded_ℕ}
+use Rattle.std.specs.Prelude.{◌≡◌, List, [], ◌∷◌, ◌++◌, None, is_none, length, refl, if◌then◌else◌}
+use Rattle.std.specs.Coded.{Coded, code_by, coded_list, coded×}
 use Rattle.redl_index.specs.Numbers.{numbered_package}
 use Rattle.redl_index.specs.declared.revision.Revision.{Revision}
 use Rattle.redl_join.specs.Books.{IsBook, with_entry}
 use Rattle.redl_journal.specs.declared.entry.Entry.{Entry}
 use Rattle.redl_opc.specs.Code.{nodes_code}
 use Rattle.redl_rules.specs.Attributes.{broken_rule}
+use Rattle.redl_select.specs.declared.lock.Lock.{Lock}
 use Rattle.redl_session.specs.Refusals.{cause_of}
 use Rattle.redl_session.specs.Says.{says_of}
 use Rattle.redl_tree.specs.Model.Nodes.{Nodes, Tag}
 use Rattle.redl_tree.specs.declared.kinds.Say.{Say}
 
--- the nodes of a package, its revisions, the locked authors, and the entries that were admitted
+-- the nodes of a package, its revisions, the locks, and the entries that were admitted
 pub record State : Type 0 where
   pub nodes : Nodes
   pub revisions : List Revision
-  pub locks : List (List ℕ)
+  pub locks : List Lock
   pub book : List Entry
 
 -- A code of `State`, with which a proof distinguishes two of them.
-abbrev pub state_code : Coded Tag → Coded Revision → Coded Entry → Coded State
-state_code tag revision entry =
-    code_by (Nodes × (List Revision × (List (List ℕ) × List Entry)))
-    (coded× (nodes_code tag) (coded× (coded_list revision) (coded× (coded_list (coded_list coded_ℕ)) (coded_list entry))))
+abbrev pub state_code : Coded Tag → Coded Revision → Coded Lock → Coded Entry → Coded State
+state_code tag revision lock entry =
+    code_by (Nodes × (List Revision × (List Lock × List Entry)))
+    (coded× (nodes_code tag) (coded× (coded_list revision) (coded× (coded_list lock) (coded_list entry))))
     (λ state. (state.nodes, (state.revisions, (state.locks, state.book))))
     (λ code. record { nodes = code.0; revisions = code.1.0; locks = code.1.1.0; book = code.1.1.1 })
     (λ _. refl)

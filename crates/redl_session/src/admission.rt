@@ -19,10 +19,7 @@ pub(crate) fn cause(index: &Index, locks: &Locks, entry: &Entry) -> Option<Admit
     let Some(revision) = index.get(entry.rev) else {
         return Some(AdmitError::Unknown);
     };
-    if locks.bars(revision.author.as_bytes()) {
-        return Some(AdmitError::Locked);
-    }
-    None
+    locks.bars(revision).map(AdmitError::Locked)
 }
 
 /// Adds a copy of the entry, and says whether it is new. `Err` means out of memory, and the book is as it was.

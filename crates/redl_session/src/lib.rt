@@ -14,5 +14,5 @@ mod session;
 
 pub use laws::{admissions_make_the_union, order_does_not_count};
 pub use locks::Locks;
-pub use refusal::{AdmitError, Refusal, SessionWriteError, Taken};
+pub use refusal::{AdmitError, Bar, Refusal, SessionWriteError, Taken};
 pub use session::Session;

@@ -1,36 +1,75 @@
-//! Locked authors.
-ghost use Rattle.std.specs.Prelude.{◌≡◌};
-ghost use Rattle.redl_session.specs.Refusals.{is_locked};
+//! What nobody may decide.
+ghost use Rattle.std.specs.Prelude.{◌≡◌, ◌&&◌};
+ghost use Rattle.std.specs.List.{list_any};
+ghost use Rattle.redl_select.specs.Locks.{holds, is_author, is_kind};
+ghost use Rattle.redl_session.specs.Bars.{bar_of};
 
-use redl_io::Text;
+use crate::refusal::Bar;
+use redl_index::Revision;
+use redl_select::Lock;
 use std::marker::Model;
 
-/// The authors whose revisions nobody decides. Contracts see the list of them.
+/// The locks of a session. Contracts see the list of them.
 #[derive(Drop)]
 pub struct Locks {
-    authors: Vec<Text>,
+    locks: Vec<Lock>,
 }
 
 impl Model for Locks {
-    ghost use Rattle.std.specs.Prelude.{List, ℕ};
+    ghost use Rattle.std.specs.Prelude.{List};
+    ghost use Rattle.redl_select.specs.declared.lock.Lock.{Lock};
 
-    ghost Value = { List (List ℕ) };
+    ghost Value = { List Lock };
 
-    ghost view = { λ locks. locks.authors.items };
+    ghost view = { λ locks. locks.locks.items };
 }
 
 impl Locks {
-    /// The locks on these authors. An author may come more than once.
-    pub fn new(authors: Vec<Text>) -> Locks
-        ensures { result ≡ authors.items }
+    /// These locks. One may come more than once.
+    pub fn new(locks: Vec<Lock>) -> Locks
+        ensures { result ≡ locks.items }
     {
-        Locks { authors }
+        Locks { locks }
     }
 
-    /// Whether the author is locked: whether one of the texts is the same, byte for byte.
-    pub fn bars(&self, author: &[u8]) -> bool
-        ensures { result ≡ is_locked self.now author.now }
+    /// What bars the revision: its author where a lock on an author holds it, else its kind, else its moment. `None` if no lock
+    /// holds it.
+    pub fn bars(&self, revision: &Revision) -> Option<Bar>
+        ensures { result ≡ bar_of self.now revision.now }
     {
-        self.authors.iter().any(|lock| lock.as_bytes() == author)
+        if holds_by_author(&self.locks, revision) {
+            Some(Bar::Author)
+        } else if holds_by_kind(&self.locks, revision) {
+            Some(Bar::Kind)
+        } else if holds(&self.locks, revision) {
+            Some(Bar::Span)
+        } else {
+            None
+        }
     }
+}
+
+// Whether one of these locks holds the revision by its author.
+fn holds_by_author(locks: &[Lock], revision: &Revision) -> bool
+    ensures { result ≡ list_any (λ lock. is_author lock && holds revision.now lock) locks.now }
+{
+    locks
+        .iter()
+        .any(|lock| lock.is_on_author() && lock.holds(revision))
+}
+
+// Whether one of these locks holds the revision by its kind.
+fn holds_by_kind(locks: &[Lock], revision: &Revision) -> bool
+    ensures { result ≡ list_any (λ lock. is_kind lock && holds revision.now lock) locks.now }
+{
+    locks
+        .iter()
+        .any(|lock| lock.is_on_kind() && lock.holds(revision))
+}
+
+// Whether one of these locks holds the revision.
+fn holds(locks: &[Lock], revision: &Revision) -> bool
+    ensures { result ≡ list_any (λ lock. holds revision.now lock) locks.now }
+{
+    locks.iter().any(|lock| lock.holds(revision))
 }

@@ -15,15 +15,26 @@ pub enum Taken {
     Repeat,
 }
 
+/// What bars a revision that a lock holds.
+#[derive(Clone, Copy, Debug, PartialEq, Eq)]
+pub enum Bar {
+    /// A lock on its author.
+    Author,
+    /// A lock on its kind, and none on its author.
+    Kind,
+    /// A lock on a span of time alone.
+    Span,
+}
+
 /// Why an entry was refused.
 #[derive(Clone, Copy, Debug, PartialEq, Eq, Error)]
 pub enum AdmitError {
     /// The package does not have the revision.
     #[error("unknown revision")]
     Unknown,
-    /// The author of the revision is locked.
-    #[error("locked author")]
-    Locked,
+    /// A lock holds the revision, which is barred by this.
+    #[error("locked")]
+    Locked(Bar),
     /// Out of memory.
     #[error("out of memory")]
     NoMemory,

@@ -30,7 +30,7 @@ use redl_tree::{Node, Say, write_nodes};
 use std::alloc::{AllocError, Global};
 use std::marker::Model;
 
-/// A sound package, its revisions, the locked authors, and the book of the entries that were admitted. Contracts see these
+/// A sound package, its revisions, the locks, and the book of the entries that were admitted. Contracts see these
 /// four; the say of each revision is always that of the book's verdict.
 #[derive(Drop)]
 pub struct Session<'a> {
@@ -48,7 +48,7 @@ impl<'a> Model for Session<'a> {
 
     ghost Value = { State };
 
-    ghost coded = { state_code (Prim.hlevel codes) (Prim.hlevel codes) (Prim.hlevel codes) };
+    ghost coded = { state_code (Prim.hlevel codes) (Prim.hlevel codes) (Prim.hlevel codes) (Prim.hlevel codes) };
 
     ghost view = { λ session. record { nodes = session.original; revisions = session.index; locks = session.locks; book = session.book } };
 
@@ -83,8 +83,8 @@ impl<'a> Session<'a> {
 
     /// Admits the entry. A refusal hands it back and changes nothing.
     ///
-    /// `Unknown` exactly if the package does not have its revision. Otherwise `Locked` exactly if the revision's author is
-    /// locked. Otherwise `Repeat` if the book has the entry, and nothing changes. `NoMemory` means out of memory.
+    /// `Unknown` exactly if the package does not have its revision. Otherwise `Locked` exactly if a lock holds the revision, with
+    /// what bars it. Otherwise `Repeat` if the book has the entry, and nothing changes. `NoMemory` means out of memory.
     pub fn admit(&mut self, entry: Entry) -> Result<Taken, Refusal>
         requires { IsAllowed entry }
         ensures admitted { OnOk result (cause_of self.old.revisions self.old.locks entry ≡ None) }

@@ -2,27 +2,28 @@
 ghost use Rattle.std.specs.Prelude.{◌≡◌, All, IfOk};
 ghost use Rattle.redl_journal.specs.Journals.{IsAllowed};
 
-use redl_index::Index;
+use redl_index::{Index, RevKind};
 use redl_io::{MemSink, Text};
 use redl_join::Verdict;
 use redl_journal::Entry;
 use redl_opc::Package;
 use redl_rules::check;
-use redl_session::{AdmitError, Locks, Refusal, Session, Taken};
-use redl_tree::{Say, write_nodes};
-use std::alloc::Global;
+use redl_select::Lock;
+use redl_session::{AdmitError, Bar, Locks, Refusal, Session, Taken};
+use redl_tree::{Say, Trace, write_nodes};
+use std::alloc::{AllocError, Global};
 use std::test::Fail;
 
 const HEAD: &[u8] =
     b"redline-journal 1\ndocument e3b0c44298fc1c149afbf4c8996fb92427ae41e4649b934ca495991b7852b855\nrevisions 2\n";
 
-// An insertion by Ann, and one by Cy & Co.
+// An insertion by Ann, and one by Cy & Co, which is of the second 1714979289.
 const PACKAGE: &[u8] =
-    b"<pkg:package xmlns:pkg='http://schemas.microsoft.com/office/2006/xmlPackage'><pkg:part pkg:name='/d' pkg:contentType='x'><pkg:xmlData><w:document xmlns:w='http://schemas.openxmlformats.org/wordprocessingml/2006/main'><w:body><w:p><w:ins w:id='1' w:author='Ann'><w:r><w:t>a</w:t></w:r></w:ins><w:ins w:id='2' w:author='Cy &amp; Co'><w:r><w:t>g</w:t></w:r></w:ins></w:p></w:body></w:document></pkg:xmlData></pkg:part></pkg:package>";
+    b"<pkg:package xmlns:pkg='http://schemas.microsoft.com/office/2006/xmlPackage'><pkg:part pkg:name='/d' pkg:contentType='x'><pkg:xmlData><w:document xmlns:w='http://schemas.openxmlformats.org/wordprocessingml/2006/main'><w:body><w:p><w:ins w:id='1' w:author='Ann'><w:r><w:t>a</w:t></w:r></w:ins><w:ins w:id='2' w:author='Cy &amp; Co' w:date='2024-05-06T07:08:09Z'><w:r><w:t>g</w:t></w:r></w:ins></w:p></w:body></w:document></pkg:xmlData></pkg:part></pkg:package>";
 
 // The same with the first one accepted.
 const ACCEPTED: &[u8] =
-    b"<pkg:package xmlns:pkg='http://schemas.microsoft.com/office/2006/xmlPackage'><pkg:part pkg:name='/d' pkg:contentType='x'><pkg:xmlData><w:document xmlns:w='http://schemas.openxmlformats.org/wordprocessingml/2006/main'><w:body><w:p><w:r><w:t>a</w:t></w:r><w:ins w:id='2' w:author='Cy &amp; Co'><w:r><w:t>g</w:t></w:r></w:ins></w:p></w:body></w:document></pkg:xmlData></pkg:part></pkg:package>";
+    b"<pkg:package xmlns:pkg='http://schemas.microsoft.com/office/2006/xmlPackage'><pkg:part pkg:name='/d' pkg:contentType='x'><pkg:xmlData><w:document xmlns:w='http://schemas.openxmlformats.org/wordprocessingml/2006/main'><w:body><w:p><w:r><w:t>a</w:t></w:r><w:ins w:id='2' w:author='Cy &amp; Co' w:date='2024-05-06T07:08:09Z'><w:r><w:t>g</w:t></w:r></w:ins></w:p></w:body></w:document></pkg:xmlData></pkg:part></pkg:package>";
 
 // The entries of a journal with these lines.
 fn entries_of(alloc: Global, lines: &[u8]) -> Result<Vec<Entry>, Fail>
@@ -34,15 +35,32 @@ fn entries_of(alloc: Global, lines: &[u8]) -> Result<Vec<Entry>, Fail>
     Ok(journal.entries)
 }
 
-fn locks_of(alloc: Global, author: &[u8]) -> Result<Locks, Fail> {
-    let mut authors = Vec::new(alloc);
-    authors.push(Text::copy_of(alloc, author)?)?;
-    Ok(Locks::new(authors))
+// The lock that a word names: on insertions, on the second of Cy & Co's one, on the second before, or else on an author.
+fn lock_of(alloc: Global, word: &[u8]) -> Result<Lock, AllocError> {
+    if word == b"insertions".as_slice() {
+        Ok(Lock::Kind(RevKind::Content(Trace::Ins)))
+    } else if word == b"deletions".as_slice() {
+        Ok(Lock::Kind(RevKind::Content(Trace::Del)))
+    } else if word == b"that second".as_slice() {
+        Ok(Lock::Span(1_714_979_289, 1_714_979_290))
+    } else if word == b"the second before".as_slice() {
+        Ok(Lock::Span(1_714_979_288, 1_714_979_289))
+    } else {
+        Ok(Lock::Author(Text::copy_of(alloc, word)?))
+    }
 }
 
-// A session over the package with one locked author.
-fn session_of(alloc: Global, author: &[u8]) -> Result<Session<'static>, Fail> {
-    let locks = locks_of(alloc, author)?;
+fn locks_of(alloc: Global, words: &[&[u8]]) -> Result<Locks, AllocError> {
+    let mut locks = Vec::new(alloc);
+    for word in words {
+        locks.push(lock_of(alloc, word)?)?;
+    }
+    Ok(Locks::new(locks))
+}
+
+// A session over the package with these locks.
+fn session_of(alloc: Global, words: &[&[u8]]) -> Result<Session<'static>, Fail> {
+    let locks = locks_of(alloc, words)?;
     let mut pkg = Package::make(alloc, redl_xml::read(alloc, PACKAGE)?)?;
     check(alloc, &pkg)?;
     let index = Index::build(alloc, &mut pkg)?;
@@ -59,9 +77,13 @@ fn answer(session: &mut Session, entry: Entry) -> Result<Taken, AdmitError>
     }
 }
 
-// What becomes of the last of these entries, and the verdict on revision 1.
-fn last_answer(alloc: Global, lines: &[u8]) -> Result<(Result<Taken, AdmitError>, Verdict), Fail> {
-    let mut session = session_of(alloc, b"Cy & Co")?;
+// What becomes of the last of these entries under these locks, and the verdict on revision 1.
+fn last_answer(
+    alloc: Global,
+    words: &[&[u8]],
+    lines: &[u8],
+) -> Result<(Result<Taken, AdmitError>, Verdict), Fail> {
+    let mut session = session_of(alloc, words)?;
     let mut last = Ok(Taken::New);
     for entry in entries_of(alloc, lines)? {
         last = answer(&mut session, entry);
@@ -92,12 +114,48 @@ fn entries_are_new_repeated_or_refused(rt: HostRuntime) -> Result<(), Fail> {
         (b"1\t3\taccept\tAnn\n", unknown, Verdict::Undecided),
         (
             b"1\t1\treject\tAnn\n1\t2\taccept\tAnn\n",
-            Err(AdmitError::Locked),
+            Err(AdmitError::Locked(Bar::Author)),
             Verdict::Reject,
         ),
     ] {
-        let found = last_answer(rt.alloc(), lines)?;
+        let found = last_answer(rt.alloc(), &[b"Cy & Co"], lines)?;
         assert!(rt; found == (answer, verdict), "{found:?}");
+    }
+    Ok(())
+}
+
+// What becomes of an entry on the revision of Cy & Co under these locks.
+fn answer_under(alloc: Global, words: &[&[u8]]) -> Result<Result<Taken, AdmitError>, Fail> {
+    let (answer, _verdict) = last_answer(alloc, words, b"1\t2\taccept\tDee\n")?;
+    Ok(answer)
+}
+
+#[test]
+fn the_first_bar_is_told(rt: HostRuntime) -> Result<(), Fail> {
+    for (words, want) in [
+        (
+            [
+                b"Cy".as_slice(),
+                b"deletions".as_slice(),
+                b"the second before".as_slice(),
+            ],
+            Ok(Taken::New),
+        ),
+        (
+            [b"that second", b"Cy & Co", b"insertions"],
+            Err(AdmitError::Locked(Bar::Author)),
+        ),
+        (
+            [b"that second", b"insertions", b"Ann"],
+            Err(AdmitError::Locked(Bar::Kind)),
+        ),
+        (
+            [b"Ann", b"deletions", b"that second"],
+            Err(AdmitError::Locked(Bar::Span)),
+        ),
+    ] {
+        let found = answer_under(rt.alloc(), &words)?;
+        assert!(rt; found == want, "{found:?}");
     }
     Ok(())
 }
@@ -108,7 +166,7 @@ fn decided(
     author: &[u8],
     lines: &[u8],
 ) -> Result<(usize, Vec<Verdict>, bool), Fail> {
-    let mut session = session_of(alloc, author)?;
+    let mut session = session_of(alloc, &[author])?;
     let refused = session.admit_many(entries_of(alloc, lines)?)?;
     let verdicts = session.verdicts()?;
     let kept = session.says() == [Say::Accept, Say::Keep].as_slice();
@@ -133,7 +191,7 @@ fn the_says_are_those_of_the_verdicts(rt: HostRuntime) -> Result<(), Fail> {
 
 // Whether this is what a session writes, and the text of the nodes that it leaves.
 fn leaves(alloc: Global, lines: &[u8], text: &[u8]) -> Result<(bool, bool), Fail> {
-    let mut session = session_of(alloc, b"Cy & Co")?;
+    let mut session = session_of(alloc, &[b"Cy & Co"])?;
     let _refused = session.admit_many(entries_of(alloc, lines)?)?;
     let mut out = MemSink::new(alloc, 2_000, Vec::new(alloc))?;
     session.write(&mut out)?;
