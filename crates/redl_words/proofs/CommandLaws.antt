@@ -14,24 +14,22 @@ use Rattle.std.proofs.lemmas.Bool.{and_parts}
 use Rattle.redl_journal.proofs.Parts.{number_takes, number_again, reviewer_takes, reviewer_again}
 use Rattle.redl_reading.proofs.Steps.{bind_some}
 use Rattle.redl_select.specs.Selections.{Selection}
+use Rattle.redl_select.specs.declared.lock.Lock.{Lock}
 use Rattle.redl_words.specs.declared.error.WordsError.{WordsError}
 use Rattle.redl_words.specs.declared.error.WordsError.TheVariants.{Usage, NoMemory}
 use Rattle.redl_words.specs.declared.options.Form.TheVariants as forms
 use Rattle.redl_words.specs.declared.verb.Verb.{Verb}
 use Rattle.redl_words.specs.declared.verb.Verb.TheVariants as verbs
 use Rattle.redl_words.specs.declared.command.Command as code
-use Rattle.redl_words.specs.Commands.{Command, settle, list, write, decide, join, check, sample, is_name, Item, format, lock, journal, named_journal, choice, item_words, Admits, of_list, of_write, of_decide, Form as Kind, formats_of, locks_of, journals_of, say_word, IsSettle, IsList, IsWrite, IsDecide, IsJoin, IsCheck, IsSample, IsCommand, HasNoCommand, HasUtf8}
+use Rattle.redl_words.specs.Commands.{Command, settle, list, write, decide, join, check, sample, is_name, Item, format, lock, journal, named_journal, choice, rank, item_words, Admits, of_list, of_write, of_decide, Form as Kind, formats_of, locks_of, journals_of, ranks_of, say_word, IsSettle, IsList, IsWrite, IsDecide, IsJoin, IsCheck, IsSample, IsCommand, HasNoCommand, HasUtf8, LockHasUtf8}
+use Rattle.redl_words.specs.Selections.{MeansLock}
 use Rattle.redl_words.specs.Views.{command_of}
 use Rattle.redl_words.specs.Reading.Answers.{Finds}
 use Rattle.redl_words.specs.Reading.Items.{Gathered, nothing, gathered}
-use Rattle.redl_words.specs.Reading.Commands.{verb_in, say_in, settle_in, format_or_text, list_in, write_in, decide_with, decide_in, names_in, join_in, check_in, sample_in, command_with, command_in}
-use Rattle.redl_words.proofs.SelectionLaws.{bytes_same, map_some}
+use Rattle.redl_words.specs.Reading.Commands.{verb_in, say_in, settle_in, format_or_text, rank_or_0, list_in, write_in, decide_with, decide_in, names_in, join_in, check_in, sample_in, command_with, command_in}
+use Rattle.redl_words.proofs.SelectionLaws.{bytes_same, map_some, pick}
+use Rattle.redl_words.proofs.LockLaws.{lock_utf8}
 use Rattle.redl_words.proofs.ItemLaws.{items_take, read_again}
-
--- the first of several tests that holds
-pick : {A : Type 0} (P : A → Type 0) (t : Bool) (x : A) (rest : Option A) (y : A) → cond t (Some x) rest ≡ Some y → (t ≡ true → P x) → (rest ≡ Some y → P y) → P y
-pick P true x rest y e here later = subst P (same_Some x y e) (here refl)
-pick P false x rest y e here later = later e
 
 -- an answer that needs a test
 needs : {A : Type 0} (t : Bool) (x : Option A) (y : A) → cond t x None ≡ Some y → (t ≡ true) × (x ≡ Some y)
@@ -129,21 +127,33 @@ list_takes (p ∷ rest) c e =
     } in
     subst (IsCommand (codes "list" ∷ p ∷ rest)) g.2 means
 
-one_format : (formats : List (List ℕ)) (name : List ℕ) → ((formats ≡ []) × (name ≡ codes "text")) ⊎ (formats ≡ name ∷ []) → length formats ≤ 1
-one_format formats name (inl h) = let short : length formats ≡ 0 = ap length h.0 in omega arith
-one_format formats name (inr h) = let short : length formats ≡ 1 = ap length h in omega arith
+-- what comes at most once, and else has a default
+once : {A : Type 0} (xs : List A) (x default : A) → ((xs ≡ []) × (x ≡ default)) ⊎ (xs ≡ x ∷ []) → length xs ≤ 1
+once xs x default (inl h) = let short : length xs ≡ 0 = ap length h.0 in omega arith
+once xs x default (inr h) = let short : length xs ≡ 1 = ap length h in omega arith
 
-list_again : (p name : List ℕ) (locks journals rest : List (List ℕ)) (items : List Item) → is_name p ≡ true → rest ≡ flat_map item_words items → All (Admits of_list) items
+-- a command that admits no rank has none
+unranked : (k : Kind) → ((number : ℕ) → Admits k (rank number) → ⊥) → (items : List Item) → AllByRecursion (Admits k) items → length (ranks_of items) ≤ 1
+unranked k none [] h = omega arith
+unranked k none (format name ∷ items) h = unranked k none items h.1
+unranked k none (lock text of_lock ∷ items) h = unranked k none items h.1
+unranked k none (journal name ∷ items) h = unranked k none items h.1
+unranked k none (named_journal name ∷ items) h = unranked k none items h.1
+unranked k none (choice word text selection ∷ items) h = unranked k none items h.1
+unranked k none (rank number ∷ items) h = absurd (none number h.0)
+
+list_again : (p name : List ℕ) (locks : List Lock) (journals rest : List (List ℕ)) (items : List Item) → is_name p ≡ true → rest ≡ flat_map item_words items → All (Admits of_list) items
     → ((formats_of items ≡ []) × (name ≡ codes "text")) ⊎ (formats_of items ≡ name ∷ []) → locks ≡ locks_of items → journals ≡ journals_of items
     → list_in (p ∷ rest) ≡ Some (list p name locks journals)
 unfolding list_in
 list_again p name locks journals rest items h written admitted formats l j =
-    let r = read_again forms.List items rest written (recursion_from_All (Admits of_list) items admitted) (one_format (formats_of items) name formats) in
+    let each = recursion_from_All (Admits of_list) items admitted in
+    let r = read_again forms.List items rest written each (once (formats_of items) name (codes "text") formats) (unranked of_list (λ number h. h) items each) in
     let f : format_or_text r.after.format ≡ name = format_again r.after.format (formats_of items) name r.format formats in
     let ls : r.after.locks ≡ locks = r.locks ∙ sym l in
     let js : r.after.journals ≡ journals = r.journals ∙ sym j in
     rw (h, r.reads) (same_list (format_or_text r.after.format) name r.after.locks locks r.after.journals journals f ls js) where
-      same_list : (f name : List ℕ) (ls locks js journals : List (List ℕ)) → f ≡ name → ls ≡ locks → js ≡ journals → Some (list p f ls js) ≡ Some (list p name locks journals)
+      same_list : (f name : List ℕ) (ls locks : List Lock) (js journals : List (List ℕ)) → f ≡ name → ls ≡ locks → js ≡ journals → Some (list p f ls js) ≡ Some (list p name locks journals)
       same_list f name ls locks js journals a b c = cc
 
 -- ---- write
@@ -170,46 +180,57 @@ write_takes (p ∷ rest) c e =
 unformatted : (k : Kind) → ((name : List ℕ) → Admits k (format name) → ⊥) → (items : List Item) → AllByRecursion (Admits k) items → length (formats_of items) ≤ 1
 unformatted k none [] h = omega arith
 unformatted k none (format name ∷ items) h = absurd (none name h.0)
-unformatted k none (lock author ∷ items) h = unformatted k none items h.1
+unformatted k none (lock text of_lock ∷ items) h = unformatted k none items h.1
 unformatted k none (journal name ∷ items) h = unformatted k none items h.1
 unformatted k none (named_journal name ∷ items) h = unformatted k none items h.1
 unformatted k none (choice word text selection ∷ items) h = unformatted k none items h.1
+unformatted k none (rank number ∷ items) h = unformatted k none items h.1
 
-write_again : (p : List ℕ) (locks journals rest : List (List ℕ)) (items : List Item) → is_name p ≡ true → rest ≡ flat_map item_words items → All (Admits of_write) items
+write_again : (p : List ℕ) (locks : List Lock) (journals rest : List (List ℕ)) (items : List Item) → is_name p ≡ true → rest ≡ flat_map item_words items → All (Admits of_write) items
     → locks ≡ locks_of items → journals ≡ journals_of items → write_in (p ∷ rest) ≡ Some (write p locks journals)
 unfolding write_in
 write_again p locks journals rest items h written admitted l j =
     let each = recursion_from_All (Admits of_write) items admitted in
-    let r = read_again forms.Write items rest written each (unformatted of_write (λ name h. h) items each) in
+    let r = read_again forms.Write items rest written each (unformatted of_write (λ name h. h) items each) (unranked of_write (λ number h. h) items each) in
     let ls : r.after.locks ≡ locks = r.locks ∙ sym l in
     let js : r.after.journals ≡ journals = r.journals ∙ sym j in
     rw (h, r.reads) (same_write r.after.locks locks r.after.journals journals ls js) where
-      same_write : (ls locks js journals : List (List ℕ)) → ls ≡ locks → js ≡ journals → Some (write p ls js) ≡ Some (write p locks journals)
+      same_write : (ls locks : List Lock) (js journals : List (List ℕ)) → ls ≡ locks → js ≡ journals → Some (write p ls js) ≡ Some (write p locks journals)
       same_write ls locks js journals a b = cc
 
 -- ---- decide
 
-decide_with_takes : (p reviewer : List ℕ) (journals locks : List (List ℕ)) (choices : List (Word × Selection)) (c : Command) → decide_with p reviewer journals locks choices ≡ Some c
-    → (choices ≢ []) × (decide p reviewer journals locks choices ≡ c)
-decide_with_takes p reviewer journals locks [] c e = absurd cc
-decide_with_takes p reviewer journals locks (first ∷ more) c e = (λ empty. cc, same_Some (decide p reviewer journals locks (first ∷ more)) c e)
+rank_takes : (r : Option ℕ) (ranks : List ℕ) → option_to_list r ≡ ranks → ((ranks ≡ []) × (rank_or_0 r ≡ 0)) ⊎ (ranks ≡ rank_or_0 r ∷ [])
+rank_takes None ranks e = inl (sym e, refl)
+rank_takes (Some number) ranks e = inr (sym e)
 
-decide_with_again : (p reviewer : List ℕ) (journals locks : List (List ℕ)) (choices : List (Word × Selection)) → choices ≢ []
-    → decide_with p reviewer journals locks choices ≡ Some (decide p reviewer journals locks choices)
-decide_with_again p reviewer journals locks [] h = absurd (h refl)
-decide_with_again p reviewer journals locks (first ∷ more) h = refl
+rank_again : (r : Option ℕ) (ranks : List ℕ) (number : ℕ) → option_to_list r ≡ ranks → ((ranks ≡ []) × (number ≡ 0)) ⊎ (ranks ≡ number ∷ []) → rank_or_0 r ≡ number
+rank_again None ranks number e (inl h) = sym h.1
+rank_again None ranks number e (inr h) = absurd (let wrong = e ∙ h in cc)
+rank_again (Some other) ranks number e (inl h) = absurd (let wrong = e ∙ h.0 in cc)
+rank_again (Some other) ranks number e (inr h) = let same = e ∙ h in cc
+
+decide_with_takes : (p reviewer : List ℕ) (journals : List (List ℕ)) (locks : List Lock) (choices : List (Word × Selection)) (number : ℕ) (c : Command) → decide_with p reviewer journals locks choices number ≡ Some c
+    → (choices ≢ []) × (decide p reviewer journals locks choices number ≡ c)
+decide_with_takes p reviewer journals locks [] number c e = absurd cc
+decide_with_takes p reviewer journals locks (first ∷ more) number c e = (λ empty. cc, same_Some (decide p reviewer journals locks (first ∷ more) number) c e)
+
+decide_with_again : (p reviewer : List ℕ) (journals : List (List ℕ)) (locks : List Lock) (choices : List (Word × Selection)) (number : ℕ) → choices ≢ []
+    → decide_with p reviewer journals locks choices number ≡ Some (decide p reviewer journals locks choices number)
+decide_with_again p reviewer journals locks [] number h = absurd (h refl)
+decide_with_again p reviewer journals locks (first ∷ more) number h = refl
 
 decide_takes : (rest : List (List ℕ)) (c : Command) → decide_in rest ≡ Some c → IsCommand (codes "decide" ∷ rest) c
 unfolding decide_in
 decide_takes [] c e = absurd cc
 decide_takes (p ∷ []) c e = absurd cc
 decide_takes (p ∷ reviewer ∷ rest) c e =
-    let n = needs (is_name p && is_reviewer reviewer) (gathered forms.Decide nothing rest >>= λ items. decide_with p reviewer items.journals items.locks items.choices) c e in
+    let n = needs (is_name p && is_reviewer reviewer) (gathered forms.Decide nothing rest >>= λ items. decide_with p reviewer items.journals items.locks items.choices (rank_or_0 items.rank)) c e in
     let both = and_parts (is_name p) (is_reviewer reviewer) n.0 in
-    let g = bind_some (gathered forms.Decide nothing rest) (λ (items : Gathered). decide_with p reviewer items.journals items.locks items.choices) c n.1 in
-    let d = decide_with_takes p reviewer g.0.journals g.0.locks g.0.choices c g.2 in
+    let g = bind_some (gathered forms.Decide nothing rest) (λ (items : Gathered). decide_with p reviewer items.journals items.locks items.choices (rank_or_0 items.rank)) c n.1 in
+    let d = decide_with_takes p reviewer g.0.journals g.0.locks g.0.choices (rank_or_0 g.0.rank) c g.2 in
     let r = items_take forms.Decide rest nothing g.0 g.1 in
-    let means : IsDecide (codes "decide" ∷ p ∷ reviewer ∷ rest) p reviewer g.0.journals g.0.locks g.0.choices = record {
+    let means : IsDecide (codes "decide" ∷ p ∷ reviewer ∷ rest) p reviewer g.0.journals g.0.locks g.0.choices (rank_or_0 g.0.rank) = record {
       items = r.items;
       rest = rest;
       written = refl;
@@ -219,22 +240,25 @@ decide_takes (p ∷ reviewer ∷ rest) c e =
       journals_are = r.says.journals;
       locks_are = r.says.locks;
       choices_are = r.says.choices;
+      rank = rank_takes g.0.rank (ranks_of r.items) r.says.rank;
       some = d.0;
     } in
     subst (IsCommand (codes "decide" ∷ p ∷ reviewer ∷ rest)) d.1 means
 
-decide_again : (words : List (List ℕ)) (p reviewer : List ℕ) (journals locks : List (List ℕ)) (choices : List (Word × Selection)) (h : IsDecide words p reviewer journals locks choices)
-    → decide_in (p ∷ reviewer ∷ h.rest) ≡ Some (decide p reviewer journals locks choices)
+decide_again : (words : List (List ℕ)) (p reviewer : List ℕ) (journals : List (List ℕ)) (locks : List Lock) (choices : List (Word × Selection)) (number : ℕ) (h : IsDecide words p reviewer journals locks choices number)
+    → decide_in (p ∷ reviewer ∷ h.rest) ≡ Some (decide p reviewer journals locks choices number)
 unfolding decide_in
-decide_again words p reviewer journals locks choices h =
+decide_again words p reviewer journals locks choices number h =
     let each = recursion_from_All (Admits of_decide) h.items h.are_items.admitted in
-    let r = read_again forms.Decide h.items h.rest h.are_items.written each (unformatted of_decide (λ name h. h) h.items each) in
+    let r = read_again forms.Decide h.items h.rest h.are_items.written each (unformatted of_decide (λ name h. h) h.items each) (once (ranks_of h.items) number 0 h.rank) in
     let js : r.after.journals ≡ journals = r.journals ∙ sym h.journals_are in
     let ls : r.after.locks ≡ locks = r.locks ∙ sym h.locks_are in
     let cs : r.after.choices ≡ choices = r.choices ∙ sym h.choices_are in
-    rw (h.package_name, reviewer_again reviewer h.reviewer_name, r.reads) (made r.after.journals r.after.locks r.after.choices js ls cs) where
-      made : (js ls : List (List ℕ)) (cs : List (Word × Selection)) → js ≡ journals → ls ≡ locks → cs ≡ choices → decide_with p reviewer js ls cs ≡ Some (decide p reviewer journals locks choices)
-      made js ls cs a b d = rw (a, b, d) (decide_with_again p reviewer journals locks choices h.some)
+    let n : rank_or_0 r.after.rank ≡ number = rank_again r.after.rank (ranks_of h.items) number r.rank h.rank in
+    rw (h.package_name, reviewer_again reviewer h.reviewer_name, r.reads) (made r.after.journals r.after.locks r.after.choices (rank_or_0 r.after.rank) js ls cs n) where
+      made : (js : List (List ℕ)) (ls : List Lock) (cs : List (Word × Selection)) (n : ℕ) → js ≡ journals → ls ≡ locks → cs ≡ choices → n ≡ number
+          → decide_with p reviewer js ls cs n ≡ Some (decide p reviewer journals locks choices number)
+      made js ls cs n a b d e = rw (a, b, d, e) (decide_with_again p reviewer journals locks choices number h.some)
 
 -- ---- join, check, sample
 
@@ -344,8 +368,8 @@ command_again words (list p name locks journals) h =
     ∙ list_again p name locks journals h.rest h.items h.package_name h.are_items.written h.are_items.admitted h.format h.locks_are h.journals_are
 command_again words (write p locks journals) h =
     ap command_in h.written ∙ write_line (p ∷ h.rest) ∙ write_again p locks journals h.rest h.items h.package_name h.are_items.written h.are_items.admitted h.locks_are h.journals_are
-command_again words (decide p reviewer journals locks choices) h =
-    ap command_in h.written ∙ decide_line (p ∷ reviewer ∷ h.rest) ∙ decide_again words p reviewer journals locks choices h
+command_again words (decide p reviewer journals locks choices number) h =
+    ap command_in h.written ∙ decide_line (p ∷ reviewer ∷ h.rest) ∙ decide_again words p reviewer journals locks choices number h
 command_again words (join journals) h = ap command_in h.written ∙ join_line journals ∙ join_again journals h.some h.names
 command_again words (check p) h = ap command_in h.written ∙ check_line (p ∷ []) ∙ check_again p h.name
 command_again words (sample number) h = ap command_in h.written ∙ sample_line (decimal number ∷ []) ∙ sample_again number (number_again number h.small)
@@ -361,16 +385,39 @@ no_command words none c h = let e = command_again words c h in cc
 -- the texts of items are words
 pub record AreUtf8 (items : List Item) : Type 0 where
   pub formats : AllByRecursion IsUtf8 (formats_of items)
-  pub locks : AllByRecursion IsUtf8 (locks_of items)
+  pub locks : AllByRecursion LockHasUtf8 (locks_of items)
   pub journals : AllByRecursion IsUtf8 (journals_of items)
 
-items_utf8 : (items : List Item) → AllByRecursion IsUtf8 (flat_map item_words items) → AreUtf8 items
-items_utf8 [] h = record { formats = tt; locks = tt; journals = tt }
-items_utf8 (format name ∷ items) h = let r = items_utf8 items h.1.1 in record { formats = (h.1.0, r.formats); locks = r.locks; journals = r.journals }
-items_utf8 (lock author ∷ items) h = let r = items_utf8 items h.1.1 in record { formats = r.formats; locks = (h.1.0, r.locks); journals = r.journals }
-items_utf8 (journal name ∷ items) h = let r = items_utf8 items h.1 in record { formats = r.formats; locks = r.locks; journals = (h.0, r.journals) }
-items_utf8 (named_journal name ∷ items) h = let r = items_utf8 items h.1.1 in record { formats = r.formats; locks = r.locks; journals = (h.1.0, r.journals) }
-items_utf8 (choice word text selection ∷ items) h = let r = items_utf8 items h.1.1 in record { formats = r.formats; locks = r.locks; journals = r.journals }
+-- a lock that some command admits is well formed
+lock_means : (k : Kind) (text : List ℕ) (of_lock : Lock) → Admits k (lock text of_lock) → MeansLock text of_lock
+lock_means of_list text of_lock h = h
+lock_means of_write text of_lock h = h
+lock_means of_decide text of_lock h = h
+
+items_utf8 : (k : Kind) (items : List Item) → AllByRecursion (Admits k) items → AllByRecursion IsUtf8 (flat_map item_words items) → AreUtf8 items
+items_utf8 k [] a h = record { formats = tt; locks = tt; journals = tt }
+items_utf8 k (format name ∷ items) a h = let r = items_utf8 k items a.1 h.1.1 in record { formats = (h.1.0, r.formats); locks = r.locks; journals = r.journals }
+items_utf8 k (lock text of_lock ∷ items) a h =
+    let r = items_utf8 k items a.1 h.1.1 in
+    record { formats = r.formats; locks = (lock_utf8 text of_lock (lock_means k text of_lock a.0) h.1.0, r.locks); journals = r.journals }
+items_utf8 k (journal name ∷ items) a h = let r = items_utf8 k items a.1 h.1 in record { formats = r.formats; locks = r.locks; journals = (h.0, r.journals) }
+items_utf8 k (named_journal name ∷ items) a h = let r = items_utf8 k items a.1 h.1.1 in record { formats = r.formats; locks = r.locks; journals = (h.1.0, r.journals) }
+items_utf8 k (choice word text selection ∷ items) a h = let r = items_utf8 k items a.1 h.1.1 in record { formats = r.formats; locks = r.locks; journals = r.journals }
+items_utf8 k (rank number ∷ items) a h = let r = items_utf8 k items a.1 h.1.1 in record { formats = r.formats; locks = r.locks; journals = r.journals }
+
+-- ranks are at most 9
+low_ranks : (items : List Item) → AllByRecursion (Admits of_decide) items → AllByRecursion (λ number. number ≤ 9) (ranks_of items)
+low_ranks [] a = tt
+low_ranks (format name ∷ items) a = absurd a.0
+low_ranks (lock text of_lock ∷ items) a = low_ranks items a.1
+low_ranks (journal name ∷ items) a = absurd a.0
+low_ranks (named_journal name ∷ items) a = low_ranks items a.1
+low_ranks (choice word text selection ∷ items) a = low_ranks items a.1
+low_ranks (rank number ∷ items) a = (a.0, low_ranks items a.1)
+
+low_rank : (ranks : List ℕ) (number : ℕ) → AllByRecursion (λ n. n ≤ 9) ranks → ((ranks ≡ []) × (number ≡ 0)) ⊎ (ranks ≡ number ∷ []) → number ≤ 9
+low_rank ranks number h (inl e) = let none = e.1 in omega arith
+low_rank ranks number h (inr e) = let all : AllByRecursion (λ n. n ≤ 9) (number ∷ []) = subst (AllByRecursion (λ n. n ≤ 9)) e h in all.0
 
 text_utf8 : IsUtf8 (codes "text")
 text_utf8 = IsUtf8-from_ascii (codes "text") low where
@@ -385,6 +432,9 @@ format_utf8 : (formats : List (List ℕ)) (name : List ℕ) → AllByRecursion I
 format_utf8 formats name h (inl e) = subst IsUtf8 (sym e.1) text_utf8
 format_utf8 formats name h (inr e) = let all : AllByRecursion IsUtf8 (name ∷ []) = subst (AllByRecursion IsUtf8) e h in all.0
 
+all_locks : (locks more : List Lock) → AllByRecursion LockHasUtf8 more → locks ≡ more → All LockHasUtf8 locks
+all_locks locks more h e = All-from_recursion LockHasUtf8 locks (subst (AllByRecursion LockHasUtf8) (sym e) h)
+
 all_utf8 : (texts more : List (List ℕ)) → AllByRecursion IsUtf8 more → texts ≡ more → All IsUtf8 texts
 all_utf8 texts more h e = All-from_recursion IsUtf8 texts (subst (AllByRecursion IsUtf8) (sym e) h)
 
@@ -393,16 +443,17 @@ command_utf8 words (settle accept p) h u =
     let v : AllByRecursion IsUtf8 (codes "settle" ∷ say_word accept ∷ p ∷ []) = subst (AllByRecursion IsUtf8) h.written u in v.1.1.0
 command_utf8 words (list p name locks journals) h u =
     let v : AllByRecursion IsUtf8 (codes "list" ∷ p ∷ h.rest) = subst (AllByRecursion IsUtf8) h.written u in
-    let i = items_utf8 h.items (subst (AllByRecursion IsUtf8) h.are_items.written v.1.1) in
-    (v.1.0, format_utf8 (formats_of h.items) name i.formats h.format, all_utf8 locks (locks_of h.items) i.locks h.locks_are, all_utf8 journals (journals_of h.items) i.journals h.journals_are)
+    let i = items_utf8 of_list h.items (recursion_from_All (Admits of_list) h.items h.are_items.admitted) (subst (AllByRecursion IsUtf8) h.are_items.written v.1.1) in
+    (v.1.0, format_utf8 (formats_of h.items) name i.formats h.format, all_locks locks (locks_of h.items) i.locks h.locks_are, all_utf8 journals (journals_of h.items) i.journals h.journals_are)
 command_utf8 words (write p locks journals) h u =
     let v : AllByRecursion IsUtf8 (codes "write" ∷ p ∷ h.rest) = subst (AllByRecursion IsUtf8) h.written u in
-    let i = items_utf8 h.items (subst (AllByRecursion IsUtf8) h.are_items.written v.1.1) in
-    (v.1.0, all_utf8 locks (locks_of h.items) i.locks h.locks_are, all_utf8 journals (journals_of h.items) i.journals h.journals_are)
-command_utf8 words (decide p reviewer journals locks choices) h u =
+    let i = items_utf8 of_write h.items (recursion_from_All (Admits of_write) h.items h.are_items.admitted) (subst (AllByRecursion IsUtf8) h.are_items.written v.1.1) in
+    (v.1.0, all_locks locks (locks_of h.items) i.locks h.locks_are, all_utf8 journals (journals_of h.items) i.journals h.journals_are)
+command_utf8 words (decide p reviewer journals locks choices number) h u =
     let v : AllByRecursion IsUtf8 (codes "decide" ∷ p ∷ reviewer ∷ h.rest) = subst (AllByRecursion IsUtf8) h.written u in
-    let i = items_utf8 h.items (subst (AllByRecursion IsUtf8) h.are_items.written v.1.1.1) in
-    (v.1.0, h.reviewer_name, all_utf8 journals (journals_of h.items) i.journals h.journals_are, all_utf8 locks (locks_of h.items) i.locks h.locks_are)
+    let each = recursion_from_All (Admits of_decide) h.items h.are_items.admitted in
+    let i = items_utf8 of_decide h.items each (subst (AllByRecursion IsUtf8) h.are_items.written v.1.1.1) in
+    (v.1.0, h.reviewer_name, all_utf8 journals (journals_of h.items) i.journals h.journals_are, all_locks locks (locks_of h.items) i.locks h.locks_are, low_rank (ranks_of h.items) number (low_ranks h.items each) h.rank)
 command_utf8 words (join journals) h u =
     let v : AllByRecursion IsUtf8 (codes "join" ∷ journals) = subst (AllByRecursion IsUtf8) h.written u in All-from_recursion IsUtf8 journals v.1
 command_utf8 words (check p) h u = let v : AllByRecursion IsUtf8 (codes "check" ∷ p ∷ []) = subst (AllByRecursion IsUtf8) h.written u in v.1.0

@@ -1,6 +1,6 @@
 -- The items of a command: what was read is what the words are, and what the words are is read.
 use Rattle.std.proofs.Common.{◌≡◌, ℕ, ◌+◌, ◌≤◌, Bool, true, false, cond, List, [], ◌∷◌, ◌++◌, length, Option, Some, None, refl, sym, ap, subst, ◌∙◌, inl, inr, ◌⊎◌, arith, append-nil, append_assoc, All, IsUtf8, Bor, Result, Ok, Err}
-use Rattle.std.specs.Prelude.{codes, option_to_list, IsErrAnd}
+use Rattle.std.specs.Prelude.{codes, decimal, option_to_list, IsErrAnd}
 use Rattle.std.proofs.lemmas.List.Elements.{recursion_from_All, All-from_recursion}
 use Rattle.std.specs.List.{flat_map, AllByRecursion}
 use Rattle.std.specs.Str.{bytes_eq}
@@ -8,21 +8,28 @@ use Rattle.std.proofs.lemmas.Option.{same_Some, cond_some}
 use Rattle.redl_journal.specs.declared.entry.Word.{Word}
 use Rattle.redl_journal.specs.declared.entry.Word.TheVariants.{Accept, Reject, Withdraw}
 use Rattle.redl_reading.specs.Steps.{◌>>=◌}
-use Rattle.std.proofs.lemmas.Bool.{cases_Bool}
 use Rattle.redl_reading.proofs.Steps.{bind_some}
 use Rattle.redl_select.specs.Selections.{Selection}
-use Rattle.redl_words.specs.Selections.{Means}
-use Rattle.redl_words.specs.Commands.{Item, format, lock, journal, named_journal, choice, item_words, Admits, of_list, of_write, of_decide, Form as Kind, formats_of, locks_of, journals_of, choices_of, is_name, option_of}
+use Rattle.redl_select.specs.declared.lock.Lock.{Lock}
+use Rattle.redl_select.specs.declared.lock.Lock.TheVariants.{Author, Kind as OfKind, Span}
+use Rattle.redl_words.specs.Selections.{Means, MeansLock}
+use Rattle.redl_words.specs.Commands.{Item, format, lock, journal, named_journal, choice, rank, item_words, Admits, of_list, of_write, of_decide, Form as Kind, formats_of, locks_of, journals_of, choices_of, ranks_of, is_name, option_of, lock_option}
 use Rattle.redl_words.specs.declared.options.Form.{Form}
 use Rattle.redl_words.specs.declared.options.Form.TheVariants as forms
+use Rattle.redl_words.specs.declared.options.Locked.{Locked}
+use Rattle.redl_words.specs.declared.options.Locked.TheVariants as locked
 use Rattle.redl_words.specs.declared.options.ItemOption.{ItemOption}
 use Rattle.redl_words.specs.declared.options.ItemOption.TheVariants as options
 use Rattle.redl_words.specs.declared.error.WordsError.{WordsError}
 use Rattle.redl_words.specs.declared.error.WordsError.TheVariants.{Usage, NoMemory}
 use Rattle.redl_words.specs.Reading.Answers.{Fails, Finds}
+use Rattle.redl_words.specs.Reading.Locks.{lock_in}
+use Rattle.redl_words.specs.Reading.Ranks.{rank_in}
 use Rattle.redl_words.specs.Reading.Selections.{selection_in}
-use Rattle.redl_words.specs.Reading.Items.{Goes, Gathered, nothing, with_journal, with_plain_journal, has_plain_journals, deciding_option, own_option, option_in, with_format, with_option, with_word, gathered}
-use Rattle.redl_words.proofs.SelectionLaws.{bytes_same, selection_takes, selection_again}
+use Rattle.redl_words.specs.Reading.Items.{Goes, Gathered, nothing, with_journal, with_plain_journal, has_plain_journals, deciding_option, locking_option, own_option, lock_or, option_in, with_format, with_rank, with_option, with_word, gathered}
+use Rattle.redl_words.proofs.LockLaws.{lock_on, locked_option, no_name, lock_takes, lock_again}
+use Rattle.redl_words.proofs.RankLaws.{rank_takes, rank_again}
+use Rattle.redl_words.proofs.SelectionLaws.{bytes_same, pick, selection_takes, selection_again}
 
 -- the form of the definition
 abbrev pub form_of : Form → Kind
@@ -70,6 +77,7 @@ pub record Says (before after : Gathered) (items : List Item) : Type 0 where
   pub locks : after.locks ≡ before.locks ++ locks_of items
   pub journals : after.journals ≡ before.journals ++ journals_of items
   pub choices : after.choices ≡ before.choices ++ choices_of items
+  pub rank : option_to_list after.rank ≡ option_to_list before.rank ++ ranks_of items
 
 -- the words are those of one item that the form admits
 pub record Turned (form : Form) (words : List (List ℕ)) (before after : Gathered) : Type 0 where
@@ -85,7 +93,7 @@ plain_takes : (form : Form) (word : List ℕ) (before after : Gathered) → is_n
 unfolding with_plain_journal
 plain_takes form word before after name e = of form e where
   says : Says before (with_journal word before) (journal word ∷ [])
-  says = record { format = sym (append-nil _); locks = sym (append-nil _); journals = refl; choices = sym (append-nil _) }
+  says = record { format = sym (append-nil _); locks = sym (append-nil _); journals = refl; choices = sym (append-nil _); rank = sym (append-nil _) }
 
   of : (form : Form) → cond (has_plain_journals form) (Some (with_journal word before)) None ≡ Some after → Turned form (word ∷ []) before after
   of forms.List e = record { item = journal word; written = refl; admitted = name; says = says_same before after (with_journal word before) (journal word ∷ []) (same_Some (with_journal word before) after e) says }
@@ -95,29 +103,29 @@ plain_takes form word before after name e = of form e where
 -- the word is the text of the option, and the form has it
 abbrev Has : Form → List ℕ → ItemOption → Type 0
 Has forms.List word options.Format = word ≡ codes "--format"
-Has form word options.Lock = word ≡ codes "--lock"
+Has form word (options.Lock on) = word ≡ locked_option on
 Has forms.Decide word options.Journal = word ≡ codes "--journal"
 Has forms.Decide word (options.Choice decision) = word ≡ option_of decision
+Has forms.Decide word options.Rank = word ≡ codes "--rank"
 Has _ _ _ = ⊥
 
 deciding_takes : (word : List ℕ) (o : ItemOption) → deciding_option word ≡ Some o → Has forms.Decide word o
+unfolding deciding_option
 deciding_takes word o e =
-    elim (cases_Bool (bytes_eq word (codes "--journal"))) [
-      | inl hit ↦ let same : Some options.Journal ≡ Some o = rw hit at e in subst (Has forms.Decide word) (same_Some options.Journal o same) (bytes_same word (codes "--journal") hit)
-      | inr one ↦
-          elim (cases_Bool (bytes_eq word (option_of Accept))) [
-            | inl hit ↦ let same : Some (options.Choice Accept) ≡ Some o = rw (one, hit) at e in subst (Has forms.Decide word) (same_Some (options.Choice Accept) o same) (bytes_same word (option_of Accept) hit)
-            | inr two ↦
-                elim (cases_Bool (bytes_eq word (option_of Reject))) [
-                  | inl hit ↦ let same : Some (options.Choice Reject) ≡ Some o = rw (one, two, hit) at e in subst (Has forms.Decide word) (same_Some (options.Choice Reject) o same) (bytes_same word (option_of Reject) hit)
-                  | inr three ↦
-                      elim (cases_Bool (bytes_eq word (option_of Withdraw))) [
-                        | inl hit ↦ let same : Some (options.Choice Withdraw) ≡ Some o = rw (one, two, three, hit) at e in subst (Has forms.Decide word) (same_Some (options.Choice Withdraw) o same) (bytes_same word (option_of Withdraw) hit)
-                        | inr four ↦ absurd (let none : None ≡ Some o = rw (one, two, three, four) at e in cc)
-                      ]
-                ]
-          ]
-    ]
+    pick (Has forms.Decide word) (bytes_eq word (codes "--journal")) options.Journal _ o e (λ hit. bytes_same word (codes "--journal") hit) (λ e.
+    pick (Has forms.Decide word) (bytes_eq word (option_of Accept)) (options.Choice Accept) _ o e (λ hit. bytes_same word (option_of Accept) hit) (λ e.
+    pick (Has forms.Decide word) (bytes_eq word (option_of Reject)) (options.Choice Reject) _ o e (λ hit. bytes_same word (option_of Reject) hit) (λ e.
+    pick (Has forms.Decide word) (bytes_eq word (option_of Withdraw)) (options.Choice Withdraw) _ o e (λ hit. bytes_same word (option_of Withdraw) hit) (λ e.
+    pick (Has forms.Decide word) (bytes_eq word (codes "--rank")) options.Rank _ o e (λ hit. bytes_same word (codes "--rank") hit) (λ e. absurd cc)))))
+
+locking_takes : (word : List ℕ) (on : Locked) → locking_option word ≡ Some on → word ≡ locked_option on
+unfolding locking_option
+locking_takes word on e =
+    pick P (bytes_eq word (codes "--lock")) locked.Author _ on e (λ hit. bytes_same word (codes "--lock") hit) (λ e.
+    pick P (bytes_eq word (codes "--lock-kind")) locked.Kind _ on e (λ hit. bytes_same word (codes "--lock-kind") hit) (λ e.
+    pick P (bytes_eq word (codes "--lock-span")) locked.Span _ on e (λ hit. bytes_same word (codes "--lock-span") hit) (λ e. absurd cc))) where
+      P : Locked → Type 0
+      P on = word ≡ locked_option on
 
 own_takes : (form : Form) (word : List ℕ) (o : ItemOption) → own_option form word ≡ Some o → Has form word o
 own_takes forms.List word o e =
@@ -126,26 +134,20 @@ own_takes forms.List word o e =
 own_takes forms.Write word o e = absurd cc
 own_takes forms.Decide word o e = deciding_takes word o e
 
-has_lock : (form : Form) (word : List ℕ) → word ≡ codes "--lock" → Has form word options.Lock
-has_lock forms.List word h = h
-has_lock forms.Write word h = h
-has_lock forms.Decide word h = h
+has_lock : (form : Form) (word : List ℕ) (on : Locked) → word ≡ locked_option on → Has form word (options.Lock on)
+has_lock forms.List word on h = h
+has_lock forms.Write word on h = h
+has_lock forms.Decide word on h = h
 
 option_takes : (form : Form) (word : List ℕ) (o : ItemOption) → option_in form word ≡ Some o → Has form word o
 unfolding option_in
-option_takes form word o e =
-    elim (cases_Bool (bytes_eq word (codes "--lock"))) [
-      | inl hit ↦
-          let same : Some options.Lock ≡ Some o = rw hit at e in
-          subst (Has form word) (same_Some options.Lock o same) (has_lock form word (bytes_same word (codes "--lock") hit))
-      | inr other ↦ own_takes form word o (rw other at e)
-    ]
-
-with_lock : List ℕ → Gathered → Gathered
-with_lock value items = record items { locks = items.locks ++ value ∷ [] }
+option_takes form word o e = of (locking_option word) refl e where
+  of : (l : Option Locked) → locking_option word ≡ l → lock_or (own_option form word) l ≡ Some o → Has form word o
+  of None is e = own_takes form word o e
+  of (Some on) is e = subst (Has form word) (same_Some (options.Lock on) o e) (has_lock form word on (locking_takes word on is))
 
 value_takes : (form : Form) (word value : List ℕ) (o : ItemOption) (before after : Gathered) → Has form word o → with_option o value before ≡ Some after → Turned form (word ∷ value ∷ []) before after
-unfolding with_option with_lock
+unfolding with_option
 value_takes form word value options.Format before after has e = of form has before.format refl e where
   of : (form : Form) → Has form word options.Format → (f : Option (List ℕ)) → before.format ≡ f → with_format value f before ≡ Some after → Turned form (word ∷ value ∷ []) before after
   of forms.List has None is e = record {
@@ -157,29 +159,37 @@ value_takes form word value options.Format before after has e = of form has befo
       locks = sym (append-nil _);
       journals = sym (append-nil _);
       choices = sym (append-nil _);
+      rank = sym (append-nil _);
     });
   }
   of forms.List has (Some other) is e = absurd cc
   of forms.Write has f is e = absurd has
   of forms.Decide has f is e = absurd has
-value_takes form word value options.Lock before after has e = of form has where
-  turned : (form : Form) → word ≡ codes "--lock" → Admits (form_of form) (lock value) → Turned form (word ∷ value ∷ []) before after
+value_takes form word value (options.Lock on) before after has e = of form has where
+  read : (l : Lock) × (lock_in on value ≡ Some l) × (Some (record before { locks = before.locks ++ l ∷ [] }) ≡ Some after)
+  read = bind_some (lock_in on value) _ after e
+
+  takes : (locked_option on ≡ lock_option read.0) × MeansLock value read.0
+  takes = lock_takes on value read.0 read.1
+
+  turned : (form : Form) → word ≡ locked_option on → Admits (form_of form) (lock value read.0) → Turned form (word ∷ value ∷ []) before after
   turned form has admits = record {
-    item = lock value;
-    written = ap (λ (w : List ℕ). w ∷ value ∷ []) has;
+    item = lock value read.0;
+    written = ap (λ (w : List ℕ). w ∷ value ∷ []) (has ∙ takes.0);
     admitted = admits;
-    says = says_same before after (with_lock value before) (lock value ∷ []) (same_Some (with_lock value before) after e) (record {
+    says = says_same before after (record before { locks = before.locks ++ read.0 ∷ [] }) (lock value read.0 ∷ []) (same_Some (record before { locks = before.locks ++ read.0 ∷ [] }) after read.2) (record {
       format = sym (append-nil _);
       locks = refl;
       journals = sym (append-nil _);
       choices = sym (append-nil _);
+      rank = sym (append-nil _);
     });
   }
 
-  of : (form : Form) → Has form word options.Lock → Turned form (word ∷ value ∷ []) before after
-  of forms.List has = turned forms.List has tt
-  of forms.Write has = turned forms.Write has tt
-  of forms.Decide has = turned forms.Decide has tt
+  of : (form : Form) → Has form word (options.Lock on) → Turned form (word ∷ value ∷ []) before after
+  of forms.List has = turned forms.List has takes.1
+  of forms.Write has = turned forms.Write has takes.1
+  of forms.Decide has = turned forms.Decide has takes.1
 value_takes form word value options.Journal before after has e = of form has where
   of : (form : Form) → Has form word options.Journal → Turned form (word ∷ value ∷ []) before after
   of forms.List has = absurd has
@@ -195,6 +205,7 @@ value_takes form word value options.Journal before after has e = of form has whe
           locks = sym (append-nil _);
           journals = refl;
           choices = sym (append-nil _);
+          rank = sym (append-nil _);
         });
       }
 value_takes form word value (options.Choice decision) before after has e = of form has where
@@ -213,6 +224,28 @@ value_takes form word value (options.Choice decision) before after has e = of fo
           locks = sym (append-nil _);
           journals = sym (append-nil _);
           choices = refl;
+          rank = sym (append-nil _);
+        });
+      }
+value_takes form word value options.Rank before after has e = of form has before.rank refl e where
+  of : (form : Form) → Has form word options.Rank → (r : Option ℕ) → before.rank ≡ r → with_rank value r before ≡ Some after → Turned form (word ∷ value ∷ []) before after
+  of forms.List has r is e = absurd has
+  of forms.Write has r is e = absurd has
+  of forms.Decide has (Some other) is e = absurd cc
+  of forms.Decide has None is e =
+      let r = bind_some (rank_in value) _ after e in
+      let takes = rank_takes value r.0 r.1 in
+      let made : Gathered = record before { rank = Some r.0 } in
+      record {
+        item = rank r.0;
+        written = ap (λ (w : List ℕ). w ∷ value ∷ []) has ∙ ap (λ (w : List ℕ). codes "--rank" ∷ w ∷ []) (sym takes.0);
+        admitted = takes.1;
+        says = says_same before after made (rank r.0 ∷ []) (same_Some made after r.2) (record {
+          format = sym (append-nil _);
+          locks = sym (append-nil _);
+          journals = sym (append-nil _);
+          choices = sym (append-nil _);
+          rank = ap (λ (o : Option ℕ). option_to_list o ++ r.0 ∷ []) (sym is);
         });
       }
 
@@ -232,31 +265,43 @@ pub record Read (form : Form) (words : List (List ℕ)) (before after : Gathered
 -- what one item more says
 formats_more : (item : Item) (items : List Item) → formats_of (item ∷ items) ≡ formats_of (item ∷ []) ++ formats_of items
 formats_more (format name) items = refl
-formats_more (lock author) items = refl
+formats_more (lock text of_lock) items = refl
 formats_more (journal name) items = refl
 formats_more (named_journal name) items = refl
 formats_more (choice word text selection) items = refl
+formats_more (rank number) items = refl
 
 locks_more : (item : Item) (items : List Item) → locks_of (item ∷ items) ≡ locks_of (item ∷ []) ++ locks_of items
 locks_more (format name) items = refl
-locks_more (lock author) items = refl
+locks_more (lock text of_lock) items = refl
 locks_more (journal name) items = refl
 locks_more (named_journal name) items = refl
 locks_more (choice word text selection) items = refl
+locks_more (rank number) items = refl
 
 journals_more : (item : Item) (items : List Item) → journals_of (item ∷ items) ≡ journals_of (item ∷ []) ++ journals_of items
 journals_more (format name) items = refl
-journals_more (lock author) items = refl
+journals_more (lock text of_lock) items = refl
 journals_more (journal name) items = refl
 journals_more (named_journal name) items = refl
 journals_more (choice word text selection) items = refl
+journals_more (rank number) items = refl
 
 choices_more : (item : Item) (items : List Item) → choices_of (item ∷ items) ≡ choices_of (item ∷ []) ++ choices_of items
 choices_more (format name) items = refl
-choices_more (lock author) items = refl
+choices_more (lock text of_lock) items = refl
 choices_more (journal name) items = refl
 choices_more (named_journal name) items = refl
 choices_more (choice word text selection) items = refl
+choices_more (rank number) items = refl
+
+ranks_more : (item : Item) (items : List Item) → ranks_of (item ∷ items) ≡ ranks_of (item ∷ []) ++ ranks_of items
+ranks_more (format name) items = refl
+ranks_more (lock text of_lock) items = refl
+ranks_more (journal name) items = refl
+ranks_more (named_journal name) items = refl
+ranks_more (choice word text selection) items = refl
+ranks_more (rank number) items = refl
 
 regroup : {A : Type 0} (before one more all between after : List A) → after ≡ between ++ more → between ≡ before ++ one → all ≡ one ++ more → after ≡ before ++ all
 regroup before one more all between after e f g = e ∙ ap (λ l. l ++ more) f ∙ append_assoc before one more ∙ ap (λ l. before ++ l) (sym g)
@@ -271,6 +316,7 @@ one_more form words later before between after t r = record {
     locks = regroup before.locks (locks_of (t.item ∷ [])) (locks_of r.items) (locks_of (t.item ∷ r.items)) between.locks after.locks r.says.locks t.says.locks (locks_more t.item r.items);
     journals = regroup before.journals (journals_of (t.item ∷ [])) (journals_of r.items) (journals_of (t.item ∷ r.items)) between.journals after.journals r.says.journals t.says.journals (journals_more t.item r.items);
     choices = regroup before.choices (choices_of (t.item ∷ [])) (choices_of r.items) (choices_of (t.item ∷ r.items)) between.choices after.choices r.says.choices t.says.choices (choices_more t.item r.items);
+    rank = regroup (option_to_list before.rank) (ranks_of (t.item ∷ [])) (ranks_of r.items) (ranks_of (t.item ∷ r.items)) (option_to_list between.rank) (option_to_list after.rank) r.says.rank t.says.rank (ranks_more t.item r.items);
   };
 }
 
@@ -279,7 +325,7 @@ nothing_more form before after e = record {
   items = [];
   written = refl;
   admitted = tt;
-  says = says_same before after before [] e (record { format = sym (append-nil _); locks = sym (append-nil _); journals = sym (append-nil _); choices = sym (append-nil _) });
+  says = says_same before after before [] e (record { format = sym (append-nil _); locks = sym (append-nil _); journals = sym (append-nil _); choices = sym (append-nil _); rank = sym (append-nil _) });
 }
 
 pub items_take : (form : Form) (words : List (List ℕ)) (before after : Gathered) → gathered form before words ≡ Some after → Read form words before after
@@ -310,25 +356,27 @@ items_take form (word ∷ value ∷ later) before after e =
 
 -- ---- what is read again
 
--- what is gathered with an item more, its format aside
+-- what is gathered with an item more
 abbrev with_item : Item → Gathered → Gathered
 with_item (format name) items = record items { format = Some name }
-with_item (lock author) items = record items { locks = items.locks ++ author ∷ [] }
+with_item (lock text of_lock) items = record items { locks = items.locks ++ of_lock ∷ [] }
 with_item (journal name) items = record items { journals = items.journals ++ name ∷ [] }
 with_item (named_journal name) items = record items { journals = items.journals ++ name ∷ [] }
 with_item (choice word text selection) items = record items { choices = items.choices ++ (word, selection) ∷ [] }
+with_item (rank number) items = record items { rank = Some number }
 
 -- what is gathered with items more
 abbrev pub with_items : List Item → Gathered → Gathered
 with_items [] items = items
 with_items (item ∷ more) items = with_items more (with_item item items)
 
--- a format comes at most once
-abbrev pub Single : Gathered → List Item → Type 0
-Single before items = length (option_to_list before.format) + length (formats_of items) ≤ 1
+-- a format comes at most once, and so does a rank
+pub record Single (before : Gathered) (items : List Item) : Type 0 where
+  pub format : length (option_to_list before.format) + length (formats_of items) ≤ 1
+  pub rank : length (option_to_list before.rank) + length (ranks_of items) ≤ 1
 
 choice_option : (word : Word) (value : List ℕ) (items : Gathered) → with_word forms.Decide (option_of word) value items ≡ with_option (options.Choice word) value items
-unfolding with_word option_in
+unfolding with_word option_in locking_option deciding_option
 choice_option Accept value items = refl
 choice_option Reject value items = refl
 choice_option Withdraw value items = refl
@@ -343,43 +391,76 @@ with_choice : (word : Word) (text : List ℕ) (selection : Selection) (items : G
 unfolding with_option
 with_choice word text selection items h = rw (selection_again text selection h) refl
 
-turn_again : (form : Form) (item : Item) (before : Gathered) (later : List (List ℕ)) → Admits (form_of form) item → length (option_to_list before.format) + length (formats_of (item ∷ [])) ≤ 1
+-- a lock's option is one in each form
+lock_word : (form : Form) (of_lock : Lock) (text : List ℕ) (items : Gathered) → with_word form (lock_option of_lock) text items ≡ with_option (options.Lock (lock_on of_lock)) text items
+unfolding with_word option_in locking_option
+lock_word form (Author name) text items = refl
+lock_word form (OfKind of_kind) text items = refl
+lock_word form (Span start end) text items = refl
+
+with_lock : (of_lock : Lock) (text : List ℕ) (items : Gathered) → MeansLock text of_lock → with_option (options.Lock (lock_on of_lock)) text items ≡ Some (with_item (lock text of_lock) items)
+unfolding with_option
+with_lock of_lock text items h = rw (lock_again text of_lock h) refl
+
+lock_again_in : (form : Form) (of_lock : Lock) (text : List ℕ) (before : Gathered) (later : List (List ℕ)) → MeansLock text of_lock
+    → gathered form before (lock_option of_lock ∷ text ∷ later) ≡ gathered form (with_item (lock text of_lock) before) later
+lock_again_in form of_lock text before later h =
+    goes_pair form before (with_item (lock text of_lock) before) (lock_option of_lock) text later (no_name of_lock) (lock_word form of_lock text before ∙ with_lock of_lock text before h)
+
+rank_option : (value : List ℕ) (items : Gathered) → with_word forms.Decide (codes "--rank") value items ≡ with_option options.Rank value items
+unfolding with_word option_in locking_option deciding_option
+rank_option value items = refl
+
+with_one_rank : (number : ℕ) (items : Gathered) → number ≤ 9 → length (option_to_list items.rank) + 1 ≤ 1 → with_option options.Rank (decimal number) items ≡ Some (with_item (rank number) items)
+unfolding with_option
+with_one_rank number items low single = fresh items.rank refl single where
+  fresh : (r : Option ℕ) → items.rank ≡ r → length (option_to_list r) + 1 ≤ 1 → with_rank (decimal number) r items ≡ Some (with_item (rank number) items)
+  fresh None is single = rw (rank_again number low) refl
+  fresh (Some other) is single = absurd (omega arith)
+
+turn_again : (form : Form) (item : Item) (before : Gathered) (later : List (List ℕ)) → Admits (form_of form) item → Single before (item ∷ [])
     → gathered form before (item_words item ++ later) ≡ gathered form (with_item item before) later
-unfolding with_plain_journal with_word option_in with_option
-turn_again forms.List (format name) before later h single = goes_pair forms.List before (with_item (format name) before) (codes "--format") name later refl (fresh before.format refl single) where
+unfolding with_plain_journal with_word option_in locking_option deciding_option with_option
+turn_again forms.List (format name) before later h single = goes_pair forms.List before (with_item (format name) before) (codes "--format") name later refl (fresh before.format refl single.format) where
   fresh : (f : Option (List ℕ)) → before.format ≡ f → length (option_to_list f) + 1 ≤ 1 → with_format name f before ≡ Some (with_item (format name) before)
   fresh None is single = refl
   fresh (Some other) is single = absurd (omega arith)
-turn_again forms.List (lock author) before later h single = goes_pair forms.List before (with_item (lock author) before) (codes "--lock") author later refl refl
+turn_again forms.List (lock text of_lock) before later h single = lock_again_in forms.List of_lock text before later h
 turn_again forms.List (journal name) before later h single = goes_plain forms.List before (with_item (journal name) before) name later h refl
 turn_again forms.List (named_journal name) before later h single = absurd h
 turn_again forms.List (choice word text selection) before later h single = absurd h
+turn_again forms.List (rank number) before later h single = absurd h
 turn_again forms.Write (format name) before later h single = absurd h
-turn_again forms.Write (lock author) before later h single = goes_pair forms.Write before (with_item (lock author) before) (codes "--lock") author later refl refl
+turn_again forms.Write (lock text of_lock) before later h single = lock_again_in forms.Write of_lock text before later h
 turn_again forms.Write (journal name) before later h single = goes_plain forms.Write before (with_item (journal name) before) name later h refl
 turn_again forms.Write (named_journal name) before later h single = absurd h
 turn_again forms.Write (choice word text selection) before later h single = absurd h
+turn_again forms.Write (rank number) before later h single = absurd h
 turn_again forms.Decide (format name) before later h single = absurd h
-turn_again forms.Decide (lock author) before later h single = goes_pair forms.Decide before (with_item (lock author) before) (codes "--lock") author later refl refl
+turn_again forms.Decide (lock text of_lock) before later h single = lock_again_in forms.Decide of_lock text before later h
 turn_again forms.Decide (journal name) before later h single = absurd h
 turn_again forms.Decide (named_journal name) before later h single = goes_pair forms.Decide before (with_item (named_journal name) before) (codes "--journal") name later refl (rw h refl)
 turn_again forms.Decide (choice word text selection) before later h single =
     goes_pair forms.Decide before (with_item (choice word text selection) before) (option_of word) text later (is_no_name word)
     (choice_option word text before ∙ with_choice word text selection before h)
+turn_again forms.Decide (rank number) before later h single =
+    goes_pair forms.Decide before (with_item (rank number) before) (codes "--rank") (decimal number) later refl (rank_option (decimal number) before ∙ with_one_rank number before h single.rank)
 
-single_first : (item : Item) (before : Gathered) (more : List Item) → Single before (item ∷ more) → length (option_to_list before.format) + length (formats_of (item ∷ [])) ≤ 1
-single_first (format name) before more h = omega arith
-single_first (lock author) before more h = omega arith
-single_first (journal name) before more h = omega arith
-single_first (named_journal name) before more h = omega arith
-single_first (choice word text selection) before more h = omega arith
+single_first : (item : Item) (before : Gathered) (more : List Item) → Single before (item ∷ more) → Single before (item ∷ [])
+single_first (format name) before more h = record { format = omega arith; rank = omega arith }
+single_first (lock text of_lock) before more h = record { format = omega arith; rank = omega arith }
+single_first (journal name) before more h = record { format = omega arith; rank = omega arith }
+single_first (named_journal name) before more h = record { format = omega arith; rank = omega arith }
+single_first (choice word text selection) before more h = record { format = omega arith; rank = omega arith }
+single_first (rank number) before more h = record { format = omega arith; rank = omega arith }
 
 single_later : (item : Item) (before : Gathered) (more : List Item) → Single before (item ∷ more) → Single (with_item item before) more
-single_later (format name) before more h = omega arith
-single_later (lock author) before more h = h
-single_later (journal name) before more h = h
-single_later (named_journal name) before more h = h
-single_later (choice word text selection) before more h = h
+single_later (format name) before more h = record { format = omega arith; rank = h.rank }
+single_later (lock text of_lock) before more h = record { format = h.format; rank = h.rank }
+single_later (journal name) before more h = record { format = h.format; rank = h.rank }
+single_later (named_journal name) before more h = record { format = h.format; rank = h.rank }
+single_later (choice word text selection) before more h = record { format = h.format; rank = h.rank }
+single_later (rank number) before more h = record { format = h.format; rank = omega arith }
 
 pub items_again : (form : Form) (items : List Item) (before : Gathered) → AllByRecursion (Admits (form_of form)) items → Single before items
     → gathered form before (flat_map item_words items) ≡ Some (with_items items before)
@@ -390,7 +471,7 @@ items_again form (item ∷ items) before h single =
 
 -- what items say on top of nothing
 says_items : (items : List Item) (before : Gathered) → Single before items → Says before (with_items items before) items
-says_items [] before single = record { format = sym (append-nil _); locks = sym (append-nil _); journals = sym (append-nil _); choices = sym (append-nil _) }
+says_items [] before single = record { format = sym (append-nil _); locks = sym (append-nil _); journals = sym (append-nil _); choices = sym (append-nil _); rank = sym (append-nil _) }
 says_items (item ∷ items) before single =
     let first = says_item item before (single_first item before items single) in
     let rest = says_items items (with_item item before) (single_later item before items single) in
@@ -399,16 +480,21 @@ says_items (item ∷ items) before single =
       locks = regroup before.locks (locks_of (item ∷ [])) (locks_of items) (locks_of (item ∷ items)) (with_item item before).locks (with_items (item ∷ items) before).locks rest.locks first.locks (locks_more item items);
       journals = regroup before.journals (journals_of (item ∷ [])) (journals_of items) (journals_of (item ∷ items)) (with_item item before).journals (with_items (item ∷ items) before).journals rest.journals first.journals (journals_more item items);
       choices = regroup before.choices (choices_of (item ∷ [])) (choices_of items) (choices_of (item ∷ items)) (with_item item before).choices (with_items (item ∷ items) before).choices rest.choices first.choices (choices_more item items);
+      rank = regroup (option_to_list before.rank) (ranks_of (item ∷ [])) (ranks_of items) (ranks_of (item ∷ items)) (option_to_list (with_item item before).rank) (option_to_list (with_items (item ∷ items) before).rank) rest.rank first.rank (ranks_more item items);
     } where
-      says_item : (item : Item) (before : Gathered) → length (option_to_list before.format) + length (formats_of (item ∷ [])) ≤ 1 → Says before (with_item item before) (item ∷ [])
-      says_item (format name) before single = record { format = fresh before.format single; locks = sym (append-nil _); journals = sym (append-nil _); choices = sym (append-nil _) } where
+      says_item : (item : Item) (before : Gathered) → Single before (item ∷ []) → Says before (with_item item before) (item ∷ [])
+      says_item (format name) before single = record { format = fresh before.format single.format; locks = sym (append-nil _); journals = sym (append-nil _); choices = sym (append-nil _); rank = sym (append-nil _) } where
         fresh : (f : Option (List ℕ)) → length (option_to_list f) + 1 ≤ 1 → name ∷ [] ≡ option_to_list f ++ name ∷ []
         fresh None single = refl
         fresh (Some other) single = absurd (omega arith)
-      says_item (lock author) before single = record { format = sym (append-nil _); locks = refl; journals = sym (append-nil _); choices = sym (append-nil _) }
-      says_item (journal name) before single = record { format = sym (append-nil _); locks = sym (append-nil _); journals = refl; choices = sym (append-nil _) }
-      says_item (named_journal name) before single = record { format = sym (append-nil _); locks = sym (append-nil _); journals = refl; choices = sym (append-nil _) }
-      says_item (choice word text selection) before single = record { format = sym (append-nil _); locks = sym (append-nil _); journals = sym (append-nil _); choices = refl }
+      says_item (lock text of_lock) before single = record { format = sym (append-nil _); locks = refl; journals = sym (append-nil _); choices = sym (append-nil _); rank = sym (append-nil _) }
+      says_item (journal name) before single = record { format = sym (append-nil _); locks = sym (append-nil _); journals = refl; choices = sym (append-nil _); rank = sym (append-nil _) }
+      says_item (named_journal name) before single = record { format = sym (append-nil _); locks = sym (append-nil _); journals = refl; choices = sym (append-nil _); rank = sym (append-nil _) }
+      says_item (choice word text selection) before single = record { format = sym (append-nil _); locks = sym (append-nil _); journals = sym (append-nil _); choices = refl; rank = sym (append-nil _) }
+      says_item (rank number) before single = record { format = sym (append-nil _); locks = sym (append-nil _); journals = sym (append-nil _); choices = sym (append-nil _); rank = fresh before.rank single.rank } where
+        fresh : (r : Option ℕ) → length (option_to_list r) + 1 ≤ 1 → number ∷ [] ≡ option_to_list r ++ number ∷ []
+        fresh None single = refl
+        fresh (Some other) single = absurd (omega arith)
 
 -- the words of items are read, and give what the items say
 pub record ReadAgain (form : Form) (words : List (List ℕ)) (items : List Item) : Type 0 where
@@ -418,11 +504,12 @@ pub record ReadAgain (form : Form) (words : List (List ℕ)) (items : List Item)
   pub locks : after.locks ≡ locks_of items
   pub journals : after.journals ≡ journals_of items
   pub choices : after.choices ≡ choices_of items
+  pub rank : option_to_list after.rank ≡ ranks_of items
 
 pub read_again : (form : Form) (items : List Item) (words : List (List ℕ)) → words ≡ flat_map item_words items → AllByRecursion (Admits (form_of form)) items
-    → length (formats_of items) ≤ 1 → ReadAgain form words items
-read_again form items words e h single =
-    let one : Single nothing items = omega (arith, single) in
+    → length (formats_of items) ≤ 1 → length (ranks_of items) ≤ 1 → ReadAgain form words items
+read_again form items words e h formats ranks =
+    let one : Single nothing items = record { format = omega (arith, formats); rank = omega (arith, ranks) } in
     let says = says_items items nothing one in
     record {
       after = with_items items nothing;
@@ -431,6 +518,7 @@ read_again form items words e h single =
       locks = says.locks;
       journals = says.journals;
       choices = says.choices;
+      rank = says.rank;
     }
 
 -- ---- the same from the facts of the code

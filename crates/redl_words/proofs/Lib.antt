@@ -1,4 +1,6 @@
 pub mod DateLaws
 pub mod SelectionLaws
+pub mod LockLaws
+pub mod RankLaws
 pub mod ItemLaws
 pub mod CommandLaws

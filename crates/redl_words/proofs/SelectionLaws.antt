@@ -1,5 +1,5 @@
 -- The texts of selections: what was read is what the text means, and what the text means is read.
-use Rattle.std.proofs.Common.{◌≡◌, ◌≢◌, ℕ, ◌+◌, ◌^◌, ◌<◌, Bool, true, false, eqb, List, [], ◌∷◌, ◌++◌, length, Option, Some, None, refl, sym, ap, subst, ◌∙◌, ◌↔◌, inl, inr, arith, append-nil, append_assoc, map, All, MatchOption, get_or, drop, Bor, IsTrue}
+use Rattle.std.proofs.Common.{◌≡◌, ◌≢◌, ℕ, ◌+◌, ◌^◌, ◌<◌, Bool, true, false, cond, eqb, List, [], ◌∷◌, ◌++◌, length, Option, Some, None, refl, sym, ap, subst, ◌∙◌, ◌↔◌, inl, inr, arith, append-nil, append_assoc, map, All, MatchOption, get_or, drop, Bor, IsTrue}
 use Rattle.std.specs.Prelude.{ℤ, codes, decimal, option_map}
 use Rattle.std.specs.List.{list_all, join_with_byte, slice_split, count_by, AllByRecursion}
 use Rattle.std.specs.Str.{bytes_eq}
@@ -12,7 +12,7 @@ use Rattle.std.proofs.lemmas.Slice.Eq.{bytes_eq-Decides}
 use Rattle.std.proofs.lemmas.Str.Pattern.{IsSplitOnceResult, split_parts}
 use Rattle.redl_stamp.specs.Moment.{moment_of}
 use Rattle.redl_journal.specs.Reading.{number_in}
-use Rattle.redl_reading.specs.Steps.{◌>>=◌, Gives}
+use Rattle.redl_reading.specs.Steps.{Gives}
 use Rattle.redl_reading.specs.Lists.{field_at, is_other}
 use Rattle.redl_journal.proofs.Parts.{number_takes, number_again, decimal_lacks}
 use Rattle.redl_reading.proofs.Steps.{bind_some}
@@ -22,7 +22,7 @@ use Rattle.redl_index.specs.Kinds.{is_named}
 use Rattle.redl_index.specs.KindNames.{kind_name, kind_named}
 use Rattle.redl_index.proofs.KindNameLaws.{kind_named-exact}
 use Rattle.redl_select.specs.Selections.{Selection, all, numbers, author, span, kind}
-use Rattle.redl_words.specs.Selections.{ListsNumbers, GivesSpan, NamesKind, Means}
+use Rattle.redl_words.specs.Selections.{ListsNumbers, GivesSpan, GivesDates, NamesKind, Means}
 use Rattle.redl_words.specs.Reading.Selections.{numbers_after, numbers_in, moments_in, span_in, labelled, selection_parts, selection_in}
 use Rattle.redl_words.proofs.DateLaws.{date_has_no_slash}
 
@@ -32,6 +32,11 @@ bytes_same xs ys e = (bytes_eq-Decides xs ys).0 e
 pub map_some : {A B : Type 0} (f : A → B) (o : Option A) (y : B) → option_map f o ≡ Some y → (x : A) × (o ≡ Some x) × (f x ≡ y)
 map_some f None y e = absurd cc
 map_some f (Some x) y e = (x, refl, same_Some (f x) y e)
+
+-- the first of several tests that holds
+pub pick : {A : Type 0} (P : A → Type 0) (t : Bool) (x : A) (rest : Option A) (y : A) → cond t (Some x) rest ≡ Some y → (t ≡ true → P x) → (rest ≡ Some y → P y) → P y
+pick P true x rest y e here later = subst P (same_Some x y e) (here refl)
+pick P false x rest y e here later = later e
 
 -- ---- parts of a text
 
@@ -157,26 +162,41 @@ kind_found name (Some k) h = (kind_named-exact name k).1 ((h k).0 refl)
 
 -- ---- spans
 
-span_case : (value : List ℕ) (s : Selection) → span_in value ≡ Some s → Means (codes "span:" ++ value) s
+-- two dates
+pub dates_take : (text : List ℕ) (m : ℤ × ℤ) → moments_in text ≡ Some m → GivesDates text m.0 m.1
 unfolding moments_in
-span_case value s e =
-    let m = map_some (λ (m : ℤ × ℤ). span m.0 m.1) (moments_in value) s e in
-    let dates = bind_some (field_at 47 value) _ m.0 m.1 in
-    let start = bind_some (moment_of dates.0.0) _ m.0 dates.2 in
-    let end = bind_some (moment_of dates.0.1) _ m.0 start.2 in
-    let same : (start.0, end.0) ≡ m.0 = same_Some (start.0, end.0) m.0 end.2 in
-    let means : GivesSpan (codes "span:" ++ value) start.0 end.0 = record {
+dates_take text m e =
+    let dates = bind_some (field_at 47 text) _ m e in
+    let start = bind_some (moment_of dates.0.0) _ m dates.2 in
+    let end = bind_some (moment_of dates.0.1) _ m start.2 in
+    let same : (start.0, end.0) ≡ m = same_Some (start.0, end.0) m end.2 in
+    record {
       first = dates.0.0;
       second = dates.0.1;
-      written = ap (λ (l : List ℕ). codes "span:" ++ l) (field_takes 47 value dates.0 dates.1);
-      starts = start.1;
-      ends = end.1;
+      written = field_takes 47 text dates.0 dates.1;
+      starts = start.1 ∙ ap (λ (p : ℤ × ℤ). Some p.0) same;
+      ends = end.1 ∙ ap (λ (p : ℤ × ℤ). Some p.1) same;
+    }
+
+pub dates_again : (first second : List ℕ) (start end : ℤ) → moment_of first ≡ Some start → moment_of second ≡ Some end → moments_in (first ++ (47 ∷ second)) ≡ Some (start, end)
+unfolding moments_in
+dates_again first second start end s e = rw (field_again 47 first second (date_has_no_slash first start s), s, e) refl
+
+span_case : (value : List ℕ) (s : Selection) → span_in value ≡ Some s → Means (codes "span:" ++ value) s
+span_case value s e =
+    let m = map_some (λ (m : ℤ × ℤ). span m.0 m.1) (moments_in value) s e in
+    let dates = dates_take value m.0 m.1 in
+    let means : GivesSpan (codes "span:" ++ value) m.0.0 m.0.1 = record {
+      first = dates.first;
+      second = dates.second;
+      written = ap (λ (l : List ℕ). codes "span:" ++ l) dates.written;
+      starts = dates.starts;
+      ends = dates.ends;
     } in
-    subst (Means (codes "span:" ++ value)) (ap (λ (p : ℤ × ℤ). span p.0 p.1) same ∙ m.2) means
+    subst (Means (codes "span:" ++ value)) m.2 means
 
 span_again : (first second : List ℕ) (start end : ℤ) → moment_of first ≡ Some start → moment_of second ≡ Some end → span_in (first ++ (47 ∷ second)) ≡ Some (span start end)
-unfolding moments_in
-span_again first second start end s e = rw (field_again 47 first second (date_has_no_slash first start s), s, e) refl
+span_again first second start end s e = ap (option_map (λ moments. span moments.0 moments.1)) (dates_again first second start end s e)
 
 -- ---- texts with a label
 

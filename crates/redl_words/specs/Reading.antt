@@ -1,5 +1,7 @@
 -- Reading the words of a command line.
 pub mod Answers
 pub mod Selections
+pub mod Locks
+pub mod Ranks
 pub mod Items
 pub mod Commands

@@ -1,10 +1,12 @@
--- The texts of selections (our own rule).
+-- The texts of selections and of locks (our own rule).
 use Rattle.std.specs.Prelude.{◌≡◌, ◌≢◌, ◌^◌, ◌<◌, ℕ, ℤ, List, [], ◌++◌, All, IsTrue, Some, codes, decimal, map}
 use Rattle.std.specs.List.{join_with_byte}
 use Rattle.redl_stamp.specs.Moment.{moment_of}
 use Rattle.redl_index.specs.Kinds.{is_named}
 use Rattle.redl_index.specs.KindNames.{kind_name}
 use Rattle.redl_select.specs.Selections.{Selection, all, numbers, author, span, kind}
+use Rattle.redl_select.specs.declared.lock.Lock.{Lock}
+use Rattle.redl_select.specs.declared.lock.Lock.TheVariants.{Author, Kind, Span}
 
 -- `numbers:` and one or more numbers up to 4294967295 with commas between, in decimal digits without leading zeros
 pub record ListsNumbers (text : List ℕ) (listed : List ℕ) : Type 0 where
@@ -32,3 +34,17 @@ Means text (numbers listed) = ListsNumbers text listed
 Means text (author name) = text ≡ codes "author:" ++ name
 Means text (span start end) = GivesSpan text start end
 Means text (kind of_kind) = NamesKind text of_kind
+
+-- two dates with a slash between
+pub record GivesDates (text : List ℕ) (start end : ℤ) : Type 0 where
+  pub first : List ℕ
+  pub second : List ℕ
+  pub written : text ≡ first ++ (codes "/" ++ second)
+  pub starts : moment_of first ≡ Some start
+  pub ends : moment_of second ≡ Some end
+
+-- The text means the lock: it is the name of an author, the name of a kind, or two dates as after `span:`.
+abbrev pub MeansLock : List ℕ → Lock → Type 0
+MeansLock text (Author name) = text ≡ name
+MeansLock text (Kind of_kind) = (text ≡ kind_name of_kind) × IsTrue (is_named of_kind)
+MeansLock text (Span start end) = GivesDates text start end

@@ -16,7 +16,7 @@ abbrev pub command_of : code.Command → Command
 command_of (variants.Settle accept p) = settle accept p
 command_of (variants.List p name locks journals) = list p name locks.items journals.items
 command_of (variants.Write p locks journals) = write p locks.items journals.items
-command_of (variants.Decide p reviewer journals locks choices) = decide p reviewer journals.items locks.items (choices_view choices.items)
+command_of (variants.Decide p reviewer journals locks choices number) = decide p reviewer journals.items locks.items (choices_view choices.items) number
 command_of (variants.Join journals) = join journals.items
 command_of (variants.Check p) = check p
 command_of (variants.Sample number) = sample number

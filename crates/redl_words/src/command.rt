@@ -2,9 +2,9 @@
 
 use redl_io::Text;
 use redl_journal::Word;
-use redl_select::Selection;
+use redl_select::{Lock, Selection};
 
-/// What the words of a command line ask for. Journals, locked authors and choices are in the order of the words, with repeats.
+/// What the words of a command line ask for. Journals, locks and choices are in the order of the words, with repeats.
 #[derive(Drop)]
 pub enum Command {
     /// The package under accept, or else under reject, for all its revisions.
@@ -16,22 +16,23 @@ pub enum Command {
     List {
         package: Text,
         format: Text,
-        locks: Vec<Text>,
+        locks: Vec<Lock>,
         journals: Vec<Text>,
     },
     /// The package under the joined verdicts of the journals.
     Write {
         package: Text,
-        locks: Vec<Text>,
+        locks: Vec<Lock>,
         journals: Vec<Text>,
     },
-    /// A journal of what the reviewer decides on revisions of the package.
+    /// A journal of what the reviewer decides, with this rank, on revisions of the package.
     Decide {
         package: Text,
         reviewer: Text,
         journals: Vec<Text>,
-        locks: Vec<Text>,
+        locks: Vec<Lock>,
         choices: Vec<(Word, Selection)>,
+        rank: u8,
     },
     /// The union of the journals.
     Join {

@@ -1,16 +1,18 @@
-//! Items: what stands behind the name of a package, in any order.
+//! Items: what comes after the name of a package, in any order.
 
 ghost use Rattle.std.specs.Prelude.{◌≡◌, ◌≤◌, ◌∷◌, All, IfOk, IsUtf8, length};
 ghost use Rattle.redl_words.specs.Reading.Answers.{Finds};
 ghost use Rattle.redl_words.specs.Reading.Items.{Goes, gathered, items_view, nothing, with_option, with_plain_journal, with_word};
 
 use crate::error::WordsError;
+use crate::locks::read_lock;
 use crate::names::{add_copy, is_file_name};
-use crate::options::{Form, ItemOption, read_option};
+use crate::options::{Form, ItemOption, Locked, read_option};
+use crate::ranks::read_rank;
 use crate::selections::read_selection;
 use redl_io::Text;
 use redl_journal::Word;
-use redl_select::Selection;
+use redl_select::{Lock, Selection};
 use std::alloc::Global;
 use std::str;
 
@@ -18,9 +20,10 @@ use std::str;
 #[derive(Drop)]
 pub(crate) struct Items {
     pub format: Option<Text>,
-    pub locks: Vec<Text>,
+    pub locks: Vec<Lock>,
     pub journals: Vec<Text>,
     pub choices: Vec<(Word, Selection)>,
+    pub rank: Option<u8>,
 }
 
 impl Items {
@@ -33,6 +36,7 @@ impl Items {
             locks: Vec::new(alloc),
             journals: Vec::new(alloc),
             choices: Vec::new(alloc),
+            rank: None,
         }
     }
 
@@ -65,12 +69,30 @@ impl Items {
         Ok(())
     }
 
-    /// Adds a locked author.
+    /// Adds a lock.
     #[tactic(auto, unfolding(crate::specs::Reading::Items::with_option))]
-    fn add_lock(&mut self, alloc: Global, author: &Text) -> Result<(), WordsError>
-        ensures { Finds (λ _. items_view self.new) result (with_option ItemOption.Lock author.now (items_view self.old)) }
+    fn add_lock(&mut self, alloc: Global, on: Locked, text: &Text) -> Result<(), WordsError>
+        requires { IsUtf8 text.now }
+        ensures { Finds (λ _. items_view self.new) result (with_option (ItemOption.Lock on) text.now (items_view self.old)) }
     {
-        add_copy(alloc, &mut self.locks, author)?;
+        let text = str::from_utf8(text.as_bytes()).unwrap();
+        let lock = read_lock(alloc, on, text)?;
+        self.locks.push(lock)?;
+        Ok(())
+    }
+
+    /// Sets the rank, which may come once.
+    #[tactic(auto, unfolding(crate::specs::Reading::Items::with_option))]
+    fn set_rank(&mut self, digits: &Text) -> Result<(), WordsError>
+        ensures { Finds (λ _. items_view self.new) result (with_option ItemOption.Rank digits.now (items_view self.old)) }
+    {
+        if self.rank.is_some() {
+            return Err(WordsError::Usage);
+        }
+        let Some(rank) = read_rank(digits.as_bytes()) else {
+            return Err(WordsError::Usage);
+        };
+        self.rank = Some(rank);
         Ok(())
     }
 
@@ -110,9 +132,10 @@ impl Items {
     {
         match option {
             ItemOption::Format => self.set_format(alloc, value),
-            ItemOption::Lock => self.add_lock(alloc, value),
+            ItemOption::Lock(on) => self.add_lock(alloc, on, value),
             ItemOption::Journal => self.add_journal(alloc, value),
             ItemOption::Choice(word) => self.add_choice(alloc, word, value),
+            ItemOption::Rank => self.set_rank(value),
         }
     }
 

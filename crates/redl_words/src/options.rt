@@ -1,7 +1,7 @@
 //! Options: the words that say what the next word is.
 
 ghost use Rattle.std.specs.Prelude.{◌≡◌};
-ghost use Rattle.redl_words.specs.Reading.Items.{option_in, own_option, deciding_option};
+ghost use Rattle.redl_words.specs.Reading.Items.{option_in, locking_option, own_option, deciding_option};
 
 use redl_journal::Word;
 
@@ -13,14 +13,23 @@ pub(crate) enum Form {
     Decide,
 }
 
-/// What an option says of the word behind it: the name of a format, a locked author, the name of a journal, or what the reviewer
-/// decides on a selection.
+/// What a lock is on.
+#[derive(Clone, Copy)]
+pub(crate) enum Locked {
+    Author,
+    Kind,
+    Span,
+}
+
+/// What an option says of the word after it: the name of a format, what is locked, the name of a journal, what the reviewer
+/// decides on a selection, or the reviewer's rank.
 #[derive(Clone, Copy)]
 pub(crate) enum ItemOption {
     Format,
-    Lock,
+    Lock(Locked),
     Journal,
     Choice(Word),
+    Rank,
 }
 
 /// The option that a word is in a command of this form.
@@ -28,13 +37,29 @@ pub(crate) enum ItemOption {
 pub(crate) fn read_option(form: Form, word: &[u8]) -> Option<ItemOption>
     ensures { result ≡ option_in form word.now }
 {
-    if word == b"--lock".as_slice() {
-        return Some(ItemOption::Lock);
+    match locking_option(word) {
+        Some(locked) => Some(ItemOption::Lock(locked)),
+        None => own_option(form, word),
     }
-    own_option(form, word)
 }
 
-/// The option that a word is, besides `--lock`.
+/// What the option is on that a word is, if it is one of the three for locks.
+#[tactic(auto, unfolding(crate::specs::Reading::Items::locking_option))]
+fn locking_option(word: &[u8]) -> Option<Locked>
+    ensures { result ≡ locking_option word.now }
+{
+    if word == b"--lock".as_slice() {
+        Some(Locked::Author)
+    } else if word == b"--lock-kind".as_slice() {
+        Some(Locked::Kind)
+    } else if word == b"--lock-span".as_slice() {
+        Some(Locked::Span)
+    } else {
+        None
+    }
+}
+
+/// The option that a word is, besides those for locks.
 fn own_option(form: Form, word: &[u8]) -> Option<ItemOption>
     ensures { result ≡ own_option form word.now }
 {
@@ -45,7 +70,8 @@ fn own_option(form: Form, word: &[u8]) -> Option<ItemOption>
     }
 }
 
-/// The option that a word is, besides `--lock`, in a command that decides.
+/// The option that a word is, besides those for locks, in a command that decides.
+#[tactic(auto, unfolding(crate::specs::Reading::Items::deciding_option))]
 fn deciding_option(word: &[u8]) -> Option<ItemOption>
     ensures { result ≡ deciding_option word.now }
 {
@@ -57,6 +83,8 @@ fn deciding_option(word: &[u8]) -> Option<ItemOption>
         Some(ItemOption::Choice(Word::Reject))
     } else if word == b"--withdraw".as_slice() {
         Some(ItemOption::Choice(Word::Withdraw))
+    } else if word == b"--rank".as_slice() {
+        Some(ItemOption::Rank)
     } else {
         None
     }

@@ -3,7 +3,7 @@
 ghost use Rattle.std.specs.Prelude.{◌≡◌, All, IfOk, IsErrOf, IsUtf8};
 ghost use Rattle.redl_words.specs.Commands.{HasNoCommand, HasUtf8, IsCommand};
 ghost use Rattle.redl_words.specs.Reading.Answers.{Finds};
-ghost use Rattle.redl_words.specs.Reading.Commands.{check_in, command_in, decide_in, format_or_text, join_in, list_in, sample_in, say_in, settle_in, write_in};
+ghost use Rattle.redl_words.specs.Reading.Commands.{check_in, command_in, decide_in, format_or_text, rank_or_0, join_in, list_in, sample_in, say_in, settle_in, write_in};
 ghost use Rattle.redl_words.specs.Views.{command_of};
 
 use crate::command::Command;
@@ -19,7 +19,7 @@ use std::alloc::{AllocError, Global};
 /// The command that these words are the command line of. They come without the program's name.
 ///
 /// Its texts are UTF-8; the name of a file is not empty and does not begin with a dash, a reviewer is one that a journal may hold,
-/// and `decide` has a choice. `Usage` comes exactly where the words are those of no command. `NoMemory` means out of memory, and says
+/// `decide` has a choice, and its rank is at most 9. `Usage` comes exactly where the words are those of no command. `NoMemory` means out of memory, and says
 /// nothing of the words.
 pub fn read_words(alloc: Global, words: &[Text]) -> Result<Command, WordsError>
     requires { All IsUtf8 words.now }
@@ -155,13 +155,22 @@ fn read_decide(alloc: Global, words: &[Text]) -> Result<Command, WordsError>
     }
     let package = package.copy(alloc)?;
     let reviewer = reviewer.copy(alloc)?;
+    let rank = rank_or_0(items.rank);
     Ok(Command::Decide {
         package,
         reviewer,
         journals: items.journals,
         locks: items.locks,
         choices: items.choices,
+        rank,
     })
+}
+
+/// The rank, or 0 without one.
+fn rank_or_0(rank: Option<u8>) -> u8
+    ensures { result ≡ rank_or_0 rank }
+{
+    rank.unwrap_or(0)
 }
 
 /// The words after `join`.

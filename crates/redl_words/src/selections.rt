@@ -88,11 +88,18 @@ fn read_numbers(alloc: Global, text: &str) -> Result<Vec<u32>, WordsError>
     Ok(listed)
 }
 
+/// The kind with this name.
+pub(crate) fn read_kind_name(name: &str) -> Option<RevKind>
+    ensures { result ≡ kind_named name.now }
+{
+    RevKind::named(name.as_bytes())
+}
+
 /// The revisions of the kind with this name.
 fn read_kind(name: &str) -> Result<Selection, WordsError>
     ensures { Finds selection_of result (option_map kind (kind_named name.now)) }
 {
-    match RevKind::named(name.as_bytes()) {
+    match read_kind_name(name) {
         Some(kind) => Ok(Selection::Kind(kind)),
         None => Err(WordsError::Usage),
     }
@@ -102,7 +109,7 @@ fn read_kind(name: &str) -> Result<Selection, WordsError>
 fn read_span(text: &str) -> Result<Selection, WordsError>
     ensures { Finds selection_of result (span_in text.now) }
 {
-    match span(text) {
+    match read_moments(text) {
         Some((start, end)) => Ok(Selection::Span(start, end)),
         None => Err(WordsError::Usage),
     }
@@ -110,7 +117,7 @@ fn read_span(text: &str) -> Result<Selection, WordsError>
 
 /// The moments of two dates with a slash between.
 #[tactic(auto, unfolding(crate::specs::Reading::Selections::moments_in))]
-fn span(text: &str) -> Option<(i64, i64)>
+pub(crate) fn read_moments(text: &str) -> Option<(i64, i64)>
     ensures { result ≡ moments_in text.now }
 {
     let (first, second) = split_dates(text)?;

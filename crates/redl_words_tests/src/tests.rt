@@ -3,7 +3,7 @@ ghost use Rattle.std.specs.Prelude.{All, IfOk, IsUtf8};
 
 use redl_io::Text;
 use redl_journal::Word;
-use redl_select::Selection;
+use redl_select::{Lock, Selection};
 use redl_words::{Command, WordsError, read_words};
 use std::alloc::{AllocError, Global};
 use std::str::from_utf8;
@@ -53,6 +53,25 @@ fn selection_shown(alloc: Global, selection: &Selection) -> Result<String, Alloc
     }
 }
 
+fn lock_shown(alloc: Global, lock: &Lock) -> Result<String, AllocError> {
+    match lock {
+        Lock::Author(name) => String::from_str(alloc, shown(name)),
+        Lock::Kind(kind) => format!(in alloc; "kind {kind:?}"),
+        Lock::Span(start, end) => format!(in alloc; "span {start} {end}"),
+    }
+}
+
+// The locks, with a comma after each.
+fn locks_shown(alloc: Global, locks: &[Lock]) -> Result<String, AllocError> {
+    let mut all = String::new(alloc);
+    for lock in locks {
+        let lock = lock_shown(alloc, lock)?;
+        all.push_str(lock.as_str())?;
+        all.push(',')?;
+    }
+    Ok(all)
+}
+
 // The choices, with a comma after each.
 fn choices_shown(alloc: Global, choices: &[(Word, Selection)]) -> Result<String, AllocError> {
     let mut all = String::new(alloc);
@@ -67,14 +86,15 @@ fn choices_shown(alloc: Global, choices: &[(Word, Selection)]) -> Result<String,
 fn decide_shown(
     alloc: Global,
     names: (&Text, &Text),
-    texts: (&[Text], &[Text]),
+    items: (&[Text], &[Lock], u8),
     choices: &[(Word, Selection)],
 ) -> Result<String, AllocError> {
-    let journals = all_shown(alloc, texts.0)?;
-    let locks = all_shown(alloc, texts.1)?;
+    let rank = items.2;
+    let journals = all_shown(alloc, items.0)?;
+    let locks = locks_shown(alloc, items.1)?;
     let choices = choices_shown(alloc, choices)?;
     format!(in alloc;
-        "decide {} by {} journals {journals} locks {locks} choices {choices}",
+        "decide {} by {} rank {rank} journals {journals} locks {locks} choices {choices}",
         shown(names.0),
         shown(names.1)
     )
@@ -83,10 +103,10 @@ fn decide_shown(
 fn with_texts(
     alloc: Global,
     front: &str,
-    locks: &[Text],
+    locks: &[Lock],
     journals: &[Text],
 ) -> Result<String, AllocError> {
-    let locks = all_shown(alloc, locks)?;
+    let locks = locks_shown(alloc, locks)?;
     let journals = all_shown(alloc, journals)?;
     format!(in alloc; "{front} locks {locks} journals {journals}")
 }
@@ -94,7 +114,7 @@ fn with_texts(
 fn list_shown(
     alloc: Global,
     names: (&Text, &Text),
-    locks: &[Text],
+    locks: &[Lock],
     journals: &[Text],
 ) -> Result<String, AllocError> {
     let front = format!(in alloc; "list {} as {}", shown(names.0), shown(names.1))?;
@@ -104,7 +124,7 @@ fn list_shown(
 fn write_shown(
     alloc: Global,
     package: &Text,
-    locks: &[Text],
+    locks: &[Lock],
     journals: &[Text],
 ) -> Result<String, AllocError> {
     let front = format!(in alloc; "write {}", shown(package))?;
@@ -138,7 +158,13 @@ fn command_shown(alloc: Global, command: &Command) -> Result<String, AllocError>
             journals,
             locks,
             choices,
-        } => decide_shown(alloc, (package, reviewer), (journals, locks), choices),
+            rank,
+        } => decide_shown(
+            alloc,
+            (package, reviewer),
+            (journals, locks, *rank),
+            choices,
+        ),
         Command::Join { journals } => join_shown(alloc, journals),
         Command::Check { package } => format!(in alloc; "check {}", shown(package)),
         Command::Sample { number } => format!(in alloc; "sample {number}"),
@@ -162,7 +188,7 @@ fn line_told(alloc: Global, line: &str) -> Result<String, AllocError> {
 }
 
 // Lines, and what they ask for.
-const COMMANDS: [(&str, &str); 17] = [
+const COMMANDS: [(&str, &str); 21] = [
     ("settle|accept|P", "settle true P"),
     ("settle|reject|P", "settle false P"),
     ("list|P", "list P as text locks  journals "),
@@ -175,26 +201,42 @@ const COMMANDS: [(&str, &str); 17] = [
         "list|P|--format|--lock|--lock|--format",
         "list P as --lock locks --format, journals ",
     ),
+    (
+        "list|P|--lock-kind|move|--lock-span|2024-05-06T07:08:09Z/2024-05-06T07:08:10Z|--lock|--lock-kind|J",
+        "list P as text locks kind Move,span 1714979289 1714979290,--lock-kind, journals J,",
+    ),
     ("write|P", "write P locks  journals "),
     (
         "write|P|J|--lock|Cy & Co|K|--lock||J",
         "write P locks Cy & Co,, journals J,K,J,",
     ),
     (
+        "write|P|--lock-kind|row-ins|--lock-kind|row-ins",
+        "write P locks kind Row(Ins),kind Row(Ins), journals ",
+    ),
+    (
         "decide|P|Dee|--accept|all",
-        "decide P by Dee journals  locks  choices Accept all,",
+        "decide P by Dee rank 0 journals  locks  choices Accept all,",
     ),
     (
         "decide|P|-x|--journal|J|--lock|A|--reject|numbers:2,0,2|--withdraw|author:|--journal|K|--accept|kind:row-ins",
-        "decide P by -x journals J,K, locks A, choices Reject numbers [2, 0, 2],Withdraw author ,Accept kind Row(Ins),",
+        "decide P by -x rank 0 journals J,K, locks A, choices Reject numbers [2, 0, 2],Withdraw author ,Accept kind Row(Ins),",
     ),
     (
         "decide|P|Dee|--accept|span:2024-05-06T07:08:09Z/2024-05-06T09:08:10+02:00",
-        "decide P by Dee journals  locks  choices Accept span 1714979289 1714979290,",
+        "decide P by Dee rank 0 journals  locks  choices Accept span 1714979289 1714979290,",
     ),
     (
         "decide|P|Dee|--accept|author:a/b:c|--accept|numbers:4294967295",
-        "decide P by Dee journals  locks  choices Accept author a/b:c,Accept numbers [4294967295],",
+        "decide P by Dee rank 0 journals  locks  choices Accept author a/b:c,Accept numbers [4294967295],",
+    ),
+    (
+        "decide|P|Dee|--rank|9|--accept|all|--lock-kind|cell-ins",
+        "decide P by Dee rank 9 journals  locks kind Cell(Ins), choices Accept all,",
+    ),
+    (
+        "decide|P|Dee|--accept|all|--rank|0",
+        "decide P by Dee rank 0 journals  locks  choices Accept all,",
     ),
     ("join|J", "join J,"),
     ("join|K|J|K", "join K,J,K,"),
@@ -213,7 +255,7 @@ fn lines_of_each_command(rt: HostRuntime) -> Result<(), Fail> {
 }
 
 // Lines that are those of no command.
-const NO_COMMANDS: [&str; 47] = [
+const NO_COMMANDS: [&str; 62] = [
     "",
     "P",
     "--help",
@@ -238,6 +280,15 @@ const NO_COMMANDS: [&str; 47] = [
     "write|P|--lock",
     "write|P|--lock=A|J",
     "write|P|--format|tab",
+    "write|P|--rank|1",
+    "write|P|--lock-kind",
+    "write|P|--lock-kind|pictures",
+    "write|P|--lock-kind|kind:ins",
+    "write|P|--lock-span",
+    "write|P|--lock-span|2024-05-06T07:08:09Z",
+    "write|P|--lock-span|span:2024-05-06T07:08:09Z/2024-05-06T07:08:10Z",
+    "list|P|--rank|1",
+    "list|P|--lock-author|A",
     "decide|P|Dee",
     "decide|P|Dee|--lock|A",
     "decide|P|Dee|J|--accept|all",
@@ -247,6 +298,12 @@ const NO_COMMANDS: [&str; 47] = [
     "decide|P|Dee|--accept",
     "decide|P|Dee|--accept|all|--journal|-J",
     "decide|P|Dee|--accept|all|--format|tab",
+    "decide|P|Dee|--accept|all|--rank",
+    "decide|P|Dee|--accept|all|--rank|10",
+    "decide|P|Dee|--accept|all|--rank|01",
+    "decide|P|Dee|--accept|all|--rank|-1",
+    "decide|P|Dee|--rank|1|--accept|all|--rank|1",
+    "decide|P|Dee|--rank|1",
     "join",
     "join|",
     "join|-J",

@@ -6,6 +6,7 @@ use Rattle.redl_journal.specs.declared.entry.Word.{Word}
 use Rattle.redl_journal.specs.Reading.{number_in, is_reviewer}
 use Rattle.redl_reading.specs.Steps.{◌>>=◌}
 use Rattle.redl_select.specs.Selections.{Selection}
+use Rattle.redl_select.specs.declared.lock.Lock.{Lock}
 use Rattle.redl_words.specs.declared.options.Form.TheVariants as forms
 use Rattle.redl_words.specs.declared.verb.Verb.{Verb}
 use Rattle.redl_words.specs.declared.verb.Verb.TheVariants as verbs
@@ -45,15 +46,20 @@ unfoldable pub write_in : List (List ℕ) → Option Command
 write_in [] = None
 write_in (p ∷ rest) = if is_name p then option_map (λ items. write p items.locks items.journals) (gathered forms.Write nothing rest) else None
 
+-- the rank, or 0 without one
+abbrev pub rank_or_0 : Option ℕ → ℕ
+rank_or_0 None = 0
+rank_or_0 (Some rank) = rank
+
 -- the command with these items, which needs a choice
-abbrev pub decide_with : List ℕ → List ℕ → List (List ℕ) → List (List ℕ) → List (Word × Selection) → Option Command
-decide_with p reviewer journals locks [] = None
-decide_with p reviewer journals locks (choice ∷ choices) = Some (decide p reviewer journals locks (choice ∷ choices))
+abbrev pub decide_with : List ℕ → List ℕ → List (List ℕ) → List Lock → List (Word × Selection) → ℕ → Option Command
+decide_with p reviewer journals locks [] rank = None
+decide_with p reviewer journals locks (choice ∷ choices) rank = Some (decide p reviewer journals locks (choice ∷ choices) rank)
 
 unfoldable pub decide_in : List (List ℕ) → Option Command
 decide_in (p ∷ reviewer ∷ rest) =
     if is_name p && is_reviewer reviewer
-    then (gathered forms.Decide nothing rest >>= λ items. decide_with p reviewer items.journals items.locks items.choices)
+    then (gathered forms.Decide nothing rest >>= λ items. decide_with p reviewer items.journals items.locks items.choices (rank_or_0 items.rank))
     else None
 decide_in _ = None
 

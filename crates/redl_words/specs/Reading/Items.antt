@@ -1,4 +1,4 @@
--- Reading the words behind a verb: files, journals, choices and options.
+-- Reading the words after a verb: files, journals, choices and options.
 use Rattle.std.specs.Borrow.{Bor}
 use Rattle.std.specs.Prelude.{◌≡◌, ℕ, Bool, true, false, List, [], ◌∷◌, ◌++◌, Option, Some, None, Result, Ok, Err, codes, if◌then◌else◌}
 use Rattle.std.specs.Str.{bytes_eq}
@@ -6,23 +6,29 @@ use Rattle.redl_journal.specs.declared.entry.Word.{Word}
 use Rattle.redl_journal.specs.declared.entry.Word.TheVariants.{Accept, Reject, Withdraw}
 use Rattle.redl_reading.specs.Steps.{◌>>=◌}
 use Rattle.redl_select.specs.Selections.{Selection}
+use Rattle.redl_select.specs.declared.lock.Lock.{Lock}
 use Rattle.redl_words.specs.declared.error.WordsError.{WordsError}
 use Rattle.redl_words.specs.declared.options.Form.{Form}
 use Rattle.redl_words.specs.declared.options.Form.TheVariants as forms
+use Rattle.redl_words.specs.declared.options.Locked.{Locked}
+use Rattle.redl_words.specs.declared.options.Locked.TheVariants as locked
 use Rattle.redl_words.specs.declared.options.ItemOption.{ItemOption}
 use Rattle.redl_words.specs.declared.options.ItemOption.TheVariants as options
 use Rattle.redl_words.specs.declared.items.Items as code
 use Rattle.redl_words.specs.Commands.{is_name, option_of}
 use Rattle.redl_words.specs.Views.{choices_view}
 use Rattle.redl_words.specs.Reading.Answers.{Fails}
+use Rattle.redl_words.specs.Reading.Locks.{lock_in}
+use Rattle.redl_words.specs.Reading.Ranks.{rank_in}
 use Rattle.redl_words.specs.Reading.Selections.{selection_in}
 
 -- what the items of a command say
 pub record Gathered : Type 0 where
   pub format : Option (List ℕ)
-  pub locks : List (List ℕ)
+  pub locks : List Lock
   pub journals : List (List ℕ)
   pub choices : List (Word × Selection)
+  pub rank : Option ℕ
 
 -- the code's items as plain data
 abbrev pub items_view : code.Items → Gathered
@@ -31,10 +37,11 @@ items_view items = record {
   locks = items.locks.items;
   journals = items.journals.items;
   choices = choices_view items.choices.items;
+  rank = items.rank;
 }
 
 abbrev pub nothing : Gathered
-nothing = record { format = None; locks = []; journals = []; choices = [] }
+nothing = record { format = None; locks = []; journals = []; choices = []; rank = None }
 
 -- a command of this form may have journals without an option
 abbrev pub has_plain_journals : Form → Bool
@@ -51,37 +58,61 @@ unfoldable pub with_plain_journal : Form → List ℕ → Gathered → Option Ga
 with_plain_journal form name items = if has_plain_journals form then Some (with_journal name items) else None
 
 -- the option that a word is, in a command that decides
-abbrev pub deciding_option : List ℕ → Option ItemOption
+unfoldable pub deciding_option : List ℕ → Option ItemOption
 deciding_option word =
     if bytes_eq word (codes "--journal") then Some options.Journal
     else if bytes_eq word (option_of Accept) then Some (options.Choice Accept)
     else if bytes_eq word (option_of Reject) then Some (options.Choice Reject)
     else if bytes_eq word (option_of Withdraw) then Some (options.Choice Withdraw)
+    else if bytes_eq word (codes "--rank") then Some options.Rank
     else None
 
--- the option that a word is, besides `--lock`
+-- what the option is on that a word is, if it is one of the three for locks
+unfoldable pub locking_option : List ℕ → Option Locked
+locking_option word =
+    if bytes_eq word (codes "--lock") then Some locked.Author
+    else if bytes_eq word (codes "--lock-kind") then Some locked.Kind
+    else if bytes_eq word (codes "--lock-span") then Some locked.Span
+    else None
+
+-- the option that a word is, besides those for locks
 abbrev pub own_option : Form → List ℕ → Option ItemOption
 own_option forms.List word = if bytes_eq word (codes "--format") then Some options.Format else None
 own_option forms.Write word = None
 own_option forms.Decide word = deciding_option word
 
+-- the option of a lock, or else another one
+abbrev pub lock_or : Option ItemOption → Option Locked → Option ItemOption
+lock_or other None = other
+lock_or other (Some on) = Some (options.Lock on)
+
 -- the option that a word is
 unfoldable pub option_in : Form → List ℕ → Option ItemOption
-option_in form word = if bytes_eq word (codes "--lock") then Some options.Lock else own_option form word
+option_in form word = lock_or (own_option form word) (locking_option word)
 
 -- with a format, where there is none so far
 abbrev pub with_format : List ℕ → Option (List ℕ) → Gathered → Option Gathered
 with_format name None items = Some (record items { format = Some name })
 with_format name (Some other) items = None
 
+-- with a rank, where there is none so far
+abbrev pub with_rank : List ℕ → Option ℕ → Gathered → Option Gathered
+with_rank value None items = do
+  rank ← rank_in value
+  Some (record items { rank = Some rank })
+with_rank value (Some other) items = None
+
 -- with an option and its value
 unfoldable pub with_option : ItemOption → List ℕ → Gathered → Option Gathered
 with_option options.Format value items = with_format value items.format items
-with_option options.Lock value items = Some (record items { locks = items.locks ++ value ∷ [] })
+with_option (options.Lock on) value items = do
+  lock ← lock_in on value
+  Some (record items { locks = items.locks ++ lock ∷ [] })
 with_option options.Journal value items = if is_name value then Some (with_journal value items) else None
 with_option (options.Choice word) value items = do
   selection ← selection_in value
   Some (record items { choices = items.choices ++ (word, selection) ∷ [] })
+with_option options.Rank value items = with_rank value items.rank items
 
 -- with the option that a word is, and its value
 unfoldable pub with_word : Form → List ℕ → List ℕ → Gathered → Option Gathered
