@@ -10,3 +10,4 @@ mod summary;
 mod walk;
 
 pub use package::view;
+pub use walk::put_start;

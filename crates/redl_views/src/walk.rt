@@ -228,8 +228,8 @@ fn is_lost(next: Next, full: bool) -> bool
     }
 }
 
-// Puts what an element shows at its start tag: a tab or a line break.
-fn put_start<K: Sink>(elem: &Elem, out: &mut K) -> Result<(), Failed>
+/// Puts what an element shows at its start tag: a tab or a line break.
+pub fn put_start<K: Sink>(elem: &Elem, out: &mut K) -> Result<(), Failed>
     ensures { Puts K.told K.faults K.settled K.lenders out.old out.new (start_shown_by (tag_of elem.now)) result }
 {
     if is_named(elem, b"tab") {

@@ -1,0 +1,5 @@
+mod Rows
+pub mod WalkLaws
+pub mod LastLaws
+pub mod StoryLaws
+pub mod MemberLaws
