@@ -1,5 +1,5 @@
 -- Stories that are taken one after the other.
-use Rattle.std.proofs.Common.{◌≡◌, ◌∙◌, ℕ, ◌+◌, ◌<◌, List, [], ◌∷◌, ◌++◌, refl, sym, ap, subst, append_assoc}
+use Rattle.std.proofs.Common.{◌≡◌, ◌∙◌, List, [], ◌∷◌, ◌++◌, refl, sym, ap, subst, append_assoc}
 use Rattle.redl_tree.specs.Model.View.{Parts}
 use Rattle.redl_editor.specs.Begun.{IsBegun, AreBegun, AddsBegun}
 use Rattle.redl_editor.specs.declared.story.Story.{Story}

@@ -1,22 +1,21 @@
 -- What making the touched leaves takes is what setting may cost.
-use Rattle.std.proofs.Common.{◌≡◌, ◌<◌, ◌≤◌, ◌+◌, ◌-◌, ◌*◌, ◌==◌, ◌||◌, ◌&&◌, not, ℕ, zero, suc, List, [], ◌∷◌, ◌++◌, length, get_or, drop, map, sum, sum_by, slice_get, Some, None, Bool, true, false, true≢false, ◌⊎◌, inl, inr, refl, sym, ap, subst, ◌∙◌, arith, if◌then◌else◌}
+use Rattle.std.proofs.Common.{◌≡◌, ◌<◌, ◌≤◌, ◌+◌, ◌-◌, ◌*◌, ◌==◌, ◌||◌, ◌&&◌, not, ℕ, zero, suc, List, [], ◌∷◌, ◌++◌, length, get_or, drop, map, slice_get, Bool, true, false, true≢false, ◌⊎◌, inl, inr, refl, sym, ap, subst, ◌∙◌, arith, if◌then◌else◌}
 use Rattle.std.proofs.lemmas.List.{get_or_append_left, get_or-append-add, map-append, drop_more, drop_all}
 use Rattle.std.proofs.lemmas.List.Sums.{sum_by-cons}
 use Rattle.std.proofs.lemmas.Bool.{eqb-true, eq-eqb}
 use Rattle.std.specs.List.Sorted.{IsStrictlyIncreasing}
 use Rattle.redl_leaves.specs.Finds.{size_at}
-use Rattle.redl_tree.proofs.Leaves.Costs.{cost-walk}
 use Rattle.redl_tree.proofs.Leaves.Lending.{leaf-numbered}
 use Rattle.redl_tree.proofs.Leaves.Places.{list-count}
 use Rattle.redl_tree.specs.Leaves.Leaf.{leaf_list, leaf_count, leaf_size, leaves}
 use Rattle.redl_tree.specs.Leaves.Settings.{has_member, slots_cost, setting_cost}
-use Rattle.redl_tree.specs.Leaves.Slots.{Leaf, Slots, no_slots, leaf_slot, container_slot, slots_in}
+use Rattle.redl_tree.specs.Leaves.Slots.{Leaf, Slots, no_slots, leaf_slot, container_slot}
 use Rattle.redl_tree.specs.Leaves.Ways.{ways, leaf_at}
 use Rattle.redl_tree.specs.Model.Nodes.{Nodes, no_nodes, bytes, element}
 use Rattle.redl_tree.specs.Model.View.{Parts}
-use Rattle.redl_editor.proofs.CoverLaws.{some-holder, Holder, holds-within, way-numbered, or-left, or-right}
+use Rattle.redl_editor.proofs.CoverLaws.{some-holder, holds-within, way-numbered, or-left, or-right}
 use Rattle.redl_editor.specs.Costs.{parts_cost}
-use Rattle.redl_editor.specs.Holdings.{HoldsOf, is_rev, is_held, is_touched, nodes_hold, slots_hold, some_held}
+use Rattle.redl_editor.specs.Holdings.{HoldsOf, is_rev, is_touched, slots_hold, some_held}
 use Rattle.redl_editor.specs.Makes.{sizes_of}
 use Rattle.redl_editor.specs.declared.holding.Held.{Held}
 

@@ -1,5 +1,5 @@
 -- What an editor keeps, and the package that it was taken from.
-use Rattle.std.proofs.Common.{◌≡◌, ◌∙◌, ◌<◌, ◌≤◌, ℕ, zero, suc, List, [], ◌∷◌, ◌++◌, map, length, slice_get, Option, Some, None, Result, Ok, Err, Bool, true, false, All, replicate, refl, sym, ap, subst, if◌then◌else◌}
+use Rattle.std.proofs.Common.{◌≡◌, ◌∙◌, ℕ, zero, suc, List, [], ◌∷◌, map, slice_get, Result, Ok, Err, Bool, true, false, All, replicate, refl, sym, ap, subst, if◌then◌else◌}
 use Rattle.std.proofs.lemmas.List.Elements.{All-head, All-tail}
 use Rattle.std.specs.Result.{OnErr, OnOk}
 use Rattle.redl_tree.proofs.Leaves.Members as members
@@ -8,15 +8,11 @@ use Rattle.redl_tree.proofs.Leaves.Originals.{original-slots}
 use Rattle.redl_tree.proofs.Leaves.Shown.{IsBlind, changed-blind, shown-blind, package-shows}
 use Rattle.redl_tree.proofs.Leaves.Stories.{package-shown}
 use Rattle.redl_tree.proofs.StoryLaws.{Agree, changed_in-agree}
-use Rattle.redl_tree.specs.Decisions.Packages.{is_root, roots_are_plain, stories_in, stories, StoryRule, left_after, changed_in, changed_package, pass_package}
+use Rattle.redl_tree.specs.Decisions.Packages.{is_root, roots_are_plain, stories, StoryRule, changed_in, changed_package, pass_package}
 use Rattle.redl_tree.specs.Leaves.Containers.{opens}
-use Rattle.redl_tree.specs.Leaves.Present.{present_leaf}
-use Rattle.redl_tree.specs.Leaves.Leaf.{leaves}
 use Rattle.redl_tree.specs.Leaves.Rebuilt.{original}
 use Rattle.redl_tree.specs.Leaves.Settings.{Setting, set_each}
 use Rattle.redl_tree.specs.Leaves.Shown.{AreStatesOfEach, ShowsStory, shown_rule}
-use Rattle.redl_tree.specs.Leaves.Slots.{Slots}
-use Rattle.redl_tree.specs.Leaves.States.{lent}
 use Rattle.redl_tree.specs.Model.Nodes.{Tag, Nodes, no_nodes, bytes, element}
 use Rattle.redl_tree.specs.Model.View.{Parts, nodes_of}
 use Rattle.redl_tree.specs.declared.kinds.Say.{Say}

@@ -1,23 +1,20 @@
 -- Leaves by their numbers.
-use Rattle.std.proofs.Common.{◌≡◌, ◌∙◌, ◌<◌, ◌≤◌, ◌+◌, ℕ, zero, suc, List, [], ◌∷◌, length, get_or, slice_get, Option, Some, None, Bool, false, refl, sym, ap, subst, arith}
+use Rattle.std.proofs.Common.{◌≡◌, ◌∙◌, ◌<◌, ◌≤◌, ◌+◌, ℕ, zero, suc, List, [], ◌∷◌, length, get_or, slice_get, None, false, refl, sym, ap, subst, arith}
 use Rattle.std.proofs.lemmas.Option.{slice_get_past, slice_get_read}
 use Rattle.redl_tree.proofs.Leaves.Costs.{count-leaves}
 use Rattle.redl_tree.proofs.Leaves.Lending.{lent-count, lent-numbered}
 use Rattle.redl_tree.proofs.Leaves.Places.{ways-count}
 use Rattle.redl_tree.specs.Leaves.Containers.{opens}
 use Rattle.redl_tree.specs.Leaves.Leaf.{leaves, leaf_count}
-use Rattle.redl_tree.specs.Leaves.Slots.{Slots, slots_in}
+use Rattle.redl_tree.specs.Leaves.Slots.{slots_in}
 use Rattle.redl_tree.specs.Leaves.States.{States, slots_of, lent}
 use Rattle.redl_tree.specs.Leaves.Ways.{ways, lent_at}
-use Rattle.redl_tree.specs.Model.Nodes.{Nodes}
 use Rattle.redl_tree.specs.Model.View.{Parts}
 use Rattle.redl_tree.specs.declared.kinds.Say.{Say}
 use Rattle.redl_editor.proofs.CoverLaws.{way-numbered}
-use Rattle.redl_editor.proofs.KeptLaws.{kept-tables, kept-here}
 use Rattle.redl_editor.specs.Kept.{IsKept, AreKept, count_of, lent_story}
 use Rattle.redl_editor.specs.Places.{HasWays}
 use Rattle.redl_editor.specs.Stories.{states_kept, slots_kept}
-use Rattle.redl_editor.specs.Tables.{IsTable}
 use Rattle.redl_editor.specs.declared.story.Story.{Story}
 use Rattle.redl_editor.specs.declared.table.Table.{Table}
 

@@ -1,15 +1,14 @@
 -- The text of a package whose stories are kept apart, a node at a time.
 use Rattle.std.proofs.Common.{◌≡◌, ◌∙◌, ◌++◌, ◌<◌, ◌≤◌, ◌+◌, ◌&&◌, ℕ, zero, suc, List, [], ◌∷◌, length, get_or, drop, map, Bool, true, false, refl, sym, ap, arith, if◌then◌else◌}
 use Rattle.std.proofs.lemmas.List.{append-nil}
-use Rattle.redl_tree.proofs.Laws.{text-⊕, text-in_front, nodes_end}
+use Rattle.redl_tree.proofs.Laws.{text-⊕, text-in_front}
 use Rattle.redl_tree.proofs.StoryLaws.{changed_in-in_front, stories_in-in_front, left_after-append}
 use Rattle.redl_tree.specs.Decisions.Packages.{is_root, level_of, is_data_level, is_story_root, stories_in, element_stories, StoryRule, left_after, changed_in}
-use Rattle.redl_tree.specs.Decisions.StoryWalk.{changed_kids, changed_item, item_stories}
+use Rattle.redl_tree.specs.Decisions.StoryWalk.{changed_item, item_stories}
 use Rattle.redl_tree.specs.Leaves.Shown.{shown_rule, next_states, later_states}
 use Rattle.redl_tree.specs.Leaves.States.{States, no_states}
-use Rattle.redl_tree.specs.Model.Nodes.{Tag, Nodes, no_nodes, Item, in_front, ◌⊕◌}
+use Rattle.redl_tree.specs.Model.Nodes.{Tag, Nodes, no_nodes, Item, in_front}
 use Rattle.redl_tree.specs.Model.Text.{text, item_text}
-use Rattle.redl_tree.specs.Model.View.{Parts}
 use Rattle.redl_tree.specs.declared.level.Level.{Level}
 use Rattle.redl_editor.specs.Stories.{states_kept}
 use Rattle.redl_editor.specs.declared.story.Story.{Story}

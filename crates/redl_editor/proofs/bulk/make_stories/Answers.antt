@@ -1,4 +1,4 @@
-use Rattle.std.proofs.Common.{◌≡◌, ◌≤◌, ◌<◌, ◌+◌, ◌++◌, ◌∷◌, [], List, Vec, length, get_or, sym, subst, ap, ◌∙◌, arith}
+use Rattle.std.proofs.Common.{◌<◌, List, Vec, length, get_or, sym, subst, ap, arith}
 use Rattle.std.specs.Global.{Global}
 use Rattle.redl_leaves.specs.declared.stepping.Made.{Made}
 use Rattle.redl_editor.proofs.CostLaws.{cost-here}

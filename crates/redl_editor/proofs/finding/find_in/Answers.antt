@@ -1,5 +1,4 @@
-use Rattle.std.proofs.Common.{◌≡◌, ◌≤◌, ◌<◌, ◌∙◌, List, false, length, ap, sym, arith}
-use Rattle.redl_tree.specs.Leaves.States.{slots_of}
+use Rattle.std.proofs.Common.{◌<◌, ◌∙◌, List, false, length, ap, sym, arith}
 use Rattle.redl_tree.specs.Leaves.Ways.{ways, lent_at}
 use Rattle.redl_leaves.specs.View.{states_of}
 use Rattle.redl_leaves.specs.declared.slots.Slot.{Slot}

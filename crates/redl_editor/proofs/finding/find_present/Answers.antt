@@ -1,4 +1,4 @@
-use Rattle.std.proofs.Common.{◌≡◌, ◌≤◌, ◌<◌, ◌∙◌, length, ap, sym, arith}
+use Rattle.std.proofs.Common.{◌≤◌, ◌<◌, ◌∙◌, length, ap, sym, arith}
 use Rattle.redl_leaves.specs.Lends.{lent_nodes}
 use Rattle.redl_editor.proofs.FindLaws.{story-past, story-there}
 use Rattle.redl_editor.proofs.KeptLaws.{kept-tables, kept-here}

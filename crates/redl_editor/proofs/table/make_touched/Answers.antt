@@ -1,4 +1,4 @@
-use Rattle.std.proofs.Common.{◌≡◌, ◌≤◌, ◌+◌, ◌∙◌, map, sym, ap, subst, List, ℕ, arith}
+use Rattle.std.proofs.Common.{◌≡◌, ◌≤◌, ◌∙◌, map, sym, ap, subst, List, ℕ, arith}
 use Rattle.redl_tree.specs.Leaves.Pending.{Covers}
 use Rattle.redl_tree.specs.Leaves.States.{slots_of}
 use Rattle.redl_tree.specs.Leaves.Ways.{ways, AreWays, is_end}

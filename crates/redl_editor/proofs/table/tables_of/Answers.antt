@@ -1,4 +1,4 @@
-use Rattle.std.proofs.Common.{◌+◌, List, take, sym, subst, arith}
+use Rattle.std.proofs.Common.{◌+◌, List, take, sym, subst}
 use Rattle.redl_leaves.specs.View.{states_of}
 use Rattle.redl_leaves.specs.declared.slots.Slot.{Slot}
 use Rattle.redl_tree.specs.Leaves.States.{slots_of}

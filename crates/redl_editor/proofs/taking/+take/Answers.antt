@@ -1,16 +1,15 @@
-use Rattle.std.proofs.Common.{◌≡◌, ◌+◌, ◌<◌, ◌≤◌, ◌^◌, ◌++◌, [], List, get_or, length, set, take, drop, sym, ap, subst, ◌∙◌, arith}
+use Rattle.std.proofs.Common.{◌+◌, ◌<◌, ◌≤◌, ◌^◌, ◌++◌, length, take, drop, sym, ap, subst, ◌∙◌, arith}
 use Rattle.std.proofs.lemmas.List.{take_more_set, drop-set-lt, take_all, length-set, get_or-set_other}
 use Rattle.redl_tree.specs.Model.Count.{count, item_count}
-use Rattle.redl_tree.specs.Model.Nodes.{Tag, no_nodes, in_front, ◌⊕◌}
-use Rattle.redl_tree.specs.Decisions.Packages.{level_of, stories_in, changed_in}
+use Rattle.redl_tree.specs.Model.Nodes.{no_nodes, in_front, ◌⊕◌}
+use Rattle.redl_tree.specs.Decisions.Packages.{stories_in, changed_in}
 use Rattle.redl_tree.specs.Decisions.StoryWalk.{changed_item, item_stories}
-use Rattle.redl_tree.specs.Model.View.{nodes_of, item_of, Parts}
+use Rattle.redl_tree.specs.Model.View.{nodes_of, item_of}
 use Rattle.redl_tree.proofs.Laws.{nodes_here, nodes_end, nodes_of-push, ⊕-no_nodes, built_more, count-in_front}
 use Rattle.redl_tree.proofs.StoryLaws.{stories_in-in_front, changed_in-in_front}
-use Rattle.redl_editor.proofs.BegunLaws.{Taken, taken-begins, taken-more, taken-ends}
+use Rattle.redl_editor.proofs.BegunLaws.{taken-more, taken-ends}
 use Rattle.redl_editor.specs.Begun.{AddsBegun}
 use Rattle.redl_editor.specs.Stories.{empty_rule}
-use Rattle.redl_editor.specs.declared.story.Story.{Story}
 use Rattle.redl_editor.proofs.taking.+take.Goals as goal
 
 pub take_among-loop-i-preserved : goal.take_among-loop-i-preserved

@@ -2,7 +2,7 @@ use Rattle.std.proofs.Common.{◌≡◌, ◌<◌, ◌≤◌, ◌^◌, List, take
 use Rattle.redl_tree.specs.Decisions.Packages.{level_of, stories_in, changed_in}
 use Rattle.redl_tree.specs.Model.Count.{count}
 use Rattle.redl_tree.specs.Model.Nodes.{Tag, ◌⊕◌}
-use Rattle.redl_tree.specs.Model.View.{nodes_of, Parts}
+use Rattle.redl_tree.specs.Model.View.{nodes_of}
 use Rattle.redl_editor.proofs.BegunLaws.{Taken}
 use Rattle.redl_editor.specs.Stories.{empty_rule}
 use Rattle.redl_editor.proofs.taking.+take.Given as goal

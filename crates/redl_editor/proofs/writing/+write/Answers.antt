@@ -1,6 +1,6 @@
-use Rattle.std.proofs.Common.{◌≡◌, ◌+◌, ◌<◌, ◌≤◌, ◌++◌, ◌∷◌, ◌&&◌, List, [], false, refl, sym, ap, ◌∙◌, drop, length, map, arith}
+use Rattle.std.proofs.Common.{◌≡◌, ◌+◌, ◌++◌, ◌∷◌, ◌&&◌, List, [], false, refl, sym, ap, ◌∙◌, drop, map, arith}
 use Rattle.std.proofs.lemmas.List.{append-nil}
-use Rattle.redl_io.proofs.Puts.{puts_then, puts_fails, puts_as, so_far_begins, so_far_goes_on, so_far_stops, so_far_ends}
+use Rattle.redl_io.proofs.Puts.{puts_then, puts_fails, so_far_begins, so_far_goes_on, so_far_stops, so_far_ends}
 use Rattle.redl_tree.proofs.Laws.{nodes_here, nodes_end}
 use Rattle.redl_tree.specs.Decisions.Packages.{is_root, level_of, level_below, is_data_level, is_story_root, stories_in, left_after, changed_in}
 use Rattle.redl_tree.specs.Decisions.StoryWalk.{changed_kids, changed_item, item_stories}
@@ -8,9 +8,8 @@ use Rattle.redl_tree.specs.Leaves.Shown.{shown_rule}
 use Rattle.redl_tree.specs.Leaves.States.{States}
 use Rattle.redl_tree.specs.Model.Text.{text, item_text}
 use Rattle.redl_tree.specs.Model.View.{nodes_of, item_of, tag_of, kids_of, close_of}
-use Rattle.redl_leaves.proofs.TextLaws.{element-ended, element-opened, element-closed}
-use Rattle.redl_tree.proofs.Held.{closed_is_bare}
-use Rattle.redl_editor.proofs.WriteLaws.{text-changed, left-more, after-empty}
+use Rattle.redl_leaves.proofs.TextLaws.{element-ended, element-opened}
+use Rattle.redl_editor.proofs.WriteLaws.{text-changed, left-more}
 use Rattle.redl_editor.specs.Stories.{states_kept}
 use Rattle.redl_editor.proofs.writing.+write.Goals as goal
 
