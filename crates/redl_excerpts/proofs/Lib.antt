@@ -1,0 +1,4 @@
+pub mod PhraseLaws
+pub mod TellLaws
+pub mod MemberLaws
+mod Rows

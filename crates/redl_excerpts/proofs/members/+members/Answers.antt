@@ -1,0 +1,39 @@
+-- Each node tells after those before it.
+use Rattle.std.proofs.Common.{◌∙◌, ◌+◌, ◌++◌, ℕ, drop, refl, sym, ap, arith, true}
+use Rattle.redl_tree.specs.Model.View.{item_of, nodes_of}
+use Rattle.redl_tree.proofs.Laws.{nodes_here}
+use Rattle.redl_excerpts.specs.Ears.{along-more}
+use Rattle.redl_excerpts.specs.Excerpts.{is_moved}
+use Rattle.redl_excerpts.specs.Lines.{along}
+use Rattle.redl_excerpts.specs.Mentions.{item_mentions, mentions}
+use Rattle.redl_excerpts.specs.Said.{item_said, said}
+use Rattle.redl_excerpts.specs.Views.{where_of}
+use Rattle.redl_excerpts.proofs.MemberLaws.{mentions-in_front, said-in_front, tells-begins, tells-goes_on}
+use Rattle.redl_excerpts.proofs.members.+members.Goals as goal
+
+pub tell_members-loop-node-init : goal.tell_members-loop-node-init
+tell_members-loop-node-init t c = record { told = tells-begins _ _; place = refl }
+
+pub tell_members-loop-node-preserved : goal.tell_members-loop-node-preserved
+tell_members-loop-node-preserved t c =
+    let nodes = c.args.nodes.now in
+    let i = c.loop-node.node-index in
+    let x = c.node-item.result in
+    let rest = nodes_of (drop (i + 1) nodes) in
+    let here = nodes_here nodes i x (omega arith) c.node-item.is in
+    let at = c.loop-node.place in
+    let moved = λ (v : ℕ). is_moved c.args.revisions.now v in
+    record {
+      told = tells-goes_on c.args.excerpts.now.items c.loop-node.excerpts.items c.tell_member_node.new.excerpts.items _
+          (λ v. mentions (moved v) v (where_of c.args.here at) (nodes_of (drop i nodes)))
+          (λ v. item_mentions (moved v) v (where_of c.args.here at) (item_of x))
+          (λ v. mentions (moved v) v (where_of c.args.here c.in_ok-place.place) rest)
+          c.loop-node.invariant.told c.in_ok-place.ensures.told
+          (λ v. ap (λ ns. mentions (moved v) v (where_of c.args.here at) ns) here ∙ mentions-in_front (moved v) v (where_of c.args.here at) (item_of x) rest
+          ∙ ap (λ p. item_mentions (moved v) v (where_of c.args.here at) (item_of x) ++ mentions (moved v) v (where_of c.args.here p) rest) (sym c.in_ok-place.ensures.place));
+      place =
+          ap (λ p. along p (said true c.args.here.in_text rest)) c.in_ok-place.ensures.place
+          ∙ along-more at (item_said true c.args.here.in_text (item_of x)) (said true c.args.here.in_text rest)
+          ∙ ap (along at) (sym (ap (said true c.args.here.in_text) here ∙ said-in_front true c.args.here.in_text (item_of x) rest))
+          ∙ c.loop-node.invariant.place;
+    }

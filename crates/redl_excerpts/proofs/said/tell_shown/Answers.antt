@@ -1,0 +1,13 @@
+-- What a step shows is heard before what the rest shows.
+use Rattle.std.proofs.Common.{◌∙◌, sym, ap}
+use Rattle.redl_shown.specs.Shown.{shown_from}
+use Rattle.redl_shown.specs.Pieces.{piece_text}
+use Rattle.redl_excerpts.proofs.said.tell_shown.Goals as goal
+
+pub loop-step-preserved : goal.loop-step-preserved
+loop-step-preserved g c =
+    let step = c.in-Some.step in
+    let ear = c.loop-step.ear in
+    ap (λ e. g.E.Ear.heard e (shown_from step.here step.rest.now)) c.in_ok-tell_piece.ensures
+    ∙ g.met.E.Ear.heard_more ear (piece_text step.piece) (shown_from step.here step.rest.now)
+    ∙ ap (g.E.Ear.heard ear) (sym c.in-Some.ensures.shown) ∙ c.loop-step.invariant

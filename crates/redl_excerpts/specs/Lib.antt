@@ -1,0 +1,7 @@
+pub mod Said
+pub mod Phrases
+pub mod Lines
+pub mod Ears
+pub mod Mentions
+pub mod Views
+pub mod Excerpts

@@ -1,0 +1,14 @@
+-- What code keeps of where nodes stand, as the definitions see it.
+use Rattle.redl_tree.specs.Model.View.{nodes_of}
+use Rattle.redl_excerpts.specs.Mentions.{Where}
+use Rattle.redl_excerpts.specs.declared.line.Place.{Place}
+use Rattle.redl_excerpts.specs.declared.members.Here.{Here}
+
+abbrev pub where_of : Here → Place → Where
+where_of here place = record {
+  in_text = here.in_text;
+  owner = nodes_of here.owner.now;
+  owner_place = here.owner_place;
+  place = place;
+  whole = here.whole.now;
+}

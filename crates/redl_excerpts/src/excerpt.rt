@@ -1,0 +1,117 @@
+//! Excerpts.
+
+ghost use Rattle.std.specs.Prelude.{◌≡◌, IfOk, OnOk, true, if◌then◌else◌};
+ghost use Rattle.redl_tree.specs.Model.View.{nodes_of, tag_of};
+ghost use Rattle.redl_excerpts.specs.Excerpts.{is_trimmed, nothing_told, told};
+ghost use Rattle.redl_excerpts.specs.Mentions.{id_of, paragraph_end_in, stretch_in};
+ghost use Rattle.redl_excerpts.specs.Lines.{before};
+
+use crate::ear::Ear;
+use crate::line::{Place, before, behind};
+use crate::phrase::Phrase;
+use crate::said::tell_nodes;
+use redl_index::RevKind;
+use redl_io::Text;
+use redl_stamp::attribute;
+use redl_tree::{Elem, Node};
+use std::alloc::{AllocError, Global};
+
+/// How many characters of words are kept.
+const ROOM: u8 = 200;
+
+/// What is told of a revision.
+#[derive(Drop)]
+pub struct Excerpt {
+    /// Its words.
+    pub words: Phrase,
+    /// The own id of its first member, where that has one.
+    pub id: Option<Text>,
+    /// What stands before its first member in the same paragraph, at most 40 characters.
+    pub before: Text,
+    /// What stands behind its last member in the same paragraph, at most 40 characters.
+    pub behind: Text,
+    /// Whether a member told.
+    pub begun: bool,
+}
+
+impl Excerpt {
+    /// Nothing is told so far of a revision of this kind. `Err` means out of memory.
+    pub(crate) fn new(alloc: Global, kind: RevKind) -> Result<Excerpt, AllocError>
+        ensures { IfOk result (λ excerpt. excerpt ≡ nothing_told kind) }
+    {
+        Ok(Excerpt {
+            words: Phrase::new(alloc, ROOM, is_trimmed(kind)),
+            id: None,
+            before: Text::copy_of(alloc, b"")?,
+            behind: Text::copy_of(alloc, b"")?,
+            begun: false,
+        })
+    }
+
+    /// A member tells of these nodes, which begin at this place of the line. `Err` means out of memory.
+    pub(crate) fn tell_stretch(
+        &mut self,
+        alloc: Global,
+        elem: &Elem,
+        line: &[u8],
+        place: Place,
+        nodes: &[Node],
+    ) -> Result<(), AllocError>
+        ensures { OnOk result (self.new ≡ told self.old (stretch_in line.now (tag_of elem.now) place (nodes_of nodes.now))) }
+    {
+        self.begin(alloc, elem, line, place)?;
+        tell_nodes(nodes, false, false, &mut self.words)?;
+        let mut end = place;
+        tell_nodes(nodes, true, false, &mut end)?;
+        self.behind = behind(alloc, line, end)?;
+        Ok(())
+    }
+
+    /// A member tells of the end of the paragraph with this line. `Err` means out of memory.
+    pub(crate) fn tell_paragraph_end(
+        &mut self,
+        alloc: Global,
+        elem: &Elem,
+        line: &[u8],
+    ) -> Result<(), AllocError>
+        ensures { OnOk result (self.new ≡ told self.old (paragraph_end_in line.now (tag_of elem.now))) }
+    {
+        self.begin(alloc, elem, line, Place::end())?;
+        self.words.hear("\u{B6}".as_bytes())?;
+        self.behind = Text::copy_of(alloc, b"")?;
+        Ok(())
+    }
+
+    /// The first member tells its id, and what stands before it. `Err` means out of memory.
+    fn begin(
+        &mut self,
+        alloc: Global,
+        elem: &Elem,
+        line: &[u8],
+        place: Place,
+    ) -> Result<(), AllocError>
+        ensures { OnOk result (self.new ≡ record {
+          words = self.old.words;
+          id = if self.old.begun then self.old.id else id_of (tag_of elem.now);
+          before = if self.old.begun then self.old.before else before line.now place;
+          behind = self.old.behind;
+          begun = true;
+        }) }
+    {
+        if !self.begun {
+            self.id = attribute(alloc, elem.tail(), b"id")?;
+            self.before = before(alloc, line, place)?;
+            self.begun = true;
+        }
+        Ok(())
+    }
+}
+
+fn is_trimmed(kind: RevKind) -> bool
+    ensures { result ≡ is_trimmed kind }
+{
+    match kind {
+        RevKind::Content(_) | RevKind::Move | RevKind::Mark(_) => false,
+        RevKind::Row(_) | RevKind::Cell(_) | RevKind::Change(_) => true,
+    }
+}

@@ -1,0 +1,217 @@
+//! The walk over the nodes of a story: each member tells the excerpt of its revision.
+
+ghost use Rattle.std.specs.Prelude.{◌≡◌, ◌<◌, IfOk, OnOk, false, true};
+ghost use Rattle.redl_tree.specs.Model.View.{nodes_of, item_of, tag_of, kids_of};
+ghost use Rattle.redl_excerpts.specs.Excerpts.{TellsEach, is_moved, told_all};
+ghost use Rattle.redl_excerpts.specs.Lines.{along, line_of};
+ghost use Rattle.redl_excerpts.specs.Mentions.{bytes_said, element_mentions, in_paragraph, item_mentions, member_told, mentions, told_by};
+ghost use Rattle.redl_excerpts.specs.Said.{element_said, item_said, said, start_said};
+ghost use Rattle.redl_excerpts.specs.Views.{where_of};
+
+use crate::excerpt::Excerpt;
+use crate::line::{Line, Place};
+use crate::said::{holds_text, is_paragraph, tell_bytes, tell_nodes, tell_start};
+use redl_index::{RevKind, Revision};
+use redl_tree::{Elem, Kind, Node, Trace, is_quiet};
+use std::alloc::{AllocError, Global};
+
+/// Where nodes stand, but for their place in the line: in an element that holds text or not; what the nearest ancestor holds
+/// that is no properties, and where that begins; and the whole line.
+#[derive(Clone, Copy)]
+pub(crate) struct Here<'a, 'n> {
+    pub(crate) in_text: bool,
+    pub(crate) owner: &'a [Node<'n>],
+    pub(crate) owner_place: Place,
+    pub(crate) whole: &'a [u8],
+}
+
+/// Tells the excerpts what there is of their revisions among nodes, and gives the place behind these. `Err` means out of memory.
+#[cycle(members)]
+pub(crate) fn tell_members(
+    alloc: Global,
+    revisions: &[Revision],
+    nodes: &[Node],
+    here: Here<'_, '_>,
+    place: Place,
+    excerpts: &mut Vec<Excerpt>,
+) -> Result<Place, AllocError>
+    ensures told { OnOk result (TellsEach excerpts.old.items excerpts.new.items (λ v. mentions (is_moved revisions.now v) v (where_of here.entry place) (nodes_of nodes.now))) }
+    ensures place { IfOk result (λ behind. behind ≡ along place (said true here.entry.in_text (nodes_of nodes.now))) }
+{
+    let mut place = place;
+    for node in nodes {
+        place = tell_member_node(alloc, revisions, node, here, place, excerpts)?;
+    }
+    Ok(place)
+}
+
+#[cycle(members)]
+fn tell_member_node(
+    alloc: Global,
+    revisions: &[Revision],
+    node: &Node,
+    here: Here<'_, '_>,
+    place: Place,
+    excerpts: &mut Vec<Excerpt>,
+) -> Result<Place, AllocError>
+    ensures told { OnOk result (TellsEach excerpts.old.items excerpts.new.items (λ v. item_mentions (is_moved revisions.now v) v (where_of here.entry place) (item_of node.now))) }
+    ensures place { IfOk result (λ behind. behind ≡ along place (item_said true here.entry.in_text (item_of node.now))) }
+{
+    match node {
+        Node::Elem(elem) => tell_member_elem(alloc, revisions, elem, here, place, excerpts),
+        Node::Bytes(text) => {
+            let behind = past_bytes(text, here.in_text, place)?;
+            Ok(behind)
+        }
+    }
+}
+
+fn past_bytes(text: &[u8], in_text: bool, place: Place) -> Result<Place, AllocError>
+    ensures { IfOk result (λ behind. behind ≡ along place (bytes_said in_text text.now)) }
+{
+    let mut behind = place;
+    tell_bytes(text, in_text, &mut behind)?;
+    Ok(behind)
+}
+
+#[cycle(members)]
+fn tell_member_elem(
+    alloc: Global,
+    revisions: &[Revision],
+    elem: &Elem,
+    here: Here<'_, '_>,
+    place: Place,
+    excerpts: &mut Vec<Excerpt>,
+) -> Result<Place, AllocError>
+    ensures told { OnOk result (TellsEach excerpts.old.items excerpts.new.items (λ v. element_mentions (is_moved revisions.now v) v (where_of here.entry place) (tag_of elem.now) (kids_of elem.now))) }
+    ensures place { IfOk result (λ behind. behind ≡ along place (element_said true (tag_of elem.now) (kids_of elem.now))) }
+{
+    tell_member(alloc, revisions, elem, here, place, excerpts)?;
+    if is_paragraph(elem) {
+        tell_paragraph(alloc, revisions, elem, excerpts)?;
+        return Ok(place);
+    }
+    let held = elem.kids();
+    if is_quiet(elem) {
+        let inside = Here {
+            in_text: false,
+            owner: here.owner,
+            owner_place: here.owner_place,
+            whole: here.whole,
+        };
+        tell_members(alloc, revisions, held, inside, place, excerpts)?;
+        return Ok(place);
+    }
+    let begin = past_start(elem, place)?;
+    let inside = Here {
+        in_text: holds_text(elem),
+        owner: held,
+        owner_place: begin,
+        whole: here.whole,
+    };
+    let behind = tell_members(alloc, revisions, held, inside, begin, excerpts)?;
+    Ok(behind)
+}
+
+fn past_start(elem: &Elem, place: Place) -> Result<Place, AllocError>
+    ensures { IfOk result (λ behind. behind ≡ along place (start_said (tag_of elem.now))) }
+{
+    let mut behind = place;
+    tell_start(elem, &mut behind)?;
+    Ok(behind)
+}
+
+#[cycle(members)]
+fn tell_paragraph(
+    alloc: Global,
+    revisions: &[Revision],
+    elem: &Elem,
+    excerpts: &mut Vec<Excerpt>,
+) -> Result<(), AllocError>
+    ensures { OnOk result (TellsEach excerpts.old.items excerpts.new.items (λ v. mentions (is_moved revisions.now v) v (in_paragraph (kids_of elem.now) (line_of (said true false (kids_of elem.now)))) (kids_of elem.now))) }
+{
+    let held = elem.kids();
+    let line = line_of(alloc, held)?;
+    let start = Place::start(line.as_bytes());
+    let inside = Here {
+        in_text: false,
+        owner: held,
+        owner_place: start,
+        whole: line.as_bytes(),
+    };
+    tell_members(alloc, revisions, held, inside, start, excerpts)?;
+    Ok(())
+}
+
+// The line of a paragraph that holds these nodes.
+fn line_of(alloc: Global, nodes: &[Node]) -> Result<Line, AllocError>
+    ensures { IfOk result (λ line. line.text ≡ line_of (said true false (nodes_of nodes.now))) }
+{
+    let mut line = Line::new(alloc);
+    tell_nodes(nodes, true, false, &mut line)?;
+    Ok(line)
+}
+
+// Tells the excerpt of its revision what an element tells, where it is a member of one.
+fn tell_member(
+    alloc: Global,
+    revisions: &[Revision],
+    elem: &Elem,
+    here: Here<'_, '_>,
+    place: Place,
+    excerpts: &mut Vec<Excerpt>,
+) -> Result<(), AllocError>
+    ensures { OnOk result (TellsEach excerpts.old.items excerpts.new.items (λ v. member_told (is_moved revisions.now v) v (where_of here.entry place) (tag_of elem.now) (kids_of elem.now))) }
+{
+    let number = elem.rev() as usize;
+    if number == 0 {
+        return Ok(());
+    }
+    if excerpts.len() < number {
+        return Ok(());
+    }
+    let moved = is_moved(revisions, number);
+    tell_kind(alloc, moved, elem, here, place, &mut excerpts[number - 1])?;
+    Ok(())
+}
+
+fn is_moved(revisions: &[Revision], number: usize) -> bool
+    requires { 0 < number }
+    ensures { result ≡ is_moved revisions.now number }
+{
+    match revisions.get(number - 1) {
+        Some(revision) => revision.kind == RevKind::Move,
+        None => false,
+    }
+}
+
+// Tells the excerpt what a member tells.
+fn tell_kind(
+    alloc: Global,
+    moved: bool,
+    elem: &Elem,
+    here: Here<'_, '_>,
+    place: Place,
+    excerpt: &mut Excerpt,
+) -> Result<(), AllocError>
+    ensures { OnOk result (excerpt.new ≡ told_all excerpt.old (told_by moved (where_of here.entry place) (tag_of elem.now).kind (tag_of elem.now) (kids_of elem.now))) }
+{
+    match elem.kind() {
+        Kind::Plain | Kind::Marker => Ok(()),
+        Kind::Content(trace) => {
+            if moved && trace == Trace::To {
+                return Ok(());
+            }
+            excerpt.tell_stretch(alloc, elem, here.whole, place, elem.kids())
+        }
+        Kind::Mark(trace) => {
+            if moved && trace == Trace::To {
+                return Ok(());
+            }
+            excerpt.tell_paragraph_end(alloc, elem, here.whole)
+        }
+        Kind::Row(_) | Kind::Cell(_) | Kind::Change(_) => {
+            excerpt.tell_stretch(alloc, elem, here.whole, here.owner_place, here.owner)
+        }
+    }
+}
