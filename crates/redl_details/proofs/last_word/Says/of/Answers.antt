@@ -1,0 +1,20 @@
+-- One word more.
+use Rattle.std.proofs.Common.{◌≡◌, ◌<◌, ◌∙◌, ◌++◌, ◌∷◌, [], List, length, map, take, get_or, ap, sym, subst, All, arith}
+use Rattle.std.proofs.lemmas.List.{map_more}
+use Rattle.std.proofs.lemmas.List.Elements.{All-push}
+use Rattle.std.specs.Map.Iter.{deref}
+use Rattle.std.specs.Str.{IsUtf8}
+use Rattle.redl_journal.specs.declared.entry.Entry.{Entry}
+use Rattle.redl_details.specs.declared.last_word.LastWord.{LastWord}
+use Rattle.redl_details.specs.Details.{last_word_of}
+use Rattle.redl_details.proofs.DetailLaws.{words-more}
+use Rattle.redl_details.proofs.last_word.Says.of.Goals as goal
+
+pub loop-entry-preserved : goal.loop-entry-preserved
+loop-entry-preserved c =
+    let P : LastWord → Type 0 = λ said. IsUtf8 said.reviewer in
+    record {
+      said = c.in_ok-push.ensures.items ∙ words-more c.loop-entry.words.items c.args.entries.now c.loop-entry.entry-index c.entry-item.result c.in_ok-said.said (omega arith) c.entry-item.is
+          c.in_ok-said.ensures.value c.loop-entry.invariant.said;
+      utf8 = subst (All P) (sym c.in_ok-push.ensures.items) (All-push P c.loop-entry.words.items c.in_ok-said.said c.loop-entry.invariant.utf8 c.in_ok-said.ensures.utf8);
+    }
