@@ -1,7 +1,7 @@
 -- The walk as code takes it: it carries a summary of the ancestors in place of their list. It goes below no properties, so all
 -- ancestors are open.
 use Rattle.std.specs.Prelude.{ℕ, List, [], ◌∷◌, ◌++◌, Bool, true, false, ◌&&◌, ◌||◌, not, Option, Some, None, if◌then◌else◌}
-use Rattle.std.specs.List.{list_any}
+use Rattle.std.specs.List.{list_any, flat_map}
 use Rattle.std.specs.Option.{option_map}
 use Rattle.redl_tree.specs.Model.Nodes.{Tag, Nodes, no_nodes, bytes, element, Item, bytes_item, element_item}
 use Rattle.redl_tree.specs.Model.View.{Parts}
@@ -11,6 +11,7 @@ use Rattle.redl_tree.specs.Roles.Kinds.{is_content, is_old_content, is_free, is_
 use Rattle.redl_tree.specs.Roles.Lists.{place, inside, is_block_list, is_direct, is_rows, is_cells, is_wrapper, is_thick}
 use Rattle.redl_tree.specs.Decisions.Fates.{fate_of}
 use Rattle.redl_tree.specs.Decisions.Tables.{goes, para_is_cut}
+use Rattle.redl_tree.specs.Decisions.Packages.{stories}
 use Rattle.redl_tree.specs.declared.kinds.Say.{Say}
 use Rattle.redl_views.specs.PlainText.{start_shown, end_shown}
 use Rattle.redl_shown.specs.Shown.{shown}
@@ -161,3 +162,7 @@ item_taken says above taken (element_item tag kids) rest =
 abbrev pub story_walk : List Say → Parts → List ℕ
 story_walk says story =
     if is "document" story.tag then view says (summary_of says (story.tag ∷ [])) None story.kids else []
+
+-- all of a package
+abbrev pub walk_text : List Say → Nodes → List ℕ
+walk_text says nodes = flat_map (story_walk says) (stories nodes)

@@ -11,7 +11,7 @@ ghost use Rattle.redl_opc.specs.Elements.{element_of};
 ghost use Rattle.redl_opc.specs.Stories.{story_view, stories_of_part};
 ghost use Rattle.redl_views.specs.PlainText.{plain_text};
 ghost use Rattle.redl_shown.specs.Shown.{shown};
-ghost use Rattle.redl_views.specs.Walks.{story_walk};
+ghost use Rattle.redl_views.specs.Walks.{story_walk, walk_text};
 
 use crate::summary::in_root;
 use crate::walk::view_nodes;
@@ -25,8 +25,9 @@ use redl_tree::{Elem, Say, is_named};
 /// It goes over the original once, makes no tree and takes no memory. The members of the package have the kinds and numbers
 /// that an index gives them. `Failed` comes only where the sink failed, and then it has only a prefix of the text.
 pub fn view<K: Sink>(pkg: &Package, says: &[Say], out: &mut K) -> Result<(), Failed>
-    ensures { (value : Value) → IsIndexed value pkg.now
+    ensures plain { (value : Value) → IsIndexed value pkg.now
         → Puts K.told K.faults K.settled K.lenders out.old out.new (plain_text shown (pass_package says.now pkg.now)) result }
+    ensures walk { Puts K.told K.faults K.settled K.lenders out.old out.new (walk_text says.now pkg.now) result }
 {
     view_stories(pkg, says, out)
 }
