@@ -27,44 +27,11 @@ use Rattle.redl_opc.proofs.StoryLaws.{stories-parts}
 use Rattle.redl_page.specs.declared.marks.Depth.TheVariants.{Kids, Properties, RunProperties}
 use Rattle.redl_page.specs.declared.place.Place.{Place}
 use Rattle.redl_page.specs.declared.shape.Shape.TheVariants.{Division, Paragraph}
-use Rattle.redl_page.specs.Pieces.{Piece, own, opens_number, starts_with_number, has_element}
+use Rattle.redl_page.specs.Pieces.{own, opens_number, has_element}
+use Rattle.redl_page.proofs.NumberLaws.{or_left, or_cases, and_both, has-left, has-right}
 use Rattle.redl_page.specs.Shapes.{shape_of, holds_blocks}
 use Rattle.redl_page.specs.Signs.{before, member, is_member, has_member}
 use Rattle.redl_page.specs.Document.{marks_in, element_marks, bytes_pieces, start_as, end_as, inside, element_pieces, nodes_pieces, in_story, section_head, section, section_in, sections, is_first_after}
-
--- ---- lists of pieces
-
-or_left : (a b : Bool) → a ≡ true → (a || b) ≡ true
-or_left a b e = ap (λ x. x || b) e
-
-or_right : (a b : Bool) → b ≡ true → (a || b) ≡ true
-or_right true b e = refl
-or_right false b e = e
-
-or_cases : (a b : Bool) → (a || b) ≡ true → (a ≡ true) ⊎ (b ≡ true)
-or_cases true b e = inl refl
-or_cases false b e = inr e
-
-starts-left : (rev : ℕ) (xs ys : List Piece) → starts_with_number rev xs ≡ true → starts_with_number rev (xs ++ ys) ≡ true
-starts-left rev [] ys h = cc
-starts-left rev (x ∷ xs) ys h = h
-
-and_both : (a b : Bool) → a ≡ true → b ≡ true → (a && b) ≡ true
-and_both a b e f = rw (e, f) refl
-
-has-right : (rev : ℕ) (xs ys : List Piece) → has_element rev ys ≡ true → has_element rev (xs ++ ys) ≡ true
-has-right rev [] ys h = h
-has-right rev (x ∷ xs) ys h = or_right (opens_number x && starts_with_number rev (xs ++ ys)) (has_element rev (xs ++ ys)) (has-right rev xs ys h)
-
-has-left : (rev : ℕ) (xs ys : List Piece) → has_element rev xs ≡ true → has_element rev (xs ++ ys) ≡ true
-has-left rev [] ys h = cc
-has-left rev (x ∷ xs) ys h = at (or_cases (opens_number x && starts_with_number rev xs) (has_element rev xs) h) (has-left rev xs ys)
-  where
-    at : ((opens_number x && starts_with_number rev xs) ≡ true) ⊎ (has_element rev xs ≡ true) → (has_element rev xs ≡ true → has_element rev (xs ++ ys) ≡ true) → has_element rev (x ∷ xs ++ ys) ≡ true
-    at (inl here) ih =
-        let both = and_parts (opens_number x) (starts_with_number rev xs) here in
-        or_left (opens_number x && starts_with_number rev (xs ++ ys)) (has_element rev (xs ++ ys)) (and_both (opens_number x) (starts_with_number rev (xs ++ ys)) both.0 (starts-left rev xs ys both.1))
-    at (inr later) ih = or_right (opens_number x && starts_with_number rev (xs ++ ys)) (has_element rev (xs ++ ys)) (ih later)
 
 -- ---- the element of a member
 
@@ -159,9 +126,9 @@ data Waits (revisions : List Revision) (v : ℕ) (ancestors : List Tag) (nodes :
 
 -- a node more before these
 waits_rest : (revisions : List Revision) (v : ℕ) (ancestors : List Tag) (tag : Tag) (kids rest : Nodes) → Waits revisions v ancestors rest → Waits revisions v ancestors (element tag kids rest)
-waits_rest revisions v ancestors tag kids rest (in_run p h) = in_run p (has-right v (element_marks revisions RunProperties tag kids) (marks_in revisions RunProperties rest) h)
-waits_rest revisions v ancestors tag kids rest (in_para p h) = in_para p (has-right v (element_marks revisions Properties tag kids) (marks_in revisions Properties rest) h)
-waits_rest revisions v ancestors tag kids rest (in_kids p h) = in_kids p (has-right v (element_marks revisions Kids tag kids) (marks_in revisions Kids rest) h)
+waits_rest revisions v ancestors tag kids rest (in_run p h) = in_run p (has-right opens_number v (element_marks revisions RunProperties tag kids) (marks_in revisions RunProperties rest) h)
+waits_rest revisions v ancestors tag kids rest (in_para p h) = in_para p (has-right opens_number v (element_marks revisions Properties tag kids) (marks_in revisions Properties rest) h)
+waits_rest revisions v ancestors tag kids rest (in_kids p h) = in_kids p (has-right opens_number v (element_marks revisions Kids tag kids) (marks_in revisions Kids rest) h)
 
 waits_bytes : (revisions : List Revision) (v : ℕ) (ancestors : List Tag) (b : List ℕ) (rest : Nodes) → Waits revisions v ancestors rest → Waits revisions v ancestors (bytes b rest)
 waits_bytes revisions v ancestors b rest (in_run p h) = in_run p h
@@ -172,7 +139,7 @@ waits_bytes revisions v ancestors b rest (in_kids p h) = in_kids p h
 waits_here : (revisions : List Revision) (v : ℕ) (ancestors : List Tag) (tag : Tag) (kids rest : Nodes) (trace : Trace) → tag.kind ≡ Mark trace → eqb tag.rev v ≡ true → in_mark_props ancestors ≡ true
     → Waits revisions v ancestors (element tag kids rest)
 waits_here revisions v ancestors tag kids rest trace k e p =
-    in_run p (has-left v (element_marks revisions RunProperties tag kids) (marks_in revisions RunProperties rest)
+    in_run p (has-left opens_number v (element_marks revisions RunProperties tag kids) (marks_in revisions RunProperties rest)
     (rw k (member-has revisions (Mark trace) tag.rev v refl e)))
 
 -- ---- nodes
@@ -183,14 +150,14 @@ module _ (shown : List ℕ → List ℕ) (revisions : List Revision) (v : ℕ) w
 
   found_start : (place : Place) (ancestors : List Tag) (tag : Tag) (kids rest : Nodes) → has_element v (start_as revisions (shape_of place.loud tag kids) tag tag.kind) ≡ true → Found place ancestors (element tag kids rest)
   found_start place ancestors tag kids rest h =
-      inl (has-left v (element_pieces revisions place tag kids (nodes_pieces shown revisions (inside tag place) kids)) (nodes_pieces shown revisions place rest)
-      (has-left v (start_as revisions (shape_of place.loud tag kids) tag tag.kind) (nodes_pieces shown revisions (inside tag place) kids ++ end_as revisions (shape_of place.loud tag kids) kids tag.kind) h))
+      inl (has-left opens_number v (element_pieces revisions place tag kids (nodes_pieces shown revisions (inside tag place) kids)) (nodes_pieces shown revisions place rest)
+      (has-left opens_number v (start_as revisions (shape_of place.loud tag kids) tag tag.kind) (nodes_pieces shown revisions (inside tag place) kids ++ end_as revisions (shape_of place.loud tag kids) kids tag.kind) h))
 
   found_inner : (place : Place) (ancestors : List Tag) (tag : Tag) (kids rest : Nodes) → has_element v (nodes_pieces shown revisions (inside tag place) kids ++ end_as revisions (shape_of place.loud tag kids) kids tag.kind) ≡ true →
       Found place ancestors (element tag kids rest)
   found_inner place ancestors tag kids rest h =
-      inl (has-left v (element_pieces revisions place tag kids (nodes_pieces shown revisions (inside tag place) kids)) (nodes_pieces shown revisions place rest)
-      (has-right v (start_as revisions (shape_of place.loud tag kids) tag tag.kind) (nodes_pieces shown revisions (inside tag place) kids ++ end_as revisions (shape_of place.loud tag kids) kids tag.kind) h))
+      inl (has-left opens_number v (element_pieces revisions place tag kids (nodes_pieces shown revisions (inside tag place) kids)) (nodes_pieces shown revisions place rest)
+      (has-right opens_number v (start_as revisions (shape_of place.loud tag kids) tag tag.kind) (nodes_pieces shown revisions (inside tag place) kids ++ end_as revisions (shape_of place.loud tag kids) kids tag.kind) h))
 
   -- an element that is a member
   found_here : (place : Place) (ancestors : List Tag) (tag : Tag) (kids rest : Nodes) (kind : Kind) → tag.kind ≡ kind → is_member kind ≡ true → eqb tag.rev v ≡ true → Fits ancestors tag →
@@ -210,22 +177,22 @@ module _ (shown : List ℕ → List ℕ) (revisions : List Revision) (v : ℕ) w
   paragraph_end tag kids loud o p k h = rw (k, o, p) (at (holds_blocks kids))
     where
       at : (b : Bool) → has_element v (end_as revisions (if b then Division else Paragraph) kids Plain) ≡ true
-      at true = has-left v (marks_in revisions Kids kids) _ h
-      at false = has-left v (marks_in revisions Kids kids) _ h
+      at true = has-left opens_number v (marks_in revisions Kids kids) _ h
+      at false = has-left opens_number v (marks_in revisions Kids kids) _ h
 
   -- what waits among the kids of an element
   found_waiting : (place : Place) (ancestors : List Tag) (tag : Tag) (kids rest : Nodes) → place.loud ≡ is_open ancestors → Fits ancestors tag → Waits revisions v (tag ∷ ancestors) kids →
       Found place ancestors (element tag kids rest)
   found_waiting place ancestors tag kids rest o fit (in_run p h) =
       let both = and_parts (is "rPr" tag) (in_para_props ancestors) p in
-      inr (in_para both.1 (has-left v (element_marks revisions Properties tag kids) (marks_in revisions Properties rest) (rw both.0 h)))
+      inr (in_para both.1 (has-left opens_number v (element_marks revisions Properties tag kids) (marks_in revisions Properties rest) (rw both.0 h)))
   found_waiting place ancestors tag kids rest o fit (in_para p h) =
       let both = and_parts (is "pPr" tag) (within ("p" ∷ []) ancestors) p in
-      inr (in_kids both.1 (has-left v (element_marks revisions Kids tag kids) (marks_in revisions Kids rest) (rw both.0 h)))
+      inr (in_kids both.1 (has-left opens_number v (element_marks revisions Kids tag kids) (marks_in revisions Kids rest) (rw both.0 h)))
   found_waiting place ancestors tag kids rest o fit (in_kids p h) =
       let both = and_parts (is "p" tag) (is_open ancestors) p in
       found_inner place ancestors tag kids rest
-      (has-right v (nodes_pieces shown revisions (inside tag place) kids) (end_as revisions (shape_of place.loud tag kids) kids tag.kind)
+      (has-right opens_number v (nodes_pieces shown revisions (inside tag place) kids) (end_as revisions (shape_of place.loud tag kids) kids tag.kind)
       (paragraph_end tag kids place.loud (o ∙ both.1) both.0 (paragraph_plain ancestors tag both.0 both.1 fit) h))
 
   inside_open : (tag : Tag) (ancestors : List Tag) (loud : Bool) → loud ≡ is_open ancestors → (loud && not (is_quiet tag)) ≡ is_open (tag ∷ ancestors)
@@ -242,19 +209,19 @@ module _ (shown : List ℕ → List ℕ) (revisions : List Revision) (v : ℕ) w
   found place ancestors (bytes b rest) o fit h = at (found place ancestors rest o fit h)
     where
       at : Found place ancestors rest → Found place ancestors (bytes b rest)
-      at (inl here) = inl (has-right v (bytes_pieces shown place b) (nodes_pieces shown revisions place rest) here)
+      at (inl here) = inl (has-right opens_number v (bytes_pieces shown place b) (nodes_pieces shown revisions place rest) here)
       at (inr waits) = inr (waits_bytes revisions v ancestors b rest waits)
   found place ancestors (element tag kids rest) o fit h =
       by (or_cases ((is_member tag.kind && eqb tag.rev v) || has_member v kids) (has_member v rest) h)
       (λ m. found (inside tag place) (tag ∷ ancestors) kids (inside_open tag ancestors place.loud o) fit.1 m) (λ m. found place ancestors rest o fit.2 m)
     where
       below : Found (inside tag place) (tag ∷ ancestors) kids → Found place ancestors (element tag kids rest)
-      below (inl here) = found_inner place ancestors tag kids rest (has-left v (nodes_pieces shown revisions (inside tag place) kids) (end_as revisions (shape_of place.loud tag kids) kids tag.kind) here)
+      below (inl here) = found_inner place ancestors tag kids rest (has-left opens_number v (nodes_pieces shown revisions (inside tag place) kids) (end_as revisions (shape_of place.loud tag kids) kids tag.kind) here)
       below (inr waits) = found_waiting place ancestors tag kids rest o fit.0 waits
 
       later : Found place ancestors rest → Found place ancestors (element tag kids rest)
       later (inl there) =
-          inl (has-right v (element_pieces revisions place tag kids (nodes_pieces shown revisions (inside tag place) kids)) (nodes_pieces shown revisions place rest) there)
+          inl (has-right opens_number v (element_pieces revisions place tag kids (nodes_pieces shown revisions (inside tag place) kids)) (nodes_pieces shown revisions place rest) there)
       later (inr waits) = inr (waits_rest revisions v ancestors tag kids rest waits)
 
       own_or_kids : ((is_member tag.kind && eqb tag.rev v) ≡ true) ⊎ (has_member v kids ≡ true) → (has_member v kids ≡ true → Found (inside tag place) (tag ∷ ancestors) kids) → Found place ancestors (element tag kids rest)
@@ -288,7 +255,7 @@ module _ (shown : List ℕ → List ℕ) (revisions : List Revision) (v : ℕ) w
 
   section-has : (first : Bool) (name : List ℕ) (root : Element) → IsStory (story_view root) → has_member v root.kids ≡ true → has_element v (section shown revisions first name root.kids) ≡ true
   section-has first name root is h =
-      has-right v (section_head first name) _ (has-left v (nodes_pieces shown revisions in_story root.kids) (own "</section>\n" ∷ []) (story-has (story_view root) is h))
+      has-right opens_number v (section_head first name) _ (has-left opens_number v (nodes_pieces shown revisions in_story root.kids) (own "</section>\n" ∷ []) (story-has (story_view root) is h))
 
   sections-have : (first : Bool) (parts : List Element) → AreStories (map story_view (filter_map story_of parts)) → list_any (λ story. has_member v story.kids) (map story_view (filter_map story_of parts)) ≡ true →
       has_element v (sections shown revisions first parts) ≡ true
@@ -304,8 +271,8 @@ module _ (shown : List ℕ → List ℕ) (revisions : List Revision) (v : ℕ) w
         where
           by : (has_member v root.kids ≡ true) ⊎ (list_any (λ story. has_member v story.kids) (map story_view (filter_map story_of parts)) ≡ true) →
               has_element v (section shown revisions first (name_in part.tag) root.kids ++ sections shown revisions false parts) ≡ true
-          by (inl here) = has-left v (section shown revisions first (name_in part.tag) root.kids) (sections shown revisions false parts) (section-has first (name_in part.tag) root are.0 here)
-          by (inr there) = has-right v (section shown revisions first (name_in part.tag) root.kids) (sections shown revisions false parts) (later are.1 there)
+          by (inl here) = has-left opens_number v (section shown revisions first (name_in part.tag) root.kids) (sections shown revisions false parts) (section-has first (name_in part.tag) root are.0 here)
+          by (inr there) = has-right opens_number v (section shown revisions first (name_in part.tag) root.kids) (sections shown revisions false parts) (later are.1 there)
 
 -- each member of an indexed package has an element with its number
 pub document-has : (shown : List ℕ → List ℕ) (revisions : List Revision) (value : Value) (nodes : Nodes) (v : ℕ) → refusal nodes ≡ None → IsIndexed value nodes →

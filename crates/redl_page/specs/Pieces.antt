@@ -42,7 +42,21 @@ abbrev pub starts_with_number : ℕ → List Piece → Bool
 starts_with_number rev [] = false
 starts_with_number rev (piece ∷ pieces) = is_number rev piece
 
--- some element has the number of this revision
+-- one of these texts comes, and then the number of this revision
+abbrev pub has_number : (Piece → Bool) → ℕ → List Piece → Bool
+has_number opens rev [] = false
+has_number opens rev (piece ∷ pieces) = (opens piece && starts_with_number rev pieces) || has_number opens rev pieces
+
+-- some element of the document has the number of this revision
 abbrev pub has_element : ℕ → List Piece → Bool
-has_element rev [] = false
-has_element rev (piece ∷ pieces) = (opens_number piece && starts_with_number rev pieces) || has_element rev pieces
+has_element rev pieces = has_number opens_number rev pieces
+
+-- the number of a revision comes next, as the name of its item in the list of changes
+abbrev pub opens_item : Piece → Bool
+opens_item (own text) = ends_in (codes "<li id=\"revision-") (codes text)
+opens_item (number n) = false
+opens_item (outside text) = false
+
+-- the list of changes has an item of this revision
+abbrev pub has_item : ℕ → List Piece → Bool
+has_item rev pieces = has_number opens_item rev pieces

@@ -1,0 +1,85 @@
+-- The list of changes: what is written of it, and that each revision has an item.
+use Prim.Native.String.{String}
+use Rattle.std.proofs.Common.{◌≡◌, ℕ, ◌+◌, ◌<◌, ◌≤◌, List, [], ◌∷◌, ◌++◌, map, length, drop, get_or, Bool, true, false, ◌&&◌, Option, Some, None, eqb, eq-eqb, refl, sym, ap, ◌∙◌, append_assoc, append-nil, arith, codes, if◌then◌else◌}
+use Rattle.std.specs.Prelude.{decimal}
+use Rattle.std.specs.List.{flat_map, AllByRecursion}
+use Rattle.std.proofs.lemmas.List.{drop_more, drop_all}
+use Rattle.redl_index.specs.KindNames.{kind_name}
+use Rattle.redl_index.specs.declared.revision.Revision.{Revision}
+use Rattle.redl_journal.specs.declared.entry.Entry.{Entry}
+use Rattle.redl_join.specs.LastWords.{last_words}
+use Rattle.redl_join.specs.Verdicts.{verdict_at, greatest_seq}
+use Rattle.redl_join.specs.declared.verdict.Verdict.{Verdict}
+use Rattle.redl_listing.specs.Dates.{date_text}
+use Rattle.redl_page.specs.Changes.{change, change_head, change_state, changes, saying, word_before, verdict_before, locked_before, reviewer_item, reviewers_after, is_last}
+use Rattle.redl_page.specs.Escaping.{escaped}
+use Rattle.redl_page.specs.Pieces.{Piece, own, number, opens_item, starts_with_number, has_number, has_item, pieces_text}
+use Rattle.redl_page.proofs.NumberLaws.{or_left, and_both, has-left, has-right}
+use Rattle.redl_page.proofs.PieceLaws.{pieces_text-append}
+
+-- ---- what is written
+
+pub change-text : (revision : Revision) (verdict : Verdict) (locked : Bool) (words : List Entry) → pieces_text (change revision verdict locked words)
+    ≡ pieces_text (change_head revision) ++ (pieces_text (change_state verdict locked) ++ (pieces_text (flat_map saying words) ++ codes "</li>\n"))
+change-text revision verdict locked words =
+    pieces_text-append (change_head revision) (change_state verdict locked ++ (flat_map saying words ++ (own "</li>\n" ∷ [])))
+    ∙ ap (λ l. pieces_text (change_head revision) ++ l) (
+    pieces_text-append (change_state verdict locked) (flat_map saying words ++ (own "</li>\n" ∷ []))
+    ∙ ap (λ l. pieces_text (change_state verdict locked) ++ l) (pieces_text-append (flat_map saying words) (own "</li>\n" ∷ []))
+    )
+
+head_parts : (a n b k c m d t : List ℕ) → a ++ (n ++ (b ++ (k ++ (c ++ (m ++ (d ++ (t ++ []))))))) ≡ ((a ++ n) ++ (b ++ k)) ++ ((c ++ m) ++ (d ++ t))
+head_parts a n b k c m d t = simp (append_assoc, append-nil)
+
+pub head-text : (revision : Revision) → pieces_text (change_head revision)
+    ≡ ((codes "<li id=\"revision-" ++ decimal revision.number) ++ (codes "\" data-kind=\"" ++ escaped (kind_name revision.kind)))
+    ++ ((codes "\" data-author=\"" ++ escaped revision.author) ++ (codes "\" data-date=\"" ++ escaped (date_text revision.seconds)))
+head-text revision =
+    head_parts (codes "<li id=\"revision-") (decimal revision.number) (codes "\" data-kind=\"") (escaped (kind_name revision.kind)) (codes "\" data-author=\"")
+    (escaped revision.author) (codes "\" data-date=\"") (escaped (date_text revision.seconds))
+
+pub state-text : (verdict : Verdict) (locked : Bool) → pieces_text (change_state verdict locked) ≡ codes (verdict_before verdict) ++ codes (locked_before locked)
+state-text verdict locked = ap (λ l. codes (verdict_before verdict) ++ l) (append-nil (codes (locked_before locked)))
+
+pub sayings-more : (entry : Entry) (entries : List Entry) → pieces_text (flat_map saying (entry ∷ entries)) ≡ pieces_text (saying entry) ++ pieces_text (flat_map saying entries)
+sayings-more entry entries = pieces_text-append (saying entry) (flat_map saying entries)
+
+-- the revisions from this place on
+pub changes-here : (book : List Entry) (revisions : List Revision) (locked : List Bool) (place : ℕ) (revision : Revision) (lock other : Bool) → place < length revisions → place < length locked →
+    revision ≡ get_or revisions place revision → lock ≡ get_or locked place other →
+    pieces_text (changes book (drop place revisions) (drop place locked))
+    ≡ pieces_text (change revision (verdict_at book revision.number) lock (last_words book revision.number)) ++ pieces_text (changes book (drop (place + 1) revisions) (drop (place + 1) locked))
+changes-here book revisions locked place revision lock other within also r l =
+    ap (λ rs. pieces_text (changes book rs (drop place locked))) (drop_more revisions place revision within ∙ ap (λ x. x ∷ drop (place + 1) revisions) (sym r))
+    ∙ ap (λ ls. pieces_text (changes book (revision ∷ drop (place + 1) revisions) ls)) (drop_more locked place other also ∙ ap (λ x. x ∷ drop (place + 1) locked) (sym l))
+    ∙ pieces_text-append (change revision (verdict_at book revision.number) lock (last_words book revision.number)) (changes book (drop (place + 1) revisions) (drop (place + 1) locked))
+
+pub changes-end : (book : List Entry) (revisions : List Revision) (locked : List Bool) (place : ℕ) → length revisions ≤ place → pieces_text (changes book (drop place revisions) (drop place locked)) ≡ []
+changes-end book revisions locked place past = ap (λ rs. pieces_text (changes book rs (drop place locked))) (drop_all place revisions past)
+
+pub reviewers-more : (book : List Entry) (last : Option (List ℕ)) (entry : Entry) (entries : List Entry) → pieces_text (reviewers_after book last (entry ∷ entries))
+    ≡ pieces_text (if is_last last entry.reviewer then [] else reviewer_item book entry.reviewer) ++ pieces_text (reviewers_after book (Some entry.reviewer) entries)
+reviewers-more book last entry entries =
+    pieces_text-append (if is_last last entry.reviewer then [] else reviewer_item book entry.reviewer) (reviewers_after book (Some entry.reviewer) entries)
+
+-- ---- items
+
+change-has : (revision : Revision) (verdict : Verdict) (locked : Bool) (words : List Entry) → has_item revision.number (change revision verdict locked words) ≡ true
+change-has revision verdict locked words =
+    or_left (opens_item (own "<li id=\"revision-") && eqb revision.number revision.number) _ (and_both (opens_item (own "<li id=\"revision-")) (eqb revision.number revision.number) refl (eq-eqb revision.number revision.number refl))
+
+all-map : (P Q : Revision → Type 0) → ((x : Revision) → P x → Q x) → (xs : List Revision) → AllByRecursion P xs → AllByRecursion Q xs
+all-map P Q f [] h = tt
+all-map P Q f (x ∷ xs) h = (f x h.0, all-map P Q f xs h.1)
+
+-- each revision has an item
+pub changes-have : (book : List Entry) (revisions : List Revision) (locked : List Bool) → length locked ≡ length revisions →
+    AllByRecursion (λ revision. has_item revision.number (changes book revisions locked) ≡ true) revisions
+changes-have book [] locked e = tt
+changes-have book (revision ∷ later) [] e = absurd (omega (arith, e))
+changes-have book (revision ∷ later) (lock ∷ locked) e =
+    let own_item = change revision (verdict_at book revision.number) lock (last_words book revision.number) in (
+      has-left opens_item revision.number own_item (changes book later locked) (change-has revision (verdict_at book revision.number) lock (last_words book revision.number)),
+      all-map (λ r. has_item r.number (changes book later locked) ≡ true) (λ r. has_item r.number (own_item ++ changes book later locked) ≡ true)
+          (λ r h. has-right opens_item r.number own_item (changes book later locked) h) later (changes-have book later locked (omega (arith, e))),
+    )

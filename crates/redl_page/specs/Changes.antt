@@ -1,0 +1,79 @@
+-- The list of changes beside the document (our own rule): an item for each revision in the order of the numbers, with the last words
+-- of each reviewer on it; and the reviewers, each with the greatest sequence number of their entries.
+use Prim.Native.String.{String}
+use Rattle.std.specs.Prelude.{ℕ, List, [], ◌∷◌, ◌++◌, Bool, true, false, ◌==◌, Option, Some, None, if◌then◌else◌}
+use Rattle.std.specs.List.{flat_map}
+use Rattle.std.specs.Str.{bytes_eq}
+use Rattle.redl_index.specs.KindNames.{kind_name}
+use Rattle.redl_index.specs.declared.revision.Revision.{Revision}
+use Rattle.redl_journal.specs.declared.entry.Entry.{Entry}
+use Rattle.redl_journal.specs.declared.entry.Word.{Word}
+use Rattle.redl_journal.specs.declared.entry.Word.TheVariants.{Accept, Reject, Withdraw}
+use Rattle.redl_join.specs.LastWords.{last_words}
+use Rattle.redl_join.specs.Verdicts.{verdict_at, greatest_seq}
+use Rattle.redl_join.specs.declared.verdict.Verdict.{Verdict}
+use Rattle.redl_join.specs.declared.verdict.Verdict.TheVariants as verdict
+use Rattle.redl_listing.specs.Dates.{date_text}
+use Rattle.redl_page.specs.Pieces.{Piece, own, number, outside}
+
+-- ---- a revision
+
+-- a reviewer's word on it
+abbrev pub word_before : Word → String
+word_before Accept = "<p data-word=\"accept\" data-rank=\""
+word_before Reject = "<p data-word=\"reject\" data-rank=\""
+word_before Withdraw = "<p data-word=\"withdraw\" data-rank=\""
+
+abbrev pub saying : Entry → List Piece
+saying entry = own (word_before entry.word) ∷ number entry.rank ∷ own "\">" ∷ outside entry.reviewer ∷ own "</p>" ∷ []
+
+-- what was decided on it, and whether it is locked
+abbrev pub verdict_before : Verdict → String
+verdict_before verdict.Undecided = "\" data-verdict=\"open\" data-locked=\""
+verdict_before verdict.Accept = "\" data-verdict=\"accept\" data-locked=\""
+verdict_before verdict.Reject = "\" data-verdict=\"reject\" data-locked=\""
+verdict_before verdict.Disputed = "\" data-verdict=\"disputed\" data-locked=\""
+
+abbrev pub locked_before : Bool → String
+locked_before true = "yes\">"
+locked_before false = "no\">"
+
+-- its number, kind, author and date
+abbrev pub change_head : Revision → List Piece
+change_head revision =
+    own "<li id=\"revision-" ∷ number revision.number ∷ own "\" data-kind=\"" ∷ outside (kind_name revision.kind)
+    ∷ own "\" data-author=\"" ∷ outside revision.author ∷ own "\" data-date=\"" ∷ outside (date_text revision.seconds) ∷ []
+
+abbrev pub change_state : Verdict → Bool → List Piece
+change_state verdict locked = own (verdict_before verdict) ∷ own (locked_before locked) ∷ []
+
+abbrev pub change : Revision → Verdict → Bool → List Entry → List Piece
+change revision verdict locked words =
+    change_head revision ++ (change_state verdict locked ++ (flat_map saying words ++ (own "</li>\n" ∷ [])))
+
+-- the revisions of a package, where these are locked or not, under the entries of a book
+abbrev pub changes : List Entry → List Revision → List Bool → List Piece
+changes book [] locked = []
+changes book (revision ∷ later) [] = []
+changes book (revision ∷ later) (lock ∷ locked) =
+    change revision (verdict_at book revision.number) lock (last_words book revision.number) ++ changes book later locked
+
+-- ---- reviewers
+
+abbrev pub reviewer_item : List Entry → List ℕ → List Piece
+reviewer_item book reviewer =
+    own "<li data-sequence=\"" ∷ number (greatest_seq book reviewer) ∷ own "\">" ∷ outside reviewer ∷ own "</li>\n" ∷ []
+
+abbrev pub is_last : Option (List ℕ) → List ℕ → Bool
+is_last None reviewer = false
+is_last (Some last) reviewer = bytes_eq last reviewer
+
+-- The reviewers of these entries, after an entry of this one. The entries of a book are in the order of their reviewers, so each
+-- reviewer comes once.
+abbrev pub reviewers_after : List Entry → Option (List ℕ) → List Entry → List Piece
+reviewers_after book last [] = []
+reviewers_after book last (entry ∷ entries) =
+    (if is_last last entry.reviewer then [] else reviewer_item book entry.reviewer) ++ reviewers_after book (Some entry.reviewer) entries
+
+abbrev pub reviewers : List Entry → List Piece
+reviewers book = reviewers_after book None book

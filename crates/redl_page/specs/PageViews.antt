@@ -1,0 +1,16 @@
+-- The code's skin and what its page shows, as plain data.
+use Rattle.redl_page.specs.declared.page.Skin as code_skin
+use Rattle.redl_page.specs.declared.page.Shown as code_shown
+use Rattle.redl_page.specs.Page.{Skin, Shown}
+
+abbrev pub skin_view : code_skin.Skin → Skin
+skin_view skin = record { policy = skin.policy.now; style = skin.style.now; script = skin.script.now }
+
+abbrev pub shown_by : code_shown.Shown → Shown
+shown_by page = record {
+  nodes = page.package.now;
+  revisions = page.index.now;
+  locked = page.locked.now;
+  book = page.book.now;
+  digest = page.digest.now;
+}

@@ -1,0 +1,199 @@
+//! The list of changes.
+
+ghost use Rattle.std.specs.Prelude.{◌≡◌, ◌++◌, ℕ, All, IfSome, codes, decimal, length, map};
+ghost use Rattle.std.specs.List.{flat_map};
+ghost use Rattle.std.specs.Map.Iter.{deref};
+ghost use Rattle.redl_io.specs.Sink.{Puts};
+ghost use Rattle.redl_index.specs.KindNames.{kind_name};
+ghost use Rattle.redl_index.specs.Revisions.{IsTold};
+ghost use Rattle.redl_join.specs.LastWords.{last_words, words_on};
+ghost use Rattle.redl_listing.specs.Dates.{date_text, moment_text};
+ghost use Rattle.redl_stamp.specs.Moment.{IsMoment};
+ghost use Rattle.redl_page.specs.Changes.{change, change_head, change_state, changes, locked_before, saying, verdict_before, word_before};
+ghost use Rattle.redl_page.specs.Escaping.{escaped};
+ghost use Rattle.redl_page.specs.Pieces.{pieces_text};
+
+use crate::escape::put_escaped;
+use itoa::Buffer;
+use redl_index::{Index, Revision};
+use redl_io::{Failed, Sink, put_piece, put_pieces};
+use redl_join::{Book, LastWords, Verdict};
+use redl_journal::{Entry, Word};
+use redl_listing::moment_text;
+
+/// Puts an item for each revision in the order of the numbers, with what the book decides on it, whether it is locked, and the last
+/// words on it. It takes no memory.
+pub(crate) fn put_changes<K: Sink>(
+    index: &Index,
+    book: &Book,
+    words: &LastWords<'_>,
+    locked: &[bool],
+    out: &mut K,
+) -> Result<(), Failed>
+    requires words { (rev : ℕ) → words_on words.now rev ≡ last_words book.now rev }
+    requires locked { length locked.now ≡ length index.now }
+    ensures { Puts K.told K.faults K.settled K.lenders out.old out.new (pieces_text (changes book.now index.now locked.now)) result }
+{
+    put_each(index.revisions(), book, words, locked, out)
+}
+
+fn put_each<K: Sink>(
+    revisions: &[Revision],
+    book: &Book,
+    words: &LastWords<'_>,
+    locked: &[bool],
+    out: &mut K,
+) -> Result<(), Failed>
+    requires told { All IsTold revisions.now }
+    requires words { (rev : ℕ) → words_on words.now rev ≡ last_words book.now rev }
+    requires locked { length locked.now ≡ length revisions.now }
+    ensures { Puts K.told K.faults K.settled K.lenders out.old out.new (pieces_text (changes book.now revisions.now locked.now)) result }
+{
+    for place in 0..revisions.len() {
+        let revision = &revisions[place];
+        let verdict = book.verdict(revision.number);
+        put_change(
+            revision,
+            verdict,
+            locked[place],
+            words.on(revision.number),
+            out,
+        )?;
+    }
+    Ok(())
+}
+
+fn put_change<K: Sink>(
+    revision: &Revision,
+    verdict: Verdict,
+    locked: bool,
+    words: &[&Entry],
+    out: &mut K,
+) -> Result<(), Failed>
+    requires { IsTold revision.now }
+    ensures { Puts K.told K.faults K.settled K.lenders out.old out.new (pieces_text (change revision.now verdict locked (map deref words.now))) result }
+{
+    put_change_head(revision, out)?;
+    put_change_state(verdict, locked, out)?;
+    put_sayings(words, out)?;
+    put_piece(b"</li>\n", out)
+}
+
+fn put_change_head<K: Sink>(revision: &Revision, out: &mut K) -> Result<(), Failed>
+    requires { IsTold revision.now }
+    ensures { Puts K.told K.faults K.settled K.lenders out.old out.new (pieces_text (change_head revision.now)) result }
+{
+    put_number_and_kind(revision, out)?;
+    put_author_and_date(revision, out)
+}
+
+fn put_number_and_kind<K: Sink>(revision: &Revision, out: &mut K) -> Result<(), Failed>
+    requires { IsTold revision.now }
+    ensures { Puts K.told K.faults K.settled K.lenders out.old out.new
+        ((codes "<li id=\"revision-" ++ decimal revision.now.number) ++ (codes "\" data-kind=\"" ++ escaped (kind_name revision.now.kind))) result }
+{
+    let kind = revision.kind.name().as_bytes();
+    put_number(revision.number, out)?;
+    put_attribute(b"\" data-kind=\"", kind, out)
+}
+
+fn put_author_and_date<K: Sink>(revision: &Revision, out: &mut K) -> Result<(), Failed>
+    requires { IsTold revision.now }
+    ensures { Puts K.told K.faults K.settled K.lenders out.old out.new
+        ((codes "\" data-author=\"" ++ escaped revision.now.author) ++ (codes "\" data-date=\"" ++ escaped (date_text revision.now.seconds))) result }
+{
+    let author = revision.author.as_bytes();
+    put_attribute(b"\" data-author=\"", author, out)?;
+    put_date(revision.seconds, out)
+}
+
+fn put_number<K: Sink>(number: u32, out: &mut K) -> Result<(), Failed>
+    ensures { Puts K.told K.faults K.settled K.lenders out.old out.new (codes "<li id=\"revision-" ++ decimal number) result }
+{
+    let mut buffer = Buffer::new();
+    let digits = buffer.format(number).as_bytes();
+    put_pieces(&[b"<li id=\"revision-".as_slice(), digits], out)
+}
+
+// Puts what comes before a text from outside, and the text.
+fn put_attribute<K: Sink>(before: &[u8], text: &[u8], out: &mut K) -> Result<(), Failed>
+    ensures { Puts K.told K.faults K.settled K.lenders out.old out.new (before.now ++ escaped text.now) result }
+{
+    put_piece(before, out)?;
+    put_escaped(text, out)
+}
+
+fn put_date<K: Sink>(seconds: Option<i64>, out: &mut K) -> Result<(), Failed>
+    requires { IfSome seconds IsMoment }
+    ensures { Puts K.told K.faults K.settled K.lenders out.old out.new (codes "\" data-date=\"" ++ escaped (date_text seconds)) result }
+{
+    match seconds {
+        Some(seconds) => put_moment(seconds, out),
+        None => put_attribute(b"\" data-date=\"", b"-", out),
+    }
+}
+
+fn put_moment<K: Sink>(seconds: i64, out: &mut K) -> Result<(), Failed>
+    requires { IsMoment seconds }
+    ensures { Puts K.told K.faults K.settled K.lenders out.old out.new (codes "\" data-date=\"" ++ escaped (moment_text seconds)) result }
+{
+    let text = moment_text(seconds);
+    put_attribute(b"\" data-date=\"", &text, out)
+}
+
+fn put_change_state<K: Sink>(verdict: Verdict, locked: bool, out: &mut K) -> Result<(), Failed>
+    ensures { Puts K.told K.faults K.settled K.lenders out.old out.new (pieces_text (change_state verdict locked)) result }
+{
+    put_piece(verdict_before(verdict), out)?;
+    put_piece(locked_before(locked), out)
+}
+
+fn verdict_before(verdict: Verdict) -> &'static [u8]
+    ensures { result.now ≡ codes (verdict_before verdict) }
+{
+    match verdict {
+        Verdict::Undecided => b"\" data-verdict=\"open\" data-locked=\"",
+        Verdict::Accept => b"\" data-verdict=\"accept\" data-locked=\"",
+        Verdict::Reject => b"\" data-verdict=\"reject\" data-locked=\"",
+        Verdict::Disputed => b"\" data-verdict=\"disputed\" data-locked=\"",
+    }
+}
+
+fn locked_before(locked: bool) -> &'static [u8]
+    ensures { result.now ≡ codes (locked_before locked) }
+{
+    match locked {
+        true => b"yes\">",
+        false => b"no\">",
+    }
+}
+
+fn put_sayings<K: Sink>(words: &[&Entry], out: &mut K) -> Result<(), Failed>
+    ensures { Puts K.told K.faults K.settled K.lenders out.old out.new (pieces_text (flat_map saying (map deref words.now))) result }
+{
+    for entry in words {
+        put_saying(entry, out)?;
+    }
+    Ok(())
+}
+
+fn put_saying<K: Sink>(entry: &Entry, out: &mut K) -> Result<(), Failed>
+    ensures { Puts K.told K.faults K.settled K.lenders out.old out.new (pieces_text (saying entry.now)) result }
+{
+    let mut buffer = Buffer::new();
+    let rank = buffer.format(entry.rank).as_bytes();
+    let reviewer = entry.reviewer.as_bytes();
+    put_pieces(&[word_before(entry.word), rank, b"\">"], out)?;
+    put_escaped(reviewer, out)?;
+    put_piece(b"</p>", out)
+}
+
+fn word_before(word: Word) -> &'static [u8]
+    ensures { result.now ≡ codes (word_before word) }
+{
+    match word {
+        Word::Accept => b"<p data-word=\"accept\" data-rank=\"",
+        Word::Reject => b"<p data-word=\"reject\" data-rank=\"",
+        Word::Withdraw => b"<p data-word=\"withdraw\" data-rank=\"",
+    }
+}

@@ -1,0 +1,140 @@
+//! The whole page.
+
+ghost use Rattle.std.specs.Prelude.{◌≡◌, ◌++◌, ℕ, codes, decimal, length};
+ghost use Rattle.hex.specs.Hex.{encode_lower};
+ghost use Rattle.redl_io.specs.Sink.{Puts};
+ghost use Rattle.redl_join.specs.LastWords.{last_words, words_on};
+ghost use Rattle.redl_page.specs.Page.{body, body_head, end_text, head_text, lists, page_text, reviewer_list};
+ghost use Rattle.redl_page.specs.Pieces.{pieces_text};
+ghost use Rattle.redl_page.specs.PageViews.{shown_by, skin_view};
+
+use crate::changes::put_changes;
+use crate::escape::put_escaped;
+use crate::reviewers::put_reviewers;
+use crate::sections::put_document;
+use itoa::Buffer;
+use redl_index::Index;
+use redl_io::{Failed, Sink, put_piece, put_pieces};
+use redl_join::{Book, LastWords};
+use redl_opc::Package;
+
+/// What the program brings to every page, and what stands in it as it is: the content security policy, which is the value of an
+/// attribute between quotes, the style, and the script.
+#[derive(Clone, Copy)]
+pub struct Skin<'a> {
+    pub policy: &'a [u8],
+    pub style: &'a [u8],
+    pub script: &'a [u8],
+}
+
+/// What a page shows: a package whose revisions are numbered, its revisions, which of them are locked, the book of its journals, and
+/// the digest of its text.
+#[derive(Clone, Copy)]
+pub struct Shown<'a> {
+    pub package: &'a Package<'a>,
+    pub index: &'a Index,
+    pub locked: &'a [bool],
+    pub book: &'a Book,
+    pub digest: &'a [u8; 32],
+}
+
+// What comes before the policy, between policy and style, and after the script.
+const BEFORE_POLICY: &[u8] =
+    b"<!DOCTYPE html>\n<html lang=\"en\">\n<head>\n<meta charset=\"utf-8\">\n<meta http-equiv=\"Content-Security-Policy\" content=\"";
+
+const BEFORE_STYLE: &[u8] =
+    b"\">\n<meta name=\"viewport\" content=\"width=device-width, initial-scale=1\">\n<title>Redline: changes to decide</title>\n<style>";
+
+const AFTER_SCRIPT: &[u8] = b"</script>\n</body>\n</html>\n";
+
+/// Puts the page: one document of HTML with the stories of the package, an element for each member of a revision, the list of the
+/// revisions with each reviewer's last words, and the reviewers.
+///
+/// `words` are the last words of the book, and `locked` says of each revision whether it is locked. It goes once over the package and
+/// once over the revisions, and takes no memory. `Failed` comes only where the sink failed, which then has only a prefix.
+pub fn write_page<K: Sink>(
+    skin: &Skin<'_>,
+    page: &Shown<'_>,
+    words: &LastWords<'_>,
+    out: &mut K,
+) -> Result<(), Failed>
+    requires words { (rev : ℕ) → words_on words.now rev ≡ last_words page.now.book.now rev }
+    requires locked { length page.now.locked.now ≡ length page.now.index.now }
+    ensures { Puts K.told K.faults K.settled K.lenders out.old out.new (page_text (skin_view skin.now) (shown_by page.now)) result }
+{
+    put_head(skin, out)?;
+    put_body(page, words, out)?;
+    put_end(skin, out)
+}
+
+fn put_head<K: Sink>(skin: &Skin<'_>, out: &mut K) -> Result<(), Failed>
+    ensures { Puts K.told K.faults K.settled K.lenders out.old out.new (head_text (skin_view skin.now)) result }
+{
+    put_pieces(&[BEFORE_POLICY, skin.policy, BEFORE_STYLE, skin.style], out)
+}
+
+fn put_end<K: Sink>(skin: &Skin<'_>, out: &mut K) -> Result<(), Failed>
+    ensures { Puts K.told K.faults K.settled K.lenders out.old out.new (end_text (skin_view skin.now)) result }
+{
+    put_pieces(&[skin.script, AFTER_SCRIPT], out)
+}
+
+fn put_body<K: Sink>(page: &Shown<'_>, words: &LastWords<'_>, out: &mut K) -> Result<(), Failed>
+    requires words { (rev : ℕ) → words_on words.now rev ≡ last_words page.now.book.now rev }
+    requires locked { length page.now.locked.now ≡ length page.now.index.now }
+    ensures { Puts K.told K.faults K.settled K.lenders out.old out.new (pieces_text (body (shown_by page.now))) result }
+{
+    put_body_head(page.digest, page.index.count(), out)?;
+    put_document(page.package, page.index, out)?;
+    put_lists(page, words, out)
+}
+
+fn put_body_head<K: Sink>(digest: &[u8; 32], count: u32, out: &mut K) -> Result<(), Failed>
+    ensures { Puts K.told K.faults K.settled K.lenders out.old out.new (pieces_text (body_head digest.now count)) result }
+{
+    put_piece(b"</style>\n</head>\n<body data-document=\"", out)?;
+    put_escaped(&digits(digest), out)?;
+    put_count(count, out)
+}
+
+fn put_count<K: Sink>(count: u32, out: &mut K) -> Result<(), Failed>
+    ensures { Puts K.told K.faults K.settled K.lenders out.old out.new (codes "\" data-revisions=\"" ++ (decimal count ++ codes "\">\n<main lang=\"\">\n")) result }
+{
+    let mut buffer = Buffer::new();
+    let digits = buffer.format(count).as_bytes();
+    put_pieces(
+        &[
+            b"\" data-revisions=\"".as_slice(),
+            digits,
+            b"\">\n<main lang=\"\">\n",
+        ],
+        out,
+    )
+}
+
+// A digest in lower-case hexadecimal digits.
+fn digits(digest: &[u8; 32]) -> [u8; 64]
+    ensures { result ≡ encode_lower digest.now }
+{
+    let mut digits = [0; 64];
+    hex::encode_to_slice(digest, &mut digits).unwrap();
+    digits
+}
+
+fn put_lists<K: Sink>(page: &Shown<'_>, words: &LastWords<'_>, out: &mut K) -> Result<(), Failed>
+    requires words { (rev : ℕ) → words_on words.now rev ≡ last_words page.now.book.now rev }
+    requires locked { length page.now.locked.now ≡ length page.now.index.now }
+    ensures { Puts K.told K.faults K.settled K.lenders out.old out.new (pieces_text (lists (shown_by page.now))) result }
+{
+    put_piece(b"</main>\n<aside aria-label=\"Changes\">\n<ol>\n", out)?;
+    put_changes(page.index, page.book, words, page.locked, out)?;
+    put_reviewer_list(page.book, out)
+}
+
+fn put_reviewer_list<K: Sink>(book: &Book, out: &mut K) -> Result<(), Failed>
+    ensures { Puts K.told K.faults K.settled K.lenders out.old out.new (pieces_text (reviewer_list book.now)) result }
+{
+    put_piece(b"</ol>\n<ul>\n", out)?;
+    put_reviewers(book, out)?;
+    put_piece(b"</ul>\n</aside>\n<script>", out)
+}
