@@ -163,6 +163,13 @@ impl<'a> Session<'a> {
         &self.book
     }
 
+    /// The package as it was at the start, whatever was admitted.
+    pub fn package(&self) -> &Package<'a>
+        ensures { result.now ≡ self.now.nodes }
+    {
+        &self.original
+    }
+
     /// The revisions of the package.
     pub fn index(&self) -> &Index
         ensures { result.now ≡ self.now.revisions }
