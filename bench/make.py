@@ -1,4 +1,4 @@
-"""Makes the inputs of bench/run: plain documents of a size or a number of paragraphs, and journals for them.
+"""Makes the inputs of the programs in this folder, and of tools/tests/hostile.test.
 
     python3 make.py document BYTES FILE          paragraphs up to so many bytes
     python3 make.py package BYTES FILE           a package of several parts, as a word processor saves one: a document with
@@ -7,7 +7,9 @@
     python3 make.py nodes COUNT FILE             a document of so many small nodes
     python3 make.py reviewed PARAGRAPHS ENTRIES FOLDER
                                                  P with two revisions a paragraph, and the journals J0, J1 and J2
-    python3 make.py shape NAME FILE              a document of 6 to 60 MB of an unusual shape
+    python3 make.py shape NAME FILE [SCALE]      a document of 6 to 60 MB of an unusual shape, or so many times as large
+    python3 make.py deep NAME FILE               a sound document whose elements stand 512 deep, as deep as they may
+    python3 make.py text NAME FILE               a text that is deep, wide or long, and no package
 """
 import hashlib
 import sys
@@ -153,36 +155,94 @@ def moved(i):
     return side.format("From") % numbers + side.format("To") % numbers
 
 
+# What `of` gives is a number to scale.
 SHAPES = {
     # 2,000,000 empty elements in one run, and more than there may be
-    "wide": lambda: "<w:p><w:r>%s</w:r></w:p>" % ("<w:br/>" * 2000000),
-    "wider": lambda: "<w:p><w:r>%s</w:r></w:p>" % ("<w:br/>" * 8000000),
+    "wide": lambda of: "<w:p><w:r>%s</w:r></w:p>" % ("<w:br/>" * of(2000000)),
+    "wider": lambda of: "<w:p><w:r>%s</w:r></w:p>" % ("<w:br/>" * of(8000000)),
     # as deep as elements may stand, again and again, and deeper
-    "deep": lambda: ("<w:p>%s</w:p>" % nested(504, "<w:r><w:br/></w:r>")) * 1650,
-    "deeper": lambda: "<w:p>%s</w:p>" % nested(800000, ""),
+    "deep": lambda of: ("<w:p>%s</w:p>" % nested(504, "<w:r><w:br/></w:r>")) * of(1650),
+    "deeper": lambda of: "<w:p>%s</w:p>" % nested(of(800000), ""),
     # elements that are never closed
-    "open": lambda: "<w:ins>" * 8000000,
+    "open": lambda of: "<w:ins>" * of(8000000),
     # 830,000 revisions with nothing in them
-    "revisions": lambda: "<w:p>%s</w:p>" % ('<w:del w:id="1"></w:del>' * 830000),
+    "revisions": lambda of: "<w:p>%s</w:p>" % ('<w:del w:id="1"></w:del>' * of(830000)),
     # 1,300,000 attributes in one tag
-    "attributes": lambda: "<w:p%s></w:p>" % "".join(' w:x%s="1"' % letters(i) for i in range(1300000)),
+    "attributes": lambda of: "<w:p%s></w:p>" % "".join(' w:x%s="1"' % letters(i) for i in range(of(1300000))),
     # 200,000 attributes and 100,000 declarations in one tag
-    "declarations": lambda: "<w:p%s%s></w:p>"
-    % ("".join(' w:x%s="1"' % letters(i) for i in range(200000)), "".join(' xmlns:n%s="u"' % letters(i) for i in range(100000))),
+    "declarations": lambda of: "<w:p%s%s></w:p>"
+    % ("".join(' w:x%s="1"' % letters(i) for i in range(of(200000))), "".join(' xmlns:n%s="u"' % letters(i) for i in range(of(100000)))),
     # 400,000 elements with a declaration each
-    "scopes": lambda: "<w:p>%s</w:p>" % "".join('<w:r xmlns:n%s="u"/>' % letters(i) for i in range(400000)),
+    "scopes": lambda of: "<w:p>%s</w:p>" % "".join('<w:r xmlns:n%s="u"/>' % letters(i) for i in range(of(400000))),
     # one stretch of 20 MB
-    "text": lambda: "<w:p><w:r><w:t>%s</w:t></w:r></w:p>" % ("x" * 20000000),
+    "text": lambda of: "<w:p><w:r><w:t>%s</w:t></w:r></w:p>" % ("x" * of(20000000)),
     # 100,000 paragraphs whose marks are all inserted: rejected, they are one group
-    "group": lambda: '<w:p><w:pPr><w:rPr><w:ins w:id="1"/></w:rPr></w:pPr><w:r><w:t>joined</w:t></w:r></w:p>' * 100000 + "<w:p/>",
+    "group": lambda of: '<w:p><w:pPr><w:rPr><w:ins w:id="1"/></w:rPr></w:pPr><w:r><w:t>joined</w:t></w:r></w:p>' * of(100000) + "<w:p/>",
     # a mark and a change of properties on each of 100,000 paragraphs, and a change on each of their runs
-    "changes": lambda: CHANGED * 100000 + "<w:p/>",
+    "changes": lambda of: CHANGED * of(100000) + "<w:p/>",
     # one table of 100,000 rows, of which each third one and each second cell are tracked
-    "table": lambda: "<w:tbl>%s</w:tbl><w:p/>" % "".join(map(row, range(100000))),
+    "table": lambda of: "<w:tbl>%s</w:tbl><w:p/>" % "".join(map(row, range(of(100000)))),
     # 20,000 moves, each from one paragraph to another
-    "moves": lambda: "".join(map(moved, range(20000))) + "<w:p/>",
+    "moves": lambda of: "".join(map(moved, range(of(20000)))) + "<w:p/>",
     # 100,000 starts of ranges that all have one name, so that none is paired
-    "names": lambda: "<w:p>%s</w:p>" % "".join('<w:moveFromRangeStart w:id="%d" w:name="same"/>' % i for i in range(100000)),
+    "names": lambda of: "<w:p>%s</w:p>" % "".join('<w:moveFromRangeStart w:id="%d" w:name="same"/>' % i for i in range(of(100000))),
+}
+
+
+BODY = 5  # so deep in the elements of its package the body of a document stands
+DEEPEST = 512
+
+
+def around(pair, inside, levels):
+    """What stands inside, in so many levels of a pair: texts that open elements, and texts that close them."""
+    opens, closes = pair
+    times, rest = divmod(levels, closes.count("</"))
+    return "<w:customXml>" * rest + opens * times + inside + closes * times + "</w:customXml>" * rest
+
+
+TEXT = "<w:p><w:r><w:t>x</w:t></w:r></w:p>"  # three levels
+CELLS = "<w:tr><w:tc><w:p/></w:tc></w:tr>"  # three levels
+DEEP = {
+    # run content, each time inserted or deleted
+    "insertions": lambda: "<w:p>%s</w:p>" % nested(DEEPEST - BODY - 3, "<w:r><w:br/></w:r>"),
+    "deletions": lambda: "<w:p>%s</w:p>"
+    % nested(DEEPEST - BODY - 3, "<w:r><w:delText>x</w:delText></w:r>").replace("w:ins", "w:del"),
+    # blocks in content controls, and in custom XML
+    "controls": lambda: around(("<w:sdt><w:sdtContent>", "</w:sdtContent></w:sdt>"), TEXT, DEEPEST - BODY - 3),
+    "custom": lambda: around(("<w:customXml>", "</w:customXml>"), TEXT, DEEPEST - BODY - 3),
+    # tables in cells: each cell ends with a paragraph, and each row is inserted
+    "tables": lambda: around(
+        ('<w:tbl><w:tr><w:trPr><w:ins w:id="1"/></w:trPr><w:tc>', "<w:p/></w:tc></w:tr></w:tbl>"), TEXT, DEEPEST - BODY - 3
+    ),
+    # one table, whose row is in content controls
+    "rows": lambda: "<w:tbl>%s</w:tbl>" % around(("<w:sdt><w:sdtContent>", "</w:sdtContent></w:sdt>"), CELLS, DEEPEST - BODY - 4),
+    # paragraphs in text boxes, each of them with a mark that is deleted, and one after it
+    "boxes": lambda: around(
+        (
+            '<w:p><w:pPr><w:rPr><w:del w:id="1"/></w:rPr></w:pPr><w:r><w:pict><w:txbxContent>',
+            "</w:txbxContent></w:pict></w:r></w:p><w:p/>",
+        ),
+        TEXT,
+        DEEPEST - BODY - 3,
+    ),
+    # runs that declare a namespace each, with an element of it
+    "foreign": lambda: "<w:p>%s</w:p>" % around(('<w:r xmlns:z="z"><z:y>', "</z:y></w:r>"), "<w:br/>", DEEPEST - BODY - 2),
+    # former properties, of which one holds the elements
+    "properties": lambda: "<w:p><w:pPr><w:pPrChange w:id=\"1\"><w:pPr>%s</w:pPr></w:pPrChange></w:pPr></w:p>"
+    % around(("<w:tabs>", "</w:tabs>"), "<w:tab/>", DEEPEST - BODY - 5),
+}
+
+HEAD = "redline-journal 1\ndocument %s\nrevisions 3\n" % hashlib.sha256(b"").hexdigest()
+NAMES = "".join(' a%d=""' % i for i in range(200000))
+TEXTS = {
+    "deep": lambda: "<a>" * 8000000 + "</a>" * 8000000,
+    "unclosed": lambda: "<a>" * 8000000 + "</a>" * 7999999,
+    "wide": lambda: "<a>%s</a>" % ("<b/>" * 8000000),
+    "attributes": lambda: "<a%s/>" % NAMES,
+    "repeated": lambda: '<a%s a0=""/>' % NAMES,
+    # the journal with one entry 4,000,000 times
+    "entries": lambda: HEAD + "1\t1\taccept\tAnn\n" * 4000000,
+    "entry": lambda: HEAD + "1\t1\taccept\tAnn\n",
 }
 
 
@@ -191,27 +251,32 @@ def save(name, whole):
         file.write(whole)
 
 
-def main():
-    if sys.argv[1] == "document":
-        save(sys.argv[3], document(int(sys.argv[2])))
-        return
-    if sys.argv[1] == "package":
-        save(sys.argv[3], package(int(sys.argv[2])))
-        return
-    if sys.argv[1] == "changes":
-        save(sys.argv[3], reviewed_package(int(sys.argv[2])))
-        return
-    if sys.argv[1] == "nodes":
-        save(sys.argv[3], nodes(int(sys.argv[2])))
-        return
-    if sys.argv[1] == "shape":
-        save(sys.argv[3], FRONT + SHAPES[sys.argv[2]]() + BACK)
-        return
-    paragraphs, entries, folder = int(sys.argv[2]), int(sys.argv[3]), sys.argv[4]
+def reviewed(paragraphs, entries, folder):
     whole = FRONT + "".join(map(paragraph, range(paragraphs))) + BACK
     save(folder + "/P", whole)
     for k in range(len(REVIEWERS)):
         save("%s/J%d" % (folder, k), journal(whole.encode(), 2 * paragraphs, entries, k))
 
 
-main()
+def shape(name, scale=1.0):
+    return FRONT + SHAPES[name](lambda count: max(1, int(count * scale))) + BACK
+
+
+def main(form, value, *rest):
+    if form == "reviewed":
+        reviewed(int(value), int(rest[0]), rest[1])
+        return
+    made = {
+        "document": lambda: document(int(value)),
+        "package": lambda: package(int(value)),
+        "changes": lambda: reviewed_package(int(value)),
+        "nodes": lambda: nodes(int(value)),
+        "shape": lambda: shape(value, *map(float, rest[1:])),
+        "deep": lambda: FRONT + DEEP[value]() + BACK,
+        "text": lambda: TEXTS[value](),
+    }[form]()
+    save(rest[0], made)
+
+
+if __name__ == "__main__":
+    main(*sys.argv[1:])
