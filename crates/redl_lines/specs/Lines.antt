@@ -1,5 +1,5 @@
 -- The lines on standard error.
-use Rattle.std.specs.Prelude.{ℕ, List, [], ◌∷◌, ◌++◌, codes, decimal, Bool, ◌&&◌, nat_le, if◌then◌else◌}
+use Rattle.std.specs.Prelude.{ℕ, List, [], ◌∷◌, ◌++◌, codes, decimal}
 use Rattle.hex.specs.Hex.{encode_lower}
 use Rattle.redl_io.specs.Limits.{package_bytes, journal_bytes, depth, nodes}
 use Rattle.redl_journal.specs.declared.entry.Entry.{Entry}
@@ -9,6 +9,8 @@ use Rattle.redl_lines.specs.declared.failure.Limit.{Limit}
 use Rattle.redl_lines.specs.declared.failure.Limit.TheVariants.{PackageBytes, JournalBytes, Depth, Nodes, Sample}
 use Rattle.redl_lines.specs.declared.failure.PackageFault.{PackageFault}
 use Rattle.redl_lines.specs.declared.failure.PackageFault.TheVariants.{NotReadable, NotPackage, PartShape, NoDocument, Rule}
+use Rattle.redl_session.specs.declared.refusal.AdmitError.{AdmitError}
+use Rattle.redl_session.specs.declared.refusal.AdmitError.TheVariants.{Unknown, Locked, NoMemory}
 
 abbrev pub newline : List ℕ
 newline = 10 ∷ []
@@ -91,13 +93,11 @@ unwritten_line = codes "redline: cannot write" ++ newline
 
 -- ---- refused entries
 
--- the entry is on one of the revisions 1 to count
-abbrev pub is_known : ℕ → Entry → Bool
-is_known count entry = nat_le 1 entry.rev && nat_le entry.rev count
-
--- Why an entry is refused: its revision does not exist, or else the author of its revision is locked.
-abbrev pub why_refused : ℕ → Entry → List ℕ
-why_refused count entry = if is_known count entry then codes "locked author" else codes "unknown revision"
+-- why an entry is refused, in words
+abbrev pub why_text : AdmitError → List ℕ
+why_text Unknown = codes "unknown revision"
+why_text Locked = codes "locked author"
+why_text NoMemory = codes "out of memory"
 
 -- the line of an entry: its seq, its revision, its word, its reviewer, and why it is refused
 abbrev pub entry_line : List ℕ → List ℕ → List ℕ → List ℕ → List ℕ → List ℕ
@@ -105,7 +105,13 @@ entry_line seq rev word reviewer why =
     codes "redline: refused " ++ (seq ++ (codes " " ++ (rev ++ (codes " " ++ (word ++ (codes " "
     ++ (reviewer ++ (codes ": " ++ (why ++ newline)))))))))
 
--- the line of a refused entry, in a package with so many revisions
-abbrev pub refused_line : ℕ → Entry → List ℕ
-refused_line count entry =
-    entry_line (decimal entry.seq) (decimal entry.rev) (word_text entry.word) entry.reviewer (why_refused count entry)
+-- the line of a refused entry, with its cause
+abbrev pub refused_line : Entry × AdmitError → List ℕ
+refused_line (entry, why) =
+    entry_line (decimal entry.seq) (decimal entry.rev) (word_text entry.word) entry.reviewer (why_text why)
+
+-- ---- locks
+
+-- the line of a lock on this author, by whom there is no revision
+abbrev pub idle_line : List ℕ → List ℕ
+idle_line author = codes "redline: note: nothing by " ++ (author ++ (codes " is locked" ++ newline))

@@ -4,25 +4,15 @@ ghost use Rattle.std.specs.Prelude.{◌≡◌};
 
 use crate::Status;
 use crate::failure::Failure;
-use redl_join::Book;
-
-/// The entries that a call refused. One on a revision of the package was refused since the author of the revision is
-/// locked; any other has an unknown revision.
-#[derive(Drop)]
-pub struct RefusedEntries {
-    /// The entries.
-    pub entries: Book,
-    /// How many revisions the package has.
-    pub count: u32,
-}
+use crate::remarks::Remarks;
 
 /// How a call ends, with what its lines tell.
 #[derive(Drop)]
 pub enum End<'a> {
-    /// All was written; these entries were refused.
-    Written(RefusedEntries),
-    /// The output failed; these entries were refused.
-    Unwritten(RefusedEntries),
+    /// All was written, with these remarks.
+    Written(Remarks),
+    /// The output failed; these are the remarks.
+    Unwritten(Remarks),
     /// Nothing was written.
     Failed(Failure<'a>),
 }
@@ -35,7 +25,7 @@ impl End<'_> {
         ensures { result ≡ end_status (end_view self.now) }
     {
         match self {
-            End::Written(refused) if refused.entries.len() == 0 => Status::Done,
+            End::Written(remarks) if remarks.refused.is_empty() => Status::Done,
             End::Written(_) => Status::Refused,
             End::Unwritten(_) => Status::WriteFault,
             End::Failed(failure) => failure.status(),

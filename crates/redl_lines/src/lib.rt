@@ -2,16 +2,20 @@
 //!
 //! Read `tell` first: it writes the lines of an end, which `specs/Ends.antt` and `specs/Lines.antt` define.
 //! The layer above makes the end, and its status is a function of it alone.
-//! When a cause comes, and which of several counts, is not said here.
+//! When a failure comes, and which of several counts, is not said here. A refused entry has the cause that a session gave.
 #![tactic(auto)]
 
 mod causes;
 mod end;
 mod failure;
 mod lines;
+mod refused;
+mod remarks;
 mod status;
 
-pub use end::{End, RefusedEntries};
+pub use end::End;
 pub use failure::{Cause, Failure, Limit, PackageFault};
 pub use lines::tell;
+pub use refused::RefusedEntries;
+pub use remarks::Remarks;
 pub use status::Status;

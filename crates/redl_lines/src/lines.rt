@@ -1,22 +1,26 @@
 //! The lines of each end on standard error.
 
-ghost use Rattle.std.specs.Prelude.{◌≡◌, ◌≤◌, ◌++◌, List, ℕ, OnOk, OnErr};
+ghost use Rattle.std.specs.Prelude.{◌≡◌, OnOk, OnErr};
 ghost use Rattle.std.specs.Io.KnownBytes.{append_known};
-ghost use Rattle.redl_lines.specs.Ends.{Tells, end_lines, end_view, entries_view, refused_lines};
-ghost use Rattle.redl_lines.specs.Lines.{is_known as is_known_to, refused_line, entry_line, why_refused};
-ghost use Rattle.redl_io.specs.Faults.{Rose};
+ghost use Rattle.std.specs.List.{flat_map};
+ghost use Rattle.redl_lines.specs.Ends.{Tells, end_lines, end_view, remark_lines};
+ghost use Rattle.redl_lines.specs.Lines.{idle_line, refused_line, entry_line, why_text as why_text_of};
+ghost use Rattle.redl_lines.specs.Remarks.{remarks_view};
 ghost use Rattle.redl_io.specs.Sink.{Puts, GrowsByFront, CountsPut};
 ghost use Rattle.redl_journal.specs.Journals.{word_text};
 
 use crate::causes::write_failure;
-use crate::end::{End, RefusedEntries};
+use crate::end::End;
+use crate::refused::RefusedEntries;
+use crate::remarks::Remarks;
 use itoa::Buffer;
-use redl_io::{Failed, Sink, Staged, put_piece, put_pieces};
+use redl_io::{Failed, Sink, Staged, Text, put_piece, put_pieces};
 use redl_journal::{Entry, Word};
+use redl_session::AdmitError;
 
 /// Writes the lines of a call that ends so. A fault of `err` only shortens them.
 pub fn tell<E: Sink>(end: &End<'_>, err: &mut E)
-    ensures { Tells (E.told err.old) (E.told err.new) (E.faults err.old) (E.faults err.new) (end_lines (end_view end.now)) }
+    ensures { Tells E.told E.faults err.old err.new (end_lines (end_view end.now)) }
 {
     let _ = write_staged(end, err);
 }
@@ -36,28 +40,36 @@ fn write_lines<K: Sink>(end: &End<'_>, err: &mut K) -> Result<(), Failed>
     ensures { Puts K.told K.faults K.settled K.lenders err.old err.new (end_lines (end_view end.now)) result }
 {
     match end {
-        End::Written(refused) => write_refused(refused, err),
-        End::Unwritten(refused) => {
-            write_refused(refused, err)?;
+        End::Written(remarks) => write_remarks(remarks, err),
+        End::Unwritten(remarks) => {
+            write_remarks(remarks, err)?;
             put_piece(b"redline: cannot write\n", err)
         }
         End::Failed(failure) => write_failure(failure, err),
     }
 }
 
+// The lines of all remarks.
+fn write_remarks<K: Sink>(remarks: &Remarks, err: &mut K) -> Result<(), Failed>
+    ensures { Puts K.told K.faults K.settled K.lenders err.old err.new (remark_lines (remarks_view remarks.now)) result }
+{
+    write_refused(&remarks.refused, err)?;
+    write_idle(&remarks.idle, err)
+}
+
 // A line for each refused entry.
 fn write_refused<K: Sink>(refused: &RefusedEntries, err: &mut K) -> Result<(), Failed>
-    ensures { Puts K.told K.faults K.settled K.lenders err.old err.new (refused_lines (entries_view refused.now)) result }
+    ensures { Puts K.told K.faults K.settled K.lenders err.old err.new (flat_map refused_line refused.now) result }
 {
-    for entry in refused.entries.entries() {
-        write_entry(entry, refused.count, err)?;
+    for (entry, why) in refused.causes() {
+        write_entry(entry, *why, err)?;
     }
     Ok(())
 }
 
-// The line of an entry that a package with so many revisions refused.
-fn write_entry<K: Sink>(entry: &Entry, count: u32, err: &mut K) -> Result<(), Failed>
-    ensures { Puts K.told K.faults K.settled K.lenders err.old err.new (refused_line count entry.now) result }
+// The line of an entry that was refused for this cause.
+fn write_entry<K: Sink>(entry: &Entry, why: AdmitError, err: &mut K) -> Result<(), Failed>
+    ensures { Puts K.told K.faults K.settled K.lenders err.old err.new (refused_line (entry.now, why)) result }
 {
     let mut seq = Buffer::new();
     let mut rev = Buffer::new();
@@ -66,7 +78,7 @@ fn write_entry<K: Sink>(entry: &Entry, count: u32, err: &mut K) -> Result<(), Fa
         rev.format(entry.rev),
         word(entry.word),
         entry.reviewer.as_bytes(),
-        cause(entry, count),
+        why_text(why),
         err,
     )
 }
@@ -100,6 +112,29 @@ fn write_fields<'a, K: Sink>(
     )
 }
 
+// A line for each locked author by whom there is no revision.
+fn write_idle<K: Sink>(idle: &[Text], err: &mut K) -> Result<(), Failed>
+    ensures { Puts K.told K.faults K.settled K.lenders err.old err.new (flat_map idle_line idle.now) result }
+{
+    for author in idle {
+        write_idle_author(author.as_bytes(), err)?;
+    }
+    Ok(())
+}
+
+fn write_idle_author<K: Sink>(author: &[u8], err: &mut K) -> Result<(), Failed>
+    ensures { Puts K.told K.faults K.settled K.lenders err.old err.new (idle_line author.now) result }
+{
+    put_pieces(
+        &[
+            b"redline: note: nothing by ".as_slice(),
+            author,
+            b" is locked\n",
+        ],
+        err,
+    )
+}
+
 // The word as it stands in a journal.
 fn word(word: Word) -> &'static [u8]
     ensures { result.now ≡ word_text word }
@@ -111,20 +146,13 @@ fn word(word: Word) -> &'static [u8]
     }
 }
 
-// Why a package with so many revisions refused the entry.
-fn cause(entry: &Entry, count: u32) -> &'static [u8]
-    ensures { result.now ≡ why_refused count entry.now }
+// Why an entry is refused.
+fn why_text(why: AdmitError) -> &'static [u8]
+    ensures { result.now ≡ why_text_of why }
 {
-    if is_known(entry, count) {
-        b"locked author"
-    } else {
-        b"unknown revision"
+    match why {
+        AdmitError::Unknown => b"unknown revision",
+        AdmitError::Locked => b"locked author",
+        AdmitError::NoMemory => b"out of memory",
     }
-}
-
-// Whether the entry is on one of the revisions 1 to `count`.
-fn is_known(entry: &Entry, count: u32) -> bool
-    ensures { result ≡ is_known_to count entry.now }
-{
-    1 <= entry.rev && entry.rev <= count
 }

@@ -1,9 +1,9 @@
 //! Tests of what no clause says: each end with its exit status and its lines, by hand.
 
-use redl_io::MemSink;
-use redl_join::Book;
-use redl_journal::read;
-use redl_lines::{Cause, End, Failure, Limit, PackageFault, RefusedEntries, tell};
+use redl_io::{MemSink, Text};
+use redl_journal::{Entry, read};
+use redl_lines::{Cause, End, Failure, Limit, PackageFault, RefusedEntries, Remarks, tell};
+use redl_session::{AdmitError, Refusal};
 use std::alloc::{AllocError, Global};
 use std::test::Fail;
 
@@ -120,14 +120,22 @@ fn journal(alloc: Global, lines: &str) -> Result<Vec<u8>, AllocError> {
     Ok(text)
 }
 
-// The entries with these lines, which a package of two revisions refused.
+// The entries with these lines, which a package refused that has the revisions 1 and 2, both of a locked author.
 fn refused(alloc: Global, lines: &str) -> Result<RefusedEntries, Fail> {
     let text = journal(alloc, lines)?;
-    let mut entries = Book::new(alloc);
+    let mut refused = RefusedEntries::new(alloc);
     for entry in read(alloc, &text)?.entries {
-        entries.add(entry)?;
+        let why = why(&entry);
+        refused.add(Refusal { entry, why })?;
     }
-    Ok(RefusedEntries { entries, count: 2 })
+    Ok(refused)
+}
+
+fn why(entry: &Entry) -> AdmitError {
+    match entry.rev {
+        1 | 2 => AdmitError::Locked,
+        _ => AdmitError::Unknown,
+    }
 }
 
 // Whether a call that wrote its output, or whose output failed, and that refused these entries ends with this status and
@@ -139,11 +147,14 @@ fn tells_refused(
     code: u8,
     lines: &str,
 ) -> Result<bool, Fail> {
-    let refused = refused(alloc, entries)?;
+    let remarks = Remarks {
+        refused: refused(alloc, entries)?,
+        idle: Vec::new(alloc),
+    };
     let end = if writes {
-        End::Written(refused)
+        End::Written(remarks)
     } else {
-        End::Unwritten(refused)
+        End::Unwritten(remarks)
     };
     Ok(ends_with(alloc, &end, code, lines)?)
 }
@@ -181,5 +192,22 @@ fn a_failed_output_is_told_last(rt: HostRuntime) -> Result<(), Fail> {
         let same = tells_refused(rt.alloc(), entries, false, 6, lines)?;
         assert!(rt; same, "{lines}");
     }
+    Ok(())
+}
+
+// The remarks on locks on two authors by whom there is no revision.
+fn idle(alloc: Global) -> Result<Remarks, AllocError> {
+    let mut remarks = Remarks::none(alloc);
+    remarks.idle.push(Text::copy_of(alloc, b"Dana Fox")?)?;
+    remarks.idle.push(Text::copy_of(alloc, b"Ann")?)?;
+    Ok(remarks)
+}
+
+#[test]
+fn a_lock_that_holds_nothing_has_a_line(rt: HostRuntime) -> Result<(), Fail> {
+    let end = End::Written(idle(rt.alloc())?);
+    let lines =
+        "redline: note: nothing by Dana Fox is locked\nredline: note: nothing by Ann is locked\n";
+    assert!(rt; ends_with(rt.alloc(), &end, 0, lines)?);
     Ok(())
 }
