@@ -5,18 +5,19 @@ use Rattle.std.proofs.lemmas.List.FromFn.{length-map-range_with_len}
 use Rattle.std.specs.Option.{option_map}
 use Rattle.std.specs.Str.{bytes_eq}
 use Rattle.redl_app.proofs.TopLaws.{by_cause}
-use Rattle.redl_app.specs.Admission.{Admission}
+use Rattle.redl_inputs.specs.Admission.{Admission}
 use Rattle.redl_app.specs.Commands.List.{listing, listing_named, part_names, session_rows}
 use Rattle.redl_app.specs.Files.{where_ok}
 use Rattle.redl_app.specs.Finishing.{Ends, Finishes}
 use Rattle.redl_app.specs.Formats.{Format, LeavesFormats, format_named, formats_by, found_format, has_format, whether}
-use Rattle.redl_app.specs.Readers.{Reader}
-use Rattle.redl_app.specs.Reading.{IsMade, IsUnread, NeverUnread, Reads, UnlessUnread}
-use Rattle.redl_app.specs.Steps.{◌>>=◌}
+use Rattle.redl_inputs.specs.Readers.{Reader}
+use Rattle.redl_inputs.specs.Reading.{IsMade, IsUnread, NeverUnread, Reads, UnlessUnread}
+use Rattle.redl_inputs.specs.Steps.{◌>>=◌}
 use Rattle.redl_app.specs.Writing.{Writing, outcome_of}
 use Rattle.redl_io.specs.Shelf.{Files}
 use Rattle.redl_journal.specs.declared.entry.Entry.{Entry}
 use Rattle.redl_lines.specs.Ends.{End, end_status, failed, written_status}
+use Rattle.redl_lines.specs.Refused.{RefusedEntries}
 use Rattle.redl_lines.specs.Failures.{Failure, caused, unread, no_memory, no_format, failure_status}
 use Rattle.redl_listing.proofs.NameLaws.{named_here, named_later}
 use Rattle.redl_listing.specs.Formats.{IsListed, first_named}
@@ -26,7 +27,6 @@ use Rattle.redl_join.specs.declared.verdict.Verdict.{Verdict}
 use Rattle.redl_listing.specs.Rows.{rows_of}
 use Rattle.redl_listing.specs.declared.row.Row.{Row}
 use Rattle.redl_session.specs.Says.{verdicts_of}
-use Rattle.redl_words.specs.Commands.{Command, settle, list, write, decide, join, check, sample}
 
 -- ---- the first format of a name
 
@@ -76,7 +76,7 @@ not_found name_of text_of name formats i past so_far =
 
 -- a listing with this text, by an admission
 abbrev pub made_by : Admission → List ℕ → Writing
-made_by admission bytes = record { bytes = bytes; refused = admission.refused }
+made_by admission bytes = record { bytes = bytes; remarks = admission.remarks }
 
 listed_by : {F : Type 0} (name_of : F → List ℕ) (text_of : F → List Row → Bool → List ℕ) (name : List ℕ) (admission : Admission) (made : List ℕ) (first : Option F)
     → IsListed first (λ format. text_of format (session_rows admission.state) true) true made
@@ -92,47 +92,34 @@ listed_text name_of text_of name admission made formats is =
     ap (λ found. found >>= (λ format. Ok (listing admission format))) (named-by name_of text_of name formats)
     ∙ listed_by name_of text_of name admission made (first_named name_of name formats) is
 
-unlisted_by : {F : Type 0} (name_of : F → List ℕ) (text_of : F → List Row → Bool → List ℕ) (text : F → List ℕ) (name : List ℕ) (admission : Admission) (made : List ℕ) (first : Option F)
-    → IsListed first text false made
-    → found_format name (option_map (format_by name_of text_of) first) >>= (λ format. Ok (listing admission format)) ≡ Err (caused (no_format name))
-unlisted_by name_of text_of text name admission made None is = refl
-unlisted_by name_of text_of text name admission made (Some format) (found, is) = absurd (cc found)
-
--- no format was found
-pub unlisted : {F : Type 0} (name_of : F → List ℕ) (text_of : F → List Row → Bool → List ℕ) (text : F → List ℕ) (name : List ℕ) (admission : Admission) (made : List ℕ) (formats : List F)
-    → IsListed (first_named name_of name formats) text false made → listing_named (formats_by name_of text_of formats) name admission ≡ Err (caused (no_format name))
-unlisted name_of text_of text name admission made formats is =
-    ap (λ found. found >>= (λ format. Ok (listing admission format))) (named-by name_of text_of name formats)
-    ∙ unlisted_by name_of text_of text name admission made (first_named name_of name formats) is
-
 -- as many verdicts as revisions
 pub verdicts_for : (book : List Entry) (count : ℕ) (verdicts : List Verdict) → verdicts ≡ verdicts_of book count → length verdicts ≡ count
 verdicts_for book count verdicts is = ap length is ∙ length-map-range_with_len (verdict_at book) 1 count
 
--- the format that was found made the listing
+-- a format that is there is found
+found_there : {F : Type 0} (name_of : F → List ℕ) (text_of : F → List Row → Bool → List ℕ) (text : F → List ℕ) (name : List ℕ) (found : Bool) (made : List ℕ) (first : Option F)
+    → whether (found_format name (option_map (format_by name_of text_of) first)) ≡ Ok tt → IsListed first text found made → found ≡ true
+found_there name_of text_of text name found made None there listed = absurd (cc there)
+found_there name_of text_of text name found made (Some format) there listed = listed.0
+
+-- the format made the listing
 pub reads_listing : {F : Type 0} (name_of : F → List ℕ) (text_of : F → List Row → Bool → List ℕ) (name : List ℕ) (admission : Admission) (formats : List F)
     (parts : List (List ℕ)) (revisions : List Revision) (verdicts : List Verdict) (found : Bool) (made : List ℕ)
-    → parts ≡ part_names admission.state.nodes → revisions ≡ admission.state.revisions → verdicts ≡ verdicts_of admission.state.book (length admission.state.revisions) → found ≡ true
+    → parts ≡ part_names admission.state.nodes → revisions ≡ admission.state.revisions → verdicts ≡ verdicts_of admission.state.book (length admission.state.revisions)
+    → whether (format_named (formats_by name_of text_of formats) name) ≡ Ok tt
     → IsListed (first_named name_of name formats) (λ format. text_of format (rows_of parts revisions verdicts) true) found made
     → Reads (Ok (made_by admission made)) (λ reader. listing_named (formats_by name_of text_of formats) name admission)
-reads_listing name_of text_of name admission formats parts revisions verdicts found made of_parts of_revisions of_verdicts is listed =
+reads_listing name_of text_of name admission formats parts revisions verdicts found made of_parts of_revisions of_verdicts there listed =
+    let is : found ≡ true = found_there name_of text_of _ name found made (first_named name_of name formats)
+    (ap whether (sym (named-by name_of text_of name formats)) ∙ there) listed in
     record {
       as_due = λ reader reads. listed_text name_of text_of name admission made formats (rw (of_parts, of_revisions, of_verdicts, is) at listed);
       never_unread = tt;
     }
 
--- without a format there is no listing
-pub reads_no_listing : {F : Type 0} (name_of : F → List ℕ) (text_of : F → List Row → Bool → List ℕ) (text : F → List ℕ) (name : List ℕ) (admission : Admission) (formats : List F) (found : Bool) (made : List ℕ)
-    → found ≡ false → IsListed (first_named name_of name formats) text found made
-    → Reads {Y = Writing} (Err (caused (no_format name))) (λ reader. listing_named (formats_by name_of text_of formats) name admission)
-reads_no_listing name_of text_of text name admission formats found made is listed = record {
-  as_due = λ reader reads. unlisted name_of text_of text name admission made formats (rw is at listed);
-  never_unread = tt;
-}
-
 -- ---- what is left of the formats
 
-pub leaves_written : {F : Type 0} (without old new : List F) (refused : List Entry) → new ≡ without → LeavesFormats (written_status refused) without old new
+pub leaves_written : {F : Type 0} (without old new : List F) (refused : RefusedEntries) → new ≡ without → LeavesFormats (written_status refused) without old new
 leaves_written without old new [] is = is
 leaves_written without old new (entry ∷ refused) is = is
 
@@ -141,16 +128,16 @@ leaves_failed without old new no_memory is = inl is
 leaves_failed without old new (unread name) is = is
 leaves_failed without old new (caused cause) is = by_cause (λ s. LeavesFormats s without old new) is is is is is cause
 
-taken_by : {F : Type 0} (without old new : List F) (refused : List Entry) → LeavesFormats (written_status refused) without old new → new ≡ without
+taken_by : {F : Type 0} (without old new : List F) (refused : RefusedEntries) → LeavesFormats (written_status refused) without old new → new ≡ without
 taken_by without old new [] is = is
 taken_by without old new (entry ∷ refused) is = is
 
 -- what was made leaves the formats as its end does
-pub leaves_end : {F : Type 0} (without old new : List F) (out out_new : Option (List ℕ)) (before now : ℕ) (made : Result Writing Failure) (end : End)
-    → Finishes out out_new before now made end → LeavesFormats (outcome_of made).status without old new → LeavesFormats (end_status end) without old new
-leaves_end without old new out out_new before now (Ok writing) end (inl (is, all)) left = rw is left
-leaves_end without old new out out_new before now (Ok writing) end (inr (is, front)) left = rw is (taken_by without old new writing.refused.entries left)
-leaves_end without old new out out_new before now (Err failure) end (is, same, stands) left = rw is left
+pub leaves_end : {F : Type 0} (without old new : List F) {K : Type 0} (told : K → Option (List ℕ)) (faults : K → ℕ) (out out_new : K) (made : Result Writing Failure) (end : End)
+    → Finishes told faults out out_new made end → LeavesFormats (outcome_of made).status without old new → LeavesFormats (end_status end) without old new
+leaves_end without old new told faults out out_new (Ok writing) end (inl (is, all)) left = rw is left
+leaves_end without old new told faults out out_new (Ok writing) end (inr (is, front)) left = rw is (taken_by without old new writing.remarks.refused left)
+leaves_end without old new told faults out out_new (Err failure) end (is, same, stands) left = rw is left
 
 -- ---- the step before the package
 
@@ -162,14 +149,9 @@ found_whether name None failure is =
 found_whether name (Some format) failure is = absurd (cc is)
 
 -- a missing format is no missing file
-pub format_is_no_file : (formats : List Format) (command : Command) (failure : Failure) → has_format formats command ≡ Err failure → NeverUnread {Y = Unit {0}} (Err failure)
-format_is_no_file formats (settle accept p) failure is = absurd (cc is)
-format_is_no_file formats (list p name locks journals) failure is = found_whether name (first_named (λ format. format.name) name formats) failure is
-format_is_no_file formats (write p locks journals) failure is = absurd (cc is)
-format_is_no_file formats (decide p reviewer journals locks choices) failure is = absurd (cc is)
-format_is_no_file formats (join journals) failure is = absurd (cc is)
-format_is_no_file formats (check p) failure is = absurd (cc is)
-format_is_no_file formats (sample number) failure is = absurd (cc is)
+pub format_is_no_file : (formats : List Format) (asked : Option (List ℕ)) (failure : Failure) → has_format formats asked ≡ Err failure → NeverUnread {Y = Unit {0}} (Err failure)
+format_is_no_file formats None failure is = absurd (cc is)
+format_is_no_file formats (Some name) failure is = found_whether name (first_named (λ format. format.name) name formats) failure is
 
 same_failure : (failure : Failure) (fault : Type 0) → IsMade {Y = Writing} (Err failure) (Err failure) fault
 same_failure no_memory fault = tt
@@ -187,23 +169,24 @@ stands_still (unread name) Holds h = tt
 stands_still (caused cause) Holds h = h
 
 -- a call ends before it asks for a file
-pub ends_at_once : (told : Option Files) (f : ℕ) (out : Option (List ℕ)) (count : ℕ) (there : Result (Unit {0}) Failure) (names : List (List ℕ)) (next : Reader → Files → Result Writing Failure) (failure : Failure)
+pub ends_at_once : {S K : Type 0} {holds : S → Option Files} {misses : S → ℕ} (shelf : S) {told : K → Option (List ℕ)} {faults : K → ℕ} (out : K)
+    (there : Result (Unit {0}) Failure) (names : List (List ℕ)) (next : Reader → Files → Result Writing Failure) (failure : Failure)
     → there ≡ Err failure → NeverUnread {Y = Unit {0}} (Err failure)
-    → Ends told told f f out out count count (where_ok there names) (λ reader files. there >>= (λ found. next reader files)) (failed failure)
-ends_at_once told f out count there names next failure is never = rw is (record {
+    → Ends holds misses shelf shelf told faults out out (where_ok there names) (λ reader files. there >>= (λ found. next reader files)) (failed failure)
+ends_at_once {holds = holds} {misses = misses} shelf out there names next failure is never = rw is (record {
   made = Err failure;
   reads = record {
     as_due = λ files may reader reads. same_failure failure _;
-    unread = never_file failure [] told _ never;
+    unread = never_file failure [] (holds shelf) _ never;
     same_files = refl;
-    stands = stands_still failure (f ≡ f) refl;
+    stands = stands_still failure (misses shelf ≡ misses shelf) refl;
   };
   finishes = (refl, refl, refl);
 })
 
 -- the format is there, and the call goes on
-pub ends_after : {told told_new : Option Files} {f f_new : ℕ} {out out_new : Option (List ℕ)} {before now : ℕ} (end : End) (there : Result (Unit {0}) Failure) (names : List (List ℕ))
-    (next : Reader → Files → Result Writing Failure) (found : Unit {0}) → there ≡ Ok found
-    → Ends told told_new f f_new out out_new before now names next end
-    → Ends told told_new f f_new out out_new before now (where_ok there names) (λ reader files. there >>= (λ one. next reader files)) end
+pub ends_after : {S K : Type 0} {holds : S → Option Files} {misses : S → ℕ} {shelf shelf_new : S} {told : K → Option (List ℕ)} {faults : K → ℕ} {out out_new : K}
+    (end : End) (there : Result (Unit {0}) Failure) (names : List (List ℕ)) (next : Reader → Files → Result Writing Failure) (found : Unit {0}) → there ≡ Ok found
+    → Ends holds misses shelf shelf_new told faults out out_new names next end
+    → Ends holds misses shelf shelf_new told faults out out_new (where_ok there names) (λ reader files. there >>= (λ one. next reader files)) end
 ends_after end there names next found is ends = rw is ends

@@ -2,19 +2,22 @@
 use Rattle.std.proofs.Common.{◌≡◌, inl, inr, ℕ, ◌+◌, List, [], ◌∷◌, Bool, true, false, Option, None, Some, Result, Ok, Err, refl, sym, ap, ◌∙◌, subst, if◌then◌else◌}
 use Rattle.std.proofs.lemmas.Bool.{and_from}
 use Rattle.std.specs.List.{list_all}
-use Rattle.redl_app.specs.Answers.{IsWritten}
-use Rattle.redl_app.specs.Left.{AreSays, IsLeft, LeavesSound, decided_package}
+use Rattle.redl_app.specs.Answers.{IsAnswer, IsWritten, OfOutcome}
+use Rattle.redl_app.specs.Left.{AreSays, IsLeft, Leaves, LeavesSound, decided_package}
 use Rattle.redl_app.proofs.TopLaws.{by_cause}
-use Rattle.redl_app.specs.Admission.{Admission, admission_with, no_admission, opened_over, opened}
-use Rattle.redl_app.specs.Commands.Settle.{passed_text, same_says, settling}
-use Rattle.redl_app.specs.Commands.Write.{decided}
+use Rattle.redl_inputs.specs.Admission.{Admission, admission_with, no_admission, opened_over, opened}
+use Rattle.redl_app.specs.Commands.Settle.{passed_text, same_says, settled, settling}
+use Rattle.redl_app.specs.Commands.Write.{resolved, written}
 use Rattle.redl_app.specs.Formats.{Format}
-use Rattle.redl_app.specs.Journals.{document_of, gathered}
-use Rattle.redl_app.specs.Outcome.{written_by, writing_of}
-use Rattle.redl_app.specs.Packages.{package_file, package_in, tree_in, shaped, sound, sound_unless}
-use Rattle.redl_app.specs.Readers.{Reader}
-use Rattle.redl_app.specs.Steps.{◌>>=◌}
-use Rattle.redl_app.specs.Writing.{Writing, only_bytes, outcome_of}
+use Rattle.redl_inputs.specs.Journals.{document_of, gathered}
+use Rattle.redl_app.specs.Outcome.{carried_out, outcome, writing_of}
+use Rattle.redl_app.specs.Plans.{Plan, plan}
+use Rattle.redl_inputs.specs.Packages.{package_file, package_in, tree_in, shaped, sound, sound_unless}
+use Rattle.redl_inputs.proofs.ReaderLaws.{reads_command}
+use Rattle.redl_inputs.proofs.StepLaws.{both_ok, same_ok, same_some}
+use Rattle.redl_inputs.specs.Readers.{Reader}
+use Rattle.redl_inputs.specs.Steps.{◌>>=◌}
+use Rattle.redl_app.specs.Writing.{Outcome, Writing, only_bytes, outcome_of}
 use Rattle.redl_words.specs.Commands.{Command, settle, list, write, decide, join, check, sample}
 use Rattle.redl_io.specs.Limits.{journal_bytes}
 use Rattle.redl_index.specs.Numbers.{numbered_package}
@@ -36,23 +39,7 @@ use Rattle.redl_tree.specs.Model.Text.{text}
 use Rattle.redl_tree.specs.Model.View.{Parts}
 use Rattle.redl_tree.specs.declared.kinds.Say.{Say}
 
--- ---- steps that went well
-
--- of two steps that went well, the first gave something, and the second went well with it
-pub record BothOk {X Y : Type 0} (made : Result X Failure) (next : X → Result Y Failure) (y : Y) : Type 0 where
-  pub x : X
-  pub first : made ≡ Ok x
-  pub second : next x ≡ Ok y
-
-pub both_ok : {X Y : Type 0} (made : Result X Failure) (next : X → Result Y Failure) (y : Y) → made >>= next ≡ Ok y → BothOk made next y
-both_ok (Ok x) next y is = record { x = x; first = refl; second = is }
-both_ok (Err failure) next y is = absurd (cc is)
-
-same_ok : {X : Type 0} {x y : X} → let made : Result X Failure = Ok x in made ≡ Ok y → x ≡ y
-same_ok is = cc
-
-same_some : {X : Type 0} {x y : X} → let given : Option X = Some x in given ≡ Some y → x ≡ y
-same_some is = cc
+-- ---- calls that wrote all
 
 unwritten : {s : Status} → (s ≡ status.Done → ⊥) → (s ≡ status.Refused → ⊥) → IsWritten s → ⊥
 unwritten not_done not_refused (inl is) = not_done is
@@ -66,7 +53,7 @@ failed_is_not_written (caused cause) is =
     by_cause (λ s. IsWritten s → ⊥) (unwritten (λ e. cc e) (λ e. cc e)) (unwritten (λ e. cc e) (λ e. cc e)) (unwritten (λ e. cc e) (λ e. cc e))
     (unwritten (λ e. cc e) (λ e. cc e)) (unwritten (λ e. cc e) (λ e. cc e)) cause is
 
-is_made : (made : Result Writing Failure) → IsWritten (outcome_of made).status → (writing : Writing) × (made ≡ Ok writing)
+pub is_made : (made : Result Writing Failure) → IsWritten (outcome_of made).status → (writing : Writing) × (made ≡ Ok writing)
 is_made (Ok writing) is = (writing, refl)
 is_made (Err failure) is = absurd (failed_is_not_written failure is)
 
@@ -95,17 +82,16 @@ sound_package reader whole nodes is =
 -- ---- what is left
 
 -- What a pass leaves of a package that was read.
-left_by : (reader : Reader) (files : Files) (command : Command) (name bytes whole : List ℕ) (nodes : Nodes) (says : List Say)
-    → package_file files name ≡ Ok whole → package_in reader whole ≡ Ok nodes → AreSays reader files command whole nodes says → bytes ≡ passed_text says nodes
-    → IsLeft reader files command name bytes
-left_by reader files command name bytes whole nodes says file original decided written = record {
+left_by : (reader : Reader) (files : Files) (plan : Plan) (name bytes whole : List ℕ) (nodes : Nodes) (says : List Say)
+    → package_file files name ≡ Ok whole → package_in reader whole ≡ Ok nodes → AreSays reader files plan plan.decides whole nodes says → bytes ≡ passed_text says nodes
+    → IsLeft reader files plan name bytes
+left_by reader files plan name bytes whole nodes says file original decided written = record {
   whole = whole;
   nodes = nodes;
   says = says;
   file = file;
   original = original;
   decided = decided;
-  left = pass_package says (numbered_package nodes);
   written = written;
   texts = survival-package attribute_value says (numbered_package nodes) (numbered-indexed attribute_value nodes);
   sound = soundness attribute_value has_id declares says (numbered_package nodes)
@@ -113,12 +99,12 @@ left_by reader files command name bytes whole nodes says file original decided w
 }
 
 leaves_settled : (reader : Reader) (files : Files) (formats : List Format) (accept : Bool) (name : List ℕ) (writing : Writing)
-    → writing_of reader files formats (Some (settle accept name)) ≡ Ok writing → IsLeft reader files (settle accept name) name writing.bytes
+    → carried_out reader files formats (plan (settle accept name)) ≡ Ok writing → IsLeft reader files (plan (settle accept name)) name writing.bytes
 leaves_settled reader files formats accept name writing is =
-    let text_ = both_ok (package_file files name) (written_by reader files formats (settle accept name)) writing is in
+    let text_ = both_ok (package_file files name) (λ whole. settled reader accept whole) writing is in
     let read = both_ok (package_in reader text_.x) (λ nodes. Ok (only_bytes (passed_text (same_says (settling accept) nodes) nodes))) writing text_.second in
     let made : writing ≡ only_bytes (passed_text (same_says (settling accept) read.x) read.x) = sym (same_ok read.second) in
-    left_by reader files (settle accept name) name writing.bytes text_.x read.x (same_says (settling accept) read.x)
+    left_by reader files (plan (settle accept name)) name writing.bytes text_.x read.x (same_says (settling accept) read.x)
     text_.first read.first refl (ap (λ (w : Writing). w.bytes) made)
 
 -- a session is over the package with its numbers, whatever it admits
@@ -130,21 +116,21 @@ opened_nodes reader files locks journals whole admission is =
     (read.x, read.first, ap (λ (a : Admission). a.state.nodes) (sym (same_ok entries.second)))
 
 leaves_written : (reader : Reader) (files : Files) (formats : List Format) (name : List ℕ) (locks journals : List (List ℕ)) (writing : Writing)
-    → writing_of reader files formats (Some (write name locks journals)) ≡ Ok writing → IsLeft reader files (write name locks journals) name writing.bytes
+    → carried_out reader files formats (plan (write name locks journals)) ≡ Ok writing → IsLeft reader files (plan (write name locks journals)) name writing.bytes
 leaves_written reader files formats name locks journals writing is =
-    let text_ = both_ok (package_file files name) (written_by reader files formats (write name locks journals)) writing is in
-    let made = both_ok (opened reader files locks journals text_.x) (λ admission. Ok (decided admission)) writing text_.second in
+    let text_ = both_ok (package_file files name) (λ whole. written reader files locks journals whole) writing is in
+    let made = both_ok (opened reader files locks journals text_.x) (λ admission. Ok (resolved admission)) writing text_.second in
     let over = opened_nodes reader files locks journals text_.x made.x made.first in
-    let bytes : writing.bytes ≡ (decided made.x).bytes = ap (λ (w : Writing). w.bytes) (sym (same_ok made.second)) in
-    left_by reader files (write name locks journals) name writing.bytes text_.x over.0 (says made.x.state)
+    let bytes : writing.bytes ≡ (resolved made.x).bytes = ap (λ (w : Writing). w.bytes) (sym (same_ok made.second)) in
+    left_by reader files (plan (write name locks journals)) name writing.bytes text_.x over.0 (says made.x.state)
     text_.first over.1 (made.x, made.first, refl) (bytes ∙ ap (λ nodes. text (pass_package (says made.x.state) nodes)) over.2)
 
-leaves : (reader : Reader) (files : Files) (formats : List Format) (command : Command) (name : List ℕ) (writing : Writing) → decided_package command ≡ Some name
-    → writing_of reader files formats (Some command) ≡ Ok writing → IsLeft reader files command name writing.bytes
+leaves : (reader : Reader) (files : Files) (formats : List Format) (command : Command) (name : List ℕ) (writing : Writing) → decided_package (plan command) ≡ Some name
+    → carried_out reader files formats (plan command) ≡ Ok writing → IsLeft reader files (plan command) name writing.bytes
 leaves reader files formats (settle accept other) name writing named is =
-    subst (λ n. IsLeft reader files (settle accept other) n writing.bytes) (same_some named) (leaves_settled reader files formats accept other writing is)
+    subst (λ n. IsLeft reader files (plan (settle accept other)) n writing.bytes) (same_some named) (leaves_settled reader files formats accept other writing is)
 leaves reader files formats (write other locks journals) name writing named is =
-    subst (λ n. IsLeft reader files (write other locks journals) n writing.bytes) (same_some named) (leaves_written reader files formats other locks journals writing is)
+    subst (λ n. IsLeft reader files (plan (write other locks journals)) n writing.bytes) (same_some named) (leaves_written reader files formats other locks journals writing is)
 leaves reader files formats (list other format locks journals) name writing named is = absurd (cc named)
 leaves reader files formats (decide other reviewer journals locks choices) name writing named is = absurd (cc named)
 leaves reader files formats (join journals) name writing named is = absurd (cc named)
@@ -155,4 +141,15 @@ pub leaves_sound : (reader : Reader) (words : List (List ℕ)) (files : Files) (
 leaves_sound reader words files formats command name commands named written =
     let made = is_made (writing_of reader files formats (reader.command words)) written in
     let by_command : writing_of reader files formats (Some command) ≡ Ok made.0 = ap (writing_of reader files formats) (sym commands) ∙ made.1 in
-    subst (IsLeft reader files command name) (sym (ap (λ w. (outcome_of w).bytes) made.1)) (leaves reader files formats command name made.0 named by_command)
+    subst (IsLeft reader files (plan command) name) (sym (ap (λ w. (outcome_of w).bytes) made.1)) (leaves reader files formats command name made.0 named by_command)
+
+same_status : (ended : Status) (o : Outcome) (read_failed write_failed : Type 0) → IsAnswer ended o read_failed write_failed → IsWritten ended → IsWritten o.status
+same_status ended o read_failed write_failed answer (inl is) = inl (subst (λ s. IsAnswer s o read_failed write_failed) is answer)
+same_status ended o read_failed write_failed answer (inr is) = inr (subst (λ s. IsAnswer s o read_failed write_failed) is answer)
+
+-- a call that wrote all left what its outcome leaves
+pub leaves_package : (ended : Status) (told : Option Files) (words : List (List ℕ)) (formats : List Format) (read_failed write_failed : Type 0)
+    → OfOutcome told words formats (λ o. IsAnswer ended o read_failed write_failed) → Leaves ended told words formats
+leaves_package ended told words formats read_failed write_failed answers written command name is named files reader reads may =
+    leaves_sound reader words files formats command name (reads_command reader words command reads is) named
+    (same_status ended (outcome reader words files formats) read_failed write_failed (answers files reader reads may) written)

@@ -1,16 +1,11 @@
-pub mod FetchLaws
-pub mod ReadLaws
-pub mod NameLaws
-pub mod JournalLaws
-pub mod GatherLaws
-pub mod AdmissionLaws
 pub mod ChoiceLaws
-pub mod OpenLaws
-pub mod PackageLaws
+pub mod JoinLaws
 pub mod TopLaws
-pub mod ReaderLaws
+pub mod OutcomeLaws
 pub mod SampleLaws
 pub mod WordLaws
+pub mod PlanLaws
 pub mod FormatLaws
 pub mod PartNameLaws
-mod LeftLaws
+pub mod LeftLaws
+pub mod AnyOrderLaws

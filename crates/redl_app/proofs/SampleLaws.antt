@@ -1,16 +1,20 @@
 -- The entries of the sample's reviewers, one reviewer after another, and that a sample is written.
-use Rattle.std.proofs.Common.{◌≡◌, ◌+◌, ◌≤◌, ℕ, nat_lt, false, List, [], ◌∷◌, ◌++◌, Option, Result, Ok, ap, ◌∙◌, append-nil, arith, refl}
+use Rattle.std.proofs.Common.{◌≡◌, ◌+◌, ◌≤◌, ℕ, nat_lt, false, List, [], ◌∷◌, ◌++◌, Option, Result, Ok, ap, sym, subst, ◌∙◌, append-nil, arith, refl}
 use Rattle.std.proofs.lemmas.Bool.{le-ltb}
 use Rattle.std.proofs.lemmas.Grind.{flat_map-append}
 use Rattle.std.specs.List.{flat_map, range_with_len}
-use Rattle.redl_app.proofs.PackageLaws.{tree_read}
-use Rattle.redl_app.proofs.ReaderLaws.{reads_command}
+use Rattle.redl_inputs.proofs.FetchLaws.{if_false}
+use Rattle.redl_inputs.proofs.PackageLaws.{tree_read}
+use Rattle.redl_inputs.proofs.ReaderLaws.{reads_command}
+use Rattle.redl_app.specs.Commands.Sample.{sampled, summarized}
 use Rattle.redl_app.specs.Formats.{Format}
 use Rattle.redl_app.specs.Outcome.{outcome, writing_of}
-use Rattle.redl_app.specs.Packages.{package_in, shaped, sound}
-use Rattle.redl_app.specs.Readers.{Reader, IsReader}
-use Rattle.redl_app.specs.Steps.{◌>>=◌}
-use Rattle.redl_app.specs.Writing.{outcome_of}
+use Rattle.redl_inputs.specs.Packages.{package_in, shaped, sound}
+use Rattle.redl_inputs.specs.Readers.{Reader, IsReader}
+use Rattle.redl_inputs.specs.Steps.{◌>>=◌}
+use Rattle.redl_app.specs.Writing.{Writing, outcome_of}
+use Rattle.redl_inputs.specs.Admission.{no_admission}
+use Rattle.redl_inputs.specs.Reading.{IsMade, Reads}
 use Rattle.redl_io.specs.Shelf.{Files}
 use Rattle.redl_journal.specs.declared.entry.Entry.{Entry}
 use Rattle.redl_lines.specs.Failures.{Failure}
@@ -49,3 +53,12 @@ sample_is_written reader is words files formats number command few =
     let within : nat_lt sample_paragraphs number ≡ false = le-ltb sample_paragraphs number few in
     ap (λ (c : Option Command). (outcome_of (writing_of reader files formats c)).status) (reads_command reader words (sample number) is command)
     ∙ rw (within, package_.1) refl
+
+-- what is due of a sample within the limit
+pub sampled_within : (number : ℕ) (made : Result Writing Failure) → number ≤ sample_paragraphs
+    → Reads made (λ reader. package_in reader (package_text number) >>= (λ nodes. Ok (summarized number (no_admission (package_text number) nodes []))))
+    → Reads made (λ reader. sampled reader number)
+sampled_within number made few step = record {
+  as_due = λ reader is. subst (λ due. IsMade made due ⊥) (sym (if_false (nat_lt sample_paragraphs number) _ _ (le-ltb sample_paragraphs number few))) (step.as_due reader is);
+  never_unread = step.never_unread;
+}

@@ -5,11 +5,11 @@ use Rattle.redl_app.specs.Answers.{OfOutcome, IsAnswer, IsWritten, Writes, IsFil
 use Rattle.redl_app.specs.Finishing.{Ends, Finishes}
 use Rattle.redl_app.specs.Formats.{Format}
 use Rattle.redl_app.specs.Files.{asked_by}
-use Rattle.redl_app.specs.Readers.{Reader, IsReader}
-use Rattle.redl_lines.specs.Ends.{End, end_status, end_lines, written_status, refused_lines}
+use Rattle.redl_inputs.specs.Readers.{Reader, IsReader}
+use Rattle.redl_lines.specs.Ends.{End, end_status, end_lines, written_status, remark_lines}
 use Rattle.redl_app.specs.Outcome.{writing_of}
 use Rattle.redl_app.specs.Writing.{Outcome, Writing, outcome_of}
-use Rattle.redl_app.specs.Reading.{IsMade, IsUnread, MayHold, UnlessUnread}
+use Rattle.redl_inputs.specs.Reading.{IsMade, IsUnread, MayHold, UnlessUnread}
 use Rattle.redl_lines.specs.Failures.{Failure, Cause, usage, no_format, no_package, malformed, other_document, other_count, no_sequence, over, caused, unread, no_memory, failure_status, cause_status}
 use Rattle.redl_lines.specs.Lines.{failure_line, unwritten_line}
 use Rattle.redl_lines.specs.declared.status.Status.{Status}
@@ -17,7 +17,7 @@ use Rattle.redl_lines.specs.declared.status.Status.TheVariants as status
 use Rattle.redl_io.specs.Faults.{Rose}
 use Rattle.redl_io.specs.Shelf.{Files}
 use Rattle.redl_io.specs.Sink.{GrowsByFront}
-use Rattle.redl_journal.specs.declared.entry.Entry.{Entry}
+use Rattle.redl_lines.specs.Refused.{RefusedEntries}
 
 -- ---- the status of a cause
 
@@ -35,11 +35,11 @@ by_cause Holds words_ package_ journal limit sequence (over quantity) = limit
 
 -- ---- the outcome of what was due
 
-is_written : (refused : List Entry) → IsWritten (written_status refused)
+is_written : (refused : RefusedEntries) → IsWritten (written_status refused)
 is_written [] = inl refl
 is_written (entry ∷ refused) = inr refl
 
-answer_written : (refused : List Entry) (o : Outcome) (r w : Type 0) → o.status ≡ written_status refused → IsAnswer (written_status refused) o r w
+answer_written : (refused : RefusedEntries) (o : Outcome) (r w : Type 0) → o.status ≡ written_status refused → IsAnswer (written_status refused) o r w
 answer_written [] o r w is = is
 answer_written (entry ∷ refused) o r w is = is
 
@@ -52,35 +52,35 @@ answer_failed (caused cause) due failed w h =
     let o = outcome_of due in
     by_cause (λ s. o.status ≡ s → IsAnswer s o failed w) (λ is. is) (λ is. is) (λ is. is) (λ is. is) (λ is. is) cause (ap (λ d. (outcome_of d).status) h)
 
-pub answer_by : (old new : Option (List ℕ)) (before now : ℕ) (made : Result Writing Failure) (end : End) (due : Result Writing Failure) (failed : Type 0)
-    → Finishes old new before now made end → IsMade made due failed → IsAnswer (end_status end) (outcome_of due) failed (Rose before now)
-answer_by old new before now (Ok writing) end due failed (inl (is, all)) h =
-    rw is (answer_written writing.refused.entries (outcome_of due) failed (Rose before now) (ap (λ d. (outcome_of d).status) h))
-answer_by old new before now (Ok writing) end due failed (inr (is, front)) h =
-    rw is (front.rose, subst IsWritten (sym (ap (λ d. (outcome_of d).status) h)) (is_written writing.refused.entries))
-answer_by old new before now (Err failure) end due failed (is, told, stands) h =
-    rw is (answer_failed failure due failed (Rose before now) h)
+pub answer_by : {K : Type 0} (told : K → Option (List ℕ)) (faults : K → ℕ) (old new : K) (made : Result Writing Failure) (end : End) (due : Result Writing Failure) (failed : Type 0)
+    → Finishes told faults old new made end → IsMade made due failed → IsAnswer (end_status end) (outcome_of due) failed (Rose (faults old) (faults new))
+answer_by told faults old new (Ok writing) end due failed (inl (is, all)) h =
+    rw is (answer_written writing.remarks.refused (outcome_of due) failed (Rose (faults old) (faults new)) (ap (λ d. (outcome_of d).status) h))
+answer_by told faults old new (Ok writing) end due failed (inr (is, front)) h =
+    rw is (front.rose, subst IsWritten (sym (ap (λ d. (outcome_of d).status) h)) (is_written writing.remarks.refused))
+answer_by told faults old new (Err failure) end due failed (is, same, stands) h =
+    rw is (answer_failed failure due failed (Rose (faults old) (faults new)) h)
 
-writes_written : (refused : List Entry) (old new : Option (List ℕ)) (bytes : List ℕ) → new ≡ append_known old bytes → Writes (written_status refused) old new bytes
-writes_written [] old new bytes is = is
-writes_written (entry ∷ refused) old new bytes is = is
+writes_written : {K : Type 0} (told : K → Option (List ℕ)) (refused : RefusedEntries) (old new : K) (bytes : List ℕ) → told new ≡ append_known (told old) bytes → Writes told old new (written_status refused) bytes
+writes_written told [] old new bytes is = is
+writes_written told (entry ∷ refused) old new bytes is = is
 
-writes_nothing : (failure : Failure) (old new : Option (List ℕ)) (bytes : List ℕ) → new ≡ old → Writes (failure_status failure) old new bytes
-writes_nothing no_memory old new bytes is = is
-writes_nothing (unread name) old new bytes is = is
-writes_nothing (caused cause) old new bytes is = by_cause (λ s. Writes s old new bytes) is is is is is cause
+writes_nothing : {K : Type 0} (told : K → Option (List ℕ)) (failure : Failure) (old new : K) (bytes : List ℕ) → told new ≡ told old → Writes told old new (failure_status failure) bytes
+writes_nothing told no_memory old new bytes is = is
+writes_nothing told (unread name) old new bytes is = is
+writes_nothing told (caused cause) old new bytes is = by_cause (λ s. Writes told old new s bytes) is is is is is cause
 
-pub writes_by : (old new : Option (List ℕ)) (before now : ℕ) (made : Result Writing Failure) (end : End) (due : Result Writing Failure) (failed : Type 0)
-    → Finishes old new before now made end → IsMade made due failed → Writes (end_status end) old new (outcome_of due).bytes
-writes_by old new before now (Ok writing) end due failed (inl (is, all)) h =
-    rw is (subst (λ bytes. Writes (written_status writing.refused.entries) old new bytes) (sym (ap (λ d. (outcome_of d).bytes) h))
-    (writes_written writing.refused.entries old new writing.bytes all.bytes))
-writes_by old new before now (Ok writing) end due failed (inr (is, front)) h =
-    rw is (subst (λ bytes. GrowsByFront old new bytes) (sym (ap (λ d. (outcome_of d).bytes) h)) front.bytes)
-writes_by old new before now (Err failure) end due failed (is, told, stands) h =
-    rw is (writes_nothing failure old new (outcome_of due).bytes told)
+pub writes_by : {K : Type 0} (told : K → Option (List ℕ)) (faults : K → ℕ) (old new : K) (made : Result Writing Failure) (end : End) (due : Result Writing Failure) (failed : Type 0)
+    → Finishes told faults old new made end → IsMade made due failed → Writes told old new (end_status end) (outcome_of due).bytes
+writes_by told faults old new (Ok writing) end due failed (inl (is, all)) h =
+    rw is (subst (λ bytes. Writes told old new (written_status writing.remarks.refused) bytes) (sym (ap (λ d. (outcome_of d).bytes) h))
+    (writes_written told writing.remarks.refused old new writing.bytes all.bytes))
+writes_by told faults old new (Ok writing) end due failed (inr (is, front)) h =
+    rw is (subst (λ bytes. GrowsByFront (told old) (told new) bytes) (sym (ap (λ d. (outcome_of d).bytes) h)) front.bytes)
+writes_by told faults old new (Err failure) end due failed (is, same, stands) h =
+    rw is (writes_nothing told failure old new (outcome_of due).bytes same)
 
-lines_written : (refused : List Entry) (o : Outcome) (words : List (List ℕ)) (formats : List Format) (r : Type 0) (lines : List ℕ) → lines ≡ o.lines → AreLines (written_status refused) o words formats r lines
+lines_written : (refused : RefusedEntries) (o : Outcome) (words : List (List ℕ)) (formats : List Format) (r : Type 0) (lines : List ℕ) → lines ≡ o.lines → AreLines (written_status refused) o words formats r lines
 lines_written [] o words formats r lines is = is
 lines_written (entry ∷ refused) o words formats r lines is = is
 
@@ -88,26 +88,26 @@ lines_written (entry ∷ refused) o words formats r lines is = is
 abbrev pub AreNamed : List (List ℕ) → List Format → List (List ℕ) → Type 0
 AreNamed words formats names = (name : List ℕ) → Contains names name → IsFileOf words formats name
 
-lines_failed : (failure : Failure) (due : Result Writing Failure) (words : List (List ℕ)) (formats : List Format) (names : List (List ℕ)) (told : Option Files) (failed : Type 0) → AreNamed words formats names
-    → IsMade {Y = Writing} (Err failure) due failed → IsUnread {Y = Writing} (Err failure) names told failed
+lines_failed : (failure : Failure) (due : Result Writing Failure) (words : List (List ℕ)) (formats : List Format) (names : List (List ℕ)) (shelf : Option Files) (failed : Type 0) → AreNamed words formats names
+    → IsMade {Y = Writing} (Err failure) due failed → IsUnread {Y = Writing} (Err failure) names shelf failed
     → AreLines (failure_status failure) (outcome_of due) words formats failed (failure_line failure)
-lines_failed no_memory due words formats names told failed named h u = refl
-lines_failed (unread name) due words formats names told failed named (inl h) (among, cause) = inr (h, (name, named name among, refl))
-lines_failed (unread name) due words formats names told failed named (inr h) u =
+lines_failed no_memory due words formats names shelf failed named h u = refl
+lines_failed (unread name) due words formats names shelf failed named (inl h) (among, cause) = inr (h, (name, named name among, refl))
+lines_failed (unread name) due words formats names shelf failed named (inr h) u =
     inl (ap (λ d. (outcome_of d).status) h, sym (ap (λ d. (outcome_of d).lines) h))
-lines_failed (caused cause) due words formats names told failed named h u =
+lines_failed (caused cause) due words formats names shelf failed named h u =
     let is : failure_line (caused cause) ≡ (outcome_of due).lines = sym (ap (λ d. (outcome_of d).lines) h) in
     by_cause (λ s. AreLines s (outcome_of due) words formats failed (failure_line (caused cause))) is is is is is cause
 
-pub lines_by : (old new : Option (List ℕ)) (before now : ℕ) (made : Result Writing Failure) (end : End) (due : Result Writing Failure) (words : List (List ℕ)) (formats : List Format) (names : List (List ℕ)) (told : Option Files) (failed : Type 0)
-    → AreNamed words formats names → Finishes old new before now made end → IsMade made due failed → IsUnread made names told failed
+pub lines_by : {K : Type 0} (told : K → Option (List ℕ)) (faults : K → ℕ) (old new : K) (made : Result Writing Failure) (end : End) (due : Result Writing Failure) (words : List (List ℕ)) (formats : List Format) (names : List (List ℕ)) (shelf : Option Files) (failed : Type 0)
+    → AreNamed words formats names → Finishes told faults old new made end → IsMade made due failed → IsUnread made names shelf failed
     → AreLines (end_status end) (outcome_of due) words formats failed (end_lines end)
-lines_by old new before now (Ok writing) end due words formats names told failed named (inl (is, all)) h u =
-    rw is (lines_written writing.refused.entries (outcome_of due) words formats failed (refused_lines writing.refused) (sym (ap (λ d. (outcome_of d).lines) h)))
-lines_by old new before now (Ok writing) end due words formats names told failed named (inr (is, front)) h u =
+lines_by told faults old new (Ok writing) end due words formats names shelf failed named (inl (is, all)) h u =
+    rw is (lines_written writing.remarks.refused (outcome_of due) words formats failed (remark_lines writing.remarks) (sym (ap (λ d. (outcome_of d).lines) h)))
+lines_by told faults old new (Ok writing) end due words formats names shelf failed named (inr (is, front)) h u =
     rw is (ap (λ l. l ++ unwritten_line) (sym (ap (λ d. (outcome_of d).lines) h)))
-lines_by old new before now (Err failure) end due words formats names told failed named (is, same, stands) h u =
-    rw is (lines_failed failure due words formats names told failed named h u)
+lines_by told faults old new (Err failure) end due words formats names shelf failed named (is, same, stands) h u =
+    rw is (lines_failed failure due words formats names shelf failed named h u)
 
 -- ---- whatever the shelf tells
 
@@ -116,7 +116,7 @@ abbrev pub NamesWhatIsAsked : List (List ℕ) → List Format → List (List ℕ
 NamesWhatIsAsked words formats names = (reader : Reader) → IsReader reader → asked_by formats (reader.command words) ≡ [] → names ≡ []
 
 -- who asks for no file may be given any
-may_hold : {told : Option Files} {files : Files} {names other : List (List ℕ)} → (other ≡ [] → names ≡ []) → MayHold told other files → MayHold told names files
+may_hold : {shelf : Option Files} {files : Files} {names other : List (List ℕ)} → (other ≡ [] → names ≡ []) → MayHold shelf other files → MayHold shelf names files
 may_hold none (inl tells) = inl tells
 may_hold none (inr nothing) = inr (none nothing)
 
@@ -124,31 +124,37 @@ may_hold none (inr nothing) = inr (none nothing)
 abbrev pub due_by : List (List ℕ) → List Format → Reader → Files → Result Writing Failure
 due_by words formats reader files = writing_of reader files formats (reader.command words)
 
-pub answers : (formats : List Format) {told told_new : Option Files} {f f_new : ℕ} {words : List (List ℕ)} {names : List (List ℕ)} {old new : Option (List ℕ)} {before now : ℕ} {end : End}
-    → NamesWhatIsAsked words formats names → Ends told told_new f f_new old new before now names (due_by words formats) end → OfOutcome told words formats (λ o. IsAnswer (end_status end) o (Rose f f_new) (Rose before now))
-answers formats {told} {f = f} {f_new = f_new} {words = words} {old = old} {new = new} {before = before} {now = now} {end = end} asked ends =
-    λ files reader is may. answer_by old new before now ends.made end (due_by words formats reader files) (Rose f f_new) ends.finishes
+pub answers : (formats : List Format) {S K : Type 0} {holds : S → Option Files} {misses : S → ℕ} {shelf shelf_new : S} {told : K → Option (List ℕ)} {faults : K → ℕ} {out out_new : K}
+    {words : List (List ℕ)} {names : List (List ℕ)} {end : End}
+    → NamesWhatIsAsked words formats names → Ends holds misses shelf shelf_new told faults out out_new names (due_by words formats) end
+    → OfOutcome (holds shelf) words formats (λ o. IsAnswer (end_status end) o (Rose (misses shelf) (misses shelf_new)) (Rose (faults out) (faults out_new)))
+answers formats {misses = misses} {shelf = shelf} {shelf_new = shelf_new} {told = told} {faults = faults} {out = out} {out_new = out_new} {words = words} {end = end} asked ends =
+    λ files reader is may. answer_by told faults out out_new ends.made end (due_by words formats reader files) (Rose (misses shelf) (misses shelf_new)) ends.finishes
     (ends.reads.as_due files (may_hold (asked reader is) may) reader is)
 
-pub writes : (formats : List Format) {told told_new : Option Files} {f f_new : ℕ} {words : List (List ℕ)} {names : List (List ℕ)} {old new : Option (List ℕ)} {before now : ℕ} {end : End}
-    → NamesWhatIsAsked words formats names → Ends told told_new f f_new old new before now names (due_by words formats) end → OfOutcome told words formats (λ o. Writes (end_status end) old new o.bytes)
-writes formats {told} {f = f} {f_new = f_new} {words = words} {old = old} {new = new} {before = before} {now = now} {end = end} asked ends =
-    λ files reader is may. writes_by old new before now ends.made end (due_by words formats reader files) (Rose f f_new) ends.finishes
+pub writes : (formats : List Format) {S K : Type 0} {holds : S → Option Files} {misses : S → ℕ} {shelf shelf_new : S} {told : K → Option (List ℕ)} {faults : K → ℕ} {out out_new : K}
+    {words : List (List ℕ)} {names : List (List ℕ)} {end : End}
+    → NamesWhatIsAsked words formats names → Ends holds misses shelf shelf_new told faults out out_new names (due_by words formats) end
+    → OfOutcome (holds shelf) words formats (λ o. Writes told out out_new (end_status end) o.bytes)
+writes formats {misses = misses} {shelf = shelf} {shelf_new = shelf_new} {told = told} {faults = faults} {out = out} {out_new = out_new} {words = words} {end = end} asked ends =
+    λ files reader is may. writes_by told faults out out_new ends.made end (due_by words formats reader files) (Rose (misses shelf) (misses shelf_new)) ends.finishes
     (ends.reads.as_due files (may_hold (asked reader is) may) reader is)
 
-pub tells : (Told : List ℕ → Type 0) {told told_new : Option Files} {f f_new : ℕ} {words : List (List ℕ)} {formats : List Format} {names : List (List ℕ)} {old new : Option (List ℕ)} {before now : ℕ} {end : End} → AreNamed words formats names
-    → NamesWhatIsAsked words formats names → Ends told told_new f f_new old new before now names (due_by words formats) end → Told (end_lines end)
-    → OfOutcome told words formats (λ o. (lines : List ℕ) × AreLines (end_status end) o words formats (Rose f f_new) lines × Told lines)
-tells Told {told} {f = f} {f_new = f_new} {words = words} {formats = formats} {names = names} {old = old} {new = new} {before = before} {now = now} {end = end} named asked ends h =
+pub tells : (Told : List ℕ → Type 0) {S K : Type 0} {holds : S → Option Files} {misses : S → ℕ} {shelf shelf_new : S} {told : K → Option (List ℕ)} {faults : K → ℕ} {out out_new : K}
+    {words : List (List ℕ)} {formats : List Format} {names : List (List ℕ)} {end : End} → AreNamed words formats names
+    → NamesWhatIsAsked words formats names → Ends holds misses shelf shelf_new told faults out out_new names (due_by words formats) end → Told (end_lines end)
+    → OfOutcome (holds shelf) words formats (λ o. (lines : List ℕ) × AreLines (end_status end) o words formats (Rose (misses shelf) (misses shelf_new)) lines × Told lines)
+tells Told {holds = holds} {misses = misses} {shelf = shelf} {shelf_new = shelf_new} {told = told} {faults = faults} {out = out} {out_new = out_new} {words = words} {formats = formats} {names = names} {end = end} named asked ends h =
     λ files reader is may. (
       end_lines end,
-      lines_by old new before now ends.made end (due_by words formats reader files) words formats names told (Rose f f_new) named ends.finishes (ends.reads.as_due files (may_hold (asked reader is) may) reader is) ends.reads.unread,
+      lines_by told faults out out_new ends.made end (due_by words formats reader files) words formats names (holds shelf) (Rose (misses shelf) (misses shelf_new)) named ends.finishes
+          (ends.reads.as_due files (may_hold (asked reader is) may) reader is) ends.reads.unread,
       h,
     )
 
 -- ---- causes
 
-no_read_fault : (refused : List Entry) → written_status refused ≡ status.ReadFault → ⊥
+no_read_fault : (refused : RefusedEntries) → written_status refused ≡ status.ReadFault → ⊥
 no_read_fault [] is = absurd (cc is)
 no_read_fault (entry ∷ refused) is = absurd (cc is)
 
@@ -156,25 +162,27 @@ not_read_fault : {Holds : Type 0} (cause : Cause) → cause_status cause ≡ sta
 not_read_fault cause is =
     absurd (by_cause (λ s. s ≡ status.ReadFault → ⊥) (λ e. absurd (cc e)) (λ e. absurd (cc e)) (λ e. absurd (cc e)) (λ e. absurd (cc e)) (λ e. absurd (cc e)) cause is)
 
-may_fault : (failure : Failure) (words : List (List ℕ)) (formats : List Format) (names : List (List ℕ)) (told : Option Files) (failed : Type 0) → AreNamed words formats names
-    → IsUnread {Y = Writing} (Err failure) names told failed → failure_status failure ≡ status.ReadFault → MayFault words formats told failed
-may_fault no_memory words formats names told failed named u is = absurd (cc is)
-may_fault (unread name) words formats names told failed named (among, h) is = (name, named name among, h)
-may_fault (caused cause) words formats names told failed named u is = not_read_fault cause is
+may_fault : (failure : Failure) (words : List (List ℕ)) (formats : List Format) (names : List (List ℕ)) (shelf : Option Files) (failed : Type 0) → AreNamed words formats names
+    → IsUnread {Y = Writing} (Err failure) names shelf failed → failure_status failure ≡ status.ReadFault → MayFault words formats shelf failed
+may_fault no_memory words formats names shelf failed named u is = absurd (cc is)
+may_fault (unread name) words formats names shelf failed named (among, h) is = (name, named name among, h)
+may_fault (caused cause) words formats names shelf failed named u is = not_read_fault cause is
 
-read_by : (old new : Option (List ℕ)) (before now : ℕ) (made : Result Writing Failure) (end : End) (words : List (List ℕ)) (formats : List Format) (names : List (List ℕ)) (told : Option Files) (failed : Type 0) → AreNamed words formats names
-    → Finishes old new before now made end → IsUnread made names told failed → end_status end ≡ status.ReadFault → MayFault words formats told failed
-read_by old new before now (Ok writing) end words formats names told failed named (inl (is, all)) u fault = absurd (no_read_fault writing.refused.entries (sym (ap end_status is) ∙ fault))
-read_by old new before now (Ok writing) end words formats names told failed named (inr (is, front)) u fault = absurd (cc (sym (ap end_status is) ∙ fault))
-read_by old new before now (Err failure) end words formats names told failed named (is, same, stands) u fault =
-    may_fault failure words formats names told failed named u (sym (ap end_status is) ∙ fault)
+read_by : {K : Type 0} (told : K → Option (List ℕ)) (faults : K → ℕ) (old new : K) (made : Result Writing Failure) (end : End) (words : List (List ℕ)) (formats : List Format) (names : List (List ℕ)) (shelf : Option Files) (failed : Type 0) → AreNamed words formats names
+    → Finishes told faults old new made end → IsUnread made names shelf failed → end_status end ≡ status.ReadFault → MayFault words formats shelf failed
+read_by told faults old new (Ok writing) end words formats names shelf failed named (inl (is, all)) u fault = absurd (no_read_fault writing.remarks.refused (sym (ap end_status is) ∙ fault))
+read_by told faults old new (Ok writing) end words formats names shelf failed named (inr (is, front)) u fault = absurd (cc (sym (ap end_status is) ∙ fault))
+read_by told faults old new (Err failure) end words formats names shelf failed named (is, same, stands) u fault =
+    may_fault failure words formats names shelf failed named u (sym (ap end_status is) ∙ fault)
 
-pub read_cause : {told told_new : Option Files} {f f_new : ℕ} {words : List (List ℕ)} {formats : List Format} {names : List (List ℕ)} {old new : Option (List ℕ)} {before now : ℕ} {end : End} {due : Reader → Files → Result Writing Failure}
-    → AreNamed words formats names → Ends told told_new f f_new old new before now names due end → end_status end ≡ status.ReadFault → MayFault words formats told (Rose f f_new)
-read_cause {told} {f = f} {f_new = f_new} {words = words} {formats = formats} {names = names} {old = old} {new = new} {before = before} {now = now} {end = end} named ends fault =
-    read_by old new before now ends.made end words formats names told (Rose f f_new) named ends.finishes ends.reads.unread fault
+pub read_cause : {S K : Type 0} {holds : S → Option Files} {misses : S → ℕ} {shelf shelf_new : S} {told : K → Option (List ℕ)} {faults : K → ℕ} {out out_new : K}
+    {words : List (List ℕ)} {formats : List Format} {names : List (List ℕ)} {end : End} {due : Reader → Files → Result Writing Failure}
+    → AreNamed words formats names → Ends holds misses shelf shelf_new told faults out out_new names due end → end_status end ≡ status.ReadFault
+    → MayFault words formats (holds shelf) (Rose (misses shelf) (misses shelf_new))
+read_cause {holds = holds} {misses = misses} {shelf = shelf} {shelf_new = shelf_new} {told = told} {faults = faults} {out = out} {out_new = out_new} {words = words} {formats = formats} {names = names} {end = end} named ends fault =
+    read_by told faults out out_new ends.made end words formats names (holds shelf) (Rose (misses shelf) (misses shelf_new)) named ends.finishes ends.reads.unread fault
 
-no_write_fault : (refused : List Entry) → written_status refused ≡ status.WriteFault → ⊥
+no_write_fault : (refused : RefusedEntries) → written_status refused ≡ status.WriteFault → ⊥
 no_write_fault [] is = absurd (cc is)
 no_write_fault (entry ∷ refused) is = absurd (cc is)
 
@@ -184,40 +192,40 @@ failed_no_write_fault (unread name) is = absurd (cc is)
 failed_no_write_fault (caused cause) is =
     by_cause (λ s. s ≡ status.WriteFault → ⊥) (λ e. absurd (cc e)) (λ e. absurd (cc e)) (λ e. absurd (cc e)) (λ e. absurd (cc e)) (λ e. absurd (cc e)) cause is
 
-pub write_cause : (old new : Option (List ℕ)) (before now : ℕ) (made : Result Writing Failure) (end : End)
-    → Finishes old new before now made end → end_status end ≡ status.WriteFault → Rose before now
-write_cause old new before now (Ok writing) end (inl (is, all)) fault = absurd (no_write_fault writing.refused.entries (sym (ap end_status is) ∙ fault))
-write_cause old new before now (Ok writing) end (inr (is, front)) fault = front.rose
-write_cause old new before now (Err failure) end (is, same, stands) fault = absurd (failed_no_write_fault failure (sym (ap end_status is) ∙ fault))
+pub write_cause : {K : Type 0} (told : K → Option (List ℕ)) (faults : K → ℕ) (old new : K) (made : Result Writing Failure) (end : End)
+    → Finishes told faults old new made end → end_status end ≡ status.WriteFault → Rose (faults old) (faults new)
+write_cause told faults old new (Ok writing) end (inl (is, all)) fault = absurd (no_write_fault writing.remarks.refused (sym (ap end_status is) ∙ fault))
+write_cause told faults old new (Ok writing) end (inr (is, front)) fault = front.rose
+write_cause told faults old new (Err failure) end (is, same, stands) fault = absurd (failed_no_write_fault failure (sym (ap end_status is) ∙ fault))
 
 -- ---- what stands
 
-pub out_stands : (old new : Option (List ℕ)) (before now : ℕ) (made : Result Writing Failure) (end : End)
-    → Finishes old new before now made end → end_status end ≢ status.WriteFault → now ≡ before
-out_stands old new before now (Ok writing) end (inl (is, all)) other = all.stands
-out_stands old new before now (Ok writing) end (inr (is, front)) other = absurd (other (ap end_status is))
-out_stands old new before now (Err failure) end (is, same, stands) other = stands
+pub out_stands : {K : Type 0} (told : K → Option (List ℕ)) (faults : K → ℕ) (old new : K) (made : Result Writing Failure) (end : End)
+    → Finishes told faults old new made end → end_status end ≢ status.WriteFault → faults new ≡ faults old
+out_stands told faults old new (Ok writing) end (inl (is, all)) other = all.stands
+out_stands told faults old new (Ok writing) end (inr (is, front)) other = absurd (other (ap end_status is))
+out_stands told faults old new (Err failure) end (is, same, stands) other = stands
 
-untouched_written : (refused : List Entry) → written_status refused ≢ status.Done → written_status refused ≢ status.Refused → ⊥
+untouched_written : (refused : RefusedEntries) → written_status refused ≢ status.Done → written_status refused ≢ status.Refused → ⊥
 untouched_written [] not_done not_refused = not_done refl
 untouched_written (entry ∷ refused) not_done not_refused = not_refused refl
 
-pub untouched : (old new : Option (List ℕ)) (before now : ℕ) (made : Result Writing Failure) (end : End)
-    → Finishes old new before now made end → end_status end ≢ status.Done → end_status end ≢ status.Refused → end_status end ≢ status.WriteFault → new ≡ old
-untouched old new before now (Ok writing) end (inl (is, all)) not_done not_refused not_failed =
-    absurd (untouched_written writing.refused.entries (λ e. not_done (ap end_status is ∙ e)) (λ e. not_refused (ap end_status is ∙ e)))
-untouched old new before now (Ok writing) end (inr (is, front)) not_done not_refused not_failed = absurd (not_failed (ap end_status is))
-untouched old new before now (Err failure) end (is, same, stands) not_done not_refused not_failed = same
+pub untouched : {K : Type 0} (told : K → Option (List ℕ)) (faults : K → ℕ) (old new : K) (made : Result Writing Failure) (end : End)
+    → Finishes told faults old new made end → end_status end ≢ status.Done → end_status end ≢ status.Refused → end_status end ≢ status.WriteFault → told new ≡ told old
+untouched told faults old new (Ok writing) end (inl (is, all)) not_done not_refused not_failed =
+    absurd (untouched_written writing.remarks.refused (λ e. not_done (ap end_status is ∙ e)) (λ e. not_refused (ap end_status is ∙ e)))
+untouched told faults old new (Ok writing) end (inr (is, front)) not_done not_refused not_failed = absurd (not_failed (ap end_status is))
+untouched told faults old new (Err failure) end (is, same, stands) not_done not_refused not_failed = same
 
 failed_stands : (failure : Failure) (Holds : Type 0) → UnlessUnread {Y = Writing} (Err failure) Holds → failure_status failure ≢ status.ReadFault → Holds
 failed_stands no_memory Holds h other = h
 failed_stands (unread name) Holds h other = absurd (other refl)
 failed_stands (caused cause) Holds h other = h
 
-pub shelf_stands : (old new : Option (List ℕ)) (before now : ℕ) (made : Result Writing Failure) (end : End) (Holds : Type 0)
-    → Finishes old new before now made end → UnlessUnread made Holds → end_status end ≢ status.ReadFault → Holds
-shelf_stands old new before now (Ok writing) end Holds finished h other = h
-shelf_stands old new before now (Err failure) end Holds (is, same, stands) h other =
+pub shelf_stands : {K : Type 0} (told : K → Option (List ℕ)) (faults : K → ℕ) (old new : K) (made : Result Writing Failure) (end : End) (Holds : Type 0)
+    → Finishes told faults old new made end → UnlessUnread made Holds → end_status end ≢ status.ReadFault → Holds
+shelf_stands told faults old new (Ok writing) end Holds finished h other = h
+shelf_stands told faults old new (Err failure) end Holds (is, same, stands) h other =
     failed_stands failure Holds h (λ e. other (ap end_status is ∙ e))
 
 -- ---- where nothing can fail

@@ -1,13 +1,14 @@
 -- How a call ends, by the words as they were read.
 use Rattle.std.proofs.Common.{◌≡◌, ◌⊎◌, inl, inr, ℕ, List, [], Option, Result, Ok, Err, IfOk, IfErr, IsErrOf, refl, sym, ap, ◌∙◌, subst, arith}
-use Rattle.redl_app.proofs.ReadLaws.{always, reads_when, reads_no_memory}
-use Rattle.redl_app.proofs.ReaderLaws.{reads_command, reads_no_command}
+use Rattle.redl_inputs.proofs.ReadLaws.{always, reads_when, reads_no_memory}
+use Rattle.redl_inputs.proofs.ReaderLaws.{reads_command, reads_no_command}
 use Rattle.redl_app.proofs.TopLaws.{AreNamed, NamesWhatIsAsked, due_by}
 use Rattle.redl_app.specs.Files.{asked_by}
 use Rattle.redl_app.specs.Finishing.{Ends, IsWanted, words_failure}
 use Rattle.redl_app.specs.Formats.{Format, LeavesFormats, without_asked}
 use Rattle.redl_app.specs.Outcome.{writing_of}
-use Rattle.redl_app.specs.Readers.{Reader, IsReader}
+use Rattle.redl_app.specs.Plans.{plan}
+use Rattle.redl_inputs.specs.Readers.{Reader, IsReader}
 use Rattle.redl_app.specs.Views.{read_view, named_files}
 use Rattle.redl_app.specs.Writing.{Writing}
 use Rattle.redl_io.specs.Shelf.{Files}
@@ -41,19 +42,21 @@ is_wanted words formats (Err error.Usage) is none = λ reader files reads. ap (w
 is_wanted words formats (Err error.NoMemory) is none = tt
 
 -- ends for one thing that is due are ends for the same by another name
-pub ends_when : {told told_new : Option Files} {f f_new : ℕ} {old new : Option (List ℕ)} {before now : ℕ} {names : List (List ℕ)} {end : End} {due : Reader → Files → Result Writing Failure}
+pub ends_when : {S K : Type 0} {holds : S → Option Files} {misses : S → ℕ} {shelf shelf_new : S} {told : K → Option (List ℕ)} {faults : K → ℕ} {out out_new : K}
+    {names : List (List ℕ)} {end : End} {due : Reader → Files → Result Writing Failure}
     (later : Reader → Files → Result Writing Failure) → ((reader : Reader) (files : Files) → IsReader reader → later reader files ≡ due reader files)
-    → Ends told told_new f f_new old new before now names due end → Ends told told_new f f_new old new before now names later end
-ends_when {told} {names = names} later same ends = record {
+    → Ends holds misses shelf shelf_new told faults out out_new names due end → Ends holds misses shelf shelf_new told faults out out_new names later end
+ends_when {holds = holds} {shelf = shelf} {names = names} later same ends = record {
   made = ends.made;
-  reads = reads_when later (always told names (λ files reader is. same reader files is)) ends.reads;
+  reads = reads_when later (always (holds shelf) names (λ files reader is. same reader files is)) ends.reads;
   finishes = ends.finishes;
 }
 
 -- a call ends with no more than a line where the words could not be had
-pub ends_unread : (formats : List Format) (told : Option Files) (f : ℕ) (out : Option (List ℕ)) (count : ℕ) (error : WordsError) (due : Reader → Files → Result Writing Failure) → IsWanted formats (Err error) due
-    → Ends told told f f out out count count [] due (failed (words_failure error))
-ends_unread formats told f out count error.Usage due wanted = record {
+pub ends_unread : (formats : List Format) {S K : Type 0} {holds : S → Option Files} {misses : S → ℕ} (shelf : S) {told : K → Option (List ℕ)} {faults : K → ℕ} (out : K)
+    (error : WordsError) (due : Reader → Files → Result Writing Failure) → IsWanted formats (Err error) due
+    → Ends holds misses shelf shelf told faults out out [] due (failed (words_failure error))
+ends_unread formats shelf out error.Usage due wanted = record {
   made = Err (caused usage);
   reads = record {
     as_due = λ files may reader is. wanted reader files is;
@@ -63,7 +66,7 @@ ends_unread formats told f out count error.Usage due wanted = record {
   };
   finishes = (refl, refl, refl);
 }
-ends_unread formats told f out count error.NoMemory due wanted = record {
+ends_unread formats shelf out error.NoMemory due wanted = record {
   made = Err (words_failure error.NoMemory);
   reads = reads_no_memory [] due refl refl;
   finishes = (refl, refl, refl);
@@ -84,11 +87,11 @@ ends_as_usage words (Err error) end is ends none = failure_ends error end ends
 -- the command of the words is the one that was read
 pub leaves_by_words : {F : Type 0} (name_of : F → List ℕ) (old new : List F) (words : List (List ℕ)) (read : Result Declared WordsError) (end : End)
     → IfOk read (λ command. IsCommand words (command_of command)) → (IsErrOf read error.Usage → HasNoCommand words)
-    → IfOk read (λ command. LeavesFormats (end_status end) (without_asked name_of (command_of command) old) old new) → IfErr read (λ error. new ≡ old)
+    → IfOk read (λ command. LeavesFormats (end_status end) (without_asked name_of (plan (command_of command)).format old) old new) → IfErr read (λ error. new ≡ old)
     → IfErr read (λ error. end ≡ failed (words_failure error))
-    → (command : Command) → IsCommand words command → LeavesFormats (end_status end) (without_asked name_of command old) old new
+    → (command : Command) → IsCommand words command → LeavesFormats (end_status end) (without_asked name_of (plan command).format old) old new
 leaves_by_words name_of old new words (Ok found) end is none left same ends command reads =
-    subst (λ c. LeavesFormats (end_status end) (without_asked name_of c old) old new) (at_most_one words (command_of found) command is reads) left
+    subst (λ c. LeavesFormats (end_status end) (without_asked name_of (plan c).format old) old new) (at_most_one words (command_of found) command is reads) left
 leaves_by_words name_of old new words (Err error.Usage) end is none left same ends command reads = absurd (none refl command reads)
 leaves_by_words name_of old new words (Err error.NoMemory) end is none left same ends command reads = rw ends (inl same)
 

@@ -4,13 +4,14 @@ use Rattle.std.specs.Io.KnownBytes.{append_known}
 use Rattle.redl_io.specs.Shelf.{Files, Lacks}
 use Rattle.redl_io.specs.Sink.{GrowsByFront}
 use Rattle.redl_app.specs.Outcome.{outcome}
-use Rattle.redl_app.specs.Readers.{Reader, IsReader}
-use Rattle.redl_app.specs.Reading.{MayHold}
+use Rattle.redl_inputs.specs.Readers.{Reader, IsReader}
+use Rattle.redl_inputs.specs.Reading.{MayHold}
 use Rattle.redl_app.specs.Writing.{Outcome}
 use Rattle.redl_lines.specs.Ends.{Tells}
 use Rattle.redl_lines.specs.Lines.{no_memory_line, unwritten_line, unread_line}
 use Rattle.redl_app.specs.Files.{asked_by, files_of}
 use Rattle.redl_app.specs.Formats.{Format}
+use Rattle.redl_app.specs.Plans.{plan}
 use Rattle.redl_words.specs.Commands.{Command, IsCommand}
 use Rattle.redl_lines.specs.declared.status.Status.{Status}
 use Rattle.redl_lines.specs.declared.status.Status.TheVariants as status
@@ -33,17 +34,17 @@ IsAnswer status.WriteFault outcome read_failed write_failed = write_failed × Is
 IsAnswer s outcome read_failed write_failed = outcome.status ≡ s
 
 -- The output gained the bytes where all was written, a front of them with `WriteFault`, and nothing with any other status.
-abbrev pub Writes : Status → Option (List ℕ) → Option (List ℕ) → List ℕ → Type 0
-Writes status.Done old new bytes = new ≡ append_known old bytes
-Writes status.Refused old new bytes = new ≡ append_known old bytes
-Writes status.WriteFault old new bytes = GrowsByFront old new bytes
-Writes _ old new bytes = new ≡ old
+abbrev pub Writes : {K : Type 0} → (K → Option (List ℕ)) → K → K → Status → List ℕ → Type 0
+Writes told old new status.Done bytes = told new ≡ append_known (told old) bytes
+Writes told old new status.Refused bytes = told new ≡ append_known (told old) bytes
+Writes told old new status.WriteFault bytes = GrowsByFront (told old) (told new) bytes
+Writes told old new _ bytes = told new ≡ told old
 
 -- the words are those of a command, the format that it asks for is there, and this is the name of one of its files
 pub record IsFileOf (words : List (List ℕ)) (formats : List Format) (name : List ℕ) : Type 0 where
   pub command : Command
   pub reads : IsCommand words command
-  pub among : Contains (files_of formats command) name
+  pub among : Contains (files_of formats (plan command)) name
 
 -- a read fault's line: the outcome's, where that is a read fault itself, or that of some file of the command where a fetch
 -- failed
@@ -60,8 +61,8 @@ AreLines status.WriteFault outcome words formats read_failed lines = lines ≡ o
 AreLines _ outcome words formats read_failed lines = lines ≡ outcome.lines
 
 -- some lines went out of which this holds
-abbrev pub TellsSome : Option (List ℕ) → Option (List ℕ) → ℕ → ℕ → (List ℕ → Type 0) → Type 0
-TellsSome old new before now Holds = (lines : List ℕ) × Holds lines × Tells old new before now lines
+abbrev pub TellsSome : {K : Type 0} → (K → Option (List ℕ)) → (K → ℕ) → K → K → (List ℕ → Type 0) → Type 0
+TellsSome told faults old new Holds = (lines : List ℕ) × Holds lines × Tells told faults old new lines
 
 -- why a read fault may be answered: the words ask for files, and the shelf failed or lacks one of them
 abbrev pub MayFault : List (List ℕ) → List Format → Option Files → Type 0 → Type 0

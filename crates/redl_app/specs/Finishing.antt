@@ -1,10 +1,10 @@
--- What stands after what was prepared was written, or not.
+-- The state after the output.
 use Rattle.std.specs.Prelude.{◌≡◌, ◌⊎◌, ℕ, List, Option, Some, Result, Ok, Err}
 use Rattle.std.specs.Io.KnownBytes.{append_known}
 use Rattle.redl_io.specs.Faults.{Rose}
 use Rattle.redl_io.specs.Sink.{GrowsByFront}
-use Rattle.redl_app.specs.Readers.{Reader, IsReader}
-use Rattle.redl_app.specs.Reading.{ReadsFiles}
+use Rattle.redl_inputs.specs.Readers.{Reader, IsReader}
+use Rattle.redl_inputs.specs.Reading.{ReadsFiles}
 use Rattle.redl_app.specs.Formats.{Format}
 use Rattle.redl_app.specs.Outcome.{writing_of}
 use Rattle.redl_app.specs.Writing.{Writing}
@@ -16,28 +16,28 @@ use Rattle.redl_words.specs.declared.error.WordsError.{WordsError}
 use Rattle.redl_words.specs.declared.error.WordsError.TheVariants as error
 
 -- all of the text went out
-pub record WritesAll (old new : Option (List ℕ)) (before now : ℕ) (text : List ℕ) : Type 0 where
-  pub bytes : new ≡ append_known old text
-  pub stands : now ≡ before
+pub record WritesAll {K : Type 0} (told : K → Option (List ℕ)) (faults : K → ℕ) (old new : K) (text : List ℕ) : Type 0 where
+  pub bytes : told new ≡ append_known (told old) text
+  pub stands : faults new ≡ faults old
 
 -- the output failed, and a front of the text went out
-pub record WritesFront (old new : Option (List ℕ)) (before now : ℕ) (text : List ℕ) : Type 0 where
-  pub bytes : GrowsByFront old new text
-  pub rose : Rose before now
+pub record WritesFront {K : Type 0} (told : K → Option (List ℕ)) (faults : K → ℕ) (old new : K) (text : List ℕ) : Type 0 where
+  pub bytes : GrowsByFront (told old) (told new) text
+  pub rose : Rose (faults old) (faults new)
 
 -- What was made was written, or the output failed, or nothing was made.
-abbrev pub Finishes : Option (List ℕ) → Option (List ℕ) → ℕ → ℕ → Result Writing Failure → End → Type 0
-Finishes old new before now (Ok writing) end =
-    ((end ≡ written writing.refused) × WritesAll old new before now writing.bytes)
-    ⊎ ((end ≡ unwritten writing.refused) × WritesFront old new before now writing.bytes)
-Finishes old new before now (Err failure) end = (end ≡ failed failure) × (new ≡ old) × (now ≡ before)
+abbrev pub Finishes : {K : Type 0} → (K → Option (List ℕ)) → (K → ℕ) → K → K → Result Writing Failure → End → Type 0
+Finishes told faults old new (Ok writing) end =
+    ((end ≡ written writing.remarks) × WritesAll told faults old new writing.bytes)
+    ⊎ ((end ≡ unwritten writing.remarks) × WritesFront told faults old new writing.bytes)
+Finishes told faults old new (Err failure) end = (end ≡ failed failure) × (told new ≡ told old) × (faults new ≡ faults old)
 
--- A call took files of these names, made what was due or failed, and put what it made on the output.
-pub record Ends (old new : Option Files) (f f_new : ℕ) (out out_new : Option (List ℕ)) (before now : ℕ)
+-- A call took files of these names from a shelf, made what was due or failed, and put what it made on the output.
+pub record Ends {S K : Type 0} (holds : S → Option Files) (misses : S → ℕ) (shelf shelf_new : S) (told : K → Option (List ℕ)) (faults : K → ℕ) (out out_new : K)
     (names : List (List ℕ)) (due : Reader → Files → Result Writing Failure) (end : End) : Type 0 where
   pub made : Result Writing Failure
-  pub reads : ReadsFiles old new f f_new names made due
-  pub finishes : Finishes out out_new before now made end
+  pub reads : ReadsFiles holds misses shelf shelf_new names made due
+  pub finishes : Finishes told faults out out_new made end
 
 -- ---- the words
 

@@ -1,11 +1,10 @@
 -- The formats of listings, as the outcome of a call sees them, and what a call leaves of their list.
-use Rattle.std.specs.Prelude.{◌≡◌, ◌⊎◌, ℕ, Bool, true, List, map, Option, None, Some, Result, Ok, Err}
+use Rattle.std.specs.Prelude.{◌≡◌, ◌⊎◌, ℕ, Bool, true, false, List, [], All, map, Option, None, Some, Result, Ok, Err}
 use Rattle.redl_lines.specs.Failures.{Failure, caused, no_format}
 use Rattle.redl_lines.specs.declared.status.Status.{Status}
 use Rattle.redl_lines.specs.declared.status.Status.TheVariants as status
 use Rattle.redl_listing.specs.Formats.{first_named, without_named}
 use Rattle.redl_listing.specs.declared.row.Row.{Row}
-use Rattle.redl_words.specs.Commands.{Command, settle, list, write, decide, join, check, sample}
 
 -- a format: its name, and the text that it gives for all rows
 pub record Format : Type 0 where
@@ -15,6 +14,10 @@ pub record Format : Type 0 where
 -- formats by the name of each, and by the text that it gives for any rows, closed or not
 abbrev pub formats_by : {F : Type 0} → (F → List ℕ) → (F → List Row → Bool → List ℕ) → List F → List Format
 formats_by name_of text_of formats = map (λ format. record { name = name_of format; text = λ rows. text_of format rows true }) formats
+
+-- no format is closed or has a row
+abbrev pub AreFresh : {F : Type 0} → (F → Bool) → (F → List Row) → List F → Type 0
+AreFresh is_closed rows_of formats = All (λ format. (is_closed format ≡ false) × (rows_of format ≡ [])) formats
 
 -- ---- the format that a command asks for
 
@@ -31,27 +34,17 @@ abbrev pub whether : {X : Type 0} → Result X Failure → Result (Unit {0}) Fai
 whether (Ok x) = Ok tt
 whether (Err failure) = Err failure
 
--- whether there is the format that a command asks for
-abbrev pub has_format : List Format → Command → Result (Unit {0}) Failure
-has_format formats (settle accept p) = Ok tt
-has_format formats (list p name locks journals) = whether (format_named formats name)
-has_format formats (write p locks journals) = Ok tt
-has_format formats (decide p reviewer journals locks choices) = Ok tt
-has_format formats (join journals) = Ok tt
-has_format formats (check p) = Ok tt
-has_format formats (sample number) = Ok tt
+-- whether there is the format of this name, if one is asked for
+abbrev pub has_format : List Format → Option (List ℕ) → Result (Unit {0}) Failure
+has_format formats None = Ok tt
+has_format formats (Some name) = whether (format_named formats name)
 
 -- ---- what is left of the formats
 
--- the formats without the one that a command asks for
-abbrev pub without_asked : {F : Type 0} → (F → List ℕ) → Command → List F → List F
-without_asked name_of (settle accept p) formats = formats
-without_asked name_of (list p name locks journals) formats = without_named name_of name formats
-without_asked name_of (write p locks journals) formats = formats
-without_asked name_of (decide p reviewer journals locks choices) formats = formats
-without_asked name_of (join journals) formats = formats
-without_asked name_of (check p) formats = formats
-without_asked name_of (sample number) formats = formats
+-- the formats without the one of this name, if one is asked for
+abbrev pub without_asked : {F : Type 0} → (F → List ℕ) → Option (List ℕ) → List F → List F
+without_asked name_of None formats = formats
+without_asked name_of (Some name) formats = without_named name_of name formats
 
 -- The format that was asked for is gone where all was made, also where the output failed. Where memory ran out it may be
 -- gone. With any other status the formats are as they were.

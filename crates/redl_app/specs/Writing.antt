@@ -1,18 +1,19 @@
 -- What a call writes, and what it comes to.
 use Rattle.std.specs.Prelude.{ℕ, List, [], Result, Ok, Err}
-use Rattle.redl_lines.specs.Ends.{RefusedEntries, written_status, refused_lines}
+use Rattle.redl_lines.specs.Ends.{written_status, remark_lines}
 use Rattle.redl_lines.specs.Failures.{Failure, failure_status}
 use Rattle.redl_lines.specs.Lines.{failure_line}
+use Rattle.redl_lines.specs.Remarks.{Remarks, no_remarks}
 use Rattle.redl_lines.specs.declared.status.Status.{Status}
 
--- what a call writes: bytes, and the entries that were refused
+-- what a call writes: bytes, and what there is to remark
 pub record Writing : Type 0 where
   pub bytes : List ℕ
-  pub refused : RefusedEntries
+  pub remarks : Remarks
 
--- bytes, where no entry can be refused
+-- bytes, where there is nothing to remark
 abbrev pub only_bytes : List ℕ → Writing
-only_bytes bytes = record { bytes = bytes; refused = record { entries = []; count = 0 } }
+only_bytes bytes = record { bytes = bytes; remarks = no_remarks }
 
 -- a status, the bytes for the output, and the lines for standard error
 pub record Outcome : Type 0 where
@@ -24,7 +25,7 @@ pub record Outcome : Type 0 where
 abbrev pub outcome_of : Result Writing Failure → Outcome
 outcome_of (Err failure) = record { status = failure_status failure; bytes = []; lines = failure_line failure }
 outcome_of (Ok writing) = record {
-  status = written_status writing.refused.entries;
+  status = written_status writing.remarks.refused;
   bytes = writing.bytes;
-  lines = refused_lines writing.refused;
+  lines = remark_lines writing.remarks;
 }

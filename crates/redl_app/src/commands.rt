@@ -1,25 +1,25 @@
 //! What each command writes, or why it writes nothing.
 
-ghost use Rattle.std.specs.Prelude.{◌≡◌, [], All, false};
-ghost use Rattle.redl_app.specs.Files.{package_of, journals_of, package_text};
-ghost use Rattle.redl_app.specs.Formats.{LeavesFormats, format_named, formats_by, has_format, whether, without_asked};
-ghost use Rattle.redl_app.specs.Outcome.{written_by};
-ghost use Rattle.redl_app.specs.Reading.{ReadsFiles};
-ghost use Rattle.redl_app.specs.Views.{result_view, writing_view};
+ghost use Rattle.std.specs.Prelude.{◌≡◌, Ok};
+ghost use Rattle.std.specs.Option.{option_copied};
+ghost use Rattle.redl_app.specs.Formats.{AreFresh, LeavesFormats, formats_by, has_format, without_asked};
+ghost use Rattle.redl_app.specs.Plans.{IsTextFor, made_with, plan};
+ghost use Rattle.redl_app.specs.Views.{writing_view};
 ghost use Rattle.redl_app.specs.Writing.{outcome_of};
+ghost use Rattle.redl_inputs.specs.Reading.{ReadsFiles};
+ghost use Rattle.redl_inputs.specs.Views.{result_view};
 ghost use Rattle.redl_words.specs.Commands.{HasUtf8};
 ghost use Rattle.redl_words.specs.Views.{command_of};
 
-use crate::PACKAGE_LIMIT;
-use crate::fetch::{fetch_file, name_of};
 use crate::output::Writing;
 use check::check;
 use decide::decide;
 use join::join;
 use list::list;
+use redl_inputs::name_of;
 use redl_io::Shelf;
-use redl_lines::{Cause, Failure, Limit};
-use redl_listing::{RowFormat, has_name};
+use redl_lines::Failure;
+use redl_listing::RowFormat;
 use redl_words::Command;
 use sample::sample;
 use settle::settle;
@@ -34,76 +34,26 @@ mod sample;
 mod settle;
 mod write;
 
-/// Whether there is the format that the command asks for.
-pub(crate) fn check_format<'a>(
-    command: &'a Command,
-    formats: &[Box<dyn RowFormat>],
-) -> Result<(), Failure<'a>>
-    requires { HasUtf8 (command_of command.now) }
-    ensures { result_view (λ _. tt) result ≡ has_format (formats_by (λ format. format_name format) (λ format. text_for format) formats.now) (command_of command.now) }
-{
-    match command {
-        Command::List { format, .. } => find_format(name_of(format), formats),
-        _ => Ok(()),
-    }
-}
-
-// Whether there is a format of this name.
-fn find_format<'a>(name: &'a str, formats: &[Box<dyn RowFormat>]) -> Result<(), Failure<'a>>
-    ensures { result_view (λ _. tt) result ≡ whether (format_named (formats_by (λ format. format_name format) (λ format. text_for format) formats.now) name.now) }
-{
-    for format in formats {
-        if has_name(format, name) {
-            return Ok(());
-        }
-    }
-    Err(Failure::Cause(Cause::NoFormat(name)))
-}
-
-/// The text of the command's package. A command without one has the empty text.
-pub(crate) fn fetch_package<'a, F: Shelf>(
+/// What the command writes. `text` is its package's, and there is one exactly if the command has a package. The format that it
+/// asks for is there.
+pub(crate) fn make<'a, 'b, F: Shelf>(
     alloc: Global,
     command: &'a Command,
-    shelf: &mut F,
-) -> Result<Vec<u8>, Failure<'a>>
-    requires { HasUtf8 (command_of command.now) }
-    ensures { ReadsFiles (F.told shelf.old) (F.told shelf.new) (F.faults shelf.old) (F.faults shelf.new) (package_of (command_of command.now))
-        (result_view (λ bytes. bytes.items) result) (λ reader files. package_text files (command_of command.now)) }
-{
-    match command {
-        Command::Settle { package, .. }
-        | Command::List { package, .. }
-        | Command::Write { package, .. }
-        | Command::Decide { package, .. }
-        | Command::Check { package } => fetch_file(
-            alloc,
-            name_of(package),
-            PACKAGE_LIMIT,
-            Limit::PackageBytes,
-            shelf,
-        ),
-        Command::Join { .. } | Command::Sample { .. } => Ok(Vec::new(alloc)),
-    }
-}
-
-/// What the command writes, where its package has this text.
-pub(crate) fn make_writing<'a, 'b, F: Shelf>(
-    alloc: Global,
-    command: &'a Command,
-    bytes: &'b [u8],
+    text: Option<&'b [u8]>,
     shelf: &mut F,
     formats: &mut Vec<Box<dyn RowFormat>>,
 ) -> Result<Writing<'b>, Failure<'a>>
     requires utf8 { HasUtf8 (command_of command.now) }
-    requires fresh { All (λ format. (is_closed format ≡ false) × (rows_so_far format ≡ [])) formats.old.items }
-    ensures read { ReadsFiles (F.told shelf.old) (F.told shelf.new) (F.faults shelf.old) (F.faults shelf.new) (journals_of (command_of command.now))
-        (result_view writing_view result) (λ reader files. written_by reader files
-        (formats_by (λ format. format_name format) (λ format. text_for format) formats.old.items) (command_of command.now) bytes.now) }
+    requires text { IsTextFor (plan (command_of command.now)).makes (option_copied text) }
+    requires format { has_format (formats_by format_name text_for formats.old.items) (plan (command_of command.now)).format ≡ Ok tt }
+    requires fresh { AreFresh is_closed rows_so_far formats.old.items }
+    ensures read { ReadsFiles F.told F.faults shelf.old shelf.new (plan (command_of command.now)).journals (result_view writing_view result)
+        (λ reader files. made_with reader files (formats_by format_name text_for formats.old.items) (plan (command_of command.now)).makes (option_copied text.entry)) }
     ensures formats { LeavesFormats (outcome_of (result_view writing_view result)).status
-        (without_asked (λ format. format_name format) (command_of command.now) formats.old.items) formats.old.items formats.new.items }
+        (without_asked format_name (plan (command_of command.now)).format formats.old.items) formats.old.items formats.new.items }
 {
     match command {
-        Command::Settle { accept, .. } => settle(alloc, *accept, bytes),
+        Command::Settle { accept, .. } => settle(alloc, *accept, text.unwrap()),
         Command::List {
             format,
             locks,
@@ -114,7 +64,7 @@ pub(crate) fn make_writing<'a, 'b, F: Shelf>(
             name_of(format),
             locks,
             journals,
-            bytes,
+            text.unwrap(),
             shelf,
             formats,
         ),
@@ -122,16 +72,24 @@ pub(crate) fn make_writing<'a, 'b, F: Shelf>(
             locks,
             journals,
             ..
-        } => write(alloc, locks, journals, bytes, shelf),
+        } => write(alloc, locks, journals, text.unwrap(), shelf),
         Command::Decide {
             reviewer,
             journals,
             locks,
             choices,
             ..
-        } => decide(alloc, reviewer, locks, journals, choices, bytes, shelf),
+        } => decide(
+            alloc,
+            reviewer,
+            locks,
+            journals,
+            choices,
+            text.unwrap(),
+            shelf,
+        ),
         Command::Join { journals } => join(alloc, journals, shelf),
-        Command::Check { .. } => check(alloc, bytes),
+        Command::Check { .. } => check(alloc, text.unwrap()),
         Command::Sample { number } => sample(alloc, *number),
     }
 }

@@ -1,10 +1,11 @@
 //! What holds of every outcome of a call, and of the readers that it is told by.
 
 ghost use Rattle.std.specs.Prelude.{◌≡◌, ◌≤◌, ℕ, List};
+ghost use Rattle.redl_app.specs.AnyOrder.{OrderDoesNotCount};
 ghost use Rattle.redl_app.specs.Formats.{Format};
 ghost use Rattle.redl_app.specs.Left.{LeavesSound};
 ghost use Rattle.redl_app.specs.Outcome.{outcome};
-ghost use Rattle.redl_app.specs.Readers.{Reader, IsReader};
+ghost use Rattle.redl_inputs.specs.Readers.{Reader, IsReader};
 ghost use Rattle.redl_io.specs.Shelf.{Files};
 ghost use Rattle.redl_lines.specs.Lines.{sample_paragraphs};
 ghost use Rattle.redl_words.specs.Commands.{IsCommand, sample};
@@ -35,4 +36,12 @@ pub fn what_is_left_is_sound()
 pub fn samples_are_written()
     ensures { (reader : Reader) → IsReader reader → (words : List (List ℕ)) (files : Files) (formats : List Format) (number : ℕ)
         → IsCommand words (sample number) → number ≤ sample_paragraphs → (outcome reader words files formats).status ≡ Status.Done }
+{}
+
+/// The order of the journals and repeats do not count.
+///
+/// Where two calls of a command differ in the order and the repeats of their journals alone, and both have the status 0 or 1,
+/// they have the same status, bytes and lines. A repeat counts only for the limit on the bytes of all journals.
+pub fn order_does_not_count()
+    ensures { (reader : Reader) (files : Files) (formats : List Format) → OrderDoesNotCount reader files formats }
 {}

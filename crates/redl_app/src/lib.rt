@@ -5,27 +5,20 @@
 //! Real files and streams are made by the program above.
 #![tactic(auto)]
 
-mod admitted;
 mod choices;
 mod collected;
 mod commands;
-mod document;
-mod fetch;
-mod journals;
+mod formats;
 mod laws;
-mod open;
 mod output;
-mod package;
+mod plan;
 mod top;
 mod words;
 
-/// The most bytes that a package may have.
-pub const PACKAGE_LIMIT: usize = 134_217_728;
-
-/// The most bytes that all journals of a call may have together.
-pub const JOURNALS_LIMIT: usize = 67_108_864;
-
-pub use laws::{a_reader, one_outcome, samples_are_written, what_is_left_is_sound};
+pub use laws::{
+    a_reader, one_outcome, order_does_not_count, samples_are_written, what_is_left_is_sound,
+};
+pub use redl_inputs::{JOURNALS_LIMIT, PACKAGE_LIMIT};
 pub use redl_lines::Status;
 pub use redl_words::WordsError;
 pub use top::{refuse_words, run, run_surely, tell_text};

@@ -7,11 +7,11 @@ ghost use Rattle.redl_app.specs.Views.{output_text, writing_view};
 ghost use Rattle.redl_app.specs.Writing.{only_bytes};
 ghost use Rattle.redl_io.specs.Sink.{Puts, GrowsByFront, CountsPut};
 
-use crate::document::DocumentId;
 use itoa::Buffer;
+use redl_inputs::DocumentId;
 use redl_io::{Failed, Sink, Staged, put_piece, put_pieces};
 use redl_join::Book;
-use redl_lines::RefusedEntries;
+use redl_lines::Remarks;
 use redl_sample::Summary;
 use redl_tree::{Node, write_nodes};
 use std::alloc::Global;
@@ -31,26 +31,23 @@ pub(crate) enum Output<'b> {
     Summary(Summary),
 }
 
-/// What a call writes, and the entries that were refused.
+/// What a call writes, and what there is to remark.
 #[derive(Drop)]
 pub(crate) struct Writing<'b> {
     /// What goes out.
     pub output: Output<'b>,
-    /// The entries that were refused.
-    pub refused: RefusedEntries,
+    /// What there is to remark.
+    pub remarks: Remarks,
 }
 
 impl<'b> Writing<'b> {
-    /// Output alone, where no entry can be refused.
+    /// Output alone, where there is nothing to remark.
     pub(crate) fn only(alloc: Global, output: Output<'b>) -> Writing<'b>
         ensures { writing_view result ≡ only_bytes (output_text output.entry) }
     {
         Writing {
             output,
-            refused: RefusedEntries {
-                entries: Book::new(alloc),
-                count: 0,
-            },
+            remarks: Remarks::none(alloc),
         }
     }
 }

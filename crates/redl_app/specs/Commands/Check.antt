@@ -1,8 +1,8 @@
 -- `check P`: whether the package is sound, and how many revisions it has.
 use Rattle.std.specs.Prelude.{codes, decimal, ℕ, List, ◌++◌, Result, Ok}
-use Rattle.redl_app.specs.Packages.{package_in}
-use Rattle.redl_app.specs.Readers.{Reader}
-use Rattle.redl_app.specs.Steps.{◌>>=◌}
+use Rattle.redl_inputs.specs.Packages.{package_in}
+use Rattle.redl_inputs.specs.Readers.{Reader}
+use Rattle.redl_inputs.specs.Steps.{◌>>=◌}
 use Rattle.redl_app.specs.Writing.{Writing, only_bytes}
 use Rattle.redl_index.specs.Numbers.{package_revisions}
 use Rattle.redl_lines.specs.Failures.{Failure}

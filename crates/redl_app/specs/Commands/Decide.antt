@@ -1,10 +1,10 @@
 -- `decide P REVIEWER` with choices: the journal of what the reviewer decides, with the entries of the journals.
 use Rattle.std.specs.Prelude.{ℕ, ◌+◌, ◌-◌, ◌^◌, ◌==◌, List, Result, Ok, Err, if◌then◌else◌}
-use Rattle.redl_app.specs.Admission.{Admission, admission_with, opened}
+use Rattle.redl_inputs.specs.Admission.{Admission, admission_with, opened}
 use Rattle.redl_app.specs.Choices.{chosen_entries}
 use Rattle.redl_app.specs.Commands.Join.{book_text}
-use Rattle.redl_app.specs.Readers.{Reader}
-use Rattle.redl_app.specs.Steps.{◌>>=◌}
+use Rattle.redl_inputs.specs.Readers.{Reader}
+use Rattle.redl_inputs.specs.Steps.{◌>>=◌}
 use Rattle.redl_app.specs.Writing.{Writing}
 use Rattle.redl_io.specs.Shelf.{Files}
 use Rattle.redl_join.specs.Verdicts.{greatest_seq}
@@ -24,7 +24,7 @@ with_choices reviewer choices before = do
 
 -- the journal of the session's book
 abbrev pub book_written : Admission → Writing
-book_written admission = record { bytes = book_text admission.document admission.state.book; refused = admission.refused }
+book_written admission = record { bytes = book_text admission.document admission.state.book; remarks = admission.remarks }
 
 -- what is written of the package with this text
 abbrev pub chosen_journal : Reader → Files → List ℕ → List (List ℕ) → List (List ℕ) → List (Word × Selection) → List ℕ → Result Writing Failure

@@ -1,22 +1,14 @@
 -- `join J ..`: the journal of the union of these journals, which are of one document.
-use Rattle.std.specs.Prelude.{ℕ, ◌-◌, List, [], ◌∷◌, length, Result, Ok, Err}
-use Rattle.redl_app.specs.Journals.{DocumentId, journal_or_none, gathered}
-use Rattle.redl_app.specs.Readers.{Reader}
-use Rattle.redl_app.specs.Steps.{file, ◌>>=◌}
+use Rattle.std.specs.Prelude.{ℕ, ◌-◌, List, [], ◌∷◌, Result, Ok, Err}
+use Rattle.redl_inputs.specs.Journals.{DocumentId, first_journal, union_with}
+use Rattle.redl_inputs.specs.Readers.{Reader}
+use Rattle.redl_inputs.specs.Steps.{◌>>=◌}
 use Rattle.redl_app.specs.Writing.{Writing, only_bytes}
 use Rattle.redl_io.specs.Shelf.{Files}
 use Rattle.redl_join.specs.Books.{union}
 use Rattle.redl_journal.specs.Journals.{Journal, journal_text}
 use Rattle.redl_journal.specs.declared.entry.Entry.{Entry}
 use Rattle.redl_lines.specs.Failures.{Failure, caused, usage}
-use Rattle.redl_lines.specs.declared.failure.Limit.TheVariants.{JournalBytes}
-
--- the first journal, with the number of its bytes; at most `most` bytes may come
-abbrev pub first_journal : Reader → Files → ℕ → List ℕ → Result (Journal × ℕ) Failure
-first_journal reader files most name = do
-  whole ← file files name most JournalBytes
-  journal ← journal_or_none name (reader.journal whole)
-  Ok (journal, length whole)
 
 -- the document that a journal is of
 abbrev pub document_in : Journal → DocumentId
@@ -25,12 +17,6 @@ document_in journal = record { digest = journal.digest; count = journal.count }
 -- the journal of a set of entries
 abbrev pub book_text : DocumentId → List Entry → List ℕ
 book_text document book = journal_text (record { digest = document.digest; count = document.count; entries = book })
-
--- a set of entries with those of the journals of these names, which are of one document
-abbrev pub union_with : Reader → Files → DocumentId → ℕ → List Entry → List (List ℕ) → Result (List Entry) Failure
-union_with reader files document most before names = do
-  entries ← gathered reader files document most names
-  Ok (union before entries)
 
 -- the set of the entries of a first journal and of others
 abbrev pub union_of : Reader → Files → ℕ → Journal × ℕ → List (List ℕ) → Result (List Entry) Failure

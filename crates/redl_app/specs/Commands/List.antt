@@ -1,9 +1,9 @@
 -- `list P` with a format, journals and locked authors: a row for each revision, with the verdict on it.
 use Rattle.std.specs.Prelude.{ℕ, List, map, length, Result, Ok}
-use Rattle.redl_app.specs.Admission.{Admission, opened}
+use Rattle.redl_inputs.specs.Admission.{Admission, opened}
 use Rattle.redl_app.specs.Formats.{Format, format_named}
-use Rattle.redl_app.specs.Readers.{Reader}
-use Rattle.redl_app.specs.Steps.{◌>>=◌}
+use Rattle.redl_inputs.specs.Readers.{Reader}
+use Rattle.redl_inputs.specs.Steps.{◌>>=◌}
 use Rattle.redl_app.specs.Writing.{Writing}
 use Rattle.redl_io.specs.Shelf.{Files}
 use Rattle.redl_lines.specs.Failures.{Failure}
@@ -25,7 +25,7 @@ session_rows state = rows_of (part_names state.nodes) state.revisions (verdicts_
 
 -- the text of the format for these rows
 abbrev pub listing : Admission → Format → Writing
-listing admission format = record { bytes = format.text (session_rows admission.state); refused = admission.refused }
+listing admission format = record { bytes = format.text (session_rows admission.state); remarks = admission.remarks }
 
 -- the same in the first format that has the name
 abbrev pub listing_named : List Format → List ℕ → Admission → Result Writing Failure

@@ -1,10 +1,10 @@
 -- `sample N`: what becomes of the sample package under the journals of its three reviewers, in nine lines.
 use Rattle.std.specs.Prelude.{ℕ, List, [], ◌∷◌, length, flat_map, nat_lt, Result, Ok, Err, if◌then◌else◌}
-use Rattle.redl_app.specs.Admission.{Admission, admission_with, no_admission}
+use Rattle.redl_inputs.specs.Admission.{Admission, admission_with, no_admission}
 use Rattle.redl_app.specs.Commands.Write.{left_text}
-use Rattle.redl_app.specs.Packages.{package_in}
-use Rattle.redl_app.specs.Readers.{Reader}
-use Rattle.redl_app.specs.Steps.{◌>>=◌}
+use Rattle.redl_inputs.specs.Packages.{package_in}
+use Rattle.redl_inputs.specs.Readers.{Reader}
+use Rattle.redl_inputs.specs.Steps.{◌>>=◌}
 use Rattle.redl_app.specs.Writing.{Writing, only_bytes}
 use Rattle.redl_journal.specs.declared.entry.Entry.{Entry}
 use Rattle.redl_lines.specs.Failures.{Failure, caused, over}

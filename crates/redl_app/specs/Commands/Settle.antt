@@ -1,8 +1,8 @@
 -- `settle accept P` and `settle reject P`: the package under one say for all its revisions.
 use Rattle.std.specs.Prelude.{ℕ, Bool, true, false, List, replicate, Result, Ok}
-use Rattle.redl_app.specs.Packages.{package_in}
-use Rattle.redl_app.specs.Readers.{Reader}
-use Rattle.redl_app.specs.Steps.{◌>>=◌}
+use Rattle.redl_inputs.specs.Packages.{package_in}
+use Rattle.redl_inputs.specs.Readers.{Reader}
+use Rattle.redl_inputs.specs.Steps.{◌>>=◌}
 use Rattle.redl_app.specs.Writing.{Writing, only_bytes}
 use Rattle.redl_index.specs.Numbers.{package_revisions, numbered_package}
 use Rattle.redl_lines.specs.Failures.{Failure}

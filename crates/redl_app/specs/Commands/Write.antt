@@ -1,8 +1,8 @@
 -- `write P` with journals and locked authors: the package under the joined verdicts.
 use Rattle.std.specs.Prelude.{ℕ, List, Result, Ok}
-use Rattle.redl_app.specs.Admission.{Admission, opened}
-use Rattle.redl_app.specs.Readers.{Reader}
-use Rattle.redl_app.specs.Steps.{◌>>=◌}
+use Rattle.redl_inputs.specs.Admission.{Admission, opened}
+use Rattle.redl_inputs.specs.Readers.{Reader}
+use Rattle.redl_inputs.specs.Steps.{◌>>=◌}
 use Rattle.redl_app.specs.Writing.{Writing}
 use Rattle.redl_io.specs.Shelf.{Files}
 use Rattle.redl_lines.specs.Failures.{Failure}
@@ -14,11 +14,11 @@ use Rattle.redl_tree.specs.Model.Text.{text}
 abbrev pub left_text : State → List ℕ
 left_text state = text (pass_package (says state) state.nodes)
 
-abbrev pub decided : Admission → Writing
-decided admission = record { bytes = left_text admission.state; refused = admission.refused }
+abbrev pub resolved : Admission → Writing
+resolved admission = record { bytes = left_text admission.state; remarks = admission.remarks }
 
 -- what is written of the package with this text
 abbrev pub written : Reader → Files → List (List ℕ) → List (List ℕ) → List ℕ → Result Writing Failure
 written reader files locks journals whole = do
   admission ← opened reader files locks journals whole
-  Ok (decided admission)
+  Ok (resolved admission)

@@ -2,13 +2,14 @@
 
 ghost use Rattle.std.specs.Prelude.{◌≡◌, IfOk};
 ghost use Rattle.redl_app.specs.Commands.Check.{checked, sound_text};
-ghost use Rattle.redl_app.specs.Reading.{Reads};
-ghost use Rattle.redl_app.specs.Views.{result_view, writing_view};
+ghost use Rattle.redl_inputs.specs.Reading.{Reads};
+ghost use Rattle.redl_app.specs.Views.{writing_view};
+ghost use Rattle.redl_inputs.specs.Views.{result_view};
 ghost use Rattle.redl_app.specs.Writing.{only_bytes};
 ghost use Rattle.redl_index.specs.Numbers.{package_revisions};
 
 use crate::output::{Output, Writing};
-use crate::package::{count_package, read_package};
+use redl_inputs::{count_package, read_package};
 use redl_lines::Failure;
 use redl_opc::Package;
 use std::alloc::{AllocError, Global};
@@ -21,9 +22,9 @@ pub(crate) fn check<'a, 'b>(alloc: Global, bytes: &'b [u8]) -> Result<Writing<'b
     Ok(count_revisions(alloc, package)?)
 }
 
-fn count_revisions(alloc: Global, read: Package) -> Result<Writing, AllocError>
-    ensures { IfOk result (λ writing. writing_view writing ≡ only_bytes (sound_text (package_revisions read.entry))) }
+fn count_revisions(alloc: Global, pkg: Package) -> Result<Writing, AllocError>
+    ensures { IfOk result (λ writing. writing_view writing ≡ only_bytes (sound_text (package_revisions pkg.entry))) }
 {
-    let counted = count_package(alloc, read)?;
+    let counted = count_package(alloc, pkg)?;
     Ok(Writing::only(alloc, Output::Count(counted.count)))
 }

@@ -2,15 +2,15 @@
 
 ghost use Rattle.std.specs.Prelude.{◌≡◌, All, IsUtf8};
 ghost use Rattle.redl_app.specs.Commands.Decide.{book_written, chosen_journal, with_choices};
-ghost use Rattle.redl_app.specs.Reading.{Reads, ReadsFiles};
-ghost use Rattle.redl_app.specs.Views.{admission_view, result_view, writing_view};
+ghost use Rattle.redl_inputs.specs.Reading.{Reads, ReadsFiles};
+ghost use Rattle.redl_app.specs.Views.{writing_view};
+ghost use Rattle.redl_inputs.specs.Views.{admission_view, result_view};
 ghost use Rattle.redl_journal.specs.Journals.{IsReviewer};
 ghost use Rattle.redl_words.specs.Views.{choices_view};
 
-use crate::admitted::Admitted;
 use crate::choices::choose_entries;
-use crate::open::open;
 use crate::output::{Output, Writing};
+use redl_inputs::{Admitted, open};
 use redl_io::{Shelf, Text};
 use redl_journal::Word;
 use redl_lines::{Cause, Failure};
@@ -31,7 +31,7 @@ pub(crate) fn decide<'a, 'b, F: Shelf>(
 ) -> Result<Writing<'b>, Failure<'a>>
     requires reviewer { IsReviewer reviewer.now }
     requires journals { All IsUtf8 journals.now }
-    ensures { ReadsFiles (F.told shelf.old) (F.told shelf.new) (F.faults shelf.old) (F.faults shelf.new) journals.now
+    ensures { ReadsFiles F.told F.faults shelf.old shelf.new journals.now
         (result_view writing_view result) (λ reader files. chosen_journal reader files reviewer.now locks.now journals.now (choices_view choices.now) bytes.now) }
 {
     let admitted = open(alloc, locks, journals, bytes, shelf)?;
@@ -66,7 +66,7 @@ fn write_book(admitted: Admitted) -> Writing
     let Admitted {
         document,
         session,
-        refused,
+        remarks,
     } = admitted;
     let mut document = document;
     Writing {
@@ -74,6 +74,6 @@ fn write_book(admitted: Admitted) -> Writing
             document: document.id(),
             book: session.into_book(),
         },
-        refused,
+        remarks,
     }
 }

@@ -2,18 +2,16 @@
 
 ghost use Rattle.std.specs.Prelude.{◌≡◌, ◌∷◌, [], All, IsUtf8, IfOk};
 ghost use Rattle.redl_app.specs.Commands.Join.{document_in, joined};
-ghost use Rattle.redl_app.specs.Reading.{ReadsFiles};
-ghost use Rattle.redl_app.specs.Views.{document_view, result_view, writing_view};
+ghost use Rattle.redl_inputs.specs.Reading.{ReadsFiles};
+ghost use Rattle.redl_app.specs.Views.{writing_view};
+ghost use Rattle.redl_inputs.specs.Views.{document_view, result_view};
 ghost use Rattle.redl_io.specs.Limits.{journal_bytes};
 ghost use Rattle.redl_join.specs.Books.{union};
 ghost use Rattle.redl_journal.specs.Journals.{IsAllowed};
 ghost use Rattle.redl_journal.specs.Views.{journal_of};
 
-use crate::JOURNALS_LIMIT;
-use crate::document::DocumentId;
-use crate::fetch::name_of;
-use crate::journals::{add_entries, join_journals, read_first};
 use crate::output::{Output, Writing};
+use redl_inputs::{DocumentId, JOURNALS_LIMIT, add_entries, join_journals, name_of, read_first};
 use redl_io::{Shelf, Text};
 use redl_join::Book;
 use redl_journal::Journal;
@@ -27,7 +25,7 @@ pub(crate) fn join<'a, 'b, F: Shelf>(
     shelf: &mut F,
 ) -> Result<Writing<'b>, Failure<'a>>
     requires { All IsUtf8 journals.now }
-    ensures { ReadsFiles (F.told shelf.old) (F.told shelf.new) (F.faults shelf.old) (F.faults shelf.new) journals.now
+    ensures { ReadsFiles F.told F.faults shelf.old shelf.new journals.now
         (result_view writing_view result) (λ reader files. joined reader files journal_bytes journals.now) }
 {
     match journals {
@@ -44,7 +42,7 @@ fn join_to<'a, 'b, F: Shelf>(
     shelf: &mut F,
 ) -> Result<Writing<'b>, Failure<'a>>
     requires { All IsUtf8 others.now }
-    ensures { ReadsFiles (F.told shelf.old) (F.told shelf.new) (F.faults shelf.old) (F.faults shelf.new) (name.now ∷ others.now)
+    ensures { ReadsFiles F.told F.faults shelf.old shelf.new (name.now ∷ others.now)
         (result_view writing_view result) (λ reader files. joined reader files journal_bytes (name.now ∷ others.now)) }
 {
     let (journal, size) = read_first(alloc, name, JOURNALS_LIMIT, shelf)?;

@@ -1,25 +1,24 @@
 //! `list P` with a format, journals and locked authors.
 
-ghost use Rattle.std.specs.Prelude.{◌≡◌, ◌<◌, [], false, length, slice_get, Some, All, IsUtf8, IfOk};
+ghost use Rattle.std.specs.Prelude.{◌≡◌, ◌<◌, length, slice_get, Ok, Some, All, IsUtf8, IfOk};
 ghost use Rattle.redl_app.specs.Commands.List.{listed, listing_named, part_names};
-ghost use Rattle.redl_app.specs.Formats.{LeavesFormats, formats_by};
-ghost use Rattle.redl_app.specs.Reading.{ReadsFiles, Reads};
-ghost use Rattle.redl_app.specs.Views.{admission_view, result_view, writing_view};
+ghost use Rattle.redl_app.specs.Formats.{AreFresh, LeavesFormats, format_named, formats_by, whether};
+ghost use Rattle.redl_inputs.specs.Reading.{ReadsFiles, Reads};
+ghost use Rattle.redl_app.specs.Views.{writing_view};
+ghost use Rattle.redl_inputs.specs.Views.{admission_view, result_view};
 ghost use Rattle.redl_app.specs.Writing.{outcome_of};
 ghost use Rattle.redl_listing.specs.Formats.{without_named};
 ghost use Rattle.redl_opc.specs.Shape.{parts_of};
 
-use crate::admitted::Admitted;
-use crate::open::open_package;
 use crate::output::{Output, Writing};
-use crate::package::read_package;
+use redl_inputs::{Admitted, open_package, read_package};
 use redl_io::{Shelf, Text};
-use redl_lines::{Cause, Failure};
+use redl_lines::Failure;
 use redl_listing::RowFormat;
 use redl_opc::Package;
 use std::alloc::{AllocError, Global};
 
-/// The listing of the package with this text, in the first format that has the name, under the joined verdicts of the journals
+/// The listing of the package with this text, in the first format that has the name and is there, under the joined verdicts of the journals
 /// of these names, with these locked authors. It takes that format out of the list.
 pub(crate) fn list<'a, 'b, F: Shelf>(
     alloc: Global,
@@ -31,11 +30,12 @@ pub(crate) fn list<'a, 'b, F: Shelf>(
     formats: &mut Vec<Box<dyn RowFormat>>,
 ) -> Result<Writing<'b>, Failure<'a>>
     requires utf8 { All IsUtf8 journals.now }
-    requires fresh { All (λ format. (is_closed format ≡ false) × (rows_so_far format ≡ [])) formats.old.items }
-    ensures read { ReadsFiles (F.told shelf.old) (F.told shelf.new) (F.faults shelf.old) (F.faults shelf.new) journals.now
-        (result_view writing_view result) (λ reader files. listed reader files (formats_by (λ format. format_name format) (λ format. text_for format) formats.old.items) name.now locks.now journals.now bytes.now) }
+    requires there { whether (format_named (formats_by format_name text_for formats.old.items) name.now) ≡ Ok tt }
+    requires fresh { AreFresh is_closed rows_so_far formats.old.items }
+    ensures read { ReadsFiles F.told F.faults shelf.old shelf.new journals.now
+        (result_view writing_view result) (λ reader files. listed reader files (formats_by format_name text_for formats.old.items) name.now locks.now journals.now bytes.now) }
     ensures formats { LeavesFormats (outcome_of (result_view writing_view result)).status
-        (without_named (λ format. format_name format) name.now formats.old.items) formats.old.items formats.new.items }
+        (without_named format_name name.now formats.old.items) formats.old.items formats.new.items }
 {
     let package = read_package(alloc, bytes)?;
     let names = part_names(alloc, &package)?;
@@ -75,27 +75,26 @@ fn list_revisions<'a, 'b>(
     requires names { parts.now ≡ part_names admitted.session.nodes }
     requires utf8 { All IsUtf8 parts.now }
     requires parts { All (λ revision. revision.part < length parts.now) admitted.session.revisions }
-    requires fresh { All (λ format. (is_closed format ≡ false) × (rows_so_far format ≡ [])) formats.old.items }
+    requires there { whether (format_named (formats_by format_name text_for formats.old.items) name.now) ≡ Ok tt }
+    requires fresh { AreFresh is_closed rows_so_far formats.old.items }
     ensures read { Reads (result_view writing_view result) (λ reader. listing_named
-        (formats_by (λ format. format_name format) (λ format. text_for format) formats.old.items) name.now (admission_view admitted.entry)) }
+        (formats_by format_name text_for formats.old.items) name.now (admission_view admitted.entry)) }
     ensures formats { LeavesFormats (outcome_of (result_view writing_view result)).status
-        (without_named (λ format. format_name format) name.now formats.old.items) formats.old.items formats.new.items }
+        (without_named format_name name.now formats.old.items) formats.old.items formats.new.items }
 {
     let Admitted {
         session,
-        refused,
+        remarks,
         ..
     } = admitted;
     let verdicts = session.verdicts()?;
     // The nodes go before the rows come, so that they aren't in memory together.
     let index = session.into_index();
     let mut made = Vec::new(alloc);
-    let found = redl_listing::list(alloc, formats, name, parts, &index, &verdicts, &mut made)?;
-    if !found {
-        return Err(Failure::Cause(Cause::NoFormat(name)));
-    }
+    // The format is there.
+    let _ = redl_listing::list(alloc, formats, name, parts, &index, &verdicts, &mut made)?;
     Ok(Writing {
         output: Output::Listing(made),
-        refused,
+        remarks,
     })
 }

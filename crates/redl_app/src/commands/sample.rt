@@ -1,18 +1,17 @@
 //! `sample N`.
 
 ghost use Rattle.std.specs.Prelude.{◌≡◌, ◌≤◌, [], None, IfOk};
-ghost use Rattle.redl_app.specs.Admission.{admission_with, no_admission};
+ghost use Rattle.redl_inputs.specs.Admission.{admission_with, no_admission};
 ghost use Rattle.redl_app.specs.Commands.Sample.{reviewers_entries, sampled, summarized, summary_of};
 ghost use Rattle.redl_app.specs.Commands.Write.{left_text};
-ghost use Rattle.redl_app.specs.Reading.{Reads};
-ghost use Rattle.redl_app.specs.Views.{admission_view, result_view, writing_view};
+ghost use Rattle.redl_inputs.specs.Reading.{Reads};
+ghost use Rattle.redl_app.specs.Views.{writing_view};
+ghost use Rattle.redl_inputs.specs.Views.{admission_view, result_view};
 ghost use Rattle.redl_rules.specs.Attributes.{broken_rule};
 
-use crate::admitted::Admitted;
 use crate::collected::Collected;
-use crate::open::start;
 use crate::output::{Output, Writing};
-use crate::package::read_package;
+use redl_inputs::{Admitted, read_package, start};
 use redl_lines::{Cause, Failure, Limit};
 use redl_opc::Package;
 use redl_sample::{SAMPLE_LIMIT, Summary, Tally, sample_journal, sample_package};
@@ -39,14 +38,14 @@ pub(crate) fn sample<'a, 'b>(alloc: Global, number: u32) -> Result<Writing<'b>, 
 fn summarize<'b, 'p>(
     alloc: Global,
     number: u32,
-    read: Package<'p>,
+    pkg: Package<'p>,
     bytes: &'p [u8],
 ) -> Result<Writing<'b>, AllocError>
     requires number { number ≤ SAMPLE_LIMIT }
-    requires sound { broken_rule read ≡ None }
-    ensures { IfOk result (λ writing. writing_view writing ≡ summarized number (no_admission bytes.now read.entry [])) }
+    requires sound { broken_rule pkg ≡ None }
+    ensures { IfOk result (λ writing. writing_view writing ≡ summarized number (no_admission bytes.now pkg.entry [])) }
 {
-    let begun = start(alloc, read, &[], bytes)?;
+    let begun = start(alloc, pkg, &[], bytes)?;
     let admitted = admit_reviewers(alloc, number, begun)?;
     let summary = summary_of(alloc, number, &admitted.session)?;
     Ok(Writing::only(alloc, Output::Summary(summary)))

@@ -2,12 +2,13 @@
 
 ghost use Rattle.std.specs.Prelude.{◌≡◌, IfOk};
 ghost use Rattle.redl_app.specs.Commands.Settle.{passed_text, same_says, settled, settling};
-ghost use Rattle.redl_app.specs.Reading.{Reads};
-ghost use Rattle.redl_app.specs.Views.{result_view, writing_view};
+ghost use Rattle.redl_inputs.specs.Reading.{Reads};
+ghost use Rattle.redl_app.specs.Views.{writing_view};
+ghost use Rattle.redl_inputs.specs.Views.{result_view};
 ghost use Rattle.redl_app.specs.Writing.{only_bytes};
 
 use crate::output::{Output, Writing};
-use crate::package::{count_package, pass_nodes, read_package};
+use redl_inputs::{count_package, pass_nodes, read_package};
 use redl_lines::Failure;
 use redl_opc::Package;
 use redl_tree::Say;
@@ -31,10 +32,10 @@ fn say_of(accept: bool) -> Say
     if accept { Say::Accept } else { Say::Reject }
 }
 
-fn settle_package(alloc: Global, say: Say, read: Package) -> Result<Writing, AllocError>
-    ensures { IfOk result (λ writing. writing_view writing ≡ only_bytes (passed_text (same_says say read.entry) read.entry)) }
+fn settle_package(alloc: Global, say: Say, pkg: Package) -> Result<Writing, AllocError>
+    ensures { IfOk result (λ writing. writing_view writing ≡ only_bytes (passed_text (same_says say pkg.entry) pkg.entry)) }
 {
-    let counted = count_package(alloc, read)?;
+    let counted = count_package(alloc, pkg)?;
     let says = vec![in alloc; say; counted.count as usize]?;
     let nodes = pass_nodes(alloc, counted.package, &says)?;
     Ok(Writing::only(alloc, Output::Package(nodes)))

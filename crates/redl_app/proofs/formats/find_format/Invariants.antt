@@ -1,6 +1,6 @@
 use Rattle.std.proofs.Common.{◌≡◌, drop}
 use Rattle.redl_listing.specs.Formats.{first_named}
-use Rattle.redl_app.proofs.commands.find_format.Given as goal
+use Rattle.redl_app.proofs.formats.find_format.Given as goal
 
 -- the first format with the name is among the rest
 abbrev pub invariant-loop-format : goal.invariant-loop-format

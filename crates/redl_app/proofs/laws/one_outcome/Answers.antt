@@ -1,4 +1,4 @@
-use Rattle.redl_app.proofs.ReaderLaws.{one_outcome}
+use Rattle.redl_app.proofs.OutcomeLaws.{one_outcome}
 use Rattle.redl_app.proofs.laws.one_outcome.Goals as goal
 
 pub returns : goal.returns

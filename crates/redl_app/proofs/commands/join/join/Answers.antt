@@ -1,6 +1,6 @@
 use Rattle.std.proofs.Common.{◌∷◌, ◌-◌, All, IsUtf8, length, take, drop, sym, ap, ◌∙◌, subst, arith}
 use Rattle.std.proofs.lemmas.List.Elements.{All-get_or, All-tail}
-use Rattle.redl_app.proofs.OpenLaws.{first_rest, joins_same, joins_nothing}
+use Rattle.redl_app.proofs.JoinLaws.{first_rest, joins_same, joins_nothing}
 use Rattle.redl_app.proofs.commands.join.join.Goals as goal
 
 pub name_of-requires : goal.name_of-requires
@@ -22,4 +22,4 @@ returns-in-len1-up g c =
     (ap (λ name. name ∷ rest) c.name_of.ensures ∙ first_rest journals first c.in-len1-up.len_at_least c.first-item.is) c.join_to.ensures
 
 pub returns-in-empty : goal.returns-in-empty
-returns-in-empty g c = joins_nothing _ _ c.args.journals.now (omega arith)
+returns-in-empty g c = joins_nothing _ c.args.journals.now (omega arith)

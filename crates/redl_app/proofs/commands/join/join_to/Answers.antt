@@ -1,9 +1,9 @@
 use Rattle.std.proofs.Common.{◌∷◌, [], Ok, ap, ◌∙◌}
 use Rattle.std.proofs.lemmas.List.Elements.{Contains-append_left, Contains-append_right}
 use Rattle.std.proofs.lemmas.Result.{err_from_is_err_and}
-use Rattle.redl_app.proofs.ReadLaws.{reads_then, reads_stops, reads_after}
+use Rattle.redl_inputs.proofs.ReadLaws.{reads_then, reads_stops, reads_after}
 use Rattle.redl_app.specs.Commands.Join.{document_in, book_text, union_of}
-use Rattle.redl_app.specs.Steps.{◌>>=◌}
+use Rattle.redl_inputs.specs.Steps.{◌>>=◌}
 use Rattle.redl_app.specs.Writing.{only_bytes}
 use Rattle.redl_io.specs.Limits.{journal_bytes}
 use Rattle.redl_journal.specs.Views.{journal_of}

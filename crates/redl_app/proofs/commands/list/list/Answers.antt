@@ -1,8 +1,8 @@
 use Rattle.std.proofs.Common.{◌∙◌, sym, subst, All, IsUtf8}
 use Rattle.std.proofs.lemmas.Result.{err_from_is_err_and}
 use Rattle.redl_app.proofs.PartNameLaws.{session_names, revisions_named}
-use Rattle.redl_app.proofs.ReadLaws.{reads_stops, reads_then_takes, takes_stops_reads, takes_then_reads}
-use Rattle.redl_app.specs.Admission.{opened_over}
+use Rattle.redl_inputs.proofs.ReadLaws.{reads_stops, reads_then_takes, takes_stops_reads, takes_then_reads}
+use Rattle.redl_inputs.specs.Admission.{opened_over}
 use Rattle.redl_app.specs.Commands.List.{listing_named}
 use Rattle.redl_app.specs.Formats.{formats_by}
 use Rattle.redl_app.proofs.commands.list.list.Goals as goal
@@ -13,7 +13,7 @@ returns-in_err-package-clause-read g c =
     let journals = c.args.journals.now in
     let formats = formats_by (λ b. (goal.RowFormat-dyn g (b.vtable, b.value)).format_name b.value) (λ b. (goal.RowFormat-dyn g (b.vtable, b.value)).text_for b.value) c.args.formats.now.items in
     rw (p.1, p.2) (reads_stops (λ admission reader files. listing_named formats c.args.name.now admission)
-    (takes_stops_reads (λ nodes reader files. opened_over reader files c.args.locks.now journals c.args.bytes.now nodes) _ _ journals c.in_err-package.ensures.read) (λ one h. h))
+    (takes_stops_reads (λ nodes reader files. opened_over reader files c.args.locks.now journals c.args.bytes.now nodes) _ journals c.in_err-package.ensures.read) (λ one h. h))
 
 pub returns-in_err-admitted-clause-read : goal.returns-in_err-admitted-clause-read
 returns-in_err-admitted-clause-read g c =

@@ -1,7 +1,6 @@
-use Rattle.std.proofs.Common.{◌∙◌, ap, sym, length, true, rules}
-use Rattle.redl_app.proofs.FormatLaws.{reads_listing, reads_no_listing, verdicts_for}
-use Rattle.redl_app.specs.Views.{admission_view}
-use Rattle.redl_listing.specs.Rows.{rows_of}
+use Rattle.std.proofs.Common.{◌∙◌, ap, sym, length}
+use Rattle.redl_app.proofs.FormatLaws.{reads_listing, verdicts_for}
+use Rattle.redl_inputs.specs.Views.{admission_view}
 use Rattle.redl_app.proofs.commands.list.list_revisions.Goals as goal
 
 pub list-requires-clause-verdicts : goal.list-requires-clause-verdicts
@@ -9,14 +8,8 @@ list-requires-clause-verdicts g c =
     let state = (admission_view c.args.admitted).state in
     verdicts_for state.book (length state.revisions) c.deref.result.now (c.deref.ensures.value ∙ c.in_ok-verdicts.ensures) ∙ sym (ap length c.into_index-index.ensures)
 
-pub returns-then-not-found-clause-read : goal.returns-then-not-found-clause-read
-returns-then-not-found-clause-read g c =
-    reads_no_listing (λ b. (goal.RowFormat-dyn g (b.vtable, b.value)).format_name b.value) (λ b. (goal.RowFormat-dyn g (b.vtable, b.value)).text_for b.value)
-    (λ b. (goal.RowFormat-dyn g (b.vtable, b.value)).text_for b.value (rows_of c.args.parts.now c.into_index-index.result c.deref.result.now) true)
-    c.args.name.now (admission_view c.args.admitted) c.args.formats.now.items c.in_ok-found.found c.list.new.made.items (search rules) c.in_ok-found.ensures.listed
-
 pub returns-clause-read : goal.returns-clause-read
 returns-clause-read g c =
     reads_listing (λ b. (goal.RowFormat-dyn g (b.vtable, b.value)).format_name b.value) (λ b. (goal.RowFormat-dyn g (b.vtable, b.value)).text_for b.value)
-    c.args.name.now (admission_view c.args.admitted) c.args.formats.now.items c.args.parts.now c.into_index-index.result c.deref.result.now c.in_ok-found.found c.list.new.made.items
-    c.requires.names c.into_index-index.ensures (c.deref.ensures.value ∙ c.in_ok-verdicts.ensures) (search rules) c.in_ok-found.ensures.listed
+    c.args.name.now (admission_view c.args.admitted) c.args.formats.now.items c.args.parts.now c.into_index-index.result c.deref.result.now c.in_ok-list.field-0 c.list.new.made.items
+    c.requires.names c.into_index-index.ensures (c.deref.ensures.value ∙ c.in_ok-verdicts.ensures) c.requires.there c.in_ok-list.ensures.listed

@@ -1,8 +1,8 @@
 use Rattle.std.proofs.Common.{◌≡◌, ap, sym, ◌∙◌, arith}
-use Rattle.redl_app.proofs.AdmissionLaws.{admits_in_steps}
+use Rattle.redl_inputs.proofs.AdmissionLaws.{admits_in_steps}
 use Rattle.redl_app.proofs.SampleLaws.{entries_more, first_entries}
-use Rattle.redl_app.specs.Admission.{admission_with}
-use Rattle.redl_app.specs.Views.{admission_view}
+use Rattle.redl_inputs.specs.Admission.{admission_with}
+use Rattle.redl_inputs.specs.Views.{admission_view}
 use Rattle.redl_journal.specs.Journals.{Journal}
 use Rattle.redl_sample.specs.Journals.{sample_journal}
 use Rattle.redl_app.proofs.commands.sample.admit_reviewers.Goals as goal

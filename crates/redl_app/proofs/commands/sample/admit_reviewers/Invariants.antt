@@ -1,7 +1,7 @@
 use Rattle.std.proofs.Common.{◌≡◌}
 use Rattle.redl_app.proofs.SampleLaws.{first_entries}
-use Rattle.redl_app.specs.Admission.{admission_with}
-use Rattle.redl_app.specs.Views.{admission_view}
+use Rattle.redl_inputs.specs.Admission.{admission_with}
+use Rattle.redl_inputs.specs.Views.{admission_view}
 use Rattle.redl_app.proofs.commands.sample.admit_reviewers.Given as goal
 
 -- the entries of the reviewers so far are admitted

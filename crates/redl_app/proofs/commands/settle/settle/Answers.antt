@@ -1,6 +1,6 @@
 use Rattle.std.proofs.Common.{Ok, ap, sym}
 use Rattle.std.proofs.lemmas.Result.{err_from_is_err_and}
-use Rattle.redl_app.proofs.ReadLaws.{takes_stops, takes_ok}
+use Rattle.redl_inputs.proofs.ReadLaws.{takes_stops, takes_ok}
 use Rattle.redl_app.specs.Commands.Settle.{passed_text, same_says, settling}
 use Rattle.redl_app.specs.Writing.{only_bytes}
 use Rattle.redl_app.proofs.commands.settle.settle.Goals as goal

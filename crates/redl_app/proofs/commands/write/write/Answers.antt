@@ -1,17 +1,17 @@
 use Rattle.std.proofs.Common.{Ok, ap, sym, ◌∙◌}
 use Rattle.std.proofs.lemmas.Result.{err_from_is_err_and}
-use Rattle.redl_app.proofs.ReadLaws.{reads_stops, reads_after}
-use Rattle.redl_app.specs.Commands.Write.{decided, written}
-use Rattle.redl_app.specs.Steps.{◌>>=◌}
+use Rattle.redl_inputs.proofs.ReadLaws.{reads_stops, reads_after}
+use Rattle.redl_app.specs.Commands.Write.{resolved, written}
+use Rattle.redl_inputs.specs.Steps.{◌>>=◌}
 use Rattle.redl_app.specs.Views.{writing_view}
 use Rattle.redl_app.proofs.commands.write.write.Goals as goal
 
 pub returns-in_err-admitted : goal.returns-in_err-admitted
 returns-in_err-admitted g c =
     let p = err_from_is_err_and c.from_residual.result c.from_residual.ensures.1 in
-    rw (p.1, p.2) (reads_stops (λ admission reader files. Ok (decided admission)) c.in_err-admitted.ensures (λ one h. h))
+    rw (p.1, p.2) (reads_stops (λ admission reader files. Ok (resolved admission)) c.in_err-admitted.ensures (λ one h. h))
 
 pub returns : goal.returns
 returns g c =
-    reads_after (Ok (writing_view c.in_ok-decide.field-0)) (λ reader files. written reader files c.args.locks.now c.args.journals.now c.args.bytes.now) c.in_ok-admitted.ensures tt
-    (λ reader files is read. ap (λ made. made >>= (λ admission. Ok (decided admission))) read ∙ ap Ok (sym c.in_ok-decide.ensures))
+    reads_after (Ok (writing_view c.in_ok-resolve.field-0)) (λ reader files. written reader files c.args.locks.now c.args.journals.now c.args.bytes.now) c.in_ok-admitted.ensures tt
+    (λ reader files is read. ap (λ made. made >>= (λ admission. Ok (resolved admission))) read ∙ ap Ok (sym c.in_ok-resolve.ensures))

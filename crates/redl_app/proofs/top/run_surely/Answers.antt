@@ -1,0 +1,8 @@
+use Rattle.std.proofs.Common.{inl, refl}
+use Rattle.redl_app.proofs.TopLaws.{answered_surely, never_rose}
+use Rattle.redl_io.specs.MemShelf.{file_named}
+use Rattle.redl_app.proofs.top.run_surely.Goals as goal
+
+pub returns : goal.returns
+returns g c = λ reader is.
+    answered_surely c.run.result _ _ _ never_rose never_rose (c.run.ensures.status (file_named c.args.shelf.now) reader is (inl refl))

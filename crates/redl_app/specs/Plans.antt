@@ -1,0 +1,97 @@
+-- The plan of each command: what it makes and of which package, its journals and locks, its format, and what it decides.
+use Rattle.std.specs.Prelude.{ℕ, Bool, List, [], ◌∷◌, ◌++◌, Option, None, Some, Result, Ok, Err}
+use Rattle.redl_app.specs.Commands.Check.{checked}
+use Rattle.redl_app.specs.Commands.Decide.{chosen_journal}
+use Rattle.redl_app.specs.Commands.Join.{joined}
+use Rattle.redl_app.specs.Commands.List.{listed}
+use Rattle.redl_app.specs.Commands.Sample.{sampled}
+use Rattle.redl_app.specs.Commands.Settle.{settled}
+use Rattle.redl_app.specs.Commands.Write.{written}
+use Rattle.redl_app.specs.Formats.{Format}
+use Rattle.redl_app.specs.Writing.{Writing}
+use Rattle.redl_inputs.specs.Packages.{package_file}
+use Rattle.redl_inputs.specs.Readers.{Reader}
+use Rattle.redl_inputs.specs.Steps.{◌>>=◌}
+use Rattle.redl_io.specs.Limits.{journal_bytes}
+use Rattle.redl_io.specs.Shelf.{Files}
+use Rattle.redl_lines.specs.Failures.{Failure, no_memory}
+use Rattle.redl_words.specs.Commands.{Command, settle, list, write, decide, join, check, sample}
+
+-- what a command makes
+pub data Making : Type 0 where
+  -- what is made of the text of the package of this name
+  of_package : List ℕ → (Reader → Files → List Format → List ℕ → Result Writing Failure) → Making
+  -- what is made without a package
+  of_no_package : (Reader → Files → Result Writing Failure) → Making
+
+-- what a command decides on the revisions of its package
+pub data Deciding : Type 0 where
+  nothing : Deciding
+  -- accept for all, or else reject for all
+  all_of_them : Bool → Deciding
+  -- the verdicts of its journals, with its locked authors
+  by_verdicts : Deciding
+
+-- what a command makes and of which package, the names of its journals, its locked authors, the name of the format that it
+-- asks for, and what it decides
+pub record Plan : Type 0 where
+  pub makes : Making
+  pub journals : List (List ℕ)
+  pub locks : List (List ℕ)
+  pub format : Option (List ℕ)
+  pub decides : Deciding
+
+-- a command that has no more than this
+abbrev pub only : Making → Plan
+only making = record { makes = making; journals = []; locks = []; format = None; decides = nothing }
+
+-- the plan of each command
+abbrev pub plan : Command → Plan
+plan (settle accept p) = record (only (of_package p (λ reader files formats whole. settled reader accept whole))) {
+  decides = all_of_them accept;
+}
+plan (list p name locks journals) = record (only (of_package p (λ reader files formats whole. listed reader files formats name locks journals whole))) {
+  journals = journals;
+  locks = locks;
+  format = Some name;
+}
+plan (write p locks journals) = record (only (of_package p (λ reader files formats whole. written reader files locks journals whole))) {
+  journals = journals;
+  locks = locks;
+  decides = by_verdicts;
+}
+plan (decide p reviewer journals locks choices) =
+    record (only (of_package p (λ reader files formats whole. chosen_journal reader files reviewer locks journals choices whole))) {
+      journals = journals;
+      locks = locks;
+    }
+plan (join journals) = record (only (of_no_package (λ reader files. joined reader files journal_bytes journals))) {
+  journals = journals;
+}
+plan (check p) = only (of_package p (λ reader files formats whole. checked reader whole))
+plan (sample number) = only (of_no_package (λ reader files. sampled reader number))
+
+-- ---- the package
+
+-- the name of the package of which something is made
+abbrev pub package_of : Making → Option (List ℕ)
+package_of (of_package p make) = Some p
+package_of (of_no_package make) = None
+
+-- what is made: first the package's text is read, if there is a package
+abbrev pub made_by : Reader → Files → List Format → Making → Result Writing Failure
+made_by reader files formats (of_package p make) = package_file files p >>= make reader files formats
+made_by reader files formats (of_no_package make) = make reader files
+
+-- the package's text is there exactly if there is a package
+abbrev pub IsTextFor : Making → Option (List ℕ) → Type 0
+IsTextFor (of_package p make) (Some whole) = Unit {0}
+IsTextFor (of_package p make) None = ⊥
+IsTextFor (of_no_package make) (Some whole) = ⊥
+IsTextFor (of_no_package make) None = Unit {0}
+
+-- what is made where the package has this text; a text that is missing makes nothing
+abbrev pub made_with : Reader → Files → List Format → Making → Option (List ℕ) → Result Writing Failure
+made_with reader files formats (of_package p make) (Some whole) = make reader files formats whole
+made_with reader files formats (of_package p make) None = Err no_memory
+made_with reader files formats (of_no_package make) text = make reader files

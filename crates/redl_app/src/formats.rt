@@ -1,0 +1,34 @@
+//! The format that a command asks for.
+
+ghost use Rattle.std.specs.Prelude.{◌≡◌};
+ghost use Rattle.std.specs.Option.{option_copied};
+ghost use Rattle.redl_app.specs.Formats.{format_named, formats_by, has_format, whether};
+ghost use Rattle.redl_inputs.specs.Views.{result_view};
+
+use redl_lines::{Cause, Failure};
+use redl_listing::{RowFormat, has_name};
+
+/// Whether there is a format of this name, if one is asked for.
+pub(crate) fn check_format<'a>(
+    asked: Option<&'a str>,
+    formats: &[Box<dyn RowFormat>],
+) -> Result<(), Failure<'a>>
+    ensures { result_view (λ _. tt) result ≡ has_format (formats_by format_name text_for formats.now) (option_copied asked.entry) }
+{
+    match asked {
+        Some(name) => find_format(name, formats),
+        None => Ok(()),
+    }
+}
+
+// Whether there is a format of this name.
+fn find_format<'a>(name: &'a str, formats: &[Box<dyn RowFormat>]) -> Result<(), Failure<'a>>
+    ensures { result_view (λ _. tt) result ≡ whether (format_named (formats_by format_name text_for formats.now) name.now) }
+{
+    for format in formats {
+        if has_name(format, name) {
+            return Ok(());
+        }
+    }
+    Err(Failure::Cause(Cause::NoFormat(name)))
+}

@@ -1,0 +1,36 @@
+//! What a command names, by its plan.
+
+ghost use Rattle.std.specs.Prelude.{◌≡◌};
+ghost use Rattle.std.specs.Option.{option_copied};
+ghost use Rattle.redl_app.specs.Plans.{package_of, plan};
+ghost use Rattle.redl_words.specs.Commands.{HasUtf8};
+ghost use Rattle.redl_words.specs.Views.{command_of};
+
+use redl_inputs::name_of;
+use redl_words::Command;
+
+/// The name of the command's package, if it has one.
+pub(crate) fn package(command: &Command) -> Option<&str>
+    requires { HasUtf8 (command_of command.now) }
+    ensures { option_copied result ≡ package_of (plan (command_of command.now)).makes }
+{
+    match command {
+        Command::Settle { package, .. }
+        | Command::List { package, .. }
+        | Command::Write { package, .. }
+        | Command::Decide { package, .. }
+        | Command::Check { package } => Some(name_of(package)),
+        Command::Join { .. } | Command::Sample { .. } => None,
+    }
+}
+
+/// The name of the format that the command asks for, if it asks for one.
+pub(crate) fn format(command: &Command) -> Option<&str>
+    requires { HasUtf8 (command_of command.now) }
+    ensures { option_copied result ≡ (plan (command_of command.now)).format }
+{
+    match command {
+        Command::List { format, .. } => Some(name_of(format)),
+        _ => None,
+    }
+}

@@ -1,0 +1,11 @@
+pub mod StepLaws
+pub mod FetchLaws
+pub mod ReadLaws
+pub mod NameLaws
+pub mod JournalLaws
+pub mod GatherLaws
+pub mod AdmissionLaws
+pub mod OpenLaws
+pub mod PackageLaws
+pub mod ReaderLaws
+pub mod AnyOrder

@@ -1,0 +1,21 @@
+use Rattle.std.proofs.Common.{◌∙◌, ap, sym}
+use Rattle.std.proofs.lemmas.Bool.{eqb-true}
+use Rattle.std.proofs.lemmas.List.{nil_from_length}
+use Rattle.redl_inputs.proofs.OpenLaws.{opens, opens_nothing}
+use Rattle.redl_inputs.specs.Journals.{DocumentId}
+use Rattle.redl_inputs.specs.Views.{admission_view}
+use Rattle.redl_io.specs.Limits.{journal_bytes}
+use Rattle.redl_inputs.proofs.sessions.open_package.Goals as goal
+
+pub returns-then-is_empty-clause-read : goal.returns-then-is_empty-clause-read
+returns-then-is_empty-clause-read g c =
+    opens_nothing _ journal_bytes _ _ c.args.journals.now (nil_from_length _ (eqb-true _ _ (sym c.is_empty.ensures ∙ c.if-is_empty.true)))
+    c.in_ok-started.ensures
+
+pub admit_journals-requires-clause-document : goal.admit_journals-requires-clause-document
+admit_journals-requires-clause-document g c = c.id-document.ensures.id ∙ sym c.id-document.ensures.same
+
+pub returns-clause-read : goal.returns-clause-read
+returns-clause-read g c =
+    let same = ap (λ (document : DocumentId). record (admission_view c.in_ok-started.started) { document = document }) c.id-document.ensures.same in
+    opens journal_bytes _ _ (same ∙ c.in_ok-started.ensures) c.admit_journals.ensures.read

@@ -1,0 +1,118 @@
+//! The package of a text: its parts with their numbers, or why it is refused, and what a pass leaves of it.
+
+ghost use Rattle.std.specs.Prelude.{◌≡◌, ◌<◌, None, IfOk, length};
+ghost use Rattle.redl_inputs.specs.Packages.{tree_in, shaped, sound, package_in};
+ghost use Rattle.redl_inputs.specs.Reading.{Reads};
+ghost use Rattle.redl_inputs.specs.Views.{result_view};
+ghost use Rattle.redl_index.specs.Numbers.{numbered_package, package_revisions};
+ghost use Rattle.redl_index.specs.Revisions.{revisions_of};
+ghost use Rattle.redl_tree.specs.Model.Tree.{IsTree};
+ghost use Rattle.redl_rules.specs.Attributes.{broken_rule};
+ghost use Rattle.redl_tree.specs.Decisions.Packages.{pass_package};
+ghost use Rattle.redl_tree.specs.Model.View.{nodes_of};
+
+use redl_index::{Index, number};
+use redl_lines::Failure;
+use redl_opc::Package;
+use redl_resolve::{Steps, into_passed};
+use redl_rules::check;
+use redl_tree::{Node, Say};
+use std::alloc::{AllocError, Global};
+use std::marker::Brand;
+use std::sync::ledger::{Blank, Ledger};
+
+/// The package with this text.
+pub fn read_package<'a, 'b>(alloc: Global, bytes: &'b [u8]) -> Result<Package<'b>, Failure<'a>>
+    ensures read { Reads (result_view (λ made. made) result) (λ reader. package_in reader bytes.now) }
+    ensures sound { IfOk result (λ made. broken_rule made ≡ None) }
+{
+    let nodes = read_nodes(alloc, bytes)?;
+    let package = shape(alloc, nodes)?;
+    check_rules(alloc, &package)?;
+    Ok(package)
+}
+
+// The tree of this text.
+fn read_nodes<'a, 'b>(alloc: Global, bytes: &'b [u8]) -> Result<Vec<Node<'b>>, Failure<'a>>
+    ensures read { Reads (result_view (λ nodes. nodes_of nodes.items) result) (λ reader. tree_in (reader.tree bytes.now)) }
+    ensures tree { IfOk result (λ nodes. IsTree (nodes_of nodes.items)) }
+{
+    Ok(redl_xml::read(alloc, bytes)?)
+}
+
+// The package that the nodes are.
+fn shape<'a, 'b>(alloc: Global, nodes: Vec<Node<'b>>) -> Result<Package<'b>, Failure<'a>>
+    requires { IsTree (nodes_of nodes.items) }
+    ensures { Reads (result_view (λ made. made) result) (λ _. shaped (nodes_of nodes.entry.items)) }
+{
+    Ok(Package::make(alloc, nodes)?)
+}
+
+// Whether the package keeps the rules of structure.
+fn check_rules<'a>(alloc: Global, package: &Package) -> Result<(), Failure<'a>>
+    ensures read { Reads (result_view (λ _. «package».now) result) (λ _. sound «package».now) }
+    ensures sound { IfOk result (λ _. broken_rule «package».now ≡ None) }
+{
+    Ok(check(alloc, package)?)
+}
+
+/// A package with the kinds and numbers of its revisions, and the revisions.
+#[derive(Drop)]
+pub struct Numbered<'b> {
+    pub package: Package<'b>,
+    pub index: Index,
+}
+
+/// A package with the kinds and numbers of its revisions, and how many these are.
+#[derive(Drop)]
+pub struct Counted<'b> {
+    pub package: Package<'b>,
+    pub count: u32,
+}
+
+/// The package with its numbers.
+pub fn number_package(alloc: Global, pkg: Package) -> Result<Numbered, AllocError>
+    ensures numbered { IfOk result (λ made. made.«package» ≡ numbered_package pkg.entry) }
+    ensures index { IfOk result (λ made. made.index ≡ revisions_of pkg.entry) }
+    ensures count { IfOk result (λ made. length made.index ≡ package_revisions pkg.entry) }
+{
+    let mut package = pkg;
+    let index = Index::build(alloc, &mut package)?;
+    Ok(Numbered { package, index })
+}
+
+/// The package with its numbers, where its revisions are only counted.
+pub fn count_package(alloc: Global, pkg: Package) -> Result<Counted, AllocError>
+    ensures numbered { IfOk result (λ made. made.«package» ≡ numbered_package pkg.entry) }
+    ensures count { IfOk result (λ made. made.count ≡ package_revisions pkg.entry) }
+{
+    let mut package = pkg;
+    let count = number(alloc, &mut package)?;
+    Ok(Counted { package, count })
+}
+
+/// What is left of a numbered package. Its own nodes go while it is made.
+pub fn pass_nodes<'b>(
+    alloc: Global,
+    package: Package<'b>,
+    says: &[Say],
+) -> Result<Vec<Node<'b>>, AllocError>
+    ensures { IfOk result (λ passed. nodes_of passed.items ≡ pass_package says.now «package».entry) }
+{
+    pass_counted::<Brand>(alloc, package.into_nodes(), says, Blank::new(1))
+}
+
+// The pass with a counter of its own, which nobody reads.
+fn pass_counted<'b, L: Ledger>(
+    alloc: Global,
+    nodes: Vec<Node<'b>>,
+    says: &[Say],
+    blank: Blank,
+) -> Result<Vec<Node<'b>>, AllocError>
+    requires name { blank.name ≡ L.name }
+    requires parts { blank.parts ≡ L.parts }
+    requires some { 0 < L.parts }
+    ensures { IfOk result (λ passed. nodes_of passed.items ≡ pass_package says.now (nodes_of nodes.entry.items)) }
+{
+    into_passed(alloc, nodes, says, &mut Steps::<L>::new(blank))
+}

@@ -1,0 +1,99 @@
+//! A session over a package, with the entries of journals.
+
+ghost use Rattle.std.specs.Prelude.{◌≡◌, None, All, IsUtf8, IfOk};
+ghost use Rattle.redl_inputs.specs.Admission.{no_admission, opened, opened_over};
+ghost use Rattle.redl_inputs.specs.Reading.{ReadsFiles};
+ghost use Rattle.redl_inputs.specs.Views.{admission_view, result_view};
+ghost use Rattle.redl_index.specs.Numbers.{numbered_package};
+ghost use Rattle.redl_index.specs.Revisions.{revisions_of};
+ghost use Rattle.redl_rules.specs.Attributes.{broken_rule};
+
+use crate::JOURNALS_LIMIT;
+use crate::admitted::Admitted;
+use crate::document::{Document, LazyDigest};
+use crate::idle::idle_locks;
+use crate::journals::admit_journals;
+use crate::package::{number_package, read_package};
+use redl_io::{Shelf, Text};
+use redl_lines::{Failure, RefusedEntries, Remarks};
+use redl_opc::Package;
+use redl_session::{Locks, Session};
+use std::alloc::{AllocError, Global};
+
+/// A session over the package with this text, with the entries of the journals of these names and with these locked authors.
+pub fn open<'a, 'b, F: Shelf>(
+    alloc: Global,
+    locks: &[Text],
+    journals: &'a [Text],
+    bytes: &'b [u8],
+    shelf: &mut F,
+) -> Result<Admitted<'b>, Failure<'a>>
+    requires { All IsUtf8 journals.now }
+    ensures { ReadsFiles F.told F.faults shelf.old shelf.new journals.now
+        (result_view admission_view result) (λ reader files. opened reader files locks.now journals.now bytes.now) }
+{
+    let package = read_package(alloc, bytes)?;
+    open_package(alloc, package, locks, journals, bytes, shelf)
+}
+
+/// A session over this package, which has this text, with the entries of the journals of these names and with these locked
+/// authors.
+pub fn open_package<'a, 'b, F: Shelf>(
+    alloc: Global,
+    package: Package<'b>,
+    locks: &[Text],
+    journals: &'a [Text],
+    bytes: &'b [u8],
+    shelf: &mut F,
+) -> Result<Admitted<'b>, Failure<'a>>
+    requires utf8 { All IsUtf8 journals.now }
+    requires sound { broken_rule «package» ≡ None }
+    ensures read { ReadsFiles F.told F.faults shelf.old shelf.new journals.now
+        (result_view admission_view result) (λ reader files. opened_over reader files locks.now journals.now bytes.now «package».entry) }
+    ensures nodes { IfOk result (λ admitted. admitted.session.nodes ≡ numbered_package «package».entry) }
+    ensures revisions { IfOk result (λ admitted. admitted.session.revisions ≡ revisions_of «package».entry) }
+{
+    let mut started = start(alloc, package, locks, bytes)?;
+    if journals.is_empty() {
+        return Ok(started);
+    }
+    let document = started.document.id();
+    admit_journals(alloc, document, journals, JOURNALS_LIMIT, started, shelf)
+}
+
+/// A session over this package, which has this text, before any entry.
+pub fn start<'b>(
+    alloc: Global,
+    pkg: Package<'b>,
+    locks: &[Text],
+    bytes: &'b [u8],
+) -> Result<Admitted<'b>, AllocError>
+    requires { broken_rule pkg ≡ None }
+    ensures { IfOk result (λ started. admission_view started ≡ no_admission bytes.now pkg.entry locks.now) }
+{
+    let numbered = number_package(alloc, pkg)?;
+    let count = numbered.index.count();
+    let idle = idle_locks(alloc, &numbered.index, locks)?;
+    let locks = Locks::new(copy_texts(alloc, locks)?);
+    Ok(Admitted {
+        document: Document {
+            digest: LazyDigest::Of(bytes),
+            count,
+        },
+        session: Session::start(alloc, numbered.package, numbered.index, locks)?,
+        remarks: Remarks {
+            refused: RefusedEntries::new(alloc),
+            idle,
+        },
+    })
+}
+
+fn copy_texts(alloc: Global, texts: &[Text]) -> Result<Vec<Text>, AllocError>
+    ensures { IfOk result (λ copies. copies.items ≡ texts.now) }
+{
+    let mut copies = Vec::with_capacity(alloc, texts.len())?;
+    for text in texts {
+        copies.push(text.copy(alloc)?)?;
+    }
+    Ok(copies)
+}
