@@ -1,9 +1,10 @@
 //! What nobody may decide.
-ghost use Rattle.std.specs.Prelude.{◌≡◌};
+ghost use Rattle.std.specs.Prelude.{◌≡◌, IfOk};
 
 use crate::chosen::is_within;
 use redl_index::{RevKind, Revision};
 use redl_io::Text;
+use std::alloc::{AllocError, Global};
 
 /// A lock on revisions of a package, which nobody decides then.
 #[derive(Drop)]
@@ -19,6 +20,17 @@ pub enum Lock {
 
 impl Lock {
     ghost use Rattle.redl_select.specs.Locks.{holds, is_author, is_kind};
+
+    /// An equal lock. `Err` means out of memory.
+    pub fn copy(&self, alloc: Global) -> Result<Lock, AllocError>
+        ensures { IfOk result (λ lock. lock ≡ self.now) }
+    {
+        match self {
+            Lock::Author(name) => Ok(Lock::Author(name.copy(alloc)?)),
+            Lock::Kind(kind) => Ok(Lock::Kind(*kind)),
+            Lock::Span(start, end) => Ok(Lock::Span(*start, *end)),
+        }
+    }
 
     /// Whether it is a lock on the revisions of an author.
     pub fn is_on_author(&self) -> bool
