@@ -37,7 +37,7 @@ end_status (written remarks) = written_status remarks.refused
 end_status (unwritten remarks) = status.WriteFault
 end_status (failed failure) = failure_status failure
 
--- a line for each refused entry, and then one for each locked author by whom there is no revision
+-- a line for each refused entry, and then one for each lock that holds nothing
 abbrev pub remark_lines : Remarks → List ℕ
 remark_lines remarks = flat_map refused_line remarks.refused ++ flat_map idle_line remarks.idle
 

@@ -1,5 +1,5 @@
 -- The lines on standard error.
-use Rattle.std.specs.Prelude.{ℕ, List, [], ◌∷◌, ◌++◌, codes, decimal}
+use Rattle.std.specs.Prelude.{ℕ, ◌==◌, List, [], ◌∷◌, ◌++◌, codes, decimal, if◌then◌else◌}
 use Rattle.hex.specs.Hex.{encode_lower}
 use Rattle.redl_io.specs.Limits.{package_bytes, journal_bytes, depth, nodes}
 use Rattle.redl_journal.specs.declared.entry.Entry.{Entry}
@@ -9,8 +9,12 @@ use Rattle.redl_lines.specs.declared.failure.Limit.{Limit}
 use Rattle.redl_lines.specs.declared.failure.Limit.TheVariants.{PackageBytes, JournalBytes, Depth, Nodes, Sample}
 use Rattle.redl_lines.specs.declared.failure.PackageFault.{PackageFault}
 use Rattle.redl_lines.specs.declared.failure.PackageFault.TheVariants.{NotReadable, NotPackage, PartShape, NoDocument, Rule}
+use Rattle.redl_select.specs.declared.lock.Lock.{Lock}
+use Rattle.redl_select.specs.declared.lock.Lock.TheVariants as lock
 use Rattle.redl_session.specs.declared.refusal.AdmitError.{AdmitError}
 use Rattle.redl_session.specs.declared.refusal.AdmitError.TheVariants.{Unknown, Locked, NoMemory}
+use Rattle.redl_session.specs.declared.refusal.Bar.{Bar}
+use Rattle.redl_session.specs.declared.refusal.Bar.TheVariants.{Author, Kind, Span}
 
 abbrev pub newline : List ℕ
 newline = 10 ∷ []
@@ -93,25 +97,39 @@ unwritten_line = codes "redline: cannot write" ++ newline
 
 -- ---- refused entries
 
+-- what bars a revision, in words
+abbrev pub bar_text : Bar → List ℕ
+bar_text Author = codes "locked author"
+bar_text Kind = codes "locked kind"
+bar_text Span = codes "locked span"
+
 -- why an entry is refused, in words
 abbrev pub why_text : AdmitError → List ℕ
 why_text Unknown = codes "unknown revision"
-why_text Locked = codes "locked author"
+why_text (Locked bar) = bar_text bar
 why_text NoMemory = codes "out of memory"
 
--- the line of an entry: its seq, its revision, its word, its reviewer, and why it is refused
-abbrev pub entry_line : List ℕ → List ℕ → List ℕ → List ℕ → List ℕ → List ℕ
-entry_line seq rev word reviewer why =
-    codes "redline: refused " ++ (seq ++ (codes " " ++ (rev ++ (codes " " ++ (word ++ (codes " "
-    ++ (reviewer ++ (codes ": " ++ (why ++ newline)))))))))
+-- the seq, the revision and the word of a refused entry
+abbrev pub decision_text : List ℕ → List ℕ → List ℕ → List ℕ
+decision_text seq rev word = codes "redline: refused " ++ (seq ++ (codes " " ++ (rev ++ (codes " " ++ word))))
+
+-- its rank, which is said where it is not 0
+abbrev pub ranked_text : ℕ → List ℕ
+ranked_text rank = if rank == 0 then [] else codes " rank " ++ decimal rank
+
+-- its reviewer, and why it is refused
+abbrev pub cause_text : List ℕ → List ℕ → List ℕ
+cause_text reviewer why = codes " " ++ (reviewer ++ (codes ": " ++ (why ++ newline)))
 
 -- the line of a refused entry, with its cause
 abbrev pub refused_line : Entry × AdmitError → List ℕ
 refused_line (entry, why) =
-    entry_line (decimal entry.seq) (decimal entry.rev) (word_text entry.word) entry.reviewer (why_text why)
+    decision_text (decimal entry.seq) (decimal entry.rev) (word_text entry.word) ++ (ranked_text entry.rank ++ cause_text entry.reviewer (why_text why))
 
 -- ---- locks
 
--- the line of a lock on this author, by whom there is no revision
-abbrev pub idle_line : List ℕ → List ℕ
-idle_line author = codes "redline: note: nothing by " ++ (author ++ (codes " is locked" ++ newline))
+-- the line of a lock that holds no revision
+abbrev pub idle_line : Lock → List ℕ
+idle_line (lock.Author name) = codes "redline: note: nothing by " ++ (name ++ (codes " is locked" ++ newline))
+idle_line (lock.Kind of_kind) = codes "redline: note: a lock on a kind holds nothing" ++ newline
+idle_line (lock.Span start end) = codes "redline: note: a lock on a span holds nothing" ++ newline

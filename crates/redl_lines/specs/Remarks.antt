@@ -1,12 +1,13 @@
 -- What a call says beside its output.
-use Rattle.std.specs.Prelude.{ℕ, List, []}
+use Rattle.std.specs.Prelude.{List, []}
 use Rattle.redl_lines.specs.Refused.{RefusedEntries}
 use Rattle.redl_lines.specs.declared.remarks.Remarks.{Remarks as Declared}
+use Rattle.redl_select.specs.declared.lock.Lock.{Lock}
 
--- the refused entries with their causes, and the locked authors by whom there is no revision
+-- the refused entries with their causes, and the locks that hold nothing
 pub record Remarks : Type 0 where
   pub refused : RefusedEntries
-  pub idle : List (List ℕ)
+  pub idle : List Lock
 
 abbrev pub no_remarks : Remarks
 no_remarks = record { refused = []; idle = [] }

@@ -1,10 +1,10 @@
 //! The lines of each end on standard error.
 
-ghost use Rattle.std.specs.Prelude.{◌≡◌, OnOk, OnErr};
+ghost use Rattle.std.specs.Prelude.{◌≡◌, ◌++◌, codes, decimal, OnOk, OnErr};
 ghost use Rattle.std.specs.Io.KnownBytes.{append_known};
 ghost use Rattle.std.specs.List.{flat_map};
 ghost use Rattle.redl_lines.specs.Ends.{Tells, end_lines, end_view, remark_lines};
-ghost use Rattle.redl_lines.specs.Lines.{idle_line, refused_line, entry_line, why_text as why_text_of};
+ghost use Rattle.redl_lines.specs.Lines.{cause_text, decision_text, idle_line, ranked_text, refused_line, bar_text as bar_text_of, why_text as why_text_of};
 ghost use Rattle.redl_lines.specs.Remarks.{remarks_view};
 ghost use Rattle.redl_io.specs.Sink.{Puts, GrowsByFront, CountsPut};
 ghost use Rattle.redl_journal.specs.Journals.{word_text};
@@ -14,9 +14,10 @@ use crate::end::End;
 use crate::refused::RefusedEntries;
 use crate::remarks::Remarks;
 use itoa::Buffer;
-use redl_io::{Failed, Sink, Staged, Text, put_piece, put_pieces};
+use redl_io::{Failed, Sink, Staged, put_piece, put_pieces};
 use redl_journal::{Entry, Word};
-use redl_session::AdmitError;
+use redl_select::Lock;
+use redl_session::{AdmitError, Bar};
 
 /// Writes the lines of a call that ends so. A fault of `err` only shortens them.
 pub fn tell<E: Sink>(end: &End<'_>, err: &mut E)
@@ -71,28 +72,32 @@ fn write_refused<K: Sink>(refused: &RefusedEntries, err: &mut K) -> Result<(), F
 fn write_entry<K: Sink>(entry: &Entry, why: AdmitError, err: &mut K) -> Result<(), Failed>
     ensures { Puts K.told K.faults K.settled K.lenders err.old err.new (refused_line (entry.now, why)) result }
 {
-    let mut seq = Buffer::new();
-    let mut rev = Buffer::new();
-    write_fields(
-        seq.format(entry.seq),
-        rev.format(entry.rev),
-        word(entry.word),
-        entry.reviewer.as_bytes(),
-        why_text(why),
+    write_decision(entry.seq, entry.rev, entry.word, err)?;
+    write_rank(entry.rank, err)?;
+    write_cause(entry.reviewer.as_bytes(), why_text(why), err)
+}
+
+// The seq, the revision and the word of a refused entry.
+fn write_decision<K: Sink>(seq: u32, rev: u32, decision: Word, err: &mut K) -> Result<(), Failed>
+    ensures { Puts K.told K.faults K.settled K.lenders err.old err.new (decision_text (decimal seq) (decimal rev) (word_text decision)) result }
+{
+    let mut seq_digits = Buffer::new();
+    let mut rev_digits = Buffer::new();
+    write_numbers(
+        seq_digits.format(seq),
+        rev_digits.format(rev),
+        word(decision),
         err,
     )
 }
 
-// The line of an entry with these fields.
-fn write_fields<'a, K: Sink>(
+fn write_numbers<'a, K: Sink>(
     seq: &'a str,
     rev: &'a str,
     word: &'a [u8],
-    reviewer: &'a [u8],
-    why: &'a [u8],
     err: &mut K,
 ) -> Result<(), Failed>
-    ensures { Puts K.told K.faults K.settled K.lenders err.old err.new (entry_line seq.now rev.now word.now reviewer.now why.now) result }
+    ensures { Puts K.told K.faults K.settled K.lenders err.old err.new (decision_text seq.now rev.now word.now) result }
 {
     put_pieces(
         &[
@@ -102,28 +107,57 @@ fn write_fields<'a, K: Sink>(
             rev.as_bytes(),
             b" ",
             word,
-            b" ",
-            reviewer,
-            b": ",
-            why,
-            b"\n",
         ],
         err,
     )
 }
 
-// A line for each locked author by whom there is no revision.
-fn write_idle<K: Sink>(idle: &[Text], err: &mut K) -> Result<(), Failed>
+// The rank of a refused entry, where it is not 0.
+fn write_rank<K: Sink>(rank: u8, err: &mut K) -> Result<(), Failed>
+    ensures { Puts K.told K.faults K.settled K.lenders err.old err.new (ranked_text rank) result }
+{
+    if rank == 0 {
+        return Ok(());
+    }
+    let mut digits = Buffer::new();
+    write_digits(digits.format(u32::from(rank)), err)
+}
+
+fn write_digits<K: Sink>(rank: &str, err: &mut K) -> Result<(), Failed>
+    ensures { Puts K.told K.faults K.settled K.lenders err.old err.new (codes " rank " ++ rank.now) result }
+{
+    put_pieces(&[b" rank ".as_slice(), rank.as_bytes()], err)
+}
+
+// The reviewer of a refused entry, and why it was refused.
+fn write_cause<'a, K: Sink>(reviewer: &'a [u8], why: &'a [u8], err: &mut K) -> Result<(), Failed>
+    ensures { Puts K.told K.faults K.settled K.lenders err.old err.new (cause_text reviewer.now why.now) result }
+{
+    put_pieces(&[b" ".as_slice(), reviewer, b": ", why, b"\n"], err)
+}
+
+// A line for each lock that holds nothing.
+fn write_idle<K: Sink>(idle: &[Lock], err: &mut K) -> Result<(), Failed>
     ensures { Puts K.told K.faults K.settled K.lenders err.old err.new (flat_map idle_line idle.now) result }
 {
-    for author in idle {
-        write_idle_author(author.as_bytes(), err)?;
+    for lock in idle {
+        write_idle_lock(lock, err)?;
     }
     Ok(())
 }
 
+fn write_idle_lock<K: Sink>(lock: &Lock, err: &mut K) -> Result<(), Failed>
+    ensures { Puts K.told K.faults K.settled K.lenders err.old err.new (idle_line lock.now) result }
+{
+    match lock {
+        Lock::Author(name) => write_idle_author(name.as_bytes(), err),
+        Lock::Kind(_) => put_piece(b"redline: note: a lock on a kind holds nothing\n", err),
+        Lock::Span(..) => put_piece(b"redline: note: a lock on a span holds nothing\n", err),
+    }
+}
+
 fn write_idle_author<K: Sink>(author: &[u8], err: &mut K) -> Result<(), Failed>
-    ensures { Puts K.told K.faults K.settled K.lenders err.old err.new (idle_line author.now) result }
+    ensures { Puts K.told K.faults K.settled K.lenders err.old err.new (idle_line (Lock.Author author.now)) result }
 {
     put_pieces(
         &[
@@ -152,7 +186,18 @@ fn why_text(why: AdmitError) -> &'static [u8]
 {
     match why {
         AdmitError::Unknown => b"unknown revision",
-        AdmitError::Locked => b"locked author",
+        AdmitError::Locked(bar) => bar_text(bar),
         AdmitError::NoMemory => b"out of memory",
+    }
+}
+
+// What bars a revision.
+fn bar_text(bar: Bar) -> &'static [u8]
+    ensures { result.now ≡ bar_text_of bar }
+{
+    match bar {
+        Bar::Author => b"locked author",
+        Bar::Kind => b"locked kind",
+        Bar::Span => b"locked span",
     }
 }

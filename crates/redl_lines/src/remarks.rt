@@ -4,7 +4,7 @@ ghost use Rattle.std.specs.Prelude.{◌≡◌};
 ghost use Rattle.redl_lines.specs.Remarks.{no_remarks, remarks_view};
 
 use crate::refused::RefusedEntries;
-use redl_io::Text;
+use redl_select::Lock;
 use std::alloc::Global;
 
 /// What a call says beside its output.
@@ -12,8 +12,8 @@ use std::alloc::Global;
 pub struct Remarks {
     /// The entries that it refused, with their causes.
     pub refused: RefusedEntries,
-    /// The locked authors by whom the package has no revision, in the order of the words.
-    pub idle: Vec<Text>,
+    /// The locks that hold no revision of the package, in the order of the words.
+    pub idle: Vec<Lock>,
 }
 
 impl Remarks {

@@ -1,9 +1,11 @@
 //! Tests of what no clause says: each end with its exit status and its lines, by hand.
 
+use redl_index::RevKind;
 use redl_io::{MemSink, Text};
 use redl_journal::{Entry, read};
 use redl_lines::{Cause, End, Failure, Limit, PackageFault, RefusedEntries, Remarks, tell};
-use redl_session::{AdmitError, Refusal};
+use redl_select::Lock;
+use redl_session::{AdmitError, Bar, Refusal};
 use std::alloc::{AllocError, Global};
 use std::test::Fail;
 
@@ -111,7 +113,7 @@ fn what_the_outside_forces_has_its_status_and_line(rt: HostRuntime) -> Result<()
 }
 
 const HEAD: &[u8] =
-    b"redline-journal 1\ndocument e3b0c44298fc1c149afbf4c8996fb92427ae41e4649b934ca495991b7852b855\nrevisions 3\n";
+    b"redline-journal 2\ndocument e3b0c44298fc1c149afbf4c8996fb92427ae41e4649b934ca495991b7852b855\nrevisions 3\n";
 
 // The text of a journal with these lines.
 fn journal(alloc: Global, lines: &str) -> Result<Vec<u8>, AllocError> {
@@ -120,7 +122,8 @@ fn journal(alloc: Global, lines: &str) -> Result<Vec<u8>, AllocError> {
     Ok(text)
 }
 
-// The entries with these lines, which a package refused that has the revisions 1 and 2, both of a locked author.
+// The entries with these lines, which a package refused that has the revisions 1 to 3: a lock holds the first by its author, the
+// second by its kind, and the third by its span.
 fn refused(alloc: Global, lines: &str) -> Result<RefusedEntries, Fail> {
     let text = journal(alloc, lines)?;
     let mut refused = RefusedEntries::new(alloc);
@@ -133,7 +136,9 @@ fn refused(alloc: Global, lines: &str) -> Result<RefusedEntries, Fail> {
 
 fn why(entry: &Entry) -> AdmitError {
     match entry.rev {
-        1 | 2 => AdmitError::Locked,
+        1 => AdmitError::Locked(Bar::Author),
+        2 => AdmitError::Locked(Bar::Kind),
+        3 => AdmitError::Locked(Bar::Span),
         _ => AdmitError::Unknown,
     }
 }
@@ -164,14 +169,19 @@ fn a_refused_entry_has_a_line_with_its_cause(rt: HostRuntime) -> Result<(), Fail
     for (entries, code, lines) in [
         ("", 0, ""),
         (
-            "1\t0\twithdraw\tAnn Gray\n",
+            "1\t0\twithdraw\t0\tAnn Gray\n",
             1,
             "redline: refused 1 0 withdraw Ann Gray: unknown revision\n",
         ),
         (
-            "2\t3\taccept\tBob\n1\t1\treject\tBob\n7\t2\taccept\tAnn\n",
+            "2\t4\taccept\t0\tBob\n1\t1\treject\t0\tBob\n7\t2\taccept\t0\tAnn\n",
             1,
-            "redline: refused 7 2 accept Ann: locked author\nredline: refused 1 1 reject Bob: locked author\nredline: refused 2 3 accept Bob: unknown revision\n",
+            "redline: refused 7 2 accept Ann: locked kind\nredline: refused 1 1 reject Bob: locked author\nredline: refused 2 4 accept Bob: unknown revision\n",
+        ),
+        (
+            "1\t9\taccept\t1\tAnn\n1\t3\treject\t9\tAnn\n1\t3\treject\t0\tAnn\n",
+            1,
+            "redline: refused 1 3 reject Ann: locked span\nredline: refused 1 3 reject rank 9 Ann: locked span\nredline: refused 1 9 accept rank 1 Ann: unknown revision\n",
         ),
     ] {
         let same = tells_refused(rt.alloc(), entries, true, code, lines)?;
@@ -185,8 +195,8 @@ fn a_failed_output_is_told_last(rt: HostRuntime) -> Result<(), Fail> {
     for (entries, lines) in [
         ("", "redline: cannot write\n"),
         (
-            "1\t2\taccept\tAnn\n",
-            "redline: refused 1 2 accept Ann: locked author\nredline: cannot write\n",
+            "1\t1\taccept\t0\tAnn\n",
+            "redline: refused 1 1 accept Ann: locked author\nredline: cannot write\n",
         ),
     ] {
         let same = tells_refused(rt.alloc(), entries, false, 6, lines)?;
@@ -195,11 +205,13 @@ fn a_failed_output_is_told_last(rt: HostRuntime) -> Result<(), Fail> {
     Ok(())
 }
 
-// The remarks on locks on two authors by whom there is no revision.
+// The remarks on locks on an author, a span and a kind, which hold nothing.
 fn idle(alloc: Global) -> Result<Remarks, AllocError> {
     let mut remarks = Remarks::none(alloc);
-    remarks.idle.push(Text::copy_of(alloc, b"Dana Fox")?)?;
-    remarks.idle.push(Text::copy_of(alloc, b"Ann")?)?;
+    let author = Text::copy_of(alloc, b"Dana Fox")?;
+    remarks.idle.push(Lock::Author(author))?;
+    remarks.idle.push(Lock::Span(0, 1))?;
+    remarks.idle.push(Lock::Kind(RevKind::Move))?;
     Ok(remarks)
 }
 
@@ -207,7 +219,7 @@ fn idle(alloc: Global) -> Result<Remarks, AllocError> {
 fn a_lock_that_holds_nothing_has_a_line(rt: HostRuntime) -> Result<(), Fail> {
     let end = End::Written(idle(rt.alloc())?);
     let lines =
-        "redline: note: nothing by Dana Fox is locked\nredline: note: nothing by Ann is locked\n";
+        "redline: note: nothing by Dana Fox is locked\nredline: note: a lock on a span holds nothing\nredline: note: a lock on a kind holds nothing\n";
     assert!(rt; ends_with(rt.alloc(), &end, 0, lines)?);
     Ok(())
 }
