@@ -13,6 +13,7 @@ use Rattle.redl_join.specs.Books.{union}
 use Rattle.redl_journal.specs.declared.entry.Entry.{Entry}
 use Rattle.redl_lines.proofs.RefusedLaws.{with_refusals-append}
 use Rattle.redl_lines.specs.Refused.{RefusedEntries, with_refusals}
+use Rattle.redl_select.specs.declared.lock.Lock.{Lock}
 use Rattle.redl_session.specs.Refusals.{admitted, cause_of, refusal_of, refusals}
 use Rattle.redl_session.specs.Sessions.{State}
 use Rattle.redl_session.specs.declared.refusal.Refusal.{Refusal}
@@ -21,13 +22,13 @@ use Rattle.sha2.specs.Sha256.{sha256}
 
 -- ---- lists of entries
 
-admitted-append : (revisions : List Revision) (locks : List (List ℕ)) (first more book : List Entry)
+admitted-append : (revisions : List Revision) (locks : List Lock) (first more book : List Entry)
     → union (union book (admitted revisions locks first)) (admitted revisions locks more) ≡ union book (admitted revisions locks (first ++ more))
 admitted-append revisions locks first more book =
     let test : Entry → Bool = λ entry. is_none (cause_of revisions locks entry) in
     sym (union-append book (filter test first) (filter test more)) ∙ ap (union book) (sym (filter-append test first more))
 
-refusals-append : (revisions : List Revision) (locks : List (List ℕ)) (first more : List Entry) (before : RefusedEntries)
+refusals-append : (revisions : List Revision) (locks : List Lock) (first more : List Entry) (before : RefusedEntries)
     → with_refusals (with_refusals before (refusals revisions locks first)) (refusals revisions locks more) ≡ with_refusals before (refusals revisions locks (first ++ more))
 refusals-append revisions locks first more before =
     sym (with_refusals-append before (refusals revisions locks first) (refusals revisions locks more))
@@ -49,7 +50,7 @@ pub admits_nothing : (before : Admission) → admission_with before [] ≡ befor
 admits_nothing before = refl
 
 -- an admission of these parts
-abbrev pub with_parts : DocumentId → State → RefusedEntries → List (List ℕ) → Admission
+abbrev pub with_parts : DocumentId → State → RefusedEntries → List Lock → Admission
 with_parts document state refused idle = record { document = document; state = state; remarks = record { refused = refused; idle = idle } }
 
 -- a session after these entries, and the refusals that it gave
@@ -69,7 +70,7 @@ on_ok (Ok x) step h = step h
 on_ok (Err e) step h = h
 
 -- a session over a package, before any entry
-pub starts : (whole : List ℕ) (pkg : Nodes) (locks : List (List ℕ)) (nodes : Nodes) (revisions : List Revision) (held : List (List ℕ)) (state : State) (refused : RefusedEntries) (idle : List (List ℕ)) (count : ℕ)
+pub starts : (whole : List ℕ) (pkg : Nodes) (locks : List Lock) (nodes : Nodes) (revisions : List Revision) (held : List Lock) (state : State) (refused : RefusedEntries) (idle : List Lock) (count : ℕ)
     → state ≡ record { nodes = nodes; revisions = revisions; locks = held; book = [] } → nodes ≡ numbered_package pkg → revisions ≡ revisions_of pkg → held ≡ locks
     → refused ≡ [] → idle ≡ idle_locks revisions locks → count ≡ package_revisions pkg → let document : DocumentId = record { digest = sha256 whole; count = count } in with_parts document state refused idle ≡ no_admission whole pkg locks
 starts whole pkg locks nodes revisions held state refused idle count is of_nodes of_revisions of_locks none idly counted =

@@ -21,6 +21,7 @@ use Rattle.redl_lines.specs.Failures.{Failure, caused, over}
 use Rattle.redl_lines.specs.Refused.{with_refusals}
 use Rattle.redl_lines.specs.declared.failure.Limit.{Limit}
 use Rattle.redl_lines.specs.declared.failure.Limit.TheVariants.{JournalBytes}
+use Rattle.redl_select.specs.declared.lock.Lock.{Lock}
 use Rattle.redl_session.specs.Refusals.{admitted, cause_of, refused, refusals}
 use Rattle.redl_session.specs.declared.refusal.AdmitError.{AdmitError}
 use Rattle.redl_session.specs.declared.refusal.AdmitError.TheVariants.{Unknown}
@@ -147,10 +148,10 @@ why_of None = Unknown
 why_of (Some why) = why
 
 -- an entry with its cause
-abbrev with_why : List Revision → List (List ℕ) → Entry → Entry × AdmitError
+abbrev with_why : List Revision → List Lock → Entry → Entry × AdmitError
 with_why revisions locks entry = (entry, why_of (cause_of revisions locks entry))
 
-insert_with_why : (revisions : List Revision) (locks : List (List ℕ)) (book : List Entry) (entry : Entry)
+insert_with_why : (revisions : List Revision) (locks : List Lock) (book : List Entry) (entry : Entry)
     → insert_entry entry_order (map (with_why revisions locks) book) entry (why_of (cause_of revisions locks entry)) ≡ map (with_why revisions locks) (with_entry book entry)
 insert_with_why revisions locks [] entry = refl
 insert_with_why revisions locks (first ∷ book) entry = by (entry_order entry first) refl (insert_with_why revisions locks book entry)
@@ -168,7 +169,7 @@ insert_with_why revisions locks (first ∷ book) entry = by (entry_order entry f
     by Greater is rest = ap (λ more. with_why revisions locks first ∷ more) rest
 
 -- the refused entries with their causes are those of the set of refused entries
-refusals_of_union : (revisions : List Revision) (locks : List (List ℕ)) (entries book : List Entry)
+refusals_of_union : (revisions : List Revision) (locks : List Lock) (entries book : List Entry)
     → with_refusals (map (with_why revisions locks) book) (refusals revisions locks entries) ≡ map (with_why revisions locks) (union book (refused revisions locks entries))
 refusals_of_union revisions locks [] book = refl
 refusals_of_union revisions locks (entry ∷ entries) book = by (cause_of revisions locks entry) refl (refusals_of_union revisions locks entries)
@@ -192,7 +193,7 @@ filtered_same test entries others same =
     (λ q. has_entry-filter test entries q ∙ ap (λ (b : Bool). test q && b) (has_entry-same entries others same q) ∙ sym (has_entry-filter test others q))
 
 -- lists with the same entries come to the same admission
-pub admits_same : (whole : List ℕ) (nodes : Nodes) (locks : List (List ℕ)) (entries others : List Entry) → ((entry : Entry) → Contains entries entry ↔ Contains others entry)
+pub admits_same : (whole : List ℕ) (nodes : Nodes) (locks : List Lock) (entries others : List Entry) → ((entry : Entry) → Contains entries entry ↔ Contains others entry)
     → admission_with (no_admission whole nodes locks) entries ≡ admission_with (no_admission whole nodes locks) others
 admits_same whole nodes locks entries others same =
     let before = no_admission whole nodes locks in
@@ -207,7 +208,7 @@ admits_same whole nodes locks entries others same =
 -- ---- a session over a package
 
 -- Journals in any order and with repeats come to one admission, where their bytes are within the limit both times.
-pub opens_same : (reader : Reader) (files : Files) (locks names others : List (List ℕ)) (whole : List ℕ) (one other : Admission) → AreSame names others
+pub opens_same : (reader : Reader) (files : Files) (locks : List Lock) (names others : List (List ℕ)) (whole : List ℕ) (one other : Admission) → AreSame names others
     → opened reader files locks names whole ≡ Ok one → opened reader files locks others whole ≡ Ok other → one ≡ other
 opens_same reader files locks names others whole one other same is too =
     let read = both_ok (package_in reader whole) (λ nodes. opened_over reader files locks names whole nodes) one is in

@@ -14,19 +14,20 @@ use Rattle.redl_journal.specs.declared.entry.Entry.{Entry}
 use Rattle.redl_lines.specs.Refused.{with_refusals}
 use Rattle.redl_lines.specs.Remarks.{Remarks}
 use Rattle.redl_lines.specs.Failures.{Failure}
+use Rattle.redl_select.specs.declared.lock.Lock.{Lock}
 use Rattle.redl_session.specs.Refusals.{admitted, refusals}
 use Rattle.redl_session.specs.Sessions.{State}
 use Rattle.redl_tree.specs.Model.Nodes.{Nodes}
 
 -- A session over a package, the package as its journals know it, and what there is to remark: the entries that the session
--- refused, with their causes, and the locked authors by whom there is no revision.
+-- refused, with their causes, and the locks that hold nothing.
 pub record Admission : Type 0 where
   pub document : DocumentId
   pub state : State
   pub remarks : Remarks
 
--- a session over the package with this text and these nodes, with these locked authors, before any entry
-abbrev pub no_admission : List ℕ → Nodes → List (List ℕ) → Admission
+-- a session over the package with this text and these nodes, with these locks, before any entry
+abbrev pub no_admission : List ℕ → Nodes → List Lock → Admission
 no_admission whole nodes locks = record {
   document = document_of whole nodes;
   state = record { nodes = numbered_package nodes; revisions = revisions_of nodes; locks = locks; book = [] };
@@ -46,13 +47,13 @@ admission_of reader files before most names = do
   entries ← gathered reader files before.document most names
   Ok (admission_with before entries)
 
--- A session over the package with this text and these nodes, with these locked authors, and what becomes of the entries of
+-- A session over the package with this text and these nodes, with these locks, and what becomes of the entries of
 -- the journals of these names.
-abbrev pub opened_over : Reader → Files → List (List ℕ) → List (List ℕ) → List ℕ → Nodes → Result Admission Failure
+abbrev pub opened_over : Reader → Files → List Lock → List (List ℕ) → List ℕ → Nodes → Result Admission Failure
 opened_over reader files locks journals whole nodes = admission_of reader files (no_admission whole nodes locks) journal_bytes journals
 
 -- the same over the package with this text
-abbrev pub opened : Reader → Files → List (List ℕ) → List (List ℕ) → List ℕ → Result Admission Failure
+abbrev pub opened : Reader → Files → List Lock → List (List ℕ) → List ℕ → Result Admission Failure
 opened reader files locks journals whole = do
   nodes ← package_in reader whole
   opened_over reader files locks journals whole nodes

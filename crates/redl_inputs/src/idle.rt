@@ -1,34 +1,32 @@
 //! Locks that hold nothing.
 
 ghost use Rattle.std.specs.Prelude.{◌≡◌, IfOk};
-ghost use Rattle.redl_inputs.specs.Idle.{idle_locks as idle_locks_of, is_by_author};
+ghost use Rattle.redl_inputs.specs.Idle.{idle_locks as idle_locks_of, holds_some as holds_some_of};
 
 use redl_index::{Index, Revision};
-use redl_io::Text;
+use redl_select::Lock;
 use std::alloc::{AllocError, Global};
 
-/// Copies of the locked authors by whom no revision is, in their order.
+/// Copies of the locks that hold no revision, in their order.
 pub(crate) fn idle_locks(
     alloc: Global,
     index: &Index,
-    locks: &[Text],
-) -> Result<Vec<Text>, AllocError>
+    locks: &[Lock],
+) -> Result<Vec<Lock>, AllocError>
     ensures { IfOk result (λ idle. idle.items ≡ idle_locks_of index.now locks.now) }
 {
     let mut idle = Vec::new(alloc);
-    for author in locks {
-        if !is_by(index.revisions(), author.as_bytes()) {
-            idle.push(author.copy(alloc)?)?;
+    for lock in locks {
+        if !holds_some(index.revisions(), lock) {
+            idle.push(lock.copy(alloc)?)?;
         }
     }
     Ok(idle)
 }
 
-// Whether some revision is by this author.
-fn is_by(revisions: &[Revision], author: &[u8]) -> bool
-    ensures { result ≡ is_by_author revisions.now author.now }
+// Whether the lock holds some revision.
+fn holds_some(revisions: &[Revision], lock: &Lock) -> bool
+    ensures { result ≡ holds_some_of revisions.now lock.now }
 {
-    revisions
-        .iter()
-        .any(|revision| revision.author.as_bytes() == author)
+    revisions.iter().any(|revision| lock.holds(revision))
 }

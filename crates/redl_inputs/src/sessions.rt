@@ -17,13 +17,14 @@ use crate::package::{number_package, read_package};
 use redl_io::{Shelf, Text};
 use redl_lines::{Failure, RefusedEntries, Remarks};
 use redl_opc::Package;
+use redl_select::Lock;
 use redl_session::{Locks, Session};
 use std::alloc::{AllocError, Global};
 
-/// A session over the package with this text, with the entries of the journals of these names and with these locked authors.
+/// A session over the package with this text, with the entries of the journals of these names and with these locks.
 pub fn open<'a, 'b, F: Shelf>(
     alloc: Global,
-    locks: &[Text],
+    locks: &[Lock],
     journals: &'a [Text],
     bytes: &'b [u8],
     shelf: &mut F,
@@ -36,12 +37,12 @@ pub fn open<'a, 'b, F: Shelf>(
     open_package(alloc, package, locks, journals, bytes, shelf)
 }
 
-/// A session over this package, which has this text, with the entries of the journals of these names and with these locked
-/// authors.
+/// A session over this package, which has this text, with the entries of the journals of these names and with these
+/// locks.
 pub fn open_package<'a, 'b, F: Shelf>(
     alloc: Global,
     package: Package<'b>,
-    locks: &[Text],
+    locks: &[Lock],
     journals: &'a [Text],
     bytes: &'b [u8],
     shelf: &mut F,
@@ -65,7 +66,7 @@ pub fn open_package<'a, 'b, F: Shelf>(
 pub fn start<'b>(
     alloc: Global,
     pkg: Package<'b>,
-    locks: &[Text],
+    locks: &[Lock],
     bytes: &'b [u8],
 ) -> Result<Admitted<'b>, AllocError>
     requires { broken_rule pkg ≡ None }
@@ -74,7 +75,7 @@ pub fn start<'b>(
     let numbered = number_package(alloc, pkg)?;
     let count = numbered.index.count();
     let idle = idle_locks(alloc, &numbered.index, locks)?;
-    let locks = Locks::new(copy_texts(alloc, locks)?);
+    let locks = Locks::new(copy_locks(alloc, locks)?);
     Ok(Admitted {
         document: Document {
             digest: LazyDigest::Of(bytes),
@@ -88,12 +89,12 @@ pub fn start<'b>(
     })
 }
 
-fn copy_texts(alloc: Global, texts: &[Text]) -> Result<Vec<Text>, AllocError>
-    ensures { IfOk result (λ copies. copies.items ≡ texts.now) }
+fn copy_locks(alloc: Global, locks: &[Lock]) -> Result<Vec<Lock>, AllocError>
+    ensures { IfOk result (λ copies. copies.items ≡ locks.now) }
 {
-    let mut copies = Vec::with_capacity(alloc, texts.len())?;
-    for text in texts {
-        copies.push(text.copy(alloc)?)?;
+    let mut copies = Vec::with_capacity(alloc, locks.len())?;
+    for lock in locks {
+        copies.push(lock.copy(alloc)?)?;
     }
     Ok(copies)
 }

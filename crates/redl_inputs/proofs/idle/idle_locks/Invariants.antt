@@ -2,6 +2,6 @@ use Rattle.std.proofs.Common.{◌≡◌, take}
 use Rattle.redl_inputs.specs.Idle.{idle_locks}
 use Rattle.redl_inputs.proofs.idle.idle_locks.Given as goal
 
--- those of the first authors
-abbrev pub invariant-loop-author : goal.invariant-loop-author
-invariant-loop-author l = l.idle.items ≡ idle_locks l.index (take l.author-index l.locks)
+-- those of the first locks
+abbrev pub invariant-loop-lock : goal.invariant-loop-lock
+invariant-loop-lock l = l.idle.items ≡ idle_locks l.index (take l.lock-index l.locks)

@@ -19,5 +19,5 @@ start-requires c =
 pub returns : goal.returns
 returns c =
     starts c.args.bytes.now c.args.pkg c.args.locks.now c.in_ok-numbered.numbered.«package» c.in_ok-numbered.numbered.index c.new-locks.result c.in_ok-start.field-0 c.new.result c.in_ok-idle.idle.items c.count-count.result
-    c.in_ok-start.ensures c.in_ok-numbered.ensures.numbered c.in_ok-numbered.ensures.index (c.new-locks.ensures ∙ c.in_ok-copy_texts.ensures)
+    c.in_ok-start.ensures c.in_ok-numbered.ensures.numbered c.in_ok-numbered.ensures.index (c.new-locks.ensures ∙ c.in_ok-copy_locks.ensures)
     c.new.ensures c.in_ok-idle.ensures (c.count-count.ensures ∙ c.in_ok-numbered.ensures.count)
