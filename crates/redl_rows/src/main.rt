@@ -8,6 +8,7 @@
 //! - `P: <w:p/>`: the body of the package, which is a document with this one part
 //! - `text: ..`: the whole text of the package, in place of a body
 //! - `J: 1 1 accept Ann; 2 1 withdraw Ann`: the entries of the journal `J`: sequence number, revision, word, reviewer
+//! - `J ranked: 1 1 accept 2 Ann`: the same in version 2, with the rank before the reviewer
 //! - `J text: ..`: the whole text of the journal `J`, in place of its entries
 //! - `revisions: 2`: the number of revisions that the journals tell; without it they tell the right one
 //! - `again: check P`: the words of a second call, for which what the first one wrote is the package

@@ -88,26 +88,31 @@ fn file_of(
     if let Some(text) = field(row, format!(in alloc; "{name} text")?.as_str()) {
         return Ok(Some(spell_out(alloc, text)?));
     }
+    if let Some(entries) = field(row, format!(in alloc; "{name} ranked")?.as_str()) {
+        return Ok(Some(journal_of(alloc, row, package, 2, entries)?));
+    }
     match field(row, name) {
-        Some(entries) => Ok(Some(journal_of(alloc, row, package, entries)?)),
+        Some(entries) => Ok(Some(journal_of(alloc, row, package, 1, entries)?)),
         None => Ok(None),
     }
 }
 
-// A journal of the package with these entries.
+// A journal of the package with these entries. In version 2 an entry has a rank before its reviewer.
 fn journal_of(
     alloc: Global,
     row: &str,
     package: &[u8],
+    version: u8,
     entries: &str,
 ) -> Result<String, AllocError> {
     let digest = digest_of(alloc, package)?;
     let revisions = revisions_of(alloc, row, package)?;
     let mut journal = format!(in alloc;
-        "redline-journal 1\ndocument {digest}\nrevisions {revisions}\n"
+        "redline-journal {version}\ndocument {digest}\nrevisions {revisions}\n"
     )?;
+    let tabs = if version == 2 { 4 } else { 3 };
     for entry in entries.split("; ").filter(|entry| !entry.is_empty()) {
-        journal.push_str(entry.replacen(alloc, " ", "\t", 3)?.as_str())?;
+        journal.push_str(entry.replacen(alloc, " ", "\t", tabs)?.as_str())?;
         journal.push('\n')?;
     }
     Ok(journal)
