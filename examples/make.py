@@ -178,6 +178,18 @@ def make_contract(folder):
     of_cara = [number for number, it in enumerate(read.revisions, 1) if it.author == "Cara Lee"]
     book, _ = reading.decide(read, "Ann Gray", CONTRACT_SAYS["ann"], [("accept", of_cara), ("withdraw", [5])])
     folder.save("contract.decided.journal", reading.journal(read, book))
+    make_ranks(folder, read, entries)
+
+
+def make_ranks(folder, read, entries):
+    """A partner decides what Ann and Bob dispute, with a rank; and the contract under locks of three sorts."""
+    ranked, _ = reading.decide(read, "Pat Stone", [], [("reject", [32, 33])], rank=2)
+    folder.save("contract.pat.journal", reading.journal(read, ranked))
+    folder.save("contract.ranked.text", reading.listed(read, entries + ranked, "text"))
+    folder.save("contract.ranked.journal", reading.journal(read, reading.in_order(entries + ranked)))
+    locks = [("author", LOCKED), ("kind", "del"), ("span", reading.moment("2026-11-04T00:00:00Z"), reading.moment("2026-11-05T00:00:00Z"))]
+    folder.save("contract.locks.xml", reading.written(read, entries + ranked, locks))
+    folder.save("contract.locks.lines", reading.refused_lines(read, entries + ranked, locks))
 
 
 def make_round(folder):

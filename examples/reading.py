@@ -11,6 +11,7 @@ import hashlib
 import json
 import re
 import sys
+import typing
 
 W = {
     "http://schemas.openxmlformats.org/wordprocessingml/2006/main",
@@ -473,26 +474,46 @@ def fate_of(element, says):
 WORDS = ["accept", "reject", "withdraw"]
 
 
+class Entry(typing.NamedTuple):
+    reviewer: str
+    sequence: int
+    revision: int
+    word: str
+    rank: int = 0
+
+
 def in_order(entries):
-    """A set of entries (reviewer, sequence, revision, word), in the order of entries."""
-    return sorted(set(entries), key=lambda it: (it[0].encode(), it[1], it[2], WORDS.index(it[3])))
+    """A set of entries, each an Entry or its values, in the order of entries."""
+    return sorted({Entry(*entry) for entry in entries}, key=lambda it: (it.reviewer.encode(), it.sequence, it.revision, WORDS.index(it.word), it.rank))
 
 
 def verdict(number, entries):
     """accept, reject, disputed or open."""
-    here = [entry for entry in set(entries) if entry[2] == number]
+    here = [entry for entry in in_order(entries) if entry.revision == number]
     latest = {}
-    for who, sequence, _, _ in here:
-        latest[who] = max(sequence, latest.get(who, 0))
-    words = {word for who, sequence, _, word in here if sequence == latest[who]} - {"withdraw"}
+    for entry in here:
+        latest[entry.reviewer] = max(entry.sequence, latest.get(entry.reviewer, 0))
+    last = [entry for entry in here if entry.sequence == latest[entry.reviewer] and entry.word != "withdraw"]
+    words = {entry.word for entry in last if entry.rank == max(it.rank for it in last)}
     return "open" if not words else words.pop() if len(words) == 1 else "disputed"
 
 
+def holds(revision, lock):
+    """Whether a lock holds a revision: ("author", NAME), ("kind", NAME), or ("span", FROM, TO) in seconds."""
+    if lock[0] == "span":
+        return revision.date is not None and lock[1] <= revision.date < lock[2]
+    return lock[1] == (revision.author if lock[0] == "author" else revision.kind)
+
+
 def refusal(package, entry, locks):
-    """Why an entry is refused, or None."""
-    if not 1 <= entry[2] <= len(package.revisions):
+    """Why an entry is refused, or None. A lock that is only a name is one on an author."""
+    entry = Entry(*entry)
+    locks = [("author", lock) if isinstance(lock, str) else lock for lock in locks]
+    if not 1 <= entry.revision <= len(package.revisions):
         return "unknown revision"
-    return "locked author" if package.revisions[entry[2] - 1].author in locks else None
+    revision = package.revisions[entry.revision - 1]
+    bars = [bar for bar in ("author", "kind", "span") if any(lock[0] == bar and holds(revision, lock) for lock in locks)]
+    return "locked " + bars[0] if bars else None
 
 
 def admitted(package, entries, locks=()):
@@ -501,10 +522,11 @@ def admitted(package, entries, locks=()):
 
 def refused_lines(package, entries, locks=()):
     lines = ""
-    for who, sequence, revision, word in in_order(entries):
-        cause = refusal(package, (who, sequence, revision, word), locks)
+    for entry in in_order(entries):
+        cause = refusal(package, entry, locks)
         if cause:
-            lines += "redline: refused %d %d %s %s: %s\n" % (sequence, revision, word, who, cause)
+            rank = " rank %d" % entry.rank if entry.rank else ""
+            lines += "redline: refused %d %d %s%s %s: %s\n" % (entry.sequence, entry.revision, entry.word, rank, entry.reviewer, cause)
     return lines
 
 
@@ -517,17 +539,20 @@ def written(package, entries, locks=()):
 
 def journal(package, entries):
     """The text of a journal with these entries as they stand."""
-    head = "redline-journal 1\ndocument %s\nrevisions %d\n"
-    lines = ["%d\t%d\t%s\t%s\n" % (sequence, revision, word, who) for who, sequence, revision, word in entries]
+    entries = [Entry(*entry) for entry in entries]
+    version = 2 if any(entry.rank for entry in entries) else 1
+    head = "redline-journal %d\ndocument %%s\nrevisions %%d\n" % version
+    ranked = lambda entry: "%d\t" % entry.rank if version == 2 else ""
+    lines = ["%d\t%d\t%s\t%s%s\n" % (entry.sequence, entry.revision, entry.word, ranked(entry), entry.reviewer) for entry in entries]
     return head % (hashlib.sha256(package.text.encode()).hexdigest(), len(package.revisions)) + "".join(lines)
 
 
-def decide(package, reviewer, entries, choices, locks=()):
+def decide(package, reviewer, entries, choices, locks=(), rank=0):
     """The book after a reviewer's choices, each a word and the numbers that it is for; the last one that names a revision counts."""
     book = admitted(package, entries, locks)
-    sequence = max([entry[1] for entry in book if entry[0] == reviewer], default=0) + 1
+    sequence = max([entry.sequence for entry in book if entry.reviewer == reviewer], default=0) + 1
     words = {number: word for word, numbers in choices for number in numbers}
-    new = [(reviewer, sequence, number, word) for number, word in words.items()]
+    new = [Entry(reviewer, sequence, number, word, rank) for number, word in words.items()]
     return in_order(book + admitted(package, new, locks)), refused_lines(package, list(entries) + new, locks)
 
 
