@@ -39,3 +39,10 @@ words-more words entries i entry said within at is so_far =
     let more : map deref (take (i + 1) entries) ≡ map deref (take i entries) ++ deref entry ∷ [] =
     map_more deref entries i entry within ∙ ap (λ e. map deref (take i entries) ++ deref e ∷ []) (sym at) in
     rw (so_far, is) (sym (ap (map last_word_of) more ∙ map-append last_word_of (map deref (take i entries)) (deref entry ∷ [])))
+
+-- the same words on each revision make the same details
+pub details_from-same : (number : ℕ) (excerpts : List Excerpt) (first second : ℕ → List Entry) → ((rev : ℕ) → first rev ≡ second rev) → details_from number excerpts first ≡ details_from number excerpts second
+details_from-same number [] first second same = refl
+details_from-same number (excerpt ∷ more) first second same =
+    ap (λ entries. detail_of excerpt entries ∷ details_from (number + 1) more first) (same number)
+    ∙ ap (λ rest. detail_of excerpt (second number) ∷ rest) (details_from-same (number + 1) more first second same)

@@ -4,7 +4,11 @@ use Rattle.std.specs.Option.{option_map}
 use Rattle.std.specs.Str.{IsUtf8, is_utf8}
 use Rattle.redl_excerpts.specs.declared.excerpt.Excerpt.{Excerpt}
 use Rattle.redl_excerpts.specs.Phrases.{kept_text}
+use Rattle.redl_excerpts.specs.Excerpts.{excerpts_of}
+use Rattle.redl_index.specs.declared.revision.Revision.{Revision}
+use Rattle.redl_join.specs.LastWords.{last_words}
 use Rattle.redl_journal.specs.declared.entry.Entry.{Entry}
+use Rattle.redl_tree.specs.Model.Nodes.{Nodes}
 use Rattle.redl_details.specs.declared.last_word.LastWord.{LastWord}
 use Rattle.redl_details.specs.declared.detail.Detail.{Detail}
 
@@ -46,3 +50,7 @@ pub record IsDetail (detail : Detail) : Type 0 where
   pub after : IsUtf8 detail.after
   pub id : IfSome detail.id IsUtf8
   pub says : All (λ (said : LastWord). IsUtf8 said.reviewer) detail.says
+
+-- the details of the revisions of a package, on which a book has these entries
+abbrev pub package_details : Nodes → List Revision → List Entry → List Detail
+package_details nodes revisions book = details_of (excerpts_of nodes revisions) (last_words book)

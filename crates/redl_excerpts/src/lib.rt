@@ -14,5 +14,6 @@ mod phrase;
 mod said;
 
 pub use excerpt::Excerpt;
+pub use line::{characters_in, without_characters};
 pub use package::excerpts;
-pub use phrase::Phrase;
+pub use phrase::{Phrase, shortened};

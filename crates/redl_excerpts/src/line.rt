@@ -172,8 +172,8 @@ fn last_characters(bytes: &[u8]) -> &[u8]
     without_characters(more, near)
 }
 
-/// The number of characters.
-fn characters_in(bytes: &[u8]) -> usize
+/// The number of characters of a text. It takes no memory.
+pub fn characters_in(bytes: &[u8]) -> usize
     ensures { result ≡ characters_in bytes.now }
 {
     let mut count = 0;
@@ -185,8 +185,8 @@ fn characters_in(bytes: &[u8]) -> usize
     count
 }
 
-/// The bytes without so many characters at the beginning.
-fn without_characters(count: usize, bytes: &[u8]) -> &[u8]
+/// The text without so many characters at the beginning. It takes no memory.
+pub fn without_characters(count: usize, bytes: &[u8]) -> &[u8]
     ensures { result.now ≡ without_characters count bytes.now }
 {
     let mut left = bytes;

@@ -1,6 +1,6 @@
 //! The beginning of a text, with one space for each stretch of white space.
 
-ghost use Rattle.std.specs.Prelude.{◌≡◌, [], IfOk, OnOk};
+ghost use Rattle.std.specs.Prelude.{◌≡◌, [], false, IfOk, OnOk};
 ghost use Rattle.redl_excerpts.specs.Phrases.{begun, heard, heard_byte, is_inner, is_white, kept_text, nothing_heard, paused};
 
 use crate::ear::Ear;
@@ -141,4 +141,15 @@ impl Ear for Phrase {
     fn is_full(&self) -> bool {
         self.over
     }
+}
+
+/// The first characters of a text, for which there is room, and three dots for the rest; a stretch of white space is one space.
+/// `Err` means out of memory.
+pub fn shortened(alloc: Global, bytes: &[u8], room: u8) -> Result<Text, AllocError>
+    ensures { IfOk result (λ text. text ≡ kept_text (heard (nothing_heard room false) bytes.now)) }
+{
+    let mut phrase = Phrase::new(alloc, room, false);
+    phrase.hear(bytes)?;
+    let text = phrase.text(alloc)?;
+    Ok(text)
 }
