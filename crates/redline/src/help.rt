@@ -11,19 +11,24 @@ pub const HELP: &str =
   redline list P ITEM ..        lists the changes, with what the journals come to on each
   redline decide P WHO ITEM ..  writes the journal of what the reviewer WHO decides
   redline write P ITEM ..       writes P with the changes decided as its reviewers agree
+  redline text P --view V       writes the text of P; V is original, final or marked
   redline settle accept P       writes P with each change accepted
   redline settle reject P       writes P with each change rejected
   redline join J ..             writes the journal of several journals together
   redline sample N              decides a made-up document of N paragraphs, and tells what came out
 
-P is a document that Word saved as \"Word XML Document (*.xml)\".
+P is a document that Word saved as \"Word XML Document (*.xml)\"; redline-docx takes a .docx.
 J is a journal: the text file of what reviewers decided.
-ITEM is --lock AUTHOR: nobody decides the changes of this author;
+ITEM is --lock AUTHOR, --lock-kind KIND or --lock-span SPAN: nobody decides these changes;
   for list and write also J, and for decide --journal J;
   for list also --format text, tab or json;
-  for decide also --accept CHANGES, --reject CHANGES or --withdraw CHANGES, once at least.
-CHANGES is all, numbers:3,7, \"author:Ann Gray\", kind:ins, or a span of time with its two
-  ends, as span:2026-11-01T00:00:00Z/2026-11-02T00:00:00Z, the second not included.
+  for decide also --accept CHANGES, --reject CHANGES or --withdraw CHANGES, once at least,
+  and --rank N, from 0 to 9: the highest rank that has a word on a change decides it.
+CHANGES is all, numbers:3,7, \"author:Ann Gray\", kind:KIND or span:SPAN.
+KIND is ins, del, move, move-from, move-to, mark-ins, mark-del, mark-from, mark-to, row-ins,
+  row-del, cell-ins, cell-del, run-props, para-props, sect-props, table-props, except-props,
+  row-props or cell-props.
+SPAN is two dates, the second not included: 2026-11-01T00:00:00Z/2026-11-02T00:00:00Z.
 
 Exit status: 0 done, 1 done and some entries refused, 2 usage, 3 package, 4 journal,
 5 a file can't be read, 6 the output failed, 7 a limit is passed, 8 out of memory,
@@ -34,4 +39,6 @@ A whole round:
   redline decide contract.xml Ann --accept all --reject numbers:4 > ann.journal
   redline join ann.journal bob.journal > all.journal
   redline write contract.xml all.journal > decided.xml
+
+The manual is docs/MANUAL.md, or /usr/share/doc/redline/MANUAL.md where it is installed.
 ";
