@@ -30,10 +30,11 @@ use Rattle.redl_journal.specs.Journals.{Journal}
 use Rattle.redl_journal.specs.declared.entry.Entry.{Entry}
 use Rattle.redl_lines.specs.Failures.{Failure}
 use Rattle.redl_lines.specs.declared.failure.Limit.TheVariants.{JournalBytes}
+use Rattle.redl_select.specs.declared.lock.Lock.{Lock}
 use Rattle.redl_words.specs.Commands.{Command, settle, list, write, decide, join, check, sample}
 
 -- what a command makes of the session over its package, and of the journals
-after_opening : (reader : Reader) (files : Files) (locks names others : List (List ℕ)) (p : List ℕ) (next : Admission → Result Writing Failure) (one other : Writing) → AreSame names others
+after_opening : (reader : Reader) (files : Files) (locks : List Lock) (names others : List (List ℕ)) (p : List ℕ) (next : Admission → Result Writing Failure) (one other : Writing) → AreSame names others
     → (package_file files p >>= (λ whole. opened reader files locks names whole >>= next)) ≡ Ok one
     → (package_file files p >>= (λ whole. opened reader files locks others whole >>= next)) ≡ Ok other → one ≡ other
 after_opening reader files locks names others p next one other same is too =
@@ -207,8 +208,8 @@ carried_same reader files formats (list p format locks journals) names others on
     after_opening reader files locks names others p (λ admission. listing_named formats format admission) one other same first.second again.second
 carried_same reader files formats (write p locks journals) names others one other same is too =
     after_opening reader files locks names others p (λ admission. Ok (resolved admission)) one other same is too
-carried_same reader files formats (decide p reviewer journals locks choices) names others one other same is too =
-    after_opening reader files locks names others p (λ before. with_choices reviewer choices before >>= (λ admission. Ok (book_written admission))) one other same is too
+carried_same reader files formats (decide p reviewer journals locks choices rank) names others one other same is too =
+    after_opening reader files locks names others p (λ before. with_choices reviewer rank choices before >>= (λ admission. Ok (book_written admission))) one other same is too
 carried_same reader files formats (join journals) names others one other same is too = joins_same reader files journal_bytes names others one other same is too
 carried_same reader files formats (check p) names others one other same is too = same_ok (sym is ∙ too)
 carried_same reader files formats (sample number) names others one other same is too = same_ok (sym is ∙ too)

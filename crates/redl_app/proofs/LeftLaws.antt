@@ -26,6 +26,7 @@ use Rattle.redl_lines.specs.Failures.{Failure, caused, unread, no_memory, failur
 use Rattle.redl_lines.specs.declared.status.Status.{Status}
 use Rattle.redl_lines.specs.declared.status.Status.TheVariants as status
 use Rattle.redl_rules.specs.Attributes.{has_id, declares, rules, broken_rule}
+use Rattle.redl_select.specs.declared.lock.Lock.{Lock}
 use Rattle.redl_session.specs.Sessions.{says}
 use Rattle.redl_stamp.specs.Attribute.{attribute_value}
 use Rattle.redl_tree.proofs.Indexed.{survival-package}
@@ -108,14 +109,14 @@ leaves_settled reader files formats accept name writing is =
     text_.first read.first refl (ap (λ (w : Writing). w.bytes) made)
 
 -- a session is over the package with its numbers, whatever it admits
-opened_nodes : (reader : Reader) (files : Files) (locks journals : List (List ℕ)) (whole : List ℕ) (admission : Admission)
+opened_nodes : (reader : Reader) (files : Files) (locks : List Lock) (journals : List (List ℕ)) (whole : List ℕ) (admission : Admission)
     → opened reader files locks journals whole ≡ Ok admission → (nodes : Nodes) × (package_in reader whole ≡ Ok nodes) × (admission.state.nodes ≡ numbered_package nodes)
 opened_nodes reader files locks journals whole admission is =
     let read = both_ok (package_in reader whole) (λ nodes. opened_over reader files locks journals whole nodes) admission is in
     let entries = both_ok (gathered reader files (document_of whole read.x) journal_bytes journals) (λ entries. Ok (admission_with (no_admission whole read.x locks) entries)) admission read.second in
     (read.x, read.first, ap (λ (a : Admission). a.state.nodes) (sym (same_ok entries.second)))
 
-leaves_written : (reader : Reader) (files : Files) (formats : List Format) (name : List ℕ) (locks journals : List (List ℕ)) (writing : Writing)
+leaves_written : (reader : Reader) (files : Files) (formats : List Format) (name : List ℕ) (locks : List Lock) (journals : List (List ℕ)) (writing : Writing)
     → carried_out reader files formats (plan (write name locks journals)) ≡ Ok writing → IsLeft reader files (plan (write name locks journals)) name writing.bytes
 leaves_written reader files formats name locks journals writing is =
     let text_ = both_ok (package_file files name) (λ whole. written reader files locks journals whole) writing is in
@@ -132,7 +133,7 @@ leaves reader files formats (settle accept other) name writing named is =
 leaves reader files formats (write other locks journals) name writing named is =
     subst (λ n. IsLeft reader files (plan (write other locks journals)) n writing.bytes) (same_some named) (leaves_written reader files formats other locks journals writing is)
 leaves reader files formats (list other format locks journals) name writing named is = absurd (cc named)
-leaves reader files formats (decide other reviewer journals locks choices) name writing named is = absurd (cc named)
+leaves reader files formats (decide other reviewer journals locks choices rank) name writing named is = absurd (cc named)
 leaves reader files formats (join journals) name writing named is = absurd (cc named)
 leaves reader files formats (check other) name writing named is = absurd (cc named)
 leaves reader files formats (sample number) name writing named is = absurd (cc named)

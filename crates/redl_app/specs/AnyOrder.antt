@@ -13,7 +13,7 @@ abbrev pub with_journals : List (List ℕ) → Command → Command
 with_journals names (settle accept p) = settle accept p
 with_journals names (list p format locks journals) = list p format locks names
 with_journals names (write p locks journals) = write p locks names
-with_journals names (decide p reviewer journals locks choices) = decide p reviewer names locks choices
+with_journals names (decide p reviewer journals locks choices rank) = decide p reviewer names locks choices rank
 with_journals names (join journals) = join names
 with_journals names (check p) = check p
 with_journals names (sample number) = sample number

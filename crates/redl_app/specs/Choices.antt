@@ -20,11 +20,11 @@ abbrev pub word_on : List Revision → List (Word × Selection) → ℕ → Opti
 word_on revisions choices number =
     option_map (λ choice. choice.0) (find (λ choice. is_among (chosen revisions choice.1) number) (reverse choices))
 
--- an entry of this reviewer with this sequence number
-abbrev pub entry_with : List ℕ → ℕ → ℕ → Word → Entry
-entry_with reviewer seq rev word = record { reviewer = reviewer; seq = seq; rev = rev; word = word }
+-- an entry of this reviewer with this rank and this sequence number
+abbrev pub entry_with : List ℕ → ℕ → ℕ → ℕ → Word → Entry
+entry_with reviewer rank seq rev word = record { reviewer = reviewer; seq = seq; rev = rev; word = word; rank = rank }
 
--- the reviewer's entries on the numbers that the choices choose, all with this sequence number
-abbrev pub chosen_entries : List ℕ → ℕ → List Revision → List (Word × Selection) → List Entry
-chosen_entries reviewer seq revisions choices =
-    filter_map (λ number. option_map (entry_with reviewer seq number) (word_on revisions choices number)) (chosen_numbers revisions choices)
+-- the reviewer's entries on the numbers that the choices choose, all with this rank and this sequence number
+abbrev pub chosen_entries : List ℕ → ℕ → ℕ → List Revision → List (Word × Selection) → List Entry
+chosen_entries reviewer rank seq revisions choices =
+    filter_map (λ number. option_map (entry_with reviewer rank seq number) (word_on revisions choices number)) (chosen_numbers revisions choices)

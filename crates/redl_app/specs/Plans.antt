@@ -15,6 +15,7 @@ use Rattle.redl_inputs.specs.Steps.{◌>>=◌}
 use Rattle.redl_io.specs.Limits.{journal_bytes}
 use Rattle.redl_io.specs.Shelf.{Files}
 use Rattle.redl_lines.specs.Failures.{Failure, no_memory}
+use Rattle.redl_select.specs.declared.lock.Lock.{Lock}
 use Rattle.redl_words.specs.Commands.{Command, settle, list, write, decide, join, check, sample}
 
 -- what a command makes
@@ -29,15 +30,15 @@ pub data Deciding : Type 0 where
   nothing : Deciding
   -- accept for all, or else reject for all
   all_of_them : Bool → Deciding
-  -- the verdicts of its journals, with its locked authors
+  -- the verdicts of its journals, with its locks
   by_verdicts : Deciding
 
--- what a command makes and of which package, the names of its journals, its locked authors, the name of the format that it
+-- what a command makes and of which package, the names of its journals, its locks, the name of the format that it
 -- asks for, and what it decides
 pub record Plan : Type 0 where
   pub makes : Making
   pub journals : List (List ℕ)
-  pub locks : List (List ℕ)
+  pub locks : List Lock
   pub format : Option (List ℕ)
   pub decides : Deciding
 
@@ -60,8 +61,8 @@ plan (write p locks journals) = record (only (of_package p (λ reader files form
   locks = locks;
   decides = by_verdicts;
 }
-plan (decide p reviewer journals locks choices) =
-    record (only (of_package p (λ reader files formats whole. chosen_journal reader files reviewer locks journals choices whole))) {
+plan (decide p reviewer journals locks choices rank) =
+    record (only (of_package p (λ reader files formats whole. chosen_journal reader files reviewer rank locks journals choices whole))) {
       journals = journals;
       locks = locks;
     }

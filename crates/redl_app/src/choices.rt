@@ -18,21 +18,23 @@ use std::alloc::{AllocError, Global};
 use std::collections::BTreeMap;
 
 /// The entries of this reviewer on what the choices choose, each with the word of the last choice that chooses it, and all
-/// with this sequence number. `Err` means out of memory.
+/// with this rank and this sequence number. `Err` means out of memory.
 pub(crate) fn choose_entries(
     alloc: Global,
     index: &Index,
     reviewer: &Text,
+    rank: u8,
     seq: u32,
     choices: &[(Word, Selection)],
 ) -> Result<Vec<Entry>, AllocError>
     requires reviewer { IsReviewer reviewer.now }
+    requires rank { rank ≤ 9 }
     requires seq { 1 ≤ seq }
-    ensures entries { IfOk result (λ entries. entries.items ≡ chosen_entries reviewer.now seq index.now (choices_view choices.now)) }
+    ensures entries { IfOk result (λ entries. entries.items ≡ chosen_entries reviewer.now rank seq index.now (choices_view choices.now)) }
     ensures allowed { IfOk result (λ entries. All IsAllowed entries.items) }
 {
     let words = words_of(alloc, index, choices)?;
-    make_entries(alloc, reviewer, seq, &words)
+    make_entries(alloc, reviewer, rank, seq, &words)
 }
 
 // The word on each number that some choice chooses.
@@ -68,13 +70,15 @@ fn set_words(words: &mut BTreeMap<u32, Word>, numbers: &[u32], word: Word) -> Re
 fn make_entries(
     alloc: Global,
     reviewer: &Text,
+    rank: u8,
     seq: u32,
     words: &BTreeMap<u32, Word>,
 ) -> Result<Vec<Entry>, AllocError>
     requires reviewer { IsReviewer reviewer.now }
+    requires rank { rank ≤ 9 }
     requires seq { 1 ≤ seq }
     ensures entries { IfOk result (λ entries. entries.items
-        ≡ filter_map (λ number. option_map (entry_with reviewer.now seq number) (get nat_cmp words.now number)) (keys words.now)) }
+        ≡ filter_map (λ number. option_map (entry_with reviewer.now rank seq number) (get nat_cmp words.now number)) (keys words.now)) }
     ensures allowed { IfOk result (λ entries. All IsAllowed entries.items) }
 {
     let mut entries = Vec::new(alloc);
@@ -84,6 +88,7 @@ fn make_entries(
             seq,
             rev: *rev,
             word: *word,
+            rank,
         })?;
     }
     Ok(entries)

@@ -78,10 +78,12 @@ pub(crate) fn make<'a, 'b, F: Shelf>(
             journals,
             locks,
             choices,
+            rank,
             ..
         } => decide(
             alloc,
             reviewer,
+            *rank,
             locks,
             journals,
             choices,

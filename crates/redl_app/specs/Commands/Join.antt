@@ -6,7 +6,7 @@ use Rattle.redl_inputs.specs.Steps.{◌>>=◌}
 use Rattle.redl_app.specs.Writing.{Writing, only_bytes}
 use Rattle.redl_io.specs.Shelf.{Files}
 use Rattle.redl_join.specs.Books.{union}
-use Rattle.redl_journal.specs.Journals.{Journal, journal_text}
+use Rattle.redl_journal.specs.Journals.{Journal, written_text}
 use Rattle.redl_journal.specs.declared.entry.Entry.{Entry}
 use Rattle.redl_lines.specs.Failures.{Failure, caused, usage}
 
@@ -16,7 +16,7 @@ document_in journal = record { digest = journal.digest; count = journal.count }
 
 -- the journal of a set of entries
 abbrev pub book_text : DocumentId → List Entry → List ℕ
-book_text document book = journal_text (record { digest = document.digest; count = document.count; entries = book })
+book_text document book = written_text (record { digest = document.digest; count = document.count; entries = book })
 
 -- the set of the entries of a first journal and of others
 abbrev pub union_of : Reader → Files → ℕ → Journal × ℕ → List (List ℕ) → Result (List Entry) Failure

@@ -1,4 +1,4 @@
--- `list P` with a format, journals and locked authors: a row for each revision, with the verdict on it.
+-- `list P` with a format, journals and locks: a row for each revision, with the verdict on it.
 use Rattle.std.specs.Prelude.{ℕ, List, map, length, Result, Ok}
 use Rattle.redl_inputs.specs.Admission.{Admission, opened}
 use Rattle.redl_app.specs.Formats.{Format, format_named}
@@ -11,6 +11,7 @@ use Rattle.redl_listing.specs.Rows.{rows_of}
 use Rattle.redl_listing.specs.declared.row.Row.{Row}
 use Rattle.redl_opc.specs.Parts.{name_in}
 use Rattle.redl_opc.specs.Shape.{parts_of}
+use Rattle.redl_select.specs.declared.lock.Lock.{Lock}
 use Rattle.redl_session.specs.Says.{verdicts_of}
 use Rattle.redl_session.specs.Sessions.{State}
 use Rattle.redl_tree.specs.Model.Nodes.{Nodes}
@@ -34,7 +35,7 @@ listing_named formats name admission = do
   Ok (listing admission format)
 
 -- what is written of the package with this text
-abbrev pub listed : Reader → Files → List Format → List ℕ → List (List ℕ) → List (List ℕ) → List ℕ → Result Writing Failure
+abbrev pub listed : Reader → Files → List Format → List ℕ → List Lock → List (List ℕ) → List ℕ → Result Writing Failure
 listed reader files formats name locks journals whole = do
   admission ← opened reader files locks journals whole
   listing_named formats name admission

@@ -1,4 +1,4 @@
--- `write P` with journals and locked authors: the package under the joined verdicts.
+-- `write P` with journals and locks: the package under the joined verdicts.
 use Rattle.std.specs.Prelude.{ℕ, List, Result, Ok}
 use Rattle.redl_inputs.specs.Admission.{Admission, opened}
 use Rattle.redl_inputs.specs.Readers.{Reader}
@@ -6,6 +6,7 @@ use Rattle.redl_inputs.specs.Steps.{◌>>=◌}
 use Rattle.redl_app.specs.Writing.{Writing}
 use Rattle.redl_io.specs.Shelf.{Files}
 use Rattle.redl_lines.specs.Failures.{Failure}
+use Rattle.redl_select.specs.declared.lock.Lock.{Lock}
 use Rattle.redl_session.specs.Sessions.{State, says}
 use Rattle.redl_tree.specs.Decisions.Packages.{pass_package}
 use Rattle.redl_tree.specs.Model.Text.{text}
@@ -18,7 +19,7 @@ abbrev pub resolved : Admission → Writing
 resolved admission = record { bytes = left_text admission.state; remarks = admission.remarks }
 
 -- what is written of the package with this text
-abbrev pub written : Reader → Files → List (List ℕ) → List (List ℕ) → List ℕ → Result Writing Failure
+abbrev pub written : Reader → Files → List Lock → List (List ℕ) → List ℕ → Result Writing Failure
 written reader files locks journals whole = do
   admission ← opened reader files locks journals whole
   Ok (resolved admission)

@@ -1,4 +1,4 @@
-//! `list P` with a format, journals and locked authors.
+//! `list P` with a format, journals and locks.
 
 ghost use Rattle.std.specs.Prelude.{◌≡◌, ◌<◌, length, slice_get, Ok, Some, All, IsUtf8, IfOk};
 ghost use Rattle.redl_app.specs.Commands.List.{listed, listing_named, part_names};
@@ -16,14 +16,15 @@ use redl_io::{Shelf, Text};
 use redl_lines::Failure;
 use redl_listing::RowFormat;
 use redl_opc::Package;
+use redl_select::Lock;
 use std::alloc::{AllocError, Global};
 
 /// The listing of the package with this text, in the first format that has the name and is there, under the joined verdicts of the journals
-/// of these names, with these locked authors. It takes that format out of the list.
+/// of these names, with these locks. It takes that format out of the list.
 pub(crate) fn list<'a, 'b, F: Shelf>(
     alloc: Global,
     name: &'a str,
-    locks: &[Text],
+    locks: &[Lock],
     journals: &'a [Text],
     bytes: &'b [u8],
     shelf: &mut F,

@@ -1,4 +1,4 @@
-//! `write P` with journals and locked authors.
+//! `write P` with journals and locks.
 
 ghost use Rattle.std.specs.Prelude.{◌≡◌, All, IsUtf8, IfOk};
 ghost use Rattle.redl_app.specs.Commands.Write.{written, resolved};
@@ -10,12 +10,13 @@ use crate::output::{Output, Writing};
 use redl_inputs::{Admitted, open};
 use redl_io::{Shelf, Text};
 use redl_lines::Failure;
+use redl_select::Lock;
 use std::alloc::{AllocError, Global};
 
-/// The package with this text under the joined verdicts of the journals of these names, with these locked authors.
+/// The package with this text under the joined verdicts of the journals of these names, with these locks.
 pub(crate) fn write<'a, 'b, F: Shelf>(
     alloc: Global,
-    locks: &[Text],
+    locks: &[Lock],
     journals: &'a [Text],
     bytes: &'b [u8],
     shelf: &mut F,

@@ -17,21 +17,21 @@ loop-rev-init c =
 
 pub loop-rev-preserved : goal.loop-rev-preserved
 loop-rev-preserved c =
-    let make : ℕ × Word → Entry = λ e. entry_with c.args.reviewer.now c.args.seq e.0 e.1 in
+    let make : ℕ × Word → Entry = λ e. entry_with c.args.reviewer.now c.args.rank c.args.seq e.0 e.1 in
     let x : ℕ × Word = (c.in-Some.rev.now, c.in-Some.word.now) in
-    let one : Entry = entry_with c.in_ok-copy.field-0 c.args.seq x.0 x.1 in
-    let is : one ≡ make x = ap (λ reviewer. entry_with reviewer c.args.seq x.0 x.1) c.in_ok-copy.ensures in
+    let one : Entry = entry_with c.in_ok-copy.field-0 c.args.rank c.args.seq x.0 x.1 in
+    let is : one ≡ make x = ap (λ reviewer. entry_with reviewer c.args.rank c.args.seq x.0 x.1) c.in_ok-copy.ensures in
     record {
       entries = made_more make c.loop-rev.entries.items c.push.new.self.items one x c.loop-rev.rev-iterator c.next.new.self c.args.words.now.entries
           c.in_ok-push.ensures.items is c.in-Some.ensures.steps c.loop-rev.invariant.entries;
       allowed = rw c.in_ok-push.ensures.items (All-push IsAllowed c.loop-rev.entries.items one c.loop-rev.invariant.allowed
-          (rw is (record { reviewer = c.requires.reviewer; seq = c.requires.seq })));
+          (rw is (record { reviewer = c.requires.reviewer; seq = c.requires.seq; rank = c.requires.rank })));
     }
 
 pub returns-clause-entries : goal.returns-clause-entries
 returns-clause-entries c =
-    let make : ℕ × Word → Entry = λ e. entry_with c.args.reviewer.now c.args.seq e.0 e.1 in
+    let make : ℕ × Word → Entry = λ e. entry_with c.args.reviewer.now c.args.rank c.args.seq e.0 e.1 in
     let entries = c.args.words.now.entries in
     sym (append-nil c.loop-rev.entries.items) ∙ ap (λ left. c.loop-rev.entries.items ++ map make left) (sym c.in-None.ensures.steps.0)
     ∙ c.loop-rev.invariant.entries
-    ∙ sym (made_of_entries (entry_with c.args.reviewer.now c.args.seq) (get nat_cmp c.args.words.now) entries c.into_iter-rev-iterator.ensures.into_iter_gives.6)
+    ∙ sym (made_of_entries (entry_with c.args.reviewer.now c.args.rank c.args.seq) (get nat_cmp c.args.words.now) entries c.into_iter-rev-iterator.ensures.into_iter_gives.6)

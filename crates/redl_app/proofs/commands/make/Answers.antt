@@ -32,6 +32,9 @@ returns-in-Check-clause-read g c = rw (c.in-Check.is, c.unwrap-in-Check.ensures)
 pub decide-requires-clause-journals : goal.decide-requires-clause-journals
 decide-requires-clause-journals g c = rw c.deref-in-Decide-2.ensures.value (rw c.in-Decide.is at c.requires.utf8).2
 
+pub decide-requires-clause-rank : goal.decide-requires-clause-rank
+decide-requires-clause-rank g c = (rw c.in-Decide.is at c.requires.utf8).4
+
 pub returns-in-Decide-clause-read : goal.returns-in-Decide-clause-read
 returns-in-Decide-clause-read g c =
     rw (c.in-Decide.is, c.unwrap-in-Decide.ensures) (rw (c.deref-in-Decide.ensures.value, c.deref-in-Decide-2.ensures.value, c.deref-in-Decide-3.ensures.value) at c.decide.ensures)
