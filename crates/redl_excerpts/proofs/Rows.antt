@@ -63,7 +63,7 @@ row_bold = (refl, refl, refl)
 
 -- a move: its source tells
 moved : Nodes
-moved = opened "p" (content From 1 "moveFrom" "" (run "It")) ⊕ opened "p" (run "So " ⊕ content To 1 "moveTo" "" (run "it") ⊕ run " is")
+moved = opened "p" (opened "pPr" (opened "rPr" (member (Mark From) 1 "moveFrom" "" Empty no_nodes)) ⊕ content From 1 "moveFrom" "" (run "It")) ⊕ opened "p" (run "So " ⊕ content To 1 "moveTo" "" (run "it") ⊕ run " is")
 
 row_moved : Tells kind.Move 1 moved "" "It" ""
 unfolding moved heard_byte begun paused passed

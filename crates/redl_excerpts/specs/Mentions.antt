@@ -1,6 +1,6 @@
 -- What a story tells of a revision: for each of its members the text that it is of, and what stands before and behind that text
 -- in the same paragraph (our own rule). A row's or cell's member is of the row or cell, a change of properties of what the
--- properties are of, the mark of a paragraph of its end, and run content of what it holds. Of a move the source tells.
+-- properties are of, the mark of a paragraph of its end, and run content of what it holds. Of a move the run content of its source tells.
 use Rattle.std.specs.Prelude.{ℕ, ◌==◌, ◌&&◌, Bool, true, false, List, [], ◌∷◌, ◌++◌, codes, Option, if◌then◌else◌}
 use Rattle.redl_shown.specs.Shown.{shown}
 use Rattle.redl_stamp.specs.Attribute.{attribute_value}
@@ -78,15 +78,15 @@ abbrev pub is_target : Trace → Bool
 is_target To = true
 is_target _ = false
 
--- the target of a move tells nothing
+-- run content tells, but for the target of a move
 abbrev pub unless_target : Bool → Trace → Mention → List Mention
 unless_target moved trace mention = if moved && is_target trace then [] else mention ∷ []
 
--- what a member of this kind tells, of a move (`moved`) or of another revision
+-- what a member of this kind tells, of a move (`moved`) or of another revision; of a move the run content of the source tells
 abbrev pub told_by : Bool → Where → Kind → Tag → Nodes → List Mention
 told_by moved here Plain tag kids = []
 told_by moved here (Content trace) tag kids = unless_target moved trace (stretch_in here.whole tag here.place kids)
-told_by moved here (Mark trace) tag kids = unless_target moved trace (paragraph_end_in here.whole tag)
+told_by moved here (Mark trace) tag kids = if moved then [] else paragraph_end_in here.whole tag ∷ []
 told_by moved here (Row trace) tag kids = stretch_in here.whole tag here.owner_place here.owner ∷ []
 told_by moved here (Cell trace) tag kids = stretch_in here.whole tag here.owner_place here.owner ∷ []
 told_by moved here (Change prop) tag kids = stretch_in here.whole tag here.owner_place here.owner ∷ []

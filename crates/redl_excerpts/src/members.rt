@@ -204,8 +204,8 @@ fn tell_kind(
             }
             excerpt.tell_stretch(alloc, elem, here.whole, place, elem.kids())
         }
-        Kind::Mark(trace) => {
-            if moved && trace == Trace::To {
+        Kind::Mark(_) => {
+            if moved {
                 return Ok(());
             }
             excerpt.tell_paragraph_end(alloc, elem, here.whole)
