@@ -5,3 +5,5 @@ pub mod NameLaws
 pub mod PlainLaws
 pub mod RowLaws
 mod Rows
+pub mod WordLaws
+mod WordRows

@@ -5,6 +5,7 @@ use Rattle.redl_tree.specs.declared.kinds.Trace.TheVariants.{Ins}
 use Rattle.redl_index.specs.declared.revision.RevKind.TheVariants.{Content, Move}
 use Rattle.redl_stamp.specs.Moment.{first_moment, last_moment}
 use Rattle.redl_join.specs.declared.verdict.Verdict.TheVariants.{Undecided, Disputed}
+use Rattle.redl_details.specs.Details.{no_detail}
 use Rattle.redl_listing.specs.declared.row.Row.{Row}
 use Rattle.redl_listing.specs.Dates.{year_and_day, month_and_day, date_text}
 use Rattle.redl_listing.specs.Texts.{tab, newline, shown, escape, text_row, decided_columns, named_fields, decided_fields, tab_row, text_listing, tab_listing, json_listing}
@@ -19,6 +20,7 @@ insertion = record {
   seconds = Some (pos 1_714_979_289);
   part = codes "/word/document.xml";
   members = 1;
+  detail = no_detail;
 }
 
 -- a disputed move without a date, by an author with a tab, a backslash and a delete character
@@ -31,6 +33,7 @@ move = record {
   seconds = None;
   part = codes "/a";
   members = 0;
+  detail = no_detail;
 }
 
 row_text : text_listing (insertion ∷ []) true ≡ codes "      1 ins          open     2024-05-06T07:08:09Z Ann" ++ newline

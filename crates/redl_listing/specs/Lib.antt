@@ -2,3 +2,4 @@ pub mod Rows
 pub mod Dates
 pub mod Formats
 pub mod Texts
+pub mod Words

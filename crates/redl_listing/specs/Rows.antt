@@ -1,23 +1,25 @@
 -- The rows of a listing: what it says of each revision (our own rule).
-use Rattle.std.specs.Prelude.{ℕ, List, [], map, IsTrue, IfSome, unwrap_or, slice_get}
-use Rattle.std.specs.List.{zip}
+use Rattle.std.specs.Prelude.{ℕ, List, [], ◌∷◌, IsTrue, IfSome, unwrap_or, slice_get}
 use Rattle.std.specs.Str.{IsUtf8}
+use Rattle.redl_details.specs.declared.detail.Detail.{Detail}
+use Rattle.redl_details.specs.Details.{IsDetail, no_detail}
 use Rattle.redl_stamp.specs.Moment.{IsMoment}
 use Rattle.redl_index.specs.Kinds.{is_named}
 use Rattle.redl_index.specs.declared.revision.Revision.{Revision}
 use Rattle.redl_join.specs.declared.verdict.Verdict.{Verdict}
 use Rattle.redl_listing.specs.declared.row.Row.{Row}
 
--- what a row keeps: its kind has a name, its author and part are UTF-8, and its moment lies in the years 0000 to 9999
+-- what a row keeps: its kind has a name, its texts are UTF-8, and its moment lies in the years 0000 to 9999
 pub record IsRow (row : Row) : Type 0 where
   pub named : IsTrue (is_named row.kind)
   pub author : IsUtf8 row.author
   pub part : IsUtf8 row.part
   pub moment : IfSome row.seconds IsMoment
+  pub detail : IsDetail row.detail
 
--- the row of a revision on which this was decided, where these are the names of the parts
-abbrev pub row_of : List (List ℕ) → Revision → Verdict → Row
-row_of parts revision verdict = record {
+-- the row of a revision on which this was decided, with this detail, where these are the names of the parts
+abbrev pub told_row : List (List ℕ) → Revision → Verdict → Detail → Row
+told_row parts revision verdict detail = record {
   number = revision.number;
   kind = revision.kind;
   verdict = verdict;
@@ -25,8 +27,25 @@ row_of parts revision verdict = record {
   seconds = revision.seconds;
   part = unwrap_or (slice_get parts revision.part) [];
   members = revision.members;
+  detail = detail;
 }
 
--- the rows of revisions, each with what was decided on it
+-- the detail at a place, or none
+abbrev pub first_detail : List Detail → Detail
+first_detail [] = no_detail
+first_detail (detail ∷ more) = detail
+
+abbrev pub more_details : List Detail → List Detail
+more_details [] = []
+more_details (detail ∷ more) = more
+
+-- the rows of revisions, each with what was decided on it and with its detail; those that are missing are none
+abbrev pub told_rows : List (List ℕ) → List Revision → List Verdict → List Detail → List Row
+told_rows parts [] verdicts details = []
+told_rows parts (revision ∷ revisions) [] details = []
+told_rows parts (revision ∷ revisions) (verdict ∷ verdicts) details =
+    told_row parts revision verdict (first_detail details) ∷ told_rows parts revisions verdicts (more_details details)
+
+-- the rows without details
 abbrev pub rows_of : List (List ℕ) → List Revision → List Verdict → List Row
-rows_of parts revisions verdicts = map (λ pair. row_of parts pair.0 pair.1) (zip revisions verdicts)
+rows_of parts revisions verdicts = told_rows parts revisions verdicts []

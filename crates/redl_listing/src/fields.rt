@@ -42,7 +42,8 @@ pub(crate) fn push_left(line: &mut Vec<u8>, bytes: &[u8], width: usize) -> Resul
     push_spaces(line, width.saturating_sub(bytes.len()))
 }
 
-fn push_spaces(line: &mut Vec<u8>, count: usize) -> Result<(), AllocError>
+/// Adds so many spaces. `Err` means out of memory.
+pub(crate) fn push_spaces(line: &mut Vec<u8>, count: usize) -> Result<(), AllocError>
     requires { count ≤ 20 }
     ensures { OnOk result (line.new.items ≡ line.old.items ++ replicate count 32) }
 {

@@ -13,6 +13,7 @@ use crate::piece::Piece;
 use crate::row::Row;
 use crate::tab_rows::TabRows;
 use crate::text_rows::TextRows;
+use crate::words_rows::WordsRows;
 use std::alloc::AllocError;
 
 /// The format `text`.
@@ -20,6 +21,9 @@ pub type TextFormat = LineFormat<Row, TextRows>;
 
 /// The format `tab`.
 pub type TabFormat = LineFormat<Row, TabRows>;
+
+/// The format `words`.
+pub type WordsFormat = LineFormat<Row, WordsRows>;
 
 /// The format `json`.
 pub type JsonFormat = ArrayFormat<Row, JsonRows>;

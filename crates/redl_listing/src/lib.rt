@@ -2,7 +2,7 @@
 //!
 //! Read `list` first. It takes the first format with a name out of a list of boxed formats, gives it a row for each revision,
 //! closes it and hands its text out. It rests on what `RowFormat` promises, whatever boxes the caller made.
-//! `TextFormat`, `TabFormat` and `JsonFormat` are the formats of the program: lines or an array of any kind of `Item`, with a
+//! `TextFormat`, `TabFormat`, `JsonFormat` and `WordsFormat` are the formats of the program: lines or an array of any kind of `Item`, with a
 //! `Piece` for each. Formats of other items, as of a report's lines, are made of the same `LineFormat`, `ArrayFormat` and `Named`.
 //! Which revisions there are and what was decided on them is left to the crates below.
 #![tactic(auto)]
@@ -20,15 +20,17 @@ mod piece;
 mod row;
 mod tab_rows;
 mod text_rows;
+mod words_rows;
 
 pub use array_format::ArrayFormat;
 pub use dates::moment_text;
-pub use format::{JsonFormat, RowError, RowFormat, TabFormat, TextFormat};
+pub use format::{JsonFormat, RowError, RowFormat, TabFormat, TextFormat, WordsFormat};
 pub use json_rows::JsonRows;
 pub use line_format::LineFormat;
-pub use listing::{add_format, list};
+pub use listing::{add_format, list, list_told};
 pub use named::{Named, has_name, take_named};
 pub use piece::{Item, Piece};
 pub use row::Row;
 pub use tab_rows::TabRows;
 pub use text_rows::TextRows;
+pub use words_rows::WordsRows;

@@ -1,11 +1,13 @@
 //! Rows.
 
-ghost use Rattle.std.specs.Prelude.{◌≡◌, ◌<◌, [], IfOk, length, All, OnOk};
+ghost use Rattle.std.specs.Prelude.{◌≡◌, ◌<◌, length, All, OnOk};
 ghost use Rattle.std.specs.Str.{IsUtf8};
 ghost use Rattle.redl_index.specs.Revisions.{IsTold};
-ghost use Rattle.redl_listing.specs.Rows.{IsRow, row_of};
+ghost use Rattle.redl_listing.specs.Rows.{IsRow, told_row};
+ghost use Rattle.redl_details.specs.Details.{IsDetail};
 
 use crate::piece::Item;
+use redl_details::Detail;
 use redl_index::{RevKind, Revision};
 use redl_io::Text;
 use redl_join::Verdict;
@@ -28,15 +30,16 @@ pub struct Row {
     pub part: Text,
     /// How many members it has.
     pub members: u32,
+    /// Its text and the last words on it, where the listing was told of them.
+    pub detail: Detail,
 }
 
 impl Row {
     /// A row to be set, which is of no revision. `Err` means out of memory.
-    pub(crate) fn blank(alloc: Global) -> Result<Row, AllocError>
-        ensures { IfOk result (λ row. (row.author ≡ []) × (row.part ≡ [])) }
-    {
+    pub(crate) fn blank(alloc: Global) -> Result<Row, AllocError> {
         let author = Text::copy_of(alloc, b"")?;
         let part = Text::copy_of(alloc, b"")?;
+        let detail = Detail::none(alloc)?;
         Ok(Row {
             number: 0,
             kind: RevKind::Move,
@@ -45,24 +48,28 @@ impl Row {
             seconds: None,
             part,
             members: 0,
+            detail,
         })
     }
 
-    /// Makes it the row of a revision on which this was decided, in the part that its number names. A text that it has already
-    /// isn't copied again. `Err` means out of memory, and then it is the row of no revision.
+    /// Makes it the row of a revision on which this was decided, in the part that its number names, with this detail. A name that
+    /// it has already isn't copied again. `Err` means out of memory, and then it is the row of no revision.
     pub(crate) fn set(
         &mut self,
         alloc: Global,
         revision: &Revision,
         verdict: Verdict,
         parts: &[Text],
+        detail: &Detail,
     ) -> Result<(), AllocError>
         requires part { revision.now.part < length parts.now }
         requires parts { All IsUtf8 parts.now }
         requires told { IsTold revision.now }
-        ensures value { OnOk result (self.new ≡ row_of parts.now revision.now verdict) }
+        requires detail { IsDetail detail.now }
+        ensures value { OnOk result (self.new ≡ told_row parts.now revision.now verdict detail.now) }
         ensures row { OnOk result (IsRow self.new) }
     {
+        self.detail = detail.copy(alloc)?;
         set_text(alloc, &mut self.author, &revision.author)?;
         set_text(alloc, &mut self.part, &parts[revision.part as usize])?;
         self.number = revision.number;
@@ -82,6 +89,7 @@ impl Item for Row {
     fn copy(&self, alloc: Global) -> Result<Row, AllocError> {
         let author = self.author.copy(alloc)?;
         let part = self.part.copy(alloc)?;
+        let detail = self.detail.copy(alloc)?;
         Ok(Row {
             number: self.number,
             kind: self.kind,
@@ -90,6 +98,7 @@ impl Item for Row {
             seconds: self.seconds,
             part,
             members: self.members,
+            detail,
         })
     }
 }

@@ -1,13 +1,23 @@
--- The loop ends where no revision is left.
-use Rattle.std.proofs.Common.{◌≡◌, min, ◌≤◌, arith, rules, length}
-use Rattle.std.proofs.lemmas.Slice.Zip.{zip_end}
-use Rattle.redl_listing.proofs.RowLaws.{rows_of-done}
+-- One row more, and the loop ends where no revision is left.
+use Rattle.std.proofs.Common.{◌≡◌, ◌≤◌, ◌<◌, ◌∙◌, length, arith}
+use Rattle.std.proofs.lemmas.List.{get_or_default}
+use Rattle.redl_listing.proofs.RowLaws.{told_rows-done, told_rows-more}
 use Rattle.redl_listing.proofs.listing.add_rows.Goals as goal
+
+pub loop-place-preserved : goal.loop-place-preserved
+loop-place-preserved g c =
+    let place = c.loop-place.place in
+    let within : place < length c.args.revisions.now = omega (arith, c.loop-place-test.true) in
+    let decided : place < length c.args.verdicts.now = omega (arith, within, c.requires.verdicts) in
+    record {
+      is_open = c.in_ok-add_row.ensures.open;
+      rows = told_rows-more _ _ _ c.args.parts.now c.args.revisions.now c.args.verdicts.now c.args.details.now place c.index-revisions-place.result _ c.detail_at-detail.result.now c.set.new.self
+          within decided c.index-revisions-place.is (get_or_default c.args.verdicts.now place _ _ decided) c.detail_at-detail.ensures.value c.in_ok-set.ensures.value
+          c.in_ok-add_row.ensures.taken c.loop-place.invariant.rows;
+      same_format = λ rows closed. c.in_ok-add_row.ensures.same_format rows closed ∙ c.loop-place.invariant.same_format rows closed;
+    }
 
 pub returns-clause-rows : goal.returns-clause-rows
 returns-clause-rows g c =
-    let first : c.into_iter-revision-iterator.result.a.rest.now ≡ c.args.revisions.now = search rules in
-    let second : c.into_iter-revision-iterator.result.b.rest.now ≡ c.args.verdicts.now = search rules in
-    let turns : length c.loop-revision.yielded ≡ min (length c.args.revisions.now) (length c.args.verdicts.now) = zip_end c.args.revisions.now c.args.verdicts.now c.loop-revision.yielded c.into_iter-revision-iterator.result c.loop-revision.revision-iterator c.next.new.self c.next.result first second c.loop-revision.yielded_by c.in-None.is c.next.ensures.steps in
-    let all : length c.args.revisions.now ≤ length c.loop-revision.yielded = omega arith in
-    rows_of-done _ _ c.args.parts.now c.args.revisions.now c.args.verdicts.now (length c.loop-revision.yielded) all c.loop-revision.invariant.rows
+    let all : length c.args.revisions.now ≤ c.loop-place.place = omega (arith, c.loop-place-test.false) in
+    told_rows-done _ _ c.args.parts.now c.args.revisions.now c.args.verdicts.now c.args.details.now c.loop-place.place all c.loop-place.invariant.rows

@@ -1,0 +1,23 @@
+-- The end of a text that stands before the words.
+use Rattle.std.proofs.Common.{◌≡◌, ◌<◌, ◌-◌, ◌++◌, ◌∙◌, ℕ, Bool, true, false, List, map, nat_le, refl, sym, ap, arith}
+use Rattle.std.proofs.lemmas.Bool.{leb-true}
+use Rattle.redl_excerpts.specs.Lines.{characters_in, without_characters}
+use Rattle.redl_listing.specs.Texts.{shown}
+use Rattle.redl_listing.specs.Words.{dots, near_end}
+
+near_end-long : (text : List ℕ) → 11 < characters_in text → near_end text ≡ dots ++ without_characters (characters_in text - 11) text
+near_end-long text more = by (nat_le (characters_in text) 11) refl
+  where
+    by : (test : Bool) → nat_le (characters_in text) 11 ≡ test → near_end text ≡ dots ++ without_characters (characters_in text - 11) text
+    by true is = absurd (omega (arith, more, leb-true (characters_in text) 11 is))
+    by false is = rw is refl
+
+shown-dots : (text : List ℕ) → dots ++ map shown text ≡ map shown (dots ++ text)
+unfolding shown
+shown-dots text = refl
+
+-- the last characters, with dots for those before
+pub near_end-shown : (text : List ℕ) (count : ℕ) (end : List ℕ) → 11 < characters_in text → count ≡ characters_in text → end ≡ without_characters (count - 11) text
+    → dots ++ map shown end ≡ map shown (near_end text)
+near_end-shown text count end more is end_is =
+    shown-dots end ∙ ap (λ t. map shown (dots ++ t)) (end_is ∙ ap (λ (n : ℕ). without_characters (n - 11) text) is) ∙ ap (map shown) (sym (near_end-long text more))

@@ -1,0 +1,53 @@
+-- Rows by hand, as lines of the format `words`.
+use Rattle.std.proofs.Common.{◌≡◌, [], ◌∷◌, ◌++◌, None, codes, refl}
+use Rattle.std.specs.Fmt.{digits}
+use Rattle.redl_tree.specs.declared.kinds.Trace.TheVariants.{Del}
+use Rattle.redl_tree.specs.declared.kinds.Prop.TheVariants as prop
+use Rattle.redl_index.specs.declared.revision.RevKind.TheVariants.{Content, Change}
+use Rattle.redl_join.specs.declared.verdict.Verdict.TheVariants.{Accept, Disputed}
+use Rattle.redl_journal.specs.declared.entry.Word.TheVariants as word
+use Rattle.redl_excerpts.specs.Phrases.{begun, heard_byte, paused}
+use Rattle.redl_listing.specs.declared.row.Row.{Row}
+use Rattle.redl_listing.specs.Texts.{newline, shown}
+use Rattle.redl_listing.specs.Words.{dots, numbered_columns, quoted, words_columns, words_row}
+
+-- a disputed deletion: both neighbours are cut, and who said what stands behind
+deletion : Row
+deletion = record {
+  number = 32;
+  kind = Content Del;
+  verdict = Disputed;
+  author = codes "Bob Hay";
+  seconds = None;
+  part = codes "/word/document.xml";
+  members = 1;
+  detail = record {
+    words = codes "thirty";
+    before = codes "The price is due within ";
+    after = codes "fourteen days of delivery. The Buyer pay";
+    id = None;
+    says = record { reviewer = codes "Ann Gray"; word = word.Accept } ∷ record { reviewer = codes "Bob Hay"; word = word.Reject } ∷ [];
+  };
+}
+
+row_disputed : words_row deletion
+    ≡ codes "   32 del          disputed Bob Hay       " ++ dots ++ codes "due within [-thirty-]fourteen d" ++ dots ++ codes "  Ann Gray: accept  Bob Hay: reject" ++ newline
+unfolding deletion words_row words_columns numbered_columns quoted shown digits heard_byte paused begun
+row_disputed = refl
+
+-- an accepted change of a paragraph by an author with a long name, and words that are cut
+change : Row
+change = record {
+  number = 7;
+  kind = Change prop.Para;
+  verdict = Accept;
+  author = codes "Dana Fox & Company";
+  seconds = None;
+  part = codes "/word/document.xml";
+  members = 1;
+  detail = record { words = codes "The Seller delivers the goods to the store"; before = []; after = []; id = None; says = [] };
+}
+
+row_change : words_row change ≡ codes "    7 para-props   accept   Dana Fox & C" ++ dots ++ codes " {=The Seller delivers the goods " ++ dots ++ codes "=}" ++ newline
+unfolding change words_row words_columns numbered_columns quoted shown digits heard_byte paused begun
+row_change = refl

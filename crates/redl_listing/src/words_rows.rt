@@ -1,0 +1,227 @@
+//! The lines of the format `words`.
+
+ghost use Rattle.std.specs.Prelude.{◌≡◌, ◌++◌, OnOk, map};
+ghost use Rattle.std.specs.List.{flat_map};
+ghost use Rattle.redl_journal.specs.Journals.{word_text};
+ghost use Rattle.redl_listing.specs.Rows.{IsRow};
+ghost use Rattle.redl_listing.specs.Texts.{shown};
+ghost use Rattle.redl_listing.specs.Words.{closing, closing_of, in_places, near_end, numbered_columns, opening, opening_of, quoted, said_text, says_text, shortened, words_columns, words_row};
+
+use crate::fields::{push_left, push_number, push_shown, push_spaces, verdict_name};
+use crate::piece::Piece;
+use crate::row::Row;
+use redl_details::{LastWord, Says};
+use redl_excerpts::{characters_in, shortened, without_characters};
+use redl_index::RevKind;
+use redl_join::Verdict;
+use redl_journal::Word;
+use redl_tree::Trace;
+use std::alloc::{AllocError, Global};
+
+/// How many places the author has.
+const AUTHOR: usize = 13;
+
+/// How many characters of what stands before are shown.
+const BEFORE: usize = 11;
+
+/// A line for each row: number, kind, verdict and author in columns, and its words in their paragraph.
+#[derive(Drop)]
+pub struct WordsRows;
+
+impl Piece<Row> for WordsRows {
+    ghost use Rattle.std.specs.Prelude.{codes};
+    ghost use Rattle.redl_listing.specs.Words.{words_row};
+
+    ghost title = { codes "words" };
+
+    ghost piece_of = { words_row };
+
+    fn title() -> &'static str {
+        "words"
+    }
+
+    fn put(front: Vec<u8>, row: &Row) -> Result<Vec<u8>, AllocError> {
+        let mut whole = front;
+        push_words_row(&mut whole, row)?;
+        Ok(whole)
+    }
+}
+
+/// Adds the line of a row. `Err` means out of memory.
+#[tactic(auto, unfolding(crate::specs::Words::words_row))]
+fn push_words_row(line: &mut Vec<u8>, row: &Row) -> Result<(), AllocError>
+    requires { IsRow row.now }
+    ensures { OnOk result (line.new.items ≡ line.old.items ++ words_row row.now) }
+{
+    push_words_columns(line, row)?;
+    push_quoted(line, row)?;
+    push_says(line, row.verdict, &row.detail.says)?;
+    line.push(b'\n')?;
+    Ok(())
+}
+
+/// Adds number, kind, verdict and author, with a space behind each. `Err` means out of memory.
+#[tactic(auto, unfolding(crate::specs::Words::words_columns))]
+fn push_words_columns(line: &mut Vec<u8>, row: &Row) -> Result<(), AllocError>
+    requires { IsRow row.now }
+    ensures { OnOk result (line.new.items ≡ line.old.items ++ words_columns row.now) }
+{
+    push_numbered_columns(line, row)?;
+    push_left(line, verdict_name(row.verdict).as_bytes(), 8)?;
+    line.push(b' ')?;
+    push_author(line, row.author.as_bytes())?;
+    line.push(b' ')?;
+    Ok(())
+}
+
+/// Adds number and kind, with a space behind each. `Err` means out of memory.
+#[tactic(auto, unfolding(crate::specs::Words::numbered_columns))]
+fn push_numbered_columns(line: &mut Vec<u8>, row: &Row) -> Result<(), AllocError>
+    requires { IsRow row.now }
+    ensures { OnOk result (line.new.items ≡ line.old.items ++ numbered_columns row.now) }
+{
+    push_number(line, row.number, 5)?;
+    line.push(b' ')?;
+    push_left(line, row.kind.name().as_bytes(), 12)?;
+    line.push(b' ')?;
+    Ok(())
+}
+
+/// Adds an author in 13 places. `Err` means out of memory.
+fn push_author(line: &mut Vec<u8>, author: &[u8]) -> Result<(), AllocError>
+    ensures { OnOk result (line.new.items ≡ line.old.items ++ in_places 13 (shortened 12 (map shown author.now))) }
+{
+    let alloc = *line.allocator();
+    let mut name = Vec::new(alloc);
+    push_shown(&mut name, author)?;
+    let short = shortened(alloc, &name, AUTHOR as u8 - 1)?;
+    let count = characters_in(short.as_bytes());
+    line.extend_from_slice(short.as_bytes())?;
+    push_spaces(line, AUTHOR.saturating_sub(count))?;
+    Ok(())
+}
+
+/// Adds the words in their paragraph. `Err` means out of memory.
+#[tactic(auto, unfolding(crate::specs::Words::quoted))]
+fn push_quoted(line: &mut Vec<u8>, row: &Row) -> Result<(), AllocError>
+    ensures { OnOk result (line.new.items ≡ line.old.items ++ quoted row.now) }
+{
+    push_near_end(line, row.detail.before.as_bytes())?;
+    line.extend_from_slice(opening(row.kind).as_bytes())?;
+    push_shortened(line, row.detail.words.as_bytes(), 30)?;
+    line.extend_from_slice(closing(row.kind).as_bytes())?;
+    push_shortened(line, row.detail.after.as_bytes(), 10)?;
+    Ok(())
+}
+
+/// Adds the last 11 characters, with dots for those before. `Err` means out of memory.
+fn push_near_end(line: &mut Vec<u8>, text: &[u8]) -> Result<(), AllocError>
+    ensures { OnOk result (line.new.items ≡ line.old.items ++ map shown (near_end text.now)) }
+{
+    let count = characters_in(text);
+    if count <= BEFORE {
+        return push_shown(line, text);
+    }
+    line.extend_from_slice("\u{2026}".as_bytes())?;
+    push_shown(line, without_characters(count - BEFORE, text))?;
+    Ok(())
+}
+
+/// Adds the first characters, with dots for the rest. `Err` means out of memory.
+fn push_shortened(line: &mut Vec<u8>, text: &[u8], room: u8) -> Result<(), AllocError>
+    ensures { OnOk result (line.new.items ≡ line.old.items ++ map shown (shortened room text.now)) }
+{
+    let short = shortened(*line.allocator(), text, room)?;
+    push_shown(line, short.as_bytes())?;
+    Ok(())
+}
+
+/// Adds who said what, where that is disputed. `Err` means out of memory.
+fn push_says(line: &mut Vec<u8>, verdict: Verdict, says: &Says) -> Result<(), AllocError>
+    ensures { OnOk result (line.new.items ≡ line.old.items ++ says_text verdict says.now) }
+{
+    match verdict {
+        Verdict::Disputed => push_words(line, says.words()),
+        Verdict::Undecided | Verdict::Accept | Verdict::Reject => Ok(()),
+    }
+}
+
+fn push_words(line: &mut Vec<u8>, words: &[LastWord]) -> Result<(), AllocError>
+    ensures { OnOk result (line.new.items ≡ line.old.items ++ flat_map said_text words.now) }
+{
+    for said in words {
+        push_said(line, said)?;
+    }
+    Ok(())
+}
+
+fn push_said(line: &mut Vec<u8>, said: &LastWord) -> Result<(), AllocError>
+    ensures { OnOk result (line.new.items ≡ line.old.items ++ said_text said.now) }
+{
+    line.extend_from_slice(b"  ")?;
+    push_shown(line, said.reviewer.as_bytes())?;
+    line.extend_from_slice(b": ")?;
+    line.extend_from_slice(word_name(said.word).as_bytes())?;
+    Ok(())
+}
+
+/// The name of what a reviewer said.
+fn word_name(word: Word) -> &'static str
+    ensures { result.now ≡ word_text word }
+{
+    match word {
+        Word::Accept => "accept",
+        Word::Reject => "reject",
+        Word::Withdraw => "withdraw",
+    }
+}
+
+/// The sign before the words of a revision.
+fn opening(kind: RevKind) -> &'static str
+    ensures { result.now ≡ opening kind }
+{
+    match kind {
+        RevKind::Content(trace) => opening_of(trace),
+        RevKind::Mark(trace) => opening_of(trace),
+        RevKind::Row(trace) => opening_of(trace),
+        RevKind::Cell(trace) => opening_of(trace),
+        RevKind::Move => "[~",
+        RevKind::Change(_) => "{=",
+    }
+}
+
+fn opening_of(trace: Trace) -> &'static str
+    ensures { result.now ≡ opening_of trace }
+{
+    match trace {
+        Trace::Ins => "{+",
+        Trace::Del => "[-",
+        Trace::From => "[~",
+        Trace::To => "{~",
+    }
+}
+
+/// The sign behind the words of a revision.
+fn closing(kind: RevKind) -> &'static str
+    ensures { result.now ≡ closing kind }
+{
+    match kind {
+        RevKind::Content(trace) => closing_of(trace),
+        RevKind::Mark(trace) => closing_of(trace),
+        RevKind::Row(trace) => closing_of(trace),
+        RevKind::Cell(trace) => closing_of(trace),
+        RevKind::Move => "~]",
+        RevKind::Change(_) => "=}",
+    }
+}
+
+fn closing_of(trace: Trace) -> &'static str
+    ensures { result.now ≡ closing_of trace }
+{
+    match trace {
+        Trace::Ins => "+}",
+        Trace::Del => "-]",
+        Trace::From => "~]",
+        Trace::To => "~}",
+    }
+}
