@@ -6,7 +6,7 @@ use Rattle.std.specs.Option.{option_map}
 use Rattle.std.specs.Str.{bytes_eq}
 use Rattle.redl_app.proofs.TopLaws.{by_cause}
 use Rattle.redl_inputs.specs.Admission.{Admission}
-use Rattle.redl_app.specs.Commands.List.{listing, listing_named, part_names, session_rows}
+use Rattle.redl_app.specs.Commands.List.{listing, listing_named, part_names, session_details, session_rows}
 use Rattle.redl_app.specs.Files.{where_ok}
 use Rattle.redl_app.specs.Finishing.{Ends, Finishes}
 use Rattle.redl_app.specs.Formats.{Format, LeavesFormats, format_named, formats_by, found_format, has_format, whether}
@@ -19,12 +19,13 @@ use Rattle.redl_journal.specs.declared.entry.Entry.{Entry}
 use Rattle.redl_lines.specs.Ends.{End, end_status, failed, written_status}
 use Rattle.redl_lines.specs.Refused.{RefusedEntries}
 use Rattle.redl_lines.specs.Failures.{Failure, caused, unread, no_memory, no_format, failure_status}
+use Rattle.redl_details.specs.declared.detail.Detail.{Detail}
 use Rattle.redl_listing.proofs.NameLaws.{named_here, named_later}
 use Rattle.redl_listing.specs.Formats.{IsListed, first_named}
 use Rattle.redl_index.specs.declared.revision.Revision.{Revision}
 use Rattle.redl_join.specs.Verdicts.{verdict_at}
 use Rattle.redl_join.specs.declared.verdict.Verdict.{Verdict}
-use Rattle.redl_listing.specs.Rows.{rows_of}
+use Rattle.redl_listing.specs.Rows.{told_rows}
 use Rattle.redl_listing.specs.declared.row.Row.{Row}
 use Rattle.redl_session.specs.Says.{verdicts_of}
 
@@ -79,17 +80,17 @@ abbrev pub made_by : Admission → List ℕ → Writing
 made_by admission bytes = record { bytes = bytes; remarks = admission.remarks }
 
 listed_by : {F : Type 0} (name_of : F → List ℕ) (text_of : F → List Row → Bool → List ℕ) (name : List ℕ) (admission : Admission) (made : List ℕ) (first : Option F)
-    → IsListed first (λ format. text_of format (session_rows admission.state) true) true made
-    → found_format name (option_map (format_by name_of text_of) first) >>= (λ format. Ok (listing admission format)) ≡ Ok (made_by admission made)
+    → IsListed first (λ format. text_of format (session_rows name admission.state) true) true made
+    → found_format name (option_map (format_by name_of text_of) first) >>= (λ format. Ok (listing name admission format)) ≡ Ok (made_by admission made)
 listed_by name_of text_of name admission made None (found, is) = absurd (cc found)
 listed_by name_of text_of name admission made (Some format) (found, is) = ap (λ bytes. Ok (made_by admission bytes)) (sym is)
 
 -- the format was found
 pub listed_text : {F : Type 0} (name_of : F → List ℕ) (text_of : F → List Row → Bool → List ℕ) (name : List ℕ) (admission : Admission) (made : List ℕ) (formats : List F)
-    → IsListed (first_named name_of name formats) (λ format. text_of format (session_rows admission.state) true) true made
+    → IsListed (first_named name_of name formats) (λ format. text_of format (session_rows name admission.state) true) true made
     → listing_named (formats_by name_of text_of formats) name admission ≡ Ok (made_by admission made)
 listed_text name_of text_of name admission made formats is =
-    ap (λ found. found >>= (λ format. Ok (listing admission format))) (named-by name_of text_of name formats)
+    ap (λ found. found >>= (λ format. Ok (listing name admission format))) (named-by name_of text_of name formats)
     ∙ listed_by name_of text_of name admission made (first_named name_of name formats) is
 
 -- as many verdicts as revisions
@@ -104,16 +105,17 @@ found_there name_of text_of text name found made (Some format) there listed = li
 
 -- the format made the listing
 pub reads_listing : {F : Type 0} (name_of : F → List ℕ) (text_of : F → List Row → Bool → List ℕ) (name : List ℕ) (admission : Admission) (formats : List F)
-    (parts : List (List ℕ)) (revisions : List Revision) (verdicts : List Verdict) (found : Bool) (made : List ℕ)
+    (parts : List (List ℕ)) (revisions : List Revision) (verdicts : List Verdict) (details : List Detail) (found : Bool) (made : List ℕ)
     → parts ≡ part_names admission.state.nodes → revisions ≡ admission.state.revisions → verdicts ≡ verdicts_of admission.state.book (length admission.state.revisions)
+    → details ≡ session_details name admission.state
     → whether (format_named (formats_by name_of text_of formats) name) ≡ Ok tt
-    → IsListed (first_named name_of name formats) (λ format. text_of format (rows_of parts revisions verdicts) true) found made
+    → IsListed (first_named name_of name formats) (λ format. text_of format (told_rows parts revisions verdicts details) true) found made
     → Reads (Ok (made_by admission made)) (λ reader. listing_named (formats_by name_of text_of formats) name admission)
-reads_listing name_of text_of name admission formats parts revisions verdicts found made of_parts of_revisions of_verdicts there listed =
+reads_listing name_of text_of name admission formats parts revisions verdicts details found made of_parts of_revisions of_verdicts of_details there listed =
     let is : found ≡ true = found_there name_of text_of _ name found made (first_named name_of name formats)
     (ap whether (sym (named-by name_of text_of name formats)) ∙ there) listed in
     record {
-      as_due = λ reader reads. listed_text name_of text_of name admission made formats (rw (of_parts, of_revisions, of_verdicts, is) at listed);
+      as_due = λ reader reads. listed_text name_of text_of name admission made formats (rw (of_parts, of_revisions, of_verdicts, of_details, is) at listed);
       never_unread = tt;
     }
 

@@ -1,13 +1,15 @@
 -- `list P` with a format, journals and locks: a row for each revision, with the verdict on it.
-use Rattle.std.specs.Prelude.{ℕ, List, map, length, Result, Ok}
+use Rattle.std.specs.Prelude.{ℕ, Bool, List, [], map, length, codes, bytes_eq, if◌then◌else◌, Result, Ok}
 use Rattle.redl_inputs.specs.Admission.{Admission, opened}
 use Rattle.redl_app.specs.Formats.{Format, format_named}
 use Rattle.redl_inputs.specs.Readers.{Reader}
 use Rattle.redl_inputs.specs.Steps.{◌>>=◌}
 use Rattle.redl_app.specs.Writing.{Writing}
+use Rattle.redl_details.specs.declared.detail.Detail.{Detail}
+use Rattle.redl_details.specs.Details.{package_details}
 use Rattle.redl_io.specs.Shelf.{Files}
 use Rattle.redl_lines.specs.Failures.{Failure}
-use Rattle.redl_listing.specs.Rows.{rows_of}
+use Rattle.redl_listing.specs.Rows.{told_rows}
 use Rattle.redl_listing.specs.declared.row.Row.{Row}
 use Rattle.redl_opc.specs.Parts.{name_in}
 use Rattle.redl_opc.specs.Shape.{parts_of}
@@ -20,19 +22,28 @@ use Rattle.redl_tree.specs.Model.Nodes.{Nodes}
 abbrev pub part_names : Nodes → List (List ℕ)
 part_names nodes = map (λ part. name_in part.tag) (parts_of nodes)
 
--- a row for each revision of a session's package, with the verdict of the session's book
-abbrev pub session_rows : State → List Row
-session_rows state = rows_of (part_names state.nodes) state.revisions (verdicts_of state.book (length state.revisions))
+-- the format that shows details
+abbrev pub shows_details : List ℕ → Bool
+shows_details name = bytes_eq name (codes "words")
+
+-- the details of a session's revisions, where the format shows them
+abbrev pub session_details : List ℕ → State → List Detail
+session_details name state = if shows_details name then package_details state.nodes state.revisions state.book else []
+
+-- a row for each revision of a session's package, with the verdict of the session's book, for the format with this name
+abbrev pub session_rows : List ℕ → State → List Row
+session_rows name state =
+    told_rows (part_names state.nodes) state.revisions (verdicts_of state.book (length state.revisions)) (session_details name state)
 
 -- the text of the format for these rows
-abbrev pub listing : Admission → Format → Writing
-listing admission format = record { bytes = format.text (session_rows admission.state); remarks = admission.remarks }
+abbrev pub listing : List ℕ → Admission → Format → Writing
+listing name admission format = record { bytes = format.text (session_rows name admission.state); remarks = admission.remarks }
 
 -- the same in the first format that has the name
 abbrev pub listing_named : List Format → List ℕ → Admission → Result Writing Failure
 listing_named formats name admission = do
   format ← format_named formats name
-  Ok (listing admission format)
+  Ok (listing name admission format)
 
 -- what is written of the package with this text
 abbrev pub listed : Reader → Files → List Format → List ℕ → List Lock → List (List ℕ) → List ℕ → Result Writing Failure

@@ -1,22 +1,25 @@
 //! `list P` with a format, journals and locks.
 
 ghost use Rattle.std.specs.Prelude.{◌≡◌, ◌<◌, length, slice_get, Ok, Some, All, IsUtf8, IfOk};
-ghost use Rattle.redl_app.specs.Commands.List.{listed, listing_named, part_names};
+ghost use Rattle.redl_app.specs.Commands.List.{listed, listing_named, part_names, session_details};
 ghost use Rattle.redl_app.specs.Formats.{AreFresh, LeavesFormats, format_named, formats_by, whether};
 ghost use Rattle.redl_inputs.specs.Reading.{ReadsFiles, Reads};
 ghost use Rattle.redl_app.specs.Views.{writing_view};
 ghost use Rattle.redl_inputs.specs.Views.{admission_view, result_view};
 ghost use Rattle.redl_app.specs.Writing.{outcome_of};
+ghost use Rattle.redl_details.specs.Details.{IsDetail};
 ghost use Rattle.redl_listing.specs.Formats.{without_named};
 ghost use Rattle.redl_opc.specs.Shape.{parts_of};
 
 use crate::output::{Output, Writing};
+use redl_details::{Detail, package_details};
 use redl_inputs::{Admitted, open_package, read_package};
 use redl_io::{Shelf, Text};
 use redl_lines::Failure;
-use redl_listing::RowFormat;
+use redl_listing::{RowFormat, list_told};
 use redl_opc::Package;
 use redl_select::Lock;
+use redl_session::Session;
 use std::alloc::{AllocError, Global};
 
 /// The listing of the package with this text, in the first format that has the name and is there, under the joined verdicts of the journals
@@ -89,13 +92,28 @@ fn list_revisions<'a, 'b>(
         ..
     } = admitted;
     let verdicts = session.verdicts()?;
+    let details = session_details(alloc, name, &session)?;
     // The nodes go before the rows come, so that they aren't in memory together.
     let index = session.into_index();
     let mut made = Vec::new(alloc);
     // The format is there.
-    let _ = redl_listing::list(alloc, formats, name, parts, &index, &verdicts, &mut made)?;
+    let _ = list_told(
+        alloc, formats, name, parts, &index, &verdicts, &details, &mut made,
+    )?;
     Ok(Writing {
         output: Output::Listing(made),
         remarks,
     })
+}
+
+// The details of a session's revisions, where the format with this name shows them. The nodes are needed for them.
+fn session_details(alloc: Global, name: &str, session: &Session) -> Result<Vec<Detail>, AllocError>
+    ensures value { IfOk result (λ details. details.items ≡ session_details name.now session.now) }
+    ensures utf8 { IfOk result (λ details. All IsDetail details.items) }
+{
+    if name != "words" {
+        return Ok(Vec::new(alloc));
+    }
+    let details = package_details(alloc, session.package(), session.index(), session.book())?;
+    Ok(details)
 }

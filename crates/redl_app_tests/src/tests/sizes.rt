@@ -96,7 +96,7 @@ fn a_file_is_fetched_with_one_byte_more_than_may_come(rt: HostRuntime) -> Result
     let status = call(alloc, "write P J K", &mut shelf, &mut noting_sink(alloc))?;
     let left = 67_108_865usize.saturating_sub(shelf.journal.len());
     let caps = shelf.caps.as_slice();
-    let is_wanted = caps == [67_108_865, 67_108_865, left].as_slice();
+    let is_wanted = caps == [134_217_729, 67_108_865, left].as_slice();
     assert!(rt; is_wanted && status == Status::Done, "{status:?}: {caps:?}");
     Ok(())
 }

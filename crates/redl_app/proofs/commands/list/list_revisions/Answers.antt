@@ -3,13 +3,13 @@ use Rattle.redl_app.proofs.FormatLaws.{reads_listing, verdicts_for}
 use Rattle.redl_inputs.specs.Views.{admission_view}
 use Rattle.redl_app.proofs.commands.list.list_revisions.Goals as goal
 
-pub list-requires-clause-verdicts : goal.list-requires-clause-verdicts
-list-requires-clause-verdicts g c =
+pub list_told-requires-clause-verdicts : goal.list_told-requires-clause-verdicts
+list_told-requires-clause-verdicts g c =
     let state = (admission_view c.args.admitted).state in
     verdicts_for state.book (length state.revisions) c.deref.result.now (c.deref.ensures.value ∙ c.in_ok-verdicts.ensures) ∙ sym (ap length c.into_index-index.ensures)
 
 pub returns-clause-read : goal.returns-clause-read
 returns-clause-read g c =
     reads_listing (λ b. (goal.RowFormat-dyn g (b.vtable, b.value)).format_name b.value) (λ b. (goal.RowFormat-dyn g (b.vtable, b.value)).text_for b.value)
-    c.args.name.now (admission_view c.args.admitted) c.args.formats.now.items c.args.parts.now c.into_index-index.result c.deref.result.now c.in_ok-list.field-0 c.list.new.made.items
-    c.requires.names c.into_index-index.ensures (c.deref.ensures.value ∙ c.in_ok-verdicts.ensures) c.requires.there c.in_ok-list.ensures.listed
+    c.args.name.now (admission_view c.args.admitted) c.args.formats.now.items c.args.parts.now c.into_index-index.result c.deref.result.now c.deref-2.result.now c.in_ok-list_told.field-0 c.list_told.new.made.items
+    c.requires.names c.into_index-index.ensures (c.deref.ensures.value ∙ c.in_ok-verdicts.ensures) (c.deref-2.ensures.value ∙ c.in_ok-details.ensures.value) c.requires.there c.in_ok-list_told.ensures.listed
