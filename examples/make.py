@@ -12,6 +12,7 @@ import sys
 import contract
 import page
 import reading
+from words import listed
 
 HERE = os.path.dirname(os.path.abspath(__file__))
 # How a word processor finds the document of a package.
@@ -173,6 +174,7 @@ def make_contract(folder):
     folder.save("contract.joined.journal", reading.journal(read, reading.in_order(entries)))
     for form in ["text", "tab", "json"]:
         folder.save("contract.list." + form, reading.listed(read, entries, form))
+    folder.save("contract.list.words", listed(read, entries))
     folder.save("contract.page.html", page.page(read, entries))
     # Ann accepts all of Cara's changes in one go, but for the two in the sentence on prices.
     of_cara = [number for number, it in enumerate(read.revisions, 1) if it.author == "Cara Lee"]

@@ -1,0 +1,152 @@
+"""A second writer of the listing `words`, as docs/DEFINITIONS.md tells it.
+
+    python3 words.py PACKAGE [JOURNAL ..]        the listing, on standard output
+
+It shares no code with the program. make.py makes by it what `list --format words` is to write of the examples.
+"""
+import re
+import sys
+
+import reading
+import texts
+
+SIGNS = {"ins": ("{+", "+}"), "del": ("[-", "-]"), "from": ("[~", "~]"), "to": ("{~", "~}")}
+BREAKS = ("tab", "br", "cr", "p")
+
+
+def said(nodes, in_line, in_text=False):
+    """What nodes say; in a line without the paragraphs inside."""
+    out = ""
+    for node in nodes:
+        if isinstance(node, str):
+            out += texts.shown(node) if in_text else ""
+        elif not reading.is_quiet(node) and not (in_line and node.is_w("p")):
+            if node.is_w(*BREAKS):
+                out += " "
+            elif node.is_w("noBreakHyphen"):
+                out += "\u2011"
+            out += said(node.kids, in_line, node.is_w("t", "delText"))
+    return out
+
+
+def spaced(text):
+    return re.sub("[ \t\r\n]+", " ", text)
+
+
+def shortened(text, room):
+    text = spaced(text)
+    return text if len(text) <= room or not text[room:].strip(" ") else text[:room] + "\u2026"
+
+
+def owner_of(member):
+    """What a member is of: itself where it is content, else the nearest ancestor that is no properties."""
+    while reading.is_quiet(member.parent):
+        member = member.parent
+    return member.parent
+
+
+def before_in(paragraph, element):
+    """What a paragraph says before an element in it."""
+
+    def walk(nodes, in_text):
+        out = ""
+        for node in nodes:
+            if node is element:
+                return out, True
+            if isinstance(node, str):
+                out += texts.shown(node) if in_text else ""
+            elif not reading.is_quiet(node) and not node.is_w("p"):
+                out += said([cut(node)], True)
+                inner, found = walk(node.kids, node.is_w("t", "delText"))
+                out += inner
+                if found:
+                    return out, True
+        return out, False
+
+    return walk(paragraph.kids, False)[0]
+
+
+def cut(node):
+    """The element without its kids."""
+    return reading.Element(node.name, node.tail, node.space, node.parent)
+
+
+def round_of(element):
+    """What stands before and behind an element in its paragraph."""
+    paragraph = next((above for above in element.ancestors() if above.is_w("p")), None)
+    if paragraph is None:
+        return "", ""
+    line = spaced(said(paragraph.kids, True)).removeprefix(" ")
+    start = len(spaced(before_in(paragraph, element)).removeprefix(" "))
+    whole = before_in(paragraph, element) + said(element.kids, True)
+    end = len(spaced(whole).removeprefix(" "))
+    return line[:start], line[end:]
+
+
+def mention(member):
+    """What a member tells: its words, and what stands before and behind them."""
+    if member.role == "mark":
+        paragraph = next(above for above in member.ancestors() if above.is_w("p"))
+        return "\u00b6", spaced(said(paragraph.kids, True)).removeprefix(" "), ""
+    element = member if member.role == "content" else owner_of(member)
+    words = said(element.kids, False)
+    if element.is_w("p"):
+        return words, "", ""
+    return (words, *round_of(element))
+
+
+def excerpt(package, number):
+    members = [element for _, root in package.stories for element in reading.elements([root])]
+    members = [element for element in members if element.number == number and element.role != "marker"]
+    kind = package.revisions[number - 1].kind
+    if kind == "move":
+        members = [element for element in members if element.trace == "from" and element.role == "content"]
+    told = [mention(member) for member in members]
+    words = spaced("".join(words for words, _, _ in told))
+    if not (kind in ("ins", "del", "move") or kind.startswith(("move-", "mark-"))):
+        words = words.removeprefix(" ")
+    before = told[0][1][-40:] if told else ""
+    return shortened(words, 200), before, told[-1][2][:40] if told else ""
+
+
+def near_end(text):
+    return text if len(text) <= 11 else "\u2026" + text[-11:]
+
+
+def signs_of(kind):
+    if kind == "move":
+        return SIGNS["from"]
+    return SIGNS.get(kind.rpartition("-")[2], ("{=", "=}"))
+
+
+def says_of(number, entries):
+    """The last words on a revision, in the order of entries."""
+    here = [entry for entry in entries if entry.revision == number]
+    last = [entry for entry in here if entry.sequence == max(it.sequence for it in here if it.reviewer == entry.reviewer)]
+    return "".join("  %s: %s" % (entry.reviewer, entry.word) for entry in last)
+
+
+def listed(package, entries):
+    """The listing of a package in the format `words`."""
+    entries = reading.admitted(package, entries)
+    out = []
+    for number, revision in enumerate(package.revisions, 1):
+        words, before, after = excerpt(package, number)
+        verdict = reading.verdict(number, entries)
+        begin, end = signs_of(revision.kind)
+        quoted = near_end(before) + begin + shortened(words, 30) + end + shortened(after, 10)
+        line = "%5d %-12s %-8s %-13s %s" % (number, revision.kind, verdict, shortened(revision.author, 12), quoted)
+        out.append(line + (says_of(number, entries) if verdict == "disputed" else "") + "\n")
+    return "".join(out)
+
+
+def entries_of(journal):
+    for line in journal.splitlines()[3:]:
+        sequence, revision, word, *rank, reviewer = line.split("\t")
+        yield reading.Entry(reviewer, int(sequence), int(revision), word, *map(int, rank))
+
+
+if __name__ == "__main__":
+    texts_of = [open(name, newline="", encoding="utf-8").read() for name in sys.argv[1:]]
+    entries = [entry for journal in texts_of[1:] for entry in entries_of(journal)]
+    sys.stdout.write(listed(reading.Package(texts_of[0]), entries))
