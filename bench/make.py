@@ -2,7 +2,7 @@
 
     python3 make.py document BYTES FILE          paragraphs up to so many bytes
     python3 make.py package BYTES FILE           a package of several parts, as a word processor saves one: a document with
-                                                 references in its text and many attributes, styles, a picture of 6 MB
+                                                 references in its text and many attributes, styles, pictures
     python3 make.py changes BYTES FILE           paragraphs with a tracked mark and changes of properties, up to so many bytes
     python3 make.py nodes COUNT FILE             a document of so many small nodes
     python3 make.py reviewed PARAGRAPHS ENTRIES FOLDER
@@ -69,10 +69,10 @@ PACKAGE_MIDDLE = (
     '<pkg:xmlData><w:styles xmlns:w="http://schemas.openxmlformats.org/wordprocessingml/2006/main">'
 )
 STYLE = '<w:style w:type="paragraph" w:styleId="Style%d"><w:name w:val="Style %d"/><w:pPr><w:spacing w:after="120"/></w:pPr></w:style>'
-PACKAGE_BACK = (
-    "</w:styles></pkg:xmlData></pkg:part>"
-    '<pkg:part pkg:name="/word/media/image1.png" pkg:contentType="image/png" pkg:compression="store"><pkg:binaryData>%s'
-    "</pkg:binaryData></pkg:part></pkg:package>\n"
+PACKAGE_BACK = "</w:styles></pkg:xmlData></pkg:part>%s</pkg:package>\n"
+PICTURE = (
+    '<pkg:part pkg:name="/word/media/image%d.png" pkg:contentType="image/png" pkg:compression="store"><pkg:binaryData>%s'
+    "</pkg:binaryData></pkg:part>"
 )
 LINE = "iVBORw0KGgoAAAANSUhEUgAAAAEAAAABCAYAAAAfFcSJAAAADUlEQVR42mNkYPhfDwAEhAGA\r\n"
 LETTER_PARAGRAPH = (
@@ -83,11 +83,21 @@ LETTER_PARAGRAPH = (
 )
 
 
+def pictures(size):
+    """Pictures of a tenth of a package of this size, of 6 MB at most each, and of what is above 100 MB, since the paragraphs
+    of a larger document would be more nodes than a package may have."""
+    left = max(size // 10, size - 100000000) if size > 60000000 else size // 10
+    made = []
+    while left > 0:
+        made.append(PICTURE % (len(made) + 1, LINE * (min(left, 6000000) // len(LINE))))
+        left -= 6000000
+    return "".join(made)
+
+
 def package(size):
     """A package of about so many bytes."""
-    picture = LINE * (6000000 // len(LINE))
     styles = "".join(STYLE % (i, i) for i in range(400))
-    back = PACKAGE_MIDDLE + styles + PACKAGE_BACK % picture
+    back = PACKAGE_MIDDLE + styles + PACKAGE_BACK % pictures(size)
     pieces = [PACKAGE_FRONT]
     left = size - len(PACKAGE_FRONT) - len(back)
     i = 0
