@@ -39,7 +39,10 @@ fn heads_of_no_journal_are_refused(rt: HostRuntime) -> Result<(), Fail> {
     for (fault, parts) in [
         ("nothing", [b"".as_slice(), b"".as_slice(), b"".as_slice()]),
         ("version 3", [b"redline-journal 3\ndocument ", ZEROS, COUNT]),
-        ("version 02", [b"redline-journal 02\ndocument ", ZEROS, COUNT]),
+        (
+            "version 02",
+            [b"redline-journal 02\ndocument ", ZEROS, COUNT],
+        ),
         ("no title", [b"document ", ZEROS, COUNT]),
         ("63 digits", [TITLE, &ZEROS[1..], COUNT]),
         ("upper-case digits", [TITLE, UPPER, COUNT]),
@@ -134,7 +137,11 @@ fn journals_are_written_as_they_were_read(rt: HostRuntime) -> Result<(), Fail> {
 #[test]
 fn ranks_of_0_are_written_in_version_1(rt: HostRuntime) -> Result<(), Fail> {
     for (ranked, plain, entries) in [
-        (b"\nrevisions 3\n".as_slice(), b"\nrevisions 3\n".as_slice(), 0),
+        (
+            b"\nrevisions 3\n".as_slice(),
+            b"\nrevisions 3\n".as_slice(),
+            0,
+        ),
         (
             b"\nrevisions 3\n1\t1\taccept\t0\tAnn\n",
             b"\nrevisions 3\n1\t1\taccept\tAnn\n",
@@ -143,7 +150,10 @@ fn ranks_of_0_are_written_in_version_1(rt: HostRuntime) -> Result<(), Fail> {
     ] {
         let text = text_of(rt.alloc(), &[RANKED, EMPTY, ranked])?;
         let want = text_of(rt.alloc(), &[TITLE, EMPTY, plain])?;
-        assert!(rt; is_written(rt.alloc(), &text, entries, &want)?, "{entries} entries");
+        assert!(rt;
+            is_written(rt.alloc(), &text, entries, &want)?,
+            "{entries} entries"
+        );
     }
     Ok(())
 }
@@ -159,9 +169,11 @@ fn has_copy(
     reviewer: &[u8],
 ) -> Result<bool, AllocError> {
     let copy = entry.copy(alloc)?;
-    Ok((copy.seq, copy.rev, copy.rank) == (seq, rev, rank)
-        && copy.word == word
-        && copy.reviewer.as_bytes() == reviewer)
+    Ok(
+        (copy.seq, copy.rev, copy.rank) == (seq, rev, rank)
+            && copy.word == word
+            && copy.reviewer.as_bytes() == reviewer,
+    )
 }
 
 #[test]
