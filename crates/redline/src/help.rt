@@ -11,7 +11,6 @@ pub const HELP: &str =
   redline list P ITEM ..        lists the changes, with what the journals come to on each
   redline decide P WHO ITEM ..  writes the journal of what the reviewer WHO decides
   redline write P ITEM ..       writes P with the changes decided as its reviewers agree
-  redline text P --view V       writes the text of P; V is original, final or marked
   redline settle accept P       writes P with each change accepted
   redline settle reject P       writes P with each change rejected
   redline join J ..             writes the journal of several journals together
@@ -21,7 +20,7 @@ P is a document that Word saved as \"Word XML Document (*.xml)\"; redline-docx t
 J is a journal: the text file of what reviewers decided.
 ITEM is --lock AUTHOR, --lock-kind KIND or --lock-span SPAN: nobody decides these changes;
   for list and write also J, and for decide --journal J;
-  for list also --format text, tab or json;
+  for list also --format text, tab, json or words;
   for decide also --accept CHANGES, --reject CHANGES or --withdraw CHANGES, once at least,
   and --rank N, from 0 to 9: the highest rank that has a word on a change decides it.
 CHANGES is all, numbers:3,7, \"author:Ann Gray\", kind:KIND or span:SPAN.

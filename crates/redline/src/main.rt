@@ -16,8 +16,8 @@ ghost use Rattle.std.specs.Vec.Iter.{into_iter_items};
 use help::{HELP, VERSION};
 use redl_app::{Status, WordsError, add_word, refuse_words, run, tell_text};
 use redl_hints::{Told, tell_hints};
-use redl_io::{FileShelf, Shelf, Sink, StdSink, Text};
-use redl_listing::{JsonFormat, TabFormat, TextFormat, add_format};
+use redl_io::{FileShelf, Shelf, Sink, StdSink, SureShelf, Text};
+use redl_listing::{JsonFormat, TabFormat, TextFormat, WordsFormat, add_format};
 use std::alloc::{AllocError, Global};
 use std::env;
 use std::env::Args;
@@ -50,7 +50,9 @@ fn run_with_hints<F: Shelf, O: Sink, E: Sink>(
     requires { All IsUtf8 words.now }
 {
     let status = run_words(alloc, words, shelf, out, err);
-    tell_hints(alloc, words, HELP, shelf, err);
+    // No file is opened again for a hint: a pipe would wait for a writer that is gone.
+    let mut nothing = SureShelf::new(Vec::new(alloc));
+    tell_hints(alloc, words, HELP, &mut nothing, err);
     status
 }
 
@@ -84,6 +86,7 @@ fn run_with_formats<F: Shelf, O: Sink, E: Sink>(
     add_format(&mut formats, Box::new(alloc, TextFormat::new(alloc)?)?)?;
     add_format(&mut formats, Box::new(alloc, TabFormat::new(alloc)?)?)?;
     add_format(&mut formats, Box::new(alloc, JsonFormat::new(alloc)?)?)?;
+    add_format(&mut formats, Box::new(alloc, WordsFormat::new(alloc)?)?)?;
     Ok(run(alloc, words, shelf, out, err, &mut formats))
 }
 
