@@ -98,7 +98,7 @@ so_far-step waits left b bs rest e r = (
 
 -- ---- safety
 
--- a byte that is none of the five
+-- a byte that is not one of the five
 other_safe : (b : ℕ) (bs : List ℕ) → eqb b 38 ≡ false → eqb b 60 ≡ false → eqb b 62 ≡ false → eqb b 34 ≡ false → eqb b 39 ≡ false → is_safe bs ≡ true
     → is_safe ((if is_lead b then [] else if is_control b then replacement else b ∷ []) ++ bs) ≡ true
 other_safe b bs amp lt gt quot apos h = at (is_lead b) (is_control b)

@@ -8,7 +8,7 @@ use Rattle.redl_shown.specs.declared.parts.Part.{Part}
 use Rattle.redl_shown.specs.declared.parts.Part.TheVariants.{Characters, Reference, Comment, Instruction, Cdata}
 use Rattle.redl_shown.specs.declared.parts.Here.{Here}
 
--- in this part, after so many bytes: those of an opening or of an ending
+-- in this part, after its first `skip` bytes, which are those of an opening or of an ending
 abbrev pub in_part : Part → ℕ → Here
 in_part part skip = record { part = part; skip = skip }
 
