@@ -35,7 +35,7 @@ def spaced(text):
 
 def shortened(text, room):
     text = spaced(text)
-    return text if len(text) <= room or not text[room:].strip(" ") else text[:room] + "\u2026"
+    return text[:room] + ("\u2026" if text[room:].strip(" ") else "")
 
 
 def owner_of(member):
