@@ -7,6 +7,8 @@
     python3 make.py nodes COUNT FILE             a document of so many small nodes
     python3 make.py reviewed PARAGRAPHS ENTRIES FOLDER
                                                  P with two revisions a paragraph, and the journals J0, J1 and J2
+    python3 make.py ranked PARAGRAPHS ENTRIES FOLDER
+                                                 the same, and of each journal every second entry has rank 1
     python3 make.py shape NAME FILE [SCALE]      a document of 6 to 60 MB of an unusual shape, or so many times as large
     python3 make.py deep NAME FILE               a sound document whose elements stand 512 deep, as deep as they may
     python3 make.py text NAME FILE               a text that is deep, wide or long, and no package
@@ -119,11 +121,14 @@ def nodes(count):
     return FRONT + "<w:p><w:r><w:br/><w:tab/></w:r><w:r/></w:p>" * ((count - 6) // 5) + BACK
 
 
-def journal(whole, revisions, entries, k):
-    """Reviewer k's journal: their share of the entries, spread over the revisions, with rising sequence numbers."""
-    lines = ["redline-journal 1\n", "document %s\n" % hashlib.sha256(whole).hexdigest(), "revisions %d\n" % revisions]
+def journal(whole, revisions, entries, k, has_ranks=False):
+    """Reviewer k's journal: their share of the entries, spread over the revisions, with rising sequence numbers and, where it has
+    ranks, the ranks 0 and 1 in turn."""
+    version = 2 if has_ranks else 1
+    lines = ["redline-journal %d\n" % version, "document %s\n" % hashlib.sha256(whole).hexdigest(), "revisions %d\n" % revisions]
     for seq, i in enumerate(range(k, entries, len(REVIEWERS)), 1):
-        lines.append("%d\t%d\t%s\t%s\n" % (seq, 1 + i * 7919 % revisions, WORDS[i % len(WORDS)], REVIEWERS[k]))
+        rank = "%d\t" % (seq % 2) if has_ranks else ""
+        lines.append("%d\t%d\t%s\t%s%s\n" % (seq, 1 + i * 7919 % revisions, WORDS[i % len(WORDS)], rank, REVIEWERS[k]))
     return "".join(lines)
 
 
@@ -261,11 +266,11 @@ def save(name, whole):
         file.write(whole)
 
 
-def reviewed(paragraphs, entries, folder):
+def reviewed(paragraphs, entries, folder, has_ranks=False):
     whole = FRONT + "".join(map(paragraph, range(paragraphs))) + BACK
     save(folder + "/P", whole)
     for k in range(len(REVIEWERS)):
-        save("%s/J%d" % (folder, k), journal(whole.encode(), 2 * paragraphs, entries, k))
+        save("%s/J%d" % (folder, k), journal(whole.encode(), 2 * paragraphs, entries, k, has_ranks))
 
 
 def shape(name, scale=1.0):
@@ -273,8 +278,8 @@ def shape(name, scale=1.0):
 
 
 def main(form, value, *rest):
-    if form == "reviewed":
-        reviewed(int(value), int(rest[0]), rest[1])
+    if form in ("reviewed", "ranked"):
+        reviewed(int(value), int(rest[0]), rest[1], form == "ranked")
         return
     made = {
         "document": lambda: document(int(value)),
