@@ -44,9 +44,18 @@ def make_files():
     put("sp.journal", lines(*head, *[entry.replace(b"\t", b" ") for entry in entries]))
     put("note.journal", lines(*head, b"# too early", *entries))
     put("cap.journal", journal.replace(b"accept", b"Accept"))
-    put("tr.journal", lines(*head, *[entry + b" " for entry in entries]))
+    put("acc.journal", journal.replace(b"accept", b"accepted"))
+    put("tr.journal", b"".join(line + b" \n" for line in journal.split(b"\n")[:-1]))
+    put("head.journal", lines(*head))
+    put("cnt.journal", journal.replace(b"revisions 49", b"revisions 48"))
+    put("digest.journal", lines(head[0], head[1][:-1], head[2], *entries))
+    put("far.journal", lines(*head, *(entries * 3000), b"accept"))
+    for name, word in [("a1", "accept"), ("a2", "reject")]:
+        put(name + ".journal", lines(*head, b"1\t1\t%s\tAnn Gray" % word.encode()))
+    put("a3.journal", lines(*head, b"1\t1\taccept\tAnn  Gray"))
     put("empty.journal", b"")
     put("h1.journal", b"redline-journal 1\n")
+    put("v2.journal", journal.replace(b"redline-journal 1", b"redline-journal 2"))
     put("v3.journal", journal.replace(b"redline-journal 1", b"redline-journal 3"))
     put("u16.xml", contract.decode().encode("utf-16"))
     put("cp.xml", contract.replace(b'encoding="UTF-8"', b'encoding="windows-1252"'))
@@ -56,6 +65,8 @@ def make_files():
     put("empty.xml", b"")
     put("x.pdf", b"%PDF-1.7\n")
     put("cut.xml", contract[:1000])
+    put("tail.xml", contract + b"<!-- approved -->")
+    put("crlf.xml", contract.replace(b"\n", b"\r\n"))
     put("dt.xml", contract.replace(b"<pkg:package", b"<!DOCTYPE x><pkg:package", 1))
 
 

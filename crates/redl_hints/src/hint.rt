@@ -22,3 +22,19 @@ pub(crate) fn add_hint_on(hints: &mut Vec<u8>, text: &str, name: &str) -> Result
     hints.extend_from_slice(name.as_bytes())?;
     hints.extend_from_slice(b"\n")
 }
+
+/// Adds the line of a hint with a name between two texts. `Err` means out of memory.
+pub(crate) fn add_hint_in(
+    hints: &mut Vec<u8>,
+    before: &str,
+    name: &str,
+    after: &str,
+) -> Result<(), AllocError>
+    ensures { OnOk result (hints.new.items ≡ ((((hints.old.items ++ codes "redline: hint: ") ++ before.now) ++ name.now) ++ after.now) ++ codes "\n") }
+{
+    hints.extend_from_slice(b"redline: hint: ")?;
+    hints.extend_from_slice(before.as_bytes())?;
+    hints.extend_from_slice(name.as_bytes())?;
+    hints.extend_from_slice(after.as_bytes())?;
+    hints.extend_from_slice(b"\n")
+}

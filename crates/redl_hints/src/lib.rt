@@ -1,19 +1,24 @@
 //! Hints for the person at the terminal: what probably went wrong with a call, and what to try.
-//! The words of the call, the program's help and the lines that the call told go in; lines that begin with `redline: hint: `
-//! come out. Read `tell_hints` first.
+//! The words of the call, the program's help, the lines that the call told and the file that it read last go in; lines that
+//! begin with `redline: hint: ` come out. Read `tell_hints` first.
 //! Hints have no say in a call's status or bytes: whatever they say, the call has ended before. They are tested and not
 //! specified, and a script passes over them.
 #![tactic(auto)]
 
+mod choices;
+mod fetched;
 mod hint;
 mod journals;
 mod names;
+mod numbers;
 mod packages;
+mod places;
 mod rules;
-mod selections;
 mod tell;
 mod told;
 mod usage;
+mod values;
 
-pub use tell::tell_hints;
+pub use fetched::{Ends, Fetched};
+pub use tell::{tell_hints, tell_word_hint};
 pub use told::Told;

@@ -1,9 +1,20 @@
 //! What a file is that is no package.
 
+use crate::fetched::Ends;
 use bstr::ByteSlice;
 
-/// What a file probably is that is no package and begins with these bytes, and what to do with it.
-pub(crate) fn guess_of_package(front: &[u8]) -> Option<&'static str> {
+// How much of a text is looked at.
+const FRONT: usize = 4096;
+
+/// What a text probably is that is no package, and what to do with it.
+pub(crate) fn guess_of_package(text: &Ends) -> Option<&'static str> {
+    if text.is_empty() {
+        return Some(
+            "the package is an empty file; a shell empties the file that it sends output to",
+        );
+    }
+    let whole = text.front();
+    let front = &whole[..FRONT.min(whole.len())];
     match guess_by_first_bytes(front) {
         Some(guess) => Some(guess),
         None => guess_by_text(front),
@@ -11,11 +22,6 @@ pub(crate) fn guess_of_package(front: &[u8]) -> Option<&'static str> {
 }
 
 fn guess_by_first_bytes(front: &[u8]) -> Option<&'static str> {
-    if front.is_empty() {
-        return Some(
-            "the package is an empty file; a shell empties the file that it sends output to",
-        );
-    }
     if front.starts_with(b"PK") {
         return Some(
             "the package is a ZIP file, perhaps a .docx: redline-docx takes one, and flatopc unpack makes a package of it",

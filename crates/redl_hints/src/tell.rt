@@ -1,7 +1,7 @@
 //! The hints of a call.
 
-ghost use Rattle.std.specs.Prelude.{◌≡◌};
-
+use crate::choices::add_choice_hint;
+use crate::fetched::Ends;
 use crate::hint::add_hint;
 use crate::journals::add_journal_hint;
 use crate::names::add_name_hints;
@@ -10,71 +10,63 @@ use crate::rules::sentence_of_rule;
 use crate::told::Told;
 use crate::usage::add_usage_hints;
 use bstr::ByteSlice;
-use redl_io::{Shelf, Sink, Text};
+use redl_io::{Sink, Text};
 use std::alloc::{AllocError, Global};
 
-// How much of a refused package is looked at, and how much of a refused journal.
-const PACKAGE_FRONT: usize = 4096;
-
-const JOURNAL_FRONT: usize = 1 << 20;
-
-/// Tells what probably went wrong with a call of these words, behind the lines that it told on `err`. The program's help lists
-/// its commands and options. Where a package or journal was refused, its first bytes are taken from the shelf once more. Where
-/// memory runs out there is no hint.
-pub fn tell_hints<F: Shelf, E: Sink>(
+/// Tells what probably went wrong with a call of these words, after the lines that it told on `err`. The program's help lists
+/// its commands and options, `text` is the file that was read last, and `out` is what came out. Where memory runs out there is
+/// no hint.
+pub fn tell_hints<O: Sink, E: Sink>(
     alloc: Global,
     words: &[Text],
     help: &str,
-    shelf: &mut F,
+    text: &Ends,
+    out: &Told<O>,
     err: &mut Told<E>,
-)
-    ensures same_files { F.told shelf.new ≡ F.told shelf.old }
-{
-    if let Ok(hints) = hints_of(alloc, words, help, err.first(), shelf) {
+) {
+    if let Ok(hints) = hints_of(alloc, words, help, text, out.first(), err.first()) {
         if !hints.is_empty() {
             let _ = err.put(&hints);
         }
     }
 }
 
-fn hints_of<F: Shelf>(
+/// Tells that a word of the command line could not be taken as text.
+pub fn tell_word_hint<E: Sink>(err: &mut E) {
+    let _ = err.put(b"redline: hint: a word of the command line is not UTF-8\n");
+}
+
+fn hints_of(
     alloc: Global,
     words: &[Text],
     help: &str,
+    text: &Ends,
+    out: &[u8],
     lines: &[u8],
-    shelf: &mut F,
-) -> Result<Vec<u8>, AllocError>
-    ensures { F.told shelf.new ≡ F.told shelf.old }
-{
+) -> Result<Vec<u8>, AllocError> {
     let mut hints = Vec::new(alloc);
-    if let Some(line) = lines.lines().next() {
-        if line == b"redline: cannot read the command line".as_slice() {
+    match lines.lines().next() {
+        Some(line) if line == b"redline: cannot read the command line".as_slice() => {
             add_usage_hints(alloc, words, help, &mut hints)?;
             return Ok(hints);
         }
-        add_refusal_hint(alloc, words, line, shelf, &mut hints)?;
+        Some(line) => add_refusal_hint(line, text, &mut hints)?,
+        None => add_choice_hint(words, out, &mut hints)?,
     }
     add_name_hints(words, &mut hints)?;
     Ok(hints)
 }
 
-// A hint on the line of a refused package or journal.
-fn add_refusal_hint<F: Shelf>(
-    alloc: Global,
-    words: &[Text],
-    line: &[u8],
-    shelf: &mut F,
-    hints: &mut Vec<u8>,
-) -> Result<(), AllocError>
-    ensures { F.told shelf.new ≡ F.told shelf.old }
-{
-    if let Some(digit) = line.strip_prefix(b"redline: package: rule ") {
+// A hint on the line of a refused package or journal, which is the file that was read last.
+fn add_refusal_hint(line: &[u8], text: &Ends, hints: &mut Vec<u8>) -> Result<(), AllocError> {
+    if let Some((_, digit)) = line.split_once_str(b"package: rule ") {
         return add_rule_hint(digit, hints);
     }
-    if line == b"redline: package: not readable".as_slice()
-        || line == b"redline: package: not a package".as_slice()
-    {
-        return add_package_hint(alloc, package_of(words), shelf, hints);
+    if line.ends_with(b"package: not readable") || line.ends_with(b"package: not a package") {
+        return match guess_of_package(text) {
+            Some(guess) => add_hint(hints, guess),
+            None => Ok(()),
+        };
     }
     if line.starts_with(b"redline: no format ") {
         return add_hint(
@@ -83,7 +75,7 @@ fn add_refusal_hint<F: Shelf>(
         );
     }
     match line.strip_prefix(b"redline: journal ") {
-        Some(rest) => add_hint_on_journal(alloc, rest, shelf, hints),
+        Some(rest) => add_hint_on_journal(rest, text, hints),
         None => Ok(()),
     }
 }
@@ -98,47 +90,10 @@ fn add_rule_hint(digit: &[u8], hints: &mut Vec<u8>) -> Result<(), AllocError> {
     }
 }
 
-// The name of the package, which is the word after the command, or for `settle` the one after that.
-fn package_of(words: &[Text]) -> &str {
-    let name = match words {
-        [command, _, name, ..] if command.as_bytes() == b"settle".as_slice() => name.as_bytes(),
-        [_, name, ..] => name.as_bytes(),
-        _ => b"".as_slice(),
-    };
-    std::str::from_utf8(name).unwrap_or("")
-}
-
-fn add_package_hint<F: Shelf>(
-    alloc: Global,
-    name: &str,
-    shelf: &mut F,
-    hints: &mut Vec<u8>,
-) -> Result<(), AllocError>
-    ensures { F.told shelf.new ≡ F.told shelf.old }
-{
-    if let Ok(front) = shelf.fetch(alloc, name, PACKAGE_FRONT) {
-        if let Some(guess) = guess_of_package(&front) {
-            return add_hint(hints, guess);
-        }
-    }
-    Ok(())
-}
-
 // A hint on what a call told of a journal: its name, and then why it was refused.
-fn add_hint_on_journal<F: Shelf>(
-    alloc: Global,
-    told: &[u8],
-    shelf: &mut F,
-    hints: &mut Vec<u8>,
-) -> Result<(), AllocError>
-    ensures { F.told shelf.new ≡ F.told shelf.old }
-{
-    if let Some(name) = told.strip_suffix(b": malformed") {
-        let name = std::str::from_utf8(name).unwrap_or("");
-        if let Ok(text) = shelf.fetch(alloc, name, JOURNAL_FRONT) {
-            return add_journal_hint(&text, text.len() < JOURNAL_FRONT, hints);
-        }
-        return Ok(());
+fn add_hint_on_journal(told: &[u8], text: &Ends, hints: &mut Vec<u8>) -> Result<(), AllocError> {
+    if told.ends_with(b": malformed") {
+        return add_journal_hint(text, hints);
     }
     if told.contains_str(b": document ") {
         return add_hint(

@@ -1,7 +1,8 @@
 //! Words that are no command.
 
 use crate::hint::{add_hint, add_hint_on};
-use crate::selections::fault_of_selection;
+use crate::places::add_place_hints;
+use crate::values::fault_of_value;
 use redl_io::Text;
 use std::alloc::{AllocError, Global};
 use strsim::levenshtein;
@@ -20,7 +21,8 @@ pub(crate) fn add_usage_hints(
         add_command_hint(alloc, text_of(first), help, hints)?;
     }
     add_option_hints(alloc, words, help, hints)?;
-    add_selection_hints(words, help, hints)?;
+    add_place_hints(words, hints)?;
+    add_value_hints(words, help, hints)?;
     add_hint(hints, "see redline --help")
 }
 
@@ -141,18 +143,12 @@ fn add_nearest(
     }
 }
 
-// A hint for each selection that is probably wrong.
-fn add_selection_hints(words: &[Text], help: &str, hints: &mut Vec<u8>) -> Result<(), AllocError> {
+// A hint for each value of an option that is probably wrong.
+fn add_value_hints(words: &[Text], help: &str, hints: &mut Vec<u8>) -> Result<(), AllocError> {
     for pair in words.windows(2) {
-        if takes_selection(text_of(&pair[0])) {
-            if let Some(fault) = fault_of_selection(help, text_of(&pair[1])) {
-                add_hint(hints, fault)?;
-            }
+        if let Some(fault) = fault_of_value(help, text_of(&pair[0]), text_of(&pair[1])) {
+            add_hint(hints, fault)?;
         }
     }
     Ok(())
-}
-
-fn takes_selection(option: &str) -> bool {
-    matches!(option, "--accept" | "--reject" | "--withdraw")
 }

@@ -1,8 +1,9 @@
 //! The program: real files, standard output and standard error, and the words of the command line.
 //!
 //! All that it does is a call of `run`, whose clauses say what goes out and which exit status comes when; hints follow the
-//! lines that the call told. Only where the words ask for help or for the version, or there are none, it writes a text of its
-//! own.
+//! lines that the call told. What they go by is remembered on the way: the lines, the first of the output, and of the file that
+//! was read last its beginning and its end. Only where the words ask for help or for the version, or there are none, it writes
+//! a text of its own.
 //! The words are copied first; a word that isn't UTF-8 ends the program before the call. Then the formats of listings are
 //! made; where memory runs out there, the program ends as it does for the words.
 #![tactic(auto)]
@@ -15,8 +16,8 @@ ghost use Rattle.std.specs.Vec.Iter.{into_iter_items};
 
 use help::{HELP, VERSION};
 use redl_app::{Status, WordsError, add_word, refuse_words, run, tell_text};
-use redl_hints::{Told, tell_hints};
-use redl_io::{FileShelf, Shelf, Sink, StdSink, SureShelf, Text};
+use redl_hints::{Fetched, Told, tell_hints, tell_word_hint};
+use redl_io::{FileShelf, Shelf, Sink, StdSink, Text};
 use redl_listing::{JsonFormat, TabFormat, TextFormat, WordsFormat, add_format};
 use std::alloc::{AllocError, Global};
 use std::env;
@@ -26,33 +27,42 @@ use std::process::ExitCode;
 use std::rt::Env;
 
 fn main(rt: HostRuntime) -> ExitCode {
-    let mut shelf = FileShelf::new(&rt);
-    let mut out = StdSink::new(rt.stdout());
+    let mut shelf = Fetched::new(rt.alloc(), FileShelf::new(&rt));
+    let mut out = Told::new(rt.alloc(), StdSink::new(rt.stdout()));
     let mut err = Told::new(rt.alloc(), StdSink::new(rt.stderr()));
     let status = match read_words(&rt) {
         Ok(words) => match own_text(&words) {
             Some(text) => tell_text(rt.alloc(), text, &mut out, &mut err),
             None => run_with_hints(rt.alloc(), &words, &mut shelf, &mut out, &mut err),
         },
-        Err(error) => refuse_words(error, &mut err),
+        Err(error) => refuse_with_hint(error, &mut err),
     };
     ExitCode::from(status.code())
+}
+
+// Tells why the words could not be read.
+fn refuse_with_hint<E: Sink>(error: WordsError, err: &mut E) -> Status {
+    let is_usage = matches!(error, WordsError::Usage);
+    let status = refuse_words(error, err);
+    if is_usage {
+        tell_word_hint(err);
+    }
+    status
 }
 
 // Does what the words ask, and then tells what probably went wrong.
 fn run_with_hints<F: Shelf, O: Sink, E: Sink>(
     alloc: Global,
     words: &[Text],
-    shelf: &mut F,
-    out: &mut O,
+    shelf: &mut Fetched<F>,
+    out: &mut Told<O>,
     err: &mut Told<E>,
 ) -> Status
     requires { All IsUtf8 words.now }
 {
     let status = run_words(alloc, words, shelf, out, err);
-    // No file is opened again for a hint: a pipe would wait for a writer that is gone.
-    let mut nothing = SureShelf::new(Vec::new(alloc));
-    tell_hints(alloc, words, HELP, &mut nothing, err);
+    // What was read last is remembered. Opened once more, a pipe would wait for a writer that is gone.
+    tell_hints(alloc, words, HELP, shelf.last_text(), out, err);
     status
 }
 
