@@ -1,21 +1,28 @@
 -- The numbers that a selection chooses, as a list: ascending, and the right ones.
-use Rattle.std.proofs.Common.{◌≡◌, ℕ, zero, suc, ◌+◌, ◌-◌, ◌<◌, Bool, true, false, cond, List, [], ◌∷◌, ◌++◌, length, get_or, take, Some, Ordering, Less, Equal, Greater, Contains, IsTrue, fold, refl, sym, ap, subst, ◌∙◌, ◌⊎◌, inl, inr, ◌↔◌, arith, Result, Ok, Err, IfOk, Vec, Global}
-use Rattle.std.specs.Prelude.{IsSomeAnd, slice_get}
-use Rattle.std.specs.List.{AllByRecursion}
+use Rattle.std.proofs.Common.{◌≡◌, ℕ, zero, suc, ◌+◌, ◌-◌, ◌<◌, Bool, true, false, cond, List, [], ◌∷◌, ◌++◌, length, get_or, take, Some, Ordering, Less, Equal, Greater, Contains, IsTrue, fold, refl, sym, ap, subst, ◌∙◌, ◌⊎◌, inl, inr, ◌↔◌, arith, Result, Ok, Err, IfOk, Vec, Global, append-nil, ◌≤◌}
+use Rattle.std.specs.Prelude.{◌&&◌, Any, IsSomeAnd, flat_map, max, min, nat_le, slice_get, slice_index_or}
+use Rattle.std.specs.List.{AllByRecursion, list_any, range_with_len}
 use Rattle.std.specs.List.Sorted.{IsStrictlyIncreasing, IsStrictlySortedBy}
 use Rattle.std.specs.Ordering.{nat_cmp, match_ordering}
 use Rattle.std.specs.Cmp.{nat_cmp_is}
 use Rattle.std.specs.BTreeSet.{insert_key}
 use Rattle.std.proofs.lemmas.List.{take_more, length-take-le}
-use Rattle.std.proofs.lemmas.List.Sums.{fold_push}
-use Rattle.std.proofs.lemmas.Option.{slice_get-get_or}
+use Rattle.std.proofs.lemmas.List.Elements.{Contains-append_cases, Contains-append_left, Contains-append_right}
+use Rattle.std.proofs.lemmas.Bool.{and_from, and_parts, eq-eqb, eqb-true, le-leb, leb-true}
+use Rattle.std.proofs.lemmas.List.Folds.{Any-from_list_any, list_any-from_Any}
+use Rattle.std.proofs.lemmas.List.FromFn.{get_or-range_with_len, length-range_with_len}
+use Rattle.std.proofs.lemmas.List.Sums.{fold-append, fold_push}
+use Rattle.std.proofs.lemmas.Grind.{flat_map-append}
+use Rattle.std.proofs.lemmas.Option.{slice_get-get_or, slice_get_within}
 use Rattle.std.proofs.lemmas.Map.Keys.{IsStrictlyIncreasing-from_sorted}
 use Rattle.std.proofs.lemmas.Map.Lookups.{exact_unsigned}
 use Rattle.redl_index.specs.declared.revision.Revision.{Revision}
 use Rattle.redl_select.specs.declared.selection.Selection as code
 use Rattle.redl_select.specs.declared.selection.Selection.TheVariants as variants
 use Rattle.redl_select.specs.Views.{selection_of}
-use Rattle.redl_select.specs.Selections.{Selection, all, numbers, author, span, kind, IsChosen, revision_at, selects, numbers_from, in_order, chosen}
+use Rattle.redl_select.specs.declared.selection.Listed.{Listed}
+use Rattle.redl_select.specs.declared.selection.Listed.TheVariants.{One, Range}
+use Rattle.redl_select.specs.Selections.{Selection, all, numbers, author, span, kind, group, IsChosen, IsInRange, IsListed, chooses, has_number, revision_at, selects, numbers_between, listed_by, numbers_from, in_order, chosen}
 
 -- ---- the loops
 
@@ -47,8 +54,34 @@ one_more s (q ∷ qs) place number t within is h =
     ap (numbers_from s 1) (take_more rs place q within) ∙ numbers_from-push s 1 number (take place rs) r size
     ∙ ap (λ (b : Bool). numbers_from s 1 (take place rs) ++ cond b (number ∷ []) []) (sym test)
 
-pub in_order_more : (xs : List ℕ) (i : ℕ) → i < length xs → in_order (take (i + 1) xs) ≡ insert_key nat_cmp (in_order (take i xs)) (get_or xs i 0)
-in_order_more xs i h = ap in_order (take_more xs i 0 h) ∙ fold_push (insert_key nat_cmp) [] (take i xs) (get_or xs i 0)
+-- the numbers with those that one item more lists
+pub in_order_more : (count : ℕ) (items : List Listed) (i : ℕ) (d : Listed) (old new : List ℕ) → i < length items
+    → old ≡ in_order (flat_map (listed_by count) (take i items)) → new ≡ fold (insert_key nat_cmp) old (listed_by count (get_or items i d))
+    → new ≡ in_order (flat_map (listed_by count) (take (i + 1) items))
+in_order_more count items i d old new within was is =
+    let item : Listed = get_or items i d in
+    let front : List ℕ = flat_map (listed_by count) (take i items) in
+    let more : flat_map (listed_by count) (take (i + 1) items) ≡ front ++ listed_by count item =
+    ap (flat_map (listed_by count)) (take_more items i d within) ∙ flat_map-append (listed_by count) (take i items) (item ∷ [])
+    ∙ ap (λ (last : List ℕ). front ++ last) (append-nil (listed_by count item)) in
+    is ∙ ap (λ (keys : List ℕ). fold (insert_key nat_cmp) keys (listed_by count item)) was
+    ∙ sym (ap in_order more ∙ fold-append (insert_key nat_cmp) [] front (listed_by count item))
+
+-- one number more of a range
+range_more : (first size : ℕ) → range_with_len first (suc size) ≡ range_with_len first size ++ (first + size) ∷ []
+range_more first zero = let same : first ≡ first + 0 = omega arith in ap (λ (n : ℕ). n ∷ []) same
+range_more first (suc size) =
+    let same : (first + 1) + size ≡ first + suc size = omega arith in
+    ap (λ (l : List ℕ). first ∷ l) (range_more (first + 1) size ∙ ap (λ (n : ℕ). range_with_len (first + 1) size ++ n ∷ []) same)
+
+pub between_more : (keys : List ℕ) (first number : ℕ) → first ≤ number
+    → fold (insert_key nat_cmp) keys (range_with_len first ((number + 1) - first)) ≡ insert_key nat_cmp (fold (insert_key nat_cmp) keys (range_with_len first (number - first))) number
+between_more keys first number h =
+    let size : (number + 1) - first ≡ suc (number - first) = omega (arith, h) in
+    let last : first + (number - first) ≡ number = omega (arith, h) in
+    ap (λ (n : ℕ). fold (insert_key nat_cmp) keys (range_with_len first n)) size
+    ∙ ap (fold (insert_key nat_cmp) keys) (range_more first (number - first) ∙ ap (λ (n : ℕ). range_with_len first (number - first) ++ n ∷ []) last)
+    ∙ fold_push (insert_key nat_cmp) keys (range_with_len first (number - first)) number
 
 -- ---- ascending
 
@@ -192,8 +225,8 @@ is_put_in (x ∷ xs) kept y (inr h) =
       | inr later ↦ is_put_in xs (insert_key nat_cmp kept x) y (inr later)
     ]
 
-listed_numbers : (listed : List ℕ) (number : ℕ) → Contains (in_order listed) number ↔ Contains listed number
-listed_numbers listed number = (to, λ h. is_put_in listed [] number (inr h)) where
+in_order_numbers : (listed : List ℕ) (number : ℕ) → Contains (in_order listed) number ↔ Contains listed number
+in_order_numbers listed number = (to, λ h. is_put_in listed [] number (inr h)) where
   to : Contains (in_order listed) number → Contains listed number
   to h =
       elim (put_in listed [] number h) [
@@ -201,14 +234,150 @@ listed_numbers listed number = (to, λ h. is_put_in listed [] number (inr h)) wh
         | inr found ↦ found
       ]
 
+-- ---- what the items of a list choose
+
+-- the numbers of a range
+between_numbers : (first last number : ℕ) → Contains (numbers_between first last) number ↔ ((first ≤ number) × (number ≤ last))
+between_numbers first last number = (to, from) where
+  size : ℕ
+  size = (last + 1) - first
+
+  to : Contains (numbers_between first last) number → (first ≤ number) × (number ≤ last)
+  to h =
+      let within : h.0 < size = subst (λ (n : ℕ). h.0 < n) (length-range_with_len first size) h.1 in
+      let is : first + h.0 ≡ number = sym (get_or-range_with_len first size h.0 number within) ∙ h.2 in
+      (omega (arith, is), omega (arith, is, within))
+
+  from : (first ≤ number) × (number ≤ last) → Contains (numbers_between first last) number
+  from h =
+      let within : number - first < size = omega (arith, h.0, h.1) in
+      let is : first + (number - first) ≡ number = omega (arith, h.0) in
+      (number - first, subst (λ (n : ℕ). number - first < n) (sym (length-range_with_len first size)) within, get_or-range_with_len first size (number - first) number within ∙ is)
+
+item_numbers : (count number : ℕ) (item : Listed) → Contains (listed_by count item) number ↔ IsListed count number item
+item_numbers count number (One one) = (to, λ is. subst (Contains (one ∷ [])) is (head_there one [])) where
+  to : Contains (one ∷ []) number → one ≡ number
+  to h =
+      elim (there one number [] h) [
+        | inl same ↦ same
+        | inr none ↦ absurd (omega (arith, none.1))
+      ]
+item_numbers count number (Range first last) = (to, from) where
+  end : ℕ
+  end = min last (max first (count + 1))
+
+  to : Contains (numbers_between first end) number → IsInRange count first last number
+  to h =
+      let both = (between_numbers first end number).0 h in
+      record { begins = both.0; ends = omega (arith, both.1); stops = omega (arith, both.1) }
+
+  from : IsInRange count first last number → Contains (numbers_between first end) number
+  from h = (between_numbers first end number).1 (h.begins, omega (arith, h.ends, h.stops))
+
+-- some item of a list, the first or a later one
+first_any : {X : Type 0} (P : X → Type 0) (x : X) (xs : List X) → P x → Any P (x ∷ xs)
+first_any P x xs h = (0, x, omega arith, refl, h)
+
+later_any : {X : Type 0} (P : X → Type 0) (x : X) (xs : List X) → Any P xs → Any P (x ∷ xs)
+later_any P x xs h = (suc h.0, h.1, omega (arith, h.2), h.3, h.4)
+
+any_of : {X : Type 0} (P : X → Type 0) (x : X) (xs : List X) → Any P (x ∷ xs) → P x ⊎ Any P xs
+any_of {X} P x xs h = at h.0 h.1 h.2 h.3 h.4 where
+  at : (k : ℕ) (y : X) → k < length (x ∷ xs) → slice_index_or (x ∷ xs) k y ≡ y → P y → P x ⊎ Any P xs
+  at zero y within is holds = inl (subst P (sym is) holds)
+  at (suc k) y within is holds = inr (k, y, omega (arith, within), is, holds)
+
+item_more : (count : ℕ) (item : Listed) (items : List Listed) (number : ℕ) → Contains (flat_map (listed_by count) items) number ↔ Any (IsListed count number) items
+    → Contains (flat_map (listed_by count) (item ∷ items)) number ↔ Any (IsListed count number) (item ∷ items)
+item_more count item items number rest = (to, from) where
+  here : List ℕ
+  here = listed_by count item
+
+  later : List ℕ
+  later = flat_map (listed_by count) items
+
+  to : Contains (here ++ later) number → Any (IsListed count number) (item ∷ items)
+  to h =
+      elim (Contains-append_cases here later number h) [
+        | inl of_item ↦ first_any (IsListed count number) item items ((item_numbers count number item).0 of_item)
+        | inr of_others ↦ later_any (IsListed count number) item items (rest.0 of_others)
+      ]
+
+  from : Any (IsListed count number) (item ∷ items) → Contains (here ++ later) number
+  from h =
+      elim (any_of (IsListed count number) item items h) [
+        | inl by_item ↦ Contains-append_left here later number ((item_numbers count number item).1 by_item)
+        | inr by_others ↦ Contains-append_right here later number (rest.1 by_others)
+      ]
+
+all_numbers : (count : ℕ) (items : List Listed) (number : ℕ) → Contains (flat_map (listed_by count) items) number ↔ Any (IsListed count number) items
+all_numbers count [] number = (λ h. absurd (omega (arith, h.1)), λ h. absurd (omega (arith, h.2)))
+all_numbers count (item ∷ items) number = item_more count item items number (all_numbers count items number)
+
+listed_numbers : (count : ℕ) (items : List Listed) (number : ℕ) → Contains (in_order (flat_map (listed_by count) items)) number ↔ Any (IsListed count number) items
+listed_numbers count items number =
+    let ordered = in_order_numbers (flat_map (listed_by count) items) number in
+    let listed = all_numbers count items number in
+    (λ h. listed.0 (ordered.0 h), λ h. ordered.1 (listed.1 h))
+
 -- ---- both
 
 pub chosen_numbers : (rs : List Revision) (s : Selection) (number : ℕ) → Contains (chosen rs s) number ↔ IsChosen rs s number
 chosen_numbers rs all number = meant_numbers all rs number
-chosen_numbers rs (numbers listed) number = listed_numbers listed number
+chosen_numbers rs (numbers listed) number = listed_numbers (length rs) listed number
 chosen_numbers rs (author name) number = meant_numbers (author name) rs number
 chosen_numbers rs (span start end) number = meant_numbers (span start end) rs number
 chosen_numbers rs (kind of_kind) number = meant_numbers (kind of_kind) rs number
+chosen_numbers rs (group of_group) number = meant_numbers (group of_group) rs number
+
+-- ---- one revision
+
+any_map : {X : Type 0} (P Q : X → Type 0) (xs : List X) → ((x : X) → P x → Q x) → Any P xs → Any Q xs
+any_map P Q xs f h = (h.0, h.1, h.2, h.3, f h.1 h.4)
+
+has_listed : (count number : ℕ) (item : Listed) → number ≤ count → (has_number number item ≡ true) ↔ IsListed count number item
+has_listed count number (One one) within = (eqb-true one number, eq-eqb one number)
+has_listed count number (Range first last) within = (to, from) where
+  to : (nat_le first number && nat_le number last) ≡ true → IsInRange count first last number
+  to h =
+      let both = and_parts (nat_le first number) (nat_le number last) h in
+      record { begins = leb-true first number both.0; ends = leb-true number last both.1; stops = omega (arith, within) }
+
+  from : IsInRange count first last number → (nat_le first number && nat_le number last) ≡ true
+  from h = and_from (nat_le first number) (nat_le number last) (le-leb first number h.begins) (le-leb number last h.ends)
+
+listed_any : (count number : ℕ) (items : List Listed) → number ≤ count → (list_any (has_number number) items ≡ true) ↔ Any (IsListed count number) items
+listed_any count number items within = (to, from) where
+  P : Listed → Type 0
+  P item = has_number number item ≡ true
+
+  to : list_any (has_number number) items ≡ true → Any (IsListed count number) items
+  to h = any_map P (IsListed count number) items (λ item. (has_listed count number item within).0) (Any-from_list_any (has_number number) items h)
+
+  from : Any (IsListed count number) items → list_any (has_number number) items ≡ true
+  from h = list_any-from_Any (has_number number) items (any_map (IsListed count number) P items (λ item. (has_listed count number item within).1) h)
+
+-- a revision at its number is one of so many
+number_within : (rs : List Revision) (number : ℕ) (r : Revision) → revision_at rs number ≡ Some r → number ≤ length rs
+number_within rs zero r e = absurd cc
+number_within rs (suc place) r e = slice_get_within rs place r e
+
+pub chooses_chosen : (s : Selection) (r : Revision) (rs : List Revision) → revision_at rs r.number ≡ Some r → IsTrue (chooses s r) ↔ IsChosen rs s r.number
+chooses_chosen all r rs e = rw e (λ h. h, λ h. h)
+chooses_chosen (numbers listed) r rs e = listed_any (length rs) r.number listed (number_within rs r.number r e)
+chooses_chosen (author name) r rs e = rw e (λ h. h, λ h. h)
+chooses_chosen (span start end) r rs e = rw e (λ h. h, λ h. h)
+chooses_chosen (kind of_kind) r rs e = rw e (λ h. h, λ h. h)
+chooses_chosen (group of_group) r rs e = rw e (λ h. h, λ h. h)
+
+-- where no numbers are listed
+pub chooses_unlisted : (r : Revision) (s : Selection) → ((listed : List Listed) → s ≡ numbers listed → ⊥) → selects s r ≡ chooses s r
+chooses_unlisted r all h = refl
+chooses_unlisted r (numbers listed) h = absurd (h listed refl)
+chooses_unlisted r (author name) h = refl
+chooses_unlisted r (span start end) h = refl
+chooses_unlisted r (kind of_kind) h = refl
+chooses_unlisted r (group of_group) h = refl
 
 -- ---- the same from the facts of the code
 
@@ -226,21 +395,23 @@ chosen_ok (Ok v) rs s h = λ number. subst (λ (xs : List ℕ). Contains xs numb
 chosen_ok (Err e) rs s h = tt
 
 -- where no numbers are listed
-unlisted : (rs : List Revision) (s : Selection) → ((listed : List ℕ) → s ≡ numbers listed → ⊥) → numbers_from s 1 rs ≡ chosen rs s
+unlisted : (rs : List Revision) (s : Selection) → ((listed : List Listed) → s ≡ numbers listed → ⊥) → numbers_from s 1 rs ≡ chosen rs s
 unlisted rs all h = refl
 unlisted rs (numbers listed) h = absurd (h listed refl)
 unlisted rs (author name) h = refl
 unlisted rs (span start end) h = refl
 unlisted rs (kind of_kind) h = refl
+unlisted rs (group of_group) h = refl
 
-pub unlisted_ok : {E : Type 0} (r : Result (Vec ℕ Global) E) (rs : List Revision) (s : Selection) → ((listed : List ℕ) → s ≡ numbers listed → ⊥)
+pub unlisted_ok : {E : Type 0} (r : Result (Vec ℕ Global) E) (rs : List Revision) (s : Selection) → ((listed : List Listed) → s ≡ numbers listed → ⊥)
     → IfOk r (λ v. v.items ≡ numbers_from s 1 rs) → IfOk r (λ v. v.items ≡ chosen rs s)
 unlisted_ok (Ok v) rs s h e = e ∙ unlisted rs s h
 unlisted_ok (Err x) rs s h e = tt
 
-pub not_listed : (s : code.Selection) → ((v : Vec ℕ Global) → s ≡ variants.Numbers v → ⊥) → (listed : List ℕ) → selection_of s ≡ numbers listed → ⊥
+pub not_listed : (s : code.Selection) → ((v : Vec Listed Global) → s ≡ variants.Numbers v → ⊥) → (listed : List Listed) → selection_of s ≡ numbers listed → ⊥
 not_listed variants.All h listed e = cc
 not_listed (variants.Numbers v) h listed e = h v refl
 not_listed (variants.Author name) h listed e = cc
 not_listed (variants.Span start end) h listed e = cc
 not_listed (variants.Kind of_kind) h listed e = cc
+not_listed (variants.Group of_group) h listed e = cc

@@ -1,11 +1,15 @@
 -- Selections by hand, with the numbers that they choose.
-use Rattle.std.proofs.Common.{◌≡◌, ℕ, [], ◌∷◌, List, Option, Some, None, refl}
+use Rattle.std.proofs.Common.{◌≡◌, ℕ, true, false, [], ◌∷◌, List, Option, Some, None, refl}
 use Rattle.std.specs.Prelude.{ℤ, pos, codes}
 use Rattle.redl_tree.specs.declared.kinds.Trace.TheVariants.{Ins, Del}
+use Rattle.redl_tree.specs.declared.kinds.Prop.TheVariants as props
 use Rattle.redl_index.specs.declared.revision.RevKind.{RevKind}
-use Rattle.redl_index.specs.declared.revision.RevKind.TheVariants.{Content, Row}
+use Rattle.redl_index.specs.declared.revision.RevKind.TheVariants.{Content, Move, Mark, Row, Cell, Change}
 use Rattle.redl_index.specs.declared.revision.Revision.{Revision}
-use Rattle.redl_select.specs.Selections.{all, numbers, author, span, kind, chosen}
+use Rattle.redl_select.specs.declared.group.Group.TheVariants as groups
+use Rattle.redl_select.specs.declared.selection.Listed.TheVariants.{One, Range}
+use Rattle.redl_select.specs.Groups.{is_in}
+use Rattle.redl_select.specs.Selections.{all, numbers, author, span, kind, group, chosen}
 
 abbrev made_by : ℕ → RevKind → List ℕ → Option ℤ → Revision
 made_by number of_kind name seconds = record { number = number; kind = of_kind; author = name; seconds = seconds; part = 0; members = 1 }
@@ -20,8 +24,28 @@ row_all : chosen three all ≡ 1 ∷ 2 ∷ 3 ∷ []
 row_all = refl
 
 -- in order, each once, and also numbers that there are not
-row_numbers : chosen three (numbers (7 ∷ 2 ∷ 0 ∷ 2 ∷ [])) ≡ 0 ∷ 2 ∷ 7 ∷ []
+row_numbers : chosen three (numbers (One 7 ∷ One 2 ∷ One 0 ∷ One 2 ∷ [])) ≡ 0 ∷ 2 ∷ 7 ∷ []
 row_numbers = refl
+
+-- both ends of a range are in it
+row_range : chosen three (numbers (Range 2 3 ∷ [])) ≡ 2 ∷ 3 ∷ []
+row_range = refl
+
+row_range_of_one : chosen three (numbers (Range 2 2 ∷ [])) ≡ 2 ∷ []
+row_range_of_one = refl
+
+row_range_among_numbers : chosen three (numbers (One 3 ∷ Range 1 2 ∷ One 1 ∷ [])) ≡ 1 ∷ 2 ∷ 3 ∷ []
+row_range_among_numbers = refl
+
+-- of the numbers past the last one of the package, the first in the range is chosen
+row_long_range : chosen three (numbers (Range 0 4294967295 ∷ [])) ≡ 0 ∷ 1 ∷ 2 ∷ 3 ∷ 4 ∷ []
+row_long_range = refl
+
+row_range_past_the_last : chosen three (numbers (Range 13 19 ∷ [])) ≡ 13 ∷ []
+row_range_past_the_last = refl
+
+row_range_in_the_wrong_order : chosen three (numbers (Range 3 2 ∷ [])) ≡ []
+row_range_in_the_wrong_order = refl
 
 row_author : chosen three (author (codes "Bob")) ≡ 2 ∷ []
 row_author = refl
@@ -42,3 +66,17 @@ row_kind = refl
 
 row_kind_of_rows : chosen three (kind (Row Ins)) ≡ 3 ∷ []
 row_kind_of_rows = refl
+
+row_group : chosen three (group groups.Content) ≡ 1 ∷ 2 ∷ []
+row_group = refl
+
+row_group_of_rows : chosen three (group groups.Rows) ≡ 3 ∷ []
+row_group_of_rows = refl
+
+row_empty_group : chosen three (group groups.Props) ≡ []
+row_empty_group = refl
+
+-- a paired move is content, and the change of a row's properties is none of rows
+row_groups : (is_in groups.Content Move ≡ true) × (is_in groups.Marks (Mark Del) ≡ true) × (is_in groups.Cells (Cell Ins) ≡ true)
+    × (is_in groups.Props (Change props.Row) ≡ true) × (is_in groups.Rows (Change props.Row) ≡ false)
+row_groups = (refl, refl, refl, refl, refl)

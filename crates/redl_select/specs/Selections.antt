@@ -1,5 +1,6 @@
 -- Which revisions of a package a selection means (our own rule).
-use Rattle.std.specs.Prelude.{◌==◌, ◌&&◌, ◌+◌, ℕ, zero, suc, ℤ, int_le, int_lt, Bool, true, false, List, [], ◌∷◌, Option, Some, None, IsSomeAnd, IsTrue, fold, slice_get, if◌then◌else◌, Contains}
+use Rattle.std.specs.Prelude.{◌==◌, ◌&&◌, ◌≡◌, ◌≤◌, ◌+◌, ◌-◌, min, max, ℕ, zero, suc, ℤ, int_le, int_lt, Bool, true, false, List, [], ◌∷◌, Option, Some, None, IsSomeAnd, IsTrue, Any, flat_map, fold, length, nat_le, slice_get, if◌then◌else◌}
+use Rattle.std.specs.List.{list_any, range_with_len}
 use Rattle.std.specs.Str.{bytes_eq}
 use Rattle.std.specs.Ordering.{nat_cmp}
 use Rattle.std.specs.BTreeSet.{insert_key}
@@ -10,19 +11,25 @@ use Rattle.redl_tree.specs.declared.kinds.Prop.TheVariants as props
 use Rattle.redl_index.specs.declared.revision.RevKind.{RevKind}
 use Rattle.redl_index.specs.declared.revision.RevKind.TheVariants.{Content, Move, Mark, Row, Cell, Change}
 use Rattle.redl_index.specs.declared.revision.Revision.{Revision}
+use Rattle.redl_select.specs.declared.group.Group.{Group}
+use Rattle.redl_select.specs.declared.selection.Listed.{Listed}
+use Rattle.redl_select.specs.declared.selection.Listed.TheVariants.{One, Range}
+use Rattle.redl_select.specs.Groups.{is_in}
 
 -- a choice of revisions
 pub data Selection : Type 0 where
   -- each revision
   all : Selection
-  -- these numbers, whether the package has them or not
-  numbers : List ℕ → Selection
+  -- what these items list
+  numbers : List Listed → Selection
   -- the revisions of this author
   author : List ℕ → Selection
   -- the revisions made from the first moment on and before the second
   span : ℤ → ℤ → Selection
   -- the revisions of this kind
   kind : RevKind → Selection
+  -- the revisions whose kind is in this group
+  group : Group → Selection
 
 -- ---- the revisions that a selection means
 
@@ -64,6 +71,7 @@ selects (numbers listed) revision = false
 selects (author name) revision = bytes_eq revision.author name
 selects (span start end) revision = is_within start end revision.seconds
 selects (kind of_kind) revision = is_same_kind revision.kind of_kind
+selects (group of_group) revision = is_in of_group revision.kind
 
 -- ---- the set of numbers that are chosen
 
@@ -72,10 +80,35 @@ abbrev pub revision_at : List Revision → ℕ → Option Revision
 revision_at revisions zero = None
 revision_at revisions (suc place) = slice_get revisions place
 
--- The selection chooses this number: it is one of the listed ones, or the selection means the revision that has it.
+-- The number is in the range, and not past the first one that a package with so many revisions doesn't have, where it isn't the
+-- first of the range itself.
+pub record IsInRange (count first last number : ℕ) : Type 0 where
+  pub begins : first ≤ number
+  pub ends : number ≤ last
+  pub stops : number ≤ max first (count + 1)
+
+-- An item of a list chooses the number in a package with so many revisions. A number that stands alone is chosen also where the
+-- package does not have it.
+abbrev pub IsListed : ℕ → ℕ → Listed → Type 0
+IsListed count number (One one) = one ≡ number
+IsListed count number (Range first last) = IsInRange count first last number
+
+-- The selection chooses this number: an item of its list does, or the selection means the revision that has it.
 abbrev pub IsChosen : List Revision → Selection → ℕ → Type 0
-IsChosen revisions (numbers listed) number = Contains listed number
+IsChosen revisions (numbers listed) number = Any (IsListed (length revisions) number) listed
 IsChosen revisions selection number = IsSomeAnd (revision_at revisions number) (λ revision. IsTrue (selects selection revision))
+
+-- ---- the same of one revision
+
+-- an item of a list has the number
+abbrev pub has_number : ℕ → Listed → Bool
+has_number number (One one) = one == number
+has_number number (Range first last) = nat_le first number && nat_le number last
+
+-- the selection chooses this revision
+abbrev pub chooses : Selection → Revision → Bool
+chooses (numbers listed) revision = list_any (has_number revision.number) listed
+chooses selection revision = selects selection revision
 
 -- ---- the same numbers as a list
 
@@ -85,11 +118,20 @@ numbers_from selection number [] = []
 numbers_from selection number (revision ∷ later) =
     if selects selection revision then number ∷ numbers_from selection (number + 1) later else numbers_from selection (number + 1) later
 
+-- the numbers from the first to the last
+abbrev pub numbers_between : ℕ → ℕ → List ℕ
+numbers_between first last = range_with_len first ((last + 1) - first)
+
+-- the numbers that an item of a list chooses in a package with so many revisions
+abbrev pub listed_by : ℕ → Listed → List ℕ
+listed_by count (One one) = one ∷ []
+listed_by count (Range first last) = numbers_between first (min last (max first (count + 1)))
+
 -- the numbers in their order, each once
 abbrev pub in_order : List ℕ → List ℕ
 in_order listed = fold (insert_key nat_cmp) [] listed
 
 -- the numbers that the selection chooses
 abbrev pub chosen : List Revision → Selection → List ℕ
-chosen revisions (numbers listed) = in_order listed
+chosen revisions (numbers listed) = in_order (flat_map (listed_by (length revisions)) listed)
 chosen revisions selection = numbers_from selection 1 revisions

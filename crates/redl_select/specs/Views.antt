@@ -1,7 +1,7 @@
 -- The code's selections as plain data.
 use Rattle.redl_select.specs.declared.selection.Selection as code
 use Rattle.redl_select.specs.declared.selection.Selection.TheVariants as variants
-use Rattle.redl_select.specs.Selections.{Selection, all, numbers, author, span, kind}
+use Rattle.redl_select.specs.Selections.{Selection, all, numbers, author, span, kind, group}
 
 abbrev pub selection_of : code.Selection → Selection
 selection_of variants.All = all
@@ -9,3 +9,4 @@ selection_of (variants.Numbers listed) = numbers listed.items
 selection_of (variants.Author name) = author name
 selection_of (variants.Span start end) = span start end
 selection_of (variants.Kind of_kind) = kind of_kind
+selection_of (variants.Group of_group) = group of_group

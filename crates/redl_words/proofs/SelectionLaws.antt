@@ -1,12 +1,13 @@
 -- The texts of selections: what was read is what the text means, and what the text means is read.
-use Rattle.std.proofs.Common.{◌≡◌, ◌≢◌, ℕ, ◌+◌, ◌^◌, ◌<◌, Bool, true, false, cond, eqb, List, [], ◌∷◌, ◌++◌, length, Option, Some, None, refl, sym, ap, subst, ◌∙◌, ◌↔◌, inl, inr, arith, append-nil, append_assoc, map, All, MatchOption, get_or, drop, Bor, IsTrue}
-use Rattle.std.specs.Prelude.{ℤ, codes, decimal, option_map}
+use Rattle.std.proofs.Common.{◌≡◌, ◌≢◌, ℕ, ◌+◌, ◌^◌, ◌<◌, ◌≤◌, Bool, true, false, cond, eqb, List, [], ◌∷◌, ◌++◌, length, Option, Some, None, refl, sym, ap, subst, ◌∙◌, ◌↔◌, inl, inr, arith, append-nil, append_assoc, map, All, MatchOption, get_or, drop, Bor, IsTrue}
+use Rattle.std.specs.Prelude.{ℤ, codes, decimal, nat_le, option_map}
 use Rattle.std.specs.List.{list_all, join_with_byte, slice_split, count_by, AllByRecursion}
 use Rattle.std.specs.Str.{bytes_eq}
-use Rattle.std.proofs.lemmas.Bool.{eqb-true, and_parts, and_from, cases_Bool}
+use Rattle.std.proofs.lemmas.Bool.{eqb-true, le-leb, leb-true, and_parts, and_from, cases_Bool}
 use Rattle.std.proofs.lemmas.List.{at_drop_more, at_drop_all}
 use Rattle.std.proofs.lemmas.Option.{same_Some, cond_some}
 use Rattle.std.proofs.lemmas.List.Splits.{join_with_byte-slice_split, length-slice_split, slice_split_none, slice_split_at}
+use Rattle.std.proofs.lemmas.List.Folds.{list_all-append}
 use Rattle.std.proofs.lemmas.List.Elements.{All-from_recursion, recursion_from_All}
 use Rattle.std.proofs.lemmas.Slice.Eq.{bytes_eq-Decides}
 use Rattle.std.proofs.lemmas.Str.Pattern.{IsSplitOnceResult, split_parts}
@@ -17,13 +18,18 @@ use Rattle.redl_reading.specs.Lists.{field_at, is_other}
 use Rattle.redl_journal.proofs.Parts.{number_takes, number_again, decimal_lacks}
 use Rattle.redl_reading.proofs.Steps.{bind_some}
 use Rattle.redl_reading.proofs.Fields.{field_takes, field_again}
+use Rattle.redl_reading.proofs.Words.{eqb_same}
 use Rattle.redl_index.specs.declared.revision.RevKind.{RevKind}
 use Rattle.redl_index.specs.Kinds.{is_named}
 use Rattle.redl_index.specs.KindNames.{kind_name, kind_named}
 use Rattle.redl_index.proofs.KindNameLaws.{kind_named-exact}
-use Rattle.redl_select.specs.Selections.{Selection, all, numbers, author, span, kind}
-use Rattle.redl_words.specs.Selections.{ListsNumbers, GivesSpan, GivesDates, NamesKind, Means}
-use Rattle.redl_words.specs.Reading.Selections.{numbers_after, numbers_in, moments_in, span_in, labelled, selection_parts, selection_in}
+use Rattle.redl_select.specs.declared.group.Group.{Group}
+use Rattle.redl_select.specs.declared.group.Group.TheVariants as groups
+use Rattle.redl_select.specs.declared.selection.Listed.{Listed}
+use Rattle.redl_select.specs.declared.selection.Listed.TheVariants.{One, Range}
+use Rattle.redl_select.specs.Selections.{Selection, all, numbers, author, span, kind, group}
+use Rattle.redl_words.specs.Selections.{IsItem, ListsNumbers, GivesSpan, GivesDates, NamesKind, Means, group_name, item_text}
+use Rattle.redl_words.specs.Reading.Selections.{range_in, item_parts, item_in, numbers_after, numbers_in, group_named, kind_or, kinds_in, moments_in, span_in, labelled, selection_parts, selection_in}
 use Rattle.redl_words.proofs.DateLaws.{date_has_no_slash}
 
 pub bytes_same : (xs ys : List ℕ) → bytes_eq xs ys ≡ true → xs ≡ ys
@@ -73,38 +79,92 @@ split_field c bs r h small = of r (split_parts c bs r h small) where
 
 -- ---- listed numbers
 
--- a number up to 4294967295
-abbrev pub IsSmall : ℕ → Type 0
-IsSmall number = number < 2 ^ 32
+-- a text with the byte c in it is none without it
+has_no_other : (c : ℕ) (xs ys : List ℕ) → list_all (is_other c) (xs ++ (c ∷ ys)) ≡ true → ⊥
+has_no_other c [] ys h =
+    let both = and_parts (is_other c c) (list_all (is_other c) ys) h in
+    let same : is_other c c ≡ false = rw (eqb_same c) refl in
+    cc
+has_no_other c (x ∷ xs) ys h = has_no_other c xs ys (and_parts (is_other c x) (list_all (is_other c) (xs ++ (c ∷ ys))) h).1
 
-pub record Listed (pieces : List (List ℕ)) (before listed : List ℕ) : Type 0 where
-  pub more : List ℕ
+-- no field ends where there is no such byte
+field_none : (c : ℕ) (bs : List ℕ) → list_all (is_other c) bs ≡ true → field_at c bs ≡ None
+field_none c bs h = of (field_at c bs) refl where
+  of : (o : Option (List ℕ × List ℕ)) → field_at c bs ≡ o → field_at c bs ≡ None
+  of None e = e
+  of (Some x) e = absurd (has_no_other c x.0 x.1 (subst (λ (l : List ℕ). list_all (is_other c) l ≡ true) (field_takes c bs x e) h))
+
+range_takes : (first last : List ℕ) (item : Listed) → range_in first last ≡ Some item → (item_text item ≡ first ++ (45 ∷ last)) × IsItem item
+unfolding range_in
+range_takes first last item e =
+    let start = bind_some (number_in first) _ item e in
+    let end = bind_some (number_in last) _ item start.2 in
+    let test = cond_some (nat_le start.0 end.0) (Range start.0 end.0) item end.2 in
+    let from = number_takes first start.0 start.1 in
+    let to = number_takes last end.0 end.1 in
+    let order : start.0 ≤ end.0 = leb-true start.0 end.0 test.0 in
+    let written : item_text (Range start.0 end.0) ≡ first ++ (45 ∷ last) =
+    ap (λ (l : List ℕ). l ++ (45 ∷ decimal end.0)) from.0 ∙ ap (λ (l : List ℕ). first ++ (45 ∷ l)) to.0 in
+    subst (λ (i : Listed). (item_text i ≡ first ++ (45 ∷ last)) × IsItem i) test.1 (written, (order, to.1))
+
+range_again : (first last : ℕ) → first ≤ last → last < 2 ^ 32 → range_in (decimal first) (decimal last) ≡ Some (Range first last)
+unfolding range_in
+range_again first last order small =
+    let test : nat_le first last ≡ true = le-leb first last order in
+    rw (number_again first (omega arith), number_again last small, test) refl
+
+item_takes : (text : List ℕ) (item : Listed) → item_in text ≡ Some item → (item_text item ≡ text) × IsItem item
+unfolding item_in
+item_takes text item e = of (field_at 45 text) refl e where
+  of : (o : Option (List ℕ × List ℕ)) → field_at 45 text ≡ o → item_parts text o ≡ Some item → (item_text item ≡ text) × IsItem item
+  of None is e =
+      let n = map_some One (number_in text) item e in
+      let t = number_takes text n.0 n.1 in
+      subst (λ (i : Listed). (item_text i ≡ text) × IsItem i) n.2 t
+  of (Some ends) is e =
+      let t = range_takes ends.0 ends.1 item e in
+      (t.0 ∙ sym (field_takes 45 text ends is), t.1)
+
+item_again : (item : Listed) → IsItem item → item_in (item_text item) ≡ Some item
+unfolding item_in
+item_again (One number) h = rw (field_none 45 (decimal number) (decimal_lacks 45 number (omega arith) h), number_again number h) refl
+item_again (Range first last) h = rw (field_again 45 (decimal first) (decimal last) (decimal_lacks 45 first (omega arith) (omega (arith, h.0, h.1)))) (range_again first last h.0 h.1)
+
+pub record Listing (pieces : List (List ℕ)) (before listed : List Listed) : Type 0 where
+  pub more : List Listed
   pub whole : listed ≡ before ++ more
-  pub written : pieces ≡ map decimal more
-  pub small : AllByRecursion IsSmall more
+  pub written : pieces ≡ map item_text more
+  pub items : AllByRecursion IsItem more
 
-numbers_take : (pieces : List (List ℕ)) (before listed : List ℕ) → numbers_after before pieces ≡ Some listed → Listed pieces before listed
+numbers_take : (pieces : List (List ℕ)) (before listed : List Listed) → numbers_after before pieces ≡ Some listed → Listing pieces before listed
 unfolding numbers_after
-numbers_take [] before listed e = record { more = []; whole = sym (same_Some before listed e) ∙ sym (append-nil before); written = refl; small = tt }
-numbers_take (digits ∷ pieces) before listed e =
-    let n = bind_some (number_in digits) (λ number. numbers_after (before ++ number ∷ []) pieces) listed e in
-    let t = number_takes digits n.0 n.1 in
+numbers_take [] before listed e = record { more = []; whole = sym (same_Some before listed e) ∙ sym (append-nil before); written = refl; items = tt }
+numbers_take (piece ∷ pieces) before listed e =
+    let n = bind_some (item_in piece) (λ item. numbers_after (before ++ item ∷ []) pieces) listed e in
+    let t = item_takes piece n.0 n.1 in
     let rest = numbers_take pieces (before ++ n.0 ∷ []) listed n.2 in
     record {
       more = n.0 ∷ rest.more;
       whole = rest.whole ∙ append_assoc before (n.0 ∷ []) rest.more;
-      written = ap (λ (p : List ℕ). p ∷ pieces) (sym t.0) ∙ ap (λ (ps : List (List ℕ)). decimal n.0 ∷ ps) rest.written;
-      small = (t.1, rest.small);
+      written = ap (λ (p : List ℕ). p ∷ pieces) (sym t.0) ∙ ap (λ (ps : List (List ℕ)). item_text n.0 ∷ ps) rest.written;
+      items = (t.1, rest.items);
     }
 
-numbers_back : (more before : List ℕ) → AllByRecursion IsSmall more → numbers_after before (map decimal more) ≡ Some (before ++ more)
+numbers_back : (more before : List Listed) → AllByRecursion IsItem more → numbers_after before (map item_text more) ≡ Some (before ++ more)
 unfolding numbers_after
 numbers_back [] before h = ap Some (sym (append-nil before))
-numbers_back (n ∷ more) before h =
-    rw (number_again n h.0) (numbers_back more (before ++ n ∷ []) h.1 ∙ ap Some (append_assoc before (n ∷ []) more))
+numbers_back (item ∷ more) before h =
+    rw (item_again item h.0) (numbers_back more (before ++ item ∷ []) h.1 ∙ ap Some (append_assoc before (item ∷ []) more))
 
-no_comma : (n : ℕ) → IsSmall n → All (λ (x : ℕ). eqb x 44 ≡ false) (decimal n)
-no_comma n h = All-from_recursion (λ (x : ℕ). eqb x 44 ≡ false) (decimal n) (each (decimal n) (decimal_lacks 44 n (omega arith) h)) where
+no_comma : (item : Listed) → IsItem item → All (λ (x : ℕ). eqb x 44 ≡ false) (item_text item)
+no_comma item h = All-from_recursion (λ (x : ℕ). eqb x 44 ≡ false) (item_text item) (each (item_text item) (lacks item h)) where
+  lacks : (item : Listed) → IsItem item → list_all (is_other 44) (item_text item) ≡ true
+  lacks (One number) h = decimal_lacks 44 number (omega arith) h
+  lacks (Range first last) h =
+      list_all-append (is_other 44) (decimal first) (45 ∷ decimal last)
+      ∙ and_from (list_all (is_other 44) (decimal first)) (list_all (is_other 44) (45 ∷ decimal last))
+      (decimal_lacks 44 first (omega arith) (omega (arith, h.0, h.1))) (decimal_lacks 44 last (omega arith) h.1)
+
   not-true : (b : Bool) → Rattle.std.specs.Prelude.not b ≡ true → b ≡ false
   not-true true e = absurd cc
   not-true false e = refl
@@ -113,44 +173,84 @@ no_comma n h = All-from_recursion (λ (x : ℕ). eqb x 44 ≡ false) (decimal n)
   each [] h = tt
   each (d ∷ ds) h = let both = and_parts (is_other 44 d) (list_all (is_other 44) ds) h in (not-true (eqb d 44) both.0, each ds both.1)
 
-split_back : (n : ℕ) (more : List ℕ) → AllByRecursion IsSmall (n ∷ more) → slice_split (λ b. eqb b 44) (join_with_byte 44 (map decimal (n ∷ more))) ≡ map decimal (n ∷ more)
-split_back n [] h = slice_split_none (λ b. eqb b 44) (decimal n) (no_comma n h.0)
-split_back n (m ∷ more) h =
-    slice_split_at (λ b. eqb b 44) (decimal n) 44 (join_with_byte 44 (map decimal (m ∷ more))) (no_comma n h.0) refl
-    ∙ ap (λ (ps : List (List ℕ)). decimal n ∷ ps) (split_back m more h.1)
+split_back : (item : Listed) (more : List Listed) → AllByRecursion IsItem (item ∷ more)
+    → slice_split (λ b. eqb b 44) (join_with_byte 44 (map item_text (item ∷ more))) ≡ map item_text (item ∷ more)
+split_back item [] h = slice_split_none (λ b. eqb b 44) (item_text item) (no_comma item h.0)
+split_back item (next ∷ more) h =
+    slice_split_at (λ b. eqb b 44) (item_text item) 44 (join_with_byte 44 (map item_text (next ∷ more))) (no_comma item h.0) refl
+    ∙ ap (λ (ps : List (List ℕ)). item_text item ∷ ps) (split_back next more h.1)
 
 numbers_case : (value : List ℕ) (s : Selection) → option_map numbers (numbers_in value) ≡ Some s → Means (codes "numbers:" ++ value) s
 unfolding numbers_in
 numbers_case value s e =
     let n = map_some numbers (numbers_after [] (slice_split (λ b. eqb b 44) value)) s e in
     let t = numbers_take (slice_split (λ b. eqb b 44) value) [] n.0 n.1 in
-    let joined : value ≡ join_with_byte 44 (map decimal n.0) =
-    sym (join_with_byte-slice_split 44 value) ∙ ap (join_with_byte 44) t.written ∙ ap (λ (l : List ℕ). join_with_byte 44 (map decimal l)) (sym t.whole) in
+    let joined : value ≡ join_with_byte 44 (map item_text n.0) =
+    sym (join_with_byte-slice_split 44 value) ∙ ap (join_with_byte 44) t.written ∙ ap (λ (l : List Listed). join_with_byte 44 (map item_text l)) (sym t.whole) in
     let some : n.0 ≢ [] = λ empty.
-    let none : map decimal t.more ≡ [] = ap (map decimal) (sym t.whole ∙ empty) in
+    let none : map item_text t.more ≡ [] = ap (map item_text) (sym t.whole ∙ empty) in
     let long = length-slice_split (λ b. eqb b 44) value in
     let short : length (slice_split (λ b. eqb b 44) value) ≡ 0 = ap length (t.written ∙ none) in
     omega (arith, long, short) in
     let means : ListsNumbers (codes "numbers:" ++ value) n.0 = record {
       written = ap (λ (l : List ℕ). codes "numbers:" ++ l) joined;
       some = some;
-      small = All-from_recursion IsSmall n.0 (subst (AllByRecursion IsSmall) (sym t.whole) t.small);
+      items = All-from_recursion IsItem n.0 (subst (AllByRecursion IsItem) (sym t.whole) t.items);
     } in
     subst (Means (codes "numbers:" ++ value)) n.2 means
 
-numbers_again : (listed : List ℕ) → listed ≢ [] → AllByRecursion IsSmall listed → numbers_in (join_with_byte 44 (map decimal listed)) ≡ Some listed
+numbers_again : (listed : List Listed) → listed ≢ [] → AllByRecursion IsItem listed → numbers_in (join_with_byte 44 (map item_text listed)) ≡ Some listed
 unfolding numbers_in
 numbers_again [] some h = absurd (some refl)
-numbers_again (n ∷ more) some h = ap (numbers_after []) (split_back n more h) ∙ numbers_back (n ∷ more) [] h
+numbers_again (item ∷ more) some h = ap (numbers_after []) (split_back item more h) ∙ numbers_back (item ∷ more) [] h
 
 -- ---- kinds
 
-kind_case : (value : List ℕ) (s : Selection) → option_map kind (kind_named value) ≡ Some s → Means (codes "kind:" ++ value) s
-kind_case value s e =
-    let k = map_some kind (kind_named value) s e in
-    let t = (kind_named-exact value k.0).0 k.1 in
-    let means : NamesKind (codes "kind:" ++ value) k.0 = record { written = ap (λ (l : List ℕ). codes "kind:" ++ l) (sym t.1); named = t.0 } in
-    subst (Means (codes "kind:" ++ value)) k.2 means
+group_takes : (name : List ℕ) (g : Group) → group_named name ≡ Some g → group_name g ≡ name
+unfolding group_named
+group_takes name g e = one
+  where
+    P : Group → Type 0
+    P g = group_name g ≡ name
+
+    is : (word : List ℕ) → bytes_eq name word ≡ true → word ≡ name
+    is word same = sym (bytes_same name word same)
+
+    five : cond (bytes_eq name (codes "props")) (Some groups.Props) None ≡ Some g → P g
+    five e = pick P (bytes_eq name (codes "props")) groups.Props None g e (is (codes "props")) (λ none. absurd cc)
+
+    four : cond (bytes_eq name (codes "cells")) (Some groups.Cells) (cond (bytes_eq name (codes "props")) (Some groups.Props) None) ≡ Some g → P g
+    four e = pick P (bytes_eq name (codes "cells")) groups.Cells _ g e (is (codes "cells")) five
+
+    three : cond (bytes_eq name (codes "rows")) (Some groups.Rows) (cond (bytes_eq name (codes "cells")) (Some groups.Cells) (cond (bytes_eq name (codes "props")) (Some groups.Props) None)) ≡ Some g → P g
+    three e = pick P (bytes_eq name (codes "rows")) groups.Rows _ g e (is (codes "rows")) four
+
+    one : P g
+    one = pick P (bytes_eq name (codes "content")) groups.Content _ g e (is (codes "content"))
+        (λ rest. pick P (bytes_eq name (codes "marks")) groups.Marks _ g rest (is (codes "marks")) three)
+
+group_again : (g : Group) → kinds_in (group_name g) ≡ Some (group g)
+unfolding kind_named group_named
+group_again groups.Content = refl
+group_again groups.Marks = refl
+group_again groups.Rows = refl
+group_again groups.Cells = refl
+group_again groups.Props = refl
+
+kind_again : (name : List ℕ) (k : RevKind) → kind_named name ≡ Some k → kinds_in name ≡ Some (kind k)
+kind_again name k e = rw e refl
+
+kind_case : (value : List ℕ) (s : Selection) → kinds_in value ≡ Some s → Means (codes "kind:" ++ value) s
+kind_case value s e = of (kind_named value) refl e where
+  of : (o : Option RevKind) → kind_named value ≡ o → kind_or o (group_named value) ≡ Some s → Means (codes "kind:" ++ value) s
+  of (Some k) is e =
+      let t = (kind_named-exact value k).0 is in
+      let means : NamesKind (codes "kind:" ++ value) k = record { written = ap (λ (l : List ℕ). codes "kind:" ++ l) (sym t.1); named = t.0 } in
+      subst (Means (codes "kind:" ++ value)) (same_Some (kind k) s e) means
+  of None is e =
+      let g = map_some group (group_named value) s e in
+      let means : Means (codes "kind:" ++ value) (group g.0) = ap (λ (l : List ℕ). codes "kind:" ++ l) (sym (group_takes value g.0 g.1)) in
+      subst (Means (codes "kind:" ++ value)) g.2 means
 
 -- the call that finds a kind by its name gives what reading gives
 pub kind_found : (name : List ℕ) (r : Option RevKind) → ((k : RevKind) → (r ≡ Some k) ↔ (IsTrue (is_named k) × (kind_name k ≡ name))) → kind_named name ≡ r
@@ -251,7 +351,7 @@ author_label : (v : List ℕ) → selection_in (codes "author:" ++ v) ≡ Some (
 unfolding labelled
 author_label v = labelled_again (codes "author") v refl
 
-kind_label : (v : List ℕ) → selection_in (codes "kind:" ++ v) ≡ option_map kind (kind_named v)
+kind_label : (v : List ℕ) → selection_in (codes "kind:" ++ v) ≡ kinds_in v
 unfolding labelled
 kind_label v = labelled_again (codes "kind") v refl
 
@@ -262,29 +362,30 @@ span_label v = labelled_again (codes "span") v refl
 pub selection_again : (text : List ℕ) (s : Selection) → Means text s → selection_in text ≡ Some s
 selection_again text all h = ap selection_in h ∙ all_again
 selection_again text (numbers listed) h =
-    ap selection_in h.written ∙ numbers_label (join_with_byte 44 (map decimal listed)) ∙ ap (option_map numbers) (numbers_again listed h.some (recursion_from_All IsSmall listed h.small))
+    ap selection_in h.written ∙ numbers_label (join_with_byte 44 (map item_text listed)) ∙ ap (option_map numbers) (numbers_again listed h.some (recursion_from_All IsItem listed h.items))
 selection_again text (author name) h = ap selection_in h ∙ author_label name
 selection_again text (span start end) h =
     ap selection_in h.written ∙ span_label (h.first ++ (47 ∷ h.second)) ∙ span_again h.first h.second start end h.starts h.ends
 selection_again text (kind of_kind) h =
-    ap selection_in h.written ∙ kind_label (kind_name of_kind) ∙ ap (option_map kind) ((kind_named-exact (kind_name of_kind) of_kind).1 (h.named, refl))
+    ap selection_in h.written ∙ kind_label (kind_name of_kind) ∙ kind_again (kind_name of_kind) of_kind ((kind_named-exact (kind_name of_kind) of_kind).1 (h.named, refl))
+selection_again text (group of_group) h = ap selection_in h ∙ kind_label (group_name of_group) ∙ group_again of_group
 
 -- ---- the loop over listed numbers
 
-at_piece : {Y : Type 0} (read : List (List ℕ) → Y) (pieces : List (List ℕ)) (i : ℕ) (digits : List ℕ) → (i < length pieces) × (digits ≡ get_or pieces i digits)
-    → read (drop i pieces) ≡ read (digits ∷ drop (i + 1) pieces)
-at_piece read pieces i digits h = at_drop_more read pieces i digits h.0 ∙ ap (λ (piece : List ℕ). read (piece ∷ drop (i + 1) pieces)) (sym h.1)
+at_piece : {Y : Type 0} (read : List (List ℕ) → Y) (pieces : List (List ℕ)) (i : ℕ) (first : List ℕ) → (i < length pieces) × (first ≡ get_or pieces i first)
+    → read (drop i pieces) ≡ read (first ∷ drop (i + 1) pieces)
+at_piece read pieces i first h = at_drop_more read pieces i first h.0 ∙ ap (λ (piece : List ℕ). read (piece ∷ drop (i + 1) pieces)) (sym h.1)
 
-pub numbers_stop : (listed : List ℕ) (pieces : List (List ℕ)) (i : ℕ) (digits : List ℕ) → (i < length pieces) × (digits ≡ get_or pieces i digits)
-    → number_in digits ≡ None → numbers_after listed (drop i pieces) ≡ None
+pub numbers_stop : (listed : List Listed) (pieces : List (List ℕ)) (i : ℕ) (piece : List ℕ) → (i < length pieces) × (piece ≡ get_or pieces i piece)
+    → item_in piece ≡ None → numbers_after listed (drop i pieces) ≡ None
 unfolding numbers_after
-numbers_stop listed pieces i digits h none = at_piece (numbers_after listed) pieces i digits h ∙ rw none refl
+numbers_stop listed pieces i piece h none = at_piece (numbers_after listed) pieces i piece h ∙ rw none refl
 
-pub numbers_go : (listed : List ℕ) (pieces : List (List ℕ)) (i : ℕ) (digits : List ℕ) (number : ℕ) → (i < length pieces) × (digits ≡ get_or pieces i digits)
-    → number_in digits ≡ Some number → numbers_after listed (drop i pieces) ≡ numbers_after (listed ++ number ∷ []) (drop (i + 1) pieces)
+pub numbers_go : (listed : List Listed) (pieces : List (List ℕ)) (i : ℕ) (piece : List ℕ) (item : Listed) → (i < length pieces) × (piece ≡ get_or pieces i piece)
+    → item_in piece ≡ Some item → numbers_after listed (drop i pieces) ≡ numbers_after (listed ++ item ∷ []) (drop (i + 1) pieces)
 unfolding numbers_after
-numbers_go listed pieces i digits number h some = at_piece (numbers_after listed) pieces i digits h ∙ rw some refl
+numbers_go listed pieces i piece item h some = at_piece (numbers_after listed) pieces i piece h ∙ rw some refl
 
-pub numbers_end : (listed : List ℕ) (pieces : List (List ℕ)) (i : ℕ) → i ≡ length pieces → numbers_after listed (drop i pieces) ≡ Some listed
+pub numbers_end : (listed : List Listed) (pieces : List (List ℕ)) (i : ℕ) → i ≡ length pieces → numbers_after listed (drop i pieces) ≡ Some listed
 unfolding numbers_after
 numbers_end listed pieces i h = at_drop_all (numbers_after listed) pieces i (omega (arith, h))

@@ -4,16 +4,18 @@ ghost use Rattle.std.specs.Prelude.{◌≡◌, option_map};
 ghost use Rattle.redl_reading.specs.Steps.{Gives};
 ghost use Rattle.redl_reading.specs.Lists.{field_at};
 ghost use Rattle.redl_index.specs.KindNames.{kind_named};
+ghost use Rattle.redl_journal.specs.Reading.{number_in};
+ghost use Rattle.redl_select.specs.declared.selection.Listed.{Listed};
+ghost use Rattle.redl_select.specs.Selections.{group};
 ghost use Rattle.redl_select.specs.Views.{selection_of};
-ghost use Rattle.redl_select.specs.Selections.{kind};
 ghost use Rattle.redl_words.specs.Reading.Answers.{Finds};
-ghost use Rattle.redl_words.specs.Reading.Selections.{labelled, moments_in, numbers_in, selection_in, span_in, unlabelled};
+ghost use Rattle.redl_words.specs.Reading.Selections.{group_named, item_in, kinds_in, labelled, moments_in, numbers_in, range_in, selection_in, span_in, unlabelled};
 
 use crate::error::WordsError;
 use redl_index::RevKind;
 use redl_io::Text;
 use redl_journal::read_number;
-use redl_select::Selection;
+use redl_select::{Group, Listed, Selection};
 use redl_stamp::read_moment;
 use std::alloc::Global;
 
@@ -74,18 +76,59 @@ fn read_labelled(alloc: Global, label: &str, value: &str) -> Result<Selection, W
     }
 }
 
-/// The numbers with commas between.
-fn read_numbers(alloc: Global, text: &str) -> Result<Vec<u32>, WordsError>
+/// The items with commas between.
+fn read_numbers(alloc: Global, text: &str) -> Result<Vec<Listed>, WordsError>
     ensures { Finds (λ listed. listed.items) result (numbers_in text.now) }
 {
     let mut listed = Vec::new(alloc);
-    for digits in text.split(',') {
-        let Some(number) = read_number(digits.as_bytes()) else {
+    for piece in text.split(',') {
+        let Some(item) = read_item(piece) else {
             return Err(WordsError::Usage);
         };
-        listed.push(number)?;
+        listed.push(item)?;
     }
     Ok(listed)
+}
+
+/// A number, or two with a dash between.
+#[tactic(auto, unfolding(crate::specs::Reading::Selections::item_in))]
+fn read_item(text: &str) -> Option<Listed>
+    ensures { result ≡ item_in text.now }
+{
+    match split_ends(text) {
+        Some((first, last)) => read_range(first, last),
+        None => read_one(text),
+    }
+}
+
+/// The number before the first dash, and the one behind it.
+fn split_ends(text: &str) -> Option<(&str, &str)>
+    ensures { Gives (λ x. (x.0.now, x.1.now)) result (field_at 45 text.now) }
+{
+    text.split_once('-')
+}
+
+/// A number alone.
+fn read_one(digits: &str) -> Option<Listed>
+    ensures { result ≡ option_map Listed.One (number_in digits.now) }
+{
+    match read_number(digits.as_bytes()) {
+        Some(number) => Some(Listed::One(number)),
+        None => None,
+    }
+}
+
+/// The range from the first number to the last. There is none where the first is the greater one.
+#[tactic(auto, unfolding(crate::specs::Reading::Selections::range_in))]
+fn read_range(first: &str, last: &str) -> Option<Listed>
+    ensures { result ≡ range_in first.now last.now }
+{
+    let first = read_number(first.as_bytes())?;
+    let last = read_number(last.as_bytes())?;
+    if first > last {
+        return None;
+    }
+    Some(Listed::Range(first, last))
 }
 
 /// The kind with this name.
@@ -95,13 +138,43 @@ pub(crate) fn read_kind_name(name: &str) -> Option<RevKind>
     RevKind::named(name.as_bytes())
 }
 
-/// The revisions of the kind with this name.
+/// The revisions of the kind, or of the kinds of the group, with this name.
 fn read_kind(name: &str) -> Result<Selection, WordsError>
-    ensures { Finds selection_of result (option_map kind (kind_named name.now)) }
+    ensures { Finds selection_of result (kinds_in name.now) }
 {
     match read_kind_name(name) {
         Some(kind) => Ok(Selection::Kind(kind)),
+        None => read_group(name),
+    }
+}
+
+/// The revisions of the kinds of the group with this name.
+fn read_group(name: &str) -> Result<Selection, WordsError>
+    ensures { Finds selection_of result (option_map group (group_named name.now)) }
+{
+    match read_group_name(name.as_bytes()) {
+        Some(group) => Ok(Selection::Group(group)),
         None => Err(WordsError::Usage),
+    }
+}
+
+/// The group with this name.
+#[tactic(auto, unfolding(crate::specs::Reading::Selections::group_named))]
+fn read_group_name(name: &[u8]) -> Option<Group>
+    ensures { result ≡ group_named name.now }
+{
+    if name == b"content".as_slice() {
+        Some(Group::Content)
+    } else if name == b"marks".as_slice() {
+        Some(Group::Marks)
+    } else if name == b"rows".as_slice() {
+        Some(Group::Rows)
+    } else if name == b"cells".as_slice() {
+        Some(Group::Cells)
+    } else if name == b"props".as_slice() {
+        Some(Group::Props)
+    } else {
+        None
     }
 }
 

@@ -50,6 +50,7 @@ fn selection_shown(alloc: Global, selection: &Selection) -> Result<String, Alloc
         Selection::Author(name) => format!(in alloc; "author {}", shown(name)),
         Selection::Span(start, end) => format!(in alloc; "span {start} {end}"),
         Selection::Kind(kind) => format!(in alloc; "kind {kind:?}"),
+        Selection::Group(group) => format!(in alloc; "group {group:?}"),
     }
 }
 
@@ -188,7 +189,7 @@ fn line_told(alloc: Global, line: &str) -> Result<String, AllocError> {
 }
 
 // Lines, and what they ask for.
-const COMMANDS: [(&str, &str); 21] = [
+const COMMANDS: [(&str, &str); 23] = [
     ("settle|accept|P", "settle true P"),
     ("settle|reject|P", "settle false P"),
     ("list|P", "list P as text locks  journals "),
@@ -220,7 +221,7 @@ const COMMANDS: [(&str, &str); 21] = [
     ),
     (
         "decide|P|-x|--journal|J|--lock|A|--reject|numbers:2,0,2|--withdraw|author:|--journal|K|--accept|kind:row-ins",
-        "decide P by -x rank 0 journals J,K, locks A, choices Reject numbers [2, 0, 2],Withdraw author ,Accept kind Row(Ins),",
+        "decide P by -x rank 0 journals J,K, locks A, choices Reject numbers [One(2), One(0), One(2)],Withdraw author ,Accept kind Row(Ins),",
     ),
     (
         "decide|P|Dee|--accept|span:2024-05-06T07:08:09Z/2024-05-06T09:08:10+02:00",
@@ -228,7 +229,15 @@ const COMMANDS: [(&str, &str); 21] = [
     ),
     (
         "decide|P|Dee|--accept|author:a/b:c|--accept|numbers:4294967295",
-        "decide P by Dee rank 0 journals  locks  choices Accept author a/b:c,Accept numbers [4294967295],",
+        "decide P by Dee rank 0 journals  locks  choices Accept author a/b:c,Accept numbers [One(4294967295)],",
+    ),
+    (
+        "decide|P|Dee|--accept|numbers:3,13-19|--reject|numbers:0-4294967295,5-5",
+        "decide P by Dee rank 0 journals  locks  choices Accept numbers [One(3), Range(13, 19)],Reject numbers [Range(0, 4294967295), Range(5, 5)],",
+    ),
+    (
+        "decide|P|Dee|--accept|kind:props|--reject|kind:content|--withdraw|kind:marks|--accept|kind:rows|--reject|kind:cells",
+        "decide P by Dee rank 0 journals  locks  choices Accept group Props,Reject group Content,Withdraw group Marks,Accept group Rows,Reject group Cells,",
     ),
     (
         "decide|P|Dee|--rank|9|--accept|all|--lock-kind|cell-ins",
@@ -255,7 +264,7 @@ fn lines_of_each_command(rt: HostRuntime) -> Result<(), Fail> {
 }
 
 // Lines that are those of no command.
-const NO_COMMANDS: [&str; 62] = [
+const NO_COMMANDS: [&str; 63] = [
     "",
     "P",
     "--help",
@@ -284,6 +293,7 @@ const NO_COMMANDS: [&str; 62] = [
     "write|P|--lock-kind",
     "write|P|--lock-kind|pictures",
     "write|P|--lock-kind|kind:ins",
+    "write|P|--lock-kind|props",
     "write|P|--lock-span",
     "write|P|--lock-span|2024-05-06T07:08:09Z",
     "write|P|--lock-span|span:2024-05-06T07:08:09Z/2024-05-06T07:08:10Z",
@@ -344,11 +354,21 @@ fn no_selections(rt: HostRuntime) -> Result<(), Fail> {
         "numbers:01",
         "numbers:+1",
         "numbers:4294967296",
+        "numbers:19-13",
+        "numbers:1-",
+        "numbers:-1",
+        "numbers:1-2-3",
+        "numbers:01-2",
+        "numbers:1 - 2",
+        "numbers:1-4294967296",
         "author",
         "kind:",
         "kind:Ins",
         "kind:row-from",
         "kind:ins ",
+        "kind:prop",
+        "kind:Props",
+        "kind:content,marks",
         "span:",
         "span:2024-05-06T07:08:09Z",
         "span:2024-05-06/2024-05-07T00:00:00Z",

@@ -1,5 +1,5 @@
--- Reading a selection: a list of numbers, an author, two dates, a kind, or all.
-use Rattle.std.specs.Prelude.{◌==◌, ℕ, ℤ, List, [], ◌∷◌, ◌++◌, Option, Some, None, codes, if◌then◌else◌, option_map}
+-- Reading a selection: a list of numbers and ranges, an author, two dates, a kind or a group of kinds, or all.
+use Rattle.std.specs.Prelude.{◌==◌, ℕ, ℤ, List, [], ◌∷◌, ◌++◌, Option, Some, None, codes, if◌then◌else◌, nat_le, option_map}
 use Rattle.std.specs.List.{slice_split}
 use Rattle.std.specs.Str.{bytes_eq}
 use Rattle.redl_stamp.specs.Moment.{moment_of}
@@ -7,17 +7,38 @@ use Rattle.redl_journal.specs.Reading.{number_in}
 use Rattle.redl_reading.specs.Steps.{◌>>=◌}
 use Rattle.redl_reading.specs.Lists.{field_at}
 use Rattle.redl_index.specs.KindNames.{kind_named}
-use Rattle.redl_select.specs.Selections.{Selection, all, numbers, author, span, kind}
+use Rattle.redl_index.specs.declared.revision.RevKind.{RevKind}
+use Rattle.redl_select.specs.declared.group.Group.{Group}
+use Rattle.redl_select.specs.declared.group.Group.TheVariants.{Content, Marks, Rows, Cells, Props}
+use Rattle.redl_select.specs.declared.selection.Listed.{Listed}
+use Rattle.redl_select.specs.declared.selection.Listed.TheVariants.{One, Range}
+use Rattle.redl_select.specs.Selections.{Selection, all, numbers, author, span, kind, group}
 
--- the numbers that these pieces write, after others
-unfoldable pub numbers_after : List ℕ → List (List ℕ) → Option (List ℕ)
+-- the range from the number of one text to that of another
+unfoldable pub range_in : List ℕ → List ℕ → Option Listed
+range_in first last = do
+  start ← number_in first
+  end ← number_in last
+  if nat_le start end then Some (Range start end) else None
+
+-- the same, given the two sides of the dash of a text that has one
+abbrev pub item_parts : List ℕ → Option (List ℕ × List ℕ) → Option Listed
+item_parts text None = option_map One (number_in text)
+item_parts text (Some ends) = range_in ends.0 ends.1
+
+-- the item that a text writes
+unfoldable pub item_in : List ℕ → Option Listed
+item_in text = item_parts text (field_at 45 text)
+
+-- the items that these pieces write, after others
+unfoldable pub numbers_after : List Listed → List (List ℕ) → Option (List Listed)
 numbers_after listed [] = Some listed
-numbers_after listed (digits ∷ pieces) = do
-  number ← number_in digits
-  numbers_after (listed ++ number ∷ []) pieces
+numbers_after listed (piece ∷ pieces) = do
+  item ← item_in piece
+  numbers_after (listed ++ item ∷ []) pieces
 
--- the numbers that a text lists, with commas between
-unfoldable pub numbers_in : List ℕ → Option (List ℕ)
+-- the items that a text lists, with commas between
+unfoldable pub numbers_in : List ℕ → Option (List Listed)
 numbers_in text = numbers_after [] (slice_split (λ b. b == 44) text)
 
 -- the two moments that a text names, with a slash between
@@ -31,12 +52,31 @@ moments_in text = do
 abbrev pub span_in : List ℕ → Option Selection
 span_in text = option_map (λ moments. span moments.0 moments.1) (moments_in text)
 
+-- the group of kinds with this name
+unfoldable pub group_named : List ℕ → Option Group
+group_named name =
+    if bytes_eq name (codes "content") then Some Content
+    else if bytes_eq name (codes "marks") then Some Marks
+    else if bytes_eq name (codes "rows") then Some Rows
+    else if bytes_eq name (codes "cells") then Some Cells
+    else if bytes_eq name (codes "props") then Some Props
+    else None
+
+-- a kind that was found, or else a group
+abbrev pub kind_or : Option RevKind → Option Group → Option Selection
+kind_or (Some of_kind) _ = Some (kind of_kind)
+kind_or None found = option_map group found
+
+-- the kind, or the group of kinds, with this name
+abbrev pub kinds_in : List ℕ → Option Selection
+kinds_in name = kind_or (kind_named name) (group_named name)
+
 -- the selection with this label and this value
 unfoldable pub labelled : List ℕ → List ℕ → Option Selection
 labelled label value =
     if bytes_eq label (codes "numbers") then option_map numbers (numbers_in value)
     else if bytes_eq label (codes "author") then Some (author value)
-    else if bytes_eq label (codes "kind") then option_map kind (kind_named value)
+    else if bytes_eq label (codes "kind") then kinds_in value
     else if bytes_eq label (codes "span") then span_in value
     else None
 

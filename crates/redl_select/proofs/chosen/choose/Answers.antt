@@ -8,7 +8,7 @@ returns-in-Numbers-clause-ascending c = ascending_ok c.in_order.result c.in_orde
 
 pub returns-in-Numbers-clause-chosen : goal.returns-in-Numbers-clause-chosen
 returns-in-Numbers-clause-chosen c =
-    rw c.in-Numbers.is (chosen_ok c.in_order.result c.args.index.now (numbers c.in-Numbers.listed.items) (rw c.deref.ensures.value at c.in_order.ensures.value))
+    rw c.in-Numbers.is (chosen_ok c.in_order.result c.args.index.now (numbers c.in-Numbers.listed.items) (rw (c.deref.ensures.value, c.count.ensures) at c.in_order.ensures.value))
 
 pub returns-in_default : goal.returns-in_default
 returns-in_default c =
