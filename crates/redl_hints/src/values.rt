@@ -30,7 +30,7 @@ fn fault_of_labelled(help: &str, label: &str, value: &str) -> Option<&'static st
         "author" => None,
         "numbers" if is_listed(help, value) => None,
         "numbers" => Some(
-            "numbers are written as --help shows, with commas and without spaces, each without a zero in front and at most 4294967295",
+            "numbers are written as --help shows, with commas and without spaces, each without a zero in front and at most 4294967295, in a range the smaller one first",
         ),
         "kind" if is_listed_kind(help, value) => None,
         "kind" => Some("a kind is one name of those that redline --help lists, as ins or del"),
@@ -48,7 +48,8 @@ fn is_listed(help: &str, value: &str) -> bool {
     value.split(',').all(|item| match item.split_once('-') {
         Some((first, last)) => has_ranges
             && is_number(first.as_bytes())
-            && is_number(last.as_bytes()),
+            && is_number(last.as_bytes())
+            && (first.len(), first) <= (last.len(), last),
         None => is_number(item.as_bytes()),
     })
 }
