@@ -1,0 +1,4 @@
+pub mod FillLaws
+pub mod BesideLaws
+pub mod BookLaws
+mod Rows

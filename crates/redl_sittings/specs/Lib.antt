@@ -1,0 +1,3 @@
+pub mod SecondNumbers
+pub mod JoinedBooks
+pub mod Filling
