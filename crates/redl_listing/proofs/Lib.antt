@@ -1,5 +1,6 @@
 pub mod ArrayLaws
 pub mod DateLaws
+pub mod FullLaws
 pub mod JsonLaws
 pub mod NameLaws
 pub mod PlainLaws

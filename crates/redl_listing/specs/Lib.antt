@@ -3,3 +3,4 @@ pub mod Dates
 pub mod Formats
 pub mod Texts
 pub mod Words
+pub mod Full

@@ -2,6 +2,7 @@
 
 ghost use Rattle.std.specs.Prelude.{◌≡◌, ◌≤◌, ◌++◌, OnOk, IfOk, length, map, replicate, decimal};
 ghost use Rattle.std.specs.List.{flat_map, list_all};
+ghost use Rattle.redl_journal.specs.Journals.{word_text};
 ghost use Rattle.redl_stamp.specs.Moment.{IsMoment};
 ghost use Rattle.redl_listing.specs.Dates.{date_text};
 ghost use Rattle.redl_listing.specs.Texts.{verdict_name, right_in, left_in, shown, escape, is_shown, is_unescaped};
@@ -10,6 +11,7 @@ ghost use Rattle.std.specs.Prelude.{IfSome};
 use crate::dates::moment_text;
 use itoa::Buffer;
 use redl_join::Verdict;
+use redl_journal::Word;
 use std::alloc::AllocError;
 
 /// The name of what was decided.
@@ -21,6 +23,17 @@ pub(crate) fn verdict_name(verdict: Verdict) -> &'static str
         Verdict::Accept => "accept",
         Verdict::Reject => "reject",
         Verdict::Disputed => "disputed",
+    }
+}
+
+/// The name of what a reviewer said.
+pub(crate) fn word_name(word: Word) -> &'static str
+    ensures { result.now ≡ word_text word }
+{
+    match word {
+        Word::Accept => "accept",
+        Word::Reject => "reject",
+        Word::Withdraw => "withdraw",
     }
 }
 

@@ -6,6 +6,7 @@ ghost use Rattle.redl_listing.specs.Rows.{IsRow};
 ghost use Rattle.redl_listing.specs.declared.row.Row.{Row};
 
 use crate::array_format::ArrayFormat;
+use crate::full_rows::FullRows;
 use crate::json_rows::JsonRows;
 use crate::line_format::LineFormat;
 use crate::named::Named;
@@ -27,6 +28,9 @@ pub type WordsFormat = LineFormat<Row, WordsRows>;
 
 /// The format `json`.
 pub type JsonFormat = ArrayFormat<Row, JsonRows>;
+
+/// The format `full`.
+pub type FullFormat = ArrayFormat<Row, FullRows>;
 
 /// A row was not taken, since an allocation failed.
 #[derive(Clone, Copy, Debug, PartialEq, Eq, thiserror::Error)]

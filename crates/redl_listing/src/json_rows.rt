@@ -54,7 +54,7 @@ fn json_row(piece: Vec<u8>, row: &Row) -> Result<Vec<u8>, AllocError>
 }
 
 /// Writes a member that is a text. `Err` means out of memory.
-fn put_text(object: &mut Writer, name: &str, text: &[u8]) -> Result<(), AllocError>
+pub(crate) fn put_text(object: &mut Writer, name: &str, text: &[u8]) -> Result<(), AllocError>
     requires { IsUtf8 text.now }
     ensures written { OnOk result (object.new.tokens ≡ object.old.tokens ++ key_token name.now ∷ string_token text.now ∷ []) }
     ensures before { OnOk result (object.new.before ≡ object.old.before) }
@@ -64,7 +64,7 @@ fn put_text(object: &mut Writer, name: &str, text: &[u8]) -> Result<(), AllocErr
 }
 
 /// Writes a member that is a number. `Err` means out of memory.
-fn put_number(object: &mut Writer, name: &str, number: u32) -> Result<(), AllocError>
+pub(crate) fn put_number(object: &mut Writer, name: &str, number: u32) -> Result<(), AllocError>
     ensures written { OnOk result (object.new.tokens ≡ object.old.tokens ++ key_token name.now ∷ number_token (decimal number) ∷ []) }
     ensures before { OnOk result (object.new.before ≡ object.old.before) }
 {
@@ -73,7 +73,7 @@ fn put_number(object: &mut Writer, name: &str, number: u32) -> Result<(), AllocE
 }
 
 /// Writes the member that is the date. `Err` means out of memory.
-fn put_date(object: &mut Writer, seconds: Option<i64>) -> Result<(), AllocError>
+pub(crate) fn put_date(object: &mut Writer, seconds: Option<i64>) -> Result<(), AllocError>
     requires { IfSome seconds IsMoment }
     ensures written { OnOk result (object.new.tokens ≡ object.old.tokens ++ key_token (codes "date") ∷ date_token seconds ∷ []) }
     ensures before { OnOk result (object.new.before ≡ object.old.before) }

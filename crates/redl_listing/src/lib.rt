@@ -2,8 +2,8 @@
 //!
 //! Read `list` first. It takes the first format with a name out of a list of boxed formats, gives it a row for each revision,
 //! closes it and hands its text out. It rests on what `RowFormat` promises, whatever boxes the caller made.
-//! `TextFormat`, `TabFormat`, `JsonFormat` and `WordsFormat` are the formats of the program: lines or an array of any kind of `Item`, with a
-//! `Piece` for each. Formats of other items, as of a report's lines, are made of the same `LineFormat`, `ArrayFormat` and `Named`.
+//! `TextFormat`, `TabFormat`, `JsonFormat`, `WordsFormat` and `FullFormat` are the formats of the program: lines or an array of any kind of
+//! `Item`, with a `Piece` for each. Formats of other items, as of a report's lines, are made of the same `LineFormat`, `ArrayFormat` and `Named`.
 //! Which revisions there are and what was decided on them is left to the crates below.
 #![tactic(auto)]
 
@@ -12,6 +12,7 @@ mod dates;
 mod draft;
 mod fields;
 mod format;
+mod full_rows;
 mod json_rows;
 mod line_format;
 mod listing;
@@ -24,7 +25,8 @@ mod words_rows;
 
 pub use array_format::ArrayFormat;
 pub use dates::moment_text;
-pub use format::{JsonFormat, RowError, RowFormat, TabFormat, TextFormat, WordsFormat};
+pub use format::{FullFormat, JsonFormat, RowError, RowFormat, TabFormat, TextFormat, WordsFormat};
+pub use full_rows::FullRows;
 pub use json_rows::JsonRows;
 pub use line_format::LineFormat;
 pub use listing::{add_format, list, list_told};

@@ -2,19 +2,17 @@
 
 ghost use Rattle.std.specs.Prelude.{◌≡◌, ◌++◌, OnOk, map};
 ghost use Rattle.std.specs.List.{flat_map};
-ghost use Rattle.redl_journal.specs.Journals.{word_text};
 ghost use Rattle.redl_listing.specs.Rows.{IsRow};
 ghost use Rattle.redl_listing.specs.Texts.{shown};
 ghost use Rattle.redl_listing.specs.Words.{closing, closing_of, in_places, near_end, numbered_columns, opening, opening_of, quoted, said_text, says_text, shortened, words_columns, words_row};
 
-use crate::fields::{push_left, push_number, push_shown, push_spaces, verdict_name};
+use crate::fields::{push_left, push_number, push_shown, push_spaces, verdict_name, word_name};
 use crate::piece::Piece;
 use crate::row::Row;
 use redl_details::{LastWord, Says};
 use redl_excerpts::{characters_in, shortened, without_characters};
 use redl_index::RevKind;
 use redl_join::Verdict;
-use redl_journal::Word;
 use redl_tree::Trace;
 use std::alloc::{AllocError, Global};
 
@@ -163,17 +161,6 @@ fn push_said(line: &mut Vec<u8>, said: &LastWord) -> Result<(), AllocError>
     line.extend_from_slice(b": ")?;
     line.extend_from_slice(word_name(said.word).as_bytes())?;
     Ok(())
-}
-
-/// The name of what a reviewer said.
-fn word_name(word: Word) -> &'static str
-    ensures { result.now ≡ word_text word }
-{
-    match word {
-        Word::Accept => "accept",
-        Word::Reject => "reject",
-        Word::Withdraw => "withdraw",
-    }
 }
 
 /// The sign before the words of a revision.

@@ -4,7 +4,7 @@ ghost use Rattle.std.specs.Prelude.{IfOk, All, IsUtf8};
 
 use redl_app::{Status, add_word, run};
 use redl_io::{MemShelf, MemSink, Text};
-use redl_listing::{JsonFormat, TabFormat, TextFormat, WordsFormat, add_format};
+use redl_listing::{FullFormat, JsonFormat, TabFormat, TextFormat, WordsFormat, add_format};
 use std::alloc::{AllocError, Global};
 
 /// What a call came to: its status, what was written, and the lines on standard error.
@@ -51,6 +51,7 @@ fn run_words(
     add_format(&mut formats, Box::new(alloc, TabFormat::new(alloc)?)?)?;
     add_format(&mut formats, Box::new(alloc, JsonFormat::new(alloc)?)?)?;
     add_format(&mut formats, Box::new(alloc, WordsFormat::new(alloc)?)?)?;
+    add_format(&mut formats, Box::new(alloc, FullFormat::new(alloc)?)?)?;
     Ok(run(alloc, words, shelf, written, lines, &mut formats))
 }
 

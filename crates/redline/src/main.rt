@@ -18,7 +18,7 @@ use help::{HELP, VERSION};
 use redl_app::{Status, WordsError, add_word, refuse_words, run, tell_text};
 use redl_hints::{Fetched, Told, tell_hints, tell_word_hint};
 use redl_io::{FileShelf, Shelf, Sink, StdSink, Text};
-use redl_listing::{JsonFormat, TabFormat, TextFormat, WordsFormat, add_format};
+use redl_listing::{FullFormat, JsonFormat, TabFormat, TextFormat, WordsFormat, add_format};
 use std::alloc::{AllocError, Global};
 use std::env;
 use std::env::Args;
@@ -97,6 +97,7 @@ fn run_with_formats<F: Shelf, O: Sink, E: Sink>(
     add_format(&mut formats, Box::new(alloc, TabFormat::new(alloc)?)?)?;
     add_format(&mut formats, Box::new(alloc, JsonFormat::new(alloc)?)?)?;
     add_format(&mut formats, Box::new(alloc, WordsFormat::new(alloc)?)?)?;
+    add_format(&mut formats, Box::new(alloc, FullFormat::new(alloc)?)?)?;
     Ok(run(alloc, words, shelf, out, err, &mut formats))
 }
 

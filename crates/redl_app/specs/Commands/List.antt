@@ -1,5 +1,5 @@
 -- `list P` with a format, journals and locks: a row for each revision, with the verdict on it.
-use Rattle.std.specs.Prelude.{ℕ, Bool, List, [], map, length, codes, bytes_eq, if◌then◌else◌, Result, Ok}
+use Rattle.std.specs.Prelude.{ℕ, ◌||◌, Bool, List, [], map, length, codes, bytes_eq, if◌then◌else◌, Result, Ok}
 use Rattle.redl_inputs.specs.Admission.{Admission, opened}
 use Rattle.redl_app.specs.Formats.{Format, format_named}
 use Rattle.redl_inputs.specs.Readers.{Reader}
@@ -22,9 +22,9 @@ use Rattle.redl_tree.specs.Model.Nodes.{Nodes}
 abbrev pub part_names : Nodes → List (List ℕ)
 part_names nodes = map (λ part. name_in part.tag) (parts_of nodes)
 
--- the format that shows details
+-- the formats that show details
 abbrev pub shows_details : List ℕ → Bool
-shows_details name = bytes_eq name (codes "words")
+shows_details name = bytes_eq name (codes "words") || bytes_eq name (codes "full")
 
 -- the details of a session's revisions, where the format shows them
 abbrev pub session_details : List ℕ → State → List Detail

@@ -1,7 +1,7 @@
 //! `list P` with a format, journals and locks.
 
 ghost use Rattle.std.specs.Prelude.{◌≡◌, ◌<◌, length, slice_get, Ok, Some, All, IsUtf8, IfOk};
-ghost use Rattle.redl_app.specs.Commands.List.{listed, listing_named, part_names, session_details};
+ghost use Rattle.redl_app.specs.Commands.List.{listed, listing_named, part_names, session_details, shows_details};
 ghost use Rattle.redl_app.specs.Formats.{AreFresh, LeavesFormats, format_named, formats_by, whether};
 ghost use Rattle.redl_inputs.specs.Reading.{ReadsFiles, Reads};
 ghost use Rattle.redl_app.specs.Views.{writing_view};
@@ -111,9 +111,16 @@ fn session_details(alloc: Global, name: &str, session: &Session) -> Result<Vec<D
     ensures value { IfOk result (λ details. details.items ≡ session_details name.now session.now) }
     ensures utf8 { IfOk result (λ details. All IsDetail details.items) }
 {
-    if name != "words" {
+    if !shows_details(name) {
         return Ok(Vec::new(alloc));
     }
     let details = package_details(alloc, session.package(), session.index(), session.book())?;
     Ok(details)
+}
+
+// Whether the format with this name shows details.
+fn shows_details(name: &str) -> bool
+    ensures { result ≡ shows_details name.now }
+{
+    name == "words" || name == "full"
 }

@@ -1,5 +1,5 @@
 -- One row more, and the loop ends where no revision is left.
-use Rattle.std.proofs.Common.{◌≡◌, ◌≤◌, ◌<◌, ◌∙◌, length, arith}
+use Rattle.std.proofs.Common.{◌≤◌, ◌<◌, ◌∙◌, length, arith}
 use Rattle.std.proofs.lemmas.List.{get_or_default}
 use Rattle.redl_listing.proofs.RowLaws.{told_rows-done, told_rows-more}
 use Rattle.redl_listing.proofs.listing.add_rows.Goals as goal

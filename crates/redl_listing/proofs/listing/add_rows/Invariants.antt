@@ -1,5 +1,4 @@
 use Rattle.std.proofs.Common.{◌≡◌, Bool, false, List, ◌++◌, drop}
-use Rattle.redl_details.specs.Details.{no_detail}
 use Rattle.redl_listing.specs.Rows.{told_rows}
 use Rattle.redl_listing.specs.declared.row.Row.{Row}
 use Rattle.redl_listing.proofs.listing.add_rows.Given as goal

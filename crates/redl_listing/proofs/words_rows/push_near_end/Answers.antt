@@ -1,5 +1,5 @@
 -- The last characters, with dots for those before.
-use Rattle.std.proofs.Common.{◌≡◌, ◌<◌, ◌++◌, ◌∙◌, List, ℕ, map, ap, arith, append_assoc}
+use Rattle.std.proofs.Common.{◌<◌, ◌++◌, ◌∙◌, List, ℕ, map, ap, arith, append_assoc}
 use Rattle.redl_excerpts.specs.Lines.{characters_in}
 use Rattle.redl_listing.specs.Texts.{shown}
 use Rattle.redl_listing.specs.Words.{dots}
