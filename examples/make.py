@@ -12,7 +12,7 @@ import sys
 import contract
 import page
 import reading
-from words import listed
+from words import full, listed as words_listed
 
 HERE = os.path.dirname(os.path.abspath(__file__))
 # How a word processor finds the document of a package.
@@ -174,12 +174,18 @@ def make_contract(folder):
     folder.save("contract.joined.journal", reading.journal(read, reading.in_order(entries)))
     for form in ["text", "tab", "json"]:
         folder.save("contract.list." + form, reading.listed(read, entries, form))
-    folder.save("contract.list.words", listed(read, entries))
+    folder.save("contract.list.words", words_listed(read, entries))
+    folder.save("contract.list.full", full(read, entries))
     folder.save("contract.page.html", page.page(read, entries))
     # Ann accepts all of Cara's changes in one go, but for the two in the sentence on prices.
     of_cara = [number for number, it in enumerate(read.revisions, 1) if it.author == "Cara Lee"]
     book, _ = reading.decide(read, "Ann Gray", CONTRACT_SAYS["ann"], [("accept", of_cara), ("withdraw", [5])])
     folder.save("contract.decided.journal", reading.journal(read, book))
+    # Cara accepts all formatting and a stretch of numbers, and rejects each row that was inserted or deleted.
+    kinds = lambda end: [number for number, it in enumerate(read.revisions, 1) if it.kind.endswith(end)]
+    rows = [number for number, it in enumerate(read.revisions, 1) if it.kind in ("row-ins", "row-del")]
+    book, _ = reading.decide(read, "Cara Lee", [], [("accept", kinds("-props")), ("accept", [*range(34, 42), 44]), ("reject", rows)])
+    folder.save("contract.desk.journal", reading.journal(read, book))
     make_ranks(folder, read, entries)
 
 

@@ -1,9 +1,10 @@
-"""A second writer of the listing `words`, as docs/DEFINITIONS.md tells it.
+"""A second writer of the listings `words` and `full`, as docs/DEFINITIONS.md tells them.
 
-    python3 words.py PACKAGE [JOURNAL ..]        the listing, on standard output
+    python3 words.py words|full PACKAGE [JOURNAL ..]        the listing, on standard output
 
-It shares no code with the program. make.py makes by it what `list --format words` is to write of the examples.
+It shares no code with the program. make.py makes by it what `list` with these formats is to write of the examples.
 """
+import json
 import re
 import sys
 
@@ -95,13 +96,18 @@ def mention(member):
     return (words, *round_of(element))
 
 
-def excerpt(package, number):
+def members_of(package, number):
+    """The members that tell of a revision, in the order of the text."""
     members = [element for _, root in package.stories for element in reading.elements([root])]
     members = [element for element in members if element.number == number and element.role != "marker"]
+    if package.revisions[number - 1].kind == "move":
+        return [element for element in members if element.trace == "from" and element.role == "content"]
+    return members
+
+
+def excerpt(package, number):
     kind = package.revisions[number - 1].kind
-    if kind == "move":
-        members = [element for element in members if element.trace == "from" and element.role == "content"]
-    told = [mention(member) for member in members]
+    told = [mention(member) for member in members_of(package, number)]
     words = spaced("".join(words for words, _, _ in told))
     if not (kind in ("ins", "del", "move") or kind.startswith(("move-", "mark-"))):
         words = words.removeprefix(" ")
@@ -122,8 +128,7 @@ def signs_of(kind):
 def says_of(number, entries):
     """The last words on a revision, in the order of entries."""
     here = [entry for entry in entries if entry.revision == number]
-    last = [entry for entry in here if entry.sequence == max(it.sequence for it in here if it.reviewer == entry.reviewer)]
-    return "".join("  %s: %s" % (entry.reviewer, entry.word) for entry in last)
+    return [entry for entry in here if entry.sequence == max(it.sequence for it in here if it.reviewer == entry.reviewer)]
 
 
 def listed(package, entries):
@@ -136,8 +141,21 @@ def listed(package, entries):
         begin, end = signs_of(revision.kind)
         quoted = near_end(before) + begin + shortened(words, 30) + end + shortened(after, 10)
         line = "%5d %-12s %-8s %-13s %s" % (number, revision.kind, verdict, shortened(revision.author, 12), quoted)
-        out.append(line + (says_of(number, entries) if verdict == "disputed" else "") + "\n")
+        said = "".join("  %s: %s" % (entry.reviewer, entry.word) for entry in says_of(number, entries))
+        out.append(line + (said if verdict == "disputed" else "") + "\n")
     return "".join(out)
+
+
+def full(package, entries):
+    """The listing of a package in the format `full`: each row of `json`, and what was told of its revision."""
+    rows = json.loads(reading.listed(package, entries, "json"))
+    entries = reading.admitted(package, entries)
+    for row in rows:
+        row["words"], row["before"], row["after"] = excerpt(package, row["number"])
+        members = members_of(package, row["number"])
+        row["id"] = members[0].attribute("id") if members else None
+        row["says"] = [{"reviewer": entry.reviewer, "word": entry.word} for entry in says_of(row["number"], entries)]
+    return json.dumps(rows, ensure_ascii=False, separators=(",", ":"), sort_keys=True) + "\n"
 
 
 def entries_of(journal):
@@ -147,6 +165,7 @@ def entries_of(journal):
 
 
 if __name__ == "__main__":
-    texts_of = [open(name, newline="", encoding="utf-8").read() for name in sys.argv[1:]]
+    form = {"words": listed, "full": full}[sys.argv[1]]
+    texts_of = [open(name, newline="", encoding="utf-8").read() for name in sys.argv[2:]]
     entries = [entry for journal in texts_of[1:] for entry in entries_of(journal)]
-    sys.stdout.write(listed(reading.Package(texts_of[0]), entries))
+    sys.stdout.write(form(reading.Package(texts_of[0]), entries))

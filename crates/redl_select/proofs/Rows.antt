@@ -76,7 +76,7 @@ row_group_of_rows = refl
 row_empty_group : chosen three (group groups.Props) ≡ []
 row_empty_group = refl
 
--- a paired move is content, and the change of a row's properties is none of rows
+-- a paired move is content, and the change of a row's properties does not belong to rows
 row_groups : (is_in groups.Content Move ≡ true) × (is_in groups.Marks (Mark Del) ≡ true) × (is_in groups.Cells (Cell Ins) ≡ true)
     × (is_in groups.Props (Change props.Row) ≡ true) × (is_in groups.Rows (Change props.Row) ≡ false)
 row_groups = (refl, refl, refl, refl, refl)
