@@ -1,0 +1,2 @@
+mod Books
+pub mod Held

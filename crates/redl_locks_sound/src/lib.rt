@@ -1,0 +1,6 @@
+//! That a lock protects what it names: an element whose revision a lock holds is left as it is, whatever the journals say.
+#![tactic(auto)]
+
+mod laws;
+
+pub use laws::locked_revisions_are_left;
