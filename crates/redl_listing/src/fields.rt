@@ -38,7 +38,7 @@ pub(crate) fn word_name(word: Word) -> &'static str
 }
 
 /// Adds spaces up to so many places where the bytes have fewer, and then the bytes. `Err` means out of memory.
-pub(crate) fn push_right(line: &mut Vec<u8>, bytes: &[u8], width: usize) -> Result<(), AllocError>
+pub fn push_right(line: &mut Vec<u8>, bytes: &[u8], width: usize) -> Result<(), AllocError>
     requires { width ≤ 20 }
     ensures { OnOk result (line.new.items ≡ line.old.items ++ right_in width bytes.now) }
 {
@@ -47,7 +47,7 @@ pub(crate) fn push_right(line: &mut Vec<u8>, bytes: &[u8], width: usize) -> Resu
 }
 
 /// Adds the bytes, and then spaces up to so many places where the bytes have fewer. `Err` means out of memory.
-pub(crate) fn push_left(line: &mut Vec<u8>, bytes: &[u8], width: usize) -> Result<(), AllocError>
+pub fn push_left(line: &mut Vec<u8>, bytes: &[u8], width: usize) -> Result<(), AllocError>
     requires { width ≤ 20 }
     ensures { OnOk result (line.new.items ≡ line.old.items ++ left_in width bytes.now) }
 {
@@ -65,7 +65,7 @@ pub(crate) fn push_spaces(line: &mut Vec<u8>, count: usize) -> Result<(), AllocE
 }
 
 /// Adds the decimal digits of the number at the right end of so many places, or more. `Err` means out of memory.
-pub(crate) fn push_number(line: &mut Vec<u8>, number: u32, width: usize) -> Result<(), AllocError>
+pub fn push_number(line: &mut Vec<u8>, number: u32, width: usize) -> Result<(), AllocError>
     requires { width ≤ 20 }
     ensures { OnOk result (line.new.items ≡ line.old.items ++ right_in width (decimal number)) }
 {
@@ -91,7 +91,7 @@ pub(crate) fn push_date(
 
 /// Adds the bytes, with question marks for control characters of ASCII. `Err` means out of memory.
 #[tactic(auto, unfolding(crate::specs::Texts::shown), using(crate::proofs::PlainLaws::shown_same))]
-pub(crate) fn push_shown(line: &mut Vec<u8>, bytes: &[u8]) -> Result<(), AllocError>
+pub fn push_shown(line: &mut Vec<u8>, bytes: &[u8]) -> Result<(), AllocError>
     ensures { OnOk result (line.new.items ≡ line.old.items ++ map shown bytes.now) }
 {
     if are_shown(bytes) {

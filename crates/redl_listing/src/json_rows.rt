@@ -54,7 +54,7 @@ fn json_row(piece: Vec<u8>, row: &Row) -> Result<Vec<u8>, AllocError>
 }
 
 /// Writes a member that is a text. `Err` means out of memory.
-pub(crate) fn put_text(object: &mut Writer, name: &str, text: &[u8]) -> Result<(), AllocError>
+pub fn put_text(object: &mut Writer, name: &str, text: &[u8]) -> Result<(), AllocError>
     requires { IsUtf8 text.now }
     ensures written { OnOk result (object.new.tokens ≡ object.old.tokens ++ key_token name.now ∷ string_token text.now ∷ []) }
     ensures before { OnOk result (object.new.before ≡ object.old.before) }
@@ -64,7 +64,7 @@ pub(crate) fn put_text(object: &mut Writer, name: &str, text: &[u8]) -> Result<(
 }
 
 /// Writes a member that is a number. `Err` means out of memory.
-pub(crate) fn put_number(object: &mut Writer, name: &str, number: u32) -> Result<(), AllocError>
+pub fn put_number(object: &mut Writer, name: &str, number: u32) -> Result<(), AllocError>
     ensures written { OnOk result (object.new.tokens ≡ object.old.tokens ++ key_token name.now ∷ number_token (decimal number) ∷ []) }
     ensures before { OnOk result (object.new.before ≡ object.old.before) }
 {

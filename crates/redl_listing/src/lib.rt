@@ -3,7 +3,7 @@
 //! Read `list` first. It takes the first format with a name out of a list of boxed formats, gives it a row for each revision,
 //! closes it and hands its text out. It rests on what `RowFormat` promises, whatever boxes the caller made.
 //! `TextFormat`, `TabFormat`, `JsonFormat`, `WordsFormat` and `FullFormat` are the formats of the program: lines or an array of any kind of
-//! `Item`, with a `Piece` for each. Formats of other items, as of a report's lines, are made of the same `LineFormat`, `ArrayFormat` and `Named`.
+//! `Item`, with a `Piece` for each. Formats of other items, as of a report's lines, are made of the same `LineFormat` and `ArrayFormat`.
 //! Which revisions there are and what was decided on them is left to the crates below.
 #![tactic(auto)]
 
@@ -25,9 +25,10 @@ mod words_rows;
 
 pub use array_format::ArrayFormat;
 pub use dates::moment_text;
+pub use fields::{push_left, push_number, push_right, push_shown};
 pub use format::{FullFormat, JsonFormat, RowError, RowFormat, TabFormat, TextFormat, WordsFormat};
 pub use full_rows::FullRows;
-pub use json_rows::JsonRows;
+pub use json_rows::{JsonRows, put_number, put_text};
 pub use line_format::LineFormat;
 pub use listing::{add_format, list, list_told};
 pub use named::{Named, has_name, take_named};
