@@ -1,0 +1,8 @@
+pub mod GroupLaws
+pub mod KeptGroups
+pub mod JsonLaws
+pub mod LineLaws
+pub mod ListLaws
+pub mod NameLaws
+pub mod OwnLaws
+mod Rows

@@ -1,0 +1,13 @@
+use Rattle.std.proofs.Common.{◌≡◌, ◌++◌, take, drop}
+use Rattle.redl_listing.specs.Formats.{first_named, without_named}
+use Rattle.redl_report.proofs.named.take_named.Given as goal
+
+-- the first format with the name is among the rest, and only from there one goes
+abbrev pub invariant-loop-place : goal.invariant-loop-place
+invariant-loop-place g l = record {
+  same : l.formats.items ≡ l.fn.formats.items;
+  first : first_named (λ b. (goal.ReportFormat-dyn g (b.vtable, b.value)).report_name b.value) l.name (drop l.place l.formats.items)
+      ≡ first_named (λ b. (goal.ReportFormat-dyn g (b.vtable, b.value)).report_name b.value) l.name l.fn.formats.items;
+  rest : take l.place l.formats.items ++ without_named (λ b. (goal.ReportFormat-dyn g (b.vtable, b.value)).report_name b.value) l.name (drop l.place l.formats.items)
+      ≡ without_named (λ b. (goal.ReportFormat-dyn g (b.vtable, b.value)).report_name b.value) l.name l.fn.formats.items;
+}

@@ -1,0 +1,4 @@
+pub mod Groups
+pub mod Reports
+pub mod Counts
+pub mod Texts

@@ -1,0 +1,76 @@
+-- Where each reviewer and each author stands (our own rule): how many revisions are accepted, rejected, disputed and undecided by
+-- a reviewer's own words, and by the verdicts on an author's revisions.
+use Rattle.std.specs.Prelude.{ℕ, Bool, true, false, List, [], ◌++◌, map, filter, length}
+use Rattle.std.specs.BTreeSet.{insert_key}
+use Rattle.std.specs.List.{fold}
+use Rattle.std.specs.Ordering.{nat_cmp}
+use Rattle.redl_index.specs.declared.revision.Revision.{Revision}
+use Rattle.redl_journal.specs.declared.entry.Entry.{Entry}
+use Rattle.redl_join.specs.Verdicts.{verdict_at}
+use Rattle.redl_join.specs.declared.verdict.Verdict.{Verdict}
+use Rattle.redl_join.specs.declared.verdict.Verdict.TheVariants.{Undecided, Accept, Reject, Disputed}
+use Rattle.redl_report.specs.declared.line.ReportLine.{ReportLine}
+use Rattle.redl_report.specs.declared.line.Role.{Role}
+use Rattle.redl_report.specs.declared.line.Role.TheVariants.{Reviewer, Author}
+use Rattle.redl_report.specs.Groups.{Group, grouped}
+
+-- ---- verdicts, counted
+
+abbrev pub is_accept : Verdict → Bool
+is_accept Accept = true
+is_accept Reject = false
+is_accept Disputed = false
+is_accept Undecided = false
+
+abbrev pub is_reject : Verdict → Bool
+is_reject Accept = false
+is_reject Reject = true
+is_reject Disputed = false
+is_reject Undecided = false
+
+abbrev pub is_disputed : Verdict → Bool
+is_disputed Accept = false
+is_disputed Reject = false
+is_disputed Disputed = true
+is_disputed Undecided = false
+
+abbrev pub is_undecided : Verdict → Bool
+is_undecided Accept = false
+is_undecided Reject = false
+is_undecided Disputed = false
+is_undecided Undecided = true
+
+-- the line of somebody on whose revisions these are the verdicts
+abbrev pub line_of : Role → List ℕ → List Verdict → ReportLine
+line_of role who verdicts = record {
+  role = role;
+  who = who;
+  accept = length (filter is_accept verdicts);
+  reject = length (filter is_reject verdicts);
+  disputed = length (filter is_disputed verdicts);
+  undecided = length (filter is_undecided verdicts);
+}
+
+-- ---- the lines
+
+abbrev pub reviewer_of : Entry → List ℕ
+reviewer_of entry = entry.reviewer
+
+abbrev pub author_of : Revision → List ℕ
+author_of revision = revision.author
+
+-- the revisions that entries are on, each once, by their numbers
+abbrev pub revisions_on : List Entry → List ℕ
+revisions_on entries = fold (insert_key nat_cmp) [] (map (λ entry. entry.rev) entries)
+
+-- A reviewer's line: on each revision on which they have an entry, what their entries alone decide.
+abbrev pub reviewer_line : Group Entry → ReportLine
+reviewer_line own = line_of Reviewer own.name (map (verdict_at own.items) (revisions_on own.items))
+
+-- An author's line: on each of their revisions, what the book decides.
+abbrev pub author_line : List Entry → Group Revision → ReportLine
+author_line book own = line_of Author own.name (map (λ revision. verdict_at book revision.number) own.items)
+
+-- a line for each reviewer of the book, and then one for each author of the revisions
+abbrev pub report_lines : List Revision → List Entry → List ReportLine
+report_lines revisions book = map reviewer_line (grouped reviewer_of book) ++ map (author_line book) (grouped author_of revisions)

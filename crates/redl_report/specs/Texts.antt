@@ -1,0 +1,49 @@
+-- The texts of the formats of reports (our own rule).
+use Rattle.std.specs.Prelude.{ℕ, Bool, List, ◌++◌, map, decimal, codes}
+use Rattle.serde_json.specs.Data.{Data, string, number, unsigned, object, member, no_members}
+use Rattle.serde_json.specs.Written.{compact_text}
+use Rattle.redl_listing.specs.Formats.{array_of, lines_of}
+use Rattle.redl_listing.specs.Texts.{space, newline, right_in, left_in, shown}
+use Rattle.redl_report.specs.declared.line.ReportLine.{ReportLine}
+use Rattle.redl_report.specs.declared.line.Role.{Role}
+use Rattle.redl_report.specs.declared.line.Role.TheVariants.{Reviewer, Author}
+
+abbrev pub role_name : Role → List ℕ
+role_name Reviewer = codes "reviewer"
+role_name Author = codes "author"
+
+-- a count in its column, with a space after it
+abbrev pub count_column : ℕ → List ℕ
+count_column count = right_in 7 (decimal count) ++ space
+
+-- the four counts in columns
+unfoldable pub count_columns : ReportLine → List ℕ
+count_columns line = count_column line.accept ++ (count_column line.reject ++ (count_column line.disputed ++ count_column line.undecided))
+
+-- the role, the four counts and the name in columns
+unfoldable pub text_line : ReportLine → List ℕ
+text_line line = left_in 8 (role_name line.role) ++ (space ++ (count_columns line ++ (map shown line.who ++ newline)))
+
+-- a line for each; closing adds nothing
+abbrev pub text_report : List ReportLine → Bool → List ℕ
+text_report = lines_of text_line
+
+-- ---- JSON (RFC 8259)
+
+-- the line as an object, its members in the order of their names
+abbrev pub json_object : ReportLine → Data
+json_object line =
+    object (member (codes "accept") (number (unsigned line.accept))
+    (member (codes "disputed") (number (unsigned line.disputed))
+    (member (codes "open") (number (unsigned line.undecided))
+    (member (codes "reject") (number (unsigned line.reject))
+    (member (codes "role") (string (role_name line.role))
+    (member (codes "who") (string line.who) no_members))))))
+
+-- its text without white space
+unfoldable pub json_line : ReportLine → List ℕ
+json_line line = compact_text (json_object line)
+
+-- an array of the lines, which closing ends
+abbrev pub json_report : List ReportLine → Bool → List ℕ
+json_report = array_of json_line

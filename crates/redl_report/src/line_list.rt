@@ -1,0 +1,33 @@
+//! The lines of a report.
+
+ghost use Rattle.std.specs.Prelude.{◌≡◌, length, All, IfOk};
+ghost use Rattle.redl_report.specs.Counts.{IsLine, NameRevisions};
+ghost use Rattle.redl_report.specs.Reports.{report_lines};
+
+use crate::authors::add_authors;
+use crate::line::ReportLine;
+use crate::reviewers::add_reviewers;
+use redl_index::Index;
+use redl_join::Book;
+use std::alloc::{AllocError, Global};
+
+/// Where each reviewer and each author stands.
+///
+/// First comes a line for each reviewer of the book, by the bytes of their names. It counts the revisions on which they have an
+/// entry. On each of them their entries with their greatest seq count, without withdrawals, and of these the ones with the
+/// highest rank: if none is left it is undecided. Then comes a line for each author of the index, by the bytes of their names,
+/// which counts their revisions by the verdicts of the book. The names are UTF-8.
+///
+/// Each entry of the book names a revision of the index. `Err` means out of memory.
+pub fn lines(alloc: Global, index: &Index, book: &Book) -> Result<Vec<ReportLine>, AllocError>
+    requires { NameRevisions (length index.now) book.now }
+    ensures lines { IfOk result (λ lines. lines.items ≡ report_lines index.now book.now) }
+    ensures names { IfOk result (λ lines. All IsLine lines.items) }
+{
+    // It fits 32 bits.
+    let _count = index.count();
+    let mut lines = Vec::new(alloc);
+    add_reviewers(alloc, book, &mut lines)?;
+    add_authors(alloc, index.revisions(), book, &mut lines)?;
+    Ok(lines)
+}
