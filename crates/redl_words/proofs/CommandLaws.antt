@@ -21,12 +21,14 @@ use Rattle.redl_words.specs.declared.options.Form.TheVariants as forms
 use Rattle.redl_words.specs.declared.verb.Verb.{Verb}
 use Rattle.redl_words.specs.declared.verb.Verb.TheVariants as verbs
 use Rattle.redl_words.specs.declared.command.Command as code
-use Rattle.redl_words.specs.Commands.{Command, settle, list, write, decide, join, check, sample, is_name, Item, format, lock, journal, named_journal, choice, rank, item_words, Admits, of_list, of_write, of_decide, Form as Kind, formats_of, locks_of, journals_of, ranks_of, say_word, IsSettle, IsList, IsWrite, IsDecide, IsJoin, IsCheck, IsSample, IsCommand, HasNoCommand, HasUtf8, LockHasUtf8}
+use Rattle.redl_words.specs.declared.command.View.{View}
+use Rattle.redl_words.specs.declared.command.View.TheVariants.{Original, Final, Marked}
+use Rattle.redl_words.specs.Commands.{Command, settle, view_text, list, write, decide, join, check, sample, is_name, Item, format, lock, journal, named_journal, choice, rank, item_words, Admits, of_list, of_write, of_decide, Form as Kind, formats_of, locks_of, journals_of, ranks_of, say_word, view_name, IsSettle, IsText, IsList, IsWrite, IsDecide, IsJoin, IsCheck, IsSample, IsCommand, HasNoCommand, HasUtf8, LockHasUtf8}
 use Rattle.redl_words.specs.Selections.{MeansLock}
 use Rattle.redl_words.specs.Views.{command_of}
 use Rattle.redl_words.specs.Reading.Answers.{Finds}
 use Rattle.redl_words.specs.Reading.Items.{Gathered, nothing, gathered}
-use Rattle.redl_words.specs.Reading.Commands.{verb_in, say_in, settle_in, format_or_text, rank_or_0, list_in, write_in, decide_with, decide_in, names_in, join_in, check_in, sample_in, command_with, command_in}
+use Rattle.redl_words.specs.Reading.Commands.{verb_in, say_in, settle_in, view_in, text_with, text_in, format_or_text, rank_or_0, list_in, write_in, decide_with, decide_in, names_in, join_in, check_in, sample_in, command_with, command_in}
 use Rattle.redl_words.proofs.SelectionLaws.{bytes_same, map_some, pick}
 use Rattle.redl_words.proofs.LockLaws.{lock_utf8}
 use Rattle.redl_words.proofs.ItemLaws.{items_take, read_again}
@@ -40,6 +42,7 @@ needs false x y e = absurd cc
 
 verb_text : Verb → List ℕ
 verb_text verbs.Settle = codes "settle"
+verb_text verbs.Text = codes "text"
 verb_text verbs.List = codes "list"
 verb_text verbs.Write = codes "write"
 verb_text verbs.Decide = codes "decide"
@@ -51,18 +54,20 @@ verb_takes : (word : List ℕ) (v : Verb) → verb_in word ≡ Some v → word �
 unfolding verb_in verb_text
 verb_takes word v e =
     pick P (bytes_eq word (codes "settle")) verbs.Settle _ v e (λ hit. bytes_same word (codes "settle") hit) (λ e.
+    pick P (bytes_eq word (codes "text")) verbs.Text _ v e (λ hit. bytes_same word (codes "text") hit) (λ e.
     pick P (bytes_eq word (codes "list")) verbs.List _ v e (λ hit. bytes_same word (codes "list") hit) (λ e.
     pick P (bytes_eq word (codes "write")) verbs.Write _ v e (λ hit. bytes_same word (codes "write") hit) (λ e.
     pick P (bytes_eq word (codes "decide")) verbs.Decide _ v e (λ hit. bytes_same word (codes "decide") hit) (λ e.
     pick P (bytes_eq word (codes "join")) verbs.Join _ v e (λ hit. bytes_same word (codes "join") hit) (λ e.
     pick P (bytes_eq word (codes "check")) verbs.Check _ v e (λ hit. bytes_same word (codes "check") hit) (λ e.
-    pick P (bytes_eq word (codes "sample")) verbs.Sample _ v e (λ hit. bytes_same word (codes "sample") hit) (λ e. absurd cc))))))) where
+    pick P (bytes_eq word (codes "sample")) verbs.Sample _ v e (λ hit. bytes_same word (codes "sample") hit) (λ e. absurd cc)))))))) where
       P : Verb → Type 0
       P v = word ≡ verb_text v
 
 verb_again : (v : Verb) → verb_in (verb_text v) ≡ Some v
 unfolding verb_in verb_text
 verb_again verbs.Settle = refl
+verb_again verbs.Text = refl
 verb_again verbs.List = refl
 verb_again verbs.Write = refl
 verb_again verbs.Decide = refl
@@ -95,6 +100,58 @@ settle_again : (accept : Bool) (p : List ℕ) → is_name p ≡ true → settle_
 unfolding settle_in say_in
 settle_again true p h = rw h refl
 settle_again false p h = rw h refl
+
+-- ---- text
+
+view_takes : (name : List ℕ) (view : View) → view_in name ≡ Some view → name ≡ view_name view
+unfolding view_in
+view_takes name view e =
+    pick P (bytes_eq name (view_name Original)) Original _ view e (λ hit. bytes_same name (view_name Original) hit) (λ e.
+    pick P (bytes_eq name (view_name Final)) Final _ view e (λ hit. bytes_same name (view_name Final) hit) (λ e.
+    pick P (bytes_eq name (view_name Marked)) Marked _ view e (λ hit. bytes_same name (view_name Marked) hit) (λ e. absurd cc))) where
+      P : View → Type 0
+      P view = name ≡ view_name view
+
+view_again : (view : View) → view_in (view_name view) ≡ Some view
+unfolding view_in
+view_again Original = refl
+view_again Final = refl
+view_again Marked = refl
+
+-- the text of a package in a view that is there
+with_view : (p : List ℕ) (view : Option View) (c : Command) → text_with p view ≡ Some c → (found : View) × (view ≡ Some found) × (is_name p ≡ true) × (view_text p found ≡ c)
+with_view p None c e = absurd cc
+with_view p (Some found) c e = let n = cond_some (is_name p) (view_text p found) c e in (found, refl, n.0, n.1)
+
+text_takes : (rest : List (List ℕ)) (c : Command) → text_in rest ≡ Some c → IsCommand (codes "text" ∷ rest) c
+unfolding text_in
+text_takes [] c e = absurd cc
+text_takes (p ∷ []) c e =
+    let n = cond_some (is_name p) (view_text p Final) c e in
+    let means : IsText (codes "text" ∷ p ∷ []) p Final = record { written = inl (refl, refl); name = n.0 } in
+    subst (IsCommand (codes "text" ∷ p ∷ [])) n.1 means
+text_takes (p ∷ option ∷ []) c e = absurd cc
+text_takes (p ∷ option ∷ name ∷ []) c e =
+    let n = needs (bytes_eq option (codes "--view")) (text_with p (view_in name)) c e in
+    let v = with_view p (view_in name) c n.1 in
+    let same : option ≡ codes "--view" = bytes_same option (codes "--view") n.0 in
+    let means : IsText (codes "text" ∷ p ∷ option ∷ name ∷ []) p v.0 = record {
+      written = inr (ap (λ (w : List ℕ). codes "text" ∷ p ∷ w ∷ name ∷ []) same ∙ ap (λ (w : List ℕ). codes "text" ∷ p ∷ codes "--view" ∷ w ∷ []) (view_takes name v.0 v.1));
+      name = v.2;
+    } in
+    subst (IsCommand (codes "text" ∷ p ∷ option ∷ name ∷ [])) v.3 means
+text_takes (p ∷ option ∷ name ∷ other ∷ more) c e = absurd cc
+
+text_again : (rest : List (List ℕ)) (p : List ℕ) (view : View) → is_name p ≡ true
+    → ((codes "text" ∷ rest ≡ codes "text" ∷ p ∷ []) × (view ≡ Final)) ⊎ (codes "text" ∷ rest ≡ codes "text" ∷ p ∷ codes "--view" ∷ view_name view ∷ [])
+    → text_in rest ≡ Some (view_text p view)
+unfolding text_in
+text_again rest p view h (inl w) =
+    let same : rest ≡ p ∷ [] = let written = w.0 in cc in
+    ap text_in same ∙ rw (h, w.1) refl
+text_again rest p view h (inr w) =
+    let same : rest ≡ p ∷ codes "--view" ∷ view_name view ∷ [] = cc in
+    ap text_in same ∙ rw (view_again view, h) refl
 
 -- ---- list
 
@@ -315,6 +372,7 @@ sample_again number h = ap (option_map sample) h
 with_takes : (v : Verb) (rest : List (List ℕ)) (c : Command) → command_with v rest ≡ Some c → IsCommand (verb_text v ∷ rest) c
 unfolding verb_text
 with_takes verbs.Settle rest c e = settle_takes rest c e
+with_takes verbs.Text rest c e = text_takes rest c e
 with_takes verbs.List rest c e = list_takes rest c e
 with_takes verbs.Write rest c e = write_takes rest c e
 with_takes verbs.Decide rest c e = decide_takes rest c e
@@ -336,6 +394,10 @@ command_of_verb v rest = rw (verb_again v) refl
 settle_line : (rest : List (List ℕ)) → command_in (codes "settle" ∷ rest) ≡ settle_in rest
 unfolding verb_text
 settle_line rest = command_of_verb verbs.Settle rest
+
+text_line : (rest : List (List ℕ)) → command_in (codes "text" ∷ rest) ≡ text_in rest
+unfolding verb_text
+text_line rest = command_of_verb verbs.Text rest
 
 list_line : (rest : List (List ℕ)) → command_in (codes "list" ∷ rest) ≡ list_in rest
 unfolding verb_text
@@ -363,6 +425,10 @@ sample_line rest = command_of_verb verbs.Sample rest
 
 pub command_again : (words : List (List ℕ)) (c : Command) → IsCommand words c → command_in words ≡ Some c
 command_again words (settle accept p) h = ap command_in h.written ∙ settle_line (say_word accept ∷ p ∷ []) ∙ settle_again accept p h.name
+command_again words (view_text p view) h = by h.written where
+  by : ((words ≡ codes "text" ∷ p ∷ []) × (view ≡ Final)) ⊎ (words ≡ codes "text" ∷ p ∷ codes "--view" ∷ view_name view ∷ []) → command_in words ≡ Some (view_text p view)
+  by (inl w) = ap command_in w.0 ∙ text_line (p ∷ []) ∙ text_again (p ∷ []) p view h.name (inl (refl, w.1))
+  by (inr w) = ap command_in w ∙ text_line (p ∷ codes "--view" ∷ view_name view ∷ []) ∙ text_again (p ∷ codes "--view" ∷ view_name view ∷ []) p view h.name (inr refl)
 command_again words (list p name locks journals) h =
     ap command_in h.written ∙ list_line (p ∷ h.rest)
     ∙ list_again p name locks journals h.rest h.items h.package_name h.are_items.written h.are_items.admitted h.format h.locks_are h.journals_are
@@ -441,6 +507,10 @@ all_utf8 texts more h e = All-from_recursion IsUtf8 texts (subst (AllByRecursion
 pub command_utf8 : (words : List (List ℕ)) (c : Command) → IsCommand words c → AllByRecursion IsUtf8 words → HasUtf8 c
 command_utf8 words (settle accept p) h u =
     let v : AllByRecursion IsUtf8 (codes "settle" ∷ say_word accept ∷ p ∷ []) = subst (AllByRecursion IsUtf8) h.written u in v.1.1.0
+command_utf8 words (view_text p view) h u = by h.written where
+  by : ((words ≡ codes "text" ∷ p ∷ []) × (view ≡ Final)) ⊎ (words ≡ codes "text" ∷ p ∷ codes "--view" ∷ view_name view ∷ []) → IsUtf8 p
+  by (inl w) = let v : AllByRecursion IsUtf8 (codes "text" ∷ p ∷ []) = subst (AllByRecursion IsUtf8) w.0 u in v.1.0
+  by (inr w) = let v : AllByRecursion IsUtf8 (codes "text" ∷ p ∷ codes "--view" ∷ view_name view ∷ []) = subst (AllByRecursion IsUtf8) w u in v.1.0
 command_utf8 words (list p name locks journals) h u =
     let v : AllByRecursion IsUtf8 (codes "list" ∷ p ∷ h.rest) = subst (AllByRecursion IsUtf8) h.written u in
     let i = items_utf8 of_list h.items (recursion_from_All (Admits of_list) h.items h.are_items.admitted) (subst (AllByRecursion IsUtf8) h.are_items.written v.1.1) in

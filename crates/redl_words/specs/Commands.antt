@@ -7,12 +7,16 @@ use Rattle.redl_journal.specs.Journals.{IsReviewer}
 use Rattle.redl_select.specs.Selections.{Selection}
 use Rattle.redl_select.specs.declared.lock.Lock.{Lock}
 use Rattle.redl_select.specs.declared.lock.Lock.TheVariants.{Author, Kind, Span}
+use Rattle.redl_words.specs.declared.command.View.{View}
+use Rattle.redl_words.specs.declared.command.View.TheVariants.{Original, Final, Marked}
 use Rattle.redl_words.specs.Selections.{Means, MeansLock}
 
 -- what the words ask for; names, texts of authors and of formats are lists of bytes
 pub data Command : Type 0 where
   -- the package of this name under accept, or else under reject, for all its revisions
   settle : Bool → List ℕ → Command
+  -- the text of the package in this view
+  view_text : List ℕ → View → Command
   -- the revisions of the package in the format of this name, with locks and journals
   list : List ℕ → List ℕ → List Lock → List (List ℕ) → Command
   -- the package under the joined verdicts, with locks and journals
@@ -132,6 +136,17 @@ pub record IsSettle (words : List (List ℕ)) (accept : Bool) (p : List ℕ) : T
   pub written : words ≡ codes "settle" ∷ say_word accept ∷ p ∷ []
   pub name : IsTrue (is_name p)
 
+-- the name of a view
+abbrev pub view_name : View → List ℕ
+view_name Original = codes "original"
+view_name Final = codes "final"
+view_name Marked = codes "marked"
+
+-- `text P`, which has the final view, and `text P --view NAME`
+pub record IsText (words : List (List ℕ)) (p : List ℕ) (view : View) : Type 0 where
+  pub written : ((words ≡ codes "text" ∷ p ∷ []) × (view ≡ Final)) ⊎ (words ≡ codes "text" ∷ p ∷ codes "--view" ∷ view_name view ∷ [])
+  pub name : IsTrue (is_name p)
+
 -- `list P` and items; without `--format` the format is `text`, and it is given once at most
 pub record IsList (words : List (List ℕ)) (p name : List ℕ) (locks : List Lock) (journals : List (List ℕ)) : Type 0 where
   pub items : List Item
@@ -186,6 +201,7 @@ pub record IsSample (words : List (List ℕ)) (number : ℕ) : Type 0 where
 -- the words are a command line of this command
 abbrev pub IsCommand : List (List ℕ) → Command → Type 0
 IsCommand words (settle accept p) = IsSettle words accept p
+IsCommand words (view_text p view) = IsText words p view
 IsCommand words (list p name locks journals) = IsList words p name locks journals
 IsCommand words (write p locks journals) = IsWrite words p locks journals
 IsCommand words (decide p reviewer journals locks choices number) = IsDecide words p reviewer journals locks choices number
@@ -206,6 +222,7 @@ LockHasUtf8 (Span start end) = Unit {0}
 -- the texts of the command are UTF-8, its reviewer is one that a journal may hold, and so is its rank
 abbrev pub HasUtf8 : Command → Type 0
 HasUtf8 (settle accept p) = IsUtf8 p
+HasUtf8 (view_text p view) = IsUtf8 p
 HasUtf8 (list p name locks journals) = IsUtf8 p × IsUtf8 name × All LockHasUtf8 locks × All IsUtf8 journals
 HasUtf8 (write p locks journals) = IsUtf8 p × All LockHasUtf8 locks × All IsUtf8 journals
 HasUtf8 (decide p reviewer journals locks choices number) = IsUtf8 p × IsReviewer reviewer × All IsUtf8 journals × All LockHasUtf8 locks × (number ≤ 9)

@@ -4,6 +4,14 @@ use redl_io::Text;
 use redl_journal::Word;
 use redl_select::{Lock, Selection};
 
+/// What is shown of a document: its text before its revisions, its text after them, or the original with its changes marked.
+#[derive(Clone, Copy, Debug, PartialEq, Eq)]
+pub enum View {
+    Original,
+    Final,
+    Marked,
+}
+
 /// What the words of a command line ask for. Journals, locks and choices are in the order of the words, with repeats.
 #[derive(Drop)]
 pub enum Command {
@@ -11,6 +19,11 @@ pub enum Command {
     Settle {
         accept: bool,
         package: Text,
+    },
+    /// The text of the package in this view.
+    Text {
+        package: Text,
+        view: View,
     },
     /// A list of the package's revisions in the format of this name.
     List {

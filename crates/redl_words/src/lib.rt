@@ -16,7 +16,7 @@ mod reading;
 mod selections;
 mod verb;
 
-pub use command::Command;
+pub use command::{Command, View};
 pub use error::WordsError;
 pub use laws::one_command;
 pub use reading::read_words;

@@ -3,10 +3,10 @@
 ghost use Rattle.std.specs.Prelude.{◌≡◌, All, IfOk, IsErrOf, IsUtf8};
 ghost use Rattle.redl_words.specs.Commands.{HasNoCommand, HasUtf8, IsCommand};
 ghost use Rattle.redl_words.specs.Reading.Answers.{Finds};
-ghost use Rattle.redl_words.specs.Reading.Commands.{check_in, command_in, decide_in, format_or_text, rank_or_0, join_in, list_in, sample_in, say_in, settle_in, write_in};
+ghost use Rattle.redl_words.specs.Reading.Commands.{check_in, command_in, decide_in, format_or_text, rank_or_0, join_in, list_in, sample_in, say_in, settle_in, text_in, text_with, view_in, write_in};
 ghost use Rattle.redl_words.specs.Views.{command_of};
 
-use crate::command::Command;
+use crate::command::{Command, View};
 use crate::error::WordsError;
 use crate::items::read_items;
 use crate::names::{is_file_name, read_names};
@@ -41,6 +41,7 @@ fn read_command(alloc: Global, words: &[Text]) -> Result<Command, WordsError>
     };
     match read_verb(word.as_bytes()) {
         Some(Verb::Settle) => read_settle(alloc, rest),
+        Some(Verb::Text) => read_text(alloc, rest),
         Some(Verb::List) => read_list(alloc, rest),
         Some(Verb::Write) => read_write(alloc, rest),
         Some(Verb::Decide) => read_decide(alloc, rest),
@@ -78,6 +79,50 @@ fn read_say(word: &[u8]) -> Option<bool>
         Some(true)
     } else if word == b"reject".as_slice() {
         Some(false)
+    } else {
+        None
+    }
+}
+
+/// The words after `text`.
+#[tactic(auto, unfolding(crate::specs::Reading::Commands::text_in))]
+fn read_text(alloc: Global, words: &[Text]) -> Result<Command, WordsError>
+    ensures { Finds command_of result (text_in words.now) }
+{
+    match words {
+        [package] => make_text(alloc, package, Some(View::Final)),
+        [package, option, name] if option.as_bytes() == b"--view".as_slice() => {
+            make_text(alloc, package, read_view(name.as_bytes()))
+        }
+        _ => Err(WordsError::Usage),
+    }
+}
+
+/// The command for the text of this package, if there is a view and the package has the name of a file.
+fn make_text(alloc: Global, file: &Text, view: Option<View>) -> Result<Command, WordsError>
+    ensures { Finds command_of result (text_with file.now view) }
+{
+    let Some(view) = view else {
+        return Err(WordsError::Usage);
+    };
+    if !is_file_name(file.as_bytes()) {
+        return Err(WordsError::Usage);
+    }
+    let package = file.copy(alloc)?;
+    Ok(Command::Text { package, view })
+}
+
+/// The view of this name.
+#[tactic(auto, unfolding(crate::specs::Reading::Commands::view_in))]
+fn read_view(name: &[u8]) -> Option<View>
+    ensures { result ≡ view_in name.now }
+{
+    if name == b"original".as_slice() {
+        Some(View::Original)
+    } else if name == b"final".as_slice() {
+        Some(View::Final)
+    } else if name == b"marked".as_slice() {
+        Some(View::Marked)
     } else {
         None
     }

@@ -7,6 +7,7 @@ ghost use Rattle.redl_words.specs.Reading.Commands.{verb_in};
 #[derive(Clone, Copy)]
 pub(crate) enum Verb {
     Settle,
+    Text,
     List,
     Write,
     Decide,
@@ -22,6 +23,8 @@ pub(crate) fn read_verb(word: &[u8]) -> Option<Verb>
 {
     if word == b"settle".as_slice() {
         Some(Verb::Settle)
+    } else if word == b"text".as_slice() {
+        Some(Verb::Text)
     } else if word == b"list".as_slice() {
         Some(Verb::List)
     } else if word == b"write".as_slice() {

@@ -142,6 +142,7 @@ fn command_shown(alloc: Global, command: &Command) -> Result<String, AllocError>
         Command::Settle { accept, package } => {
             format!(in alloc; "settle {accept} {}", shown(package))
         }
+        Command::Text { package, view } => format!(in alloc; "text {} {view:?}", shown(package)),
         Command::List {
             package,
             format,
@@ -192,6 +193,8 @@ fn line_told(alloc: Global, line: &str) -> Result<String, AllocError> {
 const COMMANDS: [(&str, &str); 23] = [
     ("settle|accept|P", "settle true P"),
     ("settle|reject|P", "settle false P"),
+    ("text|P", "text P Final"),
+    ("text|P|--view|marked", "text P Marked"),
     ("list|P", "list P as text locks  journals "),
     (
         "list|P|J|--lock|A|--format|tab|K|--lock|A|J",
@@ -264,7 +267,13 @@ fn lines_of_each_command(rt: HostRuntime) -> Result<(), Fail> {
 }
 
 // Lines that are those of no command.
-const NO_COMMANDS: [&str; 63] = [
+const NO_COMMANDS: [&str; 69] = [
+    "text",
+    "text|--view|final",
+    "text|P|--view",
+    "text|P|--view|now",
+    "text|--view|final|P",
+    "text|P|--view|final|--view|final",
     "",
     "P",
     "--help",

@@ -10,12 +10,15 @@ use Rattle.redl_select.specs.declared.lock.Lock.{Lock}
 use Rattle.redl_words.specs.declared.options.Form.TheVariants as forms
 use Rattle.redl_words.specs.declared.verb.Verb.{Verb}
 use Rattle.redl_words.specs.declared.verb.Verb.TheVariants as verbs
-use Rattle.redl_words.specs.Commands.{Command, settle, list, write, decide, join, check, sample, is_name, say_word}
+use Rattle.redl_words.specs.declared.command.View.{View}
+use Rattle.redl_words.specs.declared.command.View.TheVariants.{Original, Final, Marked}
+use Rattle.redl_words.specs.Commands.{Command, settle, view_text, list, write, decide, join, check, sample, is_name, say_word, view_name}
 use Rattle.redl_words.specs.Reading.Items.{nothing, gathered}
 
 unfoldable pub verb_in : List ℕ → Option Verb
 verb_in word =
     if bytes_eq word (codes "settle") then Some verbs.Settle
+    else if bytes_eq word (codes "text") then Some verbs.Text
     else if bytes_eq word (codes "list") then Some verbs.List
     else if bytes_eq word (codes "write") then Some verbs.Write
     else if bytes_eq word (codes "decide") then Some verbs.Decide
@@ -31,6 +34,24 @@ say_in word = if bytes_eq word (say_word true) then Some true else if bytes_eq w
 unfoldable pub settle_in : List (List ℕ) → Option Command
 settle_in (say ∷ p ∷ []) = if is_name p then option_map (λ accept. settle accept p) (say_in say) else None
 settle_in _ = None
+
+-- the view of this name
+unfoldable pub view_in : List ℕ → Option View
+view_in name =
+    if bytes_eq name (view_name Original) then Some Original
+    else if bytes_eq name (view_name Final) then Some Final
+    else if bytes_eq name (view_name Marked) then Some Marked
+    else None
+
+-- the text of this package, where there is a view
+abbrev pub text_with : List ℕ → Option View → Option Command
+text_with p None = None
+text_with p (Some view) = if is_name p then Some (view_text p view) else None
+
+unfoldable pub text_in : List (List ℕ) → Option Command
+text_in (p ∷ []) = text_with p (Some Final)
+text_in (p ∷ option ∷ name ∷ []) = if bytes_eq option (codes "--view") then text_with p (view_in name) else None
+text_in _ = None
 
 -- the format of this name, or `text` without one
 abbrev pub format_or_text : Option (List ℕ) → List ℕ
@@ -82,6 +103,7 @@ sample_in _ = None
 -- the command of these words after its verb
 abbrev pub command_with : Verb → List (List ℕ) → Option Command
 command_with verbs.Settle rest = settle_in rest
+command_with verbs.Text rest = text_in rest
 command_with verbs.List rest = list_in rest
 command_with verbs.Write rest = write_in rest
 command_with verbs.Decide rest = decide_in rest
