@@ -31,7 +31,7 @@ use Rattle.redl_journal.specs.declared.entry.Entry.{Entry}
 use Rattle.redl_lines.specs.Failures.{Failure}
 use Rattle.redl_lines.specs.declared.failure.Limit.TheVariants.{JournalBytes}
 use Rattle.redl_select.specs.declared.lock.Lock.{Lock}
-use Rattle.redl_words.specs.Commands.{Command, settle, list, write, decide, join, check, sample}
+use Rattle.redl_words.specs.Commands.{Command, settle, view_text, list, write, decide, join, check, sample}
 
 -- what a command makes of the session over its package, and of the journals
 after_opening : (reader : Reader) (files : Files) (locks : List Lock) (names others : List (List ℕ)) (p : List ℕ) (next : Admission → Result Writing Failure) (one other : Writing) → AreSame names others
@@ -202,6 +202,7 @@ joins_same reader files most (name ∷ names) (second ∷ others) one other same
 carried_same : (reader : Reader) (files : Files) (formats : List Format) (command : Command) (names others : List (List ℕ)) (one other : Writing) → AreSame names others
     → carried_out reader files formats (plan (with_journals names command)) ≡ Ok one → carried_out reader files formats (plan (with_journals others command)) ≡ Ok other → one ≡ other
 carried_same reader files formats (settle accept p) names others one other same is too = same_ok (sym is ∙ too)
+carried_same reader files formats (view_text p view) names others one other same is too = same_ok (sym is ∙ too)
 carried_same reader files formats (list p format locks journals) names others one other same is too =
     let first = both_ok (has_format formats (Some format)) (λ there. package_file files p >>= (λ whole. listed reader files formats format locks names whole)) one is in
     let again = both_ok (has_format formats (Some format)) (λ there. package_file files p >>= (λ whole. listed reader files formats format locks others whole)) other too in

@@ -18,7 +18,7 @@ use Rattle.redl_inputs.proofs.StepLaws.{both_ok, same_ok, same_some}
 use Rattle.redl_inputs.specs.Readers.{Reader}
 use Rattle.redl_inputs.specs.Steps.{◌>>=◌}
 use Rattle.redl_app.specs.Writing.{Outcome, Writing, only_bytes, outcome_of}
-use Rattle.redl_words.specs.Commands.{Command, settle, list, write, decide, join, check, sample}
+use Rattle.redl_words.specs.Commands.{Command, settle, view_text, list, write, decide, join, check, sample}
 use Rattle.redl_io.specs.Limits.{journal_bytes}
 use Rattle.redl_index.specs.Numbers.{numbered_package}
 use Rattle.redl_io.specs.Shelf.{Files}
@@ -135,6 +135,7 @@ leaves reader files formats (write other locks journals) name writing named is =
 leaves reader files formats (list other format locks journals) name writing named is = absurd (cc named)
 leaves reader files formats (decide other reviewer journals locks choices rank) name writing named is = absurd (cc named)
 leaves reader files formats (join journals) name writing named is = absurd (cc named)
+leaves reader files formats (view_text other view) name writing named is = absurd (cc named)
 leaves reader files formats (check other) name writing named is = absurd (cc named)
 leaves reader files formats (sample number) name writing named is = absurd (cc named)
 

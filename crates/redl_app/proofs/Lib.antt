@@ -9,3 +9,4 @@ pub mod FormatLaws
 pub mod PartNameLaws
 pub mod LeftLaws
 pub mod AnyOrderLaws
+pub mod TextLaws

@@ -1,4 +1,5 @@
 pub mod Settle
+pub mod Text
 pub mod List
 pub mod Write
 pub mod Join

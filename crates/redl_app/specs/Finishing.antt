@@ -4,7 +4,7 @@ use Rattle.std.specs.Io.KnownBytes.{append_known}
 use Rattle.redl_io.specs.Faults.{Rose}
 use Rattle.redl_io.specs.Sink.{GrowsByFront}
 use Rattle.redl_inputs.specs.Readers.{Reader, IsReader}
-use Rattle.redl_inputs.specs.Reading.{ReadsFiles}
+use Rattle.redl_inputs.specs.Reading.{Reads, ReadsFiles}
 use Rattle.redl_app.specs.Formats.{Format}
 use Rattle.redl_app.specs.Outcome.{writing_of}
 use Rattle.redl_app.specs.Writing.{Writing}
@@ -37,6 +37,12 @@ pub record Ends {S K : Type 0} (holds : S → Option Files) (misses : S → ℕ)
     (names : List (List ℕ)) (due : Reader → Files → Result Writing Failure) (end : End) : Type 0 where
   pub made : Result Writing Failure
   pub reads : ReadsFiles holds misses shelf shelf_new names made due
+  pub finishes : Finishes told faults out out_new made end
+
+-- What was due was made without files of a shelf, or memory ran out, and with this the call ended.
+pub record EndsAlone {K : Type 0} (told : K → Option (List ℕ)) (faults : K → ℕ) (out out_new : K) (due : Reader → Result Writing Failure) (end : End) : Type 0 where
+  pub made : Result Writing Failure
+  pub reads : Reads made due
   pub finishes : Finishes told faults out out_new made end
 
 -- ---- the words

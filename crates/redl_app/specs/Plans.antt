@@ -6,6 +6,7 @@ use Rattle.redl_app.specs.Commands.Join.{joined}
 use Rattle.redl_app.specs.Commands.List.{listed}
 use Rattle.redl_app.specs.Commands.Sample.{sampled}
 use Rattle.redl_app.specs.Commands.Settle.{settled}
+use Rattle.redl_app.specs.Commands.Text.{viewed}
 use Rattle.redl_app.specs.Commands.Write.{written}
 use Rattle.redl_app.specs.Formats.{Format}
 use Rattle.redl_app.specs.Writing.{Writing}
@@ -16,7 +17,7 @@ use Rattle.redl_io.specs.Limits.{journal_bytes}
 use Rattle.redl_io.specs.Shelf.{Files}
 use Rattle.redl_lines.specs.Failures.{Failure, no_memory}
 use Rattle.redl_select.specs.declared.lock.Lock.{Lock}
-use Rattle.redl_words.specs.Commands.{Command, settle, list, write, decide, join, check, sample}
+use Rattle.redl_words.specs.Commands.{Command, settle, view_text, list, write, decide, join, check, sample}
 
 -- what a command makes
 pub data Making : Type 0 where
@@ -51,6 +52,7 @@ abbrev pub plan : Command → Plan
 plan (settle accept p) = record (only (of_package p (λ reader files formats whole. settled reader accept whole))) {
   decides = all_of_them accept;
 }
+plan (view_text p view) = only (of_package p (λ reader files formats whole. viewed reader view whole))
 plan (list p name locks journals) = record (only (of_package p (λ reader files formats whole. listed reader files formats name locks journals whole))) {
   journals = journals;
   locks = locks;

@@ -1,29 +1,28 @@
-//! What each command writes, or why it writes nothing.
+//! How each command is carried out.
 
 ghost use Rattle.std.specs.Prelude.{◌≡◌, Ok};
 ghost use Rattle.std.specs.Option.{option_copied};
+ghost use Rattle.redl_app.specs.Finishing.{Ends};
 ghost use Rattle.redl_app.specs.Formats.{AreFresh, LeavesFormats, formats_by, has_format, without_asked};
 ghost use Rattle.redl_app.specs.Plans.{IsTextFor, made_with, plan};
-ghost use Rattle.redl_app.specs.Views.{writing_view};
-ghost use Rattle.redl_app.specs.Writing.{outcome_of};
-ghost use Rattle.redl_inputs.specs.Reading.{ReadsFiles};
-ghost use Rattle.redl_inputs.specs.Views.{result_view};
+ghost use Rattle.redl_lines.specs.Ends.{end_status, end_view};
 ghost use Rattle.redl_words.specs.Commands.{HasUtf8};
 ghost use Rattle.redl_words.specs.Views.{command_of};
 
-use crate::output::Writing;
+use crate::output::put;
 use check::check;
 use decide::decide;
 use join::join;
 use list::list;
 use redl_inputs::name_of;
-use redl_io::Shelf;
-use redl_lines::Failure;
+use redl_io::{Shelf, Sink};
+use redl_lines::End;
 use redl_listing::RowFormat;
 use redl_words::Command;
 use sample::sample;
 use settle::settle;
 use std::alloc::Global;
+use text::put_text;
 use write::write;
 
 mod check;
@@ -32,47 +31,54 @@ mod join;
 mod list;
 mod sample;
 mod settle;
+mod text;
 mod write;
 
-/// What the command writes. `text` is its package's, and there is one exactly if the command has a package. The format that it
-/// asks for is there.
-pub(crate) fn make<'a, 'b, F: Shelf>(
+/// Makes what the command writes and puts it on the output. `text` is its package's, and there is one exactly if the command has
+/// a package. The format that it asks for is there. Each arm puts what it made, which lives no longer than the text.
+pub(crate) fn carry_out<'a, F: Shelf, O: Sink>(
     alloc: Global,
     command: &'a Command,
-    text: Option<&'b [u8]>,
+    text: Option<&[u8]>,
     shelf: &mut F,
+    out: &mut O,
     formats: &mut Vec<Box<dyn RowFormat>>,
-) -> Result<Writing<'b>, Failure<'a>>
+) -> End<'a>
     requires utf8 { HasUtf8 (command_of command.now) }
     requires text { IsTextFor (plan (command_of command.now)).makes (option_copied text) }
     requires format { has_format (formats_by format_name text_for formats.old.items) (plan (command_of command.now)).format ≡ Ok tt }
     requires fresh { AreFresh is_closed rows_so_far formats.old.items }
-    ensures read { ReadsFiles F.told F.faults shelf.old shelf.new (plan (command_of command.now)).journals (result_view writing_view result)
-        (λ reader files. made_with reader files (formats_by format_name text_for formats.old.items) (plan (command_of command.now)).makes (option_copied text.entry)) }
-    ensures formats { LeavesFormats (outcome_of (result_view writing_view result)).status
+    ensures ends { Ends F.told F.faults shelf.old shelf.new O.told O.faults out.old out.new (plan (command_of command.now)).journals
+        (λ reader files. made_with reader files (formats_by format_name text_for formats.old.items) (plan (command_of command.now)).makes (option_copied text.entry))
+        (end_view result) }
+    ensures formats { LeavesFormats (end_status (end_view result))
         (without_asked format_name (plan (command_of command.now)).format formats.old.items) formats.old.items formats.new.items }
 {
     match command {
-        Command::Settle { accept, .. } => settle(alloc, *accept, text.unwrap()),
+        Command::Settle { accept, .. } => put(settle(alloc, *accept, text.unwrap()), out),
+        Command::Text { view, .. } => put_text(alloc, *view, text.unwrap(), out),
         Command::List {
             format,
             locks,
             journals,
             ..
-        } => list(
-            alloc,
-            name_of(format),
-            locks,
-            journals,
-            text.unwrap(),
-            shelf,
-            formats,
+        } => put(
+            list(
+                alloc,
+                name_of(format),
+                locks,
+                journals,
+                text.unwrap(),
+                shelf,
+                formats,
+            ),
+            out,
         ),
         Command::Write {
             locks,
             journals,
             ..
-        } => write(alloc, locks, journals, text.unwrap(), shelf),
+        } => put(write(alloc, locks, journals, text.unwrap(), shelf), out),
         Command::Decide {
             reviewer,
             journals,
@@ -80,18 +86,21 @@ pub(crate) fn make<'a, 'b, F: Shelf>(
             choices,
             rank,
             ..
-        } => decide(
-            alloc,
-            reviewer,
-            *rank,
-            locks,
-            journals,
-            choices,
-            text.unwrap(),
-            shelf,
+        } => put(
+            decide(
+                alloc,
+                reviewer,
+                *rank,
+                locks,
+                journals,
+                choices,
+                text.unwrap(),
+                shelf,
+            ),
+            out,
         ),
-        Command::Join { journals } => join(alloc, journals, shelf),
-        Command::Check { .. } => check(alloc, text.unwrap()),
-        Command::Sample { number } => sample(alloc, *number),
+        Command::Join { journals } => put(join(alloc, journals, shelf), out),
+        Command::Check { .. } => put(check(alloc, text.unwrap()), out),
+        Command::Sample { number } => put(sample(alloc, *number), out),
     }
 }

@@ -3,15 +3,18 @@
 ghost use Rattle.std.specs.Prelude.{◌≡◌, [], OnOk, OnErr};
 ghost use Rattle.std.specs.Io.KnownBytes.{append_known};
 ghost use Rattle.redl_app.specs.Commands.Check.{sound_text};
+ghost use Rattle.redl_app.specs.Finishing.{Finishes};
 ghost use Rattle.redl_app.specs.Views.{output_text, writing_view};
 ghost use Rattle.redl_app.specs.Writing.{only_bytes};
+ghost use Rattle.redl_inputs.specs.Views.{result_view};
 ghost use Rattle.redl_io.specs.Sink.{Puts, GrowsByFront, CountsPut};
+ghost use Rattle.redl_lines.specs.Ends.{end_view};
 
 use itoa::Buffer;
 use redl_inputs::DocumentId;
 use redl_io::{Failed, Sink, Staged, put_piece, put_pieces};
 use redl_join::Book;
-use redl_lines::Remarks;
+use redl_lines::{End, Failure, Remarks};
 use redl_sample::Summary;
 use redl_tree::{Node, write_nodes};
 use std::alloc::Global;
@@ -52,8 +55,21 @@ impl<'b> Writing<'b> {
     }
 }
 
-/// Writes what a call writes, through a stage. `Failed` comes only where `out` failed, which then has only a prefix of it.
-pub(crate) fn write_output<O: Sink>(output: &Output, out: &mut O) -> Result<(), Failed>
+/// Puts what was made on the output, or tells why nothing was.
+pub(crate) fn put<'a, 'b, O: Sink>(made: Result<Writing<'b>, Failure<'a>>, out: &mut O) -> End<'a>
+    ensures { Finishes O.told O.faults out.old out.new (result_view writing_view made.entry) (end_view result) }
+{
+    match made {
+        Ok(Writing { output, remarks }) => match write_output(&output, out) {
+            Ok(()) => End::Written(remarks),
+            Err(_) => End::Unwritten(remarks),
+        },
+        Err(failure) => End::Failed(failure),
+    }
+}
+
+// Writes what a call writes, through a stage. `Failed` comes only where `out` failed, which then has only a prefix of it.
+fn write_output<O: Sink>(output: &Output, out: &mut O) -> Result<(), Failed>
     ensures all { OnOk result (O.told out.new ≡ append_known (O.told out.old) (output_text output.now)) }
     ensures front { OnErr result (GrowsByFront (O.told out.old) (O.told out.new) (output_text output.now)) }
     ensures cause { CountsPut (O.faults out.old) (O.faults out.new) result }

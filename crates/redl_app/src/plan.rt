@@ -16,6 +16,7 @@ pub(crate) fn package(command: &Command) -> Option<&str>
 {
     match command {
         Command::Settle { package, .. }
+        | Command::Text { package, .. }
         | Command::List { package, .. }
         | Command::Write { package, .. }
         | Command::Decide { package, .. }

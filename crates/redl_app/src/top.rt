@@ -1,21 +1,20 @@
 //! The top call: from words and files to a status, bytes and lines.
 //!
-//! `run` reads the words, `end_of_words` ends a call by them, and `end_of_command` carries the command out: it looks for the
-//! format, fetches the package, makes what is written, and puts it on the output.
+//! `run` reads the words, `end_of_words` ends a call by them, and `end_of_command` looks for the format, fetches the package, and
+//! has the command carried out.
 
 ghost use Rattle.std.specs.Prelude.{◌≡◌, ◌≢◌, ◌⊎◌, [], All, IfErr, IfOk, IsUtf8, Result};
 ghost use Rattle.std.specs.Io.KnownBytes.{append_known};
 ghost use Rattle.redl_app.specs.Answers.{AreLines, IsAnswer, MayFault, OfOutcome, TellsSome, Writes};
 ghost use Rattle.redl_app.specs.Files.{files_of};
-ghost use Rattle.redl_app.specs.Finishing.{Ends, Finishes, IsWanted, words_failure};
+ghost use Rattle.redl_app.specs.Finishing.{Ends, IsWanted, words_failure};
 ghost use Rattle.redl_app.specs.Formats.{AreFresh, LeavesFormats, formats_by, without_asked};
 ghost use Rattle.redl_app.specs.Left.{Leaves};
 ghost use Rattle.redl_app.specs.Outcome.{carried_out, outcome};
 ghost use Rattle.redl_app.specs.Plans.{plan};
-ghost use Rattle.redl_app.specs.Views.{named_files, read_view, writing_view};
+ghost use Rattle.redl_app.specs.Views.{named_files, read_view};
 ghost use Rattle.redl_app.specs.Writing.{Writing as WritingOf};
 ghost use Rattle.redl_inputs.specs.Readers.{IsReader, Reader};
-ghost use Rattle.redl_inputs.specs.Views.{result_view};
 ghost use Rattle.redl_io.specs.Faults.{Rose};
 ghost use Rattle.redl_io.specs.MemShelf.{file_named};
 ghost use Rattle.redl_io.specs.Shelf.{Files};
@@ -26,9 +25,8 @@ ghost use Rattle.redl_lines.specs.Lines.{failure_line, unwritten_line};
 ghost use Rattle.redl_words.specs.Commands.{Command as CommandOf, HasNoCommand, HasUtf8, IsCommand};
 ghost use Rattle.redl_words.specs.Views.{command_of};
 
-use crate::commands::make;
+use crate::commands::carry_out;
 use crate::formats::check_format;
-use crate::output::{Writing, write_output};
 use crate::plan::{format, package};
 use redl_inputs::fetch_package;
 use redl_io::{NullSink, Shelf, Sink, SureShelf, Text};
@@ -123,7 +121,7 @@ fn failure_of(error: WordsError) -> Failure<'static>
     }
 }
 
-// How a command ends. What is made of its package lives no longer than the package's text.
+// How a command ends.
 fn end_of_command<'a, F: Shelf, O: Sink>(
     alloc: Global,
     command: &'a Command,
@@ -144,23 +142,10 @@ fn end_of_command<'a, F: Shelf, O: Sink>(
         return End::Failed(failure);
     }
     let Some(name) = package(command) else {
-        return put(make(alloc, command, None, shelf, formats), out);
+        return carry_out(alloc, command, None, shelf, out, formats);
     };
     match fetch_package(alloc, name, shelf) {
-        Ok(text) => put(make(alloc, command, Some(&text), shelf, formats), out),
-        Err(failure) => End::Failed(failure),
-    }
-}
-
-// Puts what was made on the output.
-fn put<'a, 'b, O: Sink>(made: Result<Writing<'b>, Failure<'a>>, out: &mut O) -> End<'a>
-    ensures { Finishes O.told O.faults out.old out.new (result_view writing_view made.entry) (end_view result) }
-{
-    match made {
-        Ok(Writing { output, remarks }) => match write_output(&output, out) {
-            Ok(()) => End::Written(remarks),
-            Err(_) => End::Unwritten(remarks),
-        },
+        Ok(text) => carry_out(alloc, command, Some(&text), shelf, out, formats),
         Err(failure) => End::Failed(failure),
     }
 }

@@ -5,8 +5,6 @@ use Rattle.redl_app.proofs.PlanLaws.{reads_alone, reads_no_package, reads_packag
 use Rattle.redl_app.specs.Files.{file_names}
 use Rattle.redl_app.specs.Formats.{formats_by, has_format}
 use Rattle.redl_app.specs.Plans.{made_by, package_of, plan}
-use Rattle.redl_app.specs.Views.{writing_view}
-use Rattle.redl_inputs.specs.Views.{result_view}
 use Rattle.redl_lines.specs.Failures.{failure_view}
 use Rattle.redl_words.specs.Views.{command_of}
 use Rattle.redl_app.proofs.top.end_of_command.Goals as goal
@@ -27,9 +25,9 @@ returns-in_default-package-clause-ends g c =
     let none : package_of asked.makes ≡ None = sym c.package.ensures ∙ ap option_copied c.in_default-package.is in
     ends_after _ (has_format formats asked.format) (file_names asked) (λ reader files. made_by reader files formats asked.makes) tt there
     (record {
-      made = result_view writing_view c.make.result;
-      reads = reads_alone formats asked.makes asked.journals none c.make.ensures.read;
-      finishes = c.put.ensures;
+      made = c.carry_out.ensures.ends.made;
+      reads = reads_alone formats asked.makes asked.journals none c.carry_out.ensures.ends.reads;
+      finishes = c.carry_out.ensures.ends.finishes;
     })
 
 pub returns-in-Ok-clause-ends : goal.returns-in-Ok-clause-ends
@@ -40,10 +38,10 @@ returns-in-Ok-clause-ends g c =
     let some : package_of asked.makes ≡ Some c.in-Some.name.now = sym c.package.ensures ∙ ap option_copied c.in-Some.is in
     ends_after _ (has_format formats asked.format) (file_names asked) (λ reader files. made_by reader files formats asked.makes) tt there
     (record {
-      made = result_view writing_view c.make-in-Ok.result;
+      made = c.carry_out-in-Ok.ensures.ends.made;
       reads = reads_package formats asked.makes asked.journals c.in-Some.name.now c.in-Ok.text.items some c.in-Ok.ensures
-          (rw c.deref-in-Ok.ensures.value at c.make-in-Ok.ensures.read);
-      finishes = c.put-in-Ok.ensures;
+          (rw c.deref-in-Ok.ensures.value at c.carry_out-in-Ok.ensures.ends.reads);
+      finishes = c.carry_out-in-Ok.ensures.ends.finishes;
     })
 
 pub returns-in-Err-fetch_package-clause-ends : goal.returns-in-Err-fetch_package-clause-ends
