@@ -12,6 +12,7 @@ import sys
 import contract
 import page
 import reading
+import texts
 from words import full, listed as words_listed
 
 HERE = os.path.dirname(os.path.abspath(__file__))
@@ -122,6 +123,7 @@ CONTRACT_SAYS = {
 }
 LOCKED = "Dana Fox & Co"
 BY_HAND = ["terms", "joins", "properties", "rows", "moves"]
+VIEWS = ["original", "final", "marked"]
 
 
 def package(body):
@@ -177,6 +179,8 @@ def make_contract(folder):
     folder.save("contract.list.words", words_listed(read, entries))
     folder.save("contract.list.full", full(read, entries))
     folder.save("contract.page.html", page.page(read, entries))
+    for view in VIEWS:
+        folder.save("contract.%s.txt" % view, texts.text(read, view))
     # Ann accepts all of Cara's changes in one go, but for the two in the sentence on prices.
     of_cara = [number for number, it in enumerate(read.revisions, 1) if it.author == "Cara Lee"]
     book, _ = reading.decide(read, "Ann Gray", CONTRACT_SAYS["ann"], [("accept", of_cara), ("withdraw", [5])])
@@ -224,6 +228,13 @@ def check_by_hand():
         for end, say in [(".accepted.xml", "accept"), (".rejected.xml", "reject")]:
             if text(end) != reading.decided(read, lambda number: say):
                 print("the reading gives other bytes than %s%s" % (name, end))
+                failed = 1
+    for view in VIEWS:
+        with open(os.path.join(HERE, "moves.%s.txt" % view), newline="", encoding="utf-8") as file:
+            by_hand = file.read()
+        with open(os.path.join(HERE, "moves.xml"), newline="", encoding="utf-8") as file:
+            if by_hand != texts.text(reading.Package(file.read()), view):
+                print("the reading gives another text than moves.%s.txt" % view)
                 failed = 1
     return failed
 
