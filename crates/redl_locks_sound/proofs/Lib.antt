@@ -1,2 +1,3 @@
 mod Books
 pub mod Held
+pub mod Opened

@@ -1,8 +1,12 @@
 //! What holds of locks in every session.
 
-ghost use Rattle.std.specs.Prelude.{◌≡◌, List};
+ghost use Rattle.std.specs.Prelude.{◌≡◌, ℕ, List, Ok};
+ghost use Rattle.redl_inputs.specs.Admission.{Admission, opened};
+ghost use Rattle.redl_inputs.specs.Readers.{Reader};
+ghost use Rattle.redl_io.specs.Shelf.{Files};
 ghost use Rattle.redl_journal.specs.declared.entry.Entry.{Entry};
 ghost use Rattle.redl_locks_sound.specs.Held.{IsBegun, IsHeld, IsLocked};
+ghost use Rattle.redl_select.specs.declared.lock.Lock.{Lock};
 ghost use Rattle.redl_session.specs.Sessions.{State, after, says};
 ghost use Rattle.redl_tree.specs.Decisions.Fates.{fate_of, say_of};
 ghost use Rattle.redl_tree.specs.Model.Seen.{Seen};
@@ -18,4 +22,13 @@ pub fn locked_revisions_are_left()
     ensures left { (state : State) (entries : List Entry) (element : Seen) → IsBegun state → IsHeld state element
         → fate_of (says (after state entries)) element.own.tag ≡ Leave }
     ensures author { (state : State) (element : Seen) → IsLocked state element → IsHeld state element }
+{}
+
+/// Whatever the journals of a call say, the session that it opens over a package leaves each element whose revision one of the locks of
+/// the call holds: its number has the say `Keep`.
+pub fn journals_leave_what_is_locked()
+    ensures kept { (reader : Reader) (files : Files) (locks : List Lock) (journals : List (List ℕ)) (whole : List ℕ) (admission : Admission) (element : Seen)
+        → opened reader files locks journals whole ≡ Ok admission → IsHeld admission.state element → say_of (says admission.state) element.own.tag.rev ≡ Keep }
+    ensures left { (reader : Reader) (files : Files) (locks : List Lock) (journals : List (List ℕ)) (whole : List ℕ) (admission : Admission) (element : Seen)
+        → opened reader files locks journals whole ≡ Ok admission → IsHeld admission.state element → fate_of (says admission.state) element.own.tag ≡ Leave }
 {}

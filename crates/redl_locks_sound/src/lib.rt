@@ -3,4 +3,4 @@
 
 mod laws;
 
-pub use laws::locked_revisions_are_left;
+pub use laws::{journals_leave_what_is_locked, locked_revisions_are_left};
