@@ -23,12 +23,13 @@ use Rattle.redl_words.specs.declared.verb.Verb.TheVariants as verbs
 use Rattle.redl_words.specs.declared.command.Command as code
 use Rattle.redl_words.specs.declared.command.View.{View}
 use Rattle.redl_words.specs.declared.command.View.TheVariants.{Original, Final, Marked}
-use Rattle.redl_words.specs.Commands.{Command, settle, view_text, list, write, decide, join, check, sample, is_name, Item, format, lock, journal, named_journal, choice, rank, item_words, Admits, of_list, of_write, of_decide, Form as Kind, formats_of, locks_of, journals_of, ranks_of, say_word, view_name, IsSettle, IsText, IsList, IsWrite, IsDecide, IsJoin, IsCheck, IsSample, IsCommand, HasNoCommand, HasUtf8, LockHasUtf8}
+use Rattle.redl_words.specs.Commands.{Command, settle, view_text, list, page, write, decide, join, check, sample, say_word, view_name, IsSettle, IsText, IsList, IsPage, IsWrite, IsDecide, IsJoin, IsCheck, IsSample, IsCommand, HasNoCommand, HasUtf8, LockHasUtf8}
+use Rattle.redl_words.specs.Items.{Item, format, lock, journal, named_journal, choice, rank, item_words, Admits, of_list, of_write, of_decide, Form as Kind, is_name, formats_of, locks_of, journals_of, ranks_of}
 use Rattle.redl_words.specs.Selections.{MeansLock}
 use Rattle.redl_words.specs.Views.{command_of}
 use Rattle.redl_words.specs.Reading.Answers.{Finds}
 use Rattle.redl_words.specs.Reading.Items.{Gathered, nothing, gathered}
-use Rattle.redl_words.specs.Reading.Commands.{verb_in, say_in, settle_in, view_in, text_with, text_in, format_or_text, rank_or_0, list_in, write_in, decide_with, decide_in, names_in, join_in, check_in, sample_in, command_with, command_in}
+use Rattle.redl_words.specs.Reading.Commands.{verb_in, say_in, settle_in, view_in, text_with, text_in, format_or_text, rank_or_0, list_in, page_in, write_in, decide_with, decide_in, names_in, join_in, check_in, sample_in, command_with, command_in}
 use Rattle.redl_words.proofs.SelectionLaws.{bytes_same, map_some, pick}
 use Rattle.redl_words.proofs.LockLaws.{lock_utf8}
 use Rattle.redl_words.proofs.ItemLaws.{items_take, read_again}
@@ -44,6 +45,7 @@ verb_text : Verb → List ℕ
 verb_text verbs.Settle = codes "settle"
 verb_text verbs.Text = codes "text"
 verb_text verbs.List = codes "list"
+verb_text verbs.Page = codes "page"
 verb_text verbs.Write = codes "write"
 verb_text verbs.Decide = codes "decide"
 verb_text verbs.Join = codes "join"
@@ -56,11 +58,12 @@ verb_takes word v e =
     pick P (bytes_eq word (codes "settle")) verbs.Settle _ v e (λ hit. bytes_same word (codes "settle") hit) (λ e.
     pick P (bytes_eq word (codes "text")) verbs.Text _ v e (λ hit. bytes_same word (codes "text") hit) (λ e.
     pick P (bytes_eq word (codes "list")) verbs.List _ v e (λ hit. bytes_same word (codes "list") hit) (λ e.
+    pick P (bytes_eq word (codes "page")) verbs.Page _ v e (λ hit. bytes_same word (codes "page") hit) (λ e.
     pick P (bytes_eq word (codes "write")) verbs.Write _ v e (λ hit. bytes_same word (codes "write") hit) (λ e.
     pick P (bytes_eq word (codes "decide")) verbs.Decide _ v e (λ hit. bytes_same word (codes "decide") hit) (λ e.
     pick P (bytes_eq word (codes "join")) verbs.Join _ v e (λ hit. bytes_same word (codes "join") hit) (λ e.
     pick P (bytes_eq word (codes "check")) verbs.Check _ v e (λ hit. bytes_same word (codes "check") hit) (λ e.
-    pick P (bytes_eq word (codes "sample")) verbs.Sample _ v e (λ hit. bytes_same word (codes "sample") hit) (λ e. absurd cc)))))))) where
+    pick P (bytes_eq word (codes "sample")) verbs.Sample _ v e (λ hit. bytes_same word (codes "sample") hit) (λ e. absurd cc))))))))) where
       P : Verb → Type 0
       P v = word ≡ verb_text v
 
@@ -69,6 +72,7 @@ unfolding verb_in verb_text
 verb_again verbs.Settle = refl
 verb_again verbs.Text = refl
 verb_again verbs.List = refl
+verb_again verbs.Page = refl
 verb_again verbs.Write = refl
 verb_again verbs.Decide = refl
 verb_again verbs.Join = refl
@@ -255,6 +259,38 @@ write_again p locks journals rest items h written admitted l j =
       same_write : (ls locks : List Lock) (js journals : List (List ℕ)) → ls ≡ locks → js ≡ journals → Some (write p ls js) ≡ Some (write p locks journals)
       same_write ls locks js journals a b = cc
 
+-- ---- page, whose items are those of write
+
+page_takes : (rest : List (List ℕ)) (c : Command) → page_in rest ≡ Some c → IsCommand (codes "page" ∷ rest) c
+unfolding page_in
+page_takes [] c e = absurd cc
+page_takes (p ∷ rest) c e =
+    let n = needs (is_name p) (option_map (λ items. page p items.locks items.journals) (gathered forms.Write nothing rest)) c e in
+    let g = map_some (λ (items : Gathered). page p items.locks items.journals) (gathered forms.Write nothing rest) c n.1 in
+    let r = items_take forms.Write rest nothing g.0 g.1 in
+    let means : IsPage (codes "page" ∷ p ∷ rest) p g.0.locks g.0.journals = record {
+      items = r.items;
+      rest = rest;
+      written = refl;
+      package_name = n.0;
+      are_items = record { written = r.written; admitted = All-from_recursion (Admits of_write) r.items r.admitted };
+      locks_are = r.says.locks;
+      journals_are = r.says.journals;
+    } in
+    subst (IsCommand (codes "page" ∷ p ∷ rest)) g.2 means
+
+page_again : (p : List ℕ) (locks : List Lock) (journals rest : List (List ℕ)) (items : List Item) → is_name p ≡ true → rest ≡ flat_map item_words items → All (Admits of_write) items
+    → locks ≡ locks_of items → journals ≡ journals_of items → page_in (p ∷ rest) ≡ Some (page p locks journals)
+unfolding page_in
+page_again p locks journals rest items h written admitted l j =
+    let each = recursion_from_All (Admits of_write) items admitted in
+    let r = read_again forms.Write items rest written each (unformatted of_write (λ name h. h) items each) (unranked of_write (λ number h. h) items each) in
+    let ls : r.after.locks ≡ locks = r.locks ∙ sym l in
+    let js : r.after.journals ≡ journals = r.journals ∙ sym j in
+    rw (h, r.reads) (same_page r.after.locks locks r.after.journals journals ls js) where
+      same_page : (ls locks : List Lock) (js journals : List (List ℕ)) → ls ≡ locks → js ≡ journals → Some (page p ls js) ≡ Some (page p locks journals)
+      same_page ls locks js journals a b = cc
+
 -- ---- decide
 
 rank_takes : (r : Option ℕ) (ranks : List ℕ) → option_to_list r ≡ ranks → ((ranks ≡ []) × (rank_or_0 r ≡ 0)) ⊎ (ranks ≡ rank_or_0 r ∷ [])
@@ -374,6 +410,7 @@ unfolding verb_text
 with_takes verbs.Settle rest c e = settle_takes rest c e
 with_takes verbs.Text rest c e = text_takes rest c e
 with_takes verbs.List rest c e = list_takes rest c e
+with_takes verbs.Page rest c e = page_takes rest c e
 with_takes verbs.Write rest c e = write_takes rest c e
 with_takes verbs.Decide rest c e = decide_takes rest c e
 with_takes verbs.Join rest c e = join_takes rest c e
@@ -402,6 +439,10 @@ text_line rest = command_of_verb verbs.Text rest
 list_line : (rest : List (List ℕ)) → command_in (codes "list" ∷ rest) ≡ list_in rest
 unfolding verb_text
 list_line rest = command_of_verb verbs.List rest
+
+page_line : (rest : List (List ℕ)) → command_in (codes "page" ∷ rest) ≡ page_in rest
+unfolding verb_text
+page_line rest = command_of_verb verbs.Page rest
 
 write_line : (rest : List (List ℕ)) → command_in (codes "write" ∷ rest) ≡ write_in rest
 unfolding verb_text
@@ -432,6 +473,8 @@ command_again words (view_text p view) h = by h.written where
 command_again words (list p name locks journals) h =
     ap command_in h.written ∙ list_line (p ∷ h.rest)
     ∙ list_again p name locks journals h.rest h.items h.package_name h.are_items.written h.are_items.admitted h.format h.locks_are h.journals_are
+command_again words (page p locks journals) h =
+    ap command_in h.written ∙ page_line (p ∷ h.rest) ∙ page_again p locks journals h.rest h.items h.package_name h.are_items.written h.are_items.admitted h.locks_are h.journals_are
 command_again words (write p locks journals) h =
     ap command_in h.written ∙ write_line (p ∷ h.rest) ∙ write_again p locks journals h.rest h.items h.package_name h.are_items.written h.are_items.admitted h.locks_are h.journals_are
 command_again words (decide p reviewer journals locks choices number) h =
@@ -515,6 +558,10 @@ command_utf8 words (list p name locks journals) h u =
     let v : AllByRecursion IsUtf8 (codes "list" ∷ p ∷ h.rest) = subst (AllByRecursion IsUtf8) h.written u in
     let i = items_utf8 of_list h.items (recursion_from_All (Admits of_list) h.items h.are_items.admitted) (subst (AllByRecursion IsUtf8) h.are_items.written v.1.1) in
     (v.1.0, format_utf8 (formats_of h.items) name i.formats h.format, all_locks locks (locks_of h.items) i.locks h.locks_are, all_utf8 journals (journals_of h.items) i.journals h.journals_are)
+command_utf8 words (page p locks journals) h u =
+    let v : AllByRecursion IsUtf8 (codes "page" ∷ p ∷ h.rest) = subst (AllByRecursion IsUtf8) h.written u in
+    let i = items_utf8 of_write h.items (recursion_from_All (Admits of_write) h.items h.are_items.admitted) (subst (AllByRecursion IsUtf8) h.are_items.written v.1.1) in
+    (v.1.0, all_locks locks (locks_of h.items) i.locks h.locks_are, all_utf8 journals (journals_of h.items) i.journals h.journals_are)
 command_utf8 words (write p locks journals) h u =
     let v : AllByRecursion IsUtf8 (codes "write" ∷ p ∷ h.rest) = subst (AllByRecursion IsUtf8) h.written u in
     let i = items_utf8 of_write h.items (recursion_from_All (Admits of_write) h.items h.are_items.admitted) (subst (AllByRecursion IsUtf8) h.are_items.written v.1.1) in

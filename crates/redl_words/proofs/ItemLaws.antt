@@ -13,7 +13,7 @@ use Rattle.redl_select.specs.Selections.{Selection}
 use Rattle.redl_select.specs.declared.lock.Lock.{Lock}
 use Rattle.redl_select.specs.declared.lock.Lock.TheVariants.{Author, Kind as OfKind, Span}
 use Rattle.redl_words.specs.Selections.{Means, MeansLock}
-use Rattle.redl_words.specs.Commands.{Item, format, lock, journal, named_journal, choice, rank, item_words, Admits, of_list, of_write, of_decide, Form as Kind, formats_of, locks_of, journals_of, choices_of, ranks_of, is_name, option_of, lock_option}
+use Rattle.redl_words.specs.Items.{Item, format, lock, journal, named_journal, choice, rank, item_words, Admits, of_list, of_write, of_decide, Form as Kind, formats_of, locks_of, journals_of, choices_of, ranks_of, is_name, option_of, lock_option}
 use Rattle.redl_words.specs.declared.options.Form.{Form}
 use Rattle.redl_words.specs.declared.options.Form.TheVariants as forms
 use Rattle.redl_words.specs.declared.options.Locked.{Locked}

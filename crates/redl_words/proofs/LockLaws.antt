@@ -6,7 +6,8 @@ use Rattle.redl_index.specs.KindNames.{kind_named}
 use Rattle.redl_index.proofs.KindNameLaws.{kind_named-exact}
 use Rattle.redl_select.specs.declared.lock.Lock.{Lock}
 use Rattle.redl_select.specs.declared.lock.Lock.TheVariants.{Author, Kind, Span}
-use Rattle.redl_words.specs.Commands.{LockHasUtf8, is_name, lock_option}
+use Rattle.redl_words.specs.Commands.{LockHasUtf8}
+use Rattle.redl_words.specs.Items.{is_name, lock_option}
 use Rattle.redl_words.specs.Selections.{MeansLock}
 use Rattle.redl_words.specs.Reading.Locks.{lock_in}
 use Rattle.redl_words.specs.Reading.Selections.{moments_in}

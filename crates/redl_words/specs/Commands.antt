@@ -1,15 +1,13 @@
 -- The words of each command (our own rule). They come without the program's name.
-use Rattle.std.specs.Prelude.{◌≡◌, ◌≢◌, ◌^◌, ◌<◌, ◌≤◌, ◌⊎◌, ℕ, Bool, true, false, not, ◌==◌, List, [], ◌∷◌, IsTrue, All, IsUtf8, codes, decimal}
-use Rattle.std.specs.List.{flat_map}
+use Rattle.std.specs.Prelude.{◌≡◌, ◌≢◌, ◌^◌, ◌<◌, ◌≤◌, ◌⊎◌, ℕ, Bool, true, false, List, [], ◌∷◌, IsTrue, All, IsUtf8, codes, decimal}
 use Rattle.redl_journal.specs.declared.entry.Word.{Word}
-use Rattle.redl_journal.specs.declared.entry.Word.TheVariants.{Accept, Reject, Withdraw}
 use Rattle.redl_journal.specs.Journals.{IsReviewer}
 use Rattle.redl_select.specs.Selections.{Selection}
 use Rattle.redl_select.specs.declared.lock.Lock.{Lock}
 use Rattle.redl_select.specs.declared.lock.Lock.TheVariants.{Author, Kind, Span}
 use Rattle.redl_words.specs.declared.command.View.{View}
 use Rattle.redl_words.specs.declared.command.View.TheVariants.{Original, Final, Marked}
-use Rattle.redl_words.specs.Selections.{Means, MeansLock}
+use Rattle.redl_words.specs.Items.{Item, AreItems, of_list, of_write, of_decide, is_name, formats_of, locks_of, journals_of, choices_of, ranks_of}
 
 -- what the words ask for; names, texts of authors and of formats are lists of bytes
 pub data Command : Type 0 where
@@ -19,6 +17,8 @@ pub data Command : Type 0 where
   view_text : List ℕ → View → Command
   -- the revisions of the package in the format of this name, with locks and journals
   list : List ℕ → List ℕ → List Lock → List (List ℕ) → Command
+  -- a page of the package's revisions for a browser, with locks and journals
+  page : List ℕ → List Lock → List (List ℕ) → Command
   -- the package under the joined verdicts, with locks and journals
   write : List ℕ → List Lock → List (List ℕ) → Command
   -- a journal of what a reviewer decides on the package's revisions: journals, locks, the choices in their order, and the rank
@@ -30,101 +30,7 @@ pub data Command : Type 0 where
   -- the summary of the sample with so many paragraphs
   sample : ℕ → Command
 
--- a file name: not empty, and it doesn't begin with a dash
-abbrev pub is_name : List ℕ → Bool
-is_name [] = false
-is_name (first ∷ _) = not (first == 45)
-
--- ---- items: what may come after a package's name
-
-pub data Item : Type 0 where
-  -- `--format` and the name of a format
-  format : List ℕ → Item
-  -- `--lock`, `--lock-kind` or `--lock-span`, and the text of a lock
-  lock : List ℕ → Lock → Item
-  -- the name of a journal
-  journal : List ℕ → Item
-  -- `--journal` and the name of a journal
-  named_journal : List ℕ → Item
-  -- `--accept`, `--reject` or `--withdraw`, and the text of a selection
-  choice : Word → List ℕ → Selection → Item
-  -- `--rank` and a rank
-  rank : ℕ → Item
-
--- the option that decides by this word
-abbrev pub option_of : Word → List ℕ
-option_of Accept = codes "--accept"
-option_of Reject = codes "--reject"
-option_of Withdraw = codes "--withdraw"
-
--- the option of a lock
-abbrev pub lock_option : Lock → List ℕ
-lock_option (Author name) = codes "--lock"
-lock_option (Kind of_kind) = codes "--lock-kind"
-lock_option (Span start end) = codes "--lock-span"
-
--- the words of an item
-abbrev pub item_words : Item → List (List ℕ)
-item_words (format name) = codes "--format" ∷ name ∷ []
-item_words (lock text of_lock) = lock_option of_lock ∷ text ∷ []
-item_words (journal name) = name ∷ []
-item_words (named_journal name) = codes "--journal" ∷ name ∷ []
-item_words (choice word text selection) = option_of word ∷ text ∷ []
-item_words (rank number) = codes "--rank" ∷ decimal number ∷ []
-
--- the commands that have items
-pub data Form : Type 0 where
-  of_list : Form
-  of_write : Form
-  of_decide : Form
-
--- The command may have the item, and the item is well formed.
-abbrev pub Admits : Form → Item → Type 0
-Admits of_list (format name) = Unit {0}
-Admits of_list (lock text of_lock) = MeansLock text of_lock
-Admits of_list (journal name) = IsTrue (is_name name)
-Admits of_write (lock text of_lock) = MeansLock text of_lock
-Admits of_write (journal name) = IsTrue (is_name name)
-Admits of_decide (lock text of_lock) = MeansLock text of_lock
-Admits of_decide (named_journal name) = IsTrue (is_name name)
-Admits of_decide (choice word text selection) = Means text selection
-Admits of_decide (rank number) = number ≤ 9
-Admits _ _ = ⊥
-
--- ---- what items say, in their order
-
-abbrev pub formats_of : List Item → List (List ℕ)
-formats_of [] = []
-formats_of (format name ∷ items) = name ∷ formats_of items
-formats_of (_ ∷ items) = formats_of items
-
-abbrev pub locks_of : List Item → List Lock
-locks_of [] = []
-locks_of (lock text of_lock ∷ items) = of_lock ∷ locks_of items
-locks_of (_ ∷ items) = locks_of items
-
-abbrev pub journals_of : List Item → List (List ℕ)
-journals_of [] = []
-journals_of (journal name ∷ items) = name ∷ journals_of items
-journals_of (named_journal name ∷ items) = name ∷ journals_of items
-journals_of (_ ∷ items) = journals_of items
-
-abbrev pub choices_of : List Item → List (Word × Selection)
-choices_of [] = []
-choices_of (choice word text selection ∷ items) = (word, selection) ∷ choices_of items
-choices_of (_ ∷ items) = choices_of items
-
-abbrev pub ranks_of : List Item → List ℕ
-ranks_of [] = []
-ranks_of (rank number ∷ items) = number ∷ ranks_of items
-ranks_of (_ ∷ items) = ranks_of items
-
--- The words are those of these items, in any order and with repeats, and the command may have each of them.
-pub record AreItems (form : Form) (words : List (List ℕ)) (items : List Item) : Type 0 where
-  pub written : words ≡ flat_map item_words items
-  pub admitted : All (Admits form) items
-
--- ---- commands
+-- ---- the words of each
 
 -- the word for the say of `settle`
 abbrev pub say_word : Bool → List ℕ
@@ -155,6 +61,16 @@ pub record IsList (words : List (List ℕ)) (p name : List ℕ) (locks : List Lo
   pub package_name : IsTrue (is_name p)
   pub are_items : AreItems of_list rest items
   pub format : ((formats_of items ≡ []) × (name ≡ codes "text")) ⊎ (formats_of items ≡ name ∷ [])
+  pub locks_are : locks ≡ locks_of items
+  pub journals_are : journals ≡ journals_of items
+
+-- `page P` and the items that `write` may have
+pub record IsPage (words : List (List ℕ)) (p : List ℕ) (locks : List Lock) (journals : List (List ℕ)) : Type 0 where
+  pub items : List Item
+  pub rest : List (List ℕ)
+  pub written : words ≡ codes "page" ∷ p ∷ rest
+  pub package_name : IsTrue (is_name p)
+  pub are_items : AreItems of_write rest items
   pub locks_are : locks ≡ locks_of items
   pub journals_are : journals ≡ journals_of items
 
@@ -203,6 +119,7 @@ abbrev pub IsCommand : List (List ℕ) → Command → Type 0
 IsCommand words (settle accept p) = IsSettle words accept p
 IsCommand words (view_text p view) = IsText words p view
 IsCommand words (list p name locks journals) = IsList words p name locks journals
+IsCommand words (page p locks journals) = IsPage words p locks journals
 IsCommand words (write p locks journals) = IsWrite words p locks journals
 IsCommand words (decide p reviewer journals locks choices number) = IsDecide words p reviewer journals locks choices number
 IsCommand words (join journals) = IsJoin words journals
@@ -224,6 +141,7 @@ abbrev pub HasUtf8 : Command → Type 0
 HasUtf8 (settle accept p) = IsUtf8 p
 HasUtf8 (view_text p view) = IsUtf8 p
 HasUtf8 (list p name locks journals) = IsUtf8 p × IsUtf8 name × All LockHasUtf8 locks × All IsUtf8 journals
+HasUtf8 (page p locks journals) = IsUtf8 p × All LockHasUtf8 locks × All IsUtf8 journals
 HasUtf8 (write p locks journals) = IsUtf8 p × All LockHasUtf8 locks × All IsUtf8 journals
 HasUtf8 (decide p reviewer journals locks choices number) = IsUtf8 p × IsReviewer reviewer × All IsUtf8 journals × All LockHasUtf8 locks × (number ≤ 9)
 HasUtf8 (join journals) = All IsUtf8 journals

@@ -32,6 +32,12 @@ pub enum Command {
         locks: Vec<Lock>,
         journals: Vec<Text>,
     },
+    /// A page of the package's revisions, on which a reviewer decides in a browser.
+    Page {
+        package: Text,
+        locks: Vec<Lock>,
+        journals: Vec<Text>,
+    },
     /// The package under the joined verdicts of the journals.
     Write {
         package: Text,

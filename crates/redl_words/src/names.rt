@@ -2,7 +2,7 @@
 
 ghost use Rattle.std.specs.Prelude.{◌≡◌, ◌++◌, ◌∷◌, [], OnOk, IfOk};
 ghost use Rattle.std.specs.List.{list_all};
-ghost use Rattle.redl_words.specs.Commands.{is_name};
+ghost use Rattle.redl_words.specs.Items.{is_name};
 ghost use Rattle.redl_words.specs.Reading.Answers.{Finds};
 ghost use Rattle.redl_words.specs.Reading.Commands.{names_in};
 

@@ -3,7 +3,7 @@
 ghost use Rattle.std.specs.Prelude.{◌≡◌, All, IfOk, IsErrOf, IsUtf8};
 ghost use Rattle.redl_words.specs.Commands.{HasNoCommand, HasUtf8, IsCommand};
 ghost use Rattle.redl_words.specs.Reading.Answers.{Finds};
-ghost use Rattle.redl_words.specs.Reading.Commands.{check_in, command_in, decide_in, format_or_text, rank_or_0, join_in, list_in, sample_in, say_in, settle_in, text_in, text_with, view_in, write_in};
+ghost use Rattle.redl_words.specs.Reading.Commands.{check_in, command_in, decide_in, format_or_text, rank_or_0, join_in, list_in, page_in, sample_in, say_in, settle_in, text_in, text_with, view_in, write_in};
 ghost use Rattle.redl_words.specs.Views.{command_of};
 
 use crate::command::{Command, View};
@@ -43,6 +43,7 @@ fn read_command(alloc: Global, words: &[Text]) -> Result<Command, WordsError>
         Some(Verb::Settle) => read_settle(alloc, rest),
         Some(Verb::Text) => read_text(alloc, rest),
         Some(Verb::List) => read_list(alloc, rest),
+        Some(Verb::Page) => read_page(alloc, rest),
         Some(Verb::Write) => read_write(alloc, rest),
         Some(Verb::Decide) => read_decide(alloc, rest),
         Some(Verb::Join) => read_join(alloc, rest),
@@ -159,6 +160,27 @@ fn format_or_text(alloc: Global, format: Option<Text>) -> Result<Text, AllocErro
         Some(name) => Ok(name),
         None => Text::copy_of(alloc, b"text"),
     }
+}
+
+/// The words after `page`.
+#[tactic(auto, unfolding(crate::specs::Reading::Commands::page_in))]
+fn read_page(alloc: Global, words: &[Text]) -> Result<Command, WordsError>
+    requires { All IsUtf8 words.now }
+    ensures { Finds command_of result (page_in words.now) }
+{
+    let [package, rest @ ..] = words else {
+        return Err(WordsError::Usage);
+    };
+    if !is_file_name(package.as_bytes()) {
+        return Err(WordsError::Usage);
+    }
+    let items = read_items(alloc, Form::Write, rest)?;
+    let package = package.copy(alloc)?;
+    Ok(Command::Page {
+        package,
+        locks: items.locks,
+        journals: items.journals,
+    })
 }
 
 /// The words after `write`.

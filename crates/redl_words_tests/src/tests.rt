@@ -122,6 +122,16 @@ fn list_shown(
     with_texts(alloc, front.as_str(), locks, journals)
 }
 
+fn page_shown(
+    alloc: Global,
+    package: &Text,
+    locks: &[Lock],
+    journals: &[Text],
+) -> Result<String, AllocError> {
+    let front = format!(in alloc; "page {}", shown(package))?;
+    with_texts(alloc, front.as_str(), locks, journals)
+}
+
 fn write_shown(
     alloc: Global,
     package: &Text,
@@ -149,6 +159,11 @@ fn command_shown(alloc: Global, command: &Command) -> Result<String, AllocError>
             locks,
             journals,
         } => list_shown(alloc, (package, format), locks, journals),
+        Command::Page {
+            package,
+            locks,
+            journals,
+        } => page_shown(alloc, package, locks, journals),
         Command::Write {
             package,
             locks,
@@ -190,7 +205,7 @@ fn line_told(alloc: Global, line: &str) -> Result<String, AllocError> {
 }
 
 // Lines, and what they ask for.
-const COMMANDS: [(&str, &str); 23] = [
+const COMMANDS: [(&str, &str); 27] = [
     ("settle|accept|P", "settle true P"),
     ("settle|reject|P", "settle false P"),
     ("text|P", "text P Final"),
@@ -208,6 +223,11 @@ const COMMANDS: [(&str, &str); 23] = [
     (
         "list|P|--lock-kind|move|--lock-span|2024-05-06T07:08:09Z/2024-05-06T07:08:10Z|--lock|--lock-kind|J",
         "list P as text locks kind Move,span 1714979289 1714979290,--lock-kind, journals J,",
+    ),
+    ("page|P", "page P locks  journals "),
+    (
+        "page|P|J|--lock|Cy & Co|--lock-kind|row-ins|K|J",
+        "page P locks Cy & Co,kind Row(Ins), journals J,K,J,",
     ),
     ("write|P", "write P locks  journals "),
     (
@@ -267,7 +287,7 @@ fn lines_of_each_command(rt: HostRuntime) -> Result<(), Fail> {
 }
 
 // Lines that are those of no command.
-const NO_COMMANDS: [&str; 69] = [
+const NO_COMMANDS: [&str; 72] = [
     "text",
     "text|--view|final",
     "text|P|--view",
@@ -294,6 +314,9 @@ const NO_COMMANDS: [&str; 69] = [
     "list|P|",
     "list|--format|tab|P",
     "list|P|--|J",
+    "page",
+    "page|P|--format|tab",
+    "page|P|--journal|J",
     "write|--lock|A|P",
     "write|P|--lock",
     "write|P|--lock=A|J",

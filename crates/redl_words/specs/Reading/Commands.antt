@@ -12,7 +12,8 @@ use Rattle.redl_words.specs.declared.verb.Verb.{Verb}
 use Rattle.redl_words.specs.declared.verb.Verb.TheVariants as verbs
 use Rattle.redl_words.specs.declared.command.View.{View}
 use Rattle.redl_words.specs.declared.command.View.TheVariants.{Original, Final, Marked}
-use Rattle.redl_words.specs.Commands.{Command, settle, view_text, list, write, decide, join, check, sample, is_name, say_word, view_name}
+use Rattle.redl_words.specs.Commands.{Command, settle, view_text, list, page, write, decide, join, check, sample, say_word, view_name}
+use Rattle.redl_words.specs.Items.{is_name}
 use Rattle.redl_words.specs.Reading.Items.{nothing, gathered}
 
 unfoldable pub verb_in : List ℕ → Option Verb
@@ -20,6 +21,7 @@ verb_in word =
     if bytes_eq word (codes "settle") then Some verbs.Settle
     else if bytes_eq word (codes "text") then Some verbs.Text
     else if bytes_eq word (codes "list") then Some verbs.List
+    else if bytes_eq word (codes "page") then Some verbs.Page
     else if bytes_eq word (codes "write") then Some verbs.Write
     else if bytes_eq word (codes "decide") then Some verbs.Decide
     else if bytes_eq word (codes "join") then Some verbs.Join
@@ -63,6 +65,10 @@ list_in [] = None
 list_in (p ∷ rest) =
     if is_name p then option_map (λ items. list p (format_or_text items.format) items.locks items.journals) (gathered forms.List nothing rest) else None
 
+unfoldable pub page_in : List (List ℕ) → Option Command
+page_in [] = None
+page_in (p ∷ rest) = if is_name p then option_map (λ items. page p items.locks items.journals) (gathered forms.Write nothing rest) else None
+
 unfoldable pub write_in : List (List ℕ) → Option Command
 write_in [] = None
 write_in (p ∷ rest) = if is_name p then option_map (λ items. write p items.locks items.journals) (gathered forms.Write nothing rest) else None
@@ -105,6 +111,7 @@ abbrev pub command_with : Verb → List (List ℕ) → Option Command
 command_with verbs.Settle rest = settle_in rest
 command_with verbs.Text rest = text_in rest
 command_with verbs.List rest = list_in rest
+command_with verbs.Page rest = page_in rest
 command_with verbs.Write rest = write_in rest
 command_with verbs.Decide rest = decide_in rest
 command_with verbs.Join rest = join_in rest

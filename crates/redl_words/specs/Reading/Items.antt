@@ -15,7 +15,7 @@ use Rattle.redl_words.specs.declared.options.Locked.TheVariants as locked
 use Rattle.redl_words.specs.declared.options.ItemOption.{ItemOption}
 use Rattle.redl_words.specs.declared.options.ItemOption.TheVariants as options
 use Rattle.redl_words.specs.declared.items.Items as code
-use Rattle.redl_words.specs.Commands.{is_name, option_of}
+use Rattle.redl_words.specs.Items.{is_name, option_of}
 use Rattle.redl_words.specs.Views.{choices_view}
 use Rattle.redl_words.specs.Reading.Answers.{Fails}
 use Rattle.redl_words.specs.Reading.Locks.{lock_in}

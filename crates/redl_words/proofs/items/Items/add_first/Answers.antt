@@ -1,5 +1,5 @@
 use Rattle.std.proofs.Common.{◌≡◌, ◌∷◌, ℕ, true, false, List, sym, ap, ◌∙◌}
-use Rattle.redl_words.specs.Commands.{is_name}
+use Rattle.redl_words.specs.Items.{is_name}
 use Rattle.redl_words.specs.Reading.Items.{gathered, items_view}
 use Rattle.redl_words.proofs.ItemLaws.{goes_plain, goes_pair, stops_short, fails_plain, fails_pair, goes_fails, later_utf8, empty_list}
 use Rattle.redl_words.proofs.items.Items.add_first.Goals as goal
