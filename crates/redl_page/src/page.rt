@@ -30,8 +30,8 @@ pub struct Skin<'a> {
 /// What a page shows: a package whose revisions are numbered, its revisions, which of them are locked, the book of its journals, and
 /// the digest of its text.
 #[derive(Clone, Copy)]
-pub struct Shown<'a> {
-    pub package: &'a Package<'a>,
+pub struct Shown<'a, 'b> {
+    pub package: &'a Package<'b>,
     pub index: &'a Index,
     pub locked: &'a [bool],
     pub book: &'a Book,
@@ -54,7 +54,7 @@ const AFTER_SCRIPT: &[u8] = b"</script>\n</body>\n</html>\n";
 /// once over the revisions, and takes no memory. `Failed` comes only where the sink failed, which then has only a prefix.
 pub fn write_page<K: Sink>(
     skin: &Skin<'_>,
-    page: &Shown<'_>,
+    page: &Shown<'_, '_>,
     words: &LastWords<'_>,
     out: &mut K,
 ) -> Result<(), Failed>
@@ -79,7 +79,7 @@ fn put_end<K: Sink>(skin: &Skin<'_>, out: &mut K) -> Result<(), Failed>
     put_pieces(&[skin.script, AFTER_SCRIPT], out)
 }
 
-fn put_body<K: Sink>(page: &Shown<'_>, words: &LastWords<'_>, out: &mut K) -> Result<(), Failed>
+fn put_body<K: Sink>(page: &Shown<'_, '_>, words: &LastWords<'_>, out: &mut K) -> Result<(), Failed>
     requires words { (rev : ℕ) → words_on words.now rev ≡ last_words page.now.book.now rev }
     requires locked { length page.now.locked.now ≡ length page.now.index.now }
     ensures { Puts K.told K.faults K.settled K.lenders out.old out.new (pieces_text (body (shown_by page.now))) result }
@@ -121,7 +121,7 @@ fn digits(digest: &[u8; 32]) -> [u8; 64]
     digits
 }
 
-fn put_lists<K: Sink>(page: &Shown<'_>, words: &LastWords<'_>, out: &mut K) -> Result<(), Failed>
+fn put_lists<K: Sink>(page: &Shown<'_, '_>, words: &LastWords<'_>, out: &mut K) -> Result<(), Failed>
     requires words { (rev : ℕ) → words_on words.now rev ≡ last_words page.now.book.now rev }
     requires locked { length page.now.locked.now ≡ length page.now.index.now }
     ensures { Puts K.told K.faults K.settled K.lenders out.old out.new (pieces_text (lists (shown_by page.now))) result }

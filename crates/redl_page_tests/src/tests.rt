@@ -1,0 +1,171 @@
+//! Pages of small packages, some of whose texts try to be markup.
+
+use redl_index::Index;
+use redl_io::MemSink;
+use redl_join::Book;
+use redl_journal::read;
+use redl_opc::Package;
+use redl_page::{Shown, Skin, put_document, write_page};
+use std::alloc::{AllocError, Global};
+use std::test::Fail;
+
+/// The text of the package with these parts, each with its name.
+fn package_text(alloc: Global, parts: &[(&str, &str)]) -> Result<String, AllocError> {
+    let mut text = String::from_str(
+        alloc,
+        "<pkg:package xmlns:pkg='http://schemas.microsoft.com/office/2006/xmlPackage' xmlns:w='http://schemas.openxmlformats.org/wordprocessingml/2006/main' xmlns:mc='urn:mc'>",
+    )?;
+    for (name, part) in parts {
+        let part = format!(in alloc;
+            "<pkg:part pkg:name='{name}' pkg:contentType='x/y'><pkg:xmlData>{part}</pkg:xmlData></pkg:part>"
+        )?;
+        text.push_str(part.as_str())?;
+    }
+    text.push_str("</pkg:package>")?;
+    Ok(text)
+}
+
+/// The stories of a package with these parts, as they stand in its page.
+fn document_of(alloc: Global, parts: &[(&str, &str)]) -> Result<MemSink, Fail> {
+    let text = package_text(alloc, parts)?;
+    let mut package = Package::make(alloc, redl_xml::read(alloc, text.as_bytes())?)?;
+    let index = Index::build(alloc, &mut package)?;
+    let mut out = MemSink::new(alloc, 4096, Vec::new(alloc))?;
+    put_document(&package, &index, &mut out)?;
+    Ok(out)
+}
+
+const DOCUMENTS: [(&[(&str, &str)], &str); 6] = [
+    // texts that try to be script, close a tag, or break out of an attribute
+    (
+        &[
+            (
+                "/a",
+                "<w:document><w:p><w:ins w:author='&quot;&gt;&lt;script&gt;alert(1)&lt;/script&gt;'><w:r><w:t>&lt;/p&gt;&amp;&apos;</w:t></w:r></w:ins></w:p></w:document>",
+            ),
+            ("/b&quot; onclick=&quot;x", "<w:hdr><w:p/></w:hdr>"),
+        ],
+        "<section>\n<p><ins class=\"text\" data-revision=\"1\" data-author=\"&quot;&gt;&lt;script&gt;alert(1)&lt;/script&gt;\">&lt;/p&gt;&amp;&#39;</ins></p>\n</section>\n<section>\n<h2>/b&quot; onclick=&quot;x</h2>\n<p></p>\n</section>\n",
+    ),
+    // a paragraph whose end is deleted, with a deletion in it
+    (
+        &[(
+            "/a",
+            "<w:document><w:p><w:pPr><w:rPr><w:del w:author='A'/></w:rPr></w:pPr><w:r><w:t>x</w:t></w:r><w:del w:author='B'><w:r><w:delText>y</w:delText></w:r></w:del></w:p></w:document>",
+        )],
+        "<section>\n<p>x<del class=\"text\" data-revision=\"2\" data-author=\"B\">y</del><del class=\"mark\" data-revision=\"1\" data-author=\"A\">&para;</del></p>\n</section>\n",
+    ),
+    // a row, a cell, and changes of properties
+    (
+        &[(
+            "/a",
+            "<w:document><w:tbl><w:tblPr><w:tblPrChange w:author='A'/></w:tblPr><w:tr><w:trPr><w:ins w:author='B'/></w:trPr><w:tc><w:tcPr><w:cellDel w:author='C'/></w:tcPr><w:p><w:r><w:rPr><w:rPrChange w:author='D'/></w:rPr><w:tab/></w:r></w:p></w:tc></w:tr></w:tbl></w:document>",
+        )],
+        "<section>\n<table>\n<caption><span class=\"props\" data-revision=\"1\" data-author=\"A\">table-props</span></caption><tr><td class=\"edge\"><ins class=\"row\" data-revision=\"2\" data-author=\"B\">row</ins></td><td><del class=\"cell\" data-revision=\"3\" data-author=\"C\">cell</del><p><span class=\"props\" data-revision=\"4\" data-author=\"D\">run-props</span>\t</p>\n</td></tr>\n</table>\n</section>\n",
+    ),
+    // a move within a paragraph
+    (
+        &[(
+            "/a",
+            "<w:document><w:p><w:moveFromRangeStart w:id='1' w:name='m' w:author='A'/><w:moveFrom><w:r><w:t>x</w:t></w:r></w:moveFrom><w:moveFromRangeEnd w:id='1'/><w:moveToRangeStart w:id='2' w:name='m'/><w:moveTo><w:r><w:t>x</w:t></w:r></w:moveTo><w:moveToRangeEnd w:id='2'/></w:p></w:document>",
+        )],
+        "<section>\n<p><a id=\"from-1\" href=\"#to-1\" data-revision=\"1\" data-author=\"A\">moved away</a><del class=\"text move\" data-revision=\"1\" data-author=\"A\">x</del><a id=\"to-1\" href=\"#from-1\" data-revision=\"1\" data-author=\"A\">moved here</a><ins class=\"text move\" data-revision=\"1\" data-author=\"A\">x</ins></p>\n</section>\n",
+    ),
+    // content in two forms, and a paragraph in a text box
+    (
+        &[(
+            "/a",
+            "<w:document><w:p><w:r><mc:Choice><w:drawing><w:txbxContent><w:p/></w:txbxContent></w:drawing></mc:Choice><mc:Fallback><w:pict/></mc:Fallback></w:r></w:p></w:document>",
+        )],
+        "<section>\n<div class=\"p\"><span class=\"picture\">picture</span><span class=\"box\"><p></p>\n</span><details><summary>kept in another form</summary><span class=\"picture\">picture</span></details></div>\n</section>\n",
+    ),
+    // characters: references, CDATA, a comment, a hyphen that does not break, a line break, and a control character
+    (
+        &[(
+            "/a",
+            "<w:document><w:p><w:r><w:t>a<!-- n --><![CDATA[<b>]]>&#x85;</w:t><w:noBreakHyphen/><w:br/><w:instrText>i</w:instrText></w:r></w:p></w:document>",
+        )],
+        "<section>\n<p>a&lt;b&gt;\u{FFFD}&#8209;<br></p>\n</section>\n",
+    ),
+];
+
+#[test]
+fn documents_are_written(rt: HostRuntime) -> Result<(), Fail> {
+    for (parts, want) in DOCUMENTS {
+        let got = document_of(rt.alloc(), parts)?;
+        assert!(rt;
+            got.bytes() == want.as_bytes(),
+            "{parts:?}: {:?}",
+            got.bytes()
+        );
+    }
+    Ok(())
+}
+
+const JOURNAL: &[u8] =
+    b"redline-journal 1\ndocument e3b0c44298fc1c149afbf4c8996fb92427ae41e4649b934ca495991b7852b855\nrevisions 1\n2\t1\taccept\tAnn & Co\n7\t1\treject\tBob\n";
+
+const WHOLE: &str =
+    "<!DOCTYPE html>\n<html lang=\"en\">\n<head>\n<meta charset=\"utf-8\">\n<meta http-equiv=\"Content-Security-Policy\" content=\"default-src 'none'\">\n<meta name=\"viewport\" content=\"width=device-width, initial-scale=1\">\n<title>Redline: changes to decide</title>\n<style>p{}</style>\n</head>\n<body data-document=\"e3b0c44298fc1c149afbf4c8996fb92427ae41e4649b934ca495991b7852b855\" data-revisions=\"1\">\n<main lang=\"\">\n<section>\n<p><ins class=\"text\" data-revision=\"1\" data-author=\"Eve\">x</ins></p>\n</section>\n</main>\n<aside aria-label=\"Changes\">\n<ol>\n<li id=\"revision-1\" data-kind=\"ins\" data-author=\"Eve\" data-date=\"2024-05-06T07:08:00Z\" data-verdict=\"disputed\" data-locked=\"yes\"><p data-word=\"accept\" data-rank=\"0\">Ann &amp; Co</p><p data-word=\"reject\" data-rank=\"0\">Bob</p></li>\n</ol>\n<ul>\n<li data-sequence=\"2\">Ann &amp; Co</li>\n<li data-sequence=\"7\">Bob</li>\n</ul>\n</aside>\n<script>1 < 2</script>\n</body>\n</html>\n";
+
+/// The book of the journal above.
+fn book_of(alloc: Global) -> Result<Book, Fail> {
+    let journal = read(alloc, JOURNAL)?;
+    let mut book = Book::new(alloc);
+    for entry in journal.entries {
+        book.add(entry)?;
+    }
+    Ok(book)
+}
+
+/// The page of the package with this document, whose one revision is locked, under this book.
+fn page_of(alloc: Global, book: &Book, digest: &[u8; 32]) -> Result<MemSink, Fail> {
+    let text = package_text(
+        alloc,
+        &[(
+            "/a",
+            "<w:document><w:p><w:ins w:author='Eve' w:date='2024-05-06T07:08:00Z'><w:r><w:t>x</w:t></w:r></w:ins></w:p></w:document>",
+        )],
+    )?;
+    let mut package = Package::make(alloc, redl_xml::read(alloc, text.as_bytes())?)?;
+    let index = Index::build(alloc, &mut package)?;
+    let mut out = MemSink::new(alloc, 4096, Vec::new(alloc))?;
+    put_page(&package, &index, book, digest, &mut out)?;
+    Ok(out)
+}
+
+fn put_page(
+    package: &Package,
+    index: &Index,
+    book: &Book,
+    digest: &[u8; 32],
+    out: &mut MemSink,
+) -> Result<(), Fail> {
+    let skin = Skin {
+        policy: b"default-src 'none'",
+        style: b"p{}",
+        script: b"1 < 2",
+    };
+    if index.count() != 1 {
+        return Ok(());
+    }
+    let words = book.last_words()?;
+    let page = Shown {
+        package,
+        index,
+        locked: &[true],
+        book,
+        digest,
+    };
+    write_page(&skin, &page, &words, out)?;
+    Ok(())
+}
+
+#[test]
+fn a_whole_page_is_written(rt: HostRuntime) -> Result<(), Fail> {
+    let book = book_of(rt.alloc())?;
+    let journal = read(rt.alloc(), JOURNAL)?;
+    let got = page_of(rt.alloc(), &book, &journal.digest)?;
+    assert!(rt; got.bytes() == WHOLE.as_bytes(), "{:?}", got.bytes());
+    Ok(())
+}
