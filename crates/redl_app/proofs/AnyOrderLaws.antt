@@ -9,8 +9,10 @@ use Rattle.redl_app.specs.AnyOrder.{OrderDoesNotCount, with_journals}
 use Rattle.redl_app.specs.Commands.Decide.{book_written, with_choices}
 use Rattle.redl_app.specs.Commands.Join.{book_text, document_in, joined, union_of}
 use Rattle.redl_app.specs.Commands.List.{listed, listing_named}
+use Rattle.redl_app.specs.Commands.Page.{page_of}
 use Rattle.redl_app.specs.Commands.Write.{resolved}
-use Rattle.redl_app.specs.Formats.{Format, has_format}
+use Rattle.redl_app.specs.Brought.{Brought}
+use Rattle.redl_app.specs.Formats.{has_format}
 use Rattle.redl_app.specs.Outcome.{carried_out, writing_of}
 use Rattle.redl_app.specs.Plans.{plan}
 use Rattle.redl_app.specs.Writing.{Writing, only_bytes, outcome_of}
@@ -31,7 +33,7 @@ use Rattle.redl_journal.specs.declared.entry.Entry.{Entry}
 use Rattle.redl_lines.specs.Failures.{Failure}
 use Rattle.redl_lines.specs.declared.failure.Limit.TheVariants.{JournalBytes}
 use Rattle.redl_select.specs.declared.lock.Lock.{Lock}
-use Rattle.redl_words.specs.Commands.{Command, settle, view_text, list, write, decide, join, check, sample}
+use Rattle.redl_words.specs.Commands.{Command, settle, view_text, list, page, write, decide, join, check, sample}
 
 -- what a command makes of the session over its package, and of the journals
 after_opening : (reader : Reader) (files : Files) (locks : List Lock) (names others : List (List ℕ)) (p : List ℕ) (next : Admission → Result Writing Failure) (one other : Writing) → AreSame names others
@@ -199,26 +201,28 @@ joins_same reader files most (name ∷ names) (second ∷ others) one other same
 
 -- ---- every command
 
-carried_same : (reader : Reader) (files : Files) (formats : List Format) (command : Command) (names others : List (List ℕ)) (one other : Writing) → AreSame names others
-    → carried_out reader files formats (plan (with_journals names command)) ≡ Ok one → carried_out reader files formats (plan (with_journals others command)) ≡ Ok other → one ≡ other
-carried_same reader files formats (settle accept p) names others one other same is too = same_ok (sym is ∙ too)
-carried_same reader files formats (view_text p view) names others one other same is too = same_ok (sym is ∙ too)
-carried_same reader files formats (list p format locks journals) names others one other same is too =
-    let first = both_ok (has_format formats (Some format)) (λ there. package_file files p >>= (λ whole. listed reader files formats format locks names whole)) one is in
-    let again = both_ok (has_format formats (Some format)) (λ there. package_file files p >>= (λ whole. listed reader files formats format locks others whole)) other too in
-    after_opening reader files locks names others p (λ admission. listing_named formats format admission) one other same first.second again.second
-carried_same reader files formats (write p locks journals) names others one other same is too =
+carried_same : (reader : Reader) (files : Files) (brought : Brought) (command : Command) (names others : List (List ℕ)) (one other : Writing) → AreSame names others
+    → carried_out reader files brought (plan (with_journals names command)) ≡ Ok one → carried_out reader files brought (plan (with_journals others command)) ≡ Ok other → one ≡ other
+carried_same reader files brought (settle accept p) names others one other same is too = same_ok (sym is ∙ too)
+carried_same reader files brought (view_text p view) names others one other same is too = same_ok (sym is ∙ too)
+carried_same reader files brought (list p format locks journals) names others one other same is too =
+    let first = both_ok (has_format brought.formats (Some format)) (λ there. package_file files p >>= (λ whole. listed reader files brought.formats format locks names whole)) one is in
+    let again = both_ok (has_format brought.formats (Some format)) (λ there. package_file files p >>= (λ whole. listed reader files brought.formats format locks others whole)) other too in
+    after_opening reader files locks names others p (λ admission. listing_named brought.formats format admission) one other same first.second again.second
+carried_same reader files brought (page p locks journals) names others one other same is too =
+    after_opening reader files locks names others p (λ admission. Ok (page_of brought.skin locks admission)) one other same is too
+carried_same reader files brought (write p locks journals) names others one other same is too =
     after_opening reader files locks names others p (λ admission. Ok (resolved admission)) one other same is too
-carried_same reader files formats (decide p reviewer journals locks choices rank) names others one other same is too =
+carried_same reader files brought (decide p reviewer journals locks choices rank) names others one other same is too =
     after_opening reader files locks names others p (λ before. with_choices reviewer rank choices before >>= (λ admission. Ok (book_written admission))) one other same is too
-carried_same reader files formats (join journals) names others one other same is too = joins_same reader files journal_bytes names others one other same is too
-carried_same reader files formats (check p) names others one other same is too = same_ok (sym is ∙ too)
-carried_same reader files formats (sample number) names others one other same is too = same_ok (sym is ∙ too)
+carried_same reader files brought (join journals) names others one other same is too = joins_same reader files journal_bytes names others one other same is too
+carried_same reader files brought (check p) names others one other same is too = same_ok (sym is ∙ too)
+carried_same reader files brought (sample number) names others one other same is too = same_ok (sym is ∙ too)
 
-pub order_does_not_count : (reader : Reader) (files : Files) (formats : List Format) → OrderDoesNotCount reader files formats
-order_does_not_count reader files formats words others command names more same is too written again =
-    let one = is_made (writing_of reader files formats (reader.command words)) written in
-    let other = is_made (writing_of reader files formats (reader.command others)) again in
-    let first : writing_of reader files formats (Some (with_journals names command)) ≡ Ok one.0 = ap (writing_of reader files formats) (sym is) ∙ one.1 in
-    let second : writing_of reader files formats (Some (with_journals more command)) ≡ Ok other.0 = ap (writing_of reader files formats) (sym too) ∙ other.1 in
-    ap outcome_of (one.1 ∙ ap Ok (carried_same reader files formats command names more one.0 other.0 same first second) ∙ sym other.1)
+pub order_does_not_count : (reader : Reader) (files : Files) (brought : Brought) → OrderDoesNotCount reader files brought
+order_does_not_count reader files brought words others command names more same is too written again =
+    let one = is_made (writing_of reader files brought (reader.command words)) written in
+    let other = is_made (writing_of reader files brought (reader.command others)) again in
+    let first : writing_of reader files brought (Some (with_journals names command)) ≡ Ok one.0 = ap (writing_of reader files brought) (sym is) ∙ one.1 in
+    let second : writing_of reader files brought (Some (with_journals more command)) ≡ Ok other.0 = ap (writing_of reader files brought) (sym too) ∙ other.1 in
+    ap outcome_of (one.1 ∙ ap Ok (carried_same reader files brought command names more one.0 other.0 same first second) ∙ sym other.1)

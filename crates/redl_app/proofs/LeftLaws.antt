@@ -8,7 +8,7 @@ use Rattle.redl_app.proofs.TopLaws.{by_cause}
 use Rattle.redl_inputs.specs.Admission.{Admission, admission_with, no_admission, opened_over, opened}
 use Rattle.redl_app.specs.Commands.Settle.{passed_text, same_says, settled, settling}
 use Rattle.redl_app.specs.Commands.Write.{resolved, written}
-use Rattle.redl_app.specs.Formats.{Format}
+use Rattle.redl_app.specs.Brought.{Brought}
 use Rattle.redl_inputs.specs.Journals.{document_of, gathered}
 use Rattle.redl_app.specs.Outcome.{carried_out, outcome, writing_of}
 use Rattle.redl_app.specs.Plans.{Plan, plan}
@@ -18,7 +18,7 @@ use Rattle.redl_inputs.proofs.StepLaws.{both_ok, same_ok, same_some}
 use Rattle.redl_inputs.specs.Readers.{Reader}
 use Rattle.redl_inputs.specs.Steps.{◌>>=◌}
 use Rattle.redl_app.specs.Writing.{Outcome, Writing, only_bytes, outcome_of}
-use Rattle.redl_words.specs.Commands.{Command, settle, view_text, list, write, decide, join, check, sample}
+use Rattle.redl_words.specs.Commands.{Command, settle, view_text, list, page, write, decide, join, check, sample}
 use Rattle.redl_io.specs.Limits.{journal_bytes}
 use Rattle.redl_index.specs.Numbers.{numbered_package}
 use Rattle.redl_io.specs.Shelf.{Files}
@@ -99,9 +99,9 @@ left_by reader files plan name bytes whole nodes says file original decided writ
       (numbered_sound attribute_value has_id declares nodes (sound_package reader whole nodes original));
 }
 
-leaves_settled : (reader : Reader) (files : Files) (formats : List Format) (accept : Bool) (name : List ℕ) (writing : Writing)
-    → carried_out reader files formats (plan (settle accept name)) ≡ Ok writing → IsLeft reader files (plan (settle accept name)) name writing.bytes
-leaves_settled reader files formats accept name writing is =
+leaves_settled : (reader : Reader) (files : Files) (brought : Brought) (accept : Bool) (name : List ℕ) (writing : Writing)
+    → carried_out reader files brought (plan (settle accept name)) ≡ Ok writing → IsLeft reader files (plan (settle accept name)) name writing.bytes
+leaves_settled reader files brought accept name writing is =
     let text_ = both_ok (package_file files name) (λ whole. settled reader accept whole) writing is in
     let read = both_ok (package_in reader text_.x) (λ nodes. Ok (only_bytes (passed_text (same_says (settling accept) nodes) nodes))) writing text_.second in
     let made : writing ≡ only_bytes (passed_text (same_says (settling accept) read.x) read.x) = sym (same_ok read.second) in
@@ -116,9 +116,9 @@ opened_nodes reader files locks journals whole admission is =
     let entries = both_ok (gathered reader files (document_of whole read.x) journal_bytes journals) (λ entries. Ok (admission_with (no_admission whole read.x locks) entries)) admission read.second in
     (read.x, read.first, ap (λ (a : Admission). a.state.nodes) (sym (same_ok entries.second)))
 
-leaves_written : (reader : Reader) (files : Files) (formats : List Format) (name : List ℕ) (locks : List Lock) (journals : List (List ℕ)) (writing : Writing)
-    → carried_out reader files formats (plan (write name locks journals)) ≡ Ok writing → IsLeft reader files (plan (write name locks journals)) name writing.bytes
-leaves_written reader files formats name locks journals writing is =
+leaves_written : (reader : Reader) (files : Files) (brought : Brought) (name : List ℕ) (locks : List Lock) (journals : List (List ℕ)) (writing : Writing)
+    → carried_out reader files brought (plan (write name locks journals)) ≡ Ok writing → IsLeft reader files (plan (write name locks journals)) name writing.bytes
+leaves_written reader files brought name locks journals writing is =
     let text_ = both_ok (package_file files name) (λ whole. written reader files locks journals whole) writing is in
     let made = both_ok (opened reader files locks journals text_.x) (λ admission. Ok (resolved admission)) writing text_.second in
     let over = opened_nodes reader files locks journals text_.x made.x made.first in
@@ -126,32 +126,33 @@ leaves_written reader files formats name locks journals writing is =
     left_by reader files (plan (write name locks journals)) name writing.bytes text_.x over.0 (says made.x.state)
     text_.first over.1 (made.x, made.first, refl) (bytes ∙ ap (λ nodes. text (pass_package (says made.x.state) nodes)) over.2)
 
-leaves : (reader : Reader) (files : Files) (formats : List Format) (command : Command) (name : List ℕ) (writing : Writing) → decided_package (plan command) ≡ Some name
-    → carried_out reader files formats (plan command) ≡ Ok writing → IsLeft reader files (plan command) name writing.bytes
-leaves reader files formats (settle accept other) name writing named is =
-    subst (λ n. IsLeft reader files (plan (settle accept other)) n writing.bytes) (same_some named) (leaves_settled reader files formats accept other writing is)
-leaves reader files formats (write other locks journals) name writing named is =
-    subst (λ n. IsLeft reader files (plan (write other locks journals)) n writing.bytes) (same_some named) (leaves_written reader files formats other locks journals writing is)
-leaves reader files formats (list other format locks journals) name writing named is = absurd (cc named)
-leaves reader files formats (decide other reviewer journals locks choices rank) name writing named is = absurd (cc named)
-leaves reader files formats (join journals) name writing named is = absurd (cc named)
-leaves reader files formats (view_text other view) name writing named is = absurd (cc named)
-leaves reader files formats (check other) name writing named is = absurd (cc named)
-leaves reader files formats (sample number) name writing named is = absurd (cc named)
+leaves : (reader : Reader) (files : Files) (brought : Brought) (command : Command) (name : List ℕ) (writing : Writing) → decided_package (plan command) ≡ Some name
+    → carried_out reader files brought (plan command) ≡ Ok writing → IsLeft reader files (plan command) name writing.bytes
+leaves reader files brought (settle accept other) name writing named is =
+    subst (λ n. IsLeft reader files (plan (settle accept other)) n writing.bytes) (same_some named) (leaves_settled reader files brought accept other writing is)
+leaves reader files brought (write other locks journals) name writing named is =
+    subst (λ n. IsLeft reader files (plan (write other locks journals)) n writing.bytes) (same_some named) (leaves_written reader files brought other locks journals writing is)
+leaves reader files brought (list other format locks journals) name writing named is = absurd (cc named)
+leaves reader files brought (page other locks journals) name writing named is = absurd (cc named)
+leaves reader files brought (decide other reviewer journals locks choices rank) name writing named is = absurd (cc named)
+leaves reader files brought (join journals) name writing named is = absurd (cc named)
+leaves reader files brought (view_text other view) name writing named is = absurd (cc named)
+leaves reader files brought (check other) name writing named is = absurd (cc named)
+leaves reader files brought (sample number) name writing named is = absurd (cc named)
 
-pub leaves_sound : (reader : Reader) (words : List (List ℕ)) (files : Files) (formats : List Format) → LeavesSound reader words files formats
-leaves_sound reader words files formats command name commands named written =
-    let made = is_made (writing_of reader files formats (reader.command words)) written in
-    let by_command : writing_of reader files formats (Some command) ≡ Ok made.0 = ap (writing_of reader files formats) (sym commands) ∙ made.1 in
-    subst (IsLeft reader files (plan command) name) (sym (ap (λ w. (outcome_of w).bytes) made.1)) (leaves reader files formats command name made.0 named by_command)
+pub leaves_sound : (reader : Reader) (words : List (List ℕ)) (files : Files) (brought : Brought) → LeavesSound reader words files brought
+leaves_sound reader words files brought command name commands named written =
+    let made = is_made (writing_of reader files brought (reader.command words)) written in
+    let by_command : writing_of reader files brought (Some command) ≡ Ok made.0 = ap (writing_of reader files brought) (sym commands) ∙ made.1 in
+    subst (IsLeft reader files (plan command) name) (sym (ap (λ w. (outcome_of w).bytes) made.1)) (leaves reader files brought command name made.0 named by_command)
 
 same_status : (ended : Status) (o : Outcome) (read_failed write_failed : Type 0) → IsAnswer ended o read_failed write_failed → IsWritten ended → IsWritten o.status
 same_status ended o read_failed write_failed answer (inl is) = inl (subst (λ s. IsAnswer s o read_failed write_failed) is answer)
 same_status ended o read_failed write_failed answer (inr is) = inr (subst (λ s. IsAnswer s o read_failed write_failed) is answer)
 
 -- a call that wrote all left what its outcome leaves
-pub leaves_package : (ended : Status) (told : Option Files) (words : List (List ℕ)) (formats : List Format) (read_failed write_failed : Type 0)
-    → OfOutcome told words formats (λ o. IsAnswer ended o read_failed write_failed) → Leaves ended told words formats
-leaves_package ended told words formats read_failed write_failed answers written command name is named files reader reads may =
-    leaves_sound reader words files formats command name (reads_command reader words command reads is) named
-    (same_status ended (outcome reader words files formats) read_failed write_failed (answers files reader reads may) written)
+pub leaves_package : (ended : Status) (told : Option Files) (words : List (List ℕ)) (brought : Brought) (read_failed write_failed : Type 0)
+    → OfOutcome told words brought (λ o. IsAnswer ended o read_failed write_failed) → Leaves ended told words brought
+leaves_package ended told words brought read_failed write_failed answers written command name is named files reader reads may =
+    leaves_sound reader words files brought command name (reads_command reader words command reads is) named
+    (same_status ended (outcome reader words files brought) read_failed write_failed (answers files reader reads may) written)

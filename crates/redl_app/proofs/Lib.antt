@@ -10,3 +10,5 @@ pub mod PartNameLaws
 pub mod LeftLaws
 pub mod AnyOrderLaws
 pub mod TextLaws
+pub mod LockLaws
+pub mod PageLaws

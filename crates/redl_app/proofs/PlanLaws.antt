@@ -3,7 +3,7 @@ use Rattle.std.proofs.Common.{◌≡◌, ℕ, List, [], ◌∷◌, ◌++◌, Opt
 use Rattle.std.proofs.lemmas.List.Elements.{Contains-append_left, Contains-append_right}
 use Rattle.std.specs.Option.{option_map}
 use Rattle.redl_app.specs.Files.{if_named}
-use Rattle.redl_app.specs.Formats.{Format}
+use Rattle.redl_app.specs.Brought.{Brought}
 use Rattle.redl_app.specs.Plans.{Making, of_package, of_no_package, package_of, made_by, made_with, IsTextFor}
 use Rattle.redl_app.specs.Writing.{Writing}
 use Rattle.redl_inputs.proofs.ReadLaws.{reads_then, reads_stops}
@@ -16,7 +16,7 @@ use Rattle.redl_lines.specs.Failures.{Failure}
 -- ---- the text
 
 -- where something is made of a package, its text is there
-pub text_is_there : {T : Type 0} (view : T → List ℕ) (name : List ℕ) (make : Reader → Files → List Format → List ℕ → Result Writing Failure) (text : Option T)
+pub text_is_there : {T : Type 0} (view : T → List ℕ) (name : List ℕ) (make : Reader → Files → Brought → List ℕ → Result Writing Failure) (text : Option T)
     → IsTextFor (of_package name make) (option_map view text) → IsSome text
 text_is_there view name make None given = absurd given
 text_is_there view name make (Some whole) given = refl
@@ -34,34 +34,34 @@ some_text (of_no_package make) name whole some = absurd (cc some)
 -- ---- the files
 
 -- what was made without a package
-pub reads_alone : {S : Type 0} {told : S → Option Files} {faults : S → ℕ} {old new : S} {made : Result Writing Failure} (formats : List Format) (makes : Making) (journals : List (List ℕ))
-    → package_of makes ≡ None → ReadsFiles told faults old new journals made (λ reader files. made_with reader files formats makes None)
-    → ReadsFiles told faults old new (if_named (package_of makes) ++ journals) made (λ reader files. made_by reader files formats makes)
-reads_alone formats (of_package name make) journals none step = absurd (cc none)
-reads_alone formats (of_no_package make) journals none step = step
+pub reads_alone : {S : Type 0} {told : S → Option Files} {faults : S → ℕ} {old new : S} {made : Result Writing Failure} (brought : Brought) (makes : Making) (journals : List (List ℕ))
+    → package_of makes ≡ None → ReadsFiles told faults old new journals made (λ reader files. made_with reader files brought makes None)
+    → ReadsFiles told faults old new (if_named (package_of makes) ++ journals) made (λ reader files. made_by reader files brought makes)
+reads_alone brought (of_package name make) journals none step = absurd (cc none)
+reads_alone brought (of_no_package make) journals none step = step
 
 same_name : {X : Type 0} {x y : X} → let given : Option X = Some x in given ≡ Some y → y ≡ x
 same_name is = cc
 
 -- what was made of a package's text that was fetched
-pub reads_package : {S : Type 0} {told : S → Option Files} {faults : S → ℕ} {old mid new : S} {made : Result Writing Failure} (formats : List Format) (makes : Making) (journals : List (List ℕ)) (name whole : List ℕ)
+pub reads_package : {S : Type 0} {told : S → Option Files} {faults : S → ℕ} {old mid new : S} {made : Result Writing Failure} (brought : Brought) (makes : Making) (journals : List (List ℕ)) (name whole : List ℕ)
     → package_of makes ≡ Some name → ReadsFiles told faults old mid (name ∷ []) (Ok whole) (λ reader files. package_file files name)
-    → ReadsFiles told faults mid new journals made (λ reader files. made_with reader files formats makes (Some whole))
-    → ReadsFiles told faults old new (if_named (package_of makes) ++ journals) made (λ reader files. made_by reader files formats makes)
-reads_package {told = told} {faults = faults} {old = old} {mid = mid} formats (of_package other make) journals name whole some first rest =
+    → ReadsFiles told faults mid new journals made (λ reader files. made_with reader files brought makes (Some whole))
+    → ReadsFiles told faults old new (if_named (package_of makes) ++ journals) made (λ reader files. made_by reader files brought makes)
+reads_package {told = told} {faults = faults} {old = old} {mid = mid} brought (of_package other make) journals name whole some first rest =
     let same : name ≡ other = same_name some in
-    reads_then (λ bytes reader files. make reader files formats bytes)
+    reads_then (λ bytes reader files. make reader files brought bytes)
     (subst (λ n. ReadsFiles told faults old mid (n ∷ []) (Ok whole) (λ reader files. package_file files n)) same first)
     (Contains-append_left (other ∷ []) journals) (Contains-append_right (other ∷ []) journals) rest
-reads_package formats (of_no_package make) journals name whole some first rest = absurd (cc some)
+reads_package brought (of_no_package make) journals name whole some first rest = absurd (cc some)
 
 -- a package that was not fetched
-pub reads_no_package : {S : Type 0} {told : S → Option Files} {faults : S → ℕ} {old new : S} {failure : Failure} (formats : List Format) (makes : Making) (journals : List (List ℕ)) (name : List ℕ)
+pub reads_no_package : {S : Type 0} {told : S → Option Files} {faults : S → ℕ} {old new : S} {failure : Failure} (brought : Brought) (makes : Making) (journals : List (List ℕ)) (name : List ℕ)
     → package_of makes ≡ Some name → ReadsFiles {Y = List ℕ} told faults old new (name ∷ []) (Err failure) (λ reader files. package_file files name)
-    → ReadsFiles {Y = Writing} told faults old new (if_named (package_of makes) ++ journals) (Err failure) (λ reader files. made_by reader files formats makes)
-reads_no_package {told = told} {faults = faults} {old = old} {new = new} {failure = failure} formats (of_package other make) journals name some first =
+    → ReadsFiles {Y = Writing} told faults old new (if_named (package_of makes) ++ journals) (Err failure) (λ reader files. made_by reader files brought makes)
+reads_no_package {told = told} {faults = faults} {old = old} {new = new} {failure = failure} brought (of_package other make) journals name some first =
     let same : name ≡ other = same_name some in
-    reads_stops (λ bytes reader files. make reader files formats bytes)
+    reads_stops (λ bytes reader files. make reader files brought bytes)
     (subst (λ n. ReadsFiles {Y = List ℕ} told faults old new (n ∷ []) (Err failure) (λ reader files. package_file files n)) same first)
     (Contains-append_left (other ∷ []) journals)
-reads_no_package formats (of_no_package make) journals name some first = absurd (cc some)
+reads_no_package brought (of_no_package make) journals name some first = absurd (cc some)

@@ -7,7 +7,7 @@ use Rattle.redl_inputs.proofs.FetchLaws.{if_false}
 use Rattle.redl_inputs.proofs.PackageLaws.{tree_read}
 use Rattle.redl_inputs.proofs.ReaderLaws.{reads_command}
 use Rattle.redl_app.specs.Commands.Sample.{sampled, summarized}
-use Rattle.redl_app.specs.Formats.{Format}
+use Rattle.redl_app.specs.Brought.{Brought}
 use Rattle.redl_app.specs.Outcome.{outcome, writing_of}
 use Rattle.redl_inputs.specs.Packages.{package_in, shaped, sound}
 use Rattle.redl_inputs.specs.Readers.{Reader, IsReader}
@@ -46,12 +46,12 @@ sample_is_package reader is number few =
     let read = tree_read reader (package_text number) it.nodes is it.reading it.shallow it.few in
     (it.nodes, ap (λ (tree : Result Nodes Failure). tree >>= (λ nodes. shaped nodes >>= sound)) read ∙ rw (it.shape, it.sound) refl)
 
-pub sample_is_written : (reader : Reader) → IsReader reader → (words : List (List ℕ)) (files : Files) (formats : List Format) (number : ℕ)
-    → IsCommand words (sample number) → number ≤ sample_paragraphs → (outcome reader words files formats).status ≡ status.Done
-sample_is_written reader is words files formats number command few =
+pub sample_is_written : (reader : Reader) → IsReader reader → (words : List (List ℕ)) (files : Files) (brought : Brought) (number : ℕ)
+    → IsCommand words (sample number) → number ≤ sample_paragraphs → (outcome reader words files brought).status ≡ status.Done
+sample_is_written reader is words files brought number command few =
     let package_ = sample_is_package reader is number few in
     let within : nat_lt sample_paragraphs number ≡ false = le-ltb sample_paragraphs number few in
-    ap (λ (c : Option Command). (outcome_of (writing_of reader files formats c)).status) (reads_command reader words (sample number) is command)
+    ap (λ (c : Option Command). (outcome_of (writing_of reader files brought c)).status) (reads_command reader words (sample number) is command)
     ∙ rw (within, package_.1) refl
 
 -- what is due of a sample within the limit

@@ -3,7 +3,7 @@ use Rattle.std.proofs.Common.{◌≡◌, ◌≢◌, ◌⊎◌, inl, inr, ℕ, Li
 use Rattle.std.specs.Io.KnownBytes.{append_known}
 use Rattle.redl_app.specs.Answers.{OfOutcome, IsAnswer, IsWritten, Writes, IsFileOf, AreLines, MayFault}
 use Rattle.redl_app.specs.Finishing.{Ends, Finishes}
-use Rattle.redl_app.specs.Formats.{Format}
+use Rattle.redl_app.specs.Brought.{Brought}
 use Rattle.redl_app.specs.Files.{asked_by}
 use Rattle.redl_inputs.specs.Readers.{Reader, IsReader}
 use Rattle.redl_lines.specs.Ends.{End, end_status, end_lines, written_status, remark_lines}
@@ -80,40 +80,40 @@ writes_by told faults old new (Ok writing) end due failed (inr (is, front)) h =
 writes_by told faults old new (Err failure) end due failed (is, same, stands) h =
     rw is (writes_nothing told failure old new (outcome_of due).bytes same)
 
-lines_written : (refused : RefusedEntries) (o : Outcome) (words : List (List ℕ)) (formats : List Format) (r : Type 0) (lines : List ℕ) → lines ≡ o.lines → AreLines (written_status refused) o words formats r lines
-lines_written [] o words formats r lines is = is
-lines_written (entry ∷ refused) o words formats r lines is = is
+lines_written : (refused : RefusedEntries) (o : Outcome) (words : List (List ℕ)) (brought : Brought) (r : Type 0) (lines : List ℕ) → lines ≡ o.lines → AreLines (written_status refused) o words brought r lines
+lines_written [] o words brought r lines is = is
+lines_written (entry ∷ refused) o words brought r lines is = is
 
 -- these are names of files that the words ask for
-abbrev pub AreNamed : List (List ℕ) → List Format → List (List ℕ) → Type 0
-AreNamed words formats names = (name : List ℕ) → Contains names name → IsFileOf words formats name
+abbrev pub AreNamed : List (List ℕ) → Brought → List (List ℕ) → Type 0
+AreNamed words brought names = (name : List ℕ) → Contains names name → IsFileOf words brought name
 
-lines_failed : (failure : Failure) (due : Result Writing Failure) (words : List (List ℕ)) (formats : List Format) (names : List (List ℕ)) (shelf : Option Files) (failed : Type 0) → AreNamed words formats names
+lines_failed : (failure : Failure) (due : Result Writing Failure) (words : List (List ℕ)) (brought : Brought) (names : List (List ℕ)) (shelf : Option Files) (failed : Type 0) → AreNamed words brought names
     → IsMade {Y = Writing} (Err failure) due failed → IsUnread {Y = Writing} (Err failure) names shelf failed
-    → AreLines (failure_status failure) (outcome_of due) words formats failed (failure_line failure)
-lines_failed no_memory due words formats names shelf failed named h u = refl
-lines_failed (unread name) due words formats names shelf failed named (inl h) (among, cause) = inr (h, (name, named name among, refl))
-lines_failed (unread name) due words formats names shelf failed named (inr h) u =
+    → AreLines (failure_status failure) (outcome_of due) words brought failed (failure_line failure)
+lines_failed no_memory due words brought names shelf failed named h u = refl
+lines_failed (unread name) due words brought names shelf failed named (inl h) (among, cause) = inr (h, (name, named name among, refl))
+lines_failed (unread name) due words brought names shelf failed named (inr h) u =
     inl (ap (λ d. (outcome_of d).status) h, sym (ap (λ d. (outcome_of d).lines) h))
-lines_failed (caused cause) due words formats names shelf failed named h u =
+lines_failed (caused cause) due words brought names shelf failed named h u =
     let is : failure_line (caused cause) ≡ (outcome_of due).lines = sym (ap (λ d. (outcome_of d).lines) h) in
-    by_cause (λ s. AreLines s (outcome_of due) words formats failed (failure_line (caused cause))) is is is is is cause
+    by_cause (λ s. AreLines s (outcome_of due) words brought failed (failure_line (caused cause))) is is is is is cause
 
-pub lines_by : {K : Type 0} (told : K → Option (List ℕ)) (faults : K → ℕ) (old new : K) (made : Result Writing Failure) (end : End) (due : Result Writing Failure) (words : List (List ℕ)) (formats : List Format) (names : List (List ℕ)) (shelf : Option Files) (failed : Type 0)
-    → AreNamed words formats names → Finishes told faults old new made end → IsMade made due failed → IsUnread made names shelf failed
-    → AreLines (end_status end) (outcome_of due) words formats failed (end_lines end)
-lines_by told faults old new (Ok writing) end due words formats names shelf failed named (inl (is, all)) h u =
-    rw is (lines_written writing.remarks.refused (outcome_of due) words formats failed (remark_lines writing.remarks) (sym (ap (λ d. (outcome_of d).lines) h)))
-lines_by told faults old new (Ok writing) end due words formats names shelf failed named (inr (is, front)) h u =
+pub lines_by : {K : Type 0} (told : K → Option (List ℕ)) (faults : K → ℕ) (old new : K) (made : Result Writing Failure) (end : End) (due : Result Writing Failure) (words : List (List ℕ)) (brought : Brought) (names : List (List ℕ)) (shelf : Option Files) (failed : Type 0)
+    → AreNamed words brought names → Finishes told faults old new made end → IsMade made due failed → IsUnread made names shelf failed
+    → AreLines (end_status end) (outcome_of due) words brought failed (end_lines end)
+lines_by told faults old new (Ok writing) end due words brought names shelf failed named (inl (is, all)) h u =
+    rw is (lines_written writing.remarks.refused (outcome_of due) words brought failed (remark_lines writing.remarks) (sym (ap (λ d. (outcome_of d).lines) h)))
+lines_by told faults old new (Ok writing) end due words brought names shelf failed named (inr (is, front)) h u =
     rw is (ap (λ l. l ++ unwritten_line) (sym (ap (λ d. (outcome_of d).lines) h)))
-lines_by told faults old new (Err failure) end due words formats names shelf failed named (is, same, stands) h u =
-    rw is (lines_failed failure due words formats names shelf failed named h u)
+lines_by told faults old new (Err failure) end due words brought names shelf failed named (is, same, stands) h u =
+    rw is (lines_failed failure due words brought names shelf failed named h u)
 
 -- ---- whatever the shelf tells
 
 -- where the words ask for no file, none is named
-abbrev pub NamesWhatIsAsked : List (List ℕ) → List Format → List (List ℕ) → Type 0
-NamesWhatIsAsked words formats names = (reader : Reader) → IsReader reader → asked_by formats (reader.command words) ≡ [] → names ≡ []
+abbrev pub NamesWhatIsAsked : List (List ℕ) → Brought → List (List ℕ) → Type 0
+NamesWhatIsAsked words brought names = (reader : Reader) → IsReader reader → asked_by brought (reader.command words) ≡ [] → names ≡ []
 
 -- who asks for no file may be given any
 may_hold : {shelf : Option Files} {files : Files} {names other : List (List ℕ)} → (other ≡ [] → names ≡ []) → MayHold shelf other files → MayHold shelf names files
@@ -121,33 +121,33 @@ may_hold none (inl tells) = inl tells
 may_hold none (inr nothing) = inr (none nothing)
 
 -- what is due by the words
-abbrev pub due_by : List (List ℕ) → List Format → Reader → Files → Result Writing Failure
-due_by words formats reader files = writing_of reader files formats (reader.command words)
+abbrev pub due_by : List (List ℕ) → Brought → Reader → Files → Result Writing Failure
+due_by words brought reader files = writing_of reader files brought (reader.command words)
 
-pub answers : (formats : List Format) {S K : Type 0} {holds : S → Option Files} {misses : S → ℕ} {shelf shelf_new : S} {told : K → Option (List ℕ)} {faults : K → ℕ} {out out_new : K}
+pub answers : (brought : Brought) {S K : Type 0} {holds : S → Option Files} {misses : S → ℕ} {shelf shelf_new : S} {told : K → Option (List ℕ)} {faults : K → ℕ} {out out_new : K}
     {words : List (List ℕ)} {names : List (List ℕ)} {end : End}
-    → NamesWhatIsAsked words formats names → Ends holds misses shelf shelf_new told faults out out_new names (due_by words formats) end
-    → OfOutcome (holds shelf) words formats (λ o. IsAnswer (end_status end) o (Rose (misses shelf) (misses shelf_new)) (Rose (faults out) (faults out_new)))
-answers formats {misses = misses} {shelf = shelf} {shelf_new = shelf_new} {told = told} {faults = faults} {out = out} {out_new = out_new} {words = words} {end = end} asked ends =
-    λ files reader is may. answer_by told faults out out_new ends.made end (due_by words formats reader files) (Rose (misses shelf) (misses shelf_new)) ends.finishes
+    → NamesWhatIsAsked words brought names → Ends holds misses shelf shelf_new told faults out out_new names (due_by words brought) end
+    → OfOutcome (holds shelf) words brought (λ o. IsAnswer (end_status end) o (Rose (misses shelf) (misses shelf_new)) (Rose (faults out) (faults out_new)))
+answers brought {misses = misses} {shelf = shelf} {shelf_new = shelf_new} {told = told} {faults = faults} {out = out} {out_new = out_new} {words = words} {end = end} asked ends =
+    λ files reader is may. answer_by told faults out out_new ends.made end (due_by words brought reader files) (Rose (misses shelf) (misses shelf_new)) ends.finishes
     (ends.reads.as_due files (may_hold (asked reader is) may) reader is)
 
-pub writes : (formats : List Format) {S K : Type 0} {holds : S → Option Files} {misses : S → ℕ} {shelf shelf_new : S} {told : K → Option (List ℕ)} {faults : K → ℕ} {out out_new : K}
+pub writes : (brought : Brought) {S K : Type 0} {holds : S → Option Files} {misses : S → ℕ} {shelf shelf_new : S} {told : K → Option (List ℕ)} {faults : K → ℕ} {out out_new : K}
     {words : List (List ℕ)} {names : List (List ℕ)} {end : End}
-    → NamesWhatIsAsked words formats names → Ends holds misses shelf shelf_new told faults out out_new names (due_by words formats) end
-    → OfOutcome (holds shelf) words formats (λ o. Writes told out out_new (end_status end) o.bytes)
-writes formats {misses = misses} {shelf = shelf} {shelf_new = shelf_new} {told = told} {faults = faults} {out = out} {out_new = out_new} {words = words} {end = end} asked ends =
-    λ files reader is may. writes_by told faults out out_new ends.made end (due_by words formats reader files) (Rose (misses shelf) (misses shelf_new)) ends.finishes
+    → NamesWhatIsAsked words brought names → Ends holds misses shelf shelf_new told faults out out_new names (due_by words brought) end
+    → OfOutcome (holds shelf) words brought (λ o. Writes told out out_new (end_status end) o.bytes)
+writes brought {misses = misses} {shelf = shelf} {shelf_new = shelf_new} {told = told} {faults = faults} {out = out} {out_new = out_new} {words = words} {end = end} asked ends =
+    λ files reader is may. writes_by told faults out out_new ends.made end (due_by words brought reader files) (Rose (misses shelf) (misses shelf_new)) ends.finishes
     (ends.reads.as_due files (may_hold (asked reader is) may) reader is)
 
 pub tells : (Told : List ℕ → Type 0) {S K : Type 0} {holds : S → Option Files} {misses : S → ℕ} {shelf shelf_new : S} {told : K → Option (List ℕ)} {faults : K → ℕ} {out out_new : K}
-    {words : List (List ℕ)} {formats : List Format} {names : List (List ℕ)} {end : End} → AreNamed words formats names
-    → NamesWhatIsAsked words formats names → Ends holds misses shelf shelf_new told faults out out_new names (due_by words formats) end → Told (end_lines end)
-    → OfOutcome (holds shelf) words formats (λ o. (lines : List ℕ) × AreLines (end_status end) o words formats (Rose (misses shelf) (misses shelf_new)) lines × Told lines)
-tells Told {holds = holds} {misses = misses} {shelf = shelf} {shelf_new = shelf_new} {told = told} {faults = faults} {out = out} {out_new = out_new} {words = words} {formats = formats} {names = names} {end = end} named asked ends h =
+    {words : List (List ℕ)} {brought : Brought} {names : List (List ℕ)} {end : End} → AreNamed words brought names
+    → NamesWhatIsAsked words brought names → Ends holds misses shelf shelf_new told faults out out_new names (due_by words brought) end → Told (end_lines end)
+    → OfOutcome (holds shelf) words brought (λ o. (lines : List ℕ) × AreLines (end_status end) o words brought (Rose (misses shelf) (misses shelf_new)) lines × Told lines)
+tells Told {holds = holds} {misses = misses} {shelf = shelf} {shelf_new = shelf_new} {told = told} {faults = faults} {out = out} {out_new = out_new} {words = words} {brought = brought} {names = names} {end = end} named asked ends h =
     λ files reader is may. (
       end_lines end,
-      lines_by told faults out out_new ends.made end (due_by words formats reader files) words formats names (holds shelf) (Rose (misses shelf) (misses shelf_new)) named ends.finishes
+      lines_by told faults out out_new ends.made end (due_by words brought reader files) words brought names (holds shelf) (Rose (misses shelf) (misses shelf_new)) named ends.finishes
           (ends.reads.as_due files (may_hold (asked reader is) may) reader is) ends.reads.unread,
       h,
     )
@@ -162,25 +162,25 @@ not_read_fault : {Holds : Type 0} (cause : Cause) → cause_status cause ≡ sta
 not_read_fault cause is =
     absurd (by_cause (λ s. s ≡ status.ReadFault → ⊥) (λ e. absurd (cc e)) (λ e. absurd (cc e)) (λ e. absurd (cc e)) (λ e. absurd (cc e)) (λ e. absurd (cc e)) cause is)
 
-may_fault : (failure : Failure) (words : List (List ℕ)) (formats : List Format) (names : List (List ℕ)) (shelf : Option Files) (failed : Type 0) → AreNamed words formats names
-    → IsUnread {Y = Writing} (Err failure) names shelf failed → failure_status failure ≡ status.ReadFault → MayFault words formats shelf failed
-may_fault no_memory words formats names shelf failed named u is = absurd (cc is)
-may_fault (unread name) words formats names shelf failed named (among, h) is = (name, named name among, h)
-may_fault (caused cause) words formats names shelf failed named u is = not_read_fault cause is
+may_fault : (failure : Failure) (words : List (List ℕ)) (brought : Brought) (names : List (List ℕ)) (shelf : Option Files) (failed : Type 0) → AreNamed words brought names
+    → IsUnread {Y = Writing} (Err failure) names shelf failed → failure_status failure ≡ status.ReadFault → MayFault words brought shelf failed
+may_fault no_memory words brought names shelf failed named u is = absurd (cc is)
+may_fault (unread name) words brought names shelf failed named (among, h) is = (name, named name among, h)
+may_fault (caused cause) words brought names shelf failed named u is = not_read_fault cause is
 
-read_by : {K : Type 0} (told : K → Option (List ℕ)) (faults : K → ℕ) (old new : K) (made : Result Writing Failure) (end : End) (words : List (List ℕ)) (formats : List Format) (names : List (List ℕ)) (shelf : Option Files) (failed : Type 0) → AreNamed words formats names
-    → Finishes told faults old new made end → IsUnread made names shelf failed → end_status end ≡ status.ReadFault → MayFault words formats shelf failed
-read_by told faults old new (Ok writing) end words formats names shelf failed named (inl (is, all)) u fault = absurd (no_read_fault writing.remarks.refused (sym (ap end_status is) ∙ fault))
-read_by told faults old new (Ok writing) end words formats names shelf failed named (inr (is, front)) u fault = absurd (cc (sym (ap end_status is) ∙ fault))
-read_by told faults old new (Err failure) end words formats names shelf failed named (is, same, stands) u fault =
-    may_fault failure words formats names shelf failed named u (sym (ap end_status is) ∙ fault)
+read_by : {K : Type 0} (told : K → Option (List ℕ)) (faults : K → ℕ) (old new : K) (made : Result Writing Failure) (end : End) (words : List (List ℕ)) (brought : Brought) (names : List (List ℕ)) (shelf : Option Files) (failed : Type 0) → AreNamed words brought names
+    → Finishes told faults old new made end → IsUnread made names shelf failed → end_status end ≡ status.ReadFault → MayFault words brought shelf failed
+read_by told faults old new (Ok writing) end words brought names shelf failed named (inl (is, all)) u fault = absurd (no_read_fault writing.remarks.refused (sym (ap end_status is) ∙ fault))
+read_by told faults old new (Ok writing) end words brought names shelf failed named (inr (is, front)) u fault = absurd (cc (sym (ap end_status is) ∙ fault))
+read_by told faults old new (Err failure) end words brought names shelf failed named (is, same, stands) u fault =
+    may_fault failure words brought names shelf failed named u (sym (ap end_status is) ∙ fault)
 
 pub read_cause : {S K : Type 0} {holds : S → Option Files} {misses : S → ℕ} {shelf shelf_new : S} {told : K → Option (List ℕ)} {faults : K → ℕ} {out out_new : K}
-    {words : List (List ℕ)} {formats : List Format} {names : List (List ℕ)} {end : End} {due : Reader → Files → Result Writing Failure}
-    → AreNamed words formats names → Ends holds misses shelf shelf_new told faults out out_new names due end → end_status end ≡ status.ReadFault
-    → MayFault words formats (holds shelf) (Rose (misses shelf) (misses shelf_new))
-read_cause {holds = holds} {misses = misses} {shelf = shelf} {shelf_new = shelf_new} {told = told} {faults = faults} {out = out} {out_new = out_new} {words = words} {formats = formats} {names = names} {end = end} named ends fault =
-    read_by told faults out out_new ends.made end words formats names (holds shelf) (Rose (misses shelf) (misses shelf_new)) named ends.finishes ends.reads.unread fault
+    {words : List (List ℕ)} {brought : Brought} {names : List (List ℕ)} {end : End} {due : Reader → Files → Result Writing Failure}
+    → AreNamed words brought names → Ends holds misses shelf shelf_new told faults out out_new names due end → end_status end ≡ status.ReadFault
+    → MayFault words brought (holds shelf) (Rose (misses shelf) (misses shelf_new))
+read_cause {holds = holds} {misses = misses} {shelf = shelf} {shelf_new = shelf_new} {told = told} {faults = faults} {out = out} {out_new = out_new} {words = words} {brought = brought} {names = names} {end = end} named ends fault =
+    read_by told faults out out_new ends.made end words brought names (holds shelf) (Rose (misses shelf) (misses shelf_new)) named ends.finishes ends.reads.unread fault
 
 no_write_fault : (refused : RefusedEntries) → written_status refused ≡ status.WriteFault → ⊥
 no_write_fault [] is = absurd (cc is)

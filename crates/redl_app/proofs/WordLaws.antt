@@ -5,7 +5,8 @@ use Rattle.redl_inputs.proofs.ReaderLaws.{reads_command, reads_no_command}
 use Rattle.redl_app.proofs.TopLaws.{AreNamed, NamesWhatIsAsked, due_by}
 use Rattle.redl_app.specs.Files.{asked_by}
 use Rattle.redl_app.specs.Finishing.{Ends, IsWanted, words_failure}
-use Rattle.redl_app.specs.Formats.{Format, LeavesFormats, without_asked}
+use Rattle.redl_app.specs.Brought.{Brought}
+use Rattle.redl_app.specs.Formats.{LeavesFormats, without_asked}
 use Rattle.redl_app.specs.Outcome.{writing_of}
 use Rattle.redl_app.specs.Plans.{plan}
 use Rattle.redl_inputs.specs.Readers.{Reader, IsReader}
@@ -23,23 +24,23 @@ use Rattle.redl_words.specs.declared.error.WordsError.{WordsError}
 use Rattle.redl_words.specs.declared.error.WordsError.TheVariants as error
 
 -- the files of the command that was read are those of the words
-pub are_named : (words : List (List ℕ)) (formats : List Format) (read : Result Declared WordsError) → IfOk read (λ command. IsCommand words (command_of command)) → AreNamed words formats (named_files formats read)
-are_named words formats (Ok command) is name among = record { command = command_of command; reads = is; among = among }
-are_named words formats (Err error) is name (k, within, here) = absurd (omega (arith, within))
+pub are_named : (words : List (List ℕ)) (brought : Brought) (read : Result Declared WordsError) → IfOk read (λ command. IsCommand words (command_of command)) → AreNamed words brought (named_files brought read)
+are_named words brought (Ok command) is name among = record { command = command_of command; reads = is; among = among }
+are_named words brought (Err error) is name (k, within, here) = absurd (omega (arith, within))
 
 -- where the words ask for no file, the command that was read names none
-pub names_asked : (words : List (List ℕ)) (formats : List Format) (read : Result Declared WordsError) → IfOk read (λ command. IsCommand words (command_of command))
-    → NamesWhatIsAsked words formats (named_files formats read)
-names_asked words formats (Ok command) is = λ reader reads none.
-    sym (ap (asked_by formats) (reads_command reader words (command_of command) reads is)) ∙ none
-names_asked words formats (Err error) is = λ reader reads none. refl
+pub names_asked : (words : List (List ℕ)) (brought : Brought) (read : Result Declared WordsError) → IfOk read (λ command. IsCommand words (command_of command))
+    → NamesWhatIsAsked words brought (named_files brought read)
+names_asked words brought (Ok command) is = λ reader reads none.
+    sym (ap (asked_by brought) (reads_command reader words (command_of command) reads is)) ∙ none
+names_asked words brought (Err error) is = λ reader reads none. refl
 
 -- what is due by the words is what is due by the command that was read
-pub is_wanted : (words : List (List ℕ)) (formats : List Format) (read : Result Declared WordsError) → IfOk read (λ command. IsCommand words (command_of command))
-    → (IsErrOf read error.Usage → HasNoCommand words) → IsWanted formats (read_view read) (due_by words formats)
-is_wanted words formats (Ok command) is none = λ reader files reads. ap (writing_of reader files formats) (reads_command reader words (command_of command) reads is)
-is_wanted words formats (Err error.Usage) is none = λ reader files reads. ap (writing_of reader files formats) (reads_no_command reader words reads (none refl))
-is_wanted words formats (Err error.NoMemory) is none = tt
+pub is_wanted : (words : List (List ℕ)) (brought : Brought) (read : Result Declared WordsError) → IfOk read (λ command. IsCommand words (command_of command))
+    → (IsErrOf read error.Usage → HasNoCommand words) → IsWanted brought (read_view read) (due_by words brought)
+is_wanted words brought (Ok command) is none = λ reader files reads. ap (writing_of reader files brought) (reads_command reader words (command_of command) reads is)
+is_wanted words brought (Err error.Usage) is none = λ reader files reads. ap (writing_of reader files brought) (reads_no_command reader words reads (none refl))
+is_wanted words brought (Err error.NoMemory) is none = tt
 
 -- ends for one thing that is due are ends for the same by another name
 pub ends_when : {S K : Type 0} {holds : S → Option Files} {misses : S → ℕ} {shelf shelf_new : S} {told : K → Option (List ℕ)} {faults : K → ℕ} {out out_new : K}
@@ -53,10 +54,10 @@ ends_when {holds = holds} {shelf = shelf} {names = names} later same ends = reco
 }
 
 -- a call ends with no more than a line where the words could not be had
-pub ends_unread : (formats : List Format) {S K : Type 0} {holds : S → Option Files} {misses : S → ℕ} (shelf : S) {told : K → Option (List ℕ)} {faults : K → ℕ} (out : K)
-    (error : WordsError) (due : Reader → Files → Result Writing Failure) → IsWanted formats (Err error) due
+pub ends_unread : (brought : Brought) {S K : Type 0} {holds : S → Option Files} {misses : S → ℕ} (shelf : S) {told : K → Option (List ℕ)} {faults : K → ℕ} (out : K)
+    (error : WordsError) (due : Reader → Files → Result Writing Failure) → IsWanted brought (Err error) due
     → Ends holds misses shelf shelf told faults out out [] due (failed (words_failure error))
-ends_unread formats shelf out error.Usage due wanted = record {
+ends_unread brought shelf out error.Usage due wanted = record {
   made = Err (caused usage);
   reads = record {
     as_due = λ files may reader is. wanted reader files is;
@@ -66,7 +67,7 @@ ends_unread formats shelf out error.Usage due wanted = record {
   };
   finishes = (refl, refl, refl);
 }
-ends_unread formats shelf out error.NoMemory due wanted = record {
+ends_unread brought shelf out error.NoMemory due wanted = record {
   made = Err (words_failure error.NoMemory);
   reads = reads_no_memory [] due refl refl;
   finishes = (refl, refl, refl);

@@ -10,17 +10,17 @@ use Rattle.redl_app.specs.Writing.{Outcome}
 use Rattle.redl_lines.specs.Ends.{Tells}
 use Rattle.redl_lines.specs.Lines.{no_memory_line, unwritten_line, unread_line}
 use Rattle.redl_app.specs.Files.{asked_by, files_of}
-use Rattle.redl_app.specs.Formats.{Format}
+use Rattle.redl_app.specs.Brought.{Brought}
 use Rattle.redl_app.specs.Plans.{plan}
 use Rattle.redl_words.specs.Commands.{Command, IsCommand}
 use Rattle.redl_lines.specs.declared.status.Status.{Status}
 use Rattle.redl_lines.specs.declared.status.Status.TheVariants as status
 
 -- Where the shelf tells what it holds, or the words ask for no file, this holds of the call's outcome.
-abbrev pub OfOutcome : Option Files → List (List ℕ) → List Format → (Outcome → Type 0) → Type 0
-OfOutcome told words formats Holds =
-    (files : Files) (reader : Reader) → IsReader reader → MayHold told (asked_by formats (reader.command words)) files
-    → Holds (outcome reader words files formats)
+abbrev pub OfOutcome : Option Files → List (List ℕ) → Brought → (Outcome → Type 0) → Type 0
+OfOutcome told words brought Holds =
+    (files : Files) (reader : Reader) → IsReader reader → MayHold told (asked_by brought (reader.command words)) files
+    → Holds (outcome reader words files brought)
 
 -- a call with this outcome writes
 abbrev pub IsWritten : Status → Type 0
@@ -41,29 +41,29 @@ Writes told old new status.WriteFault bytes = GrowsByFront (told old) (told new)
 Writes told old new _ bytes = told new ≡ told old
 
 -- the words are those of a command, the format that it asks for is there, and this is the name of one of its files
-pub record IsFileOf (words : List (List ℕ)) (formats : List Format) (name : List ℕ) : Type 0 where
+pub record IsFileOf (words : List (List ℕ)) (brought : Brought) (name : List ℕ) : Type 0 where
   pub command : Command
   pub reads : IsCommand words command
-  pub among : Contains (files_of formats (plan command)) name
+  pub among : Contains (files_of brought (plan command)) name
 
 -- a read fault's line: the outcome's, where that is a read fault itself, or that of some file of the command where a fetch
 -- failed
-abbrev pub IsUnreadLine : Outcome → List (List ℕ) → List Format → Type 0 → List ℕ → Type 0
-IsUnreadLine outcome words formats read_failed lines =
+abbrev pub IsUnreadLine : Outcome → List (List ℕ) → Brought → Type 0 → List ℕ → Type 0
+IsUnreadLine outcome words brought read_failed lines =
     ((outcome.status ≡ status.ReadFault) × (lines ≡ outcome.lines))
-    ⊎ (read_failed × ((name : List ℕ) × IsFileOf words formats name × (lines ≡ unread_line name)))
+    ⊎ (read_failed × ((name : List ℕ) × IsFileOf words brought name × (lines ≡ unread_line name)))
 
 -- The lines are the outcome's, but for what the outside forces.
-abbrev pub AreLines : Status → Outcome → List (List ℕ) → List Format → Type 0 → List ℕ → Type 0
-AreLines status.NoMemory outcome words formats read_failed lines = lines ≡ no_memory_line
-AreLines status.ReadFault outcome words formats read_failed lines = IsUnreadLine outcome words formats read_failed lines
-AreLines status.WriteFault outcome words formats read_failed lines = lines ≡ outcome.lines ++ unwritten_line
-AreLines _ outcome words formats read_failed lines = lines ≡ outcome.lines
+abbrev pub AreLines : Status → Outcome → List (List ℕ) → Brought → Type 0 → List ℕ → Type 0
+AreLines status.NoMemory outcome words brought read_failed lines = lines ≡ no_memory_line
+AreLines status.ReadFault outcome words brought read_failed lines = IsUnreadLine outcome words brought read_failed lines
+AreLines status.WriteFault outcome words brought read_failed lines = lines ≡ outcome.lines ++ unwritten_line
+AreLines _ outcome words brought read_failed lines = lines ≡ outcome.lines
 
 -- some lines went out of which this holds
 abbrev pub TellsSome : {K : Type 0} → (K → Option (List ℕ)) → (K → ℕ) → K → K → (List ℕ → Type 0) → Type 0
 TellsSome told faults old new Holds = (lines : List ℕ) × Holds lines × Tells told faults old new lines
 
 -- why a read fault may be answered: the words ask for files, and the shelf failed or lacks one of them
-abbrev pub MayFault : List (List ℕ) → List Format → Option Files → Type 0 → Type 0
-MayFault words formats told failed = (name : List ℕ) × IsFileOf words formats name × (failed ⊎ Lacks told name)
+abbrev pub MayFault : List (List ℕ) → Brought → Option Files → Type 0 → Type 0
+MayFault words brought told failed = (name : List ℕ) × IsFileOf words brought name × (failed ⊎ Lacks told name)

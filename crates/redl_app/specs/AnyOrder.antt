@@ -1,18 +1,19 @@
 -- Journals in any order and with repeats.
 use Rattle.std.specs.Prelude.{◌≡◌, ℕ, List, Some}
 use Rattle.redl_app.specs.Answers.{IsWritten}
-use Rattle.redl_app.specs.Formats.{Format}
+use Rattle.redl_app.specs.Brought.{Brought}
 use Rattle.redl_app.specs.Outcome.{outcome}
 use Rattle.redl_inputs.specs.Journals.{AreSame}
 use Rattle.redl_inputs.specs.Readers.{Reader}
 use Rattle.redl_io.specs.Shelf.{Files}
-use Rattle.redl_words.specs.Commands.{Command, settle, view_text, list, write, decide, join, check, sample}
+use Rattle.redl_words.specs.Commands.{Command, settle, view_text, list, page, write, decide, join, check, sample}
 
 -- the command with these journals in place of its own, if it has any
 abbrev pub with_journals : List (List ℕ) → Command → Command
 with_journals names (settle accept p) = settle accept p
 with_journals names (view_text p view) = view_text p view
 with_journals names (list p format locks journals) = list p format locks names
+with_journals names (page p locks journals) = page p locks names
 with_journals names (write p locks journals) = write p locks names
 with_journals names (decide p reviewer journals locks choices rank) = decide p reviewer names locks choices rank
 with_journals names (join journals) = join names
@@ -21,9 +22,9 @@ with_journals names (sample number) = sample number
 
 -- Two calls of a command that differ in the order and the repeats of their journals, and that both are written, come to the
 -- same status, bytes and lines.
-abbrev pub OrderDoesNotCount : Reader → Files → List Format → Type 0
-OrderDoesNotCount reader files formats =
+abbrev pub OrderDoesNotCount : Reader → Files → Brought → Type 0
+OrderDoesNotCount reader files brought =
     (words others : List (List ℕ)) (command : Command) (names more : List (List ℕ)) → AreSame names more
     → reader.command words ≡ Some (with_journals names command) → reader.command others ≡ Some (with_journals more command)
-    → IsWritten (outcome reader words files formats).status → IsWritten (outcome reader others files formats).status
-    → outcome reader words files formats ≡ outcome reader others files formats
+    → IsWritten (outcome reader words files brought).status → IsWritten (outcome reader others files brought).status
+    → outcome reader words files brought ≡ outcome reader others files brought

@@ -1,6 +1,7 @@
 pub mod Settle
 pub mod Text
 pub mod List
+pub mod Page
 pub mod Write
 pub mod Join
 pub mod Check

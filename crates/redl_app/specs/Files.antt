@@ -1,6 +1,7 @@
 -- The files that a command names.
 use Rattle.std.specs.Prelude.{ℕ, List, [], ◌∷◌, ◌++◌, Option, None, Some, Result, Ok, Err}
-use Rattle.redl_app.specs.Formats.{Format, has_format}
+use Rattle.redl_app.specs.Brought.{Brought}
+use Rattle.redl_app.specs.Formats.{has_format}
 use Rattle.redl_app.specs.Plans.{Plan, package_of, plan}
 use Rattle.redl_lines.specs.Failures.{Failure}
 use Rattle.redl_words.specs.Commands.{Command}
@@ -20,10 +21,10 @@ where_ok (Ok there) names = names
 where_ok (Err failure) names = []
 
 -- the names of the files that a command asks for; none where the format that it asks for isn't there
-abbrev pub files_of : List Format → Plan → List (List ℕ)
-files_of formats plan = where_ok (has_format formats plan.format) (file_names plan)
+abbrev pub files_of : Brought → Plan → List (List ℕ)
+files_of brought plan = where_ok (has_format brought.formats plan.format) (file_names plan)
 
 -- the names of the files that words ask for, where they are this command or none
-abbrev pub asked_by : List Format → Option Command → List (List ℕ)
-asked_by formats None = []
-asked_by formats (Some command) = files_of formats (plan command)
+abbrev pub asked_by : Brought → Option Command → List (List ℕ)
+asked_by brought None = []
+asked_by brought (Some command) = files_of brought (plan command)

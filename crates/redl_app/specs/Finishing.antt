@@ -5,7 +5,7 @@ use Rattle.redl_io.specs.Faults.{Rose}
 use Rattle.redl_io.specs.Sink.{GrowsByFront}
 use Rattle.redl_inputs.specs.Readers.{Reader, IsReader}
 use Rattle.redl_inputs.specs.Reading.{Reads, ReadsFiles}
-use Rattle.redl_app.specs.Formats.{Format}
+use Rattle.redl_app.specs.Brought.{Brought}
 use Rattle.redl_app.specs.Outcome.{writing_of}
 use Rattle.redl_app.specs.Writing.{Writing}
 use Rattle.redl_words.specs.Commands.{Command}
@@ -53,8 +53,8 @@ words_failure error.Usage = caused usage
 words_failure error.NoMemory = no_memory
 
 -- What is due where words were read so: what their command writes, or that they have none. Where memory ran out, anything.
-abbrev pub IsWanted : List Format → Result Command WordsError → (Reader → Files → Result Writing Failure) → Type 0
-IsWanted formats (Ok command) due =
-    (reader : Reader) (files : Files) → IsReader reader → due reader files ≡ writing_of reader files formats (Some command)
-IsWanted formats (Err error.Usage) due = (reader : Reader) (files : Files) → IsReader reader → due reader files ≡ Err (caused usage)
-IsWanted formats (Err error.NoMemory) due = Unit {0}
+abbrev pub IsWanted : Brought → Result Command WordsError → (Reader → Files → Result Writing Failure) → Type 0
+IsWanted brought (Ok command) due =
+    (reader : Reader) (files : Files) → IsReader reader → due reader files ≡ writing_of reader files brought (Some command)
+IsWanted brought (Err error.Usage) due = (reader : Reader) (files : Files) → IsReader reader → due reader files ≡ Err (caused usage)
+IsWanted brought (Err error.NoMemory) due = Unit {0}

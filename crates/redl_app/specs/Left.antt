@@ -4,7 +4,7 @@ use Rattle.redl_app.specs.Commands.Settle.{same_says, settling}
 use Rattle.redl_inputs.specs.Admission.{Admission, opened}
 use Rattle.redl_session.specs.Sessions.{says as says_of}
 use Rattle.redl_app.specs.Files.{asked_by}
-use Rattle.redl_app.specs.Formats.{Format}
+use Rattle.redl_app.specs.Brought.{Brought}
 use Rattle.redl_app.specs.Outcome.{outcome}
 use Rattle.redl_inputs.specs.Packages.{package_file, package_in}
 use Rattle.redl_inputs.specs.Readers.{Reader, IsReader}
@@ -62,14 +62,14 @@ pub record IsLeft (reader : Reader) (files : Files) (plan : Plan) (name bytes : 
   pub sound : is_sound rules (left_of says nodes) ≡ true
 
 -- Where a command decides on revisions and the outcome is written, its bytes are what is left of the package.
-abbrev pub LeavesSound : Reader → List (List ℕ) → Files → List Format → Type 0
-LeavesSound reader words files formats =
+abbrev pub LeavesSound : Reader → List (List ℕ) → Files → Brought → Type 0
+LeavesSound reader words files brought =
     (command : Command) (name : List ℕ) → reader.command words ≡ Some command → decided_package (plan command) ≡ Some name
-    → IsWritten (outcome reader words files formats).status → IsLeft reader files (plan command) name (outcome reader words files formats).bytes
+    → IsWritten (outcome reader words files brought).status → IsLeft reader files (plan command) name (outcome reader words files brought).bytes
 
 -- The same of a call that ended with this status, over a shelf that tells this.
-abbrev pub Leaves : Status → Option Files → List (List ℕ) → List Format → Type 0
-Leaves ended told words formats =
+abbrev pub Leaves : Status → Option Files → List (List ℕ) → Brought → Type 0
+Leaves ended told words brought =
     IsWritten ended → (command : Command) (name : List ℕ) → IsCommand words command → decided_package (plan command) ≡ Some name
-    → (files : Files) (reader : Reader) → IsReader reader → MayHold told (asked_by formats (reader.command words)) files
-    → IsLeft reader files (plan command) name (outcome reader words files formats).bytes
+    → (files : Files) (reader : Reader) → IsReader reader → MayHold told (asked_by brought (reader.command words)) files
+    → IsLeft reader files (plan command) name (outcome reader words files brought).bytes

@@ -1,6 +1,7 @@
 pub mod Choices
 pub mod Writing
 pub mod Formats
+pub mod Brought
 pub mod Commands
 pub mod Plans
 pub mod Files

@@ -1,7 +1,8 @@
--- What a call of the program comes to: a function of the words, of what the shelf holds, of the formats of listings, and of how
+-- What a call of the program comes to: a function of the words, of what the shelf holds, of what the program brings, and of how
 -- texts are read.
 use Rattle.std.specs.Prelude.{ℕ, List, Option, None, Some, Result, Err}
-use Rattle.redl_app.specs.Formats.{Format, has_format}
+use Rattle.redl_app.specs.Brought.{Brought}
+use Rattle.redl_app.specs.Formats.{has_format}
 use Rattle.redl_app.specs.Plans.{Plan, made_by, plan}
 use Rattle.redl_app.specs.Writing.{Writing, Outcome, outcome_of}
 use Rattle.redl_inputs.specs.Readers.{Reader}
@@ -11,16 +12,16 @@ use Rattle.redl_lines.specs.Failures.{Failure, caused, usage}
 use Rattle.redl_words.specs.Commands.{Command}
 
 -- what a command writes, or why it writes nothing: first the format is looked for, then something is made
-abbrev pub carried_out : Reader → Files → List Format → Plan → Result Writing Failure
-carried_out reader files formats plan = do
-  there ← has_format formats plan.format
-  made_by reader files formats plan.makes
+abbrev pub carried_out : Reader → Files → Brought → Plan → Result Writing Failure
+carried_out reader files brought plan = do
+  there ← has_format brought.formats plan.format
+  made_by reader files brought plan.makes
 
 -- what is written, or why nothing is: the first cause, in the order of the words, the format, the package and the journals
-abbrev pub writing_of : Reader → Files → List Format → Option Command → Result Writing Failure
-writing_of reader files formats None = Err (caused usage)
-writing_of reader files formats (Some command) = carried_out reader files formats (plan command)
+abbrev pub writing_of : Reader → Files → Brought → Option Command → Result Writing Failure
+writing_of reader files brought None = Err (caused usage)
+writing_of reader files brought (Some command) = carried_out reader files brought (plan command)
 
--- What a call with these words over these files and formats comes to.
-abbrev pub outcome : Reader → List (List ℕ) → Files → List Format → Outcome
-outcome reader words files formats = outcome_of (writing_of reader files formats (reader.command words))
+-- What a call with these words over these files comes to, with what the program brings.
+abbrev pub outcome : Reader → List (List ℕ) → Files → Brought → Outcome
+outcome reader words files brought = outcome_of (writing_of reader files brought (reader.command words))

@@ -4,11 +4,12 @@ use Rattle.redl_app.specs.Commands.Check.{checked}
 use Rattle.redl_app.specs.Commands.Decide.{chosen_journal}
 use Rattle.redl_app.specs.Commands.Join.{joined}
 use Rattle.redl_app.specs.Commands.List.{listed}
+use Rattle.redl_app.specs.Commands.Page.{paged}
 use Rattle.redl_app.specs.Commands.Sample.{sampled}
 use Rattle.redl_app.specs.Commands.Settle.{settled}
 use Rattle.redl_app.specs.Commands.Text.{viewed}
 use Rattle.redl_app.specs.Commands.Write.{written}
-use Rattle.redl_app.specs.Formats.{Format}
+use Rattle.redl_app.specs.Brought.{Brought}
 use Rattle.redl_app.specs.Writing.{Writing}
 use Rattle.redl_inputs.specs.Packages.{package_file}
 use Rattle.redl_inputs.specs.Readers.{Reader}
@@ -17,12 +18,12 @@ use Rattle.redl_io.specs.Limits.{journal_bytes}
 use Rattle.redl_io.specs.Shelf.{Files}
 use Rattle.redl_lines.specs.Failures.{Failure, no_memory}
 use Rattle.redl_select.specs.declared.lock.Lock.{Lock}
-use Rattle.redl_words.specs.Commands.{Command, settle, view_text, list, write, decide, join, check, sample}
+use Rattle.redl_words.specs.Commands.{Command, settle, view_text, list, page, write, decide, join, check, sample}
 
 -- what a command makes
 pub data Making : Type 0 where
   -- what is made of the text of the package of this name
-  of_package : List ℕ → (Reader → Files → List Format → List ℕ → Result Writing Failure) → Making
+  of_package : List ℕ → (Reader → Files → Brought → List ℕ → Result Writing Failure) → Making
   -- what is made without a package
   of_no_package : (Reader → Files → Result Writing Failure) → Making
 
@@ -49,29 +50,33 @@ only making = record { makes = making; journals = []; locks = []; format = None;
 
 -- the plan of each command
 abbrev pub plan : Command → Plan
-plan (settle accept p) = record (only (of_package p (λ reader files formats whole. settled reader accept whole))) {
+plan (settle accept p) = record (only (of_package p (λ reader files brought whole. settled reader accept whole))) {
   decides = all_of_them accept;
 }
-plan (view_text p view) = only (of_package p (λ reader files formats whole. viewed reader view whole))
-plan (list p name locks journals) = record (only (of_package p (λ reader files formats whole. listed reader files formats name locks journals whole))) {
+plan (view_text p view) = only (of_package p (λ reader files brought whole. viewed reader view whole))
+plan (list p name locks journals) = record (only (of_package p (λ reader files brought whole. listed reader files brought.formats name locks journals whole))) {
   journals = journals;
   locks = locks;
   format = Some name;
 }
-plan (write p locks journals) = record (only (of_package p (λ reader files formats whole. written reader files locks journals whole))) {
+plan (page p locks journals) = record (only (of_package p (λ reader files brought whole. paged reader files brought.skin locks journals whole))) {
+  journals = journals;
+  locks = locks;
+}
+plan (write p locks journals) = record (only (of_package p (λ reader files brought whole. written reader files locks journals whole))) {
   journals = journals;
   locks = locks;
   decides = by_verdicts;
 }
 plan (decide p reviewer journals locks choices rank) =
-    record (only (of_package p (λ reader files formats whole. chosen_journal reader files reviewer rank locks journals choices whole))) {
+    record (only (of_package p (λ reader files brought whole. chosen_journal reader files reviewer rank locks journals choices whole))) {
       journals = journals;
       locks = locks;
     }
 plan (join journals) = record (only (of_no_package (λ reader files. joined reader files journal_bytes journals))) {
   journals = journals;
 }
-plan (check p) = only (of_package p (λ reader files formats whole. checked reader whole))
+plan (check p) = only (of_package p (λ reader files brought whole. checked reader whole))
 plan (sample number) = only (of_no_package (λ reader files. sampled reader number))
 
 -- ---- the package
@@ -82,9 +87,9 @@ package_of (of_package p make) = Some p
 package_of (of_no_package make) = None
 
 -- what is made: first the package's text is read, if there is a package
-abbrev pub made_by : Reader → Files → List Format → Making → Result Writing Failure
-made_by reader files formats (of_package p make) = package_file files p >>= make reader files formats
-made_by reader files formats (of_no_package make) = make reader files
+abbrev pub made_by : Reader → Files → Brought → Making → Result Writing Failure
+made_by reader files brought (of_package p make) = package_file files p >>= make reader files brought
+made_by reader files brought (of_no_package make) = make reader files
 
 -- the package's text is there exactly if there is a package
 abbrev pub IsTextFor : Making → Option (List ℕ) → Type 0
@@ -94,7 +99,7 @@ IsTextFor (of_no_package make) (Some whole) = ⊥
 IsTextFor (of_no_package make) None = Unit {0}
 
 -- what is made where the package has this text; a text that is missing makes nothing
-abbrev pub made_with : Reader → Files → List Format → Making → Option (List ℕ) → Result Writing Failure
-made_with reader files formats (of_package p make) (Some whole) = make reader files formats whole
-made_with reader files formats (of_package p make) None = Err no_memory
-made_with reader files formats (of_no_package make) text = make reader files
+abbrev pub made_with : Reader → Files → Brought → Making → Option (List ℕ) → Result Writing Failure
+made_with reader files brought (of_package p make) (Some whole) = make reader files brought whole
+made_with reader files brought (of_package p make) None = Err no_memory
+made_with reader files brought (of_no_package make) text = make reader files

@@ -9,7 +9,7 @@ use Rattle.redl_app.specs.declared.output.Output.{Output}
 use Rattle.redl_app.specs.declared.output.Output.TheVariants as output
 use Rattle.redl_app.specs.declared.output.Writing.{Writing as DeclaredWriting}
 use Rattle.redl_app.specs.Files.{files_of}
-use Rattle.redl_app.specs.Formats.{Format}
+use Rattle.redl_app.specs.Brought.{Brought}
 use Rattle.redl_app.specs.Plans.{plan}
 use Rattle.redl_inputs.specs.Views.{document_view}
 use Rattle.redl_lines.specs.Remarks.{remarks_view}
@@ -55,6 +55,6 @@ read_view (Ok command) = Ok (command_of command)
 read_view (Err error) = Err error
 
 -- the names of the files of the command, where the words are one
-abbrev pub named_files : List Format → Result DeclaredCommand WordsError → List (List ℕ)
-named_files formats (Ok command) = files_of formats (plan (command_of command))
-named_files formats (Err error) = []
+abbrev pub named_files : Brought → Result DeclaredCommand WordsError → List (List ℕ)
+named_files brought (Ok command) = files_of brought (plan (command_of command))
+named_files brought (Err error) = []

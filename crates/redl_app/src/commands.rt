@@ -2,6 +2,7 @@
 
 ghost use Rattle.std.specs.Prelude.{◌≡◌, Ok};
 ghost use Rattle.std.specs.Option.{option_copied};
+ghost use Rattle.redl_app.specs.Brought.{brought_by};
 ghost use Rattle.redl_app.specs.Finishing.{Ends};
 ghost use Rattle.redl_app.specs.Formats.{AreFresh, LeavesFormats, formats_by, has_format, without_asked};
 ghost use Rattle.redl_app.specs.Plans.{IsTextFor, made_with, plan};
@@ -14,10 +15,12 @@ use check::check;
 use decide::decide;
 use join::join;
 use list::list;
+use page::put_page;
 use redl_inputs::name_of;
 use redl_io::{Shelf, Sink};
 use redl_lines::End;
 use redl_listing::RowFormat;
+use redl_page::Skin;
 use redl_words::Command;
 use sample::sample;
 use settle::settle;
@@ -29,6 +32,7 @@ mod check;
 mod decide;
 mod join;
 mod list;
+mod page;
 mod sample;
 mod settle;
 mod text;
@@ -43,13 +47,14 @@ pub(crate) fn carry_out<'a, F: Shelf, O: Sink>(
     shelf: &mut F,
     out: &mut O,
     formats: &mut Vec<Box<dyn RowFormat>>,
+    skin: &Skin<'_>,
 ) -> End<'a>
     requires utf8 { HasUtf8 (command_of command.now) }
     requires text { IsTextFor (plan (command_of command.now)).makes (option_copied text) }
     requires format { has_format (formats_by format_name text_for formats.old.items) (plan (command_of command.now)).format ≡ Ok tt }
     requires fresh { AreFresh is_closed rows_so_far formats.old.items }
     ensures ends { Ends F.told F.faults shelf.old shelf.new O.told O.faults out.old out.new (plan (command_of command.now)).journals
-        (λ reader files. made_with reader files (formats_by format_name text_for formats.old.items) (plan (command_of command.now)).makes (option_copied text.entry))
+        (λ reader files. made_with reader files (brought_by format_name text_for formats.old.items skin.now) (plan (command_of command.now)).makes (option_copied text.entry))
         (end_view result) }
     ensures formats { LeavesFormats (end_status (end_view result))
         (without_asked format_name (plan (command_of command.now)).format formats.old.items) formats.old.items formats.new.items }
@@ -74,6 +79,11 @@ pub(crate) fn carry_out<'a, F: Shelf, O: Sink>(
             ),
             out,
         ),
+        Command::Page {
+            locks,
+            journals,
+            ..
+        } => put_page(alloc, locks, journals, text.unwrap(), shelf, skin, out),
         Command::Write {
             locks,
             journals,

@@ -2,7 +2,7 @@
 
 ghost use Rattle.std.specs.Prelude.{◌≡◌, ◌≤◌, ℕ, List};
 ghost use Rattle.redl_app.specs.AnyOrder.{OrderDoesNotCount};
-ghost use Rattle.redl_app.specs.Formats.{Format};
+ghost use Rattle.redl_app.specs.Brought.{Brought};
 ghost use Rattle.redl_app.specs.Left.{LeavesSound};
 ghost use Rattle.redl_app.specs.Outcome.{outcome};
 ghost use Rattle.redl_inputs.specs.Readers.{Reader, IsReader};
@@ -19,8 +19,8 @@ pub fn a_reader()
 
 /// A call comes to one outcome, by whichever reader it is told.
 pub fn one_outcome()
-    ensures { (reader other : Reader) → IsReader reader → IsReader other → (words : List (List ℕ)) (files : Files) (formats : List Format)
-        → outcome reader words files formats ≡ outcome other words files formats }
+    ensures { (reader other : Reader) → IsReader reader → IsReader other → (words : List (List ℕ)) (files : Files) (brought : Brought)
+        → outcome reader words files brought ≡ outcome other words files brought }
 {}
 
 /// What `settle` and `write` put out is the text of a sound package with exactly the text that survives.
@@ -29,13 +29,13 @@ pub fn one_outcome()
 /// pieces of the stories are those of the original that survive, in their order, and all nine rules of structure hold
 /// again. Nothing says that the text reads again as XML: where an element between `]]` and `>` goes, it does not.
 pub fn what_is_left_is_sound()
-    ensures { (reader : Reader) (words : List (List ℕ)) (files : Files) (formats : List Format) → LeavesSound reader words files formats }
+    ensures { (reader : Reader) (words : List (List ℕ)) (files : Files) (brought : Brought) → LeavesSound reader words files brought }
 {}
 
 /// A call for a sample that is within its limit comes to its summary: the sample is a sound package.
 pub fn samples_are_written()
-    ensures { (reader : Reader) → IsReader reader → (words : List (List ℕ)) (files : Files) (formats : List Format) (number : ℕ)
-        → IsCommand words (sample number) → number ≤ sample_paragraphs → (outcome reader words files formats).status ≡ Status.Done }
+    ensures { (reader : Reader) → IsReader reader → (words : List (List ℕ)) (files : Files) (brought : Brought) (number : ℕ)
+        → IsCommand words (sample number) → number ≤ sample_paragraphs → (outcome reader words files brought).status ≡ Status.Done }
 {}
 
 /// The order of the journals and repeats do not count.
@@ -43,5 +43,5 @@ pub fn samples_are_written()
 /// Where two calls of a command differ in the order and the repeats of their journals alone, and both have the status 0 or 1,
 /// they have the same status, bytes and lines. A repeat counts only for the limit on the bytes of all journals.
 pub fn order_does_not_count()
-    ensures { (reader : Reader) (files : Files) (formats : List Format) → OrderDoesNotCount reader files formats }
+    ensures { (reader : Reader) (files : Files) (brought : Brought) → OrderDoesNotCount reader files brought }
 {}

@@ -18,6 +18,7 @@ pub(crate) fn package(command: &Command) -> Option<&str>
         Command::Settle { package, .. }
         | Command::Text { package, .. }
         | Command::List { package, .. }
+        | Command::Page { package, .. }
         | Command::Write { package, .. }
         | Command::Decide { package, .. }
         | Command::Check { package } => Some(name_of(package)),

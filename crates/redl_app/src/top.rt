@@ -8,7 +8,8 @@ ghost use Rattle.std.specs.Io.KnownBytes.{append_known};
 ghost use Rattle.redl_app.specs.Answers.{AreLines, IsAnswer, MayFault, OfOutcome, TellsSome, Writes};
 ghost use Rattle.redl_app.specs.Files.{files_of};
 ghost use Rattle.redl_app.specs.Finishing.{Ends, IsWanted, words_failure};
-ghost use Rattle.redl_app.specs.Formats.{AreFresh, LeavesFormats, formats_by, without_asked};
+ghost use Rattle.redl_app.specs.Brought.{brought_by};
+ghost use Rattle.redl_app.specs.Formats.{AreFresh, LeavesFormats, without_asked};
 ghost use Rattle.redl_app.specs.Left.{Leaves};
 ghost use Rattle.redl_app.specs.Outcome.{carried_out, outcome};
 ghost use Rattle.redl_app.specs.Plans.{plan};
@@ -32,6 +33,7 @@ use redl_inputs::fetch_package;
 use redl_io::{NullSink, Shelf, Sink, SureShelf, Text};
 use redl_lines::{Cause, End, Failure, Remarks, Status, tell};
 use redl_listing::RowFormat;
+use redl_page::Skin;
 use redl_words::{Command, WordsError, read_words};
 use std::alloc::Global;
 
@@ -49,18 +51,19 @@ pub fn run<F: Shelf, O: Sink, E: Sink>(
     out: &mut O,
     err: &mut E,
     formats: &mut Vec<Box<dyn RowFormat>>,
+    skin: &Skin<'_>,
 ) -> Status
     requires utf8 { All IsUtf8 words.now }
     requires fresh { AreFresh is_closed rows_so_far formats.old.items }
 
     // Where the shelf tells, or the words ask for no file, the status is the outcome's, but for what the outside forces.
-    ensures status { OfOutcome (F.told shelf.old) words.now (formats_by format_name text_for formats.old.items)
+    ensures status { OfOutcome (F.told shelf.old) words.now (brought_by format_name text_for formats.old.items skin.now)
         (λ outcome. IsAnswer result outcome (Rose (F.faults shelf.old) (F.faults shelf.new)) (Rose (O.faults out.old) (O.faults out.new))) }
 
     // Over every shelf.
     ensures usage { HasNoCommand words.now → (result ≡ Status.Usage) ⊎ (result ≡ Status.NoMemory) }
     ensures read { result ≡ Status.ReadFault
-        → MayFault words.now (formats_by format_name text_for formats.old.items) (F.told shelf.old) (Rose (F.faults shelf.old) (F.faults shelf.new)) }
+        → MayFault words.now (brought_by format_name text_for formats.old.items skin.now) (F.told shelf.old) (Rose (F.faults shelf.old) (F.faults shelf.new)) }
     ensures write { result ≡ Status.WriteFault → Rose (O.faults out.old) (O.faults out.new) }
 
     // No fault is passed over, and nothing is taken from the shelf.
@@ -74,16 +77,16 @@ pub fn run<F: Shelf, O: Sink, E: Sink>(
     ensures no_format { HasNoCommand words.now → formats.new.items ≡ formats.old.items }
 
     // What went out.
-    ensures bytes { OfOutcome (F.told shelf.old) words.now (formats_by format_name text_for formats.old.items)
+    ensures bytes { OfOutcome (F.told shelf.old) words.now (brought_by format_name text_for formats.old.items skin.now)
         (λ outcome. Writes O.told out.old out.new result outcome.bytes) }
-    ensures left { Leaves result (F.told shelf.old) words.now (formats_by format_name text_for formats.old.items) }
+    ensures left { Leaves result (F.told shelf.old) words.now (brought_by format_name text_for formats.old.items skin.now) }
     ensures untouched { result ≢ Status.Done → result ≢ Status.Refused → result ≢ Status.WriteFault → O.told out.new ≡ O.told out.old }
-    ensures lines { OfOutcome (F.told shelf.old) words.now (formats_by format_name text_for formats.old.items)
+    ensures lines { OfOutcome (F.told shelf.old) words.now (brought_by format_name text_for formats.old.items skin.now)
         (λ outcome. TellsSome E.told E.faults err.old err.new
-        (AreLines result outcome words.now (formats_by format_name text_for formats.old.items) (Rose (F.faults shelf.old) (F.faults shelf.new)))) }
+        (AreLines result outcome words.now (brought_by format_name text_for formats.old.items skin.now) (Rose (F.faults shelf.old) (F.faults shelf.new)))) }
 {
     let read = read_words(alloc, words);
-    let end = end_of_words(alloc, &read, shelf, out, formats);
+    let end = end_of_words(alloc, &read, shelf, out, formats, skin);
     tell(&end, err);
     end.status()
 }
@@ -95,19 +98,20 @@ fn end_of_words<'a, F: Shelf, O: Sink>(
     shelf: &mut F,
     out: &mut O,
     formats: &mut Vec<Box<dyn RowFormat>>,
+    skin: &Skin<'_>,
 ) -> End<'a>
     requires utf8 { IfOk read.now (λ command. HasUtf8 (command_of command)) }
     requires fresh { AreFresh is_closed rows_so_far formats.old.items }
-    ensures ends { (due : Reader → Files → Result WritingOf FailureOf) → IsWanted (formats_by format_name text_for formats.old.items) (read_view read.now) due
+    ensures ends { (due : Reader → Files → Result WritingOf FailureOf) → IsWanted (brought_by format_name text_for formats.old.items skin.now) (read_view read.now) due
         → Ends F.told F.faults shelf.old shelf.new O.told O.faults out.old out.new
-        (named_files (formats_by format_name text_for formats.old.items) read.now) due (end_view result) }
+        (named_files (brought_by format_name text_for formats.old.items skin.now) read.now) due (end_view result) }
     ensures words { IfErr read.now (λ error. end_view result ≡ failed (words_failure error)) }
     ensures taken { IfOk read.now (λ command. LeavesFormats (end_status (end_view result))
         (without_asked format_name (plan (command_of command)).format formats.old.items) formats.old.items formats.new.items) }
     ensures no_format { IfErr read.now (λ _. formats.new.items ≡ formats.old.items) }
 {
     match read {
-        Ok(command) => end_of_command(alloc, command, shelf, out, formats),
+        Ok(command) => end_of_command(alloc, command, shelf, out, formats, skin),
         Err(error) => End::Failed(failure_of(*error)),
     }
 }
@@ -128,12 +132,13 @@ fn end_of_command<'a, F: Shelf, O: Sink>(
     shelf: &mut F,
     out: &mut O,
     formats: &mut Vec<Box<dyn RowFormat>>,
+    skin: &Skin<'_>,
 ) -> End<'a>
     requires utf8 { HasUtf8 (command_of command.now) }
     requires fresh { AreFresh is_closed rows_so_far formats.old.items }
     ensures ends { Ends F.told F.faults shelf.old shelf.new O.told O.faults out.old out.new
-        (files_of (formats_by format_name text_for formats.old.items) (plan (command_of command.now)))
-        (λ reader files. carried_out reader files (formats_by format_name text_for formats.old.items) (plan (command_of command.now)))
+        (files_of (brought_by format_name text_for formats.old.items skin.now) (plan (command_of command.now)))
+        (λ reader files. carried_out reader files (brought_by format_name text_for formats.old.items skin.now) (plan (command_of command.now)))
         (end_view result) }
     ensures taken { LeavesFormats (end_status (end_view result))
         (without_asked format_name (plan (command_of command.now)).format formats.old.items) formats.old.items formats.new.items }
@@ -142,10 +147,10 @@ fn end_of_command<'a, F: Shelf, O: Sink>(
         return End::Failed(failure);
     }
     let Some(name) = package(command) else {
-        return carry_out(alloc, command, None, shelf, out, formats);
+        return carry_out(alloc, command, None, shelf, out, formats, skin);
     };
     match fetch_package(alloc, name, shelf) {
-        Ok(text) => carry_out(alloc, command, Some(&text), shelf, out, formats),
+        Ok(text) => carry_out(alloc, command, Some(&text), shelf, out, formats, skin),
         Err(failure) => End::Failed(failure),
     }
 }
@@ -186,12 +191,13 @@ pub fn run_surely<E: Sink>(
     shelf: &mut SureShelf,
     err: &mut E,
     formats: &mut Vec<Box<dyn RowFormat>>,
+    skin: &Skin<'_>,
 ) -> Status
     requires utf8 { All IsUtf8 words.now }
     requires fresh { AreFresh is_closed rows_so_far formats.old.items }
     ensures { (reader : Reader) → IsReader reader
-        → (result ≡ (outcome reader words.now (file_named shelf.old) (formats_by format_name text_for formats.old.items)).status)
+        → (result ≡ (outcome reader words.now (file_named shelf.old) (brought_by format_name text_for formats.old.items skin.now)).status)
         ⊎ (result ≡ Status.NoMemory) }
 {
-    run(alloc, words, shelf, &mut NullSink, err, formats)
+    run(alloc, words, shelf, &mut NullSink, err, formats, skin)
 }

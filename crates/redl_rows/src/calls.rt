@@ -5,6 +5,7 @@ ghost use Rattle.std.specs.Prelude.{IfOk, All, IsUtf8};
 use redl_app::{Status, add_word, run};
 use redl_io::{MemShelf, MemSink, Text};
 use redl_listing::{FullFormat, JsonFormat, TabFormat, TextFormat, WordsFormat, add_format};
+use redl_page::Skin;
 use std::alloc::{AllocError, Global};
 
 /// What a call came to: its status, what was written, and the lines on standard error.
@@ -14,6 +15,13 @@ pub(crate) struct Answer {
     pub written: MemSink,
     pub lines: MemSink,
 }
+
+// What stands as it is in a page.
+const SKIN: Skin<'static> = Skin {
+    policy: b"default-src 'none'",
+    style: b"p{}",
+    script: b"1 < 2",
+};
 
 // The most bytes that a call of a row writes.
 const ROOM: usize = 20_000;
@@ -52,7 +60,7 @@ fn run_words(
     add_format(&mut formats, Box::new(alloc, JsonFormat::new(alloc)?)?)?;
     add_format(&mut formats, Box::new(alloc, WordsFormat::new(alloc)?)?)?;
     add_format(&mut formats, Box::new(alloc, FullFormat::new(alloc)?)?)?;
-    Ok(run(alloc, words, shelf, written, lines, &mut formats))
+    Ok(run(alloc, words, shelf, written, lines, &mut formats, &SKIN))
 }
 
 // The words of a line, with spaces between them. What stands between two quotes is one word.

@@ -8,7 +8,7 @@ pub(crate) const FRONT: &str = "{package}{document}";
 pub(crate) const BACK: &str = "{/document}{/package}";
 
 // Each name and its text. A text that holds another one comes first.
-const NAMES: [(&str, &str); 20] = [
+const NAMES: [(&str, &str); 23] = [
     (
         "{A}",
         " w:id=\"1\" w:author=\"Ann\" w:date=\"2024-05-06T07:08:09Z\"",
@@ -56,6 +56,18 @@ const NAMES: [(&str, &str); 20] = [
         "<pkg:part pkg:name=\"/word/comments.xml\" pkg:contentType=\"application/vnd.openxmlformats-officedocument.wordprocessingml.comments+xml\"><pkg:xmlData><w:comments xmlns:w=\"http://schemas.openxmlformats.org/wordprocessingml/2006/main\">",
     ),
     ("{/comments}", "</w:comments></pkg:xmlData></pkg:part>"),
+    (
+        "{page}",
+        "<!DOCTYPE html>\n<html lang=\"en\">\n<head>\n<meta charset=\"utf-8\">\n<meta http-equiv=\"Content-Security-Policy\" content=\"default-src 'none'\">\n<meta name=\"viewport\" content=\"width=device-width, initial-scale=1\">\n<title>Redline: changes to decide</title>\n<style>p{}</style>\n</head>\n<body data-document=\"",
+    ),
+    (
+        "{changes}",
+        "</main>\n<aside aria-label=\"Changes\">\n<ol>\n",
+    ),
+    (
+        "{/page}",
+        "</ul>\n</aside>\n<script>1 < 2</script>\n</body>\n</html>\n",
+    ),
     ("{n}", "\n"),
     ("{r}", "\r"),
     ("{t}", "\t"),

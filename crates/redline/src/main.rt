@@ -9,6 +9,7 @@
 #![tactic(auto)]
 
 mod help;
+mod skin;
 
 ghost use Rattle.std.specs.Prelude.{◌≡◌, drop, map, IfOk, All, IsUtf8};
 ghost use Rattle.std.specs.String.{string_bytes};
@@ -19,6 +20,8 @@ use redl_app::{Status, WordsError, add_word, refuse_words, run, tell_text};
 use redl_hints::{Fetched, Told, tell_hints, tell_word_hint};
 use redl_io::{FileShelf, Shelf, Sink, StdSink, Text};
 use redl_listing::{FullFormat, JsonFormat, TabFormat, TextFormat, WordsFormat, add_format};
+use redl_page::Skin;
+use skin::{POLICY, SCRIPT, STYLE};
 use std::alloc::{AllocError, Global};
 use std::env;
 use std::env::Args;
@@ -98,7 +101,16 @@ fn run_with_formats<F: Shelf, O: Sink, E: Sink>(
     add_format(&mut formats, Box::new(alloc, JsonFormat::new(alloc)?)?)?;
     add_format(&mut formats, Box::new(alloc, WordsFormat::new(alloc)?)?)?;
     add_format(&mut formats, Box::new(alloc, FullFormat::new(alloc)?)?)?;
-    Ok(run(alloc, words, shelf, out, err, &mut formats))
+    Ok(run(alloc, words, shelf, out, err, &mut formats, &page_skin()))
+}
+
+// The program's own policy, style and script for a page.
+fn page_skin() -> Skin<'static> {
+    Skin {
+        policy: POLICY.as_bytes(),
+        style: STYLE.as_bytes(),
+        script: SCRIPT.as_bytes(),
+    }
 }
 
 // What the program tells of itself, where the words ask for that alone, or where there are none.

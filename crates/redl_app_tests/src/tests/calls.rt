@@ -3,9 +3,17 @@ ghost use Rattle.std.specs.Prelude.{IfOk, All, IsUtf8};
 
 use redl_app::{Status, add_word, run, run_surely};
 use redl_io::{MemShelf, MemSink, SureShelf, Text};
+use redl_page::Skin;
 use sha2::{Digest, Sha256};
 use std::alloc::{AllocError, Global};
 use std::process::Abort;
+
+/// What stands as it is in a page.
+pub(super) const SKIN: Skin<'static> = Skin {
+    policy: b"default-src 'none'",
+    style: b"p{}",
+    script: b"1 < 2",
+};
 
 pub(super) const FRONT: &[u8] =
     b"<?xml version=\"1.0\" encoding=\"UTF-8\"?><pkg:package xmlns:pkg=\"http://schemas.microsoft.com/office/2006/xmlPackage\"><pkg:part pkg:name=\"/word/document.xml\" pkg:contentType=\"application/vnd.openxmlformats-officedocument.wordprocessingml.document.main+xml\"><pkg:xmlData><w:document xmlns:w=\"http://schemas.openxmlformats.org/wordprocessingml/2006/main\"><w:body>";
@@ -117,7 +125,7 @@ pub(super) fn call(
     err: &mut MemSink,
 ) -> Result<Status, AllocError> {
     let words = words_of(alloc, line)?;
-    Ok(run(alloc, &words, shelf, out, err, &mut Vec::new(alloc)))
+    Ok(run(alloc, &words, shelf, out, err, &mut Vec::new(alloc), &SKIN))
 }
 
 /// Calls over a shelf that never fails, without formats, and drops the output.
@@ -128,7 +136,7 @@ pub(super) fn call_surely(
     err: &mut MemSink,
 ) -> Result<Status, AllocError> {
     let words = words_of(alloc, line)?;
-    Ok(run_surely(alloc, &words, shelf, err, &mut Vec::new(alloc)))
+    Ok(run_surely(alloc, &words, shelf, err, &mut Vec::new(alloc), &SKIN))
 }
 
 /// Does the call with the words of this line over this shelf.

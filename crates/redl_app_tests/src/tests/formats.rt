@@ -1,7 +1,7 @@
 //! Lists of formats: one of the tests' own, two of one name, and none.
 ghost use Rattle.std.specs.Prelude.{◌≡◌, All, [], false};
 
-use super::calls::{INSERTED, Want, expect_call, files_of, words_of};
+use super::calls::{INSERTED, SKIN, Want, expect_call, files_of, words_of};
 use crate::count_format::CountFormat;
 use redl_app::{Status, run};
 use redl_io::{MemShelf, MemSink, NullSink};
@@ -37,7 +37,7 @@ fn call_in(
     requires { All (λ format. (is_closed format ≡ false) × (rows_so_far format ≡ [])) formats.old.items }
 {
     let words = words_of(alloc, line)?;
-    Ok(run(alloc, &words, shelf, out, &mut NullSink, formats))
+    Ok(run(alloc, &words, shelf, out, &mut NullSink, formats, &SKIN))
 }
 
 /// Three revisions in the tests' own format.

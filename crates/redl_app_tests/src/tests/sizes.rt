@@ -1,5 +1,5 @@
 //! How much a call fetches, and how much it puts at a time.
-use super::calls::{INSERTED, digest_of, journal, package, words_of};
+use super::calls::{INSERTED, SKIN, digest_of, journal, package, words_of};
 use redl_app::{Status, run};
 use redl_io::{Failed, NullSink, Shelf, ShelfError, Sink};
 use std::alloc::{AllocError, Global};
@@ -86,6 +86,7 @@ fn call(
         out,
         &mut NullSink,
         &mut Vec::new(alloc),
+        &SKIN,
     ))
 }
 

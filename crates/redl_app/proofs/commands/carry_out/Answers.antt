@@ -9,6 +9,9 @@ name_of-requires g c = (rw c.in-List.is at c.requires.utf8).1
 pub list-requires-clause-utf8 : goal.list-requires-clause-utf8
 list-requires-clause-utf8 g c = rw c.deref-in-List.ensures.value (rw c.in-List.is at c.requires.utf8).3
 
+pub put_page-requires : goal.put_page-requires
+put_page-requires g c = rw c.deref-in-Page-2.ensures.value (rw c.in-Page.is at c.requires.utf8).2
+
 pub write-requires : goal.write-requires
 write-requires g c = rw c.deref-in-Write-2.ensures.value (rw c.in-Write.is at c.requires.utf8).2
 
@@ -34,6 +37,13 @@ returns-in-List-clause-ends g c = record {
   made = result_view writing_view c.list.result;
   reads = rw (c.in-List.is, c.unwrap-in-List.ensures) (rw (c.name_of.ensures, c.deref.ensures.value, c.deref-in-List.ensures.value) at c.list.ensures.read);
   finishes = c.put-in-List.ensures;
+}
+
+pub returns-in-Page-clause-ends : goal.returns-in-Page-clause-ends
+returns-in-Page-clause-ends g c = record {
+  made = c.put_page.ensures.made;
+  reads = rw (c.in-Page.is, c.unwrap-in-Page.ensures) (rw (c.deref-in-Page.ensures.value, c.deref-in-Page-2.ensures.value) at c.put_page.ensures.reads);
+  finishes = c.put_page.ensures.finishes;
 }
 
 pub returns-in-Write-clause-ends : goal.returns-in-Write-clause-ends

@@ -2,15 +2,16 @@ use Rattle.std.proofs.Common.{◌≡◌, ◌∙◌, sym, ℕ, List}
 use Rattle.redl_app.proofs.LeftLaws.{leaves_package}
 use Rattle.redl_app.proofs.TopLaws.{due_by, answers, writes, tells, read_cause, write_cause, out_stands, untouched, shelf_stands}
 use Rattle.redl_app.proofs.WordLaws.{are_named, is_wanted, ends_as_usage, leaves_by_words, leaves_all, names_asked}
-use Rattle.redl_app.specs.Formats.{formats_by}
+use Rattle.redl_app.specs.Brought.{brought_by}
 use Rattle.redl_io.specs.Faults.{Rose}
 use Rattle.redl_lines.specs.Ends.{Tells, end_view}
 use Rattle.redl_app.proofs.top.run.Goals as goal
 
 pub returns-clause-status : goal.returns-clause-status
 returns-clause-status g c =
-    let ends = c.end_of_words-end.ensures.ends (due_by c.args.words.now _) (is_wanted c.args.words.now _ c.read_words-read.result c.read_words-read.ensures.found c.read_words-read.ensures.usage) in
-    rw c.status.ensures (answers _ (names_asked c.args.words.now _ c.read_words-read.result c.read_words-read.ensures.found) ends)
+    let brought = brought_by (λ b. (goal.RowFormat-dyn g (b.vtable, b.value)).format_name b.value) (λ b. (goal.RowFormat-dyn g (b.vtable, b.value)).text_for b.value) c.args.formats.now.items c.args.skin.now in
+    let ends = c.end_of_words-end.ensures.ends (due_by c.args.words.now brought) (is_wanted c.args.words.now brought c.read_words-read.result c.read_words-read.ensures.found c.read_words-read.ensures.usage) in
+    rw c.status.ensures (answers brought (names_asked c.args.words.now brought c.read_words-read.result c.read_words-read.ensures.found) ends)
 
 pub returns-clause-usage : goal.returns-clause-usage
 returns-clause-usage g c = λ none.
@@ -43,8 +44,9 @@ returns-clause-same_files g c =
 
 pub returns-clause-bytes : goal.returns-clause-bytes
 returns-clause-bytes g c =
-    let ends = c.end_of_words-end.ensures.ends (due_by c.args.words.now _) (is_wanted c.args.words.now _ c.read_words-read.result c.read_words-read.ensures.found c.read_words-read.ensures.usage) in
-    rw c.status.ensures (writes _ (names_asked c.args.words.now _ c.read_words-read.result c.read_words-read.ensures.found) ends)
+    let brought = brought_by (λ b. (goal.RowFormat-dyn g (b.vtable, b.value)).format_name b.value) (λ b. (goal.RowFormat-dyn g (b.vtable, b.value)).text_for b.value) c.args.formats.now.items c.args.skin.now in
+    let ends = c.end_of_words-end.ensures.ends (due_by c.args.words.now brought) (is_wanted c.args.words.now brought c.read_words-read.result c.read_words-read.ensures.found c.read_words-read.ensures.usage) in
+    rw c.status.ensures (writes brought (names_asked c.args.words.now brought c.read_words-read.result c.read_words-read.ensures.found) ends)
 
 pub returns-clause-untouched : goal.returns-clause-untouched
 returns-clause-untouched g c = λ not_done not_refused not_failed.
@@ -54,10 +56,11 @@ returns-clause-untouched g c = λ not_done not_refused not_failed.
 
 pub returns-clause-lines : goal.returns-clause-lines
 returns-clause-lines g c =
-    let ends = c.end_of_words-end.ensures.ends (due_by c.args.words.now _) (is_wanted c.args.words.now _ c.read_words-read.result c.read_words-read.ensures.found c.read_words-read.ensures.usage) in
+    let brought = brought_by (λ b. (goal.RowFormat-dyn g (b.vtable, b.value)).format_name b.value) (λ b. (goal.RowFormat-dyn g (b.vtable, b.value)).text_for b.value) c.args.formats.now.items c.args.skin.now in
+    let ends = c.end_of_words-end.ensures.ends (due_by c.args.words.now brought) (is_wanted c.args.words.now brought c.read_words-read.result c.read_words-read.ensures.found c.read_words-read.ensures.usage) in
     rw c.status.ensures (tells
     (λ (lines : List ℕ). Tells g.E.Sink.told g.E.Sink.faults c.args.err.now c.tell.new.err lines)
-    (are_named c.args.words.now _ c.read_words-read.result c.read_words-read.ensures.found) (names_asked c.args.words.now _ c.read_words-read.result c.read_words-read.ensures.found) ends c.tell.ensures)
+    (are_named c.args.words.now brought c.read_words-read.result c.read_words-read.ensures.found) (names_asked c.args.words.now brought c.read_words-read.result c.read_words-read.ensures.found) ends c.tell.ensures)
 
 pub returns-clause-taken : goal.returns-clause-taken
 returns-clause-taken g c = λ command reads.
@@ -70,7 +73,7 @@ returns-clause-no_format g c = λ none.
 
 pub returns-clause-left : goal.returns-clause-left
 returns-clause-left g c =
-    let formats = formats_by (λ b. (goal.RowFormat-dyn g (b.vtable, b.value)).format_name b.value) (λ b. (goal.RowFormat-dyn g (b.vtable, b.value)).text_for b.value) c.args.formats.now.items in
-    leaves_package c.status.result (g.F.Shelf.told c.args.shelf.now) c.args.words.now formats
+    let brought = brought_by (λ b. (goal.RowFormat-dyn g (b.vtable, b.value)).format_name b.value) (λ b. (goal.RowFormat-dyn g (b.vtable, b.value)).text_for b.value) c.args.formats.now.items c.args.skin.now in
+    leaves_package c.status.result (g.F.Shelf.told c.args.shelf.now) c.args.words.now brought
     (Rose (g.F.Shelf.faults c.args.shelf.now) (g.F.Shelf.faults c.end_of_words-end.new.shelf)) (Rose (g.O.Sink.faults c.args.out.now) (g.O.Sink.faults c.end_of_words-end.new.out))
     (returns-clause-status g c)
