@@ -55,6 +55,13 @@ impl Line {
         Ok(())
     }
 
+    /// Makes room for this number of bytes more. `Err` means out of memory.
+    fn make_room(&mut self, count: usize) -> Result<(), AllocError>
+        ensures { self.new ≡ self.old }
+    {
+        self.text.reserve(count)
+    }
+
     pub(crate) fn as_bytes(&self) -> &[u8]
         ensures { result.now ≡ self.now.text }
     {
@@ -73,6 +80,7 @@ impl Ear for Line {
     ghost heard_more = { drawn-more };
 
     fn hear(&mut self, bytes: &[u8]) -> Result<(), AllocError> {
+        self.make_room(bytes.len())?;
         for byte in bytes {
             self.draw(*byte)?;
         }

@@ -56,6 +56,13 @@ impl Phrase {
         }
     }
 
+    /// Makes room for what is kept of this number of bytes more. `Err` means out of memory.
+    fn make_room(&mut self, count: usize) -> Result<(), AllocError>
+        ensures { self.new ≡ self.old }
+    {
+        self.text.reserve(count.min(4 * self.room as usize))
+    }
+
     /// Hears one byte. `Err` means out of memory.
     #[tactic(auto, unfolding(crate::specs::Phrases::heard_byte))]
     fn hear_byte(&mut self, byte: u8) -> Result<(), AllocError>
@@ -132,6 +139,7 @@ impl Ear for Phrase {
     ghost heard_more = { heard-more };
 
     fn hear(&mut self, bytes: &[u8]) -> Result<(), AllocError> {
+        self.make_room(bytes.len())?;
         for byte in bytes {
             self.hear_byte(*byte)?;
         }
