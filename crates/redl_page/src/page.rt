@@ -121,7 +121,11 @@ fn digits(digest: &[u8; 32]) -> [u8; 64]
     digits
 }
 
-fn put_lists<K: Sink>(page: &Shown<'_, '_>, words: &LastWords<'_>, out: &mut K) -> Result<(), Failed>
+fn put_lists<K: Sink>(
+    page: &Shown<'_, '_>,
+    words: &LastWords<'_>,
+    out: &mut K,
+) -> Result<(), Failed>
     requires words { (rev : ℕ) → words_on words.now rev ≡ last_words page.now.book.now rev }
     requires locked { length page.now.locked.now ≡ length page.now.index.now }
     ensures { Puts K.told K.faults K.settled K.lenders out.old out.new (pieces_text (lists (shown_by page.now))) result }
