@@ -151,6 +151,7 @@ CHANGED = (
     '<w:pPrChange w:id="2" w:author="Ann Gray"><w:pPr><w:jc w:val="right"/></w:pPr></w:pPrChange></w:pPr>'
     '<w:r><w:rPr><w:b/><w:rPrChange w:id="3" w:author="Bob Hay"><w:rPr><w:i/></w:rPr></w:rPrChange></w:rPr><w:t>changed</w:t></w:r></w:p>'
 )
+DELETED_ROW = '<w:tr><w:trPr><w:del w:id="1"/></w:trPr><w:tc><w:p><w:r><w:t>row</w:t></w:r></w:p></w:tc></w:tr>'
 
 
 def row(i):
@@ -197,6 +198,9 @@ SHAPES = {
     "changes": lambda of: CHANGED * of(100000) + "<w:p/>",
     # one table of 100,000 rows, of which each third one and each second cell are tracked
     "table": lambda of: "<w:tbl>%s</w:tbl><w:p/>" % "".join(map(row, range(of(100000)))),
+    # a table of 40,000 deleted rows and one that stays, all of them in 240 content controls, each in the one before
+    "shells": lambda of: "<w:tbl>%s</w:tbl><w:p/>"
+    % ("<w:sdt><w:sdtContent>" * 240 + DELETED_ROW * of(40000) + "<w:tr><w:tc><w:p/></w:tc></w:tr>" + "</w:sdtContent></w:sdt>" * 240),
     # 20,000 moves, each from one paragraph to another
     "moves": lambda of: "".join(map(moved, range(of(20000)))) + "<w:p/>",
     # 100,000 starts of ranges that all have one name, so that none is paired
