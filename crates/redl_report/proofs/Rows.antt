@@ -15,6 +15,7 @@ use Rattle.redl_report.specs.declared.line.ReportLine.{ReportLine}
 use Rattle.redl_report.specs.declared.line.Role.{Role}
 use Rattle.redl_report.specs.declared.line.Role.TheVariants.{Reviewer, Author}
 use Rattle.redl_report.specs.Reports.{report_lines}
+use Rattle.redl_report.specs.Tables.{cells, table_report, table_row}
 use Rattle.redl_report.specs.Texts.{count_columns, text_line, text_report, json_report}
 
 abbrev revision : ℕ → String → Revision
@@ -50,6 +51,12 @@ row_text : text_report five true
     ≡ codes "reviewer       1       1       0       0 Dee\nreviewer       1       0       0       0 Eve\nauthor         1       0       0       0 Ann\nauthor         0       0       1       0 Bob\nauthor         0       0       0       1 Cy & Co\n"
 unfolding text_line count_columns digits shown
 row_text = refl
+
+-- the same for a terminal
+row_table : table_report five true
+    ≡ codes "role       accept   reject disputed     open name\nreviewer        1        1        0        0 Dee\nreviewer        1        0        0        0 Eve\nauthor          1        0        0        0 Ann\nauthor          0        0        1        0 Bob\nauthor          0        0        0        1 Cy & Co\nall             1        0        1        1 revisions\n"
+unfolding table_row cells digits shown
+row_table = refl
 
 -- older words of a reviewer don't count, nor do words of lower rank under the same seq, and a withdrawn word leaves its revision open
 row_own : report_lines [] (union [] (entry 1 1 word.Accept 9 "Dee" ∷ entry 2 1 word.Reject 0 "Dee" ∷ entry 3 2 word.Accept 1 "Dee" ∷ entry 3 2 word.Reject 2 "Dee" ∷ entry 1 3 word.Accept 0 "Dee" ∷ entry 2 3 word.Withdraw 0 "Dee" ∷ []))

@@ -2,3 +2,4 @@ pub mod Groups
 pub mod Reports
 pub mod Counts
 pub mod Texts
+pub mod Tables

@@ -2,7 +2,7 @@
 //!
 //! Read `lines` first. It counts for each reviewer what their own words come to on the revisions that they spoke of, and for
 //! each author what the book decides on the author's revisions. `report` puts such lines into a format of a list of boxed ones.
-//! It rests on what `ReportFormat` promises, whatever boxes the caller made; `TextReport` and `JsonReport` are two of them.
+//! It rests on what `ReportFormat` promises, whatever boxes the caller made; `TextReport`, `JsonReport` and `TableReport` are three.
 //! What a book decides on a revision is left to the crates below.
 #![tactic(auto)]
 
@@ -15,7 +15,9 @@ mod line_list;
 mod making;
 mod named;
 mod reviewers;
+mod table_report;
 mod text_lines;
+mod totals;
 
 pub use format::{JsonReport, ReportError, ReportFormat, TextReport};
 pub use json_lines::JsonLines;
@@ -23,4 +25,5 @@ pub use line::{ReportLine, Role};
 pub use line_list::lines;
 pub use making::{add_report_format, report};
 pub use named::has_report_name;
+pub use table_report::TableReport;
 pub use text_lines::TextLines;
