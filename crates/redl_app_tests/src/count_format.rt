@@ -1,4 +1,4 @@
-//! A format of the tests' own, of any name: a number sign for each row, and a newline when it is closed.
+//! A format of the tests' own, of any name: a number sign for each row, and a newline when it is closed. It may refuse rows.
 
 ghost use Rattle.std.specs.Prelude.{◌≡◌, IfOk, [], false};
 
@@ -10,6 +10,7 @@ use std::marker::Model;
 pub(crate) struct CountFormat {
     alloc: Global,
     title: String,
+    most: usize,
     rows: Vec<Row>,
     text: Vec<u8>,
     closed: bool,
@@ -27,7 +28,15 @@ impl Model for CountFormat {
 }
 
 impl CountFormat {
+    // A format that takes each row.
     pub(crate) fn new(alloc: Global, title: &str) -> Result<CountFormat, AllocError>
+        ensures { IfOk result (λ format. format ≡ record { title = title.now; rows = []; closed = false }) }
+    {
+        CountFormat::taking(alloc, title, usize::MAX)
+    }
+
+    // A format that takes this number of rows and refuses the next ones.
+    pub(crate) fn taking(alloc: Global, title: &str, most: usize) -> Result<CountFormat, AllocError>
         ensures { IfOk result (λ format. format ≡ record { title = title.now; rows = []; closed = false }) }
     {
         let title = String::from_str(alloc, title)?;
@@ -35,6 +44,7 @@ impl CountFormat {
         Ok(CountFormat {
             alloc,
             title,
+            most,
             rows: Vec::new(alloc),
             text,
             closed: false,
@@ -58,6 +68,9 @@ impl RowFormat for CountFormat {
     }
 
     fn row(&mut self, row: &Row) -> Result<(), RowError> {
+        if self.text.len() >= self.most {
+            return Err(RowError);
+        }
         let row = row.copy(self.alloc)?;
         self.text.reserve(2)?;
         if self.rows.push(row).is_err() {

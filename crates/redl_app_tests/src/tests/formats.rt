@@ -64,6 +64,30 @@ fn in_turn(alloc: Global) -> Result<(bool, bool), AllocError> {
     Ok((first.bytes() == b"#\n".as_slice(), left == 1))
 }
 
+/// What comes of three revisions in a format that refuses the third: the status, how many bytes are out, and how many formats are
+/// left of two.
+fn refused(alloc: Global) -> Result<(Status, usize, usize), AllocError> {
+    let mut formats = Vec::new(alloc);
+    add_format(&mut formats, Box::new(alloc, TextFormat::new(alloc)?)?)?;
+    add_format(
+        &mut formats,
+        Box::new(alloc, CountFormat::taking(alloc, "count", 2)?)?,
+    )?;
+    let mut shelf = MemShelf::new(files_of(alloc, THREE, "1", ["", "", ""])?, Vec::new(alloc));
+    let mut out = MemSink::new(alloc, 2_000, Vec::new(alloc))?;
+    let line = "list P --format count";
+    let status = call_in(alloc, line, &mut shelf, &mut out, &mut formats)?;
+    Ok((status, out.bytes().len(), formats.len()))
+}
+
+#[test]
+fn a_format_that_refuses_a_row_ends_the_call(rt: HostRuntime) -> Result<(), Fail> {
+    let (status, out, left) = refused(rt.alloc())?;
+    let is_wanted = status == Status::NoMemory && out == 0 && left == 1;
+    assert!(rt; is_wanted, "{status:?}: {out} bytes, {left} formats");
+    Ok(())
+}
+
 #[test]
 fn a_format_of_the_callers_own_is_taken(rt: HostRuntime) -> Result<(), Fail> {
     let made = counted(rt.alloc())?;
