@@ -1,5 +1,7 @@
 //! A shelf or a sink that fails, and words that can't be had.
-use super::calls::{INSERTED, INSERTED_LIVE, Want, call, expect_call, files_of, package};
+use super::calls::{
+    INSERTED, INSERTED_LIVE, Want, call, digest_of, expect_call, files_of, journal, package,
+};
 use redl_app::{Status, WordsError, refuse_words};
 use redl_io::{MemShelf, MemSink};
 use std::test::Fail;
@@ -52,6 +54,32 @@ fn an_output_that_fails_has_a_front(rt: HostRuntime) -> Result<(), Fail> {
             lines,
         };
         expect_call(&rt, alloc, line, &mut shelf, &[(1, taken as u64)], want)?;
+    }
+    Ok(())
+}
+
+#[test]
+fn a_journal_that_fails_has_a_front(rt: HostRuntime) -> Result<(), Fail> {
+    let alloc = rt.alloc();
+    let digest = digest_of(alloc, &package(alloc, INSERTED)?)?;
+    let whole = journal(alloc, &digest, "1", "1\t1\taccept\tAnn\n")?;
+    let unwritten = "redline: cannot write\n";
+    for (fails, taken, status, out, lines) in [
+        (1, 0, Status::WriteFault, 0, unwritten),
+        (1, 1, Status::WriteFault, 1, unwritten),
+        (1, 90, Status::WriteFault, 90, unwritten),
+        (2, 2, Status::Done, whole.len(), ""),
+    ] {
+        let files = files_of(alloc, INSERTED, "1", ["", "", ""])?;
+        let mut shelf = MemShelf::new(files, Vec::new(alloc));
+        let bytes = whole.get(..out).unwrap_or(b"");
+        let want = Want {
+            status,
+            bytes,
+            lines,
+        };
+        let line = "decide P Ann --accept all";
+        expect_call(&rt, alloc, line, &mut shelf, &[(fails, taken)], want)?;
     }
     Ok(())
 }

@@ -80,6 +80,37 @@ fn refused(alloc: Global) -> Result<(Status, usize, usize), AllocError> {
     Ok((status, out.bytes().len(), formats.len()))
 }
 
+/// What comes of one revision, listed as text, where this put fails and takes this number of bytes: the status, and what is out.
+fn listed_in_front(alloc: Global, fails: u64, taken: u64) -> Result<(Status, MemSink), AllocError> {
+    let mut formats = Vec::new(alloc);
+    add_format(&mut formats, Box::new(alloc, TextFormat::new(alloc)?)?)?;
+    let files = files_of(alloc, INSERTED, "1", ["", "", ""])?;
+    let mut shelf = MemShelf::new(files, Vec::new(alloc));
+    let mut out = MemSink::new(alloc, 2_000, vec![in alloc; (fails, taken)]?)?;
+    let status = call_in(alloc, "list P", &mut shelf, &mut out, &mut formats)?;
+    Ok((status, out))
+}
+
+#[test]
+fn a_listing_that_fails_has_a_front(rt: HostRuntime) -> Result<(), Fail> {
+    for (fails, taken, status, bytes) in [
+        (1, 0, Status::WriteFault, b"".as_slice()),
+        (1, 1, Status::WriteFault, b" "),
+        (1, 11, Status::WriteFault, b"      1 ins"),
+        (
+            2,
+            2,
+            Status::Done,
+            b"      1 ins          open     2024-05-06T07:08:09Z Ann\n",
+        ),
+    ] {
+        let (answer, out) = listed_in_front(rt.alloc(), fails, taken)?;
+        let is_wanted = answer == status && out.bytes() == bytes;
+        assert!(rt; is_wanted, "{fails}, {taken}: {answer:?}");
+    }
+    Ok(())
+}
+
 #[test]
 fn a_format_that_refuses_a_row_ends_the_call(rt: HostRuntime) -> Result<(), Fail> {
     let (status, out, left) = refused(rt.alloc())?;
