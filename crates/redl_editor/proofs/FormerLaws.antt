@@ -4,7 +4,7 @@ use Rattle.std.proofs.lemmas.List.{ext_get_or, drop_more, drop_all, map-append}
 use Rattle.std.proofs.lemmas.List.Folds.{list_any-append}
 use Rattle.std.proofs.lemmas.Option.{unwrap_or-slice_get}
 use Rattle.std.proofs.lemmas.Bool.Decides.{eqb_tells}
-use Rattle.redl_tree.proofs.Leaves.Says.{set_say-length, set_each-length, set_say-same, set_say-other, set_say-own}
+use Rattle.redl_tree.proofs.Leaves.Says.{set_say-length, set_each-length, set_say-same, set_say-other, set_say-own, same_say-is, same_say-refl}
 use Rattle.redl_tree.proofs.NameLaws.{or-left, or-right}
 use Rattle.redl_tree.specs.Decisions.Fates.{say_of}
 use Rattle.redl_tree.specs.Leaves.Settings.{Setting, set_say, set_each, is_among, same_say, SameBut}
@@ -13,22 +13,6 @@ use Rattle.redl_tree.specs.declared.kinds.Say.TheVariants.{Keep, Accept, Reject}
 use Rattle.redl_editor.specs.Changes.{setting_of, is_changed, former_of, differ}
 use Rattle.redl_editor.specs.Holdings.{is_touched}
 use Rattle.redl_editor.specs.declared.changing.Change.{Change}
-
-pub same_say-is : (a b : Say) → same_say a b ≡ true → a ≡ b
-same_say-is Keep Keep h = refl
-same_say-is Accept Accept h = refl
-same_say-is Reject Reject h = refl
-same_say-is Keep Accept h = absurd (true≢false (sym h))
-same_say-is Keep Reject h = absurd (true≢false (sym h))
-same_say-is Accept Keep h = absurd (true≢false (sym h))
-same_say-is Accept Reject h = absurd (true≢false (sym h))
-same_say-is Reject Keep h = absurd (true≢false (sym h))
-same_say-is Reject Accept h = absurd (true≢false (sym h))
-
-pub same_say-refl : (a : Say) → same_say a a ≡ true
-same_say-refl Keep = refl
-same_say-refl Accept = refl
-same_say-refl Reject = refl
 
 not-true : (b : Bool) → not b ≡ false → b ≡ true
 not-true true h = refl

@@ -5,7 +5,7 @@ ghost use Rattle.redl_editor.specs.Changes.{setting_of, former_of, differ};
 ghost use Rattle.redl_editor.specs.Holdings.{is_touched};
 ghost use Rattle.redl_tree.specs.Leaves.Settings.{set_say, set_each};
 
-use redl_leaves::say_at;
+use redl_tables::say_at;
 use redl_tree::Say;
 use std::alloc::{AllocError, Global};
 

@@ -20,7 +20,6 @@ mod writing;
 
 pub use finding::make_leaf;
 pub use lending::lend;
-pub use setting::say_at;
 pub use slots::{Container, Leaf, Slot, Tally};
 pub use spot::{Root, Spot};
 pub use stepping::Made;

@@ -3,12 +3,12 @@
 ghost use Rattle.std.specs.Prelude.{◌≡◌};
 ghost use Rattle.redl_leaves.specs.Members.{item_member};
 ghost use Rattle.redl_leaves.specs.View.{leaf_model, present_of};
-ghost use Rattle.redl_tree.specs.Decisions.Fates.{say_of};
 ghost use Rattle.redl_tree.specs.Leaves.Present.{pass_leaf};
 ghost use Rattle.redl_tree.specs.Leaves.Settings.{has_member, is_decided};
 ghost use Rattle.redl_tree.specs.Model.View.{nodes_of, item_of};
 
 use crate::slots::Leaf;
+use redl_tables::say_at;
 use redl_tree::{Node, Say};
 
 /// Gives a leaf its pass under these says. Where nothing in it is decided it keeps no second list.
@@ -50,14 +50,4 @@ fn is_decided_rev(says: &[Say], rev: u32) -> bool
     ensures { result ≡ is_decided says.now rev }
 {
     say_at(says, rev) != Say::Keep
-}
-
-/// The say on the revision with this number. Numbers count from 1, and a revision without a say is undecided.
-pub fn say_at(says: &[Say], rev: u32) -> Say
-    ensures { result ≡ say_of says.now rev }
-{
-    match (rev as usize).checked_sub(1) {
-        Some(index) if index < says.len() => says[index],
-        _ => Say::Keep,
-    }
 }

@@ -16,8 +16,8 @@ pub fn fate_of(says: &[Say], elem: &Elem) -> Fate
     fate(elem.kind(), say_at(says, elem.rev()))
 }
 
-// The say on the revision with this number. Numbers count from 1.
-fn say_at(says: &[Say], rev: u32) -> Say
+/// The say on the revision with this number. Numbers count from 1, and a revision without a say is undecided.
+pub fn say_at(says: &[Say], rev: u32) -> Say
     ensures { result ≡ say_of says.now rev }
 {
     match (rev as usize).checked_sub(1) {
