@@ -17,3 +17,4 @@ pub use elements::only_element;
 pub use error::OpcError;
 pub use laws::{each_story_has_a_part, numbering_keeps_parts, stories_are_of_parts};
 pub use package::Package;
+pub use shape::{package_of, story_of};

@@ -29,8 +29,8 @@ fn is_part(elem: &Elem) -> bool
         && only_element(elem.kids()).is_some_and(|data| is_data(data))
 }
 
-/// The root of a part, if it is a story.
-pub(crate) fn story_of<'n, 'a>(part: &'n Elem<'a>) -> Option<&'n Elem<'a>>
+/// The root of a part's data, where that is one element and the root of a story: `None` says that the part is no story.
+pub fn story_of<'n, 'a>(part: &'n Elem<'a>) -> Option<&'n Elem<'a>>
     ensures { Gives (λ root. element_of root.now) result (story_of (element_of part.now)) }
 {
     let data = only_element(part.kids())?;
@@ -54,8 +54,8 @@ fn is_document(part: &Elem) -> bool
     }
 }
 
-/// The root, if it is `package`.
-pub(crate) fn package_of<'n, 'a>(nodes: &'n [Node<'a>]) -> Option<&'n Elem<'a>>
+/// The root of these nodes, where they have one element alone and that is a `package` of Flat OPC.
+pub fn package_of<'n, 'a>(nodes: &'n [Node<'a>]) -> Option<&'n Elem<'a>>
     ensures { Gives (λ root. element_of root.now) result (package_of (nodes_of nodes.now)) }
 {
     let root = only_element(nodes)?;

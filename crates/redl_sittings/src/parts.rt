@@ -1,15 +1,14 @@
 //! The revisions of the elements of each story, part by part.
 
 ghost use Rattle.std.specs.Prelude.{◌≡◌, IfOk, map};
-ghost use Rattle.redl_reading.specs.Steps.{Gives};
 ghost use Rattle.redl_tree.specs.Model.View.{nodes_of};
 ghost use Rattle.redl_opc.specs.Elements.{element_of, elements_of};
-ghost use Rattle.redl_opc.specs.Shape.{package_of, story_of};
+ghost use Rattle.redl_opc.specs.Shape.{story_of};
 ghost use Rattle.redl_sittings.specs.SecondNumbers.{numbers_below, part_numbers};
 
 use crate::along::add_numbers;
-use redl_opc::only_element;
-use redl_tree::{Elem, Node, is_named_pkg, is_story_root};
+use redl_opc::{package_of, story_of};
+use redl_tree::{Elem, Node};
 use std::alloc::{AllocError, Global};
 
 /// The revision of each element below the root of each story, in the order of their start tags, and 0 for one that is in none.
@@ -45,32 +44,4 @@ fn numbers_of(alloc: Global, part: &Elem) -> Result<Vec<u32>, AllocError>
         add_numbers(&mut numbers, root.kids())?;
     }
     Ok(numbers)
-}
-
-// The root, if it is that of a package.
-fn package_of<'n, 'a>(nodes: &'n [Node<'a>]) -> Option<&'n Elem<'a>>
-    ensures { Gives (λ root. element_of root.now) result (package_of (nodes_of nodes.now)) }
-{
-    let root = only_element(nodes)?;
-    if is_named_pkg(root, b"package") {
-        Some(root)
-    } else {
-        None
-    }
-}
-
-// The root of a part, if it is a story.
-fn story_of<'n, 'a>(part: &'n Elem<'a>) -> Option<&'n Elem<'a>>
-    ensures { Gives (λ root. element_of root.now) result (story_of (element_of part.now)) }
-{
-    let data = only_element(part.kids())?;
-    if !is_named_pkg(data, b"xmlData") {
-        return None;
-    }
-    let root = only_element(data.kids())?;
-    if is_story_root(root) {
-        Some(root)
-    } else {
-        None
-    }
 }
