@@ -1,7 +1,7 @@
-mod Shapes
-mod Blocks
+pub mod Shapes
+pub mod Blocks
 mod Legal
 mod Outside
-mod Readings
+pub mod Readings
 mod Rules
 pub mod Samples
