@@ -129,6 +129,17 @@ module _ {K : Type 0} {R : K → K → Ordering} (o : IsTotalOrder R) where
         let other : R x e ≡ Less = o.antisymm x e ∙ ap ordering_reverse more in
         (all_insert R (λ z. R x z ≡ Less) xs e sorted.0 other, rec)
 
+  -- an element that was not there, inserted and removed again, leaves the list as it was
+  pub remove_insert : (xs : List K) (e : K) → list_any (λ y. is_eq (R e y)) xs ≡ false → remove_key (λ y. is_eq (R e y)) (insert_key R xs e) ≡ xs
+  remove_insert [] e none = rw (tied_itself o e) refl
+  remove_insert (x ∷ xs) e none = by (R e x) refl none (remove_insert xs e) where
+    by : (r : Ordering) → R e x ≡ r → (is_eq r || list_any (λ y. is_eq (R e y)) xs) ≡ false
+        → (list_any (λ y. is_eq (R e y)) xs ≡ false → remove_key (λ y. is_eq (R e y)) (insert_key R xs e) ≡ xs)
+        → remove_key (λ y. is_eq (R e y)) (match_ordering r (e ∷ x ∷ xs) (x ∷ xs) (x ∷ insert_key R xs e)) ≡ x ∷ xs
+    by Less is h rec = rw (tied_itself o e) refl
+    by Equal is h rec = absurd cc
+    by Greater is h rec = rw is (ap (λ (l : List K). x ∷ l) (rec h))
+
   -- what is there after an insert
   pub any_insert : (q : K) (xs : List K) (e : K) → list_any (λ y. is_eq (R q y)) (insert_key R xs e) ≡ (is_eq (R q e) || list_any (λ y. is_eq (R q y)) xs)
   any_insert q [] e = refl

@@ -1,7 +1,7 @@
 //! Laws of all books.
-ghost use Rattle.std.specs.Prelude.{◌≡◌, ◌↔◌, ◌++◌, ℕ, List, [], Contains};
+ghost use Rattle.std.specs.Prelude.{◌≡◌, ◌↔◌, ◌++◌, ℕ, List, [], false, Contains};
 ghost use Rattle.redl_journal.specs.declared.entry.Entry.{Entry};
-ghost use Rattle.redl_join.specs.Books.{IsBook, has_entry, union};
+ghost use Rattle.redl_join.specs.Books.{IsBook, has_entry, union, with_entry, without_entry};
 ghost use Rattle.redl_join.specs.LastWords.{last_words};
 ghost use Rattle.redl_join.specs.Verdicts.{verdict_at};
 
@@ -20,6 +20,11 @@ pub fn same_union()
 /// The union with one list of entries and then with another is the union with both.
 pub fn union_of_both()
     ensures { (book entries others : List Entry) → union (union book entries) others ≡ union book (entries ++ others) }
+{}
+
+/// An entry that a book had not, added and then removed, leaves the book as it was.
+pub fn removal_undoes_addition()
+    ensures { (book : List Entry) (entry : Entry) → has_entry book entry ≡ false → without_entry (with_entry book entry) entry ≡ book }
 {}
 
 /// The last words on a revision alone make its verdict.

@@ -19,5 +19,7 @@ mod verdict;
 pub use book::Book;
 pub use entry_list::Entries;
 pub use last_words::LastWords;
-pub use laws::{same_book, same_union, union_of_both, verdict_of_last_words};
+pub use laws::{
+    removal_undoes_addition, same_book, same_union, union_of_both, verdict_of_last_words,
+};
 pub use verdict::Verdict;
