@@ -12,7 +12,7 @@ use redl_journal::Entry;
 use std::alloc::{AllocError, Global};
 
 /// Why the entry is refused. `None` if it is not.
-pub(crate) fn cause(index: &Index, locks: &Locks, entry: &Entry) -> Option<AdmitError>
+pub fn cause(index: &Index, locks: &Locks, entry: &Entry) -> Option<AdmitError>
     ensures cause { result ≡ cause_of index.now locks.now entry.now }
     ensures known { IfNone result ((0 < entry.now.rev) × (entry.now.rev ≤ length index.now)) }
 {
@@ -23,7 +23,7 @@ pub(crate) fn cause(index: &Index, locks: &Locks, entry: &Entry) -> Option<Admit
 }
 
 /// Adds a copy of the entry, and says whether it is new. `Err` means out of memory, and the book is as it was.
-pub(crate) fn add_copy(alloc: Global, book: &mut Book, entry: &Entry) -> Result<bool, AllocError>
+pub fn add_copy(alloc: Global, book: &mut Book, entry: &Entry) -> Result<bool, AllocError>
     requires { IsAllowed entry.now }
     ensures added { OnOk result (book.new ≡ with_entry book.old entry.now) }
     ensures was_new { IfOk result (λ new. new ≡ not (has_entry book.old entry.now)) }
@@ -35,7 +35,7 @@ pub(crate) fn add_copy(alloc: Global, book: &mut Book, entry: &Entry) -> Result<
 
 /// Adds the entries that are not refused, and gives the others. `Err` means out of memory: only a first part of the entries
 /// was taken in.
-pub(crate) fn take_in(
+pub fn take_in(
     alloc: Global,
     index: &Index,
     locks: &Locks,

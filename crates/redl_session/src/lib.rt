@@ -12,7 +12,9 @@ mod refusal;
 mod says;
 mod session;
 
+pub use admission::{add_copy, cause, take_in};
 pub use laws::{admissions_make_the_union, order_does_not_count};
 pub use locks::Locks;
 pub use refusal::{AdmitError, Bar, Refusal, SessionWriteError, Taken};
+pub use says::{say_of, verdicts};
 pub use session::Session;

@@ -7,7 +7,7 @@ use redl_tree::Say;
 use std::alloc::{AllocError, Global};
 
 /// The say of a verdict. Disputed and open revisions are kept.
-pub(crate) fn say_of(verdict: Verdict) -> Say
+pub fn say_of(verdict: Verdict) -> Say
     ensures { result ≡ say_of_verdict verdict }
 {
     match verdict {
@@ -28,7 +28,7 @@ pub(crate) fn decide(book: &Book, says: &mut Vec<Say>, count: u32)
 }
 
 /// The verdicts on the revisions 1 to `count`. `Err` means out of memory.
-pub(crate) fn verdicts(alloc: Global, book: &Book, count: u32) -> Result<Vec<Verdict>, AllocError>
+pub fn verdicts(alloc: Global, book: &Book, count: u32) -> Result<Vec<Verdict>, AllocError>
     ensures { IfOk result (λ verdicts. verdicts.items ≡ verdicts_of book.now count) }
 {
     let mut verdicts = Vec::with_capacity(alloc, count as usize)?;
