@@ -8,8 +8,8 @@ ghost use Rattle.redl_tree.specs.Model.Count.{count, item_count};
 ghost use Rattle.redl_tree.specs.Model.Nodes.{Tag};
 ghost use Rattle.redl_tree.specs.Model.View.{nodes_of, item_of, tag_of, kids_of};
 
-use crate::rounds::{Round, is_block_para, may_go};
-use redl_tables::{fate_of, para_is_cut};
+use crate::rounds::Round;
+use redl_tables::{fate_of, is_block_para, may_go, para_is_cut};
 use redl_tree::{Elem, Fate, Node, Say};
 
 /// Whether each node of the list stays, whatever becomes of its kids.
@@ -40,6 +40,6 @@ fn elem_stays(elem: &Elem, says: &[Say], round: Round) -> bool
     ensures stay { (ancestors : List Tag) → round ≡ round_of says.now ancestors → result ≡ elem_stays_by says.now ancestors (tag_of elem.now) (kids_of elem.now) }
 {
     fate_of(says, elem) == Fate::Leave
-        && !may_go(elem, round)
-        && !(is_block_para(elem, says, round) && para_is_cut(elem.kids(), says))
+        && !may_go(elem, round.ancestors.place)
+        && !(is_block_para(elem, round.ancestors.place, says) && para_is_cut(elem.kids(), says))
 }

@@ -2,14 +2,13 @@
 use Rattle.std.proofs.Common.{◌≡◌, ℕ, ◌-◌, arith, length, take, drop, List, [], ◌∷◌, ◌++◌, Bool, true, false, ◌&&◌, ◌||◌, not, Option, Some, None, option_map, refl, sym, ap, ◌∙◌, true≢false, codes, if◌then◌else◌}
 use Rattle.std.proofs.lemmas.Bool.{and_parts}
 use Rattle.std.proofs.lemmas.List.{take_all, length-drop}
-use Rattle.std.specs.List.{list_any}
 use Rattle.redl_tree.specs.Model.Nodes.{Tag, Nodes, no_nodes, bytes, element, Item, bytes_item, element_item, in_front}
 use Rattle.redl_tree.specs.Model.Kids.{some_element}
 use Rattle.redl_tree.specs.Roles.Names.{is}
 use Rattle.redl_tree.specs.Roles.Places.{is_quiet, is_open}
 use Rattle.redl_tree.specs.Roles.Kinds.{is_content, is_free, is_leave}
-use Rattle.redl_tree.specs.Roles.Lists.{place, inside, nowhere, is_block_list, is_thick}
-use Rattle.redl_tree.specs.Decisions.Fates.{fate_of, renamed, live_name, is_revived}
+use Rattle.redl_tree.specs.Roles.Lists.{place, inside, is_block_list, is_thick}
+use Rattle.redl_tree.specs.Decisions.Fates.{fate_of, live_name, is_revived}
 use Rattle.redl_tree.specs.Decisions.Tables.{goes_at, para_is_cut}
 use Rattle.redl_tree.specs.Decisions.Pass.{is_block_para as block_para}
 use Rattle.redl_tree.specs.declared.kinds.Say.{Say}
@@ -18,6 +17,8 @@ use Rattle.redl_tree.specs.declared.kinds.Fate.TheVariants.{Leave, Free, Cut, Cl
 use Rattle.redl_tree.proofs.Named.{by_name}
 use Rattle.redl_tree.proofs.Fits.{AllFit, open_fits, open_∷}
 use Rattle.redl_tree.proofs.PassLaws.{block_p}
+use Rattle.redl_tables.specs.Ancestors.{ancestors_of}
+use Rattle.redl_tables.specs.Places as by_place
 use Rattle.redl_views.specs.declared.summary.Summary.{Summary}
 use Rattle.redl_views.specs.declared.next.Next.{Next}
 use Rattle.redl_views.specs.declared.next.Next.TheVariants.{Nothing, Paragraph, Other}
@@ -26,7 +27,7 @@ use Rattle.redl_shown.specs.Shown.{shown}
 use Rattle.redl_views.specs.Ends.{by_fate_of, gives_one, gives_element, paragraph_follows, has_taken}
 use Rattle.redl_views.specs.Ends as ends
 use Rattle.redl_views.specs.Views.{is_freed, in_shown, element_view, view_in}
-use Rattle.redl_views.specs.Walks.{frees, leaves, summary_of, is_text, inside_of, is_block_para, is_cut_para, is_going, or_next, next_of, is_paragraph, is_lost, one_gives, gives, taken_after, loses_end, is_walked, elem_view, view, item_view, item_gives, item_taken}
+use Rattle.redl_views.specs.Walks.{summary_of, inside_of, is_cut_para, or_next, next_of, is_paragraph, is_lost, one_gives, gives, taken_after, loses_end, is_walked, elem_view, view, item_view, item_gives, item_taken}
 use Rattle.redl_views.proofs.ViewLaws.{alike, freed_content, content_loud, p_thick}
 
 or_none : (b : Bool) → (b || false) ≡ b
@@ -51,26 +52,10 @@ text-renamed tag true = at_text (is "delText" tag) refl
     at_text true e = by_name (λ t. is "t" (record t { local = codes "t" }) ≡ true) "delText" tag e refl ∙ sym (or_true (is "t" tag))
     at_text false e = at_instr (is "delInstrText" tag) refl
 
-is_text-renamed : (says : List Say) (ancestors : List Tag) (tag : Tag) → is_open ancestors ≡ true → is_text (summary_of says ancestors) tag ≡ is "t" (renamed says ancestors tag)
-is_text-renamed says ancestors tag o =
-    let freed = list_any (frees says) ancestors in
-    let left = list_any (leaves says) ancestors in
-    let revived : is_revived says ancestors ≡ (freed && not left) = ap (λ b. (b && freed) && not left) o in
-    sym (ap (λ b. is "t" (if b then live_name tag else tag)) revived ∙ text-renamed tag (freed && not left))
-
-place-inside : (ancestors : List Tag) (tag : Tag) → is_open (tag ∷ ancestors) ≡ true → inside tag (place ancestors) ≡ place (tag ∷ ancestors)
-place-inside ancestors tag o = sym (at (is_open (tag ∷ ancestors)) o)
-  where
-    at : (b : Bool) → b ≡ true → (if b then inside tag (place ancestors) else nowhere) ≡ inside tag (place ancestors)
-    at true e = refl
-    at false e = absurd (true≢false (sym e))
-
-pub inside-summary : (says : List Say) (ancestors : List Tag) (tag : Tag) → is_quiet tag ≡ false → is_open ancestors ≡ true →
-    inside_of says tag (summary_of says ancestors) ≡ summary_of says (tag ∷ ancestors)
-inside-summary says ancestors tag q o =
-    let p = place-inside ancestors tag (open_∷ tag ancestors q ∙ o) in
-    let s = ap (λ b. if is_freed says tag then in_shown says ancestors else b) (is_text-renamed says ancestors tag o) in
-    λ i. record { freed = frees says tag || list_any (frees says) ancestors; left = leaves says tag || list_any (leaves says) ancestors; place = p i; shown = s i }
+pub inside-summary : (says : List Say) (ancestors : List Tag) (tag : Tag) → inside_of says tag (summary_of says ancestors) ≡ summary_of says (tag ∷ ancestors)
+inside-summary says ancestors tag =
+    let text = sym (text-renamed tag (is_revived says ancestors)) in
+    ap (λ b. record { ancestors = ancestors_of says (tag ∷ ancestors); shown = if is_freed says tag then in_shown says ancestors else b }) text
 
 -- ---- what follows
 
@@ -143,8 +128,8 @@ taken-after says ancestors taken tag kids rest a h f =
 -- a cut paragraph is no properties
 pub cut_loud : (says : List Say) (above : Summary) (tag : Tag) (kids : Nodes) → is_cut_para says above tag kids ≡ true → is_quiet tag ≡ false
 cut_loud says above tag kids c =
-    let block = (and_parts (is_block_para says above tag) (para_is_cut says kids) c).0 in
-    let name = (and_parts (is "p" tag) (is_block_list above.place) (and_parts (is "p" tag && is_block_list above.place) (is_leave (fate_of says tag)) block).0).0 in
+    let block = (and_parts (by_place.is_block_para says above.ancestors.place tag) (para_is_cut says kids) c).0 in
+    let name = (and_parts (is "p" tag) (is_block_list above.ancestors.place) (and_parts (is "p" tag && is_block_list above.ancestors.place) (is_leave (fate_of says tag)) block).0).0 in
     by_name (λ t. is_quiet t ≡ false) "p" tag name refl
 
 gives-walk : (says : List Say) (ancestors : List Tag) (nodes : Nodes) → is_open ancestors ≡ true → AllFit ancestors nodes → gives says (summary_of says ancestors) nodes ≡ gives_element says ancestors nodes
@@ -155,7 +140,7 @@ gives-walk says ancestors (element tag kids rest) o fit =
     (one-gives says ancestors tag kids (gives says (inside_of says tag (summary_of says ancestors)) kids) (gives_element says (tag ∷ ancestors) kids)
     (λ f.
     let q = content_loud tag (freed_content says tag (open_fits ancestors tag o fit.0) f) in
-    ap (λ s. gives says s kids) (inside-summary says ancestors tag q o) ∙ gives-walk says (tag ∷ ancestors) kids (open_∷ tag ancestors q ∙ o) fit.1))
+    ap (λ s. gives says s kids) (inside-summary says ancestors tag) ∙ gives-walk says (tag ∷ ancestors) kids (open_∷ tag ancestors q ∙ o) fit.1))
     ∙ ap (λ b. gives_one says ancestors tag kids (gives_element says (tag ∷ ancestors) kids) || b) (gives-walk says ancestors rest o fit.2)
 
 elem-view : (says : List Say) (ancestors : List Tag) (tag : Tag) (kids : Nodes) (x y : List ℕ) (l m : Bool) → (is_freed says tag ≡ true → is_quiet tag ≡ false) → (is_quiet tag ≡ false → x ≡ y) → l ≡ m →
@@ -180,11 +165,11 @@ walk-view says ancestors taken (element tag kids rest) o fit =
     let above = summary_of says ancestors in
     let a = gives says (inside_of says tag above) kids in
     let kind = open_fits ancestors tag o fit.0 in
-    let below : (is_quiet tag ≡ false → inside_of says tag above ≡ summary_of says (tag ∷ ancestors)) = λ q. inside-summary says ancestors tag q o in
+    let below : inside_of says tag above ≡ summary_of says (tag ∷ ancestors) = inside-summary says ancestors tag in
     let opened : (is_quiet tag ≡ false → is_open (tag ∷ ancestors) ≡ true) = λ q. open_∷ tag ancestors q ∙ o in
-    let same : (is_quiet tag ≡ false → a ≡ gives_element says (tag ∷ ancestors) kids) = λ q. ap (λ s. gives says s kids) (below q) ∙ gives-walk says (tag ∷ ancestors) kids (opened q) fit.1 in
+    let same : (is_quiet tag ≡ false → a ≡ gives_element says (tag ∷ ancestors) kids) = λ q. ap (λ s. gives says s kids) below ∙ gives-walk says (tag ∷ ancestors) kids (opened q) fit.1 in
     let inner : (is_quiet tag ≡ false → view says (inside_of says tag above) None kids ≡ view_in shown says (tag ∷ ancestors) None kids) =
-    λ q. ap (λ s. view says s None kids) (below q) ∙ walk-view says (tag ∷ ancestors) None kids (opened q) fit.1 in
+    λ q. ap (λ s. view says s None kids) below ∙ walk-view says (tag ∷ ancestors) None kids (opened q) fit.1 in
     let loud : (is_freed says tag ≡ true → is_quiet tag ≡ false) = λ f. content_loud tag (freed_content says tag kind f) in
     ap (λ ts. ts ++ view says above (taken_after says above taken tag kids rest a) rest)
     (elem-view says ancestors tag kids (view says (inside_of says tag above) None kids) (view_in shown says (tag ∷ ancestors) None kids)
@@ -213,12 +198,12 @@ apart_fate Drop c q g x y gone h k = refl
 pub view-apart : (says : List Say) (above : Summary) (tag : Tag) (kids : Nodes) (inner : List ℕ) (loses : Bool) → is_freed says tag ≡ false → is_walked says above tag kids ≡ false →
     elem_view says above tag kids inner loses ≡ []
 view-apart says above tag kids inner loses f w =
-    apart_fate (fate_of says tag) (is_content tag.kind) (is_quiet tag) (is_going says above tag kids) inner (start_shown tag ++ (inner ++ (if loses then [] else end_shown tag))) [] f w
+    apart_fate (fate_of says tag) (is_content tag.kind) (is_quiet tag) (by_place.goes_at says above.ancestors.place tag kids) inner (start_shown tag ++ (inner ++ (if loses then [] else end_shown tag))) [] f w
 
 -- what it tells its list does not depend on its kids
 pub gives-apart : (says : List Say) (above : Summary) (tag : Tag) (kids : Nodes) (a b : Bool) → is_freed says tag ≡ false → one_gives says above tag kids a ≡ one_gives says above tag kids b
 gives-apart says above tag kids a b f =
-    let own = not (is "pPr" tag) && not (is_going says above tag kids) in
+    let own = not (is "pPr" tag) && not (by_place.goes_at says above.ancestors.place tag kids) in
     alike (fate_of says tag) (is_content tag.kind) a b own own false (λ e. absurd (true≢false (sym e ∙ f))) (λ e. refl)
 
 not_cut : (says : List Say) (above : Summary) (tag : Tag) (kids : Nodes) → is_walked says above tag kids ≡ false → is_cut_para says above tag kids ≡ false
@@ -227,13 +212,13 @@ not_cut says above tag kids w = at (is_cut_para says above tag kids) refl
     at : (b : Bool) → is_cut_para says above tag kids ≡ b → is_cut_para says above tag kids ≡ false
     at false e = e
     at true e =
-        let block = (and_parts (is_block_para says above tag) (para_is_cut says kids) e).0 in
-        let parts = and_parts (is "p" tag && is_block_list above.place) (is_leave (fate_of says tag)) block in
-        let name = (and_parts (is "p" tag) (is_block_list above.place) parts.0).0 in
-        let going = by_name (λ t. is_going says above t kids ≡ false) "p" tag name refl in
+        let block = (and_parts (by_place.is_block_para says above.ancestors.place tag) (para_is_cut says kids) e).0 in
+        let parts = and_parts (is "p" tag && is_block_list above.ancestors.place) (is_leave (fate_of says tag)) block in
+        let name = (and_parts (is "p" tag) (is_block_list above.ancestors.place) parts.0).0 in
+        let going = by_name (λ t. by_place.goes_at says above.ancestors.place t kids ≡ false) "p" tag name refl in
         let quiet = by_name (λ t. is_quiet t ≡ false) "p" tag name refl in
         let walked : is_walked says above tag kids ≡ true =
-        ap (λ b. (b && not (is_quiet tag)) && not (is_going says above tag kids)) parts.1 ∙ ap (λ b. not b && not (is_going says above tag kids)) quiet ∙ ap not going in
+        ap (λ b. (b && not (is_quiet tag)) && not (by_place.goes_at says above.ancestors.place tag kids)) parts.1 ∙ ap (λ b. not b && not (by_place.goes_at says above.ancestors.place tag kids)) quiet ∙ ap not going in
         absurd (true≢false (sym walked ∙ w))
 
 pub taken-apart : (says : List Say) (above : Summary) (taken : Option Bool) (tag : Tag) (kids rest : Nodes) (a b : Bool) → is_freed says tag ≡ false → is_walked says above tag kids ≡ false →
@@ -257,7 +242,7 @@ walked_fate Drop c q g x y gone k = absurd (true≢false (sym k))
 pub view-walked : (says : List Say) (above : Summary) (tag : Tag) (kids : Nodes) (inner : List ℕ) (loses : Bool) → is_walked says above tag kids ≡ true →
     elem_view says above tag kids inner loses ≡ start_shown tag ++ (inner ++ (if loses then [] else end_shown tag))
 view-walked says above tag kids inner loses w =
-    walked_fate (fate_of says tag) (is_content tag.kind) (is_quiet tag) (is_going says above tag kids) inner (start_shown tag ++ (inner ++ (if loses then [] else end_shown tag))) [] w
+    walked_fate (fate_of says tag) (is_content tag.kind) (is_quiet tag) (by_place.goes_at says above.ancestors.place tag kids) inner (start_shown tag ++ (inner ++ (if loses then [] else end_shown tag))) [] w
 
 -- ---- the nodes of a list, one after the other
 

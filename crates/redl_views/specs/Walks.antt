@@ -1,18 +1,20 @@
--- The walk as code takes it: it carries a summary of the ancestors in place of their list. It goes below no properties, so all
--- ancestors are open.
+-- The walk as code takes it: it carries a summary of the ancestors in place of their list, and goes below no properties.
 use Rattle.std.specs.Prelude.{ℕ, List, [], ◌∷◌, ◌++◌, Bool, true, false, ◌&&◌, ◌||◌, not, Option, Some, None, if◌then◌else◌}
-use Rattle.std.specs.List.{list_any, flat_map}
+use Rattle.std.specs.List.{flat_map}
 use Rattle.std.specs.Option.{option_map}
 use Rattle.redl_tree.specs.Model.Nodes.{Tag, Nodes, no_nodes, bytes, element, Item, bytes_item, element_item}
 use Rattle.redl_tree.specs.Model.View.{Parts}
 use Rattle.redl_tree.specs.Roles.Names.{is}
 use Rattle.redl_tree.specs.Roles.Places.{is_quiet}
-use Rattle.redl_tree.specs.Roles.Kinds.{is_content, is_old_content, is_free, is_leave}
-use Rattle.redl_tree.specs.Roles.Lists.{place, inside, is_block_list, is_direct, is_rows, is_cells, is_wrapper, is_thick}
+use Rattle.redl_tree.specs.Roles.Kinds.{is_content, is_leave}
+use Rattle.redl_tree.specs.Roles.Lists.{is_thick}
 use Rattle.redl_tree.specs.Decisions.Fates.{fate_of}
-use Rattle.redl_tree.specs.Decisions.Tables.{goes, para_is_cut}
+use Rattle.redl_tree.specs.Decisions.Tables.{para_is_cut}
 use Rattle.redl_tree.specs.Decisions.Packages.{stories}
 use Rattle.redl_tree.specs.declared.kinds.Say.{Say}
+use Rattle.redl_tables.specs.Ancestors.{ancestors_of, revives}
+use Rattle.redl_tables.specs.Ancestors as known
+use Rattle.redl_tables.specs.Places.{goes_at, is_block_para}
 use Rattle.redl_views.specs.PlainText.{start_shown, end_shown}
 use Rattle.redl_shown.specs.Shown.{shown}
 use Rattle.redl_views.specs.Ends.{by_fate_of, has_taken}
@@ -23,52 +25,29 @@ use Rattle.redl_views.specs.declared.next.Next.TheVariants.{Nothing, Paragraph, 
 
 -- ---- the ancestors
 
--- a content revision of old matter that is freed, and one that is left
-abbrev pub frees : List Say → Tag → Bool
-frees says tag = is_old_content tag.kind && is_free (fate_of says tag)
-
-abbrev pub leaves : List Say → Tag → Bool
-leaves says tag = is_old_content tag.kind && is_leave (fate_of says tag)
-
 abbrev pub summary_of : List Say → List Tag → Summary
-summary_of says ancestors = record {
-  freed = list_any (frees says) ancestors;
-  left = list_any (leaves says) ancestors;
-  place = place ancestors;
-  shown = in_shown says ancestors;
-}
+summary_of says ancestors = record { ancestors = ancestors_of says ancestors; shown = in_shown says ancestors }
 
 -- a `t`, or deleted text that is live again
 abbrev pub is_text : Summary → Tag → Bool
-is_text above tag = is "t" tag || (above.freed && not above.left && is "delText" tag)
+is_text above tag = is "t" tag || (revives above.ancestors && is "delText" tag)
 
 -- the summary for the kids of an element
 abbrev pub inside_of : List Say → Tag → Summary → Summary
 inside_of says tag above = record {
-  freed = frees says tag || above.freed;
-  left = leaves says tag || above.left;
-  place = inside tag above.place;
+  ancestors = known.inside_of says tag above.ancestors;
   shown = if is_freed says tag then above.shown else is_text above tag;
 }
 
 -- a paragraph of a block list that is cut
-abbrev pub is_block_para : List Say → Summary → Tag → Bool
-is_block_para says above tag = is "p" tag && is_block_list above.place && is_leave (fate_of says tag)
-
 abbrev pub is_cut_para : List Say → Summary → Tag → Nodes → Bool
-is_cut_para says above tag kids = is_block_para says above tag && para_is_cut says kids
-
--- a table, row, cell or shell that goes
-abbrev pub is_going : List Say → Summary → Tag → Nodes → Bool
-is_going says above tag kids =
-    (is "tc" tag || is "tr" tag || is "tbl" tag || (is_wrapper tag && ((is_direct above.place.reach && is_rows above.place.lot) || (is_direct above.place.reach && is_cells above.place.lot))))
-    && goes says (is_direct above.place.reach && is_cells above.place.lot) tag kids
+is_cut_para says above tag kids = is_block_para says above.ancestors.place tag && para_is_cut says kids
 
 -- ---- what follows in a list, and what becomes of ends
 
 -- an element as the next thick node, where it is one
 abbrev pub elem_next : List Say → Summary → Tag → Next
-elem_next says above tag = if is_block_para says above tag then Paragraph else if is_thick tag then Other else Nothing
+elem_next says above tag = if is_block_para says above.ancestors.place tag then Paragraph else if is_thick tag then Other else Nothing
 
 abbrev pub item_next : List Say → Summary → Item → Next
 item_next says above (bytes_item b) = Nothing
@@ -99,7 +78,7 @@ is_lost Other full = not full
 -- some kid of an element, or the element itself, becomes an element that is no properties of a paragraph
 abbrev pub one_gives : List Say → Summary → Tag → Nodes → Bool → Bool
 one_gives says above tag kids inside =
-    by_fate_of (fate_of says tag) (is_content tag.kind) inside (not (is "pPr" tag) && not (is_going says above tag kids)) false
+    by_fate_of (fate_of says tag) (is_content tag.kind) inside (not (is "pPr" tag) && not (goes_at says above.ancestors.place tag kids)) false
 
 abbrev pub gives : List Say → Summary → Nodes → Bool
 gives says above no_nodes = false
@@ -122,12 +101,12 @@ loses_end says above taken tag kids rest full =
 
 -- an element that stays and may show something: it holds no properties, and is no table, row, cell or shell that goes
 abbrev pub is_walked : List Say → Summary → Tag → Nodes → Bool
-is_walked says above tag kids = is_leave (fate_of says tag) && not (is_quiet tag) && not (is_going says above tag kids)
+is_walked says above tag kids = is_leave (fate_of says tag) && not (is_quiet tag) && not (goes_at says above.ancestors.place tag kids)
 
 abbrev pub elem_view : List Say → Summary → Tag → Nodes → List ℕ → Bool → List ℕ
 elem_view says above tag kids inner loses =
     by_fate_of (fate_of says tag) (is_content tag.kind) inner
-    (if is_quiet tag || is_going says above tag kids then [] else start_shown tag ++ (inner ++ (if loses then [] else end_shown tag)))
+    (if is_quiet tag || goes_at says above.ancestors.place tag kids then [] else start_shown tag ++ (inner ++ (if loses then [] else end_shown tag)))
     []
 
 abbrev pub view : List Say → Summary → Option Bool → Nodes → List ℕ

@@ -14,10 +14,10 @@ ghost use Rattle.redl_shown.specs.Shown.{shown};
 ghost use Rattle.redl_views.specs.Walks.{view, gives, item_view, item_gives, item_taken, elem_view, inside_of, one_gives as one_gives_by, taken_after as taken_after_by, loses_end as loses_end_by, is_lost as is_lost_by, is_walked as is_walked_by};
 
 use crate::next::{Next, next_of};
-use crate::summary::{Summary, inside, is_content, is_cut_para, is_going};
+use crate::summary::{Summary, inside, is_cut_para};
 use redl_io::{Failed, Sink, put_piece};
 use redl_shown::put_shown;
-use redl_tables::fate_of;
+use redl_tables::{fate_of, goes_at};
 use redl_tree::{Elem, Fate, Node, Say, is_named, is_quiet, is_thick};
 
 /// What the walk of a node tells the list: whether it gives an element, and what the next paragraph takes up.
@@ -126,14 +126,16 @@ fn view_elem<K: Sink>(
 fn is_freed(says: &[Say], elem: &Elem) -> bool
     ensures { result ≡ is_freed_by says.now (tag_of elem.now) }
 {
-    is_content(elem.kind()) && fate_of(says, elem) == Fate::Free
+    elem.kind().is_content() && fate_of(says, elem) == Fate::Free
 }
 
 // Whether an element stays and may show something: it holds no properties, and is no table, row, cell or shell that goes.
 fn is_walked(says: &[Say], elem: &Elem, above: Summary) -> bool
     ensures { result ≡ is_walked_by says.now above (tag_of elem.now) (kids_of elem.now) }
 {
-    fate_of(says, elem) == Fate::Leave && !is_quiet(elem) && !is_going(says, elem, above)
+    fate_of(says, elem) == Fate::Leave
+        && !is_quiet(elem)
+        && !goes_at(elem, above.ancestors.place, says)
 }
 
 // What an element tells its list, whose kids give an element or not.
@@ -159,8 +161,8 @@ fn one_gives(elem: &Elem, says: &[Say], above: Summary, full: bool) -> bool
     ensures { result ≡ one_gives_by says.now above (tag_of elem.now) (kids_of elem.now) full }
 {
     match fate_of(says, elem) {
-        Fate::Leave => !is_named(elem, b"pPr") && !is_going(says, elem, above),
-        Fate::Free => is_content(elem.kind()) && full,
+        Fate::Leave => !is_named(elem, b"pPr") && !goes_at(elem, above.ancestors.place, says),
+        Fate::Free => elem.kind().is_content() && full,
         _ => false,
     }
 }
