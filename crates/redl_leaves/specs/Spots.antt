@@ -4,9 +4,10 @@ use Rattle.std.specs.List.{list_any}
 use Rattle.redl_tree.specs.Model.Nodes.{Tag}
 use Rattle.redl_tree.specs.Roles.Names.{is}
 use Rattle.redl_tree.specs.Roles.Places.{is_quiet}
-use Rattle.redl_tree.specs.Roles.Lists.{place, inside, nowhere, is_block_list, is_direct, is_rows, is_cells, is_wrapper}
+use Rattle.redl_tree.specs.Roles.Lists.{place, inside, nowhere, is_block_list, is_wrapper}
 use Rattle.redl_tree.specs.Leaves.Containers.{is_control}
 use Rattle.redl_tree.specs.declared.lists.Place.{Place}
+use Rattle.redl_tables.specs.Places.{is_row_list, is_cell_list, is_shell}
 use Rattle.redl_leaves.specs.declared.spot.Root.{Root}
 use Rattle.redl_leaves.specs.declared.spot.Spot.{Spot}
 
@@ -35,22 +36,21 @@ opens_below root tag =
     (root.document && is "body" tag) || (root.footnotes && is "footnote" tag) || (root.endnotes && is "endnote" tag) || (root.comments && is "comment" tag)
 
 abbrev pub is_shell_at : Spot → Tag → Bool
-is_shell_at spot tag =
-    is_wrapper tag && ((is_direct spot.place.reach && is_rows spot.place.lot) || (is_direct spot.place.reach && is_cells spot.place.lot))
+is_shell_at spot tag = is_shell spot.place tag
 
 -- an element here is a container
 abbrev pub opens_at : Spot → Tag → Bool
 opens_at spot tag =
     opens_below spot.root tag
     || (is_block_list spot.place && (is "tbl" tag || is_wrapper tag))
-    || ((is_direct spot.place.reach && is_rows spot.place.lot) && is "tr" tag)
-    || ((is_direct spot.place.reach && is_cells spot.place.lot) && is "tc" tag)
+    || (is_row_list spot.place && is "tr" tag)
+    || (is_cell_list spot.place && is "tc" tag)
     || is_shell_at spot tag
     || (is_control spot.place.reach && is "sdtContent" tag)
 
 abbrev pub is_own_at : Spot → Tag → Bool
 is_own_at spot tag =
-    ((is_direct spot.place.reach && is_rows spot.place.lot) && is "tr" tag) || ((is_direct spot.place.reach && is_cells spot.place.lot) && is "tc" tag)
+    (is_row_list spot.place && is "tr" tag) || (is_cell_list spot.place && is "tc" tag)
 
 abbrev pub is_between_at : Spot → Tag → Bool
 is_between_at spot tag = is_shell_at spot tag || (is_control spot.place.reach && is "sdtContent" tag)

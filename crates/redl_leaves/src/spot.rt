@@ -4,12 +4,13 @@ ghost use Rattle.std.specs.Prelude.{◌≡◌, ◌∷◌, ◌&&◌, ◌||◌, Li
 ghost use Rattle.redl_leaves.specs.Spots.{spot_of, root_named, opens_at, opens_below, is_shell_at, is_own_at, is_between_at, place_inside};
 ghost use Rattle.redl_tree.specs.Model.Nodes.{Tag};
 ghost use Rattle.redl_tree.specs.Model.View.{tag_of};
-ghost use Rattle.redl_tree.specs.Roles.Lists.{is_block_list, is_direct, is_rows, is_cells};
+ghost use Rattle.redl_tree.specs.Roles.Lists.{is_block_list};
 ghost use Rattle.redl_tree.specs.Roles.Names.{is};
 ghost use Rattle.redl_tree.specs.Roles.Places.{is_quiet as is_quiet_by};
 ghost use Rattle.redl_tree.specs.Leaves.Containers.{is_control};
 
-use redl_tree::{Elem, Lot, Place, Reach, is_named, is_quiet, is_wrapper};
+use redl_tables::{is_cell_list, is_row_list, is_shell};
+use redl_tree::{Elem, Place, Reach, is_named, is_quiet, is_wrapper};
 
 /// Which story's root some nodes stand in directly. At most one is true.
 #[derive(Clone, Copy)]
@@ -77,28 +78,16 @@ impl Spot {
     {
         opens_in_root(self.root, elem)
             || (self.among_blocks() && (is_named(elem, b"tbl") || is_wrapper(elem)))
-            || (self.are_rows() && is_named(elem, b"tr"))
-            || (self.are_cells() && is_named(elem, b"tc"))
+            || (is_row_list(self.place) && is_named(elem, b"tr"))
+            || (is_cell_list(self.place) && is_named(elem, b"tc"))
             || self.is_shell(elem)
             || (self.is_in_control() && is_named(elem, b"sdtContent"))
-    }
-
-    fn are_rows(self) -> bool
-        ensures { result ≡ (is_direct self.place.reach && is_rows self.place.lot) }
-    {
-        self.place.reach == Reach::Direct && self.place.lot == Lot::Rows
-    }
-
-    fn are_cells(self) -> bool
-        ensures { result ≡ (is_direct self.place.reach && is_cells self.place.lot) }
-    {
-        self.place.reach == Reach::Direct && self.place.lot == Lot::Cells
     }
 
     pub(crate) fn is_shell(self, elem: &Elem) -> bool
         ensures { result ≡ is_shell_at self (tag_of elem.now) }
     {
-        is_wrapper(elem) && (self.are_rows() || self.are_cells())
+        is_shell(elem, self.place)
     }
 
     fn is_in_control(self) -> bool
@@ -111,7 +100,8 @@ impl Spot {
     pub(crate) fn is_own(self, elem: &Elem) -> bool
         ensures { result ≡ is_own_at self (tag_of elem.now) }
     {
-        (self.are_rows() && is_named(elem, b"tr")) || (self.are_cells() && is_named(elem, b"tc"))
+        (is_row_list(self.place) && is_named(elem, b"tr"))
+            || (is_cell_list(self.place) && is_named(elem, b"tc"))
     }
 
     /// Whether the own rows or cells in an element are those of the table or row round it.
