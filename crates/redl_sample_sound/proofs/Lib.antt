@@ -4,4 +4,10 @@ mod Legal
 mod Outside
 pub mod Readings
 mod Rules
+mod Own
+mod Parts
+mod Moved
+mod Turns
+mod Placed
+mod Counted
 pub mod Samples

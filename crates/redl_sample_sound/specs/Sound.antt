@@ -1,10 +1,12 @@
--- A text that is read as a sound package, within the limits.
+-- A text that is read as a sound package, within the limits, and one that has so many revisions.
 use Rattle.std.specs.Prelude.{◌≡◌, ◌≤◌, ℕ, List, None}
 use Rattle.redl_io.specs.Limits.{depth as depth_limit, nodes as node_limit}
 use Rattle.redl_opc.specs.Shape.{refusal}
 use Rattle.redl_rules.specs.Attributes.{broken_rule}
 use Rattle.redl_tree.specs.Model.Count.{count}
+use Rattle.redl_stamp.specs.Attribute.{attribute_value}
 use Rattle.redl_tree.specs.Model.Nodes.{Nodes}
+use Rattle.redl_tree.specs.Revisions.Numbers.{package_revisions}
 use Rattle.redl_xml.specs.Readings.{IsReading}
 use Rattle.redl_xml.specs.Shapes.{depth_of}
 
@@ -16,3 +18,9 @@ pub record HasSoundPackage (text : List ℕ) : Type 0 where
   pub few : count nodes ≤ node_limit
   pub shape : refusal nodes ≡ None
   pub sound : broken_rule nodes ≡ None
+
+-- The text has a tree, and its members are of so many revisions.
+pub record HasRevisions (text : List ℕ) (count : ℕ) : Type 0 where
+  pub nodes : Nodes
+  pub reading : IsReading text nodes
+  pub counted : package_revisions attribute_value nodes ≡ count
