@@ -125,12 +125,15 @@ taken-after says ancestors taken tag kids rest a h f =
     ∙ taken-if c (paragraph_follows says ancestors rest) (is_thick tag) a b (one_gives says (summary_of says ancestors) tag kids a) (gives_one says ancestors tag kids b) taken h
     (one-gives says ancestors tag kids a b f)
 
--- a cut paragraph is no properties
-pub cut_loud : (says : List Say) (above : Summary) (tag : Tag) (kids : Nodes) → is_cut_para says above tag kids ≡ true → is_quiet tag ≡ false
-cut_loud says above tag kids c =
+-- a cut paragraph has its name
+cut_name : (says : List Say) (above : Summary) (tag : Tag) (kids : Nodes) → is_cut_para says above tag kids ≡ true → is "p" tag ≡ true
+cut_name says above tag kids c =
     let block = (and_parts (by_place.is_block_para says above.ancestors.place tag) (para_is_cut says kids) c).0 in
-    let name = (and_parts (is "p" tag) (is_block_list above.ancestors.place) (and_parts (is "p" tag && is_block_list above.ancestors.place) (is_leave (fate_of says tag)) block).0).0 in
-    by_name (λ t. is_quiet t ≡ false) "p" tag name refl
+    (and_parts (is "p" tag) (is_block_list above.ancestors.place) (and_parts (is "p" tag && is_block_list above.ancestors.place) (is_leave (fate_of says tag)) block).0).0
+
+-- so it is no properties
+pub cut_loud : (says : List Say) (above : Summary) (tag : Tag) (kids : Nodes) → is_cut_para says above tag kids ≡ true → is_quiet tag ≡ false
+cut_loud says above tag kids c = by_name (λ t. is_quiet t ≡ false) "p" tag (cut_name says above tag kids c) refl
 
 gives-walk : (says : List Say) (ancestors : List Tag) (nodes : Nodes) → is_open ancestors ≡ true → AllFit ancestors nodes → gives says (summary_of says ancestors) nodes ≡ gives_element says ancestors nodes
 gives-walk says ancestors no_nodes o fit = refl
@@ -214,7 +217,7 @@ not_cut says above tag kids w = at (is_cut_para says above tag kids) refl
     at true e =
         let block = (and_parts (by_place.is_block_para says above.ancestors.place tag) (para_is_cut says kids) e).0 in
         let parts = and_parts (is "p" tag && is_block_list above.ancestors.place) (is_leave (fate_of says tag)) block in
-        let name = (and_parts (is "p" tag) (is_block_list above.ancestors.place) parts.0).0 in
+        let name = cut_name says above tag kids e in
         let going = by_name (λ t. by_place.goes_at says above.ancestors.place t kids ≡ false) "p" tag name refl in
         let quiet = by_name (λ t. is_quiet t ≡ false) "p" tag name refl in
         let walked : is_walked says above tag kids ≡ true =
@@ -243,6 +246,23 @@ pub view-walked : (says : List Say) (above : Summary) (tag : Tag) (kids : Nodes)
     elem_view says above tag kids inner loses ≡ start_shown tag ++ (inner ++ (if loses then [] else end_shown tag))
 view-walked says above tag kids inner loses w =
     walked_fate (fate_of says tag) (is_content tag.kind) (is_quiet tag) (by_place.goes_at says above.ancestors.place tag kids) inner (start_shown tag ++ (inner ++ (if loses then [] else end_shown tag))) [] w
+
+walked_one : (f : Fate) (c q g p full : Bool) → (p ≡ true → q ≡ true) → ((is_leave f && not q) && not g) ≡ true → by_fate_of f c full (not p && not g) false ≡ true
+walked_one Leave c false false false full h k = refl
+walked_one Leave c false false true full h k = absurd (true≢false (sym (h refl)))
+walked_one Leave c true g p full h k = absurd (true≢false (sym k))
+walked_one Leave c false true p full h k = absurd (true≢false (sym k))
+walked_one Free c q g p full h k = absurd (true≢false (sym k))
+walked_one Cut c q g p full h k = absurd (true≢false (sym k))
+walked_one Clear c q g p full h k = absurd (true≢false (sym k))
+walked_one Restore c q g p full h k = absurd (true≢false (sym k))
+walked_one Drop c q g p full h k = absurd (true≢false (sym k))
+
+-- it becomes an element, and no properties of a paragraph
+pub gives-walked : (says : List Say) (above : Summary) (tag : Tag) (kids : Nodes) (full : Bool) → is_walked says above tag kids ≡ true → one_gives says above tag kids full ≡ true
+gives-walked says above tag kids full w =
+    walked_one (fate_of says tag) (is_content tag.kind) (is_quiet tag) (by_place.goes_at says above.ancestors.place tag kids) (is "pPr" tag) full
+    (λ e. by_name (λ t. is_quiet t ≡ true) "pPr" tag e refl) w
 
 -- ---- the nodes of a list, one after the other
 

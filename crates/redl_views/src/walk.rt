@@ -3,7 +3,7 @@
 //! A paragraph's end is decided at its end tag, when all that it takes up was walked: what follows it in the original is
 //! known from the list, and whether it would hold an element is what the walks answer.
 
-ghost use Rattle.std.specs.Prelude.{◌≡◌, ◌||◌, [], None, false, IfOk, if◌then◌else◌};
+ghost use Rattle.std.specs.Prelude.{◌≡◌, ◌||◌, [], None, true, false, IfOk, if◌then◌else◌};
 ghost use Rattle.std.specs.Option.{option_map};
 ghost use Rattle.redl_views.specs.Ends.{has_taken as has_taken_by};
 ghost use Rattle.redl_views.specs.Views.{is_freed as is_freed_by};
@@ -119,7 +119,7 @@ fn view_elem<K: Sink>(
     put_start(elem, out)?;
     let full = view_nodes(elem.kids(), says, inside(says, elem, above), out)?;
     put_end(elem, loses_end(elem, rest, says, above, taken, full), out)?;
-    Ok(answer(elem, rest, says, above, taken, full))
+    Ok(answer_of_walked(elem, rest, says, above, taken, full))
 }
 
 // Whether an element is content whose kids take its place.
@@ -157,6 +157,25 @@ fn answer(
     }
 }
 
+// The same of an element that is walked: it becomes one.
+fn answer_of_walked(
+    elem: &Elem,
+    rest: &[Node],
+    says: &[Say],
+    above: Summary,
+    taken: Option<bool>,
+    full: bool,
+) -> Step
+    requires { is_walked_by says.now above (tag_of elem.now) (kids_of elem.now) ≡ true }
+    ensures gives { result.gives ≡ one_gives_by says.now above (tag_of elem.now) (kids_of elem.now) full }
+    ensures taken { result.taken ≡ taken_after_by says.now above taken (tag_of elem.now) (kids_of elem.now) (nodes_of rest.now) full }
+{
+    Step {
+        gives: true,
+        taken: taken_after(elem, rest, says, above, taken, full, true),
+    }
+}
+
 fn one_gives(elem: &Elem, says: &[Say], above: Summary, full: bool) -> bool
     ensures { result ≡ one_gives_by says.now above (tag_of elem.now) (kids_of elem.now) full }
 {
@@ -179,13 +198,14 @@ fn taken_after(
     requires { gives ≡ one_gives_by says.now above (tag_of elem.now) (kids_of elem.now) full }
     ensures { result ≡ taken_after_by says.now above taken (tag_of elem.now) (kids_of elem.now) (nodes_of rest.now) full }
 {
+    // A paragraph that is cut is thick.
+    if !is_thick(elem) {
+        return or_taken(taken, gives);
+    }
     if is_cut_para(says, elem, above) && next_of(rest, says, above) == Next::Paragraph {
         return Some(has_taken(taken) || full);
     }
-    if is_thick(elem) {
-        return None;
-    }
-    or_taken(taken, gives)
+    None
 }
 
 fn has_taken(taken: Option<bool>) -> bool
