@@ -1,5 +1,5 @@
 -- The names of all lines are UTF-8.
-use Rattle.std.proofs.Common.{◌≡◌, ℕ, List, [], ◌∷◌, All, map, refl, sym, subst}
+use Rattle.std.proofs.Common.{◌≡◌, ℕ, List, [], ◌∷◌, All, map, length, refl, sym, subst}
 use Rattle.std.specs.Cmp.Lexicographic.{slice_cmp}
 use Rattle.std.specs.List.{AllByRecursion}
 use Rattle.std.specs.Ordering.{nat_cmp}
@@ -28,6 +28,6 @@ named {T} name_of line_of keeps things all =
 
 pub lines-named : (revisions : List Revision) (book : List Entry) → All IsTold revisions → All IsAllowed book → All IsLine (report_lines revisions book)
 lines-named revisions book told allowed =
-    All-append IsLine (map reviewer_line (grouped reviewer_of book)) (map (author_line book) (grouped author_of revisions))
-    (named reviewer_of reviewer_line (λ group. refl) book (All-weaker IsAllowed (λ entry. IsUtf8 entry.reviewer) (λ entry is. is.reviewer.utf8) book allowed))
+    All-append IsLine (map (reviewer_line (length revisions)) (grouped reviewer_of book)) (map (author_line book) (grouped author_of revisions))
+    (named reviewer_of (reviewer_line (length revisions)) (λ group. refl) book (All-weaker IsAllowed (λ entry. IsUtf8 entry.reviewer) (λ entry is. is.reviewer.utf8) book allowed))
     (named author_of (author_line book) (λ group. refl) revisions (All-weaker IsTold (λ revision. IsUtf8 revision.author) (λ revision is. is.author) revisions told))

@@ -59,9 +59,14 @@ unfolding table_row cells digits shown
 row_table = refl
 
 -- older words of a reviewer don't count, nor do words of lower rank under the same seq, and a withdrawn word leaves its revision open
-row_own : report_lines [] (union [] (entry 1 1 word.Accept 9 "Dee" ∷ entry 2 1 word.Reject 0 "Dee" ∷ entry 3 2 word.Accept 1 "Dee" ∷ entry 3 2 word.Reject 2 "Dee" ∷ entry 1 3 word.Accept 0 "Dee" ∷ entry 2 3 word.Withdraw 0 "Dee" ∷ []))
-    ≡ line Reviewer "Dee" 0 2 0 1 ∷ []
+row_own : report_lines revisions (union [] (entry 1 1 word.Accept 9 "Dee" ∷ entry 2 1 word.Reject 0 "Dee" ∷ entry 3 2 word.Accept 1 "Dee" ∷ entry 3 2 word.Reject 2 "Dee" ∷ entry 1 3 word.Accept 0 "Dee" ∷ entry 2 3 word.Withdraw 0 "Dee" ∷ []))
+    ≡ line Reviewer "Dee" 0 2 0 1 ∷ line Author "Ann" 0 1 0 0 ∷ line Author "Bob" 0 1 0 0 ∷ line Author "Cy & Co" 0 0 0 1 ∷ []
+unfolding revisions
 row_own = refl
+
+-- entries on no revision count nothing
+row_no_revision : report_lines [] (union [] dee) ≡ line Reviewer "Dee" 0 0 0 0 ∷ []
+row_no_revision = refl
 
 -- an author without a name, and no journals
 row_author : report_lines (revision 1 "" ∷ revision 2 "Ann" ∷ revision 3 "" ∷ []) [] ≡ line Author "" 0 0 0 2 ∷ line Author "Ann" 0 0 0 1 ∷ []

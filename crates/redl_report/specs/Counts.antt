@@ -1,7 +1,6 @@
 -- Counting of verdicts, one by one, and what lines keep.
-use Rattle.std.specs.Prelude.{◌+◌, ◌<◌, ◌≤◌, ℕ, List, All}
+use Rattle.std.specs.Prelude.{◌+◌, ℕ}
 use Rattle.std.specs.Str.{IsUtf8}
-use Rattle.redl_journal.specs.declared.entry.Entry.{Entry}
 use Rattle.redl_join.specs.declared.verdict.Verdict.{Verdict}
 use Rattle.redl_join.specs.declared.verdict.Verdict.TheVariants.{Undecided, Accept, Reject, Disputed}
 use Rattle.redl_report.specs.declared.line.ReportLine.{ReportLine}
@@ -20,7 +19,3 @@ with_verdict line Undecided = record line { undecided = line.undecided + 1 }
 -- what a line keeps: its name is UTF-8
 pub record IsLine (line : ReportLine) : Type 0 where
   pub who : IsUtf8 line.who
-
--- each entry names one of so many revisions
-abbrev pub NameRevisions : ℕ → List Entry → Type 0
-NameRevisions count entries = All (λ entry. (0 < entry.rev) × (entry.rev ≤ count)) entries

@@ -1,6 +1,6 @@
 -- Where each reviewer and each author stands (our own rule): how many revisions are accepted, rejected, disputed and undecided by
 -- a reviewer's own words, and by the verdicts on an author's revisions.
-use Rattle.std.specs.Prelude.{ℕ, Bool, true, false, List, [], ◌++◌, map, filter, length}
+use Rattle.std.specs.Prelude.{◌&&◌, ℕ, nat_le, Bool, true, false, List, [], ◌++◌, map, filter, length}
 use Rattle.std.specs.BTreeSet.{insert_key}
 use Rattle.std.specs.List.{fold}
 use Rattle.std.specs.Ordering.{nat_cmp}
@@ -59,13 +59,17 @@ reviewer_of entry = entry.reviewer
 abbrev pub author_of : Revision → List ℕ
 author_of revision = revision.author
 
--- the revisions that entries are on, each once, by their numbers
-abbrev pub revisions_on : List Entry → List ℕ
-revisions_on entries = fold (insert_key nat_cmp) [] (map (λ entry. entry.rev) entries)
+-- one of so many revisions has this number
+abbrev pub is_number : ℕ → ℕ → Bool
+is_number count number = nat_le 1 number && nat_le number count
 
--- A reviewer's line: on each revision on which they have an entry, what their entries alone decide.
-abbrev pub reviewer_line : Group Entry → ReportLine
-reviewer_line own = line_of Reviewer own.name (map (verdict_at own.items) (revisions_on own.items))
+-- the revisions that entries are on, of so many, each once, by their numbers
+abbrev pub revisions_on : ℕ → List Entry → List ℕ
+revisions_on count entries = fold (insert_key nat_cmp) [] (filter (is_number count) (map (λ entry. entry.rev) entries))
+
+-- A reviewer's line: on each of so many revisions on which they have an entry, what their entries alone decide.
+abbrev pub reviewer_line : ℕ → Group Entry → ReportLine
+reviewer_line count own = line_of Reviewer own.name (map (verdict_at own.items) (revisions_on count own.items))
 
 -- An author's line: on each of their revisions, what the book decides.
 abbrev pub author_line : List Entry → Group Revision → ReportLine
@@ -73,4 +77,4 @@ author_line book own = line_of Author own.name (map (λ revision. verdict_at boo
 
 -- a line for each reviewer of the book, and then one for each author of the revisions
 abbrev pub report_lines : List Revision → List Entry → List ReportLine
-report_lines revisions book = map reviewer_line (grouped reviewer_of book) ++ map (author_line book) (grouped author_of revisions)
+report_lines revisions book = map (reviewer_line (length revisions)) (grouped reviewer_of book) ++ map (author_line book) (grouped author_of revisions)

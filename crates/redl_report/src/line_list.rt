@@ -1,7 +1,7 @@
 //! The lines of a report.
 
-ghost use Rattle.std.specs.Prelude.{◌≡◌, length, All, IfOk};
-ghost use Rattle.redl_report.specs.Counts.{IsLine, NameRevisions};
+ghost use Rattle.std.specs.Prelude.{◌≡◌, All, IfOk};
+ghost use Rattle.redl_report.specs.Counts.{IsLine};
 ghost use Rattle.redl_report.specs.Reports.{report_lines};
 
 use crate::authors::add_authors;
@@ -18,16 +18,13 @@ use std::alloc::{AllocError, Global};
 /// highest rank: if none is left it is undecided. Then comes a line for each author of the index, by the bytes of their names,
 /// which counts their revisions by the verdicts of the book. The names are UTF-8.
 ///
-/// Each entry of the book names a revision of the index. `Err` means out of memory.
+/// An entry on a revision that the index does not have counts nothing. `Err` means out of memory.
 pub fn lines(alloc: Global, index: &Index, book: &Book) -> Result<Vec<ReportLine>, AllocError>
-    requires { NameRevisions (length index.now) book.now }
     ensures lines { IfOk result (λ lines. lines.items ≡ report_lines index.now book.now) }
     ensures names { IfOk result (λ lines. All IsLine lines.items) }
 {
-    // It fits 32 bits.
-    let _count = index.count();
     let mut lines = Vec::new(alloc);
-    add_reviewers(alloc, book, &mut lines)?;
+    add_reviewers(alloc, index.count(), book, &mut lines)?;
     add_authors(alloc, index.revisions(), book, &mut lines)?;
     Ok(lines)
 }

@@ -1,12 +1,11 @@
 //! The lines of the reviewers.
 
-ghost use Rattle.std.specs.Prelude.{◌≡◌, ◌≤◌, ◌++◌, length, map, All, IfOk, OnOk};
+ghost use Rattle.std.specs.Prelude.{◌≡◌, ◌++◌, map, All, IfOk, OnOk};
 ghost use Rattle.std.specs.Map.Iter.{deref};
 ghost use Rattle.redl_join.specs.Books.{IsBook};
 ghost use Rattle.redl_journal.specs.Journals.{IsAllowed};
-ghost use Rattle.redl_report.specs.Counts.{NameRevisions};
 ghost use Rattle.redl_report.specs.Groups.{grouped, group_with};
-ghost use Rattle.redl_report.specs.Reports.{reviewer_line, reviewer_of, revisions_on};
+ghost use Rattle.redl_report.specs.Reports.{is_number, reviewer_line, reviewer_of, revisions_on};
 
 use crate::groups::by_reviewer;
 use crate::line::{ReportLine, Role};
@@ -15,33 +14,37 @@ use redl_journal::Entry;
 use std::alloc::{AllocError, Global};
 use std::collections::BTreeSet;
 
-/// Adds a line for each reviewer of the book, by their names. `Err` means out of memory.
+/// Adds a line for each reviewer of the book over so many revisions, by their names. `Err` means out of memory.
 pub(crate) fn add_reviewers(
     alloc: Global,
+    count: u32,
     book: &Book,
     lines: &mut Vec<ReportLine>,
 ) -> Result<(), AllocError>
-    requires { NameRevisions u32.MAX book.now }
-    ensures lines { OnOk result (lines.new.items ≡ lines.old.items ++ map reviewer_line (grouped reviewer_of book.now)) }
+    ensures lines { OnOk result (lines.new.items ≡ lines.old.items ++ map (reviewer_line count) (grouped reviewer_of book.now)) }
     ensures allowed { All IsAllowed book.now }
 {
     let groups = by_reviewer(alloc, book)?;
     for (name, own) in &groups {
-        let line = reviewer_line(alloc, name, own)?;
+        let line = reviewer_line(alloc, count, name, own)?;
         lines.push(line)?;
     }
     Ok(())
 }
 
-/// The line of a reviewer with these entries. `Err` means out of memory.
-fn reviewer_line(alloc: Global, name: &[u8], own: &[&Entry]) -> Result<ReportLine, AllocError>
+/// The line of a reviewer with these entries, over so many revisions. `Err` means out of memory.
+fn reviewer_line(
+    alloc: Global,
+    count: u32,
+    name: &[u8],
+    own: &[&Entry],
+) -> Result<ReportLine, AllocError>
     requires book { IsBook (map deref own.now) }
     requires allowed { All IsAllowed (map deref own.now) }
-    requires few { length (revisions_on (map deref own.now)) ≤ u32.MAX }
-    ensures { IfOk result (λ line. line ≡ reviewer_line (group_with name.now (map deref own.now))) }
+    ensures { IfOk result (λ line. line ≡ reviewer_line count (group_with name.now (map deref own.now))) }
 {
     let book = own_book(alloc, own)?;
-    let revisions = own_revisions(alloc, own)?;
+    let revisions = own_revisions(alloc, count, own)?;
     let mut line = ReportLine::blank(alloc, Role::Reviewer, name)?;
     for revision in &revisions {
         line.count(book.verdict(*revision));
@@ -62,13 +65,22 @@ fn own_book(alloc: Global, own: &[&Entry]) -> Result<Book, AllocError>
     Ok(book)
 }
 
-/// The numbers of the revisions that the entries are on. `Err` means out of memory.
-fn own_revisions(alloc: Global, own: &[&Entry]) -> Result<BTreeSet<u32>, AllocError>
-    ensures { IfOk result (λ numbers. numbers.keys ≡ revisions_on (map deref own.now)) }
+/// The numbers of the revisions that the entries are on, of so many. `Err` means out of memory.
+fn own_revisions(alloc: Global, count: u32, own: &[&Entry]) -> Result<BTreeSet<u32>, AllocError>
+    ensures { IfOk result (λ numbers. numbers.keys ≡ revisions_on count (map deref own.now)) }
 {
     let mut numbers = BTreeSet::new(alloc);
     for entry in own {
-        numbers.insert(entry.rev)?;
+        if is_number(count, entry.rev) {
+            numbers.insert(entry.rev)?;
+        }
     }
     Ok(numbers)
+}
+
+/// Whether one of so many revisions has this number.
+fn is_number(count: u32, number: u32) -> bool
+    ensures { result ≡ is_number count number }
+{
+    1 <= number && number <= count
 }

@@ -8,6 +8,6 @@ use Rattle.redl_report.proofs.reviewers.add_reviewers.Given as goal
 -- the lines so far and those of the rest are all of them
 abbrev pub invariant-loop-name : goal.invariant-loop-name
 invariant-loop-name l = record {
-  lines : l.lines.items ++ map reviewer_line (map group_at l.name-iterator) ≡ l.fn.lines.items ++ map reviewer_line (grouped reviewer_of l.book);
-  own : AllByRecursion (IsOwn 4294967295) (map group_at l.name-iterator);
+  lines : l.lines.items ++ map (reviewer_line l.count) (map group_at l.name-iterator) ≡ l.fn.lines.items ++ map (reviewer_line l.count) (grouped reviewer_of l.book);
+  own : AllByRecursion IsOwn (map group_at l.name-iterator);
 }

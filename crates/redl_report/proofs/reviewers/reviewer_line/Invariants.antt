@@ -8,6 +8,6 @@ use Rattle.redl_report.proofs.reviewers.reviewer_line.Given as goal
 -- the revisions so far are counted
 abbrev pub invariant-loop-revision : goal.invariant-loop-revision
 invariant-loop-revision l = record {
-  whole : map deref l.yielded ++ l.revision-iterator ≡ revisions_on (map deref l.own);
+  whole : map deref l.yielded ++ l.revision-iterator ≡ revisions_on l.count (map deref l.own);
   line : l.line ≡ line_of Reviewer l.name (map (verdict_at (map deref l.own)) (map deref l.yielded));
 }
