@@ -8,13 +8,13 @@ use Rattle.redl_app.proofs.LeftLaws.{is_made}
 use Rattle.redl_app.specs.AnyOrder.{OrderDoesNotCount, with_journals}
 use Rattle.redl_app.specs.Commands.Decide.{book_written, with_choices}
 use Rattle.redl_app.specs.Commands.Join.{book_text, document_in, joined, union_of}
+use Rattle.redl_app.specs.Commands.Report.{report_named, reported}
 use Rattle.redl_app.specs.Commands.List.{listed, listing_named}
 use Rattle.redl_app.specs.Commands.Page.{page_of}
 use Rattle.redl_app.specs.Commands.Write.{resolved}
 use Rattle.redl_app.specs.Brought.{Brought}
-use Rattle.redl_app.specs.Formats.{has_format}
 use Rattle.redl_app.specs.Outcome.{carried_out, writing_of}
-use Rattle.redl_app.specs.Plans.{plan}
+use Rattle.redl_app.specs.Plans.{has_asked, plan}
 use Rattle.redl_app.specs.Writing.{Writing, only_bytes, outcome_of}
 use Rattle.redl_inputs.proofs.AnyOrder.{HasEntries, IsEntryOf, IsGathered, file_is_held, gathered_is_entry, name_is_gathered, one_list, only_one, opens_same}
 use Rattle.redl_inputs.proofs.JournalLaws.{entries_of_it}
@@ -33,7 +33,7 @@ use Rattle.redl_journal.specs.declared.entry.Entry.{Entry}
 use Rattle.redl_lines.specs.Failures.{Failure}
 use Rattle.redl_lines.specs.declared.failure.Limit.TheVariants.{JournalBytes}
 use Rattle.redl_select.specs.declared.lock.Lock.{Lock}
-use Rattle.redl_words.specs.Commands.{Command, settle, view_text, list, page, write, decide, join, check, sample}
+use Rattle.redl_words.specs.Commands.{Command, settle, view_text, list, report, page, write, decide, join, check, sample}
 
 -- what a command makes of the session over its package, and of the journals
 after_opening : (reader : Reader) (files : Files) (locks : List Lock) (names others : List (List ℕ)) (p : List ℕ) (next : Admission → Result Writing Failure) (one other : Writing) → AreSame names others
@@ -206,9 +206,15 @@ carried_same : (reader : Reader) (files : Files) (brought : Brought) (command : 
 carried_same reader files brought (settle accept p) names others one other same is too = same_ok (sym is ∙ too)
 carried_same reader files brought (view_text p view) names others one other same is too = same_ok (sym is ∙ too)
 carried_same reader files brought (list p format locks journals) names others one other same is too =
-    let first = both_ok (has_format brought.formats (Some format)) (λ there. package_file files p >>= (λ whole. listed reader files brought.formats format locks names whole)) one is in
-    let again = both_ok (has_format brought.formats (Some format)) (λ there. package_file files p >>= (λ whole. listed reader files brought.formats format locks others whole)) other too in
+    let asked = plan (list p format locks journals) in
+    let first = both_ok (has_asked brought asked) (λ there. package_file files p >>= (λ whole. listed reader files brought.formats format locks names whole)) one is in
+    let again = both_ok (has_asked brought asked) (λ there. package_file files p >>= (λ whole. listed reader files brought.formats format locks others whole)) other too in
     after_opening reader files locks names others p (λ admission. listing_named brought.formats format admission) one other same first.second again.second
+carried_same reader files brought (report p format locks journals) names others one other same is too =
+    let asked = plan (report p format locks journals) in
+    let first = both_ok (has_asked brought asked) (λ there. package_file files p >>= (λ whole. reported reader files brought.reports format locks names whole)) one is in
+    let again = both_ok (has_asked brought asked) (λ there. package_file files p >>= (λ whole. reported reader files brought.reports format locks others whole)) other too in
+    after_opening reader files locks names others p (λ admission. report_named brought.reports format admission) one other same first.second again.second
 carried_same reader files brought (page p locks journals) names others one other same is too =
     after_opening reader files locks names others p (λ admission. Ok (page_of brought.skin locks admission)) one other same is too
 carried_same reader files brought (write p locks journals) names others one other same is too =

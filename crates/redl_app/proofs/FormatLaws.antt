@@ -27,32 +27,35 @@ use Rattle.redl_join.specs.Verdicts.{verdict_at}
 use Rattle.redl_join.specs.declared.verdict.Verdict.{Verdict}
 use Rattle.redl_listing.specs.Rows.{told_rows}
 use Rattle.redl_listing.specs.declared.row.Row.{Row}
+use Rattle.redl_report.specs.Reports.{report_lines}
+use Rattle.redl_report.specs.declared.line.ReportLine.{ReportLine}
+use Rattle.redl_app.specs.Commands.Report.{report_named, report_of}
 use Rattle.redl_session.specs.Says.{verdicts_of}
 
 -- ---- the first format of a name
 
 -- a format, by its name and by the text that it gives
-abbrev pub format_by : {F : Type 0} → (F → List ℕ) → (F → List Row → Bool → List ℕ) → F → Format
+abbrev pub format_by : {I F : Type 0} → (F → List ℕ) → (F → List I → Bool → List ℕ) → F → Format I
 format_by name_of text_of format = record { name = name_of format; text = λ rows. text_of format rows true }
 
-first_named-by : {F : Type 0} (name_of : F → List ℕ) (text_of : F → List Row → Bool → List ℕ) (name : List ℕ) (formats : List F)
-    → first_named (λ (format : Format). format.name) name (formats_by name_of text_of formats) ≡ option_map (format_by name_of text_of) (first_named name_of name formats)
-first_named-by name_of text_of name [] = refl
-first_named-by name_of text_of name (format ∷ more) =
+first_named-by : {I F : Type 0} (name_of : F → List ℕ) (text_of : F → List I → Bool → List ℕ) (name : List ℕ) (formats : List F)
+    → first_named (λ (format : Format I). format.name) name (formats_by name_of text_of formats) ≡ option_map (format_by name_of text_of) (first_named name_of name formats)
+first_named-by {I} name_of text_of name [] = refl
+first_named-by {I} name_of text_of name (format ∷ more) =
     elim (bytes_eq (name_of format) name) as (λ test.
-    cond test (Some (format_by name_of text_of format)) (first_named (λ (one : Format). one.name) name (formats_by name_of text_of more))
+    cond test (Some (format_by name_of text_of format)) (first_named (λ (one : Format I). one.name) name (formats_by name_of text_of more))
     ≡ option_map (format_by name_of text_of) (cond test (Some format) (first_named name_of name more))) [
       | true ↦ refl
       | false ↦ first_named-by name_of text_of name more
     ]
 
 -- what the search for a format gives, by what it found among the formats
-pub named-by : {F : Type 0} (name_of : F → List ℕ) (text_of : F → List Row → Bool → List ℕ) (name : List ℕ) (formats : List F)
+pub named-by : {I F : Type 0} (name_of : F → List ℕ) (text_of : F → List I → Bool → List ℕ) (name : List ℕ) (formats : List F)
     → format_named (formats_by name_of text_of formats) name ≡ found_format name (option_map (format_by name_of text_of) (first_named name_of name formats))
 named-by name_of text_of name formats = ap (found_format name) (first_named-by name_of text_of name formats)
 
 -- the format at this place has the name, and none before it does
-pub found_at : {F : Type 0} (name_of : F → List ℕ) (text_of : F → List Row → Bool → List ℕ) (name : List ℕ) (formats : List F) (i : ℕ) (x : F) → i < length formats → x ≡ get_or formats i x
+pub found_at : {I F : Type 0} (name_of : F → List ℕ) (text_of : F → List I → Bool → List ℕ) (name : List ℕ) (formats : List F) (i : ℕ) (x : F) → i < length formats → x ≡ get_or formats i x
     → bytes_eq (name_of x) name ≡ true → first_named name_of name (drop i formats) ≡ first_named name_of name formats
     → whether (format_named (formats_by name_of text_of formats) name) ≡ Ok tt
 found_at name_of text_of name formats i x within at here so_far =
@@ -66,7 +69,7 @@ pub not_found_at : {F : Type 0} (name_of : F → List ℕ) (name : List ℕ) (fo
 not_found_at name_of name formats i x within at other so_far = (named_later name_of name formats i x within at other).0 ∙ so_far
 
 -- no format has the name
-pub not_found : {F : Type 0} (name_of : F → List ℕ) (text_of : F → List Row → Bool → List ℕ) (name : List ℕ) (formats : List F) (i : ℕ) → length formats ≤ i
+pub not_found : {I F : Type 0} (name_of : F → List ℕ) (text_of : F → List I → Bool → List ℕ) (name : List ℕ) (formats : List F) (i : ℕ) → length formats ≤ i
     → first_named name_of name (drop i formats) ≡ first_named name_of name formats
     → whether (format_named (formats_by name_of text_of formats) name) ≡ Err (caused (no_format name))
 not_found name_of text_of name formats i past so_far =
@@ -98,7 +101,7 @@ pub verdicts_for : (book : List Entry) (count : ℕ) (verdicts : List Verdict) �
 verdicts_for book count verdicts is = ap length is ∙ length-map-range_with_len (verdict_at book) 1 count
 
 -- a format that is there is found
-found_there : {F : Type 0} (name_of : F → List ℕ) (text_of : F → List Row → Bool → List ℕ) (text : F → List ℕ) (name : List ℕ) (found : Bool) (made : List ℕ) (first : Option F)
+found_there : {I F : Type 0} (name_of : F → List ℕ) (text_of : F → List I → Bool → List ℕ) (text : F → List ℕ) (name : List ℕ) (found : Bool) (made : List ℕ) (first : Option F)
     → whether (found_format name (option_map (format_by name_of text_of) first)) ≡ Ok tt → IsListed first text found made → found ≡ true
 found_there name_of text_of text name found made None there listed = absurd (cc there)
 found_there name_of text_of text name found made (Some format) there listed = listed.0
@@ -116,6 +119,30 @@ reads_listing name_of text_of name admission formats parts revisions verdicts de
     (ap whether (sym (named-by name_of text_of name formats)) ∙ there) listed in
     record {
       as_due = λ reader reads. listed_text name_of text_of name admission made formats (rw (of_parts, of_revisions, of_verdicts, of_details, is) at listed);
+      never_unread = tt;
+    }
+
+-- ---- a report
+
+reported_by : {F : Type 0} (name_of : F → List ℕ) (text_of : F → List ReportLine → Bool → List ℕ) (name : List ℕ) (admission : Admission) (made : List ℕ) (first : Option F)
+    → IsListed first (λ format. text_of format (report_lines admission.state.revisions admission.state.book) true) true made
+    → found_format name (option_map (format_by name_of text_of) first) >>= (λ format. Ok (report_of admission format)) ≡ Ok (made_by admission made)
+reported_by name_of text_of name admission made None (found, is) = absurd (cc found)
+reported_by name_of text_of name admission made (Some format) (found, is) = ap (λ bytes. Ok (made_by admission bytes)) (sym is)
+
+-- the format made the report
+pub reads_report : {F : Type 0} (name_of : F → List ℕ) (text_of : F → List ReportLine → Bool → List ℕ) (name : List ℕ) (admission : Admission) (reports : List F)
+    (lines : List ReportLine) (found : Bool) (made : List ℕ) → lines ≡ report_lines admission.state.revisions admission.state.book
+    → whether (format_named (formats_by name_of text_of reports) name) ≡ Ok tt
+    → IsListed (first_named name_of name reports) (λ format. text_of format lines true) found made
+    → Reads (Ok (made_by admission made)) (λ reader. report_named (formats_by name_of text_of reports) name admission)
+reads_report name_of text_of name admission reports lines found made of_lines there listed =
+    let is : found ≡ true = found_there name_of text_of _ name found made (first_named name_of name reports)
+    (ap whether (sym (named-by name_of text_of name reports)) ∙ there) listed in
+    record {
+      as_due = λ reader reads.
+          ap (λ one. one >>= (λ format. Ok (report_of admission format))) (named-by name_of text_of name reports)
+          ∙ reported_by name_of text_of name admission made (first_named name_of name reports) (rw (of_lines, is) at listed);
       never_unread = tt;
     }
 
@@ -144,16 +171,24 @@ leaves_end without old new told faults out out_new (Err failure) end (is, same, 
 -- ---- the step before the package
 
 -- whether a format was found says no more than this
-found_whether : (name : List ℕ) (found : Option Format) (failure : Failure) → whether (found_format name found) ≡ Err failure → NeverUnread {Y = Unit {0}} (Err failure)
+found_whether : {I : Type 0} (name : List ℕ) (found : Option (Format I)) (failure : Failure) → whether (found_format name found) ≡ Err failure → NeverUnread {Y = Unit {0}} (Err failure)
 found_whether name None failure is =
     let same : caused (no_format name) ≡ failure = cc is in
     subst (λ (f : Failure). NeverUnread {Y = Unit {0}} (Err f)) same tt
 found_whether name (Some format) failure is = absurd (cc is)
 
 -- a missing format is no missing file
-pub format_is_no_file : (formats : List Format) (asked : Option (List ℕ)) (failure : Failure) → has_format formats asked ≡ Err failure → NeverUnread {Y = Unit {0}} (Err failure)
+pub format_is_no_file : {I : Type 0} (formats : List (Format I)) (asked : Option (List ℕ)) (failure : Failure) → has_format formats asked ≡ Err failure → NeverUnread {Y = Unit {0}} (Err failure)
 format_is_no_file formats None failure is = absurd (cc is)
 format_is_no_file formats (Some name) failure is = found_whether name (first_named (λ format. format.name) name formats) failure is
+
+-- nor is one of two that a command may ask for
+pub asked_is_no_file : {I J : Type 0} (formats : List (Format I)) (reports : List (Format J)) (asked other : Option (List ℕ)) (failure : Failure)
+    → has_format formats asked >>= (λ there. has_format reports other) ≡ Err failure → NeverUnread {Y = Unit {0}} (Err failure)
+asked_is_no_file formats reports asked other failure is = by (has_format formats asked) refl is where
+  by : (found : Result (Unit {0}) Failure) → has_format formats asked ≡ found → found >>= (λ there. has_format reports other) ≡ Err failure → NeverUnread {Y = Unit {0}} (Err failure)
+  by (Ok there) found is = format_is_no_file reports other failure is
+  by (Err cause) found is = format_is_no_file formats asked failure (found ∙ is)
 
 same_failure : (failure : Failure) (fault : Type 0) → IsMade {Y = Writing} (Err failure) (Err failure) fault
 same_failure no_memory fault = tt

@@ -18,7 +18,7 @@ use Rattle.redl_inputs.proofs.StepLaws.{both_ok, same_ok, same_some}
 use Rattle.redl_inputs.specs.Readers.{Reader}
 use Rattle.redl_inputs.specs.Steps.{◌>>=◌}
 use Rattle.redl_app.specs.Writing.{Outcome, Writing, only_bytes, outcome_of}
-use Rattle.redl_words.specs.Commands.{Command, settle, view_text, list, page, write, decide, join, check, sample}
+use Rattle.redl_words.specs.Commands.{Command, settle, view_text, list, report, page, write, decide, join, check, sample}
 use Rattle.redl_io.specs.Limits.{journal_bytes}
 use Rattle.redl_index.specs.Numbers.{numbered_package}
 use Rattle.redl_io.specs.Shelf.{Files}
@@ -133,6 +133,7 @@ leaves reader files brought (settle accept other) name writing named is =
 leaves reader files brought (write other locks journals) name writing named is =
     subst (λ n. IsLeft reader files (plan (write other locks journals)) n writing.bytes) (same_some named) (leaves_written reader files brought other locks journals writing is)
 leaves reader files brought (list other format locks journals) name writing named is = absurd (cc named)
+leaves reader files brought (report other format locks journals) name writing named is = absurd (cc named)
 leaves reader files brought (page other locks journals) name writing named is = absurd (cc named)
 leaves reader files brought (decide other reviewer journals locks choices rank) name writing named is = absurd (cc named)
 leaves reader files brought (join journals) name writing named is = absurd (cc named)

@@ -1,11 +1,10 @@
 -- Entries on a revision are refused exactly if a lock holds it.
-use Rattle.std.proofs.Common.{◌≡◌, Bool, true, false, ◌&&◌, ◌||◌, List, [], ◌∷◌, Option, Some, None, is_some, refl, if◌then◌else◌}
+use Rattle.std.proofs.Common.{◌≡◌, Bool, true, false, ◌&&◌, ◌||◌, List, [], ◌∷◌, Some, None, is_some, refl, if◌then◌else◌}
 use Rattle.std.specs.List.{list_any}
 use Rattle.redl_app.specs.Commands.Page.{is_locked}
 use Rattle.redl_index.specs.declared.revision.Revision.{Revision}
 use Rattle.redl_select.specs.Locks.{holds, is_author, is_kind}
 use Rattle.redl_select.specs.declared.lock.Lock.{Lock}
-use Rattle.redl_session.specs.declared.refusal.Bar.{Bar}
 use Rattle.redl_session.specs.declared.refusal.Bar.TheVariants.{Author, Kind, Span}
 
 first_or_later : (second first here later : Bool) → (here ≡ true → later ≡ true) → (first && second) || here ≡ true → second || later ≡ true

@@ -8,7 +8,7 @@ use Rattle.redl_app.specs.Finishing.{Ends, IsWanted, words_failure}
 use Rattle.redl_app.specs.Brought.{Brought}
 use Rattle.redl_app.specs.Formats.{LeavesFormats, without_asked}
 use Rattle.redl_app.specs.Outcome.{writing_of}
-use Rattle.redl_app.specs.Plans.{plan}
+use Rattle.redl_app.specs.Plans.{Plan, plan}
 use Rattle.redl_inputs.specs.Readers.{Reader, IsReader}
 use Rattle.redl_app.specs.Views.{read_view, named_files}
 use Rattle.redl_app.specs.Writing.{Writing}
@@ -86,15 +86,15 @@ ends_as_usage words (Err error) end is ends none = failure_ends error end ends
 -- ---- what is left of the formats
 
 -- the command of the words is the one that was read
-pub leaves_by_words : {F : Type 0} (name_of : F → List ℕ) (old new : List F) (words : List (List ℕ)) (read : Result Declared WordsError) (end : End)
+pub leaves_by_words : {F : Type 0} (asked : Plan → Option (List ℕ)) (name_of : F → List ℕ) (old new : List F) (words : List (List ℕ)) (read : Result Declared WordsError) (end : End)
     → IfOk read (λ command. IsCommand words (command_of command)) → (IsErrOf read error.Usage → HasNoCommand words)
-    → IfOk read (λ command. LeavesFormats (end_status end) (without_asked name_of (plan (command_of command)).format old) old new) → IfErr read (λ error. new ≡ old)
+    → IfOk read (λ command. LeavesFormats (end_status end) (without_asked name_of (asked (plan (command_of command))) old) old new) → IfErr read (λ error. new ≡ old)
     → IfErr read (λ error. end ≡ failed (words_failure error))
-    → (command : Command) → IsCommand words command → LeavesFormats (end_status end) (without_asked name_of (plan command).format old) old new
-leaves_by_words name_of old new words (Ok found) end is none left same ends command reads =
-    subst (λ c. LeavesFormats (end_status end) (without_asked name_of (plan c).format old) old new) (at_most_one words (command_of found) command is reads) left
-leaves_by_words name_of old new words (Err error.Usage) end is none left same ends command reads = absurd (none refl command reads)
-leaves_by_words name_of old new words (Err error.NoMemory) end is none left same ends command reads = rw ends (inl same)
+    → (command : Command) → IsCommand words command → LeavesFormats (end_status end) (without_asked name_of (asked (plan command)) old) old new
+leaves_by_words asked name_of old new words (Ok found) end is none left same ends command reads =
+    subst (λ c. LeavesFormats (end_status end) (without_asked name_of (asked (plan c)) old) old new) (at_most_one words (command_of found) command is reads) left
+leaves_by_words asked name_of old new words (Err error.Usage) end is none left same ends command reads = absurd (none refl command reads)
+leaves_by_words asked name_of old new words (Err error.NoMemory) end is none left same ends command reads = rw ends (inl same)
 
 -- words of no command take no format
 pub leaves_all : {F : Type 0} (old new : List F) (words : List (List ℕ)) (read : Result Declared WordsError) → IfOk read (λ command. IsCommand words (command_of command))

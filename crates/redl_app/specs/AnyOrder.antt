@@ -6,13 +6,14 @@ use Rattle.redl_app.specs.Outcome.{outcome}
 use Rattle.redl_inputs.specs.Journals.{AreSame}
 use Rattle.redl_inputs.specs.Readers.{Reader}
 use Rattle.redl_io.specs.Shelf.{Files}
-use Rattle.redl_words.specs.Commands.{Command, settle, view_text, list, page, write, decide, join, check, sample}
+use Rattle.redl_words.specs.Commands.{Command, settle, view_text, list, report, page, write, decide, join, check, sample}
 
 -- the command with these journals in place of its own, if it has any
 abbrev pub with_journals : List (List ℕ) → Command → Command
 with_journals names (settle accept p) = settle accept p
 with_journals names (view_text p view) = view_text p view
 with_journals names (list p format locks journals) = list p format locks names
+with_journals names (report p format locks journals) = report p format locks names
 with_journals names (page p locks journals) = page p locks names
 with_journals names (write p locks journals) = write p locks names
 with_journals names (decide p reviewer journals locks choices rank) = decide p reviewer names locks choices rank

@@ -2,6 +2,7 @@ pub mod Settle
 pub mod Text
 pub mod List
 pub mod Page
+pub mod Report
 pub mod Write
 pub mod Join
 pub mod Check

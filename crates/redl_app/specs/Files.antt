@@ -1,8 +1,7 @@
 -- The files that a command names.
 use Rattle.std.specs.Prelude.{ℕ, List, [], ◌∷◌, ◌++◌, Option, None, Some, Result, Ok, Err}
 use Rattle.redl_app.specs.Brought.{Brought}
-use Rattle.redl_app.specs.Formats.{has_format}
-use Rattle.redl_app.specs.Plans.{Plan, package_of, plan}
+use Rattle.redl_app.specs.Plans.{Plan, has_asked, package_of, plan}
 use Rattle.redl_lines.specs.Failures.{Failure}
 use Rattle.redl_words.specs.Commands.{Command}
 
@@ -22,7 +21,7 @@ where_ok (Err failure) names = []
 
 -- the names of the files that a command asks for; none where the format that it asks for isn't there
 abbrev pub files_of : Brought → Plan → List (List ℕ)
-files_of brought plan = where_ok (has_format brought.formats plan.format) (file_names plan)
+files_of brought plan = where_ok (has_asked brought plan) (file_names plan)
 
 -- the names of the files that words ask for, where they are this command or none
 abbrev pub asked_by : Brought → Option Command → List (List ℕ)

@@ -1,32 +1,31 @@
--- The formats of listings, as the outcome of a call sees them, and what a call leaves of their list.
+-- The formats of listings and of reports, as the outcome of a call sees them, and what a call leaves of their lists.
 use Rattle.std.specs.Prelude.{◌≡◌, ◌⊎◌, ℕ, Bool, true, false, List, [], All, map, Option, None, Some, Result, Ok, Err}
 use Rattle.redl_lines.specs.Failures.{Failure, caused, no_format}
 use Rattle.redl_lines.specs.declared.status.Status.{Status}
 use Rattle.redl_lines.specs.declared.status.Status.TheVariants as status
 use Rattle.redl_listing.specs.Formats.{first_named, without_named}
-use Rattle.redl_listing.specs.declared.row.Row.{Row}
 
--- a format: its name, and the text that it gives for all rows
-pub record Format : Type 0 where
+-- a format of rows or other items: its name, and the text that it gives for all of them
+pub record Format (I : Type 0) : Type 0 where
   pub name : List ℕ
-  pub text : List Row → List ℕ
+  pub text : List I → List ℕ
 
--- formats by the name of each, and by the text that it gives for any rows, closed or not
-abbrev pub formats_by : {F : Type 0} → (F → List ℕ) → (F → List Row → Bool → List ℕ) → List F → List Format
-formats_by name_of text_of formats = map (λ format. record { name = name_of format; text = λ rows. text_of format rows true }) formats
+-- formats by the name of each, and by the text that it gives for any items, closed or not
+abbrev pub formats_by : {I F : Type 0} → (F → List ℕ) → (F → List I → Bool → List ℕ) → List F → List (Format I)
+formats_by name_of text_of formats = map (λ format. record { name = name_of format; text = λ items. text_of format items true }) formats
 
--- no format is closed or has a row
-abbrev pub AreFresh : {F : Type 0} → (F → Bool) → (F → List Row) → List F → Type 0
-AreFresh is_closed rows_of formats = All (λ format. (is_closed format ≡ false) × (rows_of format ≡ [])) formats
+-- no format is closed or has an item
+abbrev pub AreFresh : {I F : Type 0} → (F → Bool) → (F → List I) → List F → Type 0
+AreFresh is_closed items_of formats = All (λ format. (is_closed format ≡ false) × (items_of format ≡ [])) formats
 
 -- ---- the format that a command asks for
 
-abbrev pub found_format : List ℕ → Option Format → Result Format Failure
+abbrev pub found_format : {I : Type 0} → List ℕ → Option (Format I) → Result (Format I) Failure
 found_format name None = Err (caused (no_format name))
 found_format name (Some format) = Ok format
 
 -- the first format that has the name
-abbrev pub format_named : List Format → List ℕ → Result Format Failure
+abbrev pub format_named : {I : Type 0} → List (Format I) → List ℕ → Result (Format I) Failure
 format_named formats name = found_format name (first_named (λ format. format.name) name formats)
 
 -- nothing more than whether something was made
@@ -35,7 +34,7 @@ whether (Ok x) = Ok tt
 whether (Err failure) = Err failure
 
 -- whether there is the format of this name, if one is asked for
-abbrev pub has_format : List Format → Option (List ℕ) → Result (Unit {0}) Failure
+abbrev pub has_format : {I : Type 0} → List (Format I) → Option (List ℕ) → Result (Unit {0}) Failure
 has_format formats None = Ok tt
 has_format formats (Some name) = whether (format_named formats name)
 

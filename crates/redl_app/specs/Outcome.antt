@@ -2,8 +2,7 @@
 -- texts are read.
 use Rattle.std.specs.Prelude.{ℕ, List, Option, None, Some, Result, Err}
 use Rattle.redl_app.specs.Brought.{Brought}
-use Rattle.redl_app.specs.Formats.{has_format}
-use Rattle.redl_app.specs.Plans.{Plan, made_by, plan}
+use Rattle.redl_app.specs.Plans.{Plan, has_asked, made_by, plan}
 use Rattle.redl_app.specs.Writing.{Writing, Outcome, outcome_of}
 use Rattle.redl_inputs.specs.Readers.{Reader}
 use Rattle.redl_inputs.specs.Steps.{◌>>=◌}
@@ -14,7 +13,7 @@ use Rattle.redl_words.specs.Commands.{Command}
 -- what a command writes, or why it writes nothing: first the format is looked for, then something is made
 abbrev pub carried_out : Reader → Files → Brought → Plan → Result Writing Failure
 carried_out reader files brought plan = do
-  there ← has_format brought.formats plan.format
+  there ← has_asked brought plan
   made_by reader files brought plan.makes
 
 -- what is written, or why nothing is: the first cause, in the order of the words, the format, the package and the journals

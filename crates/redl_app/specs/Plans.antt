@@ -1,15 +1,17 @@
 -- The plan of each command: what it makes and of which package, its journals and locks, its format, and what it decides.
-use Rattle.std.specs.Prelude.{ℕ, Bool, List, [], ◌∷◌, ◌++◌, Option, None, Some, Result, Ok, Err}
+use Rattle.std.specs.Prelude.{ℕ, Bool, List, [], Option, None, Some, Result, Err}
 use Rattle.redl_app.specs.Commands.Check.{checked}
 use Rattle.redl_app.specs.Commands.Decide.{chosen_journal}
 use Rattle.redl_app.specs.Commands.Join.{joined}
 use Rattle.redl_app.specs.Commands.List.{listed}
 use Rattle.redl_app.specs.Commands.Page.{paged}
+use Rattle.redl_app.specs.Commands.Report.{reported}
 use Rattle.redl_app.specs.Commands.Sample.{sampled}
 use Rattle.redl_app.specs.Commands.Settle.{settled}
 use Rattle.redl_app.specs.Commands.Text.{viewed}
 use Rattle.redl_app.specs.Commands.Write.{written}
 use Rattle.redl_app.specs.Brought.{Brought}
+use Rattle.redl_app.specs.Formats.{has_format}
 use Rattle.redl_app.specs.Writing.{Writing}
 use Rattle.redl_inputs.specs.Packages.{package_file}
 use Rattle.redl_inputs.specs.Readers.{Reader}
@@ -18,7 +20,7 @@ use Rattle.redl_io.specs.Limits.{journal_bytes}
 use Rattle.redl_io.specs.Shelf.{Files}
 use Rattle.redl_lines.specs.Failures.{Failure, no_memory}
 use Rattle.redl_select.specs.declared.lock.Lock.{Lock}
-use Rattle.redl_words.specs.Commands.{Command, settle, view_text, list, page, write, decide, join, check, sample}
+use Rattle.redl_words.specs.Commands.{Command, settle, view_text, list, report, page, write, decide, join, check, sample}
 
 -- what a command makes
 pub data Making : Type 0 where
@@ -35,18 +37,19 @@ pub data Deciding : Type 0 where
   -- the verdicts of its journals, with its locks
   by_verdicts : Deciding
 
--- what a command makes and of which package, the names of its journals, its locks, the name of the format that it
--- asks for, and what it decides
+-- what a command makes and of which package, the names of its journals, its locks, the name of the format of listings or of
+-- reports that it asks for, and what it decides
 pub record Plan : Type 0 where
   pub makes : Making
   pub journals : List (List ℕ)
   pub locks : List Lock
   pub format : Option (List ℕ)
+  pub report : Option (List ℕ)
   pub decides : Deciding
 
 -- a command that has no more than this
 abbrev pub only : Making → Plan
-only making = record { makes = making; journals = []; locks = []; format = None; decides = nothing }
+only making = record { makes = making; journals = []; locks = []; format = None; report = None; decides = nothing }
 
 -- the plan of each command
 abbrev pub plan : Command → Plan
@@ -58,6 +61,11 @@ plan (list p name locks journals) = record (only (of_package p (λ reader files 
   journals = journals;
   locks = locks;
   format = Some name;
+}
+plan (report p name locks journals) = record (only (of_package p (λ reader files brought whole. reported reader files brought.reports name locks journals whole))) {
+  journals = journals;
+  locks = locks;
+  report = Some name;
 }
 plan (page p locks journals) = record (only (of_package p (λ reader files brought whole. paged reader files brought.skin locks journals whole))) {
   journals = journals;
@@ -78,6 +86,12 @@ plan (join journals) = record (only (of_no_package (λ reader files. joined read
 }
 plan (check p) = only (of_package p (λ reader files brought whole. checked reader whole))
 plan (sample number) = only (of_no_package (λ reader files. sampled reader number))
+
+-- ---- the format
+
+-- whether there is the format that a command asks for, if it asks for one
+abbrev pub has_asked : Brought → Plan → Result (Unit {0}) Failure
+has_asked brought plan = has_format brought.formats plan.format >>= λ there. has_format brought.reports plan.report
 
 -- ---- the package
 

@@ -21,7 +21,9 @@ use redl_io::{Shelf, Sink};
 use redl_lines::End;
 use redl_listing::RowFormat;
 use redl_page::Skin;
+use redl_report::ReportFormat;
 use redl_words::Command;
+use report::report_package;
 use sample::sample;
 use settle::settle;
 use std::alloc::Global;
@@ -33,6 +35,7 @@ mod decide;
 mod join;
 mod list;
 mod page;
+mod report;
 mod sample;
 mod settle;
 mod text;
@@ -47,17 +50,22 @@ pub(crate) fn carry_out<'a, F: Shelf, O: Sink>(
     shelf: &mut F,
     out: &mut O,
     formats: &mut Vec<Box<dyn RowFormat>>,
+    reports: &mut Vec<Box<dyn ReportFormat>>,
     skin: &Skin<'_>,
 ) -> End<'a>
     requires utf8 { HasUtf8 (command_of command.now) }
     requires text { IsTextFor (plan (command_of command.now)).makes (option_copied text) }
     requires format { has_format (formats_by format_name text_for formats.old.items) (plan (command_of command.now)).format ≡ Ok tt }
+    requires report { has_format (formats_by report_name report_text reports.old.items) (plan (command_of command.now)).report ≡ Ok tt }
     requires fresh { AreFresh is_closed rows_so_far formats.old.items }
+    requires fresh_reports { AreFresh is_ended lines_so_far reports.old.items }
     ensures ends { Ends F.told F.faults shelf.old shelf.new O.told O.faults out.old out.new (plan (command_of command.now)).journals
-        (λ reader files. made_with reader files (brought_by format_name text_for formats.old.items skin.now) (plan (command_of command.now)).makes (option_copied text.entry))
+        (λ reader files. made_with reader files (brought_by format_name text_for formats.old.items report_name report_text reports.old.items skin.now) (plan (command_of command.now)).makes (option_copied text.entry))
         (end_view result) }
     ensures formats { LeavesFormats (end_status (end_view result))
         (without_asked format_name (plan (command_of command.now)).format formats.old.items) formats.old.items formats.new.items }
+    ensures reports { LeavesFormats (end_status (end_view result))
+        (without_asked report_name (plan (command_of command.now)).report reports.old.items) reports.old.items reports.new.items }
 {
     match command {
         Command::Settle { accept, .. } => put(settle(alloc, *accept, text.unwrap()), out),
@@ -76,6 +84,23 @@ pub(crate) fn carry_out<'a, F: Shelf, O: Sink>(
                 text.unwrap(),
                 shelf,
                 formats,
+            ),
+            out,
+        ),
+        Command::Report {
+            format,
+            locks,
+            journals,
+            ..
+        } => put(
+            report_package(
+                alloc,
+                name_of(format),
+                locks,
+                journals,
+                text.unwrap(),
+                shelf,
+                reports,
             ),
             out,
         ),

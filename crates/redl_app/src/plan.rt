@@ -18,6 +18,7 @@ pub(crate) fn package(command: &Command) -> Option<&str>
         Command::Settle { package, .. }
         | Command::Text { package, .. }
         | Command::List { package, .. }
+        | Command::Report { package, .. }
         | Command::Page { package, .. }
         | Command::Write { package, .. }
         | Command::Decide { package, .. }
@@ -26,13 +27,24 @@ pub(crate) fn package(command: &Command) -> Option<&str>
     }
 }
 
-/// The name of the format that the command asks for, if it asks for one.
+/// The name of the format of listings that the command asks for, if it asks for one.
 pub(crate) fn format(command: &Command) -> Option<&str>
     requires { HasUtf8 (command_of command.now) }
     ensures { option_copied result ≡ (plan (command_of command.now)).format }
 {
     match command {
         Command::List { format, .. } => Some(name_of(format)),
+        _ => None,
+    }
+}
+
+/// The name of the format of reports that the command asks for, if it asks for one.
+pub(crate) fn report(command: &Command) -> Option<&str>
+    requires { HasUtf8 (command_of command.now) }
+    ensures { option_copied result ≡ (plan (command_of command.now)).report }
+{
+    match command {
+        Command::Report { format, .. } => Some(name_of(format)),
         _ => None,
     }
 }

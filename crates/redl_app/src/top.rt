@@ -3,19 +3,20 @@
 //! `run` reads the words, `end_of_words` ends a call by them, and `end_of_command` looks for the format, fetches the package, and
 //! has the command carried out.
 
-ghost use Rattle.std.specs.Prelude.{◌≡◌, ◌≢◌, ◌⊎◌, [], All, IfErr, IfOk, IsUtf8, Result};
+ghost use Rattle.std.specs.Prelude.{◌≡◌, ◌≢◌, ◌⊎◌, [], All, IfErr, IfOk, IsOk, IsUtf8, Ok, Result};
 ghost use Rattle.std.specs.Io.KnownBytes.{append_known};
 ghost use Rattle.redl_app.specs.Answers.{AreLines, IsAnswer, MayFault, OfOutcome, TellsSome, Writes};
 ghost use Rattle.redl_app.specs.Files.{files_of};
 ghost use Rattle.redl_app.specs.Finishing.{Ends, IsWanted, words_failure};
 ghost use Rattle.redl_app.specs.Brought.{brought_by};
-ghost use Rattle.redl_app.specs.Formats.{AreFresh, LeavesFormats, without_asked};
+ghost use Rattle.redl_app.specs.Formats.{AreFresh, LeavesFormats, formats_by, has_format, without_asked};
 ghost use Rattle.redl_app.specs.Left.{Leaves};
 ghost use Rattle.redl_app.specs.Outcome.{carried_out, outcome};
-ghost use Rattle.redl_app.specs.Plans.{plan};
+ghost use Rattle.redl_app.specs.Plans.{has_asked, plan};
 ghost use Rattle.redl_app.specs.Views.{named_files, read_view};
 ghost use Rattle.redl_app.specs.Writing.{Writing as WritingOf};
 ghost use Rattle.redl_inputs.specs.Readers.{IsReader, Reader};
+ghost use Rattle.redl_inputs.specs.Views.{result_view};
 ghost use Rattle.redl_io.specs.Faults.{Rose};
 ghost use Rattle.redl_io.specs.MemShelf.{file_named};
 ghost use Rattle.redl_io.specs.Shelf.{Files};
@@ -23,24 +24,26 @@ ghost use Rattle.redl_io.specs.Sink.{GrowsByFront};
 ghost use Rattle.redl_lines.specs.Ends.{Tells, end_status, end_view, failed};
 ghost use Rattle.redl_lines.specs.Failures.{Failure as FailureOf, failure_status, failure_view};
 ghost use Rattle.redl_lines.specs.Lines.{failure_line, unwritten_line};
+ghost use Rattle.redl_page.specs.declared.page.Skin.{Skin as SkinOf};
 ghost use Rattle.redl_words.specs.Commands.{Command as CommandOf, HasNoCommand, HasUtf8, IsCommand};
 ghost use Rattle.redl_words.specs.Views.{command_of};
 
 use crate::commands::carry_out;
-use crate::formats::check_format;
-use crate::plan::{format, package};
+use crate::formats::{check_format, check_report};
+use crate::plan::{format, package, report};
 use redl_inputs::fetch_package;
 use redl_io::{NullSink, Shelf, Sink, SureShelf, Text};
 use redl_lines::{Cause, End, Failure, Remarks, Status, tell};
 use redl_listing::RowFormat;
 use redl_page::Skin;
+use redl_report::ReportFormat;
 use redl_words::{Command, WordsError, read_words};
 use std::alloc::Global;
 
 /// Does what the words ask: takes files from the shelf, puts bytes on `out` and lines on `err`.
 ///
-/// A command that asks for a format takes the first one with the name out of the list. No format of the list is closed or has a
-/// row.
+/// A command that asks for a format takes the first one with the name out of its list, `list` out of `formats` and `report` out of
+/// `reports`. No format of the lists is closed or has a row or a line.
 /// `out` gains the bytes of the call's outcome with `Done` and `Refused`, a front of them with `WriteFault`, and nothing
 /// with any other status. A fault of `err` changes no status. An allocation may fail wherever memory is taken, and then
 /// nothing was put on `out`.
@@ -51,19 +54,23 @@ pub fn run<F: Shelf, O: Sink, E: Sink>(
     out: &mut O,
     err: &mut E,
     formats: &mut Vec<Box<dyn RowFormat>>,
+    reports: &mut Vec<Box<dyn ReportFormat>>,
     skin: &Skin<'_>,
 ) -> Status
     requires utf8 { All IsUtf8 words.now }
     requires fresh { AreFresh is_closed rows_so_far formats.old.items }
+    requires fresh_reports { AreFresh is_ended lines_so_far reports.old.items }
 
     // Where the shelf tells, or the words ask for no file, the status is the outcome's, but for what the outside forces.
-    ensures status { OfOutcome (F.told shelf.old) words.now (brought_by format_name text_for formats.old.items skin.now)
+    ensures status { OfOutcome (F.told shelf.old) words.now
+        (brought_by format_name text_for formats.old.items report_name report_text reports.old.items skin.now)
         (λ outcome. IsAnswer result outcome (Rose (F.faults shelf.old) (F.faults shelf.new)) (Rose (O.faults out.old) (O.faults out.new))) }
 
     // Over every shelf.
     ensures usage { HasNoCommand words.now → (result ≡ Status.Usage) ⊎ (result ≡ Status.NoMemory) }
-    ensures read { result ≡ Status.ReadFault
-        → MayFault words.now (brought_by format_name text_for formats.old.items skin.now) (F.told shelf.old) (Rose (F.faults shelf.old) (F.faults shelf.new)) }
+    ensures read { result ≡ Status.ReadFault → MayFault words.now
+        (brought_by format_name text_for formats.old.items report_name report_text reports.old.items skin.now)
+        (F.told shelf.old) (Rose (F.faults shelf.old) (F.faults shelf.new)) }
     ensures write { result ≡ Status.WriteFault → Rose (O.faults out.old) (O.faults out.new) }
 
     // No fault is passed over, and nothing is taken from the shelf.
@@ -75,18 +82,26 @@ pub fn run<F: Shelf, O: Sink, E: Sink>(
     ensures taken { (command : CommandOf) → IsCommand words.now command → LeavesFormats result
         (without_asked format_name (plan command).format formats.old.items) formats.old.items formats.new.items }
     ensures no_format { HasNoCommand words.now → formats.new.items ≡ formats.old.items }
+    ensures taken_report { (command : CommandOf) → IsCommand words.now command → LeavesFormats result
+        (without_asked report_name (plan command).report reports.old.items) reports.old.items reports.new.items }
+    ensures no_report { HasNoCommand words.now → reports.new.items ≡ reports.old.items }
 
     // What went out.
-    ensures bytes { OfOutcome (F.told shelf.old) words.now (brought_by format_name text_for formats.old.items skin.now)
+    ensures bytes { OfOutcome (F.told shelf.old) words.now
+        (brought_by format_name text_for formats.old.items report_name report_text reports.old.items skin.now)
         (λ outcome. Writes O.told out.old out.new result outcome.bytes) }
-    ensures left { Leaves result (F.told shelf.old) words.now (brought_by format_name text_for formats.old.items skin.now) }
+    ensures left { Leaves result (F.told shelf.old) words.now
+        (brought_by format_name text_for formats.old.items report_name report_text reports.old.items skin.now) }
     ensures untouched { result ≢ Status.Done → result ≢ Status.Refused → result ≢ Status.WriteFault → O.told out.new ≡ O.told out.old }
-    ensures lines { OfOutcome (F.told shelf.old) words.now (brought_by format_name text_for formats.old.items skin.now)
+    ensures lines { OfOutcome (F.told shelf.old) words.now
+        (brought_by format_name text_for formats.old.items report_name report_text reports.old.items skin.now)
         (λ outcome. TellsSome E.told E.faults err.old err.new
-        (AreLines result outcome words.now (brought_by format_name text_for formats.old.items skin.now) (Rose (F.faults shelf.old) (F.faults shelf.new)))) }
+        (AreLines result outcome words.now
+        (brought_by format_name text_for formats.old.items report_name report_text reports.old.items skin.now)
+        (Rose (F.faults shelf.old) (F.faults shelf.new)))) }
 {
     let read = read_words(alloc, words);
-    let end = end_of_words(alloc, &read, shelf, out, formats, skin);
+    let end = end_of_words(alloc, &read, shelf, out, formats, reports, skin);
     tell(&end, err);
     end.status()
 }
@@ -98,20 +113,26 @@ fn end_of_words<'a, F: Shelf, O: Sink>(
     shelf: &mut F,
     out: &mut O,
     formats: &mut Vec<Box<dyn RowFormat>>,
+    reports: &mut Vec<Box<dyn ReportFormat>>,
     skin: &Skin<'_>,
 ) -> End<'a>
     requires utf8 { IfOk read.now (λ command. HasUtf8 (command_of command)) }
     requires fresh { AreFresh is_closed rows_so_far formats.old.items }
-    ensures ends { (due : Reader → Files → Result WritingOf FailureOf) → IsWanted (brought_by format_name text_for formats.old.items skin.now) (read_view read.now) due
+    requires fresh_reports { AreFresh is_ended lines_so_far reports.old.items }
+    ensures ends { (due : Reader → Files → Result WritingOf FailureOf) → IsWanted
+        (brought_by format_name text_for formats.old.items report_name report_text reports.old.items skin.now) (read_view read.now) due
         → Ends F.told F.faults shelf.old shelf.new O.told O.faults out.old out.new
-        (named_files (brought_by format_name text_for formats.old.items skin.now) read.now) due (end_view result) }
+        (named_files (brought_by format_name text_for formats.old.items report_name report_text reports.old.items skin.now) read.now) due (end_view result) }
     ensures words { IfErr read.now (λ error. end_view result ≡ failed (words_failure error)) }
     ensures taken { IfOk read.now (λ command. LeavesFormats (end_status (end_view result))
         (without_asked format_name (plan (command_of command)).format formats.old.items) formats.old.items formats.new.items) }
     ensures no_format { IfErr read.now (λ _. formats.new.items ≡ formats.old.items) }
+    ensures taken_report { IfOk read.now (λ command. LeavesFormats (end_status (end_view result))
+        (without_asked report_name (plan (command_of command)).report reports.old.items) reports.old.items reports.new.items) }
+    ensures no_report { IfErr read.now (λ _. reports.new.items ≡ reports.old.items) }
 {
     match read {
-        Ok(command) => end_of_command(alloc, command, shelf, out, formats, skin),
+        Ok(command) => end_of_command(alloc, command, shelf, out, formats, reports, skin),
         Err(error) => End::Failed(failure_of(*error)),
     }
 }
@@ -125,6 +146,22 @@ fn failure_of(error: WordsError) -> Failure<'static>
     }
 }
 
+// Whether there is the format that the command asks for, if it asks for one.
+fn check_asked<'a>(
+    command: &'a Command,
+    formats: &[Box<dyn RowFormat>],
+    reports: &[Box<dyn ReportFormat>],
+) -> Result<(), Failure<'a>>
+    requires { HasUtf8 (command_of command.now) }
+    ensures there { IsOk result → (has_format (formats_by format_name text_for formats.now) (plan (command_of command.now)).format ≡ Ok tt)
+        × (has_format (formats_by report_name report_text reports.now) (plan (command_of command.now)).report ≡ Ok tt) }
+    ensures asked { (skin : SkinOf) → result_view (λ _. tt) result
+        ≡ has_asked (brought_by format_name text_for formats.now report_name report_text reports.now skin) (plan (command_of command.now)) }
+{
+    check_format(format(command), formats)?;
+    check_report(report(command), reports)
+}
+
 // How a command ends.
 fn end_of_command<'a, F: Shelf, O: Sink>(
     alloc: Global,
@@ -132,25 +169,41 @@ fn end_of_command<'a, F: Shelf, O: Sink>(
     shelf: &mut F,
     out: &mut O,
     formats: &mut Vec<Box<dyn RowFormat>>,
+    reports: &mut Vec<Box<dyn ReportFormat>>,
     skin: &Skin<'_>,
 ) -> End<'a>
     requires utf8 { HasUtf8 (command_of command.now) }
     requires fresh { AreFresh is_closed rows_so_far formats.old.items }
+    requires fresh_reports { AreFresh is_ended lines_so_far reports.old.items }
     ensures ends { Ends F.told F.faults shelf.old shelf.new O.told O.faults out.old out.new
-        (files_of (brought_by format_name text_for formats.old.items skin.now) (plan (command_of command.now)))
-        (λ reader files. carried_out reader files (brought_by format_name text_for formats.old.items skin.now) (plan (command_of command.now)))
+        (files_of (brought_by format_name text_for formats.old.items report_name report_text reports.old.items skin.now)
+        (plan (command_of command.now)))
+        (λ reader files. carried_out reader files
+        (brought_by format_name text_for formats.old.items report_name report_text reports.old.items skin.now)
+        (plan (command_of command.now)))
         (end_view result) }
     ensures taken { LeavesFormats (end_status (end_view result))
         (without_asked format_name (plan (command_of command.now)).format formats.old.items) formats.old.items formats.new.items }
+    ensures taken_report { LeavesFormats (end_status (end_view result))
+        (without_asked report_name (plan (command_of command.now)).report reports.old.items) reports.old.items reports.new.items }
 {
-    if let Err(failure) = check_format(format(command), formats) {
+    if let Err(failure) = check_asked(command, formats, reports) {
         return End::Failed(failure);
     }
     let Some(name) = package(command) else {
-        return carry_out(alloc, command, None, shelf, out, formats, skin);
+        return carry_out(alloc, command, None, shelf, out, formats, reports, skin);
     };
     match fetch_package(alloc, name, shelf) {
-        Ok(text) => carry_out(alloc, command, Some(&text), shelf, out, formats, skin),
+        Ok(text) => carry_out(
+            alloc,
+            command,
+            Some(&text),
+            shelf,
+            out,
+            formats,
+            reports,
+            skin,
+        ),
         Err(failure) => End::Failed(failure),
     }
 }
@@ -191,13 +244,25 @@ pub fn run_surely<E: Sink>(
     shelf: &mut SureShelf,
     err: &mut E,
     formats: &mut Vec<Box<dyn RowFormat>>,
+    reports: &mut Vec<Box<dyn ReportFormat>>,
     skin: &Skin<'_>,
 ) -> Status
     requires utf8 { All IsUtf8 words.now }
     requires fresh { AreFresh is_closed rows_so_far formats.old.items }
+    requires fresh_reports { AreFresh is_ended lines_so_far reports.old.items }
     ensures { (reader : Reader) → IsReader reader
-        → (result ≡ (outcome reader words.now (file_named shelf.old) (brought_by format_name text_for formats.old.items skin.now)).status)
+        → (result ≡ (outcome reader words.now (file_named shelf.old)
+        (brought_by format_name text_for formats.old.items report_name report_text reports.old.items skin.now)).status)
         ⊎ (result ≡ Status.NoMemory) }
 {
-    run(alloc, words, shelf, &mut NullSink, err, formats, skin)
+    run(
+        alloc,
+        words,
+        shelf,
+        &mut NullSink,
+        err,
+        formats,
+        reports,
+        skin,
+    )
 }

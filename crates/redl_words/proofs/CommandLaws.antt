@@ -23,13 +23,13 @@ use Rattle.redl_words.specs.declared.verb.Verb.TheVariants as verbs
 use Rattle.redl_words.specs.declared.command.Command as code
 use Rattle.redl_words.specs.declared.command.View.{View}
 use Rattle.redl_words.specs.declared.command.View.TheVariants.{Original, Final, Marked}
-use Rattle.redl_words.specs.Commands.{Command, settle, view_text, list, page, write, decide, join, check, sample, say_word, view_name, IsSettle, IsText, IsList, IsPage, IsWrite, IsDecide, IsJoin, IsCheck, IsSample, IsCommand, HasNoCommand, HasUtf8, LockHasUtf8}
+use Rattle.redl_words.specs.Commands.{Command, settle, view_text, list, report, page, write, decide, join, check, sample, say_word, view_name, IsSettle, IsText, AsksFor, IsPage, IsWrite, IsDecide, IsJoin, IsCheck, IsSample, IsCommand, HasNoCommand, HasUtf8, LockHasUtf8}
 use Rattle.redl_words.specs.Items.{Item, format, lock, journal, named_journal, choice, rank, item_words, Admits, of_list, of_write, of_decide, Form as Kind, is_name, formats_of, locks_of, journals_of, ranks_of}
 use Rattle.redl_words.specs.Selections.{MeansLock}
 use Rattle.redl_words.specs.Views.{command_of}
 use Rattle.redl_words.specs.Reading.Answers.{Finds}
 use Rattle.redl_words.specs.Reading.Items.{Gathered, nothing, gathered}
-use Rattle.redl_words.specs.Reading.Commands.{verb_in, say_in, settle_in, view_in, text_with, text_in, format_or_text, rank_or_0, list_in, page_in, write_in, decide_with, decide_in, names_in, join_in, check_in, sample_in, command_with, command_in}
+use Rattle.redl_words.specs.Reading.Commands.{verb_in, say_in, settle_in, view_in, text_with, text_in, format_or_text, rank_or_0, Asked, asked_of, asked_in, as_list, as_report, list_in, report_in, page_in, write_in, decide_with, decide_in, names_in, join_in, check_in, sample_in, command_with, command_in}
 use Rattle.redl_words.proofs.SelectionLaws.{bytes_same, map_some, pick}
 use Rattle.redl_words.proofs.LockLaws.{lock_utf8}
 use Rattle.redl_words.proofs.ItemLaws.{items_take, read_again}
@@ -45,6 +45,7 @@ verb_text : Verb → List ℕ
 verb_text verbs.Settle = codes "settle"
 verb_text verbs.Text = codes "text"
 verb_text verbs.List = codes "list"
+verb_text verbs.Report = codes "report"
 verb_text verbs.Page = codes "page"
 verb_text verbs.Write = codes "write"
 verb_text verbs.Decide = codes "decide"
@@ -58,12 +59,13 @@ verb_takes word v e =
     pick P (bytes_eq word (codes "settle")) verbs.Settle _ v e (λ hit. bytes_same word (codes "settle") hit) (λ e.
     pick P (bytes_eq word (codes "text")) verbs.Text _ v e (λ hit. bytes_same word (codes "text") hit) (λ e.
     pick P (bytes_eq word (codes "list")) verbs.List _ v e (λ hit. bytes_same word (codes "list") hit) (λ e.
+    pick P (bytes_eq word (codes "report")) verbs.Report _ v e (λ hit. bytes_same word (codes "report") hit) (λ e.
     pick P (bytes_eq word (codes "page")) verbs.Page _ v e (λ hit. bytes_same word (codes "page") hit) (λ e.
     pick P (bytes_eq word (codes "write")) verbs.Write _ v e (λ hit. bytes_same word (codes "write") hit) (λ e.
     pick P (bytes_eq word (codes "decide")) verbs.Decide _ v e (λ hit. bytes_same word (codes "decide") hit) (λ e.
     pick P (bytes_eq word (codes "join")) verbs.Join _ v e (λ hit. bytes_same word (codes "join") hit) (λ e.
     pick P (bytes_eq word (codes "check")) verbs.Check _ v e (λ hit. bytes_same word (codes "check") hit) (λ e.
-    pick P (bytes_eq word (codes "sample")) verbs.Sample _ v e (λ hit. bytes_same word (codes "sample") hit) (λ e. absurd cc))))))))) where
+    pick P (bytes_eq word (codes "sample")) verbs.Sample _ v e (λ hit. bytes_same word (codes "sample") hit) (λ e. absurd cc)))))))))) where
       P : Verb → Type 0
       P v = word ≡ verb_text v
 
@@ -72,6 +74,7 @@ unfolding verb_in verb_text
 verb_again verbs.Settle = refl
 verb_again verbs.Text = refl
 verb_again verbs.List = refl
+verb_again verbs.Report = refl
 verb_again verbs.Page = refl
 verb_again verbs.Write = refl
 verb_again verbs.Decide = refl
@@ -169,14 +172,14 @@ format_again None formats name e (inr h) = absurd (let wrong = e ∙ h in cc)
 format_again (Some other) formats name e (inl h) = absurd (let wrong = e ∙ h.0 in cc)
 format_again (Some other) formats name e (inr h) = let same = e ∙ h in cc
 
-list_takes : (rest : List (List ℕ)) (c : Command) → list_in rest ≡ Some c → IsCommand (codes "list" ∷ rest) c
-unfolding list_in
-list_takes [] c e = absurd cc
-list_takes (p ∷ rest) c e =
-    let n = needs (is_name p) (option_map (λ items. list p (format_or_text items.format) items.locks items.journals) (gathered forms.List nothing rest)) c e in
-    let g = map_some (λ (items : Gathered). list p (format_or_text items.format) items.locks items.journals) (gathered forms.List nothing rest) c n.1 in
+asked_takes : (word : List ℕ) (rest : List (List ℕ)) (asked : Asked) → asked_in rest ≡ Some asked → AsksFor word (word ∷ rest) asked.package_name asked.format asked.locks asked.journals
+unfolding asked_in
+asked_takes word [] asked e = absurd cc
+asked_takes word (p ∷ rest) asked e =
+    let n = needs (is_name p) (option_map (asked_of p) (gathered forms.List nothing rest)) asked e in
+    let g = map_some (asked_of p) (gathered forms.List nothing rest) asked n.1 in
     let r = items_take forms.List rest nothing g.0 g.1 in
-    let means : IsList (codes "list" ∷ p ∷ rest) p (format_or_text g.0.format) g.0.locks g.0.journals = record {
+    let means : AsksFor word (word ∷ p ∷ rest) p (format_or_text g.0.format) g.0.locks g.0.journals = record {
       items = r.items;
       rest = rest;
       written = refl;
@@ -186,7 +189,13 @@ list_takes (p ∷ rest) c e =
       locks_are = r.says.locks;
       journals_are = r.says.journals;
     } in
-    subst (IsCommand (codes "list" ∷ p ∷ rest)) g.2 means
+    subst (λ (asked : Asked). AsksFor word (word ∷ p ∷ rest) asked.package_name asked.format asked.locks asked.journals) g.2 means
+
+list_takes : (rest : List (List ℕ)) (c : Command) → list_in rest ≡ Some c → IsCommand (codes "list" ∷ rest) c
+list_takes rest c e = let a = map_some as_list (asked_in rest) c e in subst (IsCommand (codes "list" ∷ rest)) a.2 (asked_takes (codes "list") rest a.0 a.1)
+
+report_takes : (rest : List (List ℕ)) (c : Command) → report_in rest ≡ Some c → IsCommand (codes "report" ∷ rest) c
+report_takes rest c e = let a = map_some as_report (asked_in rest) c e in subst (IsCommand (codes "report" ∷ rest)) a.2 (asked_takes (codes "report") rest a.0 a.1)
 
 -- what comes at most once, and else has a default
 once : {A : Type 0} (xs : List A) (x default : A) → ((xs ≡ []) × (x ≡ default)) ⊎ (xs ≡ x ∷ []) → length xs ≤ 1
@@ -203,19 +212,23 @@ unranked k none (named_journal name ∷ items) h = unranked k none items h.1
 unranked k none (choice word text selection ∷ items) h = unranked k none items h.1
 unranked k none (rank number ∷ items) h = absurd (none number h.0)
 
-list_again : (p name : List ℕ) (locks : List Lock) (journals rest : List (List ℕ)) (items : List Item) → is_name p ≡ true → rest ≡ flat_map item_words items → All (Admits of_list) items
-    → ((formats_of items ≡ []) × (name ≡ codes "text")) ⊎ (formats_of items ≡ name ∷ []) → locks ≡ locks_of items → journals ≡ journals_of items
-    → list_in (p ∷ rest) ≡ Some (list p name locks journals)
-unfolding list_in
-list_again p name locks journals rest items h written admitted formats l j =
-    let each = recursion_from_All (Admits of_list) items admitted in
-    let r = read_again forms.List items rest written each (once (formats_of items) name (codes "text") formats) (unranked of_list (λ number h. h) items each) in
-    let f : format_or_text r.after.format ≡ name = format_again r.after.format (formats_of items) name r.format formats in
-    let ls : r.after.locks ≡ locks = r.locks ∙ sym l in
-    let js : r.after.journals ≡ journals = r.journals ∙ sym j in
-    rw (h, r.reads) (same_list (format_or_text r.after.format) name r.after.locks locks r.after.journals journals f ls js) where
-      same_list : (f name : List ℕ) (ls locks : List Lock) (js journals : List (List ℕ)) → f ≡ name → ls ≡ locks → js ≡ journals → Some (list p f ls js) ≡ Some (list p name locks journals)
-      same_list f name ls locks js journals a b c = cc
+asked_again : (word p name : List ℕ) (locks : List Lock) (journals words : List (List ℕ)) (h : AsksFor word words p name locks journals)
+    → asked_in (p ∷ h.rest) ≡ Some (record { package_name = p; format = name; locks = locks; journals = journals })
+unfolding asked_in
+asked_again word p name locks journals words h =
+    let items = h.items in
+    let each = recursion_from_All (Admits of_list) items h.are_items.admitted in
+    let r = read_again forms.List items h.rest h.are_items.written each (once (formats_of items) name (codes "text") h.format) (unranked of_list (λ number h. h) items each) in
+    let f : format_or_text r.after.format ≡ name = format_again r.after.format (formats_of items) name r.format h.format in
+    let ls : r.after.locks ≡ locks = r.locks ∙ sym h.locks_are in
+    let js : r.after.journals ≡ journals = r.journals ∙ sym h.journals_are in
+    let named : is_name p ≡ true = h.package_name in
+    rw (named, r.reads) (same (format_or_text r.after.format) name r.after.locks locks r.after.journals journals f ls js) where
+      asked : List ℕ → List Lock → List (List ℕ) → Asked
+      asked f ls js = record { package_name = p; format = f; locks = ls; journals = js }
+
+      same : (f name : List ℕ) (ls locks : List Lock) (js journals : List (List ℕ)) → f ≡ name → ls ≡ locks → js ≡ journals → Some (asked f ls js) ≡ Some (asked name locks journals)
+      same f name ls locks js journals a b c = λ i. Some (asked (a i) (b i) (c i))
 
 -- ---- write
 
@@ -410,6 +423,7 @@ unfolding verb_text
 with_takes verbs.Settle rest c e = settle_takes rest c e
 with_takes verbs.Text rest c e = text_takes rest c e
 with_takes verbs.List rest c e = list_takes rest c e
+with_takes verbs.Report rest c e = report_takes rest c e
 with_takes verbs.Page rest c e = page_takes rest c e
 with_takes verbs.Write rest c e = write_takes rest c e
 with_takes verbs.Decide rest c e = decide_takes rest c e
@@ -439,6 +453,10 @@ text_line rest = command_of_verb verbs.Text rest
 list_line : (rest : List (List ℕ)) → command_in (codes "list" ∷ rest) ≡ list_in rest
 unfolding verb_text
 list_line rest = command_of_verb verbs.List rest
+
+report_line : (rest : List (List ℕ)) → command_in (codes "report" ∷ rest) ≡ report_in rest
+unfolding verb_text
+report_line rest = command_of_verb verbs.Report rest
 
 page_line : (rest : List (List ℕ)) → command_in (codes "page" ∷ rest) ≡ page_in rest
 unfolding verb_text
@@ -471,8 +489,9 @@ command_again words (view_text p view) h = by h.written where
   by (inl w) = ap command_in w.0 ∙ text_line (p ∷ []) ∙ text_again (p ∷ []) p view h.name (inl (refl, w.1))
   by (inr w) = ap command_in w ∙ text_line (p ∷ codes "--view" ∷ view_name view ∷ []) ∙ text_again (p ∷ codes "--view" ∷ view_name view ∷ []) p view h.name (inr refl)
 command_again words (list p name locks journals) h =
-    ap command_in h.written ∙ list_line (p ∷ h.rest)
-    ∙ list_again p name locks journals h.rest h.items h.package_name h.are_items.written h.are_items.admitted h.format h.locks_are h.journals_are
+    ap command_in h.written ∙ list_line (p ∷ h.rest) ∙ ap (option_map as_list) (asked_again (codes "list") p name locks journals words h)
+command_again words (report p name locks journals) h =
+    ap command_in h.written ∙ report_line (p ∷ h.rest) ∙ ap (option_map as_report) (asked_again (codes "report") p name locks journals words h)
 command_again words (page p locks journals) h =
     ap command_in h.written ∙ page_line (p ∷ h.rest) ∙ page_again p locks journals h.rest h.items h.package_name h.are_items.written h.are_items.admitted h.locks_are h.journals_are
 command_again words (write p locks journals) h =
@@ -547,6 +566,13 @@ all_locks locks more h e = All-from_recursion LockHasUtf8 locks (subst (AllByRec
 all_utf8 : (texts more : List (List ℕ)) → AllByRecursion IsUtf8 more → texts ≡ more → All IsUtf8 texts
 all_utf8 texts more h e = All-from_recursion IsUtf8 texts (subst (AllByRecursion IsUtf8) (sym e) h)
 
+asked_utf8 : (word : List ℕ) (words : List (List ℕ)) (p name : List ℕ) (locks : List Lock) (journals : List (List ℕ)) (h : AsksFor word words p name locks journals) → AllByRecursion IsUtf8 words
+    → IsUtf8 p × IsUtf8 name × All LockHasUtf8 locks × All IsUtf8 journals
+asked_utf8 word words p name locks journals h u =
+    let v : AllByRecursion IsUtf8 (word ∷ p ∷ h.rest) = subst (AllByRecursion IsUtf8) h.written u in
+    let i = items_utf8 of_list h.items (recursion_from_All (Admits of_list) h.items h.are_items.admitted) (subst (AllByRecursion IsUtf8) h.are_items.written v.1.1) in
+    (v.1.0, format_utf8 (formats_of h.items) name i.formats h.format, all_locks locks (locks_of h.items) i.locks h.locks_are, all_utf8 journals (journals_of h.items) i.journals h.journals_are)
+
 pub command_utf8 : (words : List (List ℕ)) (c : Command) → IsCommand words c → AllByRecursion IsUtf8 words → HasUtf8 c
 command_utf8 words (settle accept p) h u =
     let v : AllByRecursion IsUtf8 (codes "settle" ∷ say_word accept ∷ p ∷ []) = subst (AllByRecursion IsUtf8) h.written u in v.1.1.0
@@ -554,10 +580,8 @@ command_utf8 words (view_text p view) h u = by h.written where
   by : ((words ≡ codes "text" ∷ p ∷ []) × (view ≡ Final)) ⊎ (words ≡ codes "text" ∷ p ∷ codes "--view" ∷ view_name view ∷ []) → IsUtf8 p
   by (inl w) = let v : AllByRecursion IsUtf8 (codes "text" ∷ p ∷ []) = subst (AllByRecursion IsUtf8) w.0 u in v.1.0
   by (inr w) = let v : AllByRecursion IsUtf8 (codes "text" ∷ p ∷ codes "--view" ∷ view_name view ∷ []) = subst (AllByRecursion IsUtf8) w u in v.1.0
-command_utf8 words (list p name locks journals) h u =
-    let v : AllByRecursion IsUtf8 (codes "list" ∷ p ∷ h.rest) = subst (AllByRecursion IsUtf8) h.written u in
-    let i = items_utf8 of_list h.items (recursion_from_All (Admits of_list) h.items h.are_items.admitted) (subst (AllByRecursion IsUtf8) h.are_items.written v.1.1) in
-    (v.1.0, format_utf8 (formats_of h.items) name i.formats h.format, all_locks locks (locks_of h.items) i.locks h.locks_are, all_utf8 journals (journals_of h.items) i.journals h.journals_are)
+command_utf8 words (list p name locks journals) h u = asked_utf8 (codes "list") words p name locks journals h u
+command_utf8 words (report p name locks journals) h u = asked_utf8 (codes "report") words p name locks journals h u
 command_utf8 words (page p locks journals) h u =
     let v : AllByRecursion IsUtf8 (codes "page" ∷ p ∷ h.rest) = subst (AllByRecursion IsUtf8) h.written u in
     let i = items_utf8 of_write h.items (recursion_from_All (Admits of_write) h.items h.are_items.admitted) (subst (AllByRecursion IsUtf8) h.are_items.written v.1.1) in

@@ -19,6 +19,8 @@ pub data Command : Type 0 where
   list : List ℕ → List ℕ → List Lock → List (List ℕ) → Command
   -- a page of the package's revisions for a browser, with locks and journals
   page : List ℕ → List Lock → List (List ℕ) → Command
+  -- where each reviewer and each author of the package's revisions stands, in the format of this name, with locks and journals
+  report : List ℕ → List ℕ → List Lock → List (List ℕ) → Command
   -- the package under the joined verdicts, with locks and journals
   write : List ℕ → List Lock → List (List ℕ) → Command
   -- a journal of what a reviewer decides on the package's revisions: journals, locks, the choices in their order, and the rank
@@ -53,11 +55,11 @@ pub record IsText (words : List (List ℕ)) (p : List ℕ) (view : View) : Type 
   pub written : ((words ≡ codes "text" ∷ p ∷ []) × (view ≡ Final)) ⊎ (words ≡ codes "text" ∷ p ∷ codes "--view" ∷ view_name view ∷ [])
   pub name : IsTrue (is_name p)
 
--- `list P` and items; without `--format` the format is `text`, and it is given once at most
-pub record IsList (words : List (List ℕ)) (p name : List ℕ) (locks : List Lock) (journals : List (List ℕ)) : Type 0 where
+-- this word, a package and items of `list`; without `--format` the format is `text`, and it is given once at most
+pub record AsksFor (word : List ℕ) (words : List (List ℕ)) (p name : List ℕ) (locks : List Lock) (journals : List (List ℕ)) : Type 0 where
   pub items : List Item
   pub rest : List (List ℕ)
-  pub written : words ≡ codes "list" ∷ p ∷ rest
+  pub written : words ≡ word ∷ p ∷ rest
   pub package_name : IsTrue (is_name p)
   pub are_items : AreItems of_list rest items
   pub format : ((formats_of items ≡ []) × (name ≡ codes "text")) ⊎ (formats_of items ≡ name ∷ [])
@@ -73,6 +75,14 @@ pub record IsPage (words : List (List ℕ)) (p : List ℕ) (locks : List Lock) (
   pub are_items : AreItems of_write rest items
   pub locks_are : locks ≡ locks_of items
   pub journals_are : journals ≡ journals_of items
+
+-- `list P` and items
+abbrev pub IsList : List (List ℕ) → List ℕ → List ℕ → List Lock → List (List ℕ) → Type 0
+IsList = AsksFor (codes "list")
+
+-- `report P` and the items of `list`
+abbrev pub IsReport : List (List ℕ) → List ℕ → List ℕ → List Lock → List (List ℕ) → Type 0
+IsReport = AsksFor (codes "report")
 
 -- `write P` and items
 pub record IsWrite (words : List (List ℕ)) (p : List ℕ) (locks : List Lock) (journals : List (List ℕ)) : Type 0 where
@@ -120,6 +130,7 @@ IsCommand words (settle accept p) = IsSettle words accept p
 IsCommand words (view_text p view) = IsText words p view
 IsCommand words (list p name locks journals) = IsList words p name locks journals
 IsCommand words (page p locks journals) = IsPage words p locks journals
+IsCommand words (report p name locks journals) = IsReport words p name locks journals
 IsCommand words (write p locks journals) = IsWrite words p locks journals
 IsCommand words (decide p reviewer journals locks choices number) = IsDecide words p reviewer journals locks choices number
 IsCommand words (join journals) = IsJoin words journals
@@ -142,6 +153,7 @@ HasUtf8 (settle accept p) = IsUtf8 p
 HasUtf8 (view_text p view) = IsUtf8 p
 HasUtf8 (list p name locks journals) = IsUtf8 p × IsUtf8 name × All LockHasUtf8 locks × All IsUtf8 journals
 HasUtf8 (page p locks journals) = IsUtf8 p × All LockHasUtf8 locks × All IsUtf8 journals
+HasUtf8 (report p name locks journals) = IsUtf8 p × IsUtf8 name × All LockHasUtf8 locks × All IsUtf8 journals
 HasUtf8 (write p locks journals) = IsUtf8 p × All LockHasUtf8 locks × All IsUtf8 journals
 HasUtf8 (decide p reviewer journals locks choices number) = IsUtf8 p × IsReviewer reviewer × All IsUtf8 journals × All LockHasUtf8 locks × (number ≤ 9)
 HasUtf8 (join journals) = All IsUtf8 journals

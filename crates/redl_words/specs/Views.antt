@@ -6,7 +6,7 @@ use Rattle.redl_select.specs.Selections.{Selection}
 use Rattle.redl_select.specs.Views.{selection_of}
 use Rattle.redl_words.specs.declared.command.Command as code
 use Rattle.redl_words.specs.declared.command.Command.TheVariants as variants
-use Rattle.redl_words.specs.Commands.{Command, settle, view_text, list, page, write, decide, join, check, sample}
+use Rattle.redl_words.specs.Commands.{Command, settle, view_text, list, report, page, write, decide, join, check, sample}
 
 -- the choices with their selections as plain data
 abbrev pub choices_view : List (Word × code_selection.Selection) → List (Word × Selection)
@@ -17,6 +17,7 @@ command_of (variants.Settle accept p) = settle accept p
 command_of (variants.Text p view) = view_text p view
 command_of (variants.List p name locks journals) = list p name locks.items journals.items
 command_of (variants.Page p locks journals) = page p locks.items journals.items
+command_of (variants.Report p name locks journals) = report p name locks.items journals.items
 command_of (variants.Write p locks journals) = write p locks.items journals.items
 command_of (variants.Decide p reviewer journals locks choices number) = decide p reviewer journals.items locks.items (choices_view choices.items) number
 command_of (variants.Join journals) = join journals.items

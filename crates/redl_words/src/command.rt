@@ -38,6 +38,13 @@ pub enum Command {
         locks: Vec<Lock>,
         journals: Vec<Text>,
     },
+    /// Where each reviewer and each author of the package's revisions stands, in the format of this name.
+    Report {
+        package: Text,
+        format: Text,
+        locks: Vec<Lock>,
+        journals: Vec<Text>,
+    },
     /// The package under the joined verdicts of the journals.
     Write {
         package: Text,

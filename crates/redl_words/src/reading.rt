@@ -3,7 +3,7 @@
 ghost use Rattle.std.specs.Prelude.{◌≡◌, All, IfOk, IsErrOf, IsUtf8};
 ghost use Rattle.redl_words.specs.Commands.{HasNoCommand, HasUtf8, IsCommand};
 ghost use Rattle.redl_words.specs.Reading.Answers.{Finds};
-ghost use Rattle.redl_words.specs.Reading.Commands.{check_in, command_in, decide_in, format_or_text, rank_or_0, join_in, list_in, page_in, sample_in, say_in, settle_in, text_in, text_with, view_in, write_in};
+ghost use Rattle.redl_words.specs.Reading.Commands.{asked_in, asked_view, check_in, command_in, decide_in, format_or_text, rank_or_0, join_in, list_in, report_in, page_in, sample_in, say_in, settle_in, text_in, text_with, view_in, write_in};
 ghost use Rattle.redl_words.specs.Views.{command_of};
 
 use crate::command::{Command, View};
@@ -14,6 +14,7 @@ use crate::options::Form;
 use crate::verb::{Verb, read_verb};
 use redl_io::Text;
 use redl_journal::{is_reviewer, read_number};
+use redl_select::Lock;
 use std::alloc::{AllocError, Global};
 
 /// The command that these words are the command line of. They come without the program's name.
@@ -43,6 +44,7 @@ fn read_command(alloc: Global, words: &[Text]) -> Result<Command, WordsError>
         Some(Verb::Settle) => read_settle(alloc, rest),
         Some(Verb::Text) => read_text(alloc, rest),
         Some(Verb::List) => read_list(alloc, rest),
+        Some(Verb::Report) => read_report(alloc, rest),
         Some(Verb::Page) => read_page(alloc, rest),
         Some(Verb::Write) => read_write(alloc, rest),
         Some(Verb::Decide) => read_decide(alloc, rest),
@@ -130,10 +132,47 @@ fn read_view(name: &[u8]) -> Option<View>
 }
 
 /// The words after `list`.
-#[tactic(auto, unfolding(crate::specs::Reading::Commands::list_in))]
 fn read_list(alloc: Global, words: &[Text]) -> Result<Command, WordsError>
     requires { All IsUtf8 words.now }
     ensures { Finds command_of result (list_in words.now) }
+{
+    let asked = read_asked(alloc, words)?;
+    Ok(Command::List {
+        package: asked.package,
+        format: asked.format,
+        locks: asked.locks,
+        journals: asked.journals,
+    })
+}
+
+/// The words after `report`.
+fn read_report(alloc: Global, words: &[Text]) -> Result<Command, WordsError>
+    requires { All IsUtf8 words.now }
+    ensures { Finds command_of result (report_in words.now) }
+{
+    let asked = read_asked(alloc, words)?;
+    Ok(Command::Report {
+        package: asked.package,
+        format: asked.format,
+        locks: asked.locks,
+        journals: asked.journals,
+    })
+}
+
+/// What is asked of a package: a format of this name, with locks and journals.
+#[derive(Drop)]
+struct Asked {
+    package: Text,
+    format: Text,
+    locks: Vec<Lock>,
+    journals: Vec<Text>,
+}
+
+/// The words after `list` or `report`.
+#[tactic(auto, unfolding(crate::specs::Reading::Commands::asked_in))]
+fn read_asked(alloc: Global, words: &[Text]) -> Result<Asked, WordsError>
+    requires { All IsUtf8 words.now }
+    ensures { Finds asked_view result (asked_in words.now) }
 {
     let [package, rest @ ..] = words else {
         return Err(WordsError::Usage);
@@ -144,7 +183,7 @@ fn read_list(alloc: Global, words: &[Text]) -> Result<Command, WordsError>
     let items = read_items(alloc, Form::List, rest)?;
     let package = package.copy(alloc)?;
     let format = format_or_text(alloc, items.format)?;
-    Ok(Command::List {
+    Ok(Asked {
         package,
         format,
         locks: items.locks,

@@ -9,6 +9,7 @@ pub(crate) enum Verb {
     Settle,
     Text,
     List,
+    Report,
     Page,
     Write,
     Decide,
@@ -28,6 +29,8 @@ pub(crate) fn read_verb(word: &[u8]) -> Option<Verb>
         Some(Verb::Text)
     } else if word == b"list".as_slice() {
         Some(Verb::List)
+    } else if word == b"report".as_slice() {
+        Some(Verb::Report)
     } else if word == b"page".as_slice() {
         Some(Verb::Page)
     } else if word == b"write".as_slice() {

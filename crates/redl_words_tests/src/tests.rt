@@ -112,13 +112,14 @@ fn with_texts(
     format!(in alloc; "{front} locks {locks} journals {journals}")
 }
 
-fn list_shown(
+fn asked_shown(
     alloc: Global,
+    word: &str,
     names: (&Text, &Text),
     locks: &[Lock],
     journals: &[Text],
 ) -> Result<String, AllocError> {
-    let front = format!(in alloc; "list {} as {}", shown(names.0), shown(names.1))?;
+    let front = format!(in alloc; "{word} {} as {}", shown(names.0), shown(names.1))?;
     with_texts(alloc, front.as_str(), locks, journals)
 }
 
@@ -158,7 +159,13 @@ fn command_shown(alloc: Global, command: &Command) -> Result<String, AllocError>
             format,
             locks,
             journals,
-        } => list_shown(alloc, (package, format), locks, journals),
+        } => asked_shown(alloc, "list", (package, format), locks, journals),
+        Command::Report {
+            package,
+            format,
+            locks,
+            journals,
+        } => asked_shown(alloc, "report", (package, format), locks, journals),
         Command::Page {
             package,
             locks,
@@ -205,7 +212,7 @@ fn line_told(alloc: Global, line: &str) -> Result<String, AllocError> {
 }
 
 // Lines, and what they ask for.
-const COMMANDS: [(&str, &str); 27] = [
+const COMMANDS: [(&str, &str); 30] = [
     ("settle|accept|P", "settle true P"),
     ("settle|reject|P", "settle false P"),
     ("text|P", "text P Final"),
@@ -224,6 +231,12 @@ const COMMANDS: [(&str, &str); 27] = [
         "list|P|--lock-kind|move|--lock-span|2024-05-06T07:08:09Z/2024-05-06T07:08:10Z|--lock|--lock-kind|J",
         "list P as text locks kind Move,span 1714979289 1714979290,--lock-kind, journals J,",
     ),
+    ("report|P", "report P as text locks  journals "),
+    (
+        "report|P|J|--lock|A|--format|json|K|--lock-kind|ins|J",
+        "report P as json locks A,kind Content(Ins), journals J,K,J,",
+    ),
+    ("report|P|--format|", "report P as  locks  journals "),
     ("page|P", "page P locks  journals "),
     (
         "page|P|J|--lock|Cy & Co|--lock-kind|row-ins|K|J",
@@ -287,7 +300,7 @@ fn lines_of_each_command(rt: HostRuntime) -> Result<(), Fail> {
 }
 
 // Lines that are those of no command.
-const NO_COMMANDS: [&str; 72] = [
+const NO_COMMANDS: [&str; 76] = [
     "text",
     "text|--view|final",
     "text|P|--view",
@@ -314,6 +327,10 @@ const NO_COMMANDS: [&str; 72] = [
     "list|P|",
     "list|--format|tab|P",
     "list|P|--|J",
+    "report",
+    "report|-P",
+    "report|P|--format",
+    "report|P|--accept|all",
     "page",
     "page|P|--format|tab",
     "page|P|--journal|J",

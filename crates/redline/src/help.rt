@@ -9,6 +9,7 @@ pub const HELP: &str =
 
   redline check P               whether P can be decided, and how many changes it has
   redline list P ITEM ..        lists the changes, with what the journals come to on each
+  redline report P ITEM ..      counts what each reviewer decided, and what became of each author's changes
   redline page P ITEM ..        writes a page for a browser, in which a reviewer decides
   redline decide P WHO ITEM ..  writes the journal of what the reviewer WHO decides
   redline write P ITEM ..       writes P with the changes decided as its reviewers agree
@@ -21,8 +22,9 @@ pub const HELP: &str =
 P is a document that Word saved as \"Word XML Document (*.xml)\"; redline-docx takes a .docx.
 J is a journal: the text file of what reviewers decided.
 ITEM is --lock AUTHOR, --lock-kind KIND or --lock-span SPAN: nobody decides these changes;
-  for list, page and write also J, and for decide --journal J;
+  for list, report, page and write also J, and for decide --journal J;
   for list also --format text, words, tab, json or full;
+  for report also --format text, json or table;
   for decide also --accept CHANGES, --reject CHANGES or --withdraw CHANGES, once at least,
   and --rank N, from 0 to 9: the highest rank that has a word on a change decides it.
 CHANGES is all, numbers:3,7-9, \"author:Ann Gray\", kind:KIND, kind:GROUP or span:SPAN.

@@ -4,14 +4,14 @@
 //! lines that the call told. What they go by is remembered on the way: the lines, the first of the output, and of the file that
 //! was read last its beginning and its end. Only where the words ask for help or for the version, or there are none, it writes
 //! a text of its own.
-//! The words are copied first; a word that isn't UTF-8 ends the program before the call. Then the formats of listings are
-//! made; where memory runs out there, the program ends as it does for the words.
+//! The words are copied first; a word that isn't UTF-8 ends the program before the call. Then the formats of listings and of
+//! reports are made; where memory runs out there, the program ends as it does for the words.
 #![tactic(auto)]
 
 mod help;
 mod skin;
 
-ghost use Rattle.std.specs.Prelude.{◌≡◌, drop, map, IfOk, All, IsUtf8};
+ghost use Rattle.std.specs.Prelude.{◌≡◌, [], false, drop, map, IfOk, All, IsUtf8};
 ghost use Rattle.std.specs.String.{string_bytes};
 ghost use Rattle.std.specs.Vec.Iter.{into_iter_items};
 
@@ -21,6 +21,7 @@ use redl_hints::{Fetched, Told, tell_hints, tell_word_hint};
 use redl_io::{FileShelf, Shelf, Sink, StdSink, Text};
 use redl_listing::{FullFormat, JsonFormat, TabFormat, TextFormat, WordsFormat, add_format};
 use redl_page::Skin;
+use redl_report::{JsonReport, ReportFormat, TableReport, TextReport, add_report_format};
 use skin::{POLICY, SCRIPT, STYLE};
 use std::alloc::{AllocError, Global};
 use std::env;
@@ -69,7 +70,7 @@ fn run_with_hints<F: Shelf, O: Sink, E: Sink>(
     status
 }
 
-// Does what the words ask, with the formats of listings.
+// Does what the words ask, with the formats of listings and of reports.
 fn run_words<F: Shelf, O: Sink, E: Sink>(
     alloc: Global,
     words: &[Text],
@@ -101,7 +102,28 @@ fn run_with_formats<F: Shelf, O: Sink, E: Sink>(
     add_format(&mut formats, Box::new(alloc, JsonFormat::new(alloc)?)?)?;
     add_format(&mut formats, Box::new(alloc, WordsFormat::new(alloc)?)?)?;
     add_format(&mut formats, Box::new(alloc, FullFormat::new(alloc)?)?)?;
-    Ok(run(alloc, words, shelf, out, err, &mut formats, &page_skin()))
+    let mut reports = report_formats(alloc)?;
+    Ok(run(
+        alloc,
+        words,
+        shelf,
+        out,
+        err,
+        &mut formats,
+        &mut reports,
+        &page_skin(),
+    ))
+}
+
+// The formats of reports. `Err` means out of memory.
+fn report_formats(alloc: Global) -> Result<Vec<Box<dyn ReportFormat>>, AllocError>
+    ensures { IfOk result (λ formats. All (λ format. (is_ended format ≡ false) × (lines_so_far format ≡ [])) formats.items) }
+{
+    let mut formats = Vec::new(alloc);
+    add_report_format(&mut formats, Box::new(alloc, TextReport::new(alloc)?)?)?;
+    add_report_format(&mut formats, Box::new(alloc, JsonReport::new(alloc)?)?)?;
+    add_report_format(&mut formats, Box::new(alloc, TableReport::new(alloc)?)?)?;
+    Ok(formats)
 }
 
 // The program's own policy, style and script for a page.

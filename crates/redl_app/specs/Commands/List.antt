@@ -36,17 +36,17 @@ session_rows name state =
     told_rows (part_names state.nodes) state.revisions (verdicts_of state.book (length state.revisions)) (session_details name state)
 
 -- the text of the format for these rows
-abbrev pub listing : List ℕ → Admission → Format → Writing
+abbrev pub listing : List ℕ → Admission → Format Row → Writing
 listing name admission format = record { bytes = format.text (session_rows name admission.state); remarks = admission.remarks }
 
 -- the same in the first format that has the name
-abbrev pub listing_named : List Format → List ℕ → Admission → Result Writing Failure
+abbrev pub listing_named : List (Format Row) → List ℕ → Admission → Result Writing Failure
 listing_named formats name admission = do
   format ← format_named formats name
   Ok (listing name admission format)
 
 -- what is written of the package with this text
-abbrev pub listed : Reader → Files → List Format → List ℕ → List Lock → List (List ℕ) → List ℕ → Result Writing Failure
+abbrev pub listed : Reader → Files → List (Format Row) → List ℕ → List Lock → List (List ℕ) → List ℕ → Result Writing Failure
 listed reader files formats name locks journals whole = do
   admission ← opened reader files locks journals whole
   listing_named formats name admission

@@ -125,7 +125,16 @@ pub(super) fn call(
     err: &mut MemSink,
 ) -> Result<Status, AllocError> {
     let words = words_of(alloc, line)?;
-    Ok(run(alloc, &words, shelf, out, err, &mut Vec::new(alloc), &SKIN))
+    Ok(run(
+        alloc,
+        &words,
+        shelf,
+        out,
+        err,
+        &mut Vec::new(alloc),
+        &mut Vec::new(alloc),
+        &SKIN,
+    ))
 }
 
 /// Calls over a shelf that never fails, without formats, and drops the output.
@@ -136,7 +145,15 @@ pub(super) fn call_surely(
     err: &mut MemSink,
 ) -> Result<Status, AllocError> {
     let words = words_of(alloc, line)?;
-    Ok(run_surely(alloc, &words, shelf, err, &mut Vec::new(alloc), &SKIN))
+    Ok(run_surely(
+        alloc,
+        &words,
+        shelf,
+        err,
+        &mut Vec::new(alloc),
+        &mut Vec::new(alloc),
+        &SKIN,
+    ))
 }
 
 /// Does the call with the words of this line over this shelf.

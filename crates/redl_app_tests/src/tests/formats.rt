@@ -37,7 +37,16 @@ fn call_in(
     requires { All (λ format. (is_closed format ≡ false) × (rows_so_far format ≡ [])) formats.old.items }
 {
     let words = words_of(alloc, line)?;
-    Ok(run(alloc, &words, shelf, out, &mut NullSink, formats, &SKIN))
+    Ok(run(
+        alloc,
+        &words,
+        shelf,
+        out,
+        &mut NullSink,
+        formats,
+        &mut Vec::new(alloc),
+        &SKIN,
+    ))
 }
 
 /// Three revisions in the tests' own format.
@@ -142,6 +151,8 @@ fn without_a_format_nothing_is_fetched(rt: HostRuntime) -> Result<(), Fail> {
         ("list P", "redline: no format text\n"),
         ("list P J --format pdf", "redline: no format pdf\n"),
         ("list P --format ", "redline: no format \n"),
+        ("report P", "redline: no format text\n"),
+        ("report P J --format tab", "redline: no format tab\n"),
     ] {
         let mut shelf = MemShelf::new(Vec::new(alloc), vec![in alloc; 1]?);
         let want = Want {

@@ -86,6 +86,7 @@ fn call(
         out,
         &mut NullSink,
         &mut Vec::new(alloc),
+        &mut Vec::new(alloc),
         &SKIN,
     ))
 }

@@ -8,19 +8,21 @@ use Rattle.redl_reading.specs.Steps.{◌>>=◌}
 use Rattle.redl_select.specs.Selections.{Selection}
 use Rattle.redl_select.specs.declared.lock.Lock.{Lock}
 use Rattle.redl_words.specs.declared.options.Form.TheVariants as forms
+use Rattle.redl_words.specs.declared.reading.Asked as code
 use Rattle.redl_words.specs.declared.verb.Verb.{Verb}
 use Rattle.redl_words.specs.declared.verb.Verb.TheVariants as verbs
 use Rattle.redl_words.specs.declared.command.View.{View}
 use Rattle.redl_words.specs.declared.command.View.TheVariants.{Original, Final, Marked}
-use Rattle.redl_words.specs.Commands.{Command, settle, view_text, list, page, write, decide, join, check, sample, say_word, view_name}
+use Rattle.redl_words.specs.Commands.{Command, settle, view_text, list, report, page, write, decide, join, check, sample, say_word, view_name}
 use Rattle.redl_words.specs.Items.{is_name}
-use Rattle.redl_words.specs.Reading.Items.{nothing, gathered}
+use Rattle.redl_words.specs.Reading.Items.{Gathered, nothing, gathered}
 
 unfoldable pub verb_in : List ℕ → Option Verb
 verb_in word =
     if bytes_eq word (codes "settle") then Some verbs.Settle
     else if bytes_eq word (codes "text") then Some verbs.Text
     else if bytes_eq word (codes "list") then Some verbs.List
+    else if bytes_eq word (codes "report") then Some verbs.Report
     else if bytes_eq word (codes "page") then Some verbs.Page
     else if bytes_eq word (codes "write") then Some verbs.Write
     else if bytes_eq word (codes "decide") then Some verbs.Decide
@@ -60,10 +62,35 @@ abbrev pub format_or_text : Option (List ℕ) → List ℕ
 format_or_text None = codes "text"
 format_or_text (Some name) = name
 
-unfoldable pub list_in : List (List ℕ) → Option Command
-list_in [] = None
-list_in (p ∷ rest) =
-    if is_name p then option_map (λ items. list p (format_or_text items.format) items.locks items.journals) (gathered forms.List nothing rest) else None
+-- what is asked of a package
+pub record Asked : Type 0 where
+  pub package_name : List ℕ
+  pub format : List ℕ
+  pub locks : List Lock
+  pub journals : List (List ℕ)
+
+abbrev pub asked_view : code.Asked → Asked
+asked_view asked = record { package_name = asked.«package»; format = asked.format; locks = asked.locks.items; journals = asked.journals.items }
+
+abbrev pub asked_of : List ℕ → Gathered → Asked
+asked_of p items = record { package_name = p; format = format_or_text items.format; locks = items.locks; journals = items.journals }
+
+-- the words after `list` or `report`
+unfoldable pub asked_in : List (List ℕ) → Option Asked
+asked_in [] = None
+asked_in (p ∷ rest) = if is_name p then option_map (asked_of p) (gathered forms.List nothing rest) else None
+
+abbrev pub as_list : Asked → Command
+as_list asked = list asked.package_name asked.format asked.locks asked.journals
+
+abbrev pub as_report : Asked → Command
+as_report asked = report asked.package_name asked.format asked.locks asked.journals
+
+abbrev pub list_in : List (List ℕ) → Option Command
+list_in rest = option_map as_list (asked_in rest)
+
+abbrev pub report_in : List (List ℕ) → Option Command
+report_in rest = option_map as_report (asked_in rest)
 
 unfoldable pub page_in : List (List ℕ) → Option Command
 page_in [] = None
@@ -111,6 +138,7 @@ abbrev pub command_with : Verb → List (List ℕ) → Option Command
 command_with verbs.Settle rest = settle_in rest
 command_with verbs.Text rest = text_in rest
 command_with verbs.List rest = list_in rest
+command_with verbs.Report rest = report_in rest
 command_with verbs.Page rest = page_in rest
 command_with verbs.Write rest = write_in rest
 command_with verbs.Decide rest = decide_in rest

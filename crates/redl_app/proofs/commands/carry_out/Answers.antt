@@ -86,3 +86,17 @@ returns-in-Sample-clause-ends g c = record {
   reads = rw c.in-Sample.is (reads_nothing _ _ c.sample.ensures);
   finishes = c.put-in-Sample.ensures;
 }
+
+pub name_of-requires-in-Report : goal.name_of-requires-in-Report
+name_of-requires-in-Report g c = (rw c.in-Report.is at c.requires.utf8).1
+
+pub report_package-requires-clause-utf8 : goal.report_package-requires-clause-utf8
+report_package-requires-clause-utf8 g c = rw c.deref-in-Report-2.ensures.value (rw c.in-Report.is at c.requires.utf8).3
+
+pub returns-in-Report-clause-ends : goal.returns-in-Report-clause-ends
+returns-in-Report-clause-ends g c = record {
+  made = result_view writing_view c.report_package.result;
+  reads = rw (c.in-Report.is, c.unwrap-in-Report.ensures)
+      (rw (c.name_of-in-Report.ensures, c.deref-in-Report.ensures.value, c.deref-in-Report-2.ensures.value) at c.report_package.ensures.read);
+  finishes = c.put-in-Report.ensures;
+}

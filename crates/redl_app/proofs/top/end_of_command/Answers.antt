@@ -1,30 +1,29 @@
 use Rattle.std.proofs.Common.{◌≡◌, Err, None, Ok, Some, ap, refl, sym, ◌∙◌}
 use Rattle.std.specs.Option.{option_copied}
-use Rattle.redl_app.proofs.FormatLaws.{ends_after, ends_at_once, format_is_no_file}
+use Rattle.redl_app.proofs.FormatLaws.{asked_is_no_file, ends_after, ends_at_once}
 use Rattle.redl_app.proofs.PlanLaws.{reads_alone, reads_no_package, reads_package}
 use Rattle.redl_app.specs.Files.{file_names}
 use Rattle.redl_app.specs.Brought.{brought_by}
-use Rattle.redl_app.specs.Formats.{has_format}
-use Rattle.redl_app.specs.Plans.{made_by, package_of, plan}
+use Rattle.redl_app.specs.Plans.{has_asked, made_by, package_of, plan}
 use Rattle.redl_lines.specs.Failures.{failure_view}
 use Rattle.redl_words.specs.Views.{command_of}
 use Rattle.redl_app.proofs.top.end_of_command.Goals as goal
 
 pub returns-in-Err-clause-ends : goal.returns-in-Err-clause-ends
 returns-in-Err-clause-ends g c =
-    let brought = brought_by (λ b. (goal.RowFormat-dyn g (b.vtable, b.value)).format_name b.value) (λ b. (goal.RowFormat-dyn g (b.vtable, b.value)).text_for b.value) c.args.formats.now.items c.args.skin.now in
+    let brought = brought_by (λ b. (goal.RowFormat-dyn g (b.vtable, b.value)).format_name b.value) (λ b. (goal.RowFormat-dyn g (b.vtable, b.value)).text_for b.value) c.args.formats.now.items (λ b. (goal.ReportFormat-dyn g (b.vtable, b.value)).report_name b.value) (λ b. (goal.ReportFormat-dyn g (b.vtable, b.value)).report_text b.value) c.args.reports.now.items c.args.skin.now in
     let asked = plan (command_of c.args.command.now) in
-    let absent : has_format brought.formats asked.format ≡ Err (failure_view c.in-Err.failure) = sym (rw (c.deref.ensures.value, c.format.ensures) at c.in-Err.ensures) in
-    ends_at_once _ _ (has_format brought.formats asked.format) (file_names asked) (λ reader files. made_by reader files brought asked.makes) (failure_view c.in-Err.failure)
-    absent (format_is_no_file brought.formats asked.format (failure_view c.in-Err.failure) absent)
+    let absent : has_asked brought asked ≡ Err (failure_view c.in-Err.failure) = sym (rw (c.deref.ensures.value, c.deref-2.ensures.value) at (c.in-Err.ensures.asked c.args.skin.now)) in
+    ends_at_once _ _ (has_asked brought asked) (file_names asked) (λ reader files. made_by reader files brought asked.makes) (failure_view c.in-Err.failure)
+    absent (asked_is_no_file brought.formats brought.reports asked.format asked.report (failure_view c.in-Err.failure) absent)
 
 pub returns-in_default-package-clause-ends : goal.returns-in_default-package-clause-ends
 returns-in_default-package-clause-ends g c =
-    let brought = brought_by (λ b. (goal.RowFormat-dyn g (b.vtable, b.value)).format_name b.value) (λ b. (goal.RowFormat-dyn g (b.vtable, b.value)).text_for b.value) c.args.formats.now.items c.args.skin.now in
+    let brought = brought_by (λ b. (goal.RowFormat-dyn g (b.vtable, b.value)).format_name b.value) (λ b. (goal.RowFormat-dyn g (b.vtable, b.value)).text_for b.value) c.args.formats.now.items (λ b. (goal.ReportFormat-dyn g (b.vtable, b.value)).report_name b.value) (λ b. (goal.ReportFormat-dyn g (b.vtable, b.value)).report_text b.value) c.args.reports.now.items c.args.skin.now in
     let asked = plan (command_of c.args.command.now) in
-    let there : has_format brought.formats asked.format ≡ Ok tt = sym (rw (c.deref.ensures.value, c.format.ensures) at c.in_default.ensures) in
+    let there : has_asked brought asked ≡ Ok tt = sym (rw (c.deref.ensures.value, c.deref-2.ensures.value) at (c.in_default.ensures.asked c.args.skin.now)) in
     let none : package_of asked.makes ≡ None = sym c.package.ensures ∙ ap option_copied c.in_default-package.is in
-    ends_after _ (has_format brought.formats asked.format) (file_names asked) (λ reader files. made_by reader files brought asked.makes) tt there
+    ends_after _ (has_asked brought asked) (file_names asked) (λ reader files. made_by reader files brought asked.makes) tt there
     (record {
       made = c.carry_out.ensures.ends.made;
       reads = reads_alone brought asked.makes asked.journals none c.carry_out.ensures.ends.reads;
@@ -33,11 +32,11 @@ returns-in_default-package-clause-ends g c =
 
 pub returns-in-Ok-clause-ends : goal.returns-in-Ok-clause-ends
 returns-in-Ok-clause-ends g c =
-    let brought = brought_by (λ b. (goal.RowFormat-dyn g (b.vtable, b.value)).format_name b.value) (λ b. (goal.RowFormat-dyn g (b.vtable, b.value)).text_for b.value) c.args.formats.now.items c.args.skin.now in
+    let brought = brought_by (λ b. (goal.RowFormat-dyn g (b.vtable, b.value)).format_name b.value) (λ b. (goal.RowFormat-dyn g (b.vtable, b.value)).text_for b.value) c.args.formats.now.items (λ b. (goal.ReportFormat-dyn g (b.vtable, b.value)).report_name b.value) (λ b. (goal.ReportFormat-dyn g (b.vtable, b.value)).report_text b.value) c.args.reports.now.items c.args.skin.now in
     let asked = plan (command_of c.args.command.now) in
-    let there : has_format brought.formats asked.format ≡ Ok tt = sym (rw (c.deref.ensures.value, c.format.ensures) at c.in_default.ensures) in
+    let there : has_asked brought asked ≡ Ok tt = sym (rw (c.deref.ensures.value, c.deref-2.ensures.value) at (c.in_default.ensures.asked c.args.skin.now)) in
     let some : package_of asked.makes ≡ Some c.in-Some.name.now = sym c.package.ensures ∙ ap option_copied c.in-Some.is in
-    ends_after _ (has_format brought.formats asked.format) (file_names asked) (λ reader files. made_by reader files brought asked.makes) tt there
+    ends_after _ (has_asked brought asked) (file_names asked) (λ reader files. made_by reader files brought asked.makes) tt there
     (record {
       made = c.carry_out-in-Ok.ensures.ends.made;
       reads = reads_package brought asked.makes asked.journals c.in-Some.name.now c.in-Ok.text.items some c.in-Ok.ensures
@@ -47,11 +46,11 @@ returns-in-Ok-clause-ends g c =
 
 pub returns-in-Err-fetch_package-clause-ends : goal.returns-in-Err-fetch_package-clause-ends
 returns-in-Err-fetch_package-clause-ends g c =
-    let brought = brought_by (λ b. (goal.RowFormat-dyn g (b.vtable, b.value)).format_name b.value) (λ b. (goal.RowFormat-dyn g (b.vtable, b.value)).text_for b.value) c.args.formats.now.items c.args.skin.now in
+    let brought = brought_by (λ b. (goal.RowFormat-dyn g (b.vtable, b.value)).format_name b.value) (λ b. (goal.RowFormat-dyn g (b.vtable, b.value)).text_for b.value) c.args.formats.now.items (λ b. (goal.ReportFormat-dyn g (b.vtable, b.value)).report_name b.value) (λ b. (goal.ReportFormat-dyn g (b.vtable, b.value)).report_text b.value) c.args.reports.now.items c.args.skin.now in
     let asked = plan (command_of c.args.command.now) in
-    let there : has_format brought.formats asked.format ≡ Ok tt = sym (rw (c.deref.ensures.value, c.format.ensures) at c.in_default.ensures) in
+    let there : has_asked brought asked ≡ Ok tt = sym (rw (c.deref.ensures.value, c.deref-2.ensures.value) at (c.in_default.ensures.asked c.args.skin.now)) in
     let some : package_of asked.makes ≡ Some c.in-Some.name.now = sym c.package.ensures ∙ ap option_copied c.in-Some.is in
-    ends_after _ (has_format brought.formats asked.format) (file_names asked) (λ reader files. made_by reader files brought asked.makes) tt there
+    ends_after _ (has_asked brought asked) (file_names asked) (λ reader files. made_by reader files brought asked.makes) tt there
     (record {
       made = Err (failure_view c.in-Err-fetch_package.failure);
       reads = reads_no_package brought asked.makes asked.journals c.in-Some.name.now some c.in-Err-fetch_package.ensures;

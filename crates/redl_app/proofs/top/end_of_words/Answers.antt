@@ -11,7 +11,7 @@ pub returns-in-Ok-clause-ends : goal.returns-in-Ok-clause-ends
 returns-in-Ok-clause-ends g c = rw c.in-Ok.is (λ due wanted. ends_when due wanted c.end_of_command.ensures.ends)
 
 pub returns-in-Err-clause-ends : goal.returns-in-Err-clause-ends
-returns-in-Err-clause-ends g c = rw (c.in-Err.is, c.failure_of.ensures) (λ due wanted. ends_unread (brought_by (λ b. (goal.RowFormat-dyn g (b.vtable, b.value)).format_name b.value) (λ b. (goal.RowFormat-dyn g (b.vtable, b.value)).text_for b.value) c.args.formats.now.items c.args.skin.now) _ _ c.in-Err.error due wanted)
+returns-in-Err-clause-ends g c = rw (c.in-Err.is, c.failure_of.ensures) (λ due wanted. ends_unread (brought_by (λ b. (goal.RowFormat-dyn g (b.vtable, b.value)).format_name b.value) (λ b. (goal.RowFormat-dyn g (b.vtable, b.value)).text_for b.value) c.args.formats.now.items (λ b. (goal.ReportFormat-dyn g (b.vtable, b.value)).report_name b.value) (λ b. (goal.ReportFormat-dyn g (b.vtable, b.value)).report_text b.value) c.args.reports.now.items c.args.skin.now) _ _ c.in-Err.error due wanted)
 
 pub returns-in-Err-clause-words : goal.returns-in-Err-clause-words
 returns-in-Err-clause-words g c = rw c.in-Err.is (ap failed c.failure_of.ensures)
@@ -21,3 +21,9 @@ returns-in-Ok-clause-taken g c = rw c.in-Ok.is c.end_of_command.ensures.taken
 
 pub returns-in-Err-clause-no_format : goal.returns-in-Err-clause-no_format
 returns-in-Err-clause-no_format g c = rw c.in-Err.is refl
+
+pub returns-in-Ok-clause-taken_report : goal.returns-in-Ok-clause-taken_report
+returns-in-Ok-clause-taken_report g c = rw c.in-Ok.is c.end_of_command.ensures.taken_report
+
+pub returns-in-Err-clause-no_report : goal.returns-in-Err-clause-no_report
+returns-in-Err-clause-no_report g c = rw c.in-Err.is refl

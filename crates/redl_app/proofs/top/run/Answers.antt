@@ -9,7 +9,7 @@ use Rattle.redl_app.proofs.top.run.Goals as goal
 
 pub returns-clause-status : goal.returns-clause-status
 returns-clause-status g c =
-    let brought = brought_by (λ b. (goal.RowFormat-dyn g (b.vtable, b.value)).format_name b.value) (λ b. (goal.RowFormat-dyn g (b.vtable, b.value)).text_for b.value) c.args.formats.now.items c.args.skin.now in
+    let brought = brought_by (λ b. (goal.RowFormat-dyn g (b.vtable, b.value)).format_name b.value) (λ b. (goal.RowFormat-dyn g (b.vtable, b.value)).text_for b.value) c.args.formats.now.items (λ b. (goal.ReportFormat-dyn g (b.vtable, b.value)).report_name b.value) (λ b. (goal.ReportFormat-dyn g (b.vtable, b.value)).report_text b.value) c.args.reports.now.items c.args.skin.now in
     let ends = c.end_of_words-end.ensures.ends (due_by c.args.words.now brought) (is_wanted c.args.words.now brought c.read_words-read.result c.read_words-read.ensures.found c.read_words-read.ensures.usage) in
     rw c.status.ensures (answers brought (names_asked c.args.words.now brought c.read_words-read.result c.read_words-read.ensures.found) ends)
 
@@ -44,7 +44,7 @@ returns-clause-same_files g c =
 
 pub returns-clause-bytes : goal.returns-clause-bytes
 returns-clause-bytes g c =
-    let brought = brought_by (λ b. (goal.RowFormat-dyn g (b.vtable, b.value)).format_name b.value) (λ b. (goal.RowFormat-dyn g (b.vtable, b.value)).text_for b.value) c.args.formats.now.items c.args.skin.now in
+    let brought = brought_by (λ b. (goal.RowFormat-dyn g (b.vtable, b.value)).format_name b.value) (λ b. (goal.RowFormat-dyn g (b.vtable, b.value)).text_for b.value) c.args.formats.now.items (λ b. (goal.ReportFormat-dyn g (b.vtable, b.value)).report_name b.value) (λ b. (goal.ReportFormat-dyn g (b.vtable, b.value)).report_text b.value) c.args.reports.now.items c.args.skin.now in
     let ends = c.end_of_words-end.ensures.ends (due_by c.args.words.now brought) (is_wanted c.args.words.now brought c.read_words-read.result c.read_words-read.ensures.found c.read_words-read.ensures.usage) in
     rw c.status.ensures (writes brought (names_asked c.args.words.now brought c.read_words-read.result c.read_words-read.ensures.found) ends)
 
@@ -56,7 +56,7 @@ returns-clause-untouched g c = λ not_done not_refused not_failed.
 
 pub returns-clause-lines : goal.returns-clause-lines
 returns-clause-lines g c =
-    let brought = brought_by (λ b. (goal.RowFormat-dyn g (b.vtable, b.value)).format_name b.value) (λ b. (goal.RowFormat-dyn g (b.vtable, b.value)).text_for b.value) c.args.formats.now.items c.args.skin.now in
+    let brought = brought_by (λ b. (goal.RowFormat-dyn g (b.vtable, b.value)).format_name b.value) (λ b. (goal.RowFormat-dyn g (b.vtable, b.value)).text_for b.value) c.args.formats.now.items (λ b. (goal.ReportFormat-dyn g (b.vtable, b.value)).report_name b.value) (λ b. (goal.ReportFormat-dyn g (b.vtable, b.value)).report_text b.value) c.args.reports.now.items c.args.skin.now in
     let ends = c.end_of_words-end.ensures.ends (due_by c.args.words.now brought) (is_wanted c.args.words.now brought c.read_words-read.result c.read_words-read.ensures.found c.read_words-read.ensures.usage) in
     rw c.status.ensures (tells
     (λ (lines : List ℕ). Tells g.E.Sink.told g.E.Sink.faults c.args.err.now c.tell.new.err lines)
@@ -64,7 +64,7 @@ returns-clause-lines g c =
 
 pub returns-clause-taken : goal.returns-clause-taken
 returns-clause-taken g c = λ command reads.
-    rw c.status.ensures (leaves_by_words _ _ _ c.args.words.now c.read_words-read.result (end_view c.end_of_words-end.result) c.read_words-read.ensures.found c.read_words-read.ensures.usage
+    rw c.status.ensures (leaves_by_words (λ plan. plan.format) _ _ _ c.args.words.now c.read_words-read.result (end_view c.end_of_words-end.result) c.read_words-read.ensures.found c.read_words-read.ensures.usage
     c.end_of_words-end.ensures.taken c.end_of_words-end.ensures.no_format c.end_of_words-end.ensures.words command reads)
 
 pub returns-clause-no_format : goal.returns-clause-no_format
@@ -73,7 +73,16 @@ returns-clause-no_format g c = λ none.
 
 pub returns-clause-left : goal.returns-clause-left
 returns-clause-left g c =
-    let brought = brought_by (λ b. (goal.RowFormat-dyn g (b.vtable, b.value)).format_name b.value) (λ b. (goal.RowFormat-dyn g (b.vtable, b.value)).text_for b.value) c.args.formats.now.items c.args.skin.now in
+    let brought = brought_by (λ b. (goal.RowFormat-dyn g (b.vtable, b.value)).format_name b.value) (λ b. (goal.RowFormat-dyn g (b.vtable, b.value)).text_for b.value) c.args.formats.now.items (λ b. (goal.ReportFormat-dyn g (b.vtable, b.value)).report_name b.value) (λ b. (goal.ReportFormat-dyn g (b.vtable, b.value)).report_text b.value) c.args.reports.now.items c.args.skin.now in
     leaves_package c.status.result (g.F.Shelf.told c.args.shelf.now) c.args.words.now brought
     (Rose (g.F.Shelf.faults c.args.shelf.now) (g.F.Shelf.faults c.end_of_words-end.new.shelf)) (Rose (g.O.Sink.faults c.args.out.now) (g.O.Sink.faults c.end_of_words-end.new.out))
     (returns-clause-status g c)
+
+pub returns-clause-taken_report : goal.returns-clause-taken_report
+returns-clause-taken_report g c = λ command reads.
+    rw c.status.ensures (leaves_by_words (λ plan. plan.report) _ _ _ c.args.words.now c.read_words-read.result (end_view c.end_of_words-end.result) c.read_words-read.ensures.found c.read_words-read.ensures.usage
+    c.end_of_words-end.ensures.taken_report c.end_of_words-end.ensures.no_report c.end_of_words-end.ensures.words command reads)
+
+pub returns-clause-no_report : goal.returns-clause-no_report
+returns-clause-no_report g c = λ none.
+    leaves_all _ _ c.args.words.now c.read_words-read.result c.read_words-read.ensures.found c.end_of_words-end.ensures.no_report none

@@ -1,4 +1,4 @@
-use Rattle.std.proofs.Common.{◌≡◌, ◌∙◌, Err, Ok, ap, length, refl, subst, sym, ℕ}
+use Rattle.std.proofs.Common.{◌∙◌, Err, Ok, ap, length, refl, subst, sym}
 use Rattle.redl_app.proofs.PageLaws.{same_shown}
 use Rattle.redl_app.specs.Commands.Page.{shown_of}
 use Rattle.redl_app.specs.Finishing.{Finishes}

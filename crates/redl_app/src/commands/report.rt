@@ -1,0 +1,70 @@
+//! `report P` with a format, journals and locks.
+
+ghost use Rattle.std.specs.Prelude.{◌≡◌, Ok, All, IsUtf8};
+ghost use Rattle.redl_app.specs.Commands.Report.{report_named, reported};
+ghost use Rattle.redl_app.specs.Formats.{AreFresh, LeavesFormats, format_named, formats_by, whether};
+ghost use Rattle.redl_app.specs.Views.{writing_view};
+ghost use Rattle.redl_app.specs.Writing.{outcome_of};
+ghost use Rattle.redl_inputs.specs.Reading.{Reads, ReadsFiles};
+ghost use Rattle.redl_inputs.specs.Views.{admission_view, result_view};
+ghost use Rattle.redl_listing.specs.Formats.{without_named};
+
+use crate::output::{Output, Writing};
+use redl_inputs::{Admitted, open};
+use redl_io::{Shelf, Text};
+use redl_lines::Failure;
+use redl_report::{ReportFormat, lines, report};
+use redl_select::Lock;
+use std::alloc::Global;
+
+/// The report on the package with this text, in the first format of reports that has the name and is there, under the journals of
+/// these names, with these locks. It takes that format out of the list.
+pub(crate) fn report_package<'a, 'b, F: Shelf>(
+    alloc: Global,
+    name: &'a str,
+    locks: &[Lock],
+    journals: &'a [Text],
+    bytes: &'b [u8],
+    shelf: &mut F,
+    reports: &mut Vec<Box<dyn ReportFormat>>,
+) -> Result<Writing<'b>, Failure<'a>>
+    requires utf8 { All IsUtf8 journals.now }
+    requires there { whether (format_named (formats_by report_name report_text reports.old.items) name.now) ≡ Ok tt }
+    requires fresh { AreFresh is_ended lines_so_far reports.old.items }
+    ensures read { ReadsFiles F.told F.faults shelf.old shelf.new journals.now
+        (result_view writing_view result) (λ reader files. reported reader files (formats_by report_name report_text reports.old.items) name.now locks.now journals.now bytes.now) }
+    ensures reports { LeavesFormats (outcome_of (result_view writing_view result)).status
+        (without_named report_name name.now reports.old.items) reports.old.items reports.new.items }
+{
+    let admitted = open(alloc, locks, journals, bytes, shelf)?;
+    report_session(alloc, name, admitted, reports)
+}
+
+// The report on a session.
+fn report_session<'a, 'b>(
+    alloc: Global,
+    name: &'a str,
+    admitted: Admitted<'b>,
+    reports: &mut Vec<Box<dyn ReportFormat>>,
+) -> Result<Writing<'b>, Failure<'a>>
+    requires there { whether (format_named (formats_by report_name report_text reports.old.items) name.now) ≡ Ok tt }
+    requires fresh { AreFresh is_ended lines_so_far reports.old.items }
+    ensures read { Reads (result_view writing_view result) (λ reader. report_named
+        (formats_by report_name report_text reports.old.items) name.now (admission_view admitted.entry)) }
+    ensures reports { LeavesFormats (outcome_of (result_view writing_view result)).status
+        (without_named report_name name.now reports.old.items) reports.old.items reports.new.items }
+{
+    let Admitted {
+        session,
+        remarks,
+        ..
+    } = admitted;
+    let lines = lines(alloc, session.index(), session.book())?;
+    let mut made = Vec::new(alloc);
+    // The format is there.
+    let _ = report(reports, name, &lines, &mut made)?;
+    Ok(Writing {
+        output: Output::Listing(made),
+        remarks,
+    })
+}
