@@ -12,6 +12,7 @@ import sys
 import contract
 import page
 import reading
+import report
 import texts
 from words import full, listed as words_listed
 
@@ -179,6 +180,8 @@ def make_contract(folder):
     folder.save("contract.list.words", words_listed(read, entries))
     folder.save("contract.list.full", full(read, entries))
     folder.save("contract.page.html", page.page(read, entries))
+    for form in report.FORMS:
+        folder.save("contract.report." + form, report.report(read, entries, form))
     for view in VIEWS:
         folder.save("contract.%s.txt" % view, texts.text(read, view))
     # Ann accepts all of Cara's changes in one go, but for the two in the sentence on prices.
@@ -198,10 +201,12 @@ def make_ranks(folder, read, entries):
     ranked, _ = reading.decide(read, "Pat Stone", [], [("reject", [32, 33])], rank=2)
     folder.save("contract.pat.journal", reading.journal(read, ranked))
     folder.save("contract.ranked.text", reading.listed(read, entries + ranked, "text"))
+    folder.save("contract.ranked.report", report.report(read, entries + ranked, "text"))
     folder.save("contract.ranked.journal", reading.journal(read, reading.in_order(entries + ranked)))
     locks = [("author", LOCKED), ("kind", "del"), ("span", reading.moment("2026-11-04T00:00:00Z"), reading.moment("2026-11-05T00:00:00Z"))]
     folder.save("contract.locks.xml", reading.written(read, entries + ranked, locks))
     folder.save("contract.locks.lines", reading.refused_lines(read, entries + ranked, locks))
+    folder.save("contract.locks.report", report.report(read, entries + ranked, "text", locks))
 
 
 def make_round(folder):
