@@ -547,7 +547,10 @@ def large(driven):
     print("\n".join("large page: %-20s %6.2f s" % it for it in times), file=sys.stderr)
     same("20,000 changes in a page of %d MB" % round(os.path.getsize(seen.file) / 1e6), seen.run("return document.querySelectorAll('aside > ol > li').length"), 20000)
     told("deciding in it", len(seen.words()) > 4000)
-    # What a person waits for, in seconds, on a busy machine: a quiet one takes a fourth.
+    # What a person waits for, in seconds, on a busy machine: a quiet one takes a fourth. With more than that to do, nothing is told.
+    if os.getloadavg()[0] > 3 * os.cpu_count():
+        print("skipped large page, times: the machine has too much else to do")
+        return
     limits = {"first paint": 4, "ready": 12, "chosen by key": 2, "decided by key": 2, "decided by button": 2}
     for name, seconds in times:
         told("large page, " + name, seconds <= limits.get(name, 8), "%.2f s" % seconds)
