@@ -33,6 +33,8 @@ class Element:
         self.start = self.end = 0
         self.role = self.trace = None
         self.number = 0
+        # whether no ancestor is quiet, once that was asked
+        self.open = None
 
     def attribute(self, local):
         """The decoded value of the first attribute with this local name, or None."""
@@ -145,7 +147,9 @@ def is_quiet(element):
 
 
 def is_open(element):
-    return not any(is_quiet(above) for above in element.ancestors())
+    if element.open is None:
+        element.open = element.parent is None or (not is_quiet(element.parent) and is_open(element.parent))
+    return element.open
 
 
 def is_in_para_props(element):
