@@ -20,6 +20,7 @@ use Rattle.redl_inputs.specs.Steps.{◌>>=◌}
 use Rattle.redl_app.specs.Writing.{Outcome, Writing, only_bytes, outcome_of}
 use Rattle.redl_words.specs.Commands.{Command, settle, view_text, list, report, page, write, decide, join, check, sample}
 use Rattle.redl_io.specs.Limits.{journal_bytes}
+use Rattle.redl_locks_sound.proofs.Opened.{opened-left}
 use Rattle.redl_index.specs.Numbers.{numbered_package}
 use Rattle.redl_io.specs.Shelf.{Files}
 use Rattle.redl_lines.specs.Failures.{Failure, caused, unread, no_memory, failure_status}
@@ -97,6 +98,7 @@ left_by reader files plan name bytes whole nodes says file original decided writ
   texts = survival-package attribute_value says (numbered_package nodes) (numbered-indexed attribute_value nodes);
   sound = soundness attribute_value has_id declares says (numbered_package nodes)
       (numbered_sound attribute_value has_id declares nodes (sound_package reader whole nodes original));
+  locked = λ admission element. opened-left reader files plan.locks plan.journals whole admission element;
 }
 
 leaves_settled : (reader : Reader) (files : Files) (brought : Brought) (accept : Bool) (name : List ℕ) (writing : Writing)

@@ -1,4 +1,5 @@
--- What a call that decides revisions leaves of a package: exactly the text that survives, in a sound package.
+-- What a call that decides revisions leaves of a package: exactly the text that survives, in a sound package, and all that is
+-- locked.
 use Rattle.std.specs.Prelude.{◌≡◌, ℕ, List, true, Option, Some, None, Ok, map}
 use Rattle.redl_app.specs.Commands.Settle.{same_says, settling}
 use Rattle.redl_inputs.specs.Admission.{Admission, opened}
@@ -15,13 +16,17 @@ use Rattle.redl_app.specs.Plans.{Plan, Deciding, nothing, all_of_them, by_verdic
 use Rattle.redl_words.specs.Commands.{Command, IsCommand}
 use Rattle.redl_index.specs.Numbers.{numbered_package}
 use Rattle.redl_io.specs.Shelf.{Files}
+use Rattle.redl_locks_sound.specs.Held.{IsHeld}
 use Rattle.redl_rules.specs.Attributes.{rules}
 use Rattle.redl_tree.specs.Model.Nodes.{Nodes}
+use Rattle.redl_tree.specs.Model.Seen.{Seen}
+use Rattle.redl_tree.specs.Decisions.Fates.{fate_of}
 use Rattle.redl_tree.specs.Decisions.Packages.{pass_package, stories}
 use Rattle.redl_tree.specs.Rules.Sound.{is_sound}
 use Rattle.redl_tree.specs.Decisions.Survivors.{text_pieces, survivors}
 use Rattle.redl_tree.specs.Model.Text.{text}
 use Rattle.redl_tree.specs.declared.kinds.Say.{Say}
+use Rattle.redl_tree.specs.declared.kinds.Fate.TheVariants.{Leave}
 
 -- this package, if a command decides on its revisions
 abbrev pub if_decided : Deciding → Option (List ℕ) → Option (List ℕ)
@@ -60,6 +65,9 @@ pub record IsLeft (reader : Reader) (files : Files) (plan : Plan) (name bytes : 
   pub texts : map text_pieces (stories (left_of says nodes)) ≡ map (survivors says) (stories (numbered_package nodes))
   -- it keeps the rules of structure
   pub sound : is_sound rules (left_of says nodes) ≡ true
+  -- an element whose revision a lock of the command holds is left as it is, whatever the journals say
+  pub locked : (admission : Admission) (element : Seen) → opened reader files plan.locks plan.journals whole ≡ Ok admission
+      → IsHeld admission.state element → fate_of (says_of admission.state) element.own.tag ≡ Leave
 
 -- Where a command decides on revisions and the outcome is written, its bytes are what is left of the package.
 abbrev pub LeavesSound : Reader → List (List ℕ) → Files → Brought → Type 0

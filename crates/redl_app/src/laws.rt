@@ -23,11 +23,13 @@ pub fn one_outcome()
         → outcome reader words files brought ≡ outcome other words files brought }
 {}
 
-/// What `settle` and `write` put out is the text of a sound package with exactly the text that survives.
+/// What `settle` and `write` put out is the text of a sound package with exactly the text that survives, and keeps what is
+/// locked.
 ///
 /// Where such a call has the status 0 or 1, its bytes are the text of what is left of its package under its says: the text
 /// pieces of the stories are those of the original that survive, in their order, and all nine rules of structure hold
-/// again. Nothing says that the text reads again as XML: where an element between `]]` and `>` goes, it does not.
+/// again. An element whose revision a lock of the call holds, by what the element itself names, is left as it is. Nothing
+/// says that the text reads again as XML: where an element between `]]` and `>` goes, it does not.
 pub fn what_is_left_is_sound()
     ensures { (reader : Reader) (words : List (List ℕ)) (files : Files) (brought : Brought) → LeavesSound reader words files brought }
 {}
