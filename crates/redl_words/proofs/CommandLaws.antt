@@ -24,12 +24,13 @@ use Rattle.redl_words.specs.declared.command.Command as code
 use Rattle.redl_words.specs.declared.command.View.{View}
 use Rattle.redl_words.specs.declared.command.View.TheVariants.{Original, Final, Marked}
 use Rattle.redl_words.specs.Commands.{Command, settle, view_text, list, report, page, write, decide, join, check, sample, say_word, view_name, IsSettle, IsText, AsksFor, IsPage, IsWrite, IsDecide, IsJoin, IsCheck, IsSample, IsCommand, HasNoCommand, HasUtf8, LockHasUtf8}
-use Rattle.redl_words.specs.Items.{Item, format, lock, journal, named_journal, choice, rank, item_words, Admits, of_list, of_write, of_decide, Form as Kind, is_name, formats_of, locks_of, journals_of, ranks_of}
+use Rattle.redl_words.specs.Items.{Item, format, lock, journal, named_journal, choice, rank, only, item_words, Admits, of_list, of_write, of_decide, Form as Kind, is_name, formats_of, locks_of, journals_of, ranks_of, onlys_of}
+use Rattle.redl_words.specs.Shown.{Only}
 use Rattle.redl_words.specs.Selections.{MeansLock}
 use Rattle.redl_words.specs.Views.{command_of}
 use Rattle.redl_words.specs.Reading.Answers.{Finds}
 use Rattle.redl_words.specs.Reading.Items.{Gathered, nothing, gathered}
-use Rattle.redl_words.specs.Reading.Commands.{verb_in, say_in, settle_in, view_in, text_with, text_in, format_or_text, rank_or_0, Asked, asked_of, asked_in, as_list, as_report, list_in, report_in, page_in, write_in, decide_with, decide_in, names_in, join_in, check_in, sample_in, command_with, command_in}
+use Rattle.redl_words.specs.Reading.Commands.{verb_in, say_in, settle_in, view_in, text_with, text_in, format_or_text, rank_or_0, Asked, asked_of, asked_in, as_list, as_report, list_in, report_in, page_in, write_in, decide_with, decide_in, names_in, join_in, check_in, sample_in, command_with, command_in, report_of}
 use Rattle.redl_words.proofs.SelectionLaws.{bytes_same, map_some, pick}
 use Rattle.redl_words.proofs.LockLaws.{lock_utf8}
 use Rattle.redl_words.proofs.ItemLaws.{items_take, read_again}
@@ -172,14 +173,14 @@ format_again None formats name e (inr h) = absurd (let wrong = e ∙ h in cc)
 format_again (Some other) formats name e (inl h) = absurd (let wrong = e ∙ h.0 in cc)
 format_again (Some other) formats name e (inr h) = let same = e ∙ h in cc
 
-asked_takes : (word : List ℕ) (rest : List (List ℕ)) (asked : Asked) → asked_in rest ≡ Some asked → AsksFor word (word ∷ rest) asked.package_name asked.format asked.locks asked.journals
+asked_takes : (word : List ℕ) (rest : List (List ℕ)) (asked : Asked) → asked_in rest ≡ Some asked → AsksFor word (word ∷ rest) asked.package_name asked.format asked.locks asked.journals asked.onlys
 unfolding asked_in
 asked_takes word [] asked e = absurd cc
 asked_takes word (p ∷ rest) asked e =
     let n = needs (is_name p) (option_map (asked_of p) (gathered forms.List nothing rest)) asked e in
     let g = map_some (asked_of p) (gathered forms.List nothing rest) asked n.1 in
     let r = items_take forms.List rest nothing g.0 g.1 in
-    let means : AsksFor word (word ∷ p ∷ rest) p (format_or_text g.0.format) g.0.locks g.0.journals = record {
+    let means : AsksFor word (word ∷ p ∷ rest) p (format_or_text g.0.format) g.0.locks g.0.journals g.0.onlys = record {
       items = r.items;
       rest = rest;
       written = refl;
@@ -188,14 +189,25 @@ asked_takes word (p ∷ rest) asked e =
       format = format_takes g.0.format (formats_of r.items) r.says.format;
       locks_are = r.says.locks;
       journals_are = r.says.journals;
+      onlys_are = r.says.onlys;
     } in
-    subst (λ (asked : Asked). AsksFor word (word ∷ p ∷ rest) asked.package_name asked.format asked.locks asked.journals) g.2 means
+    subst (λ (asked : Asked). AsksFor word (word ∷ p ∷ rest) asked.package_name asked.format asked.locks asked.journals asked.onlys) g.2 means
 
 list_takes : (rest : List (List ℕ)) (c : Command) → list_in rest ≡ Some c → IsCommand (codes "list" ∷ rest) c
 list_takes rest c e = let a = map_some as_list (asked_in rest) c e in subst (IsCommand (codes "list" ∷ rest)) a.2 (asked_takes (codes "list") rest a.0 a.1)
 
+-- a report is of all revisions
+report_with : (rest : List (List ℕ)) (c : Command) (asked : Asked) (onlys : List Only) → onlys ≡ asked.onlys → report_of onlys asked ≡ Some c
+    → AsksFor (codes "report") (codes "report" ∷ rest) asked.package_name asked.format asked.locks asked.journals asked.onlys → IsCommand (codes "report" ∷ rest) c
+report_with rest c asked [] none e means =
+    subst (IsCommand (codes "report" ∷ rest)) (same_Some (report asked.package_name asked.format asked.locks asked.journals) c e)
+    (subst (AsksFor (codes "report") (codes "report" ∷ rest) asked.package_name asked.format asked.locks asked.journals) (sym none) means)
+report_with rest c asked (wanted ∷ more) some e means = absurd cc
+
 report_takes : (rest : List (List ℕ)) (c : Command) → report_in rest ≡ Some c → IsCommand (codes "report" ∷ rest) c
-report_takes rest c e = let a = map_some as_report (asked_in rest) c e in subst (IsCommand (codes "report" ∷ rest)) a.2 (asked_takes (codes "report") rest a.0 a.1)
+report_takes rest c e =
+    let a = bind_some (asked_in rest) as_report c e in
+    report_with rest c a.0 a.0.onlys refl a.2 (asked_takes (codes "report") rest a.0 a.1)
 
 -- what comes at most once, and else has a default
 once : {A : Type 0} (xs : List A) (x default : A) → ((xs ≡ []) × (x ≡ default)) ⊎ (xs ≡ x ∷ []) → length xs ≤ 1
@@ -211,24 +223,27 @@ unranked k none (journal name ∷ items) h = unranked k none items h.1
 unranked k none (named_journal name ∷ items) h = unranked k none items h.1
 unranked k none (choice word text selection ∷ items) h = unranked k none items h.1
 unranked k none (rank number ∷ items) h = absurd (none number h.0)
+unranked k none (only text wanted ∷ items) h = unranked k none items h.1
 
-asked_again : (word p name : List ℕ) (locks : List Lock) (journals words : List (List ℕ)) (h : AsksFor word words p name locks journals)
-    → asked_in (p ∷ h.rest) ≡ Some (record { package_name = p; format = name; locks = locks; journals = journals })
+asked_again : (word p name : List ℕ) (locks : List Lock) (journals : List (List ℕ)) (onlys : List Only) (words : List (List ℕ)) (h : AsksFor word words p name locks journals onlys)
+    → asked_in (p ∷ h.rest) ≡ Some (record { package_name = p; format = name; locks = locks; journals = journals; onlys = onlys })
 unfolding asked_in
-asked_again word p name locks journals words h =
+asked_again word p name locks journals onlys words h =
     let items = h.items in
     let each = recursion_from_All (Admits of_list) items h.are_items.admitted in
     let r = read_again forms.List items h.rest h.are_items.written each (once (formats_of items) name (codes "text") h.format) (unranked of_list (λ number h. h) items each) in
     let f : format_or_text r.after.format ≡ name = format_again r.after.format (formats_of items) name r.format h.format in
     let ls : r.after.locks ≡ locks = r.locks ∙ sym h.locks_are in
     let js : r.after.journals ≡ journals = r.journals ∙ sym h.journals_are in
+    let os : r.after.onlys ≡ onlys = r.onlys ∙ sym h.onlys_are in
     let named : is_name p ≡ true = h.package_name in
-    rw (named, r.reads) (same (format_or_text r.after.format) name r.after.locks locks r.after.journals journals f ls js) where
-      asked : List ℕ → List Lock → List (List ℕ) → Asked
-      asked f ls js = record { package_name = p; format = f; locks = ls; journals = js }
+    rw (named, r.reads) (same (format_or_text r.after.format) name r.after.locks locks r.after.journals journals r.after.onlys onlys f ls js os) where
+      asked : List ℕ → List Lock → List (List ℕ) → List Only → Asked
+      asked f ls js os = record { package_name = p; format = f; locks = ls; journals = js; onlys = os }
 
-      same : (f name : List ℕ) (ls locks : List Lock) (js journals : List (List ℕ)) → f ≡ name → ls ≡ locks → js ≡ journals → Some (asked f ls js) ≡ Some (asked name locks journals)
-      same f name ls locks js journals a b c = λ i. Some (asked (a i) (b i) (c i))
+      same : (f name : List ℕ) (ls locks : List Lock) (js journals : List (List ℕ)) (os onlys : List Only) → f ≡ name → ls ≡ locks → js ≡ journals → os ≡ onlys
+          → Some (asked f ls js os) ≡ Some (asked name locks journals onlys)
+      same f name ls locks js journals os onlys a b c d = λ i. Some (asked (a i) (b i) (c i) (d i))
 
 -- ---- write
 
@@ -259,6 +274,7 @@ unformatted k none (journal name ∷ items) h = unformatted k none items h.1
 unformatted k none (named_journal name ∷ items) h = unformatted k none items h.1
 unformatted k none (choice word text selection ∷ items) h = unformatted k none items h.1
 unformatted k none (rank number ∷ items) h = unformatted k none items h.1
+unformatted k none (only text wanted ∷ items) h = unformatted k none items h.1
 
 write_again : (p : List ℕ) (locks : List Lock) (journals rest : List (List ℕ)) (items : List Item) → is_name p ≡ true → rest ≡ flat_map item_words items → All (Admits of_write) items
     → locks ≡ locks_of items → journals ≡ journals_of items → write_in (p ∷ rest) ≡ Some (write p locks journals)
@@ -488,10 +504,10 @@ command_again words (view_text p view) h = by h.written where
   by : ((words ≡ codes "text" ∷ p ∷ []) × (view ≡ Final)) ⊎ (words ≡ codes "text" ∷ p ∷ codes "--view" ∷ view_name view ∷ []) → command_in words ≡ Some (view_text p view)
   by (inl w) = ap command_in w.0 ∙ text_line (p ∷ []) ∙ text_again (p ∷ []) p view h.name (inl (refl, w.1))
   by (inr w) = ap command_in w ∙ text_line (p ∷ codes "--view" ∷ view_name view ∷ []) ∙ text_again (p ∷ codes "--view" ∷ view_name view ∷ []) p view h.name (inr refl)
-command_again words (list p name locks journals) h =
-    ap command_in h.written ∙ list_line (p ∷ h.rest) ∙ ap (option_map as_list) (asked_again (codes "list") p name locks journals words h)
+command_again words (list p name locks journals onlys) h =
+    ap command_in h.written ∙ list_line (p ∷ h.rest) ∙ ap (option_map as_list) (asked_again (codes "list") p name locks journals onlys words h)
 command_again words (report p name locks journals) h =
-    ap command_in h.written ∙ report_line (p ∷ h.rest) ∙ ap (option_map as_report) (asked_again (codes "report") p name locks journals words h)
+    ap command_in h.written ∙ report_line (p ∷ h.rest) ∙ ap (λ asked. asked >>= as_report) (asked_again (codes "report") p name locks journals [] words h)
 command_again words (page p locks journals) h =
     ap command_in h.written ∙ page_line (p ∷ h.rest) ∙ page_again p locks journals h.rest h.items h.package_name h.are_items.written h.are_items.admitted h.locks_are h.journals_are
 command_again words (write p locks journals) h =
@@ -532,6 +548,7 @@ items_utf8 k (journal name ∷ items) a h = let r = items_utf8 k items a.1 h.1 i
 items_utf8 k (named_journal name ∷ items) a h = let r = items_utf8 k items a.1 h.1.1 in record { formats = r.formats; locks = r.locks; journals = (h.1.0, r.journals) }
 items_utf8 k (choice word text selection ∷ items) a h = let r = items_utf8 k items a.1 h.1.1 in record { formats = r.formats; locks = r.locks; journals = r.journals }
 items_utf8 k (rank number ∷ items) a h = let r = items_utf8 k items a.1 h.1.1 in record { formats = r.formats; locks = r.locks; journals = r.journals }
+items_utf8 k (only text wanted ∷ items) a h = let r = items_utf8 k items a.1 h.1.1 in record { formats = r.formats; locks = r.locks; journals = r.journals }
 
 -- ranks are at most 9
 low_ranks : (items : List Item) → AllByRecursion (Admits of_decide) items → AllByRecursion (λ number. number ≤ 9) (ranks_of items)
@@ -542,6 +559,7 @@ low_ranks (journal name ∷ items) a = absurd a.0
 low_ranks (named_journal name ∷ items) a = low_ranks items a.1
 low_ranks (choice word text selection ∷ items) a = low_ranks items a.1
 low_ranks (rank number ∷ items) a = (a.0, low_ranks items a.1)
+low_ranks (only text wanted ∷ items) a = absurd a.0
 
 low_rank : (ranks : List ℕ) (number : ℕ) → AllByRecursion (λ n. n ≤ 9) ranks → ((ranks ≡ []) × (number ≡ 0)) ⊎ (ranks ≡ number ∷ []) → number ≤ 9
 low_rank ranks number h (inl e) = let none = e.1 in omega arith
@@ -566,9 +584,9 @@ all_locks locks more h e = All-from_recursion LockHasUtf8 locks (subst (AllByRec
 all_utf8 : (texts more : List (List ℕ)) → AllByRecursion IsUtf8 more → texts ≡ more → All IsUtf8 texts
 all_utf8 texts more h e = All-from_recursion IsUtf8 texts (subst (AllByRecursion IsUtf8) (sym e) h)
 
-asked_utf8 : (word : List ℕ) (words : List (List ℕ)) (p name : List ℕ) (locks : List Lock) (journals : List (List ℕ)) (h : AsksFor word words p name locks journals) → AllByRecursion IsUtf8 words
+asked_utf8 : (word : List ℕ) (words : List (List ℕ)) (p name : List ℕ) (locks : List Lock) (journals : List (List ℕ)) (onlys : List Only) (h : AsksFor word words p name locks journals onlys) → AllByRecursion IsUtf8 words
     → IsUtf8 p × IsUtf8 name × All LockHasUtf8 locks × All IsUtf8 journals
-asked_utf8 word words p name locks journals h u =
+asked_utf8 word words p name locks journals onlys h u =
     let v : AllByRecursion IsUtf8 (word ∷ p ∷ h.rest) = subst (AllByRecursion IsUtf8) h.written u in
     let i = items_utf8 of_list h.items (recursion_from_All (Admits of_list) h.items h.are_items.admitted) (subst (AllByRecursion IsUtf8) h.are_items.written v.1.1) in
     (v.1.0, format_utf8 (formats_of h.items) name i.formats h.format, all_locks locks (locks_of h.items) i.locks h.locks_are, all_utf8 journals (journals_of h.items) i.journals h.journals_are)
@@ -580,8 +598,8 @@ command_utf8 words (view_text p view) h u = by h.written where
   by : ((words ≡ codes "text" ∷ p ∷ []) × (view ≡ Final)) ⊎ (words ≡ codes "text" ∷ p ∷ codes "--view" ∷ view_name view ∷ []) → IsUtf8 p
   by (inl w) = let v : AllByRecursion IsUtf8 (codes "text" ∷ p ∷ []) = subst (AllByRecursion IsUtf8) w.0 u in v.1.0
   by (inr w) = let v : AllByRecursion IsUtf8 (codes "text" ∷ p ∷ codes "--view" ∷ view_name view ∷ []) = subst (AllByRecursion IsUtf8) w u in v.1.0
-command_utf8 words (list p name locks journals) h u = asked_utf8 (codes "list") words p name locks journals h u
-command_utf8 words (report p name locks journals) h u = asked_utf8 (codes "report") words p name locks journals h u
+command_utf8 words (list p name locks journals onlys) h u = asked_utf8 (codes "list") words p name locks journals onlys h u
+command_utf8 words (report p name locks journals) h u = asked_utf8 (codes "report") words p name locks journals [] h u
 command_utf8 words (page p locks journals) h u =
     let v : AllByRecursion IsUtf8 (codes "page" ∷ p ∷ h.rest) = subst (AllByRecursion IsUtf8) h.written u in
     let i = items_utf8 of_write h.items (recursion_from_All (Admits of_write) h.items h.are_items.admitted) (subst (AllByRecursion IsUtf8) h.are_items.written v.1.1) in

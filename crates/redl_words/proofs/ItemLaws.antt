@@ -13,7 +13,7 @@ use Rattle.redl_select.specs.Selections.{Selection}
 use Rattle.redl_select.specs.declared.lock.Lock.{Lock}
 use Rattle.redl_select.specs.declared.lock.Lock.TheVariants.{Author, Kind as OfKind, Span}
 use Rattle.redl_words.specs.Selections.{Means, MeansLock}
-use Rattle.redl_words.specs.Items.{Item, format, lock, journal, named_journal, choice, rank, item_words, Admits, of_list, of_write, of_decide, Form as Kind, formats_of, locks_of, journals_of, choices_of, ranks_of, is_name, option_of, lock_option}
+use Rattle.redl_words.specs.Items.{Item, format, lock, journal, named_journal, choice, rank, only, item_words, Admits, of_list, of_write, of_decide, Form as Kind, formats_of, locks_of, journals_of, choices_of, ranks_of, onlys_of, is_name, option_of, lock_option}
 use Rattle.redl_words.specs.declared.options.Form.{Form}
 use Rattle.redl_words.specs.declared.options.Form.TheVariants as forms
 use Rattle.redl_words.specs.declared.options.Locked.{Locked}
@@ -26,9 +26,12 @@ use Rattle.redl_words.specs.Reading.Answers.{Fails, Finds}
 use Rattle.redl_words.specs.Reading.Locks.{lock_in}
 use Rattle.redl_words.specs.Reading.Ranks.{rank_in}
 use Rattle.redl_words.specs.Reading.Selections.{selection_in}
+use Rattle.redl_words.specs.Reading.Shown.{only_in}
+use Rattle.redl_words.specs.Shown.{Only, MeansOnly}
 use Rattle.redl_words.specs.Reading.Items.{Goes, Gathered, nothing, with_journal, with_plain_journal, has_plain_journals, deciding_option, locking_option, own_option, lock_or, option_in, with_format, with_rank, with_option, with_word, gathered}
 use Rattle.redl_words.proofs.LockLaws.{lock_on, locked_option, no_name, lock_takes, lock_again}
 use Rattle.redl_words.proofs.RankLaws.{rank_takes, rank_again}
+use Rattle.redl_words.proofs.ShownLaws.{only_takes, only_again}
 use Rattle.redl_words.proofs.SelectionLaws.{bytes_same, pick, selection_takes, selection_again}
 
 -- the form of the definition
@@ -78,6 +81,7 @@ pub record Says (before after : Gathered) (items : List Item) : Type 0 where
   pub journals : after.journals ≡ before.journals ++ journals_of items
   pub choices : after.choices ≡ before.choices ++ choices_of items
   pub rank : option_to_list after.rank ≡ option_to_list before.rank ++ ranks_of items
+  pub onlys : after.onlys ≡ before.onlys ++ onlys_of items
 
 -- the words are those of one item that the form admits
 pub record Turned (form : Form) (words : List (List ℕ)) (before after : Gathered) : Type 0 where
@@ -93,7 +97,7 @@ plain_takes : (form : Form) (word : List ℕ) (before after : Gathered) → is_n
 unfolding with_plain_journal
 plain_takes form word before after name e = of form e where
   says : Says before (with_journal word before) (journal word ∷ [])
-  says = record { format = sym (append-nil _); locks = sym (append-nil _); journals = refl; choices = sym (append-nil _); rank = sym (append-nil _) }
+  says = record { format = sym (append-nil _); locks = sym (append-nil _); journals = refl; choices = sym (append-nil _); rank = sym (append-nil _); onlys = sym (append-nil _) }
 
   of : (form : Form) → cond (has_plain_journals form) (Some (with_journal word before)) None ≡ Some after → Turned form (word ∷ []) before after
   of forms.List e = record { item = journal word; written = refl; admitted = name; says = says_same before after (with_journal word before) (journal word ∷ []) (same_Some (with_journal word before) after e) says }
@@ -103,6 +107,7 @@ plain_takes form word before after name e = of form e where
 -- the word is the text of the option, and the form has it
 abbrev Has : Form → List ℕ → ItemOption → Type 0
 Has forms.List word options.Format = word ≡ codes "--format"
+Has forms.List word options.Only = word ≡ codes "--only"
 Has form word (options.Lock on) = word ≡ locked_option on
 Has forms.Decide word options.Journal = word ≡ codes "--journal"
 Has forms.Decide word (options.Choice decision) = word ≡ option_of decision
@@ -129,8 +134,8 @@ locking_takes word on e =
 
 own_takes : (form : Form) (word : List ℕ) (o : ItemOption) → own_option form word ≡ Some o → Has form word o
 own_takes forms.List word o e =
-    let c = cond_some (bytes_eq word (codes "--format")) options.Format o e in
-    subst (Has forms.List word) c.1 (bytes_same word (codes "--format") c.0)
+    pick (Has forms.List word) (bytes_eq word (codes "--format")) options.Format _ o e (λ hit. bytes_same word (codes "--format") hit) (λ e.
+    pick (Has forms.List word) (bytes_eq word (codes "--only")) options.Only _ o e (λ hit. bytes_same word (codes "--only") hit) (λ e. absurd cc))
 own_takes forms.Write word o e = absurd cc
 own_takes forms.Decide word o e = deciding_takes word o e
 
@@ -160,6 +165,7 @@ value_takes form word value options.Format before after has e = of form has befo
       journals = sym (append-nil _);
       choices = sym (append-nil _);
       rank = sym (append-nil _);
+      onlys = sym (append-nil _);
     });
   }
   of forms.List has (Some other) is e = absurd cc
@@ -183,6 +189,7 @@ value_takes form word value (options.Lock on) before after has e = of form has w
       journals = sym (append-nil _);
       choices = sym (append-nil _);
       rank = sym (append-nil _);
+      onlys = sym (append-nil _);
     });
   }
 
@@ -206,6 +213,7 @@ value_takes form word value options.Journal before after has e = of form has whe
           journals = refl;
           choices = sym (append-nil _);
           rank = sym (append-nil _);
+          onlys = sym (append-nil _);
         });
       }
 value_takes form word value (options.Choice decision) before after has e = of form has where
@@ -225,6 +233,7 @@ value_takes form word value (options.Choice decision) before after has e = of fo
           journals = sym (append-nil _);
           choices = refl;
           rank = sym (append-nil _);
+          onlys = sym (append-nil _);
         });
       }
 value_takes form word value options.Rank before after has e = of form has before.rank refl e where
@@ -246,6 +255,27 @@ value_takes form word value options.Rank before after has e = of form has before
           journals = sym (append-nil _);
           choices = sym (append-nil _);
           rank = ap (λ (o : Option ℕ). option_to_list o ++ r.0 ∷ []) (sym is);
+          onlys = sym (append-nil _);
+        });
+      }
+value_takes form word value options.Only before after has e = of form has where
+  of : (form : Form) → Has form word options.Only → Turned form (word ∷ value ∷ []) before after
+  of forms.Write has = absurd has
+  of forms.Decide has = absurd has
+  of forms.List has =
+      let w = bind_some (only_in value) _ after e in
+      let made : Gathered = record before { onlys = before.onlys ++ w.0 ∷ [] } in
+      record {
+        item = only value w.0;
+        written = ap (λ (w : List ℕ). w ∷ value ∷ []) has;
+        admitted = only_takes value w.0 w.1;
+        says = says_same before after made (only value w.0 ∷ []) (same_Some made after w.2) (record {
+          format = sym (append-nil _);
+          locks = sym (append-nil _);
+          journals = sym (append-nil _);
+          choices = sym (append-nil _);
+          rank = sym (append-nil _);
+          onlys = refl;
         });
       }
 
@@ -270,6 +300,7 @@ formats_more (journal name) items = refl
 formats_more (named_journal name) items = refl
 formats_more (choice word text selection) items = refl
 formats_more (rank number) items = refl
+formats_more (only text wanted) items = refl
 
 locks_more : (item : Item) (items : List Item) → locks_of (item ∷ items) ≡ locks_of (item ∷ []) ++ locks_of items
 locks_more (format name) items = refl
@@ -278,6 +309,7 @@ locks_more (journal name) items = refl
 locks_more (named_journal name) items = refl
 locks_more (choice word text selection) items = refl
 locks_more (rank number) items = refl
+locks_more (only text wanted) items = refl
 
 journals_more : (item : Item) (items : List Item) → journals_of (item ∷ items) ≡ journals_of (item ∷ []) ++ journals_of items
 journals_more (format name) items = refl
@@ -286,6 +318,7 @@ journals_more (journal name) items = refl
 journals_more (named_journal name) items = refl
 journals_more (choice word text selection) items = refl
 journals_more (rank number) items = refl
+journals_more (only text wanted) items = refl
 
 choices_more : (item : Item) (items : List Item) → choices_of (item ∷ items) ≡ choices_of (item ∷ []) ++ choices_of items
 choices_more (format name) items = refl
@@ -294,6 +327,7 @@ choices_more (journal name) items = refl
 choices_more (named_journal name) items = refl
 choices_more (choice word text selection) items = refl
 choices_more (rank number) items = refl
+choices_more (only text wanted) items = refl
 
 ranks_more : (item : Item) (items : List Item) → ranks_of (item ∷ items) ≡ ranks_of (item ∷ []) ++ ranks_of items
 ranks_more (format name) items = refl
@@ -302,6 +336,16 @@ ranks_more (journal name) items = refl
 ranks_more (named_journal name) items = refl
 ranks_more (choice word text selection) items = refl
 ranks_more (rank number) items = refl
+ranks_more (only text wanted) items = refl
+
+onlys_more : (item : Item) (items : List Item) → onlys_of (item ∷ items) ≡ onlys_of (item ∷ []) ++ onlys_of items
+onlys_more (format name) items = refl
+onlys_more (lock text of_lock) items = refl
+onlys_more (journal name) items = refl
+onlys_more (named_journal name) items = refl
+onlys_more (choice word text selection) items = refl
+onlys_more (rank number) items = refl
+onlys_more (only text wanted) items = refl
 
 regroup : {A : Type 0} (before one more all between after : List A) → after ≡ between ++ more → between ≡ before ++ one → all ≡ one ++ more → after ≡ before ++ all
 regroup before one more all between after e f g = e ∙ ap (λ l. l ++ more) f ∙ append_assoc before one more ∙ ap (λ l. before ++ l) (sym g)
@@ -317,6 +361,7 @@ one_more form words later before between after t r = record {
     journals = regroup before.journals (journals_of (t.item ∷ [])) (journals_of r.items) (journals_of (t.item ∷ r.items)) between.journals after.journals r.says.journals t.says.journals (journals_more t.item r.items);
     choices = regroup before.choices (choices_of (t.item ∷ [])) (choices_of r.items) (choices_of (t.item ∷ r.items)) between.choices after.choices r.says.choices t.says.choices (choices_more t.item r.items);
     rank = regroup (option_to_list before.rank) (ranks_of (t.item ∷ [])) (ranks_of r.items) (ranks_of (t.item ∷ r.items)) (option_to_list between.rank) (option_to_list after.rank) r.says.rank t.says.rank (ranks_more t.item r.items);
+    onlys = regroup before.onlys (onlys_of (t.item ∷ [])) (onlys_of r.items) (onlys_of (t.item ∷ r.items)) between.onlys after.onlys r.says.onlys t.says.onlys (onlys_more t.item r.items);
   };
 }
 
@@ -325,7 +370,7 @@ nothing_more form before after e = record {
   items = [];
   written = refl;
   admitted = tt;
-  says = says_same before after before [] e (record { format = sym (append-nil _); locks = sym (append-nil _); journals = sym (append-nil _); choices = sym (append-nil _); rank = sym (append-nil _) });
+  says = says_same before after before [] e (record { format = sym (append-nil _); locks = sym (append-nil _); journals = sym (append-nil _); choices = sym (append-nil _); rank = sym (append-nil _); onlys = sym (append-nil _) });
 }
 
 pub items_take : (form : Form) (words : List (List ℕ)) (before after : Gathered) → gathered form before words ≡ Some after → Read form words before after
@@ -364,6 +409,7 @@ with_item (journal name) items = record items { journals = items.journals ++ nam
 with_item (named_journal name) items = record items { journals = items.journals ++ name ∷ [] }
 with_item (choice word text selection) items = record items { choices = items.choices ++ (word, selection) ∷ [] }
 with_item (rank number) items = record items { rank = Some number }
+with_item (only text wanted) items = record items { onlys = items.onlys ++ wanted ∷ [] }
 
 -- what is gathered with items more
 abbrev pub with_items : List Item → Gathered → Gathered
@@ -418,6 +464,14 @@ with_one_rank number items low single = fresh items.rank refl single where
   fresh None is single = rw (rank_again number low) refl
   fresh (Some other) is single = absurd (omega arith)
 
+with_only : (text : List ℕ) (wanted : Only) (items : Gathered) → MeansOnly text wanted → with_option options.Only text items ≡ Some (with_item (only text wanted) items)
+unfolding with_option
+with_only text wanted items h = rw (only_again text wanted h) refl
+
+only_option : (value : List ℕ) (items : Gathered) → with_word forms.List (codes "--only") value items ≡ with_option options.Only value items
+unfolding with_word option_in locking_option
+only_option value items = refl
+
 turn_again : (form : Form) (item : Item) (before : Gathered) (later : List (List ℕ)) → Admits (form_of form) item → Single before (item ∷ [])
     → gathered form before (item_words item ++ later) ≡ gathered form (with_item item before) later
 unfolding with_plain_journal with_word option_in locking_option deciding_option with_option
@@ -430,12 +484,15 @@ turn_again forms.List (journal name) before later h single = goes_plain forms.Li
 turn_again forms.List (named_journal name) before later h single = absurd h
 turn_again forms.List (choice word text selection) before later h single = absurd h
 turn_again forms.List (rank number) before later h single = absurd h
+turn_again forms.List (only text wanted) before later h single =
+    goes_pair forms.List before (with_item (only text wanted) before) (codes "--only") text later refl (only_option text before ∙ with_only text wanted before h)
 turn_again forms.Write (format name) before later h single = absurd h
 turn_again forms.Write (lock text of_lock) before later h single = lock_again_in forms.Write of_lock text before later h
 turn_again forms.Write (journal name) before later h single = goes_plain forms.Write before (with_item (journal name) before) name later h refl
 turn_again forms.Write (named_journal name) before later h single = absurd h
 turn_again forms.Write (choice word text selection) before later h single = absurd h
 turn_again forms.Write (rank number) before later h single = absurd h
+turn_again forms.Write (only text wanted) before later h single = absurd h
 turn_again forms.Decide (format name) before later h single = absurd h
 turn_again forms.Decide (lock text of_lock) before later h single = lock_again_in forms.Decide of_lock text before later h
 turn_again forms.Decide (journal name) before later h single = absurd h
@@ -445,6 +502,7 @@ turn_again forms.Decide (choice word text selection) before later h single =
     (choice_option word text before ∙ with_choice word text selection before h)
 turn_again forms.Decide (rank number) before later h single =
     goes_pair forms.Decide before (with_item (rank number) before) (codes "--rank") (decimal number) later refl (rank_option (decimal number) before ∙ with_one_rank number before h single.rank)
+turn_again forms.Decide (only text wanted) before later h single = absurd h
 
 single_first : (item : Item) (before : Gathered) (more : List Item) → Single before (item ∷ more) → Single before (item ∷ [])
 single_first (format name) before more h = record { format = omega arith; rank = omega arith }
@@ -453,6 +511,7 @@ single_first (journal name) before more h = record { format = omega arith; rank 
 single_first (named_journal name) before more h = record { format = omega arith; rank = omega arith }
 single_first (choice word text selection) before more h = record { format = omega arith; rank = omega arith }
 single_first (rank number) before more h = record { format = omega arith; rank = omega arith }
+single_first (only text wanted) before more h = record { format = omega arith; rank = omega arith }
 
 single_later : (item : Item) (before : Gathered) (more : List Item) → Single before (item ∷ more) → Single (with_item item before) more
 single_later (format name) before more h = record { format = omega arith; rank = h.rank }
@@ -461,6 +520,7 @@ single_later (journal name) before more h = record { format = h.format; rank = h
 single_later (named_journal name) before more h = record { format = h.format; rank = h.rank }
 single_later (choice word text selection) before more h = record { format = h.format; rank = h.rank }
 single_later (rank number) before more h = record { format = h.format; rank = omega arith }
+single_later (only text wanted) before more h = record { format = h.format; rank = h.rank }
 
 pub items_again : (form : Form) (items : List Item) (before : Gathered) → AllByRecursion (Admits (form_of form)) items → Single before items
     → gathered form before (flat_map item_words items) ≡ Some (with_items items before)
@@ -471,7 +531,7 @@ items_again form (item ∷ items) before h single =
 
 -- what items say on top of nothing
 says_items : (items : List Item) (before : Gathered) → Single before items → Says before (with_items items before) items
-says_items [] before single = record { format = sym (append-nil _); locks = sym (append-nil _); journals = sym (append-nil _); choices = sym (append-nil _); rank = sym (append-nil _) }
+says_items [] before single = record { format = sym (append-nil _); locks = sym (append-nil _); journals = sym (append-nil _); choices = sym (append-nil _); rank = sym (append-nil _); onlys = sym (append-nil _) }
 says_items (item ∷ items) before single =
     let first = says_item item before (single_first item before items single) in
     let rest = says_items items (with_item item before) (single_later item before items single) in
@@ -481,20 +541,22 @@ says_items (item ∷ items) before single =
       journals = regroup before.journals (journals_of (item ∷ [])) (journals_of items) (journals_of (item ∷ items)) (with_item item before).journals (with_items (item ∷ items) before).journals rest.journals first.journals (journals_more item items);
       choices = regroup before.choices (choices_of (item ∷ [])) (choices_of items) (choices_of (item ∷ items)) (with_item item before).choices (with_items (item ∷ items) before).choices rest.choices first.choices (choices_more item items);
       rank = regroup (option_to_list before.rank) (ranks_of (item ∷ [])) (ranks_of items) (ranks_of (item ∷ items)) (option_to_list (with_item item before).rank) (option_to_list (with_items (item ∷ items) before).rank) rest.rank first.rank (ranks_more item items);
+      onlys = regroup before.onlys (onlys_of (item ∷ [])) (onlys_of items) (onlys_of (item ∷ items)) (with_item item before).onlys (with_items (item ∷ items) before).onlys rest.onlys first.onlys (onlys_more item items);
     } where
       says_item : (item : Item) (before : Gathered) → Single before (item ∷ []) → Says before (with_item item before) (item ∷ [])
-      says_item (format name) before single = record { format = fresh before.format single.format; locks = sym (append-nil _); journals = sym (append-nil _); choices = sym (append-nil _); rank = sym (append-nil _) } where
+      says_item (format name) before single = record { format = fresh before.format single.format; locks = sym (append-nil _); journals = sym (append-nil _); choices = sym (append-nil _); rank = sym (append-nil _); onlys = sym (append-nil _) } where
         fresh : (f : Option (List ℕ)) → length (option_to_list f) + 1 ≤ 1 → name ∷ [] ≡ option_to_list f ++ name ∷ []
         fresh None single = refl
         fresh (Some other) single = absurd (omega arith)
-      says_item (lock text of_lock) before single = record { format = sym (append-nil _); locks = refl; journals = sym (append-nil _); choices = sym (append-nil _); rank = sym (append-nil _) }
-      says_item (journal name) before single = record { format = sym (append-nil _); locks = sym (append-nil _); journals = refl; choices = sym (append-nil _); rank = sym (append-nil _) }
-      says_item (named_journal name) before single = record { format = sym (append-nil _); locks = sym (append-nil _); journals = refl; choices = sym (append-nil _); rank = sym (append-nil _) }
-      says_item (choice word text selection) before single = record { format = sym (append-nil _); locks = sym (append-nil _); journals = sym (append-nil _); choices = refl; rank = sym (append-nil _) }
-      says_item (rank number) before single = record { format = sym (append-nil _); locks = sym (append-nil _); journals = sym (append-nil _); choices = sym (append-nil _); rank = fresh before.rank single.rank } where
+      says_item (lock text of_lock) before single = record { format = sym (append-nil _); locks = refl; journals = sym (append-nil _); choices = sym (append-nil _); rank = sym (append-nil _); onlys = sym (append-nil _) }
+      says_item (journal name) before single = record { format = sym (append-nil _); locks = sym (append-nil _); journals = refl; choices = sym (append-nil _); rank = sym (append-nil _); onlys = sym (append-nil _) }
+      says_item (named_journal name) before single = record { format = sym (append-nil _); locks = sym (append-nil _); journals = refl; choices = sym (append-nil _); rank = sym (append-nil _); onlys = sym (append-nil _) }
+      says_item (choice word text selection) before single = record { format = sym (append-nil _); locks = sym (append-nil _); journals = sym (append-nil _); choices = refl; rank = sym (append-nil _); onlys = sym (append-nil _) }
+      says_item (rank number) before single = record { format = sym (append-nil _); locks = sym (append-nil _); journals = sym (append-nil _); choices = sym (append-nil _); rank = fresh before.rank single.rank; onlys = sym (append-nil _) } where
         fresh : (r : Option ℕ) → length (option_to_list r) + 1 ≤ 1 → number ∷ [] ≡ option_to_list r ++ number ∷ []
         fresh None single = refl
         fresh (Some other) single = absurd (omega arith)
+      says_item (only text wanted) before single = record { format = sym (append-nil _); locks = sym (append-nil _); journals = sym (append-nil _); choices = sym (append-nil _); rank = sym (append-nil _); onlys = refl }
 
 -- the words of items are read, and give what the items say
 pub record ReadAgain (form : Form) (words : List (List ℕ)) (items : List Item) : Type 0 where
@@ -505,6 +567,7 @@ pub record ReadAgain (form : Form) (words : List (List ℕ)) (items : List Item)
   pub journals : after.journals ≡ journals_of items
   pub choices : after.choices ≡ choices_of items
   pub rank : option_to_list after.rank ≡ ranks_of items
+  pub onlys : after.onlys ≡ onlys_of items
 
 pub read_again : (form : Form) (items : List Item) (words : List (List ℕ)) → words ≡ flat_map item_words items → AllByRecursion (Admits (form_of form)) items
     → length (formats_of items) ≤ 1 → length (ranks_of items) ≤ 1 → ReadAgain form words items
@@ -519,6 +582,7 @@ read_again form items words e h formats ranks =
       journals = says.journals;
       choices = says.choices;
       rank = says.rank;
+      onlys = says.onlys;
     }
 
 -- ---- the same from the facts of the code

@@ -1,6 +1,7 @@
 pub mod DateLaws
 pub mod SelectionLaws
 pub mod LockLaws
+pub mod ShownLaws
 pub mod RankLaws
 pub mod ItemLaws
 pub mod CommandLaws

@@ -7,7 +7,8 @@ use Rattle.redl_select.specs.declared.lock.Lock.{Lock}
 use Rattle.redl_select.specs.declared.lock.Lock.TheVariants.{Author, Kind, Span}
 use Rattle.redl_words.specs.declared.command.View.{View}
 use Rattle.redl_words.specs.declared.command.View.TheVariants.{Original, Final, Marked}
-use Rattle.redl_words.specs.Items.{Item, AreItems, of_list, of_write, of_decide, is_name, formats_of, locks_of, journals_of, choices_of, ranks_of}
+use Rattle.redl_words.specs.Items.{Item, AreItems, of_list, of_write, of_decide, is_name, formats_of, locks_of, journals_of, choices_of, ranks_of, onlys_of}
+use Rattle.redl_words.specs.Shown.{Only}
 
 -- what the words ask for; names, texts of authors and of formats are lists of bytes
 pub data Command : Type 0 where
@@ -15,8 +16,8 @@ pub data Command : Type 0 where
   settle : Bool → List ℕ → Command
   -- the text of the package in this view
   view_text : List ℕ → View → Command
-  -- the revisions of the package in the format of this name, with locks and journals
-  list : List ℕ → List ℕ → List Lock → List (List ℕ) → Command
+  -- the revisions of the package in the format of this name, with locks and journals, and of these what each shows
+  list : List ℕ → List ℕ → List Lock → List (List ℕ) → List Only → Command
   -- a page of the package's revisions for a browser, with locks and journals
   page : List ℕ → List Lock → List (List ℕ) → Command
   -- where each reviewer and each author of the package's revisions stands, in the format of this name, with locks and journals
@@ -56,7 +57,7 @@ pub record IsText (words : List (List ℕ)) (p : List ℕ) (view : View) : Type 
   pub name : IsTrue (is_name p)
 
 -- this word, a package and items of `list`; without `--format` the format is `text`, and it is given once at most
-pub record AsksFor (word : List ℕ) (words : List (List ℕ)) (p name : List ℕ) (locks : List Lock) (journals : List (List ℕ)) : Type 0 where
+pub record AsksFor (word : List ℕ) (words : List (List ℕ)) (p name : List ℕ) (locks : List Lock) (journals : List (List ℕ)) (onlys : List Only) : Type 0 where
   pub items : List Item
   pub rest : List (List ℕ)
   pub written : words ≡ word ∷ p ∷ rest
@@ -65,6 +66,7 @@ pub record AsksFor (word : List ℕ) (words : List (List ℕ)) (p name : List �
   pub format : ((formats_of items ≡ []) × (name ≡ codes "text")) ⊎ (formats_of items ≡ name ∷ [])
   pub locks_are : locks ≡ locks_of items
   pub journals_are : journals ≡ journals_of items
+  pub onlys_are : onlys ≡ onlys_of items
 
 -- `page P` and the items that `write` may have
 pub record IsPage (words : List (List ℕ)) (p : List ℕ) (locks : List Lock) (journals : List (List ℕ)) : Type 0 where
@@ -77,12 +79,12 @@ pub record IsPage (words : List (List ℕ)) (p : List ℕ) (locks : List Lock) (
   pub journals_are : journals ≡ journals_of items
 
 -- `list P` and items
-abbrev pub IsList : List (List ℕ) → List ℕ → List ℕ → List Lock → List (List ℕ) → Type 0
+abbrev pub IsList : List (List ℕ) → List ℕ → List ℕ → List Lock → List (List ℕ) → List Only → Type 0
 IsList = AsksFor (codes "list")
 
--- `report P` and the items of `list`
+-- `report P` and the items of `list` but for `--only`
 abbrev pub IsReport : List (List ℕ) → List ℕ → List ℕ → List Lock → List (List ℕ) → Type 0
-IsReport = AsksFor (codes "report")
+IsReport words p name locks journals = AsksFor (codes "report") words p name locks journals []
 
 -- `write P` and items
 pub record IsWrite (words : List (List ℕ)) (p : List ℕ) (locks : List Lock) (journals : List (List ℕ)) : Type 0 where
@@ -128,7 +130,7 @@ pub record IsSample (words : List (List ℕ)) (number : ℕ) : Type 0 where
 abbrev pub IsCommand : List (List ℕ) → Command → Type 0
 IsCommand words (settle accept p) = IsSettle words accept p
 IsCommand words (view_text p view) = IsText words p view
-IsCommand words (list p name locks journals) = IsList words p name locks journals
+IsCommand words (list p name locks journals onlys) = IsList words p name locks journals onlys
 IsCommand words (page p locks journals) = IsPage words p locks journals
 IsCommand words (report p name locks journals) = IsReport words p name locks journals
 IsCommand words (write p locks journals) = IsWrite words p locks journals
@@ -151,7 +153,7 @@ LockHasUtf8 (Span start end) = Unit {0}
 abbrev pub HasUtf8 : Command → Type 0
 HasUtf8 (settle accept p) = IsUtf8 p
 HasUtf8 (view_text p view) = IsUtf8 p
-HasUtf8 (list p name locks journals) = IsUtf8 p × IsUtf8 name × All LockHasUtf8 locks × All IsUtf8 journals
+HasUtf8 (list p name locks journals onlys) = IsUtf8 p × IsUtf8 name × All LockHasUtf8 locks × All IsUtf8 journals
 HasUtf8 (page p locks journals) = IsUtf8 p × All LockHasUtf8 locks × All IsUtf8 journals
 HasUtf8 (report p name locks journals) = IsUtf8 p × IsUtf8 name × All LockHasUtf8 locks × All IsUtf8 journals
 HasUtf8 (write p locks journals) = IsUtf8 p × All LockHasUtf8 locks × All IsUtf8 journals

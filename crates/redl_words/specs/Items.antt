@@ -7,6 +7,7 @@ use Rattle.redl_select.specs.Selections.{Selection}
 use Rattle.redl_select.specs.declared.lock.Lock.{Lock}
 use Rattle.redl_select.specs.declared.lock.Lock.TheVariants.{Author, Kind, Span}
 use Rattle.redl_words.specs.Selections.{Means, MeansLock}
+use Rattle.redl_words.specs.Shown.{Only, MeansOnly}
 
 -- a file name: not empty, and it doesn't begin with a dash
 abbrev pub is_name : List ℕ → Bool
@@ -29,6 +30,8 @@ pub data Item : Type 0 where
   choice : Word → List ℕ → Selection → Item
   -- `--rank` and a rank
   rank : ℕ → Item
+  -- `--only` and the text of what is shown
+  only : List ℕ → Only → Item
 
 -- the option that decides by this word
 abbrev pub option_of : Word → List ℕ
@@ -50,6 +53,7 @@ item_words (journal name) = name ∷ []
 item_words (named_journal name) = codes "--journal" ∷ name ∷ []
 item_words (choice word text selection) = option_of word ∷ text ∷ []
 item_words (rank number) = codes "--rank" ∷ decimal number ∷ []
+item_words (only text wanted) = codes "--only" ∷ text ∷ []
 
 -- the commands that have items
 pub data Form : Type 0 where
@@ -62,6 +66,7 @@ abbrev pub Admits : Form → Item → Type 0
 Admits of_list (format name) = Unit {0}
 Admits of_list (lock text of_lock) = MeansLock text of_lock
 Admits of_list (journal name) = IsTrue (is_name name)
+Admits of_list (only text wanted) = MeansOnly text wanted
 Admits of_write (lock text of_lock) = MeansLock text of_lock
 Admits of_write (journal name) = IsTrue (is_name name)
 Admits of_decide (lock text of_lock) = MeansLock text of_lock
@@ -97,6 +102,11 @@ abbrev pub ranks_of : List Item → List ℕ
 ranks_of [] = []
 ranks_of (rank number ∷ items) = number ∷ ranks_of items
 ranks_of (_ ∷ items) = ranks_of items
+
+abbrev pub onlys_of : List Item → List Only
+onlys_of [] = []
+onlys_of (only text wanted ∷ items) = wanted ∷ onlys_of items
+onlys_of (_ ∷ items) = onlys_of items
 
 -- The words are those of these items, in any order and with repeats, and the command may have each of them.
 pub record AreItems (form : Form) (words : List (List ℕ)) (items : List Item) : Type 0 where

@@ -1,4 +1,5 @@
 pub mod Selections
+pub mod Shown
 pub mod Items
 pub mod Commands
 pub mod Views

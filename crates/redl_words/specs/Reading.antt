@@ -3,5 +3,6 @@ pub mod Answers
 pub mod Selections
 pub mod Locks
 pub mod Ranks
+pub mod Shown
 pub mod Items
 pub mod Commands

@@ -5,6 +5,9 @@ use Rattle.redl_select.specs.declared.selection.Selection as code_selection
 use Rattle.redl_select.specs.Selections.{Selection}
 use Rattle.redl_select.specs.Views.{selection_of}
 use Rattle.redl_words.specs.declared.command.Command as code
+use Rattle.redl_words.specs.declared.only.Only as code_only
+use Rattle.redl_words.specs.declared.only.Only.TheVariants as onlys
+use Rattle.redl_words.specs.Shown.{Only, chosen, decided}
 use Rattle.redl_words.specs.declared.command.Command.TheVariants as variants
 use Rattle.redl_words.specs.Commands.{Command, settle, view_text, list, report, page, write, decide, join, check, sample}
 
@@ -12,10 +15,18 @@ use Rattle.redl_words.specs.Commands.{Command, settle, view_text, list, report, 
 abbrev pub choices_view : List (Word × code_selection.Selection) → List (Word × Selection)
 choices_view choices = map (λ choice. (choice.0, selection_of choice.1)) choices
 
+-- what is shown, with its selections as plain data
+abbrev pub only_of : code_only.Only → Only
+only_of (onlys.Chosen selection) = chosen (selection_of selection)
+only_of (onlys.Decided verdict) = decided verdict
+
+abbrev pub onlys_view : List code_only.Only → List Only
+onlys_view = map only_of
+
 abbrev pub command_of : code.Command → Command
 command_of (variants.Settle accept p) = settle accept p
 command_of (variants.Text p view) = view_text p view
-command_of (variants.List p name locks journals) = list p name locks.items journals.items
+command_of (variants.List p name locks journals only) = list p name locks.items journals.items (onlys_view only.items)
 command_of (variants.Page p locks journals) = page p locks.items journals.items
 command_of (variants.Report p name locks journals) = report p name locks.items journals.items
 command_of (variants.Write p locks journals) = write p locks.items journals.items

@@ -1,5 +1,6 @@
 //! Commands.
 
+use crate::only::Only;
 use redl_io::Text;
 use redl_journal::Word;
 use redl_select::{Lock, Selection};
@@ -25,12 +26,13 @@ pub enum Command {
         package: Text,
         view: View,
     },
-    /// A list of the package's revisions in the format of this name.
+    /// A list of the package's revisions in the format of this name, of those alone that each of `only` shows.
     List {
         package: Text,
         format: Text,
         locks: Vec<Lock>,
         journals: Vec<Text>,
+        only: Vec<Only>,
     },
     /// A page of the package's revisions, on which a reviewer decides in a browser.
     Page {

@@ -7,6 +7,7 @@ ghost use Rattle.redl_words.specs.Reading.Items.{Goes, gathered, items_view, not
 use crate::error::WordsError;
 use crate::locks::read_lock;
 use crate::names::{add_copy, is_file_name};
+use crate::only::{Only, read_only};
 use crate::options::{Form, ItemOption, Locked, read_option};
 use crate::ranks::read_rank;
 use crate::selections::read_selection;
@@ -24,6 +25,7 @@ pub(crate) struct Items {
     pub journals: Vec<Text>,
     pub choices: Vec<(Word, Selection)>,
     pub rank: Option<u8>,
+    pub only: Vec<Only>,
 }
 
 impl Items {
@@ -37,6 +39,7 @@ impl Items {
             journals: Vec::new(alloc),
             choices: Vec::new(alloc),
             rank: None,
+            only: Vec::new(alloc),
         }
     }
 
@@ -120,6 +123,18 @@ impl Items {
         Ok(())
     }
 
+    /// Adds which revisions are shown.
+    #[tactic(auto, unfolding(crate::specs::Reading::Items::with_option))]
+    fn add_only(&mut self, alloc: Global, text: &Text) -> Result<(), WordsError>
+        requires { IsUtf8 text.now }
+        ensures { Finds (λ _. items_view self.new) result (with_option ItemOption.Only text.now (items_view self.old)) }
+    {
+        let text = str::from_utf8(text.as_bytes()).unwrap();
+        let only = read_only(alloc, text)?;
+        self.only.push(only)?;
+        Ok(())
+    }
+
     /// Adds what an option and its value say.
     fn add_option(
         &mut self,
@@ -136,6 +151,7 @@ impl Items {
             ItemOption::Journal => self.add_journal(alloc, value),
             ItemOption::Choice(word) => self.add_choice(alloc, word, value),
             ItemOption::Rank => self.set_rank(value),
+            ItemOption::Only => self.add_only(alloc, value),
         }
     }
 

@@ -22,7 +22,8 @@ pub(crate) enum Locked {
 }
 
 /// What an option says of the word after it: the name of a format, what is locked, the name of a journal, what the reviewer
-/// decides on a selection, or the reviewer's rank.
+/// decides on a selection, the reviewer's rank, or
+/// which revisions are shown.
 #[derive(Clone, Copy)]
 pub(crate) enum ItemOption {
     Format,
@@ -30,6 +31,7 @@ pub(crate) enum ItemOption {
     Journal,
     Choice(Word),
     Rank,
+    Only,
 }
 
 /// The option that a word is in a command of this form.
@@ -65,6 +67,7 @@ fn own_option(form: Form, word: &[u8]) -> Option<ItemOption>
 {
     match form {
         Form::List if word == b"--format".as_slice() => Some(ItemOption::Format),
+        Form::List if word == b"--only".as_slice() => Some(ItemOption::Only),
         Form::List | Form::Write => None,
         Form::Decide => deciding_option(word),
     }

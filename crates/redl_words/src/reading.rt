@@ -10,6 +10,7 @@ use crate::command::{Command, View};
 use crate::error::WordsError;
 use crate::items::read_items;
 use crate::names::{is_file_name, read_names};
+use crate::only::Only;
 use crate::options::Form;
 use crate::verb::{Verb, read_verb};
 use redl_io::Text;
@@ -142,6 +143,7 @@ fn read_list(alloc: Global, words: &[Text]) -> Result<Command, WordsError>
         format: asked.format,
         locks: asked.locks,
         journals: asked.journals,
+        only: asked.only,
     })
 }
 
@@ -151,6 +153,9 @@ fn read_report(alloc: Global, words: &[Text]) -> Result<Command, WordsError>
     ensures { Finds command_of result (report_in words.now) }
 {
     let asked = read_asked(alloc, words)?;
+    if !asked.only.is_empty() {
+        return Err(WordsError::Usage);
+    }
     Ok(Command::Report {
         package: asked.package,
         format: asked.format,
@@ -159,13 +164,14 @@ fn read_report(alloc: Global, words: &[Text]) -> Result<Command, WordsError>
     })
 }
 
-/// What is asked of a package: a format of this name, with locks and journals.
+/// What is asked of a package: a format of this name, with locks and journals, and which revisions are shown.
 #[derive(Drop)]
 struct Asked {
     package: Text,
     format: Text,
     locks: Vec<Lock>,
     journals: Vec<Text>,
+    only: Vec<Only>,
 }
 
 /// The words after `list` or `report`.
@@ -188,6 +194,7 @@ fn read_asked(alloc: Global, words: &[Text]) -> Result<Asked, WordsError>
         format,
         locks: items.locks,
         journals: items.journals,
+        only: items.only,
     })
 }
 

@@ -4,7 +4,7 @@ ghost use Rattle.std.specs.Prelude.{All, IfOk, IsUtf8};
 use redl_io::Text;
 use redl_journal::Word;
 use redl_select::{Lock, Selection};
-use redl_words::{Command, WordsError, read_words};
+use redl_words::{Command, Only, WordsError, read_words};
 use std::alloc::{AllocError, Global};
 use std::str::from_utf8;
 use std::test::Fail;
@@ -112,14 +112,34 @@ fn with_texts(
     format!(in alloc; "{front} locks {locks} journals {journals}")
 }
 
+fn only_shown(alloc: Global, only: &Only) -> Result<String, AllocError> {
+    match only {
+        Only::Chosen(selection) => selection_shown(alloc, selection),
+        Only::Decided(verdict) => format!(in alloc; "{verdict:?}"),
+    }
+}
+
+// What is shown, with ` only ` before each.
+fn onlys_shown(alloc: Global, onlys: &[Only]) -> Result<String, AllocError> {
+    let mut all = String::new(alloc);
+    for only in onlys {
+        let only = only_shown(alloc, only)?;
+        all.push_str(" only ")?;
+        all.push_str(only.as_str())?;
+    }
+    Ok(all)
+}
+
 fn asked_shown(
     alloc: Global,
     word: &str,
     names: (&Text, &Text),
     locks: &[Lock],
     journals: &[Text],
+    onlys: &[Only],
 ) -> Result<String, AllocError> {
-    let front = format!(in alloc; "{word} {} as {}", shown(names.0), shown(names.1))?;
+    let onlys = onlys_shown(alloc, onlys)?;
+    let front = format!(in alloc; "{word} {} as {}{onlys}", shown(names.0), shown(names.1))?;
     with_texts(alloc, front.as_str(), locks, journals)
 }
 
@@ -159,13 +179,14 @@ fn command_shown(alloc: Global, command: &Command) -> Result<String, AllocError>
             format,
             locks,
             journals,
-        } => asked_shown(alloc, "list", (package, format), locks, journals),
+            only,
+        } => asked_shown(alloc, "list", (package, format), locks, journals, only),
         Command::Report {
             package,
             format,
             locks,
             journals,
-        } => asked_shown(alloc, "report", (package, format), locks, journals),
+        } => asked_shown(alloc, "report", (package, format), locks, journals, &[]),
         Command::Page {
             package,
             locks,
@@ -212,7 +233,7 @@ fn line_told(alloc: Global, line: &str) -> Result<String, AllocError> {
 }
 
 // Lines, and what they ask for.
-const COMMANDS: [(&str, &str); 30] = [
+const COMMANDS: [(&str, &str); 31] = [
     ("settle|accept|P", "settle true P"),
     ("settle|reject|P", "settle false P"),
     ("text|P", "text P Final"),
@@ -223,6 +244,10 @@ const COMMANDS: [(&str, &str); 30] = [
         "list P as tab locks A,A, journals J,K,J,",
     ),
     ("list|P|--format|", "list P as  locks  journals "),
+    (
+        "list|P|--only|disputed|J|--only|kind:props|--only|numbers:3,5-9|--only|open|--only|accept|--only|reject|--only|author:open",
+        "list P as text only Disputed only group Props only numbers [One(3), Range(5, 9)] only Undecided only Accept only Reject only author open locks  journals J,",
+    ),
     (
         "list|P|--format|--lock|--lock|--format",
         "list P as --lock locks --format, journals ",
@@ -300,7 +325,7 @@ fn lines_of_each_command(rt: HostRuntime) -> Result<(), Fail> {
 }
 
 // Lines that are those of no command.
-const NO_COMMANDS: [&str; 76] = [
+const NO_COMMANDS: [&str; 84] = [
     "text",
     "text|--view|final",
     "text|P|--view",
@@ -334,6 +359,14 @@ const NO_COMMANDS: [&str; 76] = [
     "page",
     "page|P|--format|tab",
     "page|P|--journal|J",
+    "list|P|--only",
+    "list|P|--only|",
+    "list|P|--only|Open",
+    "list|P|--only|locked",
+    "list|P|--only|5",
+    "write|P|--only|open",
+    "report|P|--only|open",
+    "decide|P|Dee|--accept|all|--only|open",
     "write|--lock|A|P",
     "write|P|--lock",
     "write|P|--lock=A|J",

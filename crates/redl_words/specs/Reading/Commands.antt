@@ -16,6 +16,8 @@ use Rattle.redl_words.specs.declared.command.View.TheVariants.{Original, Final, 
 use Rattle.redl_words.specs.Commands.{Command, settle, view_text, list, report, page, write, decide, join, check, sample, say_word, view_name}
 use Rattle.redl_words.specs.Items.{is_name}
 use Rattle.redl_words.specs.Reading.Items.{Gathered, nothing, gathered}
+use Rattle.redl_words.specs.Shown.{Only}
+use Rattle.redl_words.specs.Views.{onlys_view}
 
 unfoldable pub verb_in : List ℕ → Option Verb
 verb_in word =
@@ -68,12 +70,13 @@ pub record Asked : Type 0 where
   pub format : List ℕ
   pub locks : List Lock
   pub journals : List (List ℕ)
+  pub onlys : List Only
 
 abbrev pub asked_view : code.Asked → Asked
-asked_view asked = record { package_name = asked.«package»; format = asked.format; locks = asked.locks.items; journals = asked.journals.items }
+asked_view asked = record { package_name = asked.«package»; format = asked.format; locks = asked.locks.items; journals = asked.journals.items; onlys = onlys_view asked.only.items }
 
 abbrev pub asked_of : List ℕ → Gathered → Asked
-asked_of p items = record { package_name = p; format = format_or_text items.format; locks = items.locks; journals = items.journals }
+asked_of p items = record { package_name = p; format = format_or_text items.format; locks = items.locks; journals = items.journals; onlys = items.onlys }
 
 -- the words after `list` or `report`
 unfoldable pub asked_in : List (List ℕ) → Option Asked
@@ -81,16 +84,21 @@ asked_in [] = None
 asked_in (p ∷ rest) = if is_name p then option_map (asked_of p) (gathered forms.List nothing rest) else None
 
 abbrev pub as_list : Asked → Command
-as_list asked = list asked.package_name asked.format asked.locks asked.journals
+as_list asked = list asked.package_name asked.format asked.locks asked.journals asked.onlys
 
-abbrev pub as_report : Asked → Command
-as_report asked = report asked.package_name asked.format asked.locks asked.journals
+-- a report is of all revisions
+abbrev pub report_of : List Only → Asked → Option Command
+report_of [] asked = Some (report asked.package_name asked.format asked.locks asked.journals)
+report_of (wanted ∷ more) asked = None
+
+abbrev pub as_report : Asked → Option Command
+as_report asked = report_of asked.onlys asked
 
 abbrev pub list_in : List (List ℕ) → Option Command
 list_in rest = option_map as_list (asked_in rest)
 
 abbrev pub report_in : List (List ℕ) → Option Command
-report_in rest = option_map as_report (asked_in rest)
+report_in rest = asked_in rest >>= as_report
 
 unfoldable pub page_in : List (List ℕ) → Option Command
 page_in [] = None

@@ -16,11 +16,13 @@ use Rattle.redl_words.specs.declared.options.ItemOption.{ItemOption}
 use Rattle.redl_words.specs.declared.options.ItemOption.TheVariants as options
 use Rattle.redl_words.specs.declared.items.Items as code
 use Rattle.redl_words.specs.Items.{is_name, option_of}
-use Rattle.redl_words.specs.Views.{choices_view}
+use Rattle.redl_words.specs.Views.{choices_view, onlys_view}
 use Rattle.redl_words.specs.Reading.Answers.{Fails}
 use Rattle.redl_words.specs.Reading.Locks.{lock_in}
 use Rattle.redl_words.specs.Reading.Ranks.{rank_in}
 use Rattle.redl_words.specs.Reading.Selections.{selection_in}
+use Rattle.redl_words.specs.Reading.Shown.{only_in}
+use Rattle.redl_words.specs.Shown.{Only}
 
 -- what the items of a command say
 pub record Gathered : Type 0 where
@@ -29,6 +31,7 @@ pub record Gathered : Type 0 where
   pub journals : List (List ℕ)
   pub choices : List (Word × Selection)
   pub rank : Option ℕ
+  pub onlys : List Only
 
 -- the code's items as plain data
 abbrev pub items_view : code.Items → Gathered
@@ -38,10 +41,11 @@ items_view items = record {
   journals = items.journals.items;
   choices = choices_view items.choices.items;
   rank = items.rank;
+  onlys = onlys_view items.only.items;
 }
 
 abbrev pub nothing : Gathered
-nothing = record { format = None; locks = []; journals = []; choices = []; rank = None }
+nothing = record { format = None; locks = []; journals = []; choices = []; rank = None; onlys = [] }
 
 -- a command of this form may have journals without an option
 abbrev pub has_plain_journals : Form → Bool
@@ -77,7 +81,7 @@ locking_option word =
 
 -- the option that a word is, besides those for locks
 abbrev pub own_option : Form → List ℕ → Option ItemOption
-own_option forms.List word = if bytes_eq word (codes "--format") then Some options.Format else None
+own_option forms.List word = if bytes_eq word (codes "--format") then Some options.Format else if bytes_eq word (codes "--only") then Some options.Only else None
 own_option forms.Write word = None
 own_option forms.Decide word = deciding_option word
 
@@ -113,6 +117,9 @@ with_option (options.Choice word) value items = do
   selection ← selection_in value
   Some (record items { choices = items.choices ++ (word, selection) ∷ [] })
 with_option options.Rank value items = with_rank value items.rank items
+with_option options.Only value items = do
+  wanted ← only_in value
+  Some (record items { onlys = items.onlys ++ wanted ∷ [] })
 
 -- with the option that a word is, and its value
 unfoldable pub with_word : Form → List ℕ → List ℕ → Gathered → Option Gathered
