@@ -5,7 +5,7 @@ ghost use Rattle.std.specs.Map.Iter.{deref};
 ghost use Rattle.redl_join.specs.LastWords.{words_on};
 ghost use Rattle.redl_details.specs.Details.{IsDetail, detail_of, details_of, no_detail};
 
-use crate::checked::{checked, checked_if_any};
+use crate::checked::{kept, kept_if_any};
 use crate::last_word::Says;
 use redl_excerpts::Excerpt;
 use redl_io::Text;
@@ -43,15 +43,21 @@ impl Detail {
     }
 
     /// The detail of a revision with this excerpt, where these are the last words on it. `Err` means out of memory.
-    fn of(alloc: Global, excerpt: &Excerpt, entries: &[&Entry]) -> Result<Detail, AllocError>
-        ensures value { IfOk result (λ detail. detail ≡ detail_of excerpt.now (map deref entries.now)) }
+    fn of(alloc: Global, excerpt: Excerpt, entries: &[&Entry]) -> Result<Detail, AllocError>
+        ensures value { IfOk result (λ detail. detail ≡ detail_of excerpt (map deref entries.now)) }
         ensures utf8 { IfOk result IsDetail }
     {
-        let words = excerpt.words.text(alloc)?;
-        let words = checked(alloc, words.as_bytes())?;
-        let before = checked(alloc, excerpt.before.as_bytes())?;
-        let after = checked(alloc, excerpt.behind.as_bytes())?;
-        let id = checked_if_any(alloc, &excerpt.id)?;
+        let Excerpt {
+            words,
+            id,
+            before,
+            behind,
+            ..
+        } = excerpt;
+        let words = kept(alloc, words.text(alloc)?)?;
+        let before = kept(alloc, before)?;
+        let after = kept(alloc, behind)?;
+        let id = kept_if_any(alloc, id)?;
         let says = Says::of(alloc, entries)?;
         Ok(Detail {
             words,
@@ -97,17 +103,17 @@ fn copy_if_any(alloc: Global, text: &Option<Text>) -> Result<Option<Text>, Alloc
 /// words on them. `Err` means out of memory.
 pub fn details(
     alloc: Global,
-    excerpts: &[Excerpt],
+    excerpts: Vec<Excerpt>,
     words: &LastWords<'_>,
 ) -> Result<Vec<Detail>, AllocError>
-    requires { length excerpts.now < 2 ^ 32 }
-    ensures value { IfOk result (λ details. details.items ≡ details_of excerpts.now (words_on words.now)) }
+    requires { length excerpts.items < 2 ^ 32 }
+    ensures value { IfOk result (λ details. details.items ≡ details_of excerpts.items (words_on words.now)) }
     ensures utf8 { IfOk result (λ details. All IsDetail details.items) }
 {
     let mut details = Vec::new(alloc);
-    for place in 0..excerpts.len() {
-        let number = place as u32 + 1;
-        let detail = Detail::of(alloc, &excerpts[place], words.on(number))?;
+    for excerpt in excerpts {
+        let number = details.len() as u32 + 1;
+        let detail = Detail::of(alloc, excerpt, words.on(number))?;
         details.push(detail)?;
     }
     Ok(details)

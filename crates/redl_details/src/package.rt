@@ -26,6 +26,6 @@ pub fn package_details(
     let _count = index.count();
     let excerpts = excerpts(alloc, pkg, index)?;
     let words = book.last_words()?;
-    let details = details(alloc, &excerpts, &words)?;
+    let details = details(alloc, excerpts, &words)?;
     Ok(details)
 }
