@@ -67,11 +67,10 @@ impl RowFormat for CountFormat {
         self.title.as_str()
     }
 
-    fn row(&mut self, row: &Row) -> Result<(), RowError> {
+    fn row(&mut self, row: Row) -> Result<(), RowError> {
         if self.text.len() >= self.most {
             return Err(RowError);
         }
-        let row = row.copy(self.alloc)?;
         self.text.reserve(2)?;
         if self.rows.push(row).is_err() {
             return Err(RowError);

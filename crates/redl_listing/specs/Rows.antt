@@ -1,5 +1,5 @@
 -- The rows of a listing: what it says of each revision (our own rule).
-use Rattle.std.specs.Prelude.{ℕ, List, [], ◌∷◌, IsTrue, IfSome, unwrap_or, slice_get}
+use Rattle.std.specs.Prelude.{ℕ, Bool, true, List, [], ◌∷◌, IsTrue, IfSome, if◌then◌else◌, unwrap_or, slice_get}
 use Rattle.std.specs.Str.{IsUtf8}
 use Rattle.redl_details.specs.declared.detail.Detail.{Detail}
 use Rattle.redl_details.specs.Details.{IsDetail, no_detail}
@@ -46,6 +46,22 @@ told_rows parts (revision ∷ revisions) [] details = []
 told_rows parts (revision ∷ revisions) (verdict ∷ verdicts) details =
     told_row parts revision verdict (first_detail details) ∷ told_rows parts revisions verdicts (more_details details)
 
--- the rows without details
+-- ---- the rows that are shown
+
+-- whether the first row is shown; one of which nothing is said is
+abbrev pub first_shown : List Bool → Bool
+first_shown [] = true
+first_shown (is_shown ∷ more) = is_shown
+
+abbrev pub more_shown : List Bool → List Bool
+more_shown [] = []
+more_shown (is_shown ∷ more) = more
+
+-- the rows that are shown, in their order
+abbrev pub shown_rows : List Bool → List Row → List Row
+shown_rows shown [] = []
+shown_rows shown (row ∷ rows) = if first_shown shown then row ∷ shown_rows (more_shown shown) rows else shown_rows (more_shown shown) rows
+
+-- all rows, without details
 abbrev pub rows_of : List (List ℕ) → List Revision → List Verdict → List Row
 rows_of parts revisions verdicts = told_rows parts revisions verdicts []

@@ -67,11 +67,11 @@ pub trait RowFormat: Drop {
     /// Takes a row after the others. The row's kind has a name, its author and part are UTF-8, and its moment lies in the
     /// years 0000 to 9999.
     ///
-    /// `Err` means out of memory, and then the format is as before.
-    fn row(&mut self, row: &Row) -> Result<(), RowError>
+    /// `Err` means out of memory: the row is dropped, and the format is as before.
+    fn row(&mut self, row: Row) -> Result<(), RowError>
         requires open { is_closed self.old ≡ false }
-        requires row { IsRow row.now }
-        ensures taken { OnOk result (rows_so_far self.new ≡ rows_so_far self.old ++ row.now ∷ []) }
+        requires row { IsRow row }
+        ensures taken { OnOk result (rows_so_far self.new ≡ rows_so_far self.old ++ row ∷ []) }
         ensures unchanged { OnErr result (rows_so_far self.new ≡ rows_so_far self.old) }
         ensures open { is_closed self.new ≡ false }
         ensures same_name { format_name self.new ≡ format_name self.old }
@@ -111,8 +111,8 @@ impl<P: Piece<Row>> RowFormat for LineFormat<Row, P> {
         P::title()
     }
 
-    fn row(&mut self, row: &Row) -> Result<(), RowError> {
-        self.add(row)?;
+    fn row(&mut self, row: Row) -> Result<(), RowError> {
+        self.take(row)?;
         Ok(())
     }
 
@@ -138,8 +138,8 @@ impl<P: Piece<Row>> RowFormat for ArrayFormat<Row, P> {
         P::title()
     }
 
-    fn row(&mut self, row: &Row) -> Result<(), RowError> {
-        self.add(row)?;
+    fn row(&mut self, row: Row) -> Result<(), RowError> {
+        self.take(row)?;
         Ok(())
     }
 

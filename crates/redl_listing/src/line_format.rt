@@ -43,17 +43,27 @@ impl<I: Item, P: Piece<I>> LineFormat<I, P> {
         })
     }
 
-    /// Adds an item. `Err` means out of memory, and then the format is as before.
+    /// Adds a copy of an item. `Err` means out of memory, and then the format is as before.
     pub fn add(&mut self, item: &I) -> Result<(), AllocError>
         requires open { self.old.closed ≡ false }
         requires item { I.is_item item.now }
         ensures taken { OnOk result (self.new ≡ record { items = self.old.items ++ item.now ∷ []; closed = false }) }
         ensures unchanged { OnErr result (self.new ≡ self.old) }
     {
+        let item = item.copy(self.alloc)?;
+        self.take(item)
+    }
+
+    /// Takes an item after the others. `Err` means out of memory: the item is dropped, and the format is as before.
+    pub fn take(&mut self, item: I) -> Result<(), AllocError>
+        requires open { self.old.closed ≡ false }
+        requires item { I.is_item item }
+        ensures taken { OnOk result (self.new ≡ record { items = self.old.items ++ item ∷ []; closed = false }) }
+        ensures unchanged { OnErr result (self.new ≡ self.old) }
+    {
         let mut room = mem::replace(&mut self.room, Vec::new(self.alloc));
         room.clear();
-        let piece = P::put(room, item)?;
-        let item = item.copy(self.alloc)?;
+        let piece = P::put(room, &item)?;
         self.draft.add(item, &piece, 0)?;
         self.room = piece;
         Ok(())

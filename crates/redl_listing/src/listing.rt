@@ -1,11 +1,11 @@
 //! Listing revisions in a format.
 
-ghost use Rattle.std.specs.Prelude.{◌≡◌, ◌++◌, ◌∷◌, ◌<◌, ◌↔◌, [], All, Bool, List, drop, length, true, false, IfOk, IsTrue, OnOk, OnErr};
+ghost use Rattle.std.specs.Prelude.{◌≡◌, ◌+◌, ◌++◌, ◌∷◌, ◌<◌, ◌↔◌, [], All, Bool, List, drop, length, true, false, IfOk, IsTrue, OnOk, OnErr, if◌then◌else◌};
 ghost use Rattle.std.specs.Str.{IsUtf8};
 ghost use Rattle.redl_index.specs.Revisions.{IsTold};
 ghost use Rattle.redl_index.specs.declared.revision.Revision.{Revision};
-ghost use Rattle.redl_listing.specs.Rows.{IsRow, first_detail, rows_of, told_rows};
-ghost use Rattle.redl_details.specs.Details.{IsDetail, no_detail};
+ghost use Rattle.redl_listing.specs.Rows.{IsRow, first_detail, first_shown, rows_of, shown_rows, told_row, told_rows};
+ghost use Rattle.redl_details.specs.Details.{IsDetail};
 ghost use Rattle.redl_listing.specs.Formats.{first_named, without_named, IsListed};
 ghost use Rattle.redl_listing.specs.declared.row.Row.{Row};
 
@@ -17,6 +17,7 @@ use redl_index::{Index, Revision};
 use redl_io::Text;
 use redl_join::Verdict;
 use std::alloc::{AllocError, Global};
+use std::mem;
 
 /// Adds a format after the others. None of them is closed or has a row. `Err` means out of memory.
 pub fn add_format(
@@ -67,13 +68,22 @@ pub fn list(
     ensures taken { formats.new.items ≡ without_named (λ format. format_name format) name.now formats.old.items }
     ensures unchanged { IfOk result (λ found. found ≡ false → formats.new.items ≡ formats.old.items) }
 {
-    let details = Vec::new(alloc);
+    let shown = Vec::new(alloc);
     list_told(
-        alloc, formats, name, pkg_names, index, verdicts, &details, made,
+        alloc,
+        formats,
+        name,
+        pkg_names,
+        index,
+        verdicts,
+        Vec::new(alloc),
+        &shown,
+        made,
     )
 }
 
-/// The same with the details of the revisions, in the order of their numbers. Where one is missing the row has none.
+/// The same of the revisions that are shown alone, with their details. Both are in the order of numbers: `shown` says of each revision
+/// whether it is shown, and one of which it says nothing is; a row whose detail is missing has none.
 pub fn list_told(
     alloc: Global,
     formats: &mut Vec<Box<dyn RowFormat>>,
@@ -81,20 +91,21 @@ pub fn list_told(
     pkg_names: &[Text],
     index: &Index,
     verdicts: &[Verdict],
-    details: &[Detail],
+    details: Vec<Detail>,
+    shown: &[bool],
     made: &mut Vec<u8>,
 ) -> Result<bool, AllocError>
     requires empty { made.old.items ≡ [] }
     requires names { All IsUtf8 pkg_names.now }
     requires parts { All (λ revision. revision.part < length pkg_names.now) index.now }
     requires verdicts { length verdicts.now ≡ length index.now }
-    requires details { All IsDetail details.now }
+    requires details { All IsDetail details.items }
     requires fresh { All (λ format. (is_closed format ≡ false) × (rows_so_far format ≡ [])) formats.old.items }
 
-    // The first format with the name made the text of all rows, or there is none.
+    // The first format with the name made the text of the rows that are shown, or there is none.
     ensures listed { IfOk result (λ found. IsListed
         (first_named (λ format. format_name format) name.now formats.old.items)
-        (λ format. text_for format (told_rows pkg_names.now index.now verdicts.now details.now) true)
+        (λ format. text_for format (shown_rows shown.now (told_rows pkg_names.now index.now verdicts.now details.items)) true)
         found made.new.items) }
     ensures unmade { OnErr result (made.new.items ≡ []) }
 
@@ -105,64 +116,111 @@ pub fn list_told(
     let Some(mut format) = take_named(formats, name) else {
         return Ok(false);
     };
+    let mut details = details;
     add_rows(
         alloc,
         &mut format,
         pkg_names,
         index.revisions(),
         verdicts,
-        details,
+        &mut details,
+        shown,
     )?;
     finish(&mut format, made)?;
     Ok(true)
 }
 
-/// Gives the format a row for each revision.
+/// Gives the format a row for each revision that is shown, with its detail, which it takes.
 fn add_rows(
     alloc: Global,
     format: &mut Box<dyn RowFormat>,
     parts: &[Text],
     revisions: &[Revision],
     verdicts: &[Verdict],
-    details: &[Detail],
+    details: &mut Vec<Detail>,
+    shown: &[bool],
 ) -> Result<(), AllocError>
     requires names { All IsUtf8 parts.now }
     requires told { All IsTold revisions.now }
     requires parts { All (λ revision. revision.part < length parts.now) revisions.now }
     requires verdicts { length verdicts.now ≡ length revisions.now }
-    requires details { All IsDetail details.now }
+    requires details { All IsDetail details.old.items }
     requires open { is_closed format.old ≡ false }
-    ensures rows { OnOk result (rows_so_far format.new ≡ rows_so_far format.old ++ told_rows parts.now revisions.now verdicts.now details.now) }
+    ensures rows { OnOk result (rows_so_far format.new ≡ rows_so_far format.old ++ shown_rows shown.now (told_rows parts.now revisions.now verdicts.now details.old.items)) }
     ensures open { OnOk result (is_closed format.new ≡ false) }
     ensures same_format { OnOk result ((rows : List Row) → text_for format.new rows true ≡ text_for format.old rows true) }
 {
-    let none = Detail::none(alloc)?;
-    let mut row = Row::blank(alloc)?;
     for place in 0..revisions.len() {
-        let detail = detail_at(details, place, &none);
-        row.set(alloc, &revisions[place], verdicts[place], parts, detail)?;
-        add_row(format, &row)?;
+        let detail = take_detail(alloc, details, place)?;
+        let is_shown = is_shown(shown, place);
+        add_if(
+            alloc,
+            format,
+            &revisions[place],
+            verdicts[place],
+            parts,
+            detail,
+            is_shown,
+        )?;
     }
     Ok(())
 }
 
-/// The detail at this place, or none.
-fn detail_at<'a>(details: &'a [Detail], place: usize, none: &'a Detail) -> &'a Detail
-    requires none { none.now ≡ no_detail }
-    requires details { All IsDetail details.now }
-    ensures value { result.now ≡ first_detail (drop place details.now) }
-    ensures detail { IsDetail result.now }
+/// Gives the format the row of a revision, if it is shown.
+fn add_if(
+    alloc: Global,
+    format: &mut Box<dyn RowFormat>,
+    revision: &Revision,
+    verdict: Verdict,
+    parts: &[Text],
+    detail: Detail,
+    is_shown: bool,
+) -> Result<(), AllocError>
+    requires names { All IsUtf8 parts.now }
+    requires told { IsTold revision.now }
+    requires part { revision.now.part < length parts.now }
+    requires detail { IsDetail detail }
+    requires open { is_closed format.old ≡ false }
+    ensures rows { OnOk result (rows_so_far format.new ≡ rows_so_far format.old ++ (if is_shown then told_row parts.now revision.now verdict detail ∷ [] else [])) }
+    ensures open { OnOk result (is_closed format.new ≡ false) }
+    ensures same_format { OnOk result ((rows : List Row) (closed : Bool) → text_for format.new rows closed ≡ text_for format.old rows closed) }
 {
-    match details.get(place) {
-        Some(detail) => detail,
-        None => none,
+    if !is_shown {
+        return Ok(());
+    }
+    let row = Row::of(alloc, revision, verdict, parts, detail)?;
+    add_row(format, row)
+}
+
+/// Whether the row at this place is shown.
+fn is_shown(shown: &[bool], place: usize) -> bool
+    ensures { result ≡ first_shown (drop place shown.now) }
+{
+    match shown.get(place) {
+        Some(is_shown) => *is_shown,
+        None => true,
     }
 }
 
-fn add_row(format: &mut Box<dyn RowFormat>, row: &Row) -> Result<(), AllocError>
+/// Takes the detail at this place, if there is one, and leaves none there. `Err` means out of memory.
+fn take_detail(alloc: Global, details: &mut Vec<Detail>, place: usize) -> Result<Detail, AllocError>
+    requires { All IsDetail details.old.items }
+    ensures value { IfOk result (λ detail. detail ≡ first_detail (drop place details.old.items)) }
+    ensures utf8 { IfOk result IsDetail }
+    ensures left { OnOk result (drop (place + 1) details.new.items ≡ drop (place + 1) details.old.items) }
+    ensures all_utf8 { OnOk result (All IsDetail details.new.items) }
+{
+    let none = Detail::none(alloc)?;
+    match details.get_mut(place) {
+        Some(detail) => Ok(mem::replace(detail, none)),
+        None => Ok(none),
+    }
+}
+
+fn add_row(format: &mut Box<dyn RowFormat>, row: Row) -> Result<(), AllocError>
     requires open { is_closed format.old ≡ false }
-    requires row { IsRow row.now }
-    ensures taken { OnOk result (rows_so_far format.new ≡ rows_so_far format.old ++ row.now ∷ []) }
+    requires row { IsRow row }
+    ensures taken { OnOk result (rows_so_far format.new ≡ rows_so_far format.old ++ row ∷ []) }
     ensures open { is_closed format.new ≡ false }
     ensures same_format { (rows : List Row) (closed : Bool) → text_for format.new rows closed ≡ text_for format.old rows closed }
 {

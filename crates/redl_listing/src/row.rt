@@ -1,6 +1,6 @@
 //! Rows.
 
-ghost use Rattle.std.specs.Prelude.{◌≡◌, ◌<◌, length, All, OnOk};
+ghost use Rattle.std.specs.Prelude.{◌≡◌, ◌<◌, length, All, IfOk};
 ghost use Rattle.std.specs.Str.{IsUtf8};
 ghost use Rattle.redl_index.specs.Revisions.{IsTold};
 ghost use Rattle.redl_listing.specs.Rows.{IsRow, told_row};
@@ -35,49 +35,33 @@ pub struct Row {
 }
 
 impl Row {
-    /// A row to be set, which is of no revision. `Err` means out of memory.
-    pub(crate) fn blank(alloc: Global) -> Result<Row, AllocError> {
-        let author = Text::copy_of(alloc, b"")?;
-        let part = Text::copy_of(alloc, b"")?;
-        let detail = Detail::none(alloc)?;
-        Ok(Row {
-            number: 0,
-            kind: RevKind::Move,
-            verdict: Verdict::Undecided,
-            author,
-            seconds: None,
-            part,
-            members: 0,
-            detail,
-        })
-    }
-
-    /// Makes it the row of a revision on which this was decided, in the part that its number names, with this detail. A name that
-    /// it has already isn't copied again. `Err` means out of memory, and then it is the row of no revision.
-    pub(crate) fn set(
-        &mut self,
+    /// The row of a revision on which this was decided, in the part that its number names, with this detail. `Err` means out of memory.
+    pub(crate) fn of(
         alloc: Global,
         revision: &Revision,
         verdict: Verdict,
         parts: &[Text],
-        detail: &Detail,
-    ) -> Result<(), AllocError>
+        detail: Detail,
+    ) -> Result<Row, AllocError>
         requires part { revision.now.part < length parts.now }
         requires parts { All IsUtf8 parts.now }
         requires told { IsTold revision.now }
-        requires detail { IsDetail detail.now }
-        ensures value { OnOk result (self.new ≡ told_row parts.now revision.now verdict detail.now) }
-        ensures row { OnOk result (IsRow self.new) }
+        requires detail { IsDetail detail }
+        ensures value { IfOk result (λ row. row ≡ told_row parts.now revision.now verdict detail) }
+        ensures row { IfOk result IsRow }
     {
-        self.detail = detail.copy(alloc)?;
-        set_text(alloc, &mut self.author, &revision.author)?;
-        set_text(alloc, &mut self.part, &parts[revision.part as usize])?;
-        self.number = revision.number;
-        self.kind = revision.kind;
-        self.verdict = verdict;
-        self.seconds = revision.seconds;
-        self.members = revision.members;
-        Ok(())
+        let author = revision.author.copy(alloc)?;
+        let part = parts[revision.part as usize].copy(alloc)?;
+        Ok(Row {
+            number: revision.number,
+            kind: revision.kind,
+            verdict,
+            author,
+            seconds: revision.seconds,
+            part,
+            members: revision.members,
+            detail,
+        })
     }
 }
 
@@ -101,14 +85,4 @@ impl Item for Row {
             detail,
         })
     }
-}
-
-/// Makes the text the same as another. `Err` means out of memory, and then it is as before.
-fn set_text(alloc: Global, text: &mut Text, wanted: &Text) -> Result<(), AllocError>
-    ensures { OnOk result (text.new ≡ wanted.now) }
-{
-    if text.as_bytes() != wanted.as_bytes() {
-        *text = wanted.copy(alloc)?;
-    }
-    Ok(())
 }
