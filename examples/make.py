@@ -179,6 +179,7 @@ def make_contract(folder):
         folder.save("contract.list." + form, reading.listed(read, entries, form))
     folder.save("contract.list.words", words_listed(read, entries))
     folder.save("contract.list.full", full(read, entries))
+    make_shown(folder, read, entries)
     folder.save("contract.page.html", page.page(read, entries))
     for form in report.FORMS:
         folder.save("contract.report." + form, report.report(read, entries, form))
@@ -194,6 +195,16 @@ def make_contract(folder):
     book, _ = reading.decide(read, "Cara Lee", [], [("accept", kinds("-props")), ("accept", [*range(34, 42), 44]), ("reject", rows)])
     folder.save("contract.desk.journal", reading.journal(read, book))
     make_ranks(folder, read, entries)
+
+
+def make_shown(folder, read, entries):
+    """Listings of some changes alone: those of Dana's that are disputed, and all rows."""
+    book = reading.admitted(read, entries)
+    numbered = list(enumerate(read.revisions, 1))
+    disputed = [number for number, it in numbered if it.author == LOCKED and reading.verdict(number, book) == "disputed"]
+    rows = [number for number, it in numbered if it.kind in ("row-ins", "row-del")]
+    folder.save("contract.disputed.words", words_listed(read, entries, disputed))
+    folder.save("contract.rows.tab", reading.listed(read, entries, "tab", shown=rows))
 
 
 def make_ranks(folder, read, entries):

@@ -576,11 +576,13 @@ def moment(text):
     return int(civil.timestamp())
 
 
-def listed(package, entries, form, locks=()):
-    """The listing of a package in the form text, tab or json."""
+def listed(package, entries, form, locks=(), shown=None):
+    """The listing of a package in the form text, tab or json, of all revisions or of those alone that have these numbers."""
     book = admitted(package, entries, locks)
     rows = []
     for number, it in enumerate(package.revisions, 1):
+        if shown is not None and number not in shown:
+            continue
         date = None
         if it.date is not None:
             date = datetime.datetime.fromtimestamp(it.date, datetime.timezone.utc).strftime("%Y-%m-%dT%H:%M:%SZ")

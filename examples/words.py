@@ -131,11 +131,13 @@ def says_of(number, entries):
     return [entry for entry in here if entry.sequence == max(it.sequence for it in here if it.reviewer == entry.reviewer)]
 
 
-def listed(package, entries):
-    """The listing of a package in the format `words`."""
+def listed(package, entries, shown=None):
+    """The listing of a package in the format `words`, of all revisions or of those alone that have these numbers."""
     entries = reading.admitted(package, entries)
     out = []
     for number, revision in enumerate(package.revisions, 1):
+        if shown is not None and number not in shown:
+            continue
         words, before, after = excerpt(package, number)
         verdict = reading.verdict(number, entries)
         begin, end = signs_of(revision.kind)

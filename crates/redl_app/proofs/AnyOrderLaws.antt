@@ -205,11 +205,11 @@ carried_same : (reader : Reader) (files : Files) (brought : Brought) (command : 
     → carried_out reader files brought (plan (with_journals names command)) ≡ Ok one → carried_out reader files brought (plan (with_journals others command)) ≡ Ok other → one ≡ other
 carried_same reader files brought (settle accept p) names others one other same is too = same_ok (sym is ∙ too)
 carried_same reader files brought (view_text p view) names others one other same is too = same_ok (sym is ∙ too)
-carried_same reader files brought (list p format locks journals) names others one other same is too =
-    let asked = plan (list p format locks journals) in
-    let first = both_ok (has_asked brought asked) (λ there. package_file files p >>= (λ whole. listed reader files brought.formats format locks names whole)) one is in
-    let again = both_ok (has_asked brought asked) (λ there. package_file files p >>= (λ whole. listed reader files brought.formats format locks others whole)) other too in
-    after_opening reader files locks names others p (λ admission. listing_named brought.formats format admission) one other same first.second again.second
+carried_same reader files brought (list p format locks journals wanted) names others one other same is too =
+    let asked = plan (list p format locks journals wanted) in
+    let first = both_ok (has_asked brought asked) (λ there. package_file files p >>= (λ whole. listed reader files brought.formats format locks names wanted whole)) one is in
+    let again = both_ok (has_asked brought asked) (λ there. package_file files p >>= (λ whole. listed reader files brought.formats format locks others wanted whole)) other too in
+    after_opening reader files locks names others p (λ admission. listing_named brought.formats format wanted admission) one other same first.second again.second
 carried_same reader files brought (report p format locks journals) names others one other same is too =
     let asked = plan (report p format locks journals) in
     let first = both_ok (has_asked brought asked) (λ there. package_file files p >>= (λ whole. reported reader files brought.reports format locks names whole)) one is in

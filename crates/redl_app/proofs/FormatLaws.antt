@@ -6,7 +6,8 @@ use Rattle.std.specs.Option.{option_map}
 use Rattle.std.specs.Str.{bytes_eq}
 use Rattle.redl_app.proofs.TopLaws.{by_cause}
 use Rattle.redl_inputs.specs.Admission.{Admission}
-use Rattle.redl_app.specs.Commands.List.{listing, listing_named, part_names, session_details, session_rows}
+use Rattle.redl_app.specs.Commands.List.{listing, listing_named, part_names, session_details, session_rows, session_verdicts}
+use Rattle.redl_app.specs.Commands.Shown.{shown_revisions}
 use Rattle.redl_app.specs.Files.{where_ok}
 use Rattle.redl_app.specs.Finishing.{Ends, Finishes}
 use Rattle.redl_app.specs.Formats.{Format, LeavesFormats, format_named, formats_by, found_format, has_format, whether}
@@ -25,12 +26,13 @@ use Rattle.redl_listing.specs.Formats.{IsListed, first_named}
 use Rattle.redl_index.specs.declared.revision.Revision.{Revision}
 use Rattle.redl_join.specs.Verdicts.{verdict_at}
 use Rattle.redl_join.specs.declared.verdict.Verdict.{Verdict}
-use Rattle.redl_listing.specs.Rows.{told_rows}
+use Rattle.redl_listing.specs.Rows.{shown_rows, told_rows}
 use Rattle.redl_listing.specs.declared.row.Row.{Row}
 use Rattle.redl_report.specs.Reports.{report_lines}
 use Rattle.redl_report.specs.declared.line.ReportLine.{ReportLine}
 use Rattle.redl_app.specs.Commands.Report.{report_named, report_of}
 use Rattle.redl_session.specs.Says.{verdicts_of}
+use Rattle.redl_words.specs.Shown.{Only}
 
 -- ---- the first format of a name
 
@@ -82,19 +84,19 @@ not_found name_of text_of name formats i past so_far =
 abbrev pub made_by : Admission → List ℕ → Writing
 made_by admission bytes = record { bytes = bytes; remarks = admission.remarks }
 
-listed_by : {F : Type 0} (name_of : F → List ℕ) (text_of : F → List Row → Bool → List ℕ) (name : List ℕ) (admission : Admission) (made : List ℕ) (first : Option F)
-    → IsListed first (λ format. text_of format (session_rows name admission.state) true) true made
-    → found_format name (option_map (format_by name_of text_of) first) >>= (λ format. Ok (listing name admission format)) ≡ Ok (made_by admission made)
-listed_by name_of text_of name admission made None (found, is) = absurd (cc found)
-listed_by name_of text_of name admission made (Some format) (found, is) = ap (λ bytes. Ok (made_by admission bytes)) (sym is)
+listed_by : {F : Type 0} (name_of : F → List ℕ) (text_of : F → List Row → Bool → List ℕ) (name : List ℕ) (wanted : List Only) (admission : Admission) (made : List ℕ) (first : Option F)
+    → IsListed first (λ format. text_of format (session_rows name wanted admission.state) true) true made
+    → found_format name (option_map (format_by name_of text_of) first) >>= (λ format. Ok (listing name wanted admission format)) ≡ Ok (made_by admission made)
+listed_by name_of text_of name wanted admission made None (found, is) = absurd (cc found)
+listed_by name_of text_of name wanted admission made (Some format) (found, is) = ap (λ bytes. Ok (made_by admission bytes)) (sym is)
 
 -- the format was found
-pub listed_text : {F : Type 0} (name_of : F → List ℕ) (text_of : F → List Row → Bool → List ℕ) (name : List ℕ) (admission : Admission) (made : List ℕ) (formats : List F)
-    → IsListed (first_named name_of name formats) (λ format. text_of format (session_rows name admission.state) true) true made
-    → listing_named (formats_by name_of text_of formats) name admission ≡ Ok (made_by admission made)
-listed_text name_of text_of name admission made formats is =
-    ap (λ found. found >>= (λ format. Ok (listing name admission format))) (named-by name_of text_of name formats)
-    ∙ listed_by name_of text_of name admission made (first_named name_of name formats) is
+pub listed_text : {F : Type 0} (name_of : F → List ℕ) (text_of : F → List Row → Bool → List ℕ) (name : List ℕ) (wanted : List Only) (admission : Admission) (made : List ℕ) (formats : List F)
+    → IsListed (first_named name_of name formats) (λ format. text_of format (session_rows name wanted admission.state) true) true made
+    → listing_named (formats_by name_of text_of formats) name wanted admission ≡ Ok (made_by admission made)
+listed_text name_of text_of name wanted admission made formats is =
+    ap (λ found. found >>= (λ format. Ok (listing name wanted admission format))) (named-by name_of text_of name formats)
+    ∙ listed_by name_of text_of name wanted admission made (first_named name_of name formats) is
 
 -- as many verdicts as revisions
 pub verdicts_for : (book : List Entry) (count : ℕ) (verdicts : List Verdict) → verdicts ≡ verdicts_of book count → length verdicts ≡ count
@@ -107,18 +109,18 @@ found_there name_of text_of text name found made None there listed = absurd (cc 
 found_there name_of text_of text name found made (Some format) there listed = listed.0
 
 -- the format made the listing
-pub reads_listing : {F : Type 0} (name_of : F → List ℕ) (text_of : F → List Row → Bool → List ℕ) (name : List ℕ) (admission : Admission) (formats : List F)
-    (parts : List (List ℕ)) (revisions : List Revision) (verdicts : List Verdict) (details : List Detail) (found : Bool) (made : List ℕ)
-    → parts ≡ part_names admission.state.nodes → revisions ≡ admission.state.revisions → verdicts ≡ verdicts_of admission.state.book (length admission.state.revisions)
-    → details ≡ session_details name admission.state
+pub reads_listing : {F : Type 0} (name_of : F → List ℕ) (text_of : F → List Row → Bool → List ℕ) (name : List ℕ) (wanted : List Only) (admission : Admission) (formats : List F)
+    (parts : List (List ℕ)) (revisions : List Revision) (verdicts : List Verdict) (details : List Detail) (shown : List Bool) (found : Bool) (made : List ℕ)
+    → parts ≡ part_names admission.state.nodes → revisions ≡ admission.state.revisions → verdicts ≡ session_verdicts admission.state
+    → details ≡ session_details name admission.state → shown ≡ shown_revisions wanted revisions verdicts
     → whether (format_named (formats_by name_of text_of formats) name) ≡ Ok tt
-    → IsListed (first_named name_of name formats) (λ format. text_of format (told_rows parts revisions verdicts details) true) found made
-    → Reads (Ok (made_by admission made)) (λ reader. listing_named (formats_by name_of text_of formats) name admission)
-reads_listing name_of text_of name admission formats parts revisions verdicts details found made of_parts of_revisions of_verdicts of_details there listed =
+    → IsListed (first_named name_of name formats) (λ format. text_of format (shown_rows shown (told_rows parts revisions verdicts details)) true) found made
+    → Reads (Ok (made_by admission made)) (λ reader. listing_named (formats_by name_of text_of formats) name wanted admission)
+reads_listing name_of text_of name wanted admission formats parts revisions verdicts details shown found made of_parts of_revisions of_verdicts of_details of_shown there listed =
     let is : found ≡ true = found_there name_of text_of _ name found made (first_named name_of name formats)
     (ap whether (sym (named-by name_of text_of name formats)) ∙ there) listed in
     record {
-      as_due = λ reader reads. listed_text name_of text_of name admission made formats (rw (of_parts, of_revisions, of_verdicts, of_details, is) at listed);
+      as_due = λ reader reads. listed_text name_of text_of name wanted admission made formats (rw (of_shown, of_parts, of_revisions, of_verdicts, of_details, is) at listed);
       never_unread = tt;
     }
 

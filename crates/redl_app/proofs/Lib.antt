@@ -12,3 +12,4 @@ pub mod AnyOrderLaws
 pub mod TextLaws
 pub mod LockLaws
 pub mod PageLaws
+pub mod ShownLaws

@@ -1,5 +1,6 @@
 pub mod Settle
 pub mod Text
+pub mod Shown
 pub mod List
 pub mod Page
 pub mod Report

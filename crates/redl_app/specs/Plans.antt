@@ -57,7 +57,7 @@ plan (settle accept p) = record (only (of_package p (λ reader files brought who
   decides = all_of_them accept;
 }
 plan (view_text p view) = only (of_package p (λ reader files brought whole. viewed reader view whole))
-plan (list p name locks journals) = record (only (of_package p (λ reader files brought whole. listed reader files brought.formats name locks journals whole))) {
+plan (list p name locks journals wanted) = record (only (of_package p (λ reader files brought whole. listed reader files brought.formats name locks journals wanted whole))) {
   journals = journals;
   locks = locks;
   format = Some name;

@@ -38,6 +38,7 @@ mod page;
 mod report;
 mod sample;
 mod settle;
+mod shown;
 mod text;
 mod write;
 
@@ -74,11 +75,13 @@ pub(crate) fn carry_out<'a, F: Shelf, O: Sink>(
             format,
             locks,
             journals,
+            only,
             ..
         } => put(
             list(
                 alloc,
                 name_of(format),
+                only,
                 locks,
                 journals,
                 text.unwrap(),

@@ -23,11 +23,12 @@ P is a document that Word saved as \"Word XML Document (*.xml)\"; redline-docx t
 J is a journal: the text file of what reviewers decided.
 ITEM is --lock AUTHOR, --lock-kind KIND or --lock-span SPAN: nobody decides these changes;
   for list, report, page and write also J, and for decide --journal J;
-  for list also --format text, words, tab, json or full;
+  for list also --format text, words, tab, json or full, and --only SHOWN, once or more;
   for report also --format text, json or table;
   for decide also --accept CHANGES, --reject CHANGES or --withdraw CHANGES, once at least,
   and --rank N, from 0 to 9: the highest rank that has a word on a change decides it.
 CHANGES is all, numbers:3,7-9, \"author:Ann Gray\", kind:KIND, kind:GROUP or span:SPAN.
+SHOWN is open, accept, reject or disputed, or else CHANGES: only these changes are listed.
 GROUP is content, marks, rows, cells or props: all changes of text, of paragraph ends and so on.
 KIND is ins, del, move, move-from, move-to, mark-ins, mark-del, mark-from, mark-to, row-ins,
   row-del, cell-ins, cell-del, run-props, para-props, sect-props, table-props, except-props,

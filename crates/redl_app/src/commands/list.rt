@@ -1,4 +1,4 @@
-//! `list P` with a format, journals and locks.
+//! `list P` with a format, journals and locks, of all revisions or of those alone that are wanted.
 
 ghost use Rattle.std.specs.Prelude.{◌≡◌, ◌<◌, length, slice_get, Ok, Some, All, IsUtf8, IfOk};
 ghost use Rattle.redl_app.specs.Commands.List.{listed, listing_named, part_names, session_details, shows_details};
@@ -10,7 +10,9 @@ ghost use Rattle.redl_app.specs.Writing.{outcome_of};
 ghost use Rattle.redl_details.specs.Details.{IsDetail};
 ghost use Rattle.redl_listing.specs.Formats.{without_named};
 ghost use Rattle.redl_opc.specs.Shape.{parts_of};
+ghost use Rattle.redl_words.specs.Views.{onlys_view};
 
+use crate::commands::shown::shown_revisions;
 use crate::output::{Output, Writing};
 use redl_details::{Detail, package_details};
 use redl_inputs::{Admitted, open_package, read_package};
@@ -20,13 +22,15 @@ use redl_listing::{RowFormat, list_told};
 use redl_opc::Package;
 use redl_select::Lock;
 use redl_session::Session;
+use redl_words::Only;
 use std::alloc::{AllocError, Global};
 
-/// The listing of the package with this text, in the first format that has the name and is there, under the joined verdicts of the journals
-/// of these names, with these locks. It takes that format out of the list.
+/// The listing of the revisions that each of `only` shows, of the package with this text, in the first format that has the name and is
+/// there, under the joined verdicts of the journals of these names, with these locks. It takes that format out of the list.
 pub(crate) fn list<'a, 'b, F: Shelf>(
     alloc: Global,
     name: &'a str,
+    only: &[Only],
     locks: &[Lock],
     journals: &'a [Text],
     bytes: &'b [u8],
@@ -37,14 +41,14 @@ pub(crate) fn list<'a, 'b, F: Shelf>(
     requires there { whether (format_named (formats_by format_name text_for formats.old.items) name.now) ≡ Ok tt }
     requires fresh { AreFresh is_closed rows_so_far formats.old.items }
     ensures read { ReadsFiles F.told F.faults shelf.old shelf.new journals.now
-        (result_view writing_view result) (λ reader files. listed reader files (formats_by format_name text_for formats.old.items) name.now locks.now journals.now bytes.now) }
+        (result_view writing_view result) (λ reader files. listed reader files (formats_by format_name text_for formats.old.items) name.now locks.now journals.now (onlys_view only.now) bytes.now) }
     ensures formats { LeavesFormats (outcome_of (result_view writing_view result)).status
         (without_named format_name name.now formats.old.items) formats.old.items formats.new.items }
 {
     let package = read_package(alloc, bytes)?;
     let names = part_names(alloc, &package)?;
     let admitted = open_package(alloc, package, locks, journals, bytes, shelf)?;
-    list_revisions(alloc, name, &names, admitted, formats)
+    list_revisions(alloc, name, only, &names, admitted, formats)
 }
 
 // The names of the parts of a package.
@@ -68,10 +72,11 @@ fn part_name<'n>(package: &'n Package, part: u32) -> &'n [u8]
     package.part_name(part).unwrap()
 }
 
-// The listing of a session's revisions, where these are the names of the parts of its package.
+// The listing of those of a session's revisions that are shown, where these are the names of the parts of its package.
 fn list_revisions<'a, 'b>(
     alloc: Global,
     name: &'a str,
+    only: &[Only],
     parts: &[Text],
     admitted: Admitted<'b>,
     formats: &mut Vec<Box<dyn RowFormat>>,
@@ -82,7 +87,7 @@ fn list_revisions<'a, 'b>(
     requires there { whether (format_named (formats_by format_name text_for formats.old.items) name.now) ≡ Ok tt }
     requires fresh { AreFresh is_closed rows_so_far formats.old.items }
     ensures read { Reads (result_view writing_view result) (λ reader. listing_named
-        (formats_by format_name text_for formats.old.items) name.now (admission_view admitted.entry)) }
+        (formats_by format_name text_for formats.old.items) name.now (onlys_view only.now) (admission_view admitted.entry)) }
     ensures formats { LeavesFormats (outcome_of (result_view writing_view result)).status
         (without_named format_name name.now formats.old.items) formats.old.items formats.new.items }
 {
@@ -95,10 +100,11 @@ fn list_revisions<'a, 'b>(
     let details = session_details(alloc, name, &session)?;
     // The nodes go before the rows come, so that they aren't in memory together.
     let index = session.into_index();
+    let shown = shown_revisions(alloc, only, index.revisions(), &verdicts)?;
     let mut made = Vec::new(alloc);
     // The format is there.
     let _ = list_told(
-        alloc, formats, name, parts, &index, &verdicts, &details, &mut made,
+        alloc, formats, name, parts, &index, &verdicts, details, &shown, &mut made,
     )?;
     Ok(Writing {
         output: Output::Listing(made),

@@ -7,7 +7,7 @@ pub name_of-requires : goal.name_of-requires
 name_of-requires g c = (rw c.in-List.is at c.requires.utf8).1
 
 pub list-requires-clause-utf8 : goal.list-requires-clause-utf8
-list-requires-clause-utf8 g c = rw c.deref-in-List.ensures.value (rw c.in-List.is at c.requires.utf8).3
+list-requires-clause-utf8 g c = rw c.deref-in-List-2.ensures.value (rw c.in-List.is at c.requires.utf8).3
 
 pub put_page-requires : goal.put_page-requires
 put_page-requires g c = rw c.deref-in-Page-2.ensures.value (rw c.in-Page.is at c.requires.utf8).2
@@ -35,7 +35,7 @@ returns-in-Text-clause-ends g c = record {
 pub returns-in-List-clause-ends : goal.returns-in-List-clause-ends
 returns-in-List-clause-ends g c = record {
   made = result_view writing_view c.list.result;
-  reads = rw (c.in-List.is, c.unwrap-in-List.ensures) (rw (c.name_of.ensures, c.deref.ensures.value, c.deref-in-List.ensures.value) at c.list.ensures.read);
+  reads = rw (c.in-List.is, c.unwrap-in-List.ensures) (rw (c.name_of.ensures, c.deref.ensures.value, c.deref-in-List.ensures.value, c.deref-in-List-2.ensures.value) at c.list.ensures.read);
   finishes = c.put-in-List.ensures;
 }
 

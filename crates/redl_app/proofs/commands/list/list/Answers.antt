@@ -5,6 +5,7 @@ use Rattle.redl_inputs.proofs.ReadLaws.{reads_stops, reads_then_takes, takes_sto
 use Rattle.redl_inputs.specs.Admission.{opened_over}
 use Rattle.redl_app.specs.Commands.List.{listing_named}
 use Rattle.redl_app.specs.Formats.{formats_by}
+use Rattle.redl_words.specs.Views.{onlys_view}
 use Rattle.redl_app.proofs.commands.list.list.Goals as goal
 
 pub returns-in_err-package-clause-read : goal.returns-in_err-package-clause-read
@@ -12,21 +13,21 @@ returns-in_err-package-clause-read g c =
     let p = err_from_is_err_and c.from_residual.result c.from_residual.ensures.1 in
     let journals = c.args.journals.now in
     let formats = formats_by (λ b. (goal.RowFormat-dyn g (b.vtable, b.value)).format_name b.value) (λ b. (goal.RowFormat-dyn g (b.vtable, b.value)).text_for b.value) c.args.formats.now.items in
-    rw (p.1, p.2) (reads_stops (λ admission reader files. listing_named formats c.args.name.now admission)
+    rw (p.1, p.2) (reads_stops (λ admission reader files. listing_named formats c.args.name.now (onlys_view c.args.only.now) admission)
     (takes_stops_reads (λ nodes reader files. opened_over reader files c.args.locks.now journals c.args.bytes.now nodes) _ journals c.in_err-package.ensures.read) (λ one h. h))
 
 pub returns-in_err-admitted-clause-read : goal.returns-in_err-admitted-clause-read
 returns-in_err-admitted-clause-read g c =
     let p = err_from_is_err_and c.from_residual-in_err-admitted.result c.from_residual-in_err-admitted.ensures.1 in
     let formats = formats_by (λ b. (goal.RowFormat-dyn g (b.vtable, b.value)).format_name b.value) (λ b. (goal.RowFormat-dyn g (b.vtable, b.value)).text_for b.value) c.args.formats.now.items in
-    rw (p.1, p.2) (reads_stops (λ admission reader files. listing_named formats c.args.name.now admission)
+    rw (p.1, p.2) (reads_stops (λ admission reader files. listing_named formats c.args.name.now (onlys_view c.args.only.now) admission)
     (takes_then_reads (λ nodes reader files. opened_over reader files c.args.locks.now c.args.journals.now c.args.bytes.now nodes)
     c.in_ok-package.ensures.read c.in_err-admitted.ensures.read) (λ one h. h))
 
 pub returns-clause-read : goal.returns-clause-read
 returns-clause-read g c =
     let formats = formats_by (λ b. (goal.RowFormat-dyn g (b.vtable, b.value)).format_name b.value) (λ b. (goal.RowFormat-dyn g (b.vtable, b.value)).text_for b.value) c.args.formats.now.items in
-    reads_then_takes (λ admission reader. listing_named formats c.args.name.now admission)
+    reads_then_takes (λ admission reader. listing_named formats c.args.name.now (onlys_view c.args.only.now) admission)
     (takes_then_reads (λ nodes reader files. opened_over reader files c.args.locks.now c.args.journals.now c.args.bytes.now nodes)
     c.in_ok-package.ensures.read c.in_ok-admitted.ensures.read) c.list_revisions.ensures.read
 
