@@ -141,6 +141,9 @@ impl Ear for Phrase {
     fn hear(&mut self, bytes: &[u8]) -> Result<(), AllocError> {
         self.make_room(bytes.len())?;
         for byte in bytes {
+            if self.over {
+                return Ok(());
+            }
             self.hear_byte(*byte)?;
         }
         Ok(())
