@@ -3,6 +3,7 @@
 mod calls;
 mod faults;
 mod formats;
+mod hostile;
 mod limits;
 mod refusals;
 mod sizes;
