@@ -239,7 +239,8 @@ class Package:
     def __init__(self, text):
         self.text, self.nodes = text, parse(text)
         self.revisions, self.stories = [], []
-        for part in [element for element in elements(self.nodes) if element.local == "part"]:
+        parts = [kid for root in self.nodes if isinstance(root, Element) for kid in root.kids if isinstance(kid, Element)]
+        for part in parts:
             for data in [kid for kid in part.kids if isinstance(kid, Element) and kid.local == "xmlData"]:
                 for root in [kid for kid in data.kids if isinstance(kid, Element)]:
                     if root.is_w(*STORIES):
