@@ -1,12 +1,12 @@
 //! Calls of the program over files in memory.
 
-ghost use Rattle.std.specs.Prelude.{◌≡◌, [], false, IfOk, All, IsUtf8};
+ghost use Rattle.std.specs.Prelude.{IfOk, All, IsUtf8};
 
 use redl_app::{Status, add_word, run};
 use redl_io::{MemShelf, MemSink, Text};
 use redl_listing::{FullFormat, JsonFormat, TabFormat, TextFormat, WordsFormat, add_format};
 use redl_page::Skin;
-use redl_report::{JsonReport, ReportFormat, TableReport, TextReport, add_report_format};
+use redl_report::{JsonReport, TableReport, TextReport, add_report_format};
 use std::alloc::{AllocError, Global};
 
 /// What a call came to: its status, what was written, and the lines on standard error.
@@ -61,7 +61,10 @@ fn run_words(
     add_format(&mut formats, Box::new(alloc, JsonFormat::new(alloc)?)?)?;
     add_format(&mut formats, Box::new(alloc, WordsFormat::new(alloc)?)?)?;
     add_format(&mut formats, Box::new(alloc, FullFormat::new(alloc)?)?)?;
-    let mut reports = report_formats(alloc)?;
+    let mut reports = Vec::new(alloc);
+    add_report_format(&mut reports, Box::new(alloc, TextReport::new(alloc)?)?)?;
+    add_report_format(&mut reports, Box::new(alloc, JsonReport::new(alloc)?)?)?;
+    add_report_format(&mut reports, Box::new(alloc, TableReport::new(alloc)?)?)?;
     Ok(run(
         alloc,
         words,
@@ -72,17 +75,6 @@ fn run_words(
         &mut reports,
         &SKIN,
     ))
-}
-
-// The program's formats of reports.
-fn report_formats(alloc: Global) -> Result<Vec<Box<dyn ReportFormat>>, AllocError>
-    ensures { IfOk result (λ formats. All (λ format. (is_ended format ≡ false) × (lines_so_far format ≡ [])) formats.items) }
-{
-    let mut formats = Vec::new(alloc);
-    add_report_format(&mut formats, Box::new(alloc, TextReport::new(alloc)?)?)?;
-    add_report_format(&mut formats, Box::new(alloc, JsonReport::new(alloc)?)?)?;
-    add_report_format(&mut formats, Box::new(alloc, TableReport::new(alloc)?)?)?;
-    Ok(formats)
 }
 
 // The words of a line, with spaces between them. What stands between two quotes is one word.

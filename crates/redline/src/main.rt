@@ -11,7 +11,7 @@
 mod help;
 mod skin;
 
-ghost use Rattle.std.specs.Prelude.{◌≡◌, [], false, drop, map, IfOk, All, IsUtf8};
+ghost use Rattle.std.specs.Prelude.{◌≡◌, drop, map, IfOk, All, IsUtf8};
 ghost use Rattle.std.specs.String.{string_bytes};
 ghost use Rattle.std.specs.Vec.Iter.{into_iter_items};
 
@@ -21,7 +21,7 @@ use redl_hints::{Fetched, Told, tell_hints, tell_word_hint};
 use redl_io::{FileShelf, Shelf, Sink, StdSink, Text};
 use redl_listing::{FullFormat, JsonFormat, TabFormat, TextFormat, WordsFormat, add_format};
 use redl_page::Skin;
-use redl_report::{JsonReport, ReportFormat, TableReport, TextReport, add_report_format};
+use redl_report::{JsonReport, TableReport, TextReport, add_report_format};
 use skin::{POLICY, SCRIPT, STYLE};
 use std::alloc::{AllocError, Global};
 use std::env;
@@ -102,7 +102,10 @@ fn run_with_formats<F: Shelf, O: Sink, E: Sink>(
     add_format(&mut formats, Box::new(alloc, JsonFormat::new(alloc)?)?)?;
     add_format(&mut formats, Box::new(alloc, WordsFormat::new(alloc)?)?)?;
     add_format(&mut formats, Box::new(alloc, FullFormat::new(alloc)?)?)?;
-    let mut reports = report_formats(alloc)?;
+    let mut reports = Vec::new(alloc);
+    add_report_format(&mut reports, Box::new(alloc, TextReport::new(alloc)?)?)?;
+    add_report_format(&mut reports, Box::new(alloc, JsonReport::new(alloc)?)?)?;
+    add_report_format(&mut reports, Box::new(alloc, TableReport::new(alloc)?)?)?;
     Ok(run(
         alloc,
         words,
@@ -113,17 +116,6 @@ fn run_with_formats<F: Shelf, O: Sink, E: Sink>(
         &mut reports,
         &page_skin(),
     ))
-}
-
-// The formats of reports. `Err` means out of memory.
-fn report_formats(alloc: Global) -> Result<Vec<Box<dyn ReportFormat>>, AllocError>
-    ensures { IfOk result (λ formats. All (λ format. (is_ended format ≡ false) × (lines_so_far format ≡ [])) formats.items) }
-{
-    let mut formats = Vec::new(alloc);
-    add_report_format(&mut formats, Box::new(alloc, TextReport::new(alloc)?)?)?;
-    add_report_format(&mut formats, Box::new(alloc, JsonReport::new(alloc)?)?)?;
-    add_report_format(&mut formats, Box::new(alloc, TableReport::new(alloc)?)?)?;
-    Ok(formats)
 }
 
 // The program's own policy, style and script for a page.
