@@ -6,7 +6,11 @@ use crate::numbers::is_number;
 pub(crate) fn fault_of_value(help: &str, option: &str, value: &str) -> Option<&'static str> {
     match option {
         "--accept" | "--reject" | "--withdraw" => fault_of_selection(help, value),
-        "--lock-kind" => fault_of_labelled(help, "kind", value),
+        "--only" => fault_of_shown(help, value),
+        "--lock-kind" if is_listed_kind(help, value) && !is_group(value) => None,
+        "--lock-kind" => Some(
+            "--lock-kind takes one kind of those that redline --help lists, as run-props, and no group",
+        ),
         "--lock-span" => fault_of_labelled(help, "span", value),
         "--rank" if !is_rank(value) => Some("a rank is one digit, from 0 to 9"),
         _ => None,
@@ -17,11 +21,31 @@ fn is_rank(value: &str) -> bool {
     value.len() == 1 && value.as_bytes().iter().all(u8::is_ascii_digit)
 }
 
+// The names of the groups of kinds.
+fn is_group(name: &str) -> bool {
+    matches!(name, "content" | "marks" | "rows" | "cells" | "props")
+}
+
+fn fault_of_shown(help: &str, text: &str) -> Option<&'static str> {
+    if matches!(text, "open" | "accept" | "reject" | "disputed") {
+        return None;
+    }
+    match text.split_once(':') {
+        Some((label, value)) => fault_of_labelled(help, label, value),
+        None if text == "all" => None,
+        None => Some(
+            "--only takes open, accept, reject, disputed or a selection: numbers:1,2, author:NAME, kind:NAME, kind:GROUP or span:FROM/TO",
+        ),
+    }
+}
+
 fn fault_of_selection(help: &str, text: &str) -> Option<&'static str> {
     match text.split_once(':') {
         Some((label, value)) => fault_of_labelled(help, label, value),
         None if text == "all" => None,
-        None => Some("a selection is all, numbers:1,2, author:NAME, kind:NAME or span:FROM/TO"),
+        None => Some(
+            "a selection is all, numbers:1,2, author:NAME, kind:NAME, kind:GROUP or span:FROM/TO",
+        ),
     }
 }
 
@@ -33,7 +57,9 @@ fn fault_of_labelled(help: &str, label: &str, value: &str) -> Option<&'static st
             "numbers are written as --help shows, with commas and without spaces, each without a zero in front and at most 4294967295, in a range the smaller one first",
         ),
         "kind" if is_listed_kind(help, value) => None,
-        "kind" => Some("a kind is one name of those that redline --help lists, as ins or del"),
+        "kind" => Some(
+            "a kind is one name of those that redline --help lists, as ins or del, or a group of kinds, as props",
+        ),
         "span" if value.matches('T').count() == 2 && value.contains('/') => None,
         "span" => Some(
             "a span is two dates with their times, as 2026-11-01T00:00:00Z/2026-11-02T00:00:00Z, the second not included",
