@@ -14,9 +14,6 @@ import sys
 
 import reading
 
-# What the page shows besides texts and changes. The program shows none of "styles" (of paragraphs), "runs" (bold and italic
-# ones) and "notes" (the signs of footnotes) yet.
-SHOWS = ()
 SKIN = os.path.join(os.path.dirname(os.path.dirname(os.path.abspath(__file__))), "crates", "redline", "page")
 
 REFERENCES = {"&": "&amp;", "<": "&lt;", ">": "&gt;", '"': "&quot;", "'": "&#39;"}
@@ -39,18 +36,18 @@ def shown(stretch):
     return "".join(it[9:-3] if it.startswith("<![CDATA[") else "" if it.startswith("<") else plain(it) for it in pieces)
 
 
-def first_kid(element, local):
-    return next(iter(reading.kids_named(element.kids, local)), None) if element else None
+def properties(element, name, local):
+    """The properties of this name in the properties of an element."""
+    return [it for props in reading.kids_named(element.kids, name) for it in reading.kids_named(props.kids, local)]
 
 
 def style_of(para):
-    style = first_kid(first_kid(para, "pPr"), "pStyle")
-    return style.attribute("val") if style and "styles" in SHOWS else None
+    named = [it.written_value("val") for it in properties(para, "pPr", "pStyle")]
+    return next((style for style in named if style is not None), None)
 
 
-def has_style(run, local):
-    switch = first_kid(first_kid(run, "rPr"), local)
-    return switch is not None and switch.attribute("val") not in ("0", "false", "off")
+def is_on(run, local):
+    return any(it.written_value("val") not in ("0", "false", "off") for it in properties(run, "rPr", local))
 
 
 def holds_blocks(para):
@@ -121,7 +118,7 @@ class Page:
         style = style_of(element)
         start, end = ('<div class="p"', "</div>\n") if holds_blocks(element) else ("<p", "</p>\n")
         if style is not None:
-            start += ' data-style="%s"' % escaped(style)
+            start += ' data-style="%s"' % escaped(shown(style))
         return start + ">", "".join(self.sign(mark, "mark", "&para;") for mark in marks_of(element)) + end
 
     def around(self, element):
@@ -137,11 +134,11 @@ class Page:
         if element.local == "p":
             return self.paragraph(element)
         if element.local == "r":
-            names = [name for name in "bi" if "runs" in SHOWS and has_style(element, name)]
+            names = [name for name in "bi" if is_on(element, name)]
             return "".join("<%s>" % it for it in names), "".join("</%s>" % it for it in reversed(names))
         is_note = element.is_w("footnote", "endnote") and element.attribute("type") is None
-        if "notes" in SHOWS and (is_note or element.is_w("footnoteReference", "endnoteReference")):
-            return "<sup>%s</sup>" % escaped(element.attribute("id") or ""), ""
+        if is_note or element.is_w("footnoteReference", "endnoteReference"):
+            return "<sup>%s</sup>" % escaped(shown(element.written_value("id") or "")), ""
         return FIXED.get(element.local, ("", ""))
 
     def nodes(self, nodes, parent):

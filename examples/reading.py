@@ -36,12 +36,17 @@ class Element:
         # whether no ancestor is quiet, once that was asked
         self.open = None
 
-    def attribute(self, local):
-        """The decoded value of the first attribute with this local name, or None."""
+    def written_value(self, local):
+        """The value of the first attribute with this local name, as it is written, or None."""
         for name, _, value in re.findall(r"""([\w:.-]+)\s*=\s*(["'])(.*?)\2""", self.tail, re.S):
             if name.rpartition(":")[2] == local and name.partition(":")[0] != "xmlns":
-                return decoded(value)
+                return value
         return None
+
+    def attribute(self, local):
+        """The same value, decoded."""
+        value = self.written_value(local)
+        return None if value is None else decoded(value)
 
     def is_w(self, *locals):
         return self.space == "W" and self.local in locals

@@ -487,7 +487,7 @@ def hostile(driven):
     texts = seen.run("return [...document.querySelectorAll('h2')].map((it) => it.textContent)")
     same("hostile names of parts are texts", texts, EVIL)
     styles = seen.run("return [...document.querySelectorAll('main [data-style]')].map((it) => it.dataset.style)")
-    same("hostile styles are texts", styles, EVIL if "styles" in page.SHOWS else [])
+    same("hostile styles are texts", styles, EVIL)
     authors = seen.run("return [...new Set([...document.querySelectorAll('aside > ol > li')].map((it) => it.dataset.author))]")
     same("hostile authors are texts", authors, EVIL)
     reviewers = seen.run("return [...document.querySelectorAll('aside > ul > li')].map((it) => it.textContent)")

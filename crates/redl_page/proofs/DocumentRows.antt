@@ -5,10 +5,16 @@ use Rattle.redl_tree.specs.Model.Nodes.{Nodes, no_nodes, Empty, ◌⊕◌}
 use Rattle.redl_tree.specs.declared.kinds.Trace.TheVariants.{Ins, Del, From}
 use Rattle.redl_tree.specs.declared.kinds.Prop.TheVariants as props
 use Rattle.redl_tree.specs.declared.kinds.Kind.TheVariants.{Mark, Row, Cell, Change, Marker}
-use Rattle.redl_tree.proofs.Build.{opened, closed, member, content, words, run, deleted_run}
+use Rattle.redl_tree.proofs.Build.{opened, opened_with, closed, member, content, words, run, deleted_run}
 use Rattle.redl_index.specs.declared.revision.RevKind.TheVariants as revisions
 use Rattle.redl_index.specs.declared.revision.Revision.{Revision}
+use Rattle.redl_markup.specs.Attributes.{attributes_of}
+use Rattle.redl_markup.specs.Characters.{is_name_start, is_name_character, is_space}
+use Rattle.redl_markup.specs.Names.{may_start, may_follow}
 use Rattle.redl_markup.specs.References.{reference_at, named_at}
+use Rattle.redl_markup.specs.ScanNames.{name_at, word_at, char_at, name_end, name_step}
+use Rattle.redl_markup.specs.ScanTags.{attribute_in, attribute_at, equated_at, quoted_at, quote_at, is_value}
+use Rattle.redl_reading.specs.Lists.{field_at}
 use Rattle.redl_shown.specs.Shown.{shown}
 use Rattle.redl_page.specs.Document.{nodes_pieces, in_story}
 use Rattle.redl_page.specs.Pieces.{pieces_text}
@@ -65,3 +71,14 @@ moved : written move
     ≡ codes "<p><a id=\"from-1\" href=\"#to-1\" data-revision=\"1\" data-author=\"Ann &amp; Co\">moved away</a><del class=\"text move\" data-revision=\"1\" data-author=\"Ann &amp; Co\">a</del></p>\n"
 unfolding move digits
 moved = refl
+
+-- a heading with a note: its style and its bold run are shown; what is switched off and a separator of notes are not
+heading : Nodes
+heading =
+    opened "p" (opened "pPr" (closed "pStyle" " w:val=\"Heading1\"")
+    ⊕ opened "r" (opened "rPr" (closed "b" "" ⊕ closed "i" " w:val=\"0\"") ⊕ opened "t" (words "Price") ⊕ closed "footnoteReference" " w:id=\"3\""))
+    ⊕ opened_with "footnote" " w:type=\"separator\" w:id=\"0\"" no_nodes
+
+shown_heading : written heading ≡ codes "<p data-style=\"Heading1\"><b>Price<sup>3</sup></b></p>\n"
+unfolding heading attributes_of attribute_in attribute_at name_at word_at char_at name_end name_step may_start may_follow is_name_start is_name_character is_space equated_at quoted_at field_at quote_at is_value
+shown_heading = refl

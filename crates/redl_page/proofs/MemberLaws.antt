@@ -148,16 +148,16 @@ module _ (shown : List ℕ → List ℕ) (revisions : List Revision) (v : ℕ) w
   abbrev Found : Place → List Tag → Nodes → Type 0
   Found place ancestors nodes = (has_element v (nodes_pieces shown revisions place nodes) ≡ true) ⊎ Waits revisions v ancestors nodes
 
-  found_start : (place : Place) (ancestors : List Tag) (tag : Tag) (kids rest : Nodes) → has_element v (start_as revisions (shape_of place.loud tag kids) tag tag.kind) ≡ true → Found place ancestors (element tag kids rest)
+  found_start : (place : Place) (ancestors : List Tag) (tag : Tag) (kids rest : Nodes) → has_element v (start_as revisions (shape_of place.loud tag kids) tag kids tag.kind) ≡ true → Found place ancestors (element tag kids rest)
   found_start place ancestors tag kids rest h =
       inl (has-left opens_number v (element_pieces revisions place tag kids (nodes_pieces shown revisions (inside tag place) kids)) (nodes_pieces shown revisions place rest)
-      (has-left opens_number v (start_as revisions (shape_of place.loud tag kids) tag tag.kind) (nodes_pieces shown revisions (inside tag place) kids ++ end_as revisions (shape_of place.loud tag kids) kids tag.kind) h))
+      (has-left opens_number v (start_as revisions (shape_of place.loud tag kids) tag kids tag.kind) (nodes_pieces shown revisions (inside tag place) kids ++ end_as revisions (shape_of place.loud tag kids) kids tag.kind) h))
 
   found_inner : (place : Place) (ancestors : List Tag) (tag : Tag) (kids rest : Nodes) → has_element v (nodes_pieces shown revisions (inside tag place) kids ++ end_as revisions (shape_of place.loud tag kids) kids tag.kind) ≡ true →
       Found place ancestors (element tag kids rest)
   found_inner place ancestors tag kids rest h =
       inl (has-left opens_number v (element_pieces revisions place tag kids (nodes_pieces shown revisions (inside tag place) kids)) (nodes_pieces shown revisions place rest)
-      (has-right opens_number v (start_as revisions (shape_of place.loud tag kids) tag tag.kind) (nodes_pieces shown revisions (inside tag place) kids ++ end_as revisions (shape_of place.loud tag kids) kids tag.kind) h))
+      (has-right opens_number v (start_as revisions (shape_of place.loud tag kids) tag kids tag.kind) (nodes_pieces shown revisions (inside tag place) kids ++ end_as revisions (shape_of place.loud tag kids) kids tag.kind) h))
 
   -- an element that is a member
   found_here : (place : Place) (ancestors : List Tag) (tag : Tag) (kids rest : Nodes) (kind : Kind) → tag.kind ≡ kind → is_member kind ≡ true → eqb tag.rev v ≡ true → Fits ancestors tag →

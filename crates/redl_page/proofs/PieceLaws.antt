@@ -1,7 +1,8 @@
 -- What is written of pieces, and the nodes of a list one after the other.
 use Prim.Native.String.{String}
-use Rattle.std.proofs.Common.{◌≡◌, ℕ, List, [], ◌++◌, Bool, true, false, ◌||◌, ◌+◌, ◌<◌, length, drop, slice_get, Option, Some, option_map, Result, refl, sym, ap, ◌∙◌, append_assoc, append-nil, codes, if◌then◌else◌}
+use Rattle.std.proofs.Common.{◌≡◌, ℕ, List, [], ◌++◌, Bool, true, false, ◌||◌, ◌+◌, ◌<◌, length, drop, slice_get, Option, None, Some, option_map, Result, refl, sym, ap, ◌∙◌, append_assoc, append-nil, codes, if◌then◌else◌}
 use Rattle.std.specs.Prelude.{decimal, unwrap_or}
+use Rattle.std.specs.Option.{option_or}
 use Rattle.std.specs.Borrow.{GName}
 use Rattle.std.proofs.lemmas.List.Concat.{flat_map-append}
 use Rattle.redl_io.specs.Sink.{Puts}
@@ -18,7 +19,7 @@ use Rattle.redl_page.specs.declared.marks.Depth.TheVariants.{Kids, Properties, R
 use Rattle.redl_page.specs.declared.place.Place.{Place}
 use Rattle.redl_page.specs.Escaping.{escaped}
 use Rattle.redl_page.specs.Pieces.{Piece, piece_text, pieces_text}
-use Rattle.redl_page.specs.Shapes.{closing, holds_blocks, is_paragraph, item_holds, shape_of}
+use Rattle.redl_page.specs.Shapes.{closing, has_property, holds_blocks, is_paragraph, item_has_property, item_holds, item_style, item_style_in, item_switches, shape_of, style_in, style_of, switched_on}
 use Rattle.redl_page.specs.declared.shape.Shape.{Shape}
 use Rattle.redl_page.specs.Signs.{author_at, sign, sign_text, edge}
 use Rattle.redl_page.specs.Document.{in_story, section_head, section, shape_end, start_as, end_as, element_pieces, marks_in, item_marks, nodes_pieces, item_pieces, section_in, sections, section_at, name_at, is_first_after}
@@ -83,13 +84,13 @@ nodes_text shown revisions place nodes x rest e =
 -- an element with this shape
 pub element_text-by : (revisions : List Revision) (place : Place) (tag : Tag) (kids : Nodes) (inner : List Piece) (shape : Shape) → shape ≡ shape_of place.loud tag kids →
     pieces_text (element_pieces revisions place tag kids inner)
-    ≡ pieces_text (start_as revisions shape tag tag.kind) ++ (pieces_text inner ++ pieces_text (end_as revisions shape kids tag.kind))
+    ≡ pieces_text (start_as revisions shape tag kids tag.kind) ++ (pieces_text inner ++ pieces_text (end_as revisions shape kids tag.kind))
 element_text-by revisions place tag kids inner shape e =
-    let start = start_as revisions (shape_of place.loud tag kids) tag tag.kind in
+    let start = start_as revisions (shape_of place.loud tag kids) tag kids tag.kind in
     let end = end_as revisions (shape_of place.loud tag kids) kids tag.kind in
     pieces_text-append start (inner ++ end)
     ∙ ap (λ l. pieces_text start ++ l) (pieces_text-append inner end)
-    ∙ ap (λ s. pieces_text (start_as revisions s tag tag.kind) ++ (pieces_text inner ++ pieces_text (end_as revisions s kids tag.kind))) (sym e)
+    ∙ ap (λ s. pieces_text (start_as revisions s tag kids tag.kind) ++ (pieces_text inner ++ pieces_text (end_as revisions s kids tag.kind))) (sym e)
 
 holds_blocks-front : (x : Item) (rest : Nodes) → holds_blocks (in_front x rest) ≡ (item_holds x || holds_blocks rest)
 holds_blocks-front (bytes_item b) rest = refl
@@ -101,6 +102,48 @@ holds-later nodes x rest e h = sym (ap holds_blocks e ∙ holds_blocks-front x r
 
 pub holds-here : (nodes : Nodes) (x : Item) (rest : Nodes) → nodes ≡ in_front x rest → item_holds x ≡ true → holds_blocks nodes ≡ true
 holds-here nodes x rest e h = ap holds_blocks e ∙ holds_blocks-front x rest ∙ ap (λ b. b || holds_blocks rest) h
+
+-- ---- properties
+
+switched_on-front : (name : List ℕ) (x : Item) (rest : Nodes) → switched_on name (in_front x rest) ≡ (item_switches name x || switched_on name rest)
+switched_on-front name (bytes_item b) rest = refl
+switched_on-front name (element_item tag kids) rest = refl
+
+pub switched_on-later : (name : List ℕ) (nodes : Nodes) (x : Item) (rest : Nodes) → nodes ≡ in_front x rest → item_switches name x ≡ false → switched_on name rest ≡ switched_on name nodes
+switched_on-later name nodes x rest e h = sym (ap (switched_on name) e ∙ switched_on-front name x rest ∙ ap (λ b. b || switched_on name rest) h)
+
+pub switched_on-here : (name : List ℕ) (nodes : Nodes) (x : Item) (rest : Nodes) → nodes ≡ in_front x rest → item_switches name x ≡ true → switched_on name nodes ≡ true
+switched_on-here name nodes x rest e h = ap (switched_on name) e ∙ switched_on-front name x rest ∙ ap (λ b. b || switched_on name rest) h
+
+has_property-front : (name : List ℕ) (x : Item) (rest : Nodes) → has_property name (in_front x rest) ≡ (item_has_property name x || has_property name rest)
+has_property-front name (bytes_item b) rest = refl
+has_property-front name (element_item tag kids) rest = refl
+
+pub has_property-later : (name : List ℕ) (nodes : Nodes) (x : Item) (rest : Nodes) → nodes ≡ in_front x rest → item_has_property name x ≡ false → has_property name rest ≡ has_property name nodes
+has_property-later name nodes x rest e h = sym (ap (has_property name) e ∙ has_property-front name x rest ∙ ap (λ b. b || has_property name rest) h)
+
+pub has_property-here : (name : List ℕ) (nodes : Nodes) (x : Item) (rest : Nodes) → nodes ≡ in_front x rest → item_has_property name x ≡ true → has_property name nodes ≡ true
+has_property-here name nodes x rest e h = ap (has_property name) e ∙ has_property-front name x rest ∙ ap (λ b. b || has_property name rest) h
+
+style_in-front : (x : Item) (rest : Nodes) → style_in (in_front x rest) ≡ option_or (item_style_in x) (style_in rest)
+style_in-front (bytes_item b) rest = refl
+style_in-front (element_item tag kids) rest = refl
+
+pub style_in-later : (nodes : Nodes) (x : Item) (rest : Nodes) → nodes ≡ in_front x rest → item_style_in x ≡ None → style_in rest ≡ style_in nodes
+style_in-later nodes x rest e h = sym (ap style_in e ∙ style_in-front x rest ∙ ap (λ o. option_or o (style_in rest)) h)
+
+pub style_in-here : (nodes : Nodes) (x : Item) (rest : Nodes) (style : List ℕ) → nodes ≡ in_front x rest → item_style_in x ≡ Some style → style_in nodes ≡ Some style
+style_in-here nodes x rest style e h = ap style_in e ∙ style_in-front x rest ∙ ap (λ o. option_or o (style_in rest)) h
+
+style_of-front : (x : Item) (rest : Nodes) → style_of (in_front x rest) ≡ option_or (item_style x) (style_of rest)
+style_of-front (bytes_item b) rest = refl
+style_of-front (element_item tag kids) rest = refl
+
+pub style_of-later : (nodes : Nodes) (x : Item) (rest : Nodes) → nodes ≡ in_front x rest → item_style x ≡ None → style_of rest ≡ style_of nodes
+style_of-later nodes x rest e h = sym (ap style_of e ∙ style_of-front x rest ∙ ap (λ o. option_or o (style_of rest)) h)
+
+pub style_of-here : (nodes : Nodes) (x : Item) (rest : Nodes) (style : List ℕ) → nodes ≡ in_front x rest → item_style x ≡ Some style → style_of nodes ≡ Some style
+style_of-here nodes x rest style e h = ap style_of e ∙ style_of-front x rest ∙ ap (λ o. option_or o (style_of rest)) h
 
 pub shape_end-text : (revisions : List Revision) (shape : Shape) (kids : Nodes) → pieces_text (shape_end revisions shape kids)
     ≡ pieces_text (if is_paragraph shape then marks_in revisions Kids kids else []) ++ codes (closing shape)

@@ -16,7 +16,7 @@ use Rattle.redl_page.specs.declared.marks.Depth.TheVariants.{Kids, Properties, R
 use Rattle.redl_page.specs.declared.shape.Shape.{Shape}
 use Rattle.redl_page.specs.Pieces.{Piece, own, outside}
 use Rattle.redl_page.specs.Signs.{member, edge, content_end}
-use Rattle.redl_page.specs.Shapes.{shape_of, opening, closing, is_paragraph}
+use Rattle.redl_page.specs.Shapes.{shape_of, opening, behind_opening, closing, is_paragraph}
 
 -- ---- the marks of a paragraph
 
@@ -44,22 +44,22 @@ item_marks revisions depth (element_item tag kids) = element_marks revisions dep
 
 -- ---- one element
 
-abbrev pub shape_start : Shape → List Piece
-shape_start shape = own (opening shape) ∷ []
+abbrev pub shape_start : Shape → Tag → Nodes → List Piece
+shape_start shape tag kids = own (opening shape) ∷ behind_opening shape tag kids
 
 -- a paragraph shows the members of its mark at its end
 abbrev pub shape_end : List Revision → Shape → Nodes → List Piece
 shape_end revisions shape kids = (if is_paragraph shape then marks_in revisions Kids kids else []) ++ own (closing shape) ∷ []
 
 -- what comes before the kids of an element with this shape
-abbrev pub start_as : List Revision → Shape → Tag → Kind → List Piece
-start_as revisions shape tag Plain = shape_start shape
-start_as revisions shape tag (Content trace) = member revisions (Content trace) tag.rev
-start_as revisions shape tag (Mark trace) = []
-start_as revisions shape tag (Row trace) = member revisions (Row trace) tag.rev
-start_as revisions shape tag (Cell trace) = member revisions (Cell trace) tag.rev
-start_as revisions shape tag (Change prop) = member revisions (Change prop) tag.rev
-start_as revisions shape tag Marker = edge revisions tag
+abbrev pub start_as : List Revision → Shape → Tag → Nodes → Kind → List Piece
+start_as revisions shape tag kids Plain = shape_start shape tag kids
+start_as revisions shape tag kids (Content trace) = member revisions (Content trace) tag.rev
+start_as revisions shape tag kids (Mark trace) = []
+start_as revisions shape tag kids (Row trace) = member revisions (Row trace) tag.rev
+start_as revisions shape tag kids (Cell trace) = member revisions (Cell trace) tag.rev
+start_as revisions shape tag kids (Change prop) = member revisions (Change prop) tag.rev
+start_as revisions shape tag kids Marker = edge revisions tag
 
 -- what comes after them
 abbrev pub end_as : List Revision → Shape → Nodes → Kind → List Piece
@@ -82,7 +82,7 @@ bytes_pieces shown place b = if place.shows then outside (shown b) ∷ [] else [
 -- an element whose kids give these pieces
 abbrev pub element_pieces : List Revision → Place → Tag → Nodes → List Piece → List Piece
 element_pieces revisions place tag kids inner =
-    start_as revisions (shape_of place.loud tag kids) tag tag.kind ++ (inner ++ end_as revisions (shape_of place.loud tag kids) kids tag.kind)
+    start_as revisions (shape_of place.loud tag kids) tag kids tag.kind ++ (inner ++ end_as revisions (shape_of place.loud tag kids) kids tag.kind)
 
 -- nodes that have this place; `shown` gives what the bytes of a node show
 abbrev pub nodes_pieces : (List ℕ → List ℕ) → List Revision → Place → Nodes → List Piece

@@ -18,6 +18,7 @@ mod sections;
 mod shape;
 mod shown;
 mod sign;
+mod values;
 
 pub use laws::{
     each_member_has_an_element, each_revision_has_an_item, texts_from_outside_are_safe,

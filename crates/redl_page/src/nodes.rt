@@ -4,9 +4,9 @@ ghost use Rattle.std.specs.Prelude.{◌≡◌, if◌then◌else◌, [], codes};
 ghost use Rattle.redl_io.specs.Sink.{Puts};
 ghost use Rattle.redl_tree.specs.Model.View.{nodes_of, item_of, tag_of, kids_of};
 ghost use Rattle.redl_shown.specs.Shown.{shown};
-ghost use Rattle.redl_page.specs.Document.{bytes_pieces, element_pieces, end_as, inside, item_pieces, marks_in, nodes_pieces, shape_end, start_as};
+ghost use Rattle.redl_page.specs.Document.{bytes_pieces, element_pieces, end_as, inside, item_pieces, marks_in, nodes_pieces, shape_end, shape_start, start_as};
 ghost use Rattle.redl_page.specs.Pieces.{pieces_text};
-ghost use Rattle.redl_page.specs.Shapes.{is_paragraph};
+ghost use Rattle.redl_page.specs.Shapes.{behind_opening, is_paragraph};
 ghost use Rattle.redl_page.specs.declared.marks.Depth.TheVariants.{Kids};
 
 use crate::marks::{Depth, put_marks};
@@ -14,6 +14,7 @@ use crate::place::Place;
 use crate::shape::Shape;
 use crate::shown::put_shown;
 use crate::sign::{content_end, put_edge, put_member};
+use crate::values::{put_note, put_style, style_of, written_value};
 use redl_index::Index;
 use redl_io::{Failed, Sink, put_piece};
 use redl_tree::{Elem, Kind, Node};
@@ -66,16 +67,36 @@ fn put_bytes<K: Sink>(place: Place, bytes: &[u8], out: &mut K) -> Result<(), Fai
 
 // Puts what comes before the kids of an element.
 fn put_start<K: Sink>(index: &Index, shape: Shape, elem: &Elem, out: &mut K) -> Result<(), Failed>
-    ensures { Puts K.told K.faults K.settled K.lenders out.old out.new (pieces_text (start_as index.now shape (tag_of elem.now) (tag_of elem.now).kind)) result }
+    ensures { Puts K.told K.faults K.settled K.lenders out.old out.new (pieces_text (start_as index.now shape (tag_of elem.now) (kids_of elem.now) (tag_of elem.now).kind)) result }
 {
     match elem.kind() {
-        Kind::Plain => put_piece(shape.opening(), out),
+        Kind::Plain => put_opening(shape, elem, out),
         Kind::Mark(_) => Ok(()),
         Kind::Marker => put_edge(index, elem, out),
         Kind::Content(trace) => put_member(index, Kind::Content(trace), elem.rev(), out),
         Kind::Row(trace) => put_member(index, Kind::Row(trace), elem.rev(), out),
         Kind::Cell(trace) => put_member(index, Kind::Cell(trace), elem.rev(), out),
         Kind::Change(prop) => put_member(index, Kind::Change(prop), elem.rev(), out),
+    }
+}
+
+// Puts what comes before the kids of an element that is in no revision.
+fn put_opening<K: Sink>(shape: Shape, elem: &Elem, out: &mut K) -> Result<(), Failed>
+    ensures { Puts K.told K.faults K.settled K.lenders out.old out.new (pieces_text (shape_start shape (tag_of elem.now) (kids_of elem.now))) result }
+{
+    put_piece(shape.opening(), out)?;
+    put_behind_opening(shape, elem, out)
+}
+
+// Puts what comes behind the opening: the style of a paragraph, or the id of a note.
+fn put_behind_opening<K: Sink>(shape: Shape, elem: &Elem, out: &mut K) -> Result<(), Failed>
+    ensures { Puts K.told K.faults K.settled K.lenders out.old out.new (pieces_text (behind_opening shape (tag_of elem.now) (kids_of elem.now))) result }
+{
+    match shape {
+        Shape::Paragraph => put_style(style_of(elem.kids()), out),
+        Shape::Division => put_style(style_of(elem.kids()), out),
+        Shape::Note => put_note(written_value(elem.tail(), b"id"), out),
+        _ => Ok(()),
     }
 }
 

@@ -2,8 +2,10 @@
 
 ghost use Rattle.std.specs.Prelude.{◌≡◌, codes, if◌then◌else◌};
 ghost use Rattle.redl_tree.specs.Model.View.{nodes_of, item_of, tag_of, kids_of};
-ghost use Rattle.redl_page.specs.Shapes.{closing, holds_blocks, inline_named, is_block, is_other_form, is_paragraph, item_holds, opening, shape_named, shape_of};
+ghost use Rattle.redl_page.specs.Shapes.{closing, has_property, holds_blocks, inline_named, is_block, is_note, is_other_form, is_paragraph, item_holds, opening, run_shape, shape_named, shape_of};
 
+use crate::values::has_property;
+use redl_stamp::has_attribute;
 use redl_tree::{Elem, Node, Space, is_named};
 
 /// What an element is shown as that is in no revision.
@@ -19,10 +21,16 @@ pub(crate) enum Shape {
     Cell,
     /// What a text box holds.
     TextBox,
+    /// A run, by how it is set.
+    Bold,
+    Italic,
+    BoldItalic,
     Tab,
     Break,
     Hyphen,
     Picture,
+    /// A note, or a reference to one.
+    Note,
     /// The second form of content that is kept in two.
     OtherForm,
 }
@@ -43,6 +51,9 @@ impl Shape {
     {
         if is_named(elem, b"p") {
             return Shape::of_paragraph(elem);
+        }
+        if is_named(elem, b"r") {
+            return Shape::of_run(elem);
         }
         if is_named(elem, b"tbl") {
             return Shape::Table;
@@ -71,6 +82,19 @@ impl Shape {
         Shape::Paragraph
     }
 
+    fn of_run(elem: &Elem) -> Shape
+        ensures { result ≡ run_shape (has_property (codes "b") (kids_of elem.now)) (has_property (codes "i") (kids_of elem.now)) }
+    {
+        let bold = has_property(elem.kids(), b"b");
+        let italic = has_property(elem.kids(), b"i");
+        match (bold, italic) {
+            (false, false) => Shape::Nothing,
+            (true, false) => Shape::Bold,
+            (false, true) => Shape::Italic,
+            (true, true) => Shape::BoldItalic,
+        }
+    }
+
     fn inline(elem: &Elem) -> Shape
         ensures { result ≡ inline_named (tag_of elem.now) }
     {
@@ -86,6 +110,9 @@ impl Shape {
         if is_named(elem, b"drawing") || is_named(elem, b"pict") || is_named(elem, b"object") {
             return Shape::Picture;
         }
+        if is_note(elem) {
+            return Shape::Note;
+        }
         Shape::Nothing
     }
 
@@ -96,22 +123,26 @@ impl Shape {
         matches!(self, Shape::Paragraph | Shape::Division)
     }
 
-    /// What comes before the kids.
+    /// What comes before the kids; the style of a paragraph and the id of a note come behind it.
     pub(crate) fn opening(self) -> &'static [u8]
         ensures { result.now ≡ codes (opening self) }
     {
         match self {
             Shape::Nothing => b"",
-            Shape::Paragraph => b"<p>",
-            Shape::Division => b"<div class=\"p\">",
+            Shape::Paragraph => b"<p",
+            Shape::Division => b"<div class=\"p\"",
             Shape::Table => b"<table>\n",
             Shape::Row => b"<tr>",
             Shape::Cell => b"<td>",
             Shape::TextBox => b"<span class=\"box\">",
+            Shape::Bold => b"<b>",
+            Shape::Italic => b"<i>",
+            Shape::BoldItalic => b"<b><i>",
             Shape::Tab => b"\t",
             Shape::Break => b"<br>",
             Shape::Hyphen => b"&#8209;",
             Shape::Picture => b"<span class=\"picture\">picture</span>",
+            Shape::Note => b"<sup>",
             Shape::OtherForm => b"<details><summary>kept in another form</summary>",
         }
     }
@@ -127,14 +158,28 @@ impl Shape {
             Shape::Row => b"</tr>\n",
             Shape::Cell => b"</td>",
             Shape::TextBox => b"</span>",
+            Shape::Bold => b"</b>",
+            Shape::Italic => b"</i>",
+            Shape::BoldItalic => b"</i></b>",
             Shape::OtherForm => b"</details>",
             Shape::Nothing => b"",
             Shape::Tab => b"",
             Shape::Break => b"",
             Shape::Hyphen => b"",
             Shape::Picture => b"",
+            Shape::Note => b"",
         }
     }
+}
+
+// Whether an element is a reference to a note, or a note that is no separator.
+fn is_note(elem: &Elem) -> bool
+    ensures { result ≡ is_note (tag_of elem.now) }
+{
+    is_named(elem, b"footnoteReference")
+        || is_named(elem, b"endnoteReference")
+        || ((is_named(elem, b"footnote") || is_named(elem, b"endnote"))
+            && !has_attribute(elem.tail(), b"type"))
 }
 
 // Whether an element is the second form of content that a file keeps in two.

@@ -35,7 +35,7 @@ fn document_of(alloc: Global, parts: &[(&str, &str)]) -> Result<MemSink, Fail> {
     Ok(out)
 }
 
-const DOCUMENTS: [(&[(&str, &str)], &str); 6] = [
+const DOCUMENTS: [(&[(&str, &str)], &str); 7] = [
     // texts that try to be script, close a tag, or break out of an attribute
     (
         &[
@@ -86,6 +86,20 @@ const DOCUMENTS: [(&[(&str, &str)], &str); 6] = [
             "<w:document><w:p><w:r><w:t>a<!-- n --><![CDATA[<b>]]>&#x85;</w:t><w:noBreakHyphen/><w:br/><w:instrText>i</w:instrText></w:r></w:p></w:document>",
         )],
         "<section>\n<p>a&lt;b&gt;\u{FFFD}&#8209;<br></p>\n</section>\n",
+    ),
+    // a style that tries to be markup, bold and italic runs, and notes
+    (
+        &[
+            (
+                "/a",
+                "<w:document><w:p><w:pPr><w:pStyle w:val='a&quot;&gt;b'/></w:pPr><w:r><w:rPr><w:b/><w:i w:val='off'/></w:rPr><w:t>x</w:t></w:r><w:r><w:rPr><w:i w:val='1'/><w:b/></w:rPr><w:footnoteReference w:id='2'/></w:r></w:p></w:document>",
+            ),
+            (
+                "/b",
+                "<w:footnotes><w:footnote w:type='separator' w:id='0'><w:p/></w:footnote><w:footnote w:id='2'><w:p/></w:footnote></w:footnotes>",
+            ),
+        ],
+        "<section>\n<p data-style=\"a&quot;&gt;b\"><b>x</b><b><i><sup>2</sup></i></b></p>\n</section>\n<section>\n<h2>/b</h2>\n<p></p>\n<sup>2</sup><p></p>\n</section>\n",
     ),
 ];
 

@@ -36,3 +36,15 @@ returns-in-Picture c = rw c.in-Picture.is refl
 
 pub returns-in-OtherForm : goal.returns-in-OtherForm
 returns-in-OtherForm c = rw c.in-OtherForm.is refl
+
+pub returns-in-Bold : goal.returns-in-Bold
+returns-in-Bold c = rw c.in-Bold.is refl
+
+pub returns-in-Italic : goal.returns-in-Italic
+returns-in-Italic c = rw c.in-Italic.is refl
+
+pub returns-in-BoldItalic : goal.returns-in-BoldItalic
+returns-in-BoldItalic c = rw c.in-BoldItalic.is refl
+
+pub returns-in-Note : goal.returns-in-Note
+returns-in-Note c = rw c.in-Note.is refl
