@@ -1,0 +1,24 @@
+//! A document that is opened.
+
+use redl_editor::Editor;
+use redl_index::Index;
+use redl_opc::{OpcError, Package};
+use redl_xml::XmlError;
+use std::alloc::{AllocError, Global};
+
+/// An editor of the package with this text, where each revision is undecided. `None` if the text is no package, and `Err` means out of
+/// memory.
+pub(crate) fn open(alloc: Global, text: &[u8]) -> Result<Option<Editor>, AllocError> {
+    let nodes = match redl_xml::read(alloc, text) {
+        Ok(nodes) => nodes,
+        Err(XmlError::NoMemory) => return Err(AllocError),
+        Err(_) => return Ok(None),
+    };
+    let mut pkg = match Package::make(alloc, nodes) {
+        Ok(pkg) => pkg,
+        Err(OpcError::NoMemory) => return Err(AllocError),
+        Err(_) => return Ok(None),
+    };
+    let index = Index::build(alloc, &mut pkg)?;
+    Ok(Some(Editor::new(alloc, pkg, index.count())?))
+}
