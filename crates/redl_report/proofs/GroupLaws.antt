@@ -16,7 +16,7 @@ use Rattle.redl_join.proofs.Lists.{any_insert, below, sorted_insert}
 use Rattle.redl_join.proofs.NumbersOf.{bytes_same, same_bytes}
 use Rattle.redl_report.specs.Groups.{Group, group_of, group_with, grouped, named, names_in_order, with_item}
 
-abbrev order : List ℕ → List ℕ → Ordering
+abbrev pub order : List ℕ → List ℕ → Ordering
 order = slice_cmp nat_cmp
 
 -- ---- lists that grow at their ends
@@ -61,7 +61,7 @@ module _ {K : Type 0} (R : K → K → Ordering) where
   keys-all P acc [] all others = all
   keys-all P acc (key ∷ keys) all others = keys-all P (insert_key R acc key) keys (keys-insert P acc key all others.0) others.1
 
-both_false : (a b : Bool) → (a || b) ≡ false → (a ≡ false) × (b ≡ false)
+pub both_false : (a b : Bool) → (a || b) ≡ false → (a ≡ false) × (b ≡ false)
 both_false true b h = absurd (true≢false h)
 both_false false b h = (refl, h)
 
@@ -78,7 +78,7 @@ absent acc (other ∷ names) name none =
     (parts.1, neither (is_eq (order name other)) (list_any (λ n. is_eq (order name n)) names) parts.0 rest.1)
 
 -- another name, seen from the other side
-other_name : (a b : List ℕ) → is_eq (order a b) ≡ false → bytes_eq b a ≡ false
+pub other_name : (a b : List ℕ) → is_eq (order a b) ≡ false → bytes_eq b a ≡ false
 other_name a b h = by (bytes_eq b a) refl where
   by : (test : Bool) → bytes_eq b a ≡ test → test ≡ false
   by false is = refl

@@ -1,5 +1,7 @@
 pub mod GroupLaws
 pub mod KeptGroups
+pub mod KindLaws
+pub mod KindSums
 pub mod JsonLaws
 pub mod LineLaws
 pub mod ListLaws

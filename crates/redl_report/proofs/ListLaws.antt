@@ -2,6 +2,8 @@
 use Rattle.std.proofs.Common.{◌≡◌, ◌∙◌, ◌<◌, ◌+◌, ℕ, suc, List, [], ◌∷◌, ◌++◌, length, map, take, drop, get_or, All, refl, sym, ap, arith, add-one, append_assoc}
 use Rattle.std.proofs.Math.Seq.{drop-cons, take-suc}
 use Rattle.std.proofs.lemmas.List.{map_push, take-append-drop}
+use Rattle.std.proofs.lemmas.List.Concat.{flat_map-cons}
+use Rattle.std.specs.List.{flat_map}
 
 -- a thing more by its place
 pub take-more : {A : Type 0} (xs : List A) (i : ℕ) (x : A) → i < length xs → x ≡ get_or xs i x → take (i + 1) xs ≡ take i xs ++ x ∷ []
@@ -41,3 +43,10 @@ pub made-more : {A L : Type 0} (make : A → L) (made grown : List L) (first : A
 made-more make made grown first item left rest whole push is step so_far =
     ap (λ xs. xs ++ map make rest) push ∙ append_assoc made (item ∷ []) (map make rest)
     ∙ ap (λ one. made ++ (one ∷ map make rest)) is ∙ ap (λ xs. made ++ map make xs) (sym step) ∙ so_far
+
+-- and that puts all that it makes of each thing
+pub all-made-more : {A L : Type 0} (make : A → List L) (made grown : List L) (first : A) (left rest : List A) (whole : List L)
+    → grown ≡ made ++ make first → left ≡ first ∷ rest → made ++ flat_map make left ≡ whole → grown ++ flat_map make rest ≡ whole
+all-made-more make made grown first left rest whole put step so_far =
+    ap (λ xs. xs ++ flat_map make rest) put ∙ append_assoc made (make first) (flat_map make rest)
+    ∙ ap (λ more. made ++ more) (sym (flat_map-cons make first rest)) ∙ ap (λ xs. made ++ flat_map make xs) (sym step) ∙ so_far

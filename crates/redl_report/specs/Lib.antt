@@ -3,3 +3,4 @@ pub mod Reports
 pub mod Counts
 pub mod Texts
 pub mod Tables
+pub mod Sums

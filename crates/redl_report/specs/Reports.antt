@@ -1,9 +1,11 @@
 -- Where each reviewer and each author stands (our own rule): how many revisions are accepted, rejected, disputed and undecided by
 -- a reviewer's own words, and by the verdicts on an author's revisions.
-use Rattle.std.specs.Prelude.{◌&&◌, ℕ, nat_le, Bool, true, false, List, [], ◌++◌, map, filter, length}
+use Rattle.std.specs.Prelude.{◌&&◌, ℕ, nat_le, Bool, true, false, List, [], ◌∷◌, ◌++◌, map, filter, length}
 use Rattle.std.specs.BTreeSet.{insert_key}
-use Rattle.std.specs.List.{fold}
+use Rattle.std.specs.List.{flat_map, fold}
 use Rattle.std.specs.Ordering.{nat_cmp}
+use Rattle.redl_report.specs.declared.kinds.TheConstants.{KINDS}
+use Rattle.redl_index.specs.declared.revision.RevKind.{RevKind}
 use Rattle.redl_index.specs.declared.revision.Revision.{Revision}
 use Rattle.redl_journal.specs.declared.entry.Entry.{Entry}
 use Rattle.redl_join.specs.Verdicts.{verdict_at}
@@ -11,8 +13,10 @@ use Rattle.redl_join.specs.declared.verdict.Verdict.{Verdict}
 use Rattle.redl_join.specs.declared.verdict.Verdict.TheVariants.{Undecided, Accept, Reject, Disputed}
 use Rattle.redl_report.specs.declared.line.ReportLine.{ReportLine}
 use Rattle.redl_report.specs.declared.line.Role.{Role}
-use Rattle.redl_report.specs.declared.line.Role.TheVariants.{Reviewer, Author}
+use Rattle.redl_report.specs.declared.line.Role.TheVariants.{Reviewer, Author, Kind}
+use Rattle.redl_report.specs.Counts.{counts_any}
 use Rattle.redl_report.specs.Groups.{Group, grouped}
+use Rattle.redl_select.specs.Selections.{is_same_kind}
 
 -- ---- verdicts, counted
 
@@ -78,3 +82,26 @@ author_line book own = line_of Author own.name (map (λ revision. verdict_at boo
 -- a line for each reviewer of the book, and then one for each author of the revisions
 abbrev pub report_lines : List Revision → List Entry → List ReportLine
 report_lines revisions book = map (reviewer_line (length revisions)) (grouped reviewer_of book) ++ map (author_line book) (grouped author_of revisions)
+
+-- ---- by kind
+
+-- the revisions of this kind
+abbrev pub of_kind : RevKind → List Revision → List Revision
+of_kind kind revisions = filter (λ revision. is_same_kind revision.kind kind) revisions
+
+-- An author's line of one kind: on each of their revisions of this kind, what the book decides.
+abbrev pub kind_line : List Entry → Group Revision → RevKind → ReportLine
+kind_line book own kind = line_of (Kind kind) own.name (map (λ revision. verdict_at book revision.number) (of_kind kind own.items))
+
+-- a line for each kind of their revisions, in the order of the table of kinds
+abbrev pub kind_lines : List RevKind → List Entry → Group Revision → List ReportLine
+kind_lines kinds book own = filter counts_any (map (kind_line book own) kinds)
+
+-- an author's line, and then one for each kind of their revisions
+abbrev pub author_lines : List Entry → Group Revision → List ReportLine
+author_lines book own = author_line book own ∷ kind_lines KINDS book own
+
+-- the report in which each author's line is followed by those of the kinds
+abbrev pub report_lines_by_kind : List Revision → List Entry → List ReportLine
+report_lines_by_kind revisions book =
+    map (reviewer_line (length revisions)) (grouped reviewer_of book) ++ flat_map (author_lines book) (grouped author_of revisions)

@@ -6,9 +6,9 @@ use Rattle.std.specs.List.{flat_map, fold}
 use Rattle.redl_listing.specs.Texts.{space, newline, right_in, left_in, shown}
 use Rattle.redl_report.specs.declared.line.ReportLine.{ReportLine}
 use Rattle.redl_report.specs.declared.line.Role.{Role}
-use Rattle.redl_report.specs.declared.line.Role.TheVariants.{Reviewer, Author}
+use Rattle.redl_report.specs.declared.line.Role.TheVariants.{Reviewer, Author, Kind}
 use Rattle.redl_report.specs.declared.totals.Totals.{Totals}
-use Rattle.redl_report.specs.Texts.{role_name}
+use Rattle.redl_report.specs.Texts.{label_of, role_name}
 
 -- ---- all revisions
 
@@ -24,10 +24,11 @@ with_counts totals line = record {
   undecided = totals.undecided + line.undecided;
 }
 
--- the same, where the line is an author's: reviewers speak of the same revisions
+-- the same, where the line is an author's: reviewers speak of the same revisions, and a kind's are among the author's
 abbrev pub with_role : Role → Totals → ReportLine → Totals
 with_role Reviewer totals line = totals
 with_role Author totals line = with_counts totals line
+with_role (Kind kind) totals line = totals
 
 abbrev pub with_line : Totals → ReportLine → Totals
 with_line totals line = with_role line.role totals line
@@ -51,7 +52,7 @@ unfoldable pub table_row : List ℕ → Totals → List ℕ → List ℕ
 table_row first counts last = left_in 8 first ++ (space ++ (cells counts ++ (last ++ newline)))
 
 abbrev pub table_line : ReportLine → List ℕ
-table_line line = table_row (role_name line.role) (with_counts no_revisions line) (map shown line.who)
+table_line line = table_row (role_name line.role) (with_counts no_revisions line) (map shown (label_of line.role line.who))
 
 abbrev pub last_line : Totals → List ℕ
 last_line totals = table_row (codes "all") totals (codes "revisions")

@@ -2,8 +2,9 @@
 
 ghost use Rattle.std.specs.Prelude.{◌≡◌, ◌<◌, [], IfOk};
 ghost use Rattle.redl_report.specs.Reports.{line_of};
-ghost use Rattle.redl_report.specs.Counts.{sum_of, with_verdict};
+ghost use Rattle.redl_report.specs.Counts.{counts_any, sum_of, with_verdict};
 
+use redl_index::RevKind;
 use redl_io::Text;
 use redl_join::Verdict;
 use redl_listing::Item;
@@ -16,10 +17,12 @@ pub enum Role {
     Reviewer,
     /// Somebody who made revisions.
     Author,
+    /// Somebody who made revisions, of which this kind alone is counted.
+    Kind(RevKind),
 }
 
 /// Where somebody stands. A reviewer's line counts the revisions on which they have an entry, by their own words, and an
-/// author's line counts their revisions, by the verdicts on them.
+/// author's line counts their revisions, or those of one kind, by the verdicts on them.
 #[derive(Drop)]
 pub struct ReportLine {
     /// Whom the line is about.
@@ -63,6 +66,13 @@ impl ReportLine {
             Verdict::Reject => self.reject += 1,
             Verdict::Disputed => self.disputed += 1,
         }
+    }
+
+    /// Whether any revision is counted.
+    pub(crate) fn counts_any(&self) -> bool
+        ensures { result ≡ counts_any self.now }
+    {
+        0 < self.accept || 0 < self.reject || 0 < self.disputed || 0 < self.undecided
     }
 }
 

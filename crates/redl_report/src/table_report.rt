@@ -1,6 +1,7 @@
 //! The format `table`.
 
 ghost use Rattle.std.specs.Prelude.{◌≡◌, ◌++◌, ◌∷◌, IfOk, OnOk, OnErr, [], false, true};
+ghost use Rattle.redl_report.specs.Counts.{IsLine};
 
 use crate::format::{ReportError, ReportFormat};
 use crate::line::ReportLine;
@@ -57,7 +58,8 @@ impl TableReport {
 
     /// Adds a line. `Err` means out of memory, and then the format is as before.
     fn add(&mut self, line: &ReportLine) -> Result<(), AllocError>
-        requires { self.old.closed ≡ false }
+        requires open { self.old.closed ≡ false }
+        requires line { IsLine line.now }
         ensures taken { OnOk result (self.new ≡ record { items = self.old.items ++ line.now ∷ []; closed = false }) }
         ensures unchanged { OnErr result (self.new ≡ self.old) }
     {

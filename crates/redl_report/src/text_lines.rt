@@ -1,7 +1,8 @@
 //! The lines of the format `text`.
 
 ghost use Rattle.std.specs.Prelude.{◌≡◌, ◌++◌, OnOk};
-ghost use Rattle.redl_report.specs.Texts.{count_column, count_columns, role_name, text_line};
+ghost use Rattle.redl_report.specs.Counts.{IsLine};
+ghost use Rattle.redl_report.specs.Texts.{count_column, count_columns, label_of, role_name, text_line};
 
 use crate::line::{ReportLine, Role};
 use redl_listing::{Piece, push_left, push_number, push_shown};
@@ -37,18 +38,31 @@ pub(crate) fn role_name(role: Role) -> &'static str
     match role {
         Role::Reviewer => "reviewer",
         Role::Author => "author",
+        Role::Kind(_) => "kind",
+    }
+}
+
+/// What a line ends with for a reader.
+pub(crate) fn label(line: &ReportLine) -> &[u8]
+    requires { IsLine line.now }
+    ensures { result.now ≡ label_of line.now.role line.now.who }
+{
+    match line.role {
+        Role::Kind(kind) => kind.name().as_bytes(),
+        Role::Reviewer | Role::Author => line.who.as_bytes(),
     }
 }
 
 /// Adds the line's text. `Err` means out of memory.
 #[tactic(auto, unfolding(crate::specs::Texts::text_line))]
 fn push_text_line(text: &mut Vec<u8>, line: &ReportLine) -> Result<(), AllocError>
+    requires { IsLine line.now }
     ensures { OnOk result (text.new.items ≡ text.old.items ++ text_line line.now) }
 {
     push_left(text, role_name(line.role).as_bytes(), 8)?;
     text.push(b' ')?;
     push_counts(text, line)?;
-    push_shown(text, line.who.as_bytes())?;
+    push_shown(text, label(line))?;
     text.push(b'\n')?;
     Ok(())
 }

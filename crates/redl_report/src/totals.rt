@@ -1,10 +1,11 @@
 //! All revisions, as a table counts them.
 
 ghost use Rattle.std.specs.Prelude.{◌≡◌, ◌+◌, ◌++◌, IfOk, OnOk};
+ghost use Rattle.redl_report.specs.Counts.{IsLine};
 ghost use Rattle.redl_report.specs.Tables.{cell, cells, last_line, no_revisions, table_line, table_row, with_counts, with_line};
 
 use crate::line::{ReportLine, Role};
-use crate::text_lines::role_name;
+use crate::text_lines::{label, role_name};
 use itoa::Buffer;
 use redl_listing::{push_left, push_right, push_shown};
 use std::alloc::{AllocError, Global};
@@ -48,7 +49,7 @@ impl Totals {
         ensures { IfOk result (λ totals. totals ≡ with_line self line.now) }
     {
         match line.role {
-            Role::Reviewer => Ok(self),
+            Role::Reviewer | Role::Kind(_) => Ok(self),
             Role::Author => self.with_counts(line),
         }
     }
@@ -65,10 +66,11 @@ fn sum(total: u64, count: u32) -> Result<u64, AllocError>
 
 /// The table's line of a line. `Err` means out of memory.
 pub(crate) fn table_line(alloc: Global, line: &ReportLine) -> Result<Vec<u8>, AllocError>
+    requires { IsLine line.now }
     ensures { IfOk result (λ text. text.items ≡ table_line line.now) }
 {
     let mut name = Vec::new(alloc);
-    push_shown(&mut name, line.who.as_bytes())?;
+    push_shown(&mut name, label(line))?;
     let counts = Totals::none().with_counts(line)?;
     table_row(alloc, role_name(line.role), counts, &name)
 }

@@ -8,7 +8,7 @@ pub returns : goal.returns
 returns c =
     let line = c.args.line.now in
     let before = c.in_ok-end_object.ensures.room.0 ∙ c.in_ok-put_text-2.ensures.before ∙ c.in_ok-put_text.ensures.before ∙ c.in_ok-put_number-4.ensures.before
-    ∙ c.in_ok-put_number-3.ensures.before ∙ c.in_ok-put_number-2.ensures.before ∙ c.in_ok-put_number.ensures.before ∙ c.in_ok-begin_object.ensures.room.0 ∙ c.new-object.ensures.before in
+    ∙ c.in_ok-put_number-3.ensures.before ∙ c.in_ok-put_kind.ensures.before ∙ c.in_ok-put_number-2.ensures.before ∙ c.in_ok-put_number.ensures.before ∙ c.in_ok-begin_object.ensures.room.0 ∙ c.new-object.ensures.before in
     let tokens : c.end_object.new.self.tokens ≡ line_tokens line =
     rw (
       c.in_ok-end_object.ensures.ok,
@@ -16,6 +16,7 @@ returns c =
       c.in_ok-put_text.ensures.written,
       c.in_ok-put_number-4.ensures.written,
       c.in_ok-put_number-3.ensures.written,
+      c.in_ok-put_kind.ensures.written,
       c.in_ok-put_number-2.ensures.written,
       c.in_ok-put_number.ensures.written,
       c.in_ok-begin_object.ensures.ok,
