@@ -17,6 +17,7 @@ use Rattle.redl_select.specs.Selections.{Selection}
 use Rattle.redl_select.specs.declared.lock.Lock.{Lock}
 use Rattle.redl_words.specs.declared.error.WordsError.{WordsError}
 use Rattle.redl_words.specs.declared.error.WordsError.TheVariants.{Usage, NoMemory}
+use Rattle.redl_words.specs.declared.options.Form.{Form}
 use Rattle.redl_words.specs.declared.options.Form.TheVariants as forms
 use Rattle.redl_words.specs.declared.verb.Verb.{Verb}
 use Rattle.redl_words.specs.declared.verb.Verb.TheVariants as verbs
@@ -24,16 +25,16 @@ use Rattle.redl_words.specs.declared.command.Command as code
 use Rattle.redl_words.specs.declared.command.View.{View}
 use Rattle.redl_words.specs.declared.command.View.TheVariants.{Original, Final, Marked}
 use Rattle.redl_words.specs.Commands.{Command, settle, view_text, list, report, page, write, decide, join, check, sample, say_word, view_name, IsSettle, IsText, AsksFor, IsPage, IsWrite, IsDecide, IsJoin, IsCheck, IsSample, IsCommand, HasNoCommand, HasUtf8, LockHasUtf8}
-use Rattle.redl_words.specs.Items.{Item, format, lock, journal, named_journal, choice, rank, only, item_words, Admits, of_list, of_write, of_decide, Form as Kind, is_name, formats_of, locks_of, journals_of, ranks_of, onlys_of}
+use Rattle.redl_words.specs.Items.{Item, format, lock, journal, named_journal, choice, rank, by_kind, item_words, Admits, of_list, of_report, of_write, of_decide, Form as Kind, is_name, formats_of, locks_of, journals_of, ranks_of, bys_of, if_so, only, onlys_of}
 use Rattle.redl_words.specs.Shown.{Only}
 use Rattle.redl_words.specs.Selections.{MeansLock}
 use Rattle.redl_words.specs.Views.{command_of}
 use Rattle.redl_words.specs.Reading.Answers.{Finds}
 use Rattle.redl_words.specs.Reading.Items.{Gathered, nothing, gathered}
-use Rattle.redl_words.specs.Reading.Commands.{verb_in, say_in, settle_in, view_in, text_with, text_in, format_or_text, rank_or_0, Asked, asked_of, asked_in, as_list, as_report, list_in, report_in, page_in, write_in, decide_with, decide_in, names_in, join_in, check_in, sample_in, command_with, command_in, report_of}
+use Rattle.redl_words.specs.Reading.Commands.{verb_in, say_in, settle_in, view_in, text_with, text_in, format_or_text, rank_or_0, Asked, asked_of, asked_in, as_list, as_report, list_in, report_in, page_in, write_in, decide_with, decide_in, names_in, join_in, check_in, sample_in, command_with, command_in}
 use Rattle.redl_words.proofs.SelectionLaws.{bytes_same, map_some, pick}
 use Rattle.redl_words.proofs.LockLaws.{lock_utf8}
-use Rattle.redl_words.proofs.ItemLaws.{items_take, read_again}
+use Rattle.redl_words.proofs.ItemLaws.{form_of, items_take, read_again}
 
 -- an answer that needs a test
 needs : {A : Type 0} (t : Bool) (x : Option A) (y : A) → cond t x None ≡ Some y → (t ≡ true) × (x ≡ Some y)
@@ -173,41 +174,84 @@ format_again None formats name e (inr h) = absurd (let wrong = e ∙ h in cc)
 format_again (Some other) formats name e (inl h) = absurd (let wrong = e ∙ h.0 in cc)
 format_again (Some other) formats name e (inr h) = let same = e ∙ h in cc
 
-asked_takes : (word : List ℕ) (rest : List (List ℕ)) (asked : Asked) → asked_in rest ≡ Some asked → AsksFor word (word ∷ rest) asked.package_name asked.format asked.locks asked.journals asked.onlys
+asked_takes : (form : Form) (word : List ℕ) (rest : List (List ℕ)) (asked : Asked) → asked_in form rest ≡ Some asked
+    → AsksFor (form_of form) word (word ∷ rest) asked.package_name asked.format asked.by_kind asked.locks asked.journals asked.onlys
 unfolding asked_in
-asked_takes word [] asked e = absurd cc
-asked_takes word (p ∷ rest) asked e =
-    let n = needs (is_name p) (option_map (asked_of p) (gathered forms.List nothing rest)) asked e in
-    let g = map_some (asked_of p) (gathered forms.List nothing rest) asked n.1 in
-    let r = items_take forms.List rest nothing g.0 g.1 in
-    let means : AsksFor word (word ∷ p ∷ rest) p (format_or_text g.0.format) g.0.locks g.0.journals g.0.onlys = record {
+asked_takes form word [] asked e = absurd cc
+asked_takes form word (p ∷ rest) asked e =
+    let n = needs (is_name p) (option_map (asked_of p) (gathered form nothing rest)) asked e in
+    let g = map_some (asked_of p) (gathered form nothing rest) asked n.1 in
+    let r = items_take form rest nothing g.0 g.1 in
+    let means : AsksFor (form_of form) word (word ∷ p ∷ rest) p (format_or_text g.0.format) g.0.by_kind g.0.locks g.0.journals g.0.onlys = record {
       items = r.items;
       rest = rest;
       written = refl;
       package_name = n.0;
-      are_items = record { written = r.written; admitted = All-from_recursion (Admits of_list) r.items r.admitted };
+      are_items = record { written = r.written; admitted = All-from_recursion (Admits (form_of form)) r.items r.admitted };
       format = format_takes g.0.format (formats_of r.items) r.says.format;
+      kinds = r.says.by_kind;
       locks_are = r.says.locks;
       journals_are = r.says.journals;
       onlys_are = r.says.onlys;
     } in
-    subst (λ (asked : Asked). AsksFor word (word ∷ p ∷ rest) asked.package_name asked.format asked.locks asked.journals asked.onlys) g.2 means
+    subst (λ (asked : Asked). AsksFor (form_of form) word (word ∷ p ∷ rest) asked.package_name asked.format asked.by_kind asked.locks asked.journals asked.onlys) g.2 means
+
+-- a command that admits no `--by kind` has none
+unsplit : (k : Kind) → (Admits k by_kind → ⊥) → (items : List Item) → AllByRecursion (Admits k) items → bys_of items ≡ []
+unsplit k none [] h = refl
+unsplit k none (format name ∷ items) h = unsplit k none items h.1
+unsplit k none (lock text of_lock ∷ items) h = unsplit k none items h.1
+unsplit k none (journal name ∷ items) h = unsplit k none items h.1
+unsplit k none (named_journal name ∷ items) h = unsplit k none items h.1
+unsplit k none (choice word text selection ∷ items) h = unsplit k none items h.1
+unsplit k none (rank number ∷ items) h = unsplit k none items h.1
+unsplit k none (by_kind ∷ items) h = absurd (none h.0)
+unsplit k none (only text wanted ∷ items) h = unsplit k none items h.1
+
+-- so it is said at most once
+one_split : (b : Bool) (bys : List Bool) → if_so b ≡ bys → length bys ≤ 1
+one_split true bys is = let long : length bys ≡ 1 = ap length (sym is) in omega arith
+one_split false bys is = let long : length bys ≡ 0 = ap length (sym is) in omega arith
+
+not_split : (k : Kind) → (Admits k by_kind → ⊥) → (items : List Item) → AllByRecursion (Admits k) items → length (bys_of items) ≤ 1
+not_split k none items h = one_split false (bys_of items) (sym (unsplit k none items h))
+
+no_split : (b : Bool) → if_so b ≡ [] → b ≡ false
+no_split true is = absurd cc
+no_split false is = refl
+
+-- what says it is so
+same_split : (a b : Bool) → if_so a ≡ if_so b → a ≡ b
+same_split true true is = refl
+same_split true false is = absurd cc
+same_split false true is = absurd cc
+same_split false false is = refl
+
+-- a command that admits no `--only` has none
+unshown : (k : Kind) → ((text : List ℕ) (wanted : Only) → Admits k (only text wanted) → ⊥) → (items : List Item) → AllByRecursion (Admits k) items → onlys_of items ≡ []
+unshown k none [] h = refl
+unshown k none (format name ∷ items) h = unshown k none items h.1
+unshown k none (lock text of_lock ∷ items) h = unshown k none items h.1
+unshown k none (journal name ∷ items) h = unshown k none items h.1
+unshown k none (named_journal name ∷ items) h = unshown k none items h.1
+unshown k none (choice word text selection ∷ items) h = unshown k none items h.1
+unshown k none (rank number ∷ items) h = unshown k none items h.1
+unshown k none (by_kind ∷ items) h = unshown k none items h.1
+unshown k none (only text wanted ∷ items) h = absurd (none text wanted h.0)
 
 list_takes : (rest : List (List ℕ)) (c : Command) → list_in rest ≡ Some c → IsCommand (codes "list" ∷ rest) c
-list_takes rest c e = let a = map_some as_list (asked_in rest) c e in subst (IsCommand (codes "list" ∷ rest)) a.2 (asked_takes (codes "list") rest a.0 a.1)
-
--- a report is of all revisions
-report_with : (rest : List (List ℕ)) (c : Command) (asked : Asked) (onlys : List Only) → onlys ≡ asked.onlys → report_of onlys asked ≡ Some c
-    → AsksFor (codes "report") (codes "report" ∷ rest) asked.package_name asked.format asked.locks asked.journals asked.onlys → IsCommand (codes "report" ∷ rest) c
-report_with rest c asked [] none e means =
-    subst (IsCommand (codes "report" ∷ rest)) (same_Some (report asked.package_name asked.format asked.locks asked.journals) c e)
-    (subst (AsksFor (codes "report") (codes "report" ∷ rest) asked.package_name asked.format asked.locks asked.journals) (sym none) means)
-report_with rest c asked (wanted ∷ more) some e means = absurd cc
+list_takes rest c e =
+    let a = map_some as_list (asked_in forms.List rest) c e in
+    let h = asked_takes forms.List (codes "list") rest a.0 a.1 in
+    let none : a.0.by_kind ≡ false = no_split a.0.by_kind (h.kinds ∙ unsplit of_list (λ h. h) h.items (recursion_from_All (Admits of_list) h.items h.are_items.admitted)) in
+    subst (IsCommand (codes "list" ∷ rest)) a.2 (subst (λ (b : Bool). AsksFor of_list (codes "list") (codes "list" ∷ rest) a.0.package_name a.0.format b a.0.locks a.0.journals a.0.onlys) none h)
 
 report_takes : (rest : List (List ℕ)) (c : Command) → report_in rest ≡ Some c → IsCommand (codes "report" ∷ rest) c
 report_takes rest c e =
-    let a = bind_some (asked_in rest) as_report c e in
-    report_with rest c a.0 a.0.onlys refl a.2 (asked_takes (codes "report") rest a.0 a.1)
+    let a = map_some as_report (asked_in forms.Report rest) c e in
+    let h = asked_takes forms.Report (codes "report") rest a.0 a.1 in
+    let none : a.0.onlys ≡ [] = h.onlys_are ∙ unshown of_report (λ text wanted h. h) h.items (recursion_from_All (Admits of_report) h.items h.are_items.admitted) in
+    subst (IsCommand (codes "report" ∷ rest)) a.2 (subst (AsksFor of_report (codes "report") (codes "report" ∷ rest) a.0.package_name a.0.format a.0.by_kind a.0.locks a.0.journals) none h)
 
 -- what comes at most once, and else has a default
 once : {A : Type 0} (xs : List A) (x default : A) → ((xs ≡ []) × (x ≡ default)) ⊎ (xs ≡ x ∷ []) → length xs ≤ 1
@@ -222,28 +266,31 @@ unranked k none (lock text of_lock ∷ items) h = unranked k none items h.1
 unranked k none (journal name ∷ items) h = unranked k none items h.1
 unranked k none (named_journal name ∷ items) h = unranked k none items h.1
 unranked k none (choice word text selection ∷ items) h = unranked k none items h.1
+unranked k none (by_kind ∷ items) h = unranked k none items h.1
 unranked k none (rank number ∷ items) h = absurd (none number h.0)
 unranked k none (only text wanted ∷ items) h = unranked k none items h.1
 
-asked_again : (word p name : List ℕ) (locks : List Lock) (journals : List (List ℕ)) (onlys : List Only) (words : List (List ℕ)) (h : AsksFor word words p name locks journals onlys)
-    → asked_in (p ∷ h.rest) ≡ Some (record { package_name = p; format = name; locks = locks; journals = journals; onlys = onlys })
+asked_again : (form : Form) → ((number : ℕ) → Admits (form_of form) (rank number) → ⊥) → (word p name : List ℕ) (by : Bool) (locks : List Lock) (journals : List (List ℕ)) (onlys : List Only) (words : List (List ℕ))
+    (h : AsksFor (form_of form) word words p name by locks journals onlys)
+    → asked_in form (p ∷ h.rest) ≡ Some (record { package_name = p; format = name; by_kind = by; locks = locks; journals = journals; onlys = onlys })
 unfolding asked_in
-asked_again word p name locks journals onlys words h =
+asked_again form none word p name by locks journals onlys words h =
     let items = h.items in
-    let each = recursion_from_All (Admits of_list) items h.are_items.admitted in
-    let r = read_again forms.List items h.rest h.are_items.written each (once (formats_of items) name (codes "text") h.format) (unranked of_list (λ number h. h) items each) in
+    let each = recursion_from_All (Admits (form_of form)) items h.are_items.admitted in
+    let r = read_again form items h.rest h.are_items.written each (once (formats_of items) name (codes "text") h.format) (unranked (form_of form) none items each) (one_split by (bys_of items) h.kinds) in
     let f : format_or_text r.after.format ≡ name = format_again r.after.format (formats_of items) name r.format h.format in
+    let b : r.after.by_kind ≡ by = same_split r.after.by_kind by (r.by_kind ∙ sym h.kinds) in
     let ls : r.after.locks ≡ locks = r.locks ∙ sym h.locks_are in
     let js : r.after.journals ≡ journals = r.journals ∙ sym h.journals_are in
     let os : r.after.onlys ≡ onlys = r.onlys ∙ sym h.onlys_are in
     let named : is_name p ≡ true = h.package_name in
-    rw (named, r.reads) (same (format_or_text r.after.format) name r.after.locks locks r.after.journals journals r.after.onlys onlys f ls js os) where
-      asked : List ℕ → List Lock → List (List ℕ) → List Only → Asked
-      asked f ls js os = record { package_name = p; format = f; locks = ls; journals = js; onlys = os }
+    rw (named, r.reads) (same (format_or_text r.after.format) name r.after.by_kind by r.after.locks locks r.after.journals journals r.after.onlys onlys f b ls js os) where
+      asked : List ℕ → Bool → List Lock → List (List ℕ) → List Only → Asked
+      asked f b ls js os = record { package_name = p; format = f; by_kind = b; locks = ls; journals = js; onlys = os }
 
-      same : (f name : List ℕ) (ls locks : List Lock) (js journals : List (List ℕ)) (os onlys : List Only) → f ≡ name → ls ≡ locks → js ≡ journals → os ≡ onlys
-          → Some (asked f ls js os) ≡ Some (asked name locks journals onlys)
-      same f name ls locks js journals os onlys a b c d = λ i. Some (asked (a i) (b i) (c i) (d i))
+      same : (f name : List ℕ) (b by : Bool) (ls locks : List Lock) (js journals : List (List ℕ)) (os onlys : List Only) → f ≡ name → b ≡ by → ls ≡ locks → js ≡ journals → os ≡ onlys
+          → Some (asked f b ls js os) ≡ Some (asked name by locks journals onlys)
+      same f name b by ls locks js journals os onlys one two three four five = λ i. Some (asked (one i) (two i) (three i) (four i) (five i))
 
 -- ---- write
 
@@ -274,6 +321,7 @@ unformatted k none (journal name ∷ items) h = unformatted k none items h.1
 unformatted k none (named_journal name ∷ items) h = unformatted k none items h.1
 unformatted k none (choice word text selection ∷ items) h = unformatted k none items h.1
 unformatted k none (rank number ∷ items) h = unformatted k none items h.1
+unformatted k none (by_kind ∷ items) h = unformatted k none items h.1
 unformatted k none (only text wanted ∷ items) h = unformatted k none items h.1
 
 write_again : (p : List ℕ) (locks : List Lock) (journals rest : List (List ℕ)) (items : List Item) → is_name p ≡ true → rest ≡ flat_map item_words items → All (Admits of_write) items
@@ -281,7 +329,7 @@ write_again : (p : List ℕ) (locks : List Lock) (journals rest : List (List ℕ
 unfolding write_in
 write_again p locks journals rest items h written admitted l j =
     let each = recursion_from_All (Admits of_write) items admitted in
-    let r = read_again forms.Write items rest written each (unformatted of_write (λ name h. h) items each) (unranked of_write (λ number h. h) items each) in
+    let r = read_again forms.Write items rest written each (unformatted of_write (λ name h. h) items each) (unranked of_write (λ number h. h) items each) (not_split of_write (λ h. h) items each) in
     let ls : r.after.locks ≡ locks = r.locks ∙ sym l in
     let js : r.after.journals ≡ journals = r.journals ∙ sym j in
     rw (h, r.reads) (same_write r.after.locks locks r.after.journals journals ls js) where
@@ -313,7 +361,7 @@ page_again : (p : List ℕ) (locks : List Lock) (journals rest : List (List ℕ)
 unfolding page_in
 page_again p locks journals rest items h written admitted l j =
     let each = recursion_from_All (Admits of_write) items admitted in
-    let r = read_again forms.Write items rest written each (unformatted of_write (λ name h. h) items each) (unranked of_write (λ number h. h) items each) in
+    let r = read_again forms.Write items rest written each (unformatted of_write (λ name h. h) items each) (unranked of_write (λ number h. h) items each) (not_split of_write (λ h. h) items each) in
     let ls : r.after.locks ≡ locks = r.locks ∙ sym l in
     let js : r.after.journals ≡ journals = r.journals ∙ sym j in
     rw (h, r.reads) (same_page r.after.locks locks r.after.journals journals ls js) where
@@ -372,7 +420,7 @@ decide_again : (words : List (List ℕ)) (p reviewer : List ℕ) (journals : Lis
 unfolding decide_in
 decide_again words p reviewer journals locks choices number h =
     let each = recursion_from_All (Admits of_decide) h.items h.are_items.admitted in
-    let r = read_again forms.Decide h.items h.rest h.are_items.written each (unformatted of_decide (λ name h. h) h.items each) (once (ranks_of h.items) number 0 h.rank) in
+    let r = read_again forms.Decide h.items h.rest h.are_items.written each (unformatted of_decide (λ name h. h) h.items each) (once (ranks_of h.items) number 0 h.rank) (not_split of_decide (λ h. h) h.items each) in
     let js : r.after.journals ≡ journals = r.journals ∙ sym h.journals_are in
     let ls : r.after.locks ≡ locks = r.locks ∙ sym h.locks_are in
     let cs : r.after.choices ≡ choices = r.choices ∙ sym h.choices_are in
@@ -505,9 +553,9 @@ command_again words (view_text p view) h = by h.written where
   by (inl w) = ap command_in w.0 ∙ text_line (p ∷ []) ∙ text_again (p ∷ []) p view h.name (inl (refl, w.1))
   by (inr w) = ap command_in w ∙ text_line (p ∷ codes "--view" ∷ view_name view ∷ []) ∙ text_again (p ∷ codes "--view" ∷ view_name view ∷ []) p view h.name (inr refl)
 command_again words (list p name locks journals onlys) h =
-    ap command_in h.written ∙ list_line (p ∷ h.rest) ∙ ap (option_map as_list) (asked_again (codes "list") p name locks journals onlys words h)
-command_again words (report p name locks journals) h =
-    ap command_in h.written ∙ report_line (p ∷ h.rest) ∙ ap (λ asked. asked >>= as_report) (asked_again (codes "report") p name locks journals [] words h)
+    ap command_in h.written ∙ list_line (p ∷ h.rest) ∙ ap (option_map as_list) (asked_again forms.List (λ number h. h) (codes "list") p name false locks journals onlys words h)
+command_again words (report p name by locks journals) h =
+    ap command_in h.written ∙ report_line (p ∷ h.rest) ∙ ap (option_map as_report) (asked_again forms.Report (λ number h. h) (codes "report") p name by locks journals [] words h)
 command_again words (page p locks journals) h =
     ap command_in h.written ∙ page_line (p ∷ h.rest) ∙ page_again p locks journals h.rest h.items h.package_name h.are_items.written h.are_items.admitted h.locks_are h.journals_are
 command_again words (write p locks journals) h =
@@ -535,6 +583,7 @@ pub record AreUtf8 (items : List Item) : Type 0 where
 -- a lock that some command admits is well formed
 lock_means : (k : Kind) (text : List ℕ) (of_lock : Lock) → Admits k (lock text of_lock) → MeansLock text of_lock
 lock_means of_list text of_lock h = h
+lock_means of_report text of_lock h = h
 lock_means of_write text of_lock h = h
 lock_means of_decide text of_lock h = h
 
@@ -548,6 +597,7 @@ items_utf8 k (journal name ∷ items) a h = let r = items_utf8 k items a.1 h.1 i
 items_utf8 k (named_journal name ∷ items) a h = let r = items_utf8 k items a.1 h.1.1 in record { formats = r.formats; locks = r.locks; journals = (h.1.0, r.journals) }
 items_utf8 k (choice word text selection ∷ items) a h = let r = items_utf8 k items a.1 h.1.1 in record { formats = r.formats; locks = r.locks; journals = r.journals }
 items_utf8 k (rank number ∷ items) a h = let r = items_utf8 k items a.1 h.1.1 in record { formats = r.formats; locks = r.locks; journals = r.journals }
+items_utf8 k (by_kind ∷ items) a h = let r = items_utf8 k items a.1 h.1.1 in record { formats = r.formats; locks = r.locks; journals = r.journals }
 items_utf8 k (only text wanted ∷ items) a h = let r = items_utf8 k items a.1 h.1.1 in record { formats = r.formats; locks = r.locks; journals = r.journals }
 
 -- ranks are at most 9
@@ -559,6 +609,7 @@ low_ranks (journal name ∷ items) a = absurd a.0
 low_ranks (named_journal name ∷ items) a = low_ranks items a.1
 low_ranks (choice word text selection ∷ items) a = low_ranks items a.1
 low_ranks (rank number ∷ items) a = (a.0, low_ranks items a.1)
+low_ranks (by_kind ∷ items) a = absurd a.0
 low_ranks (only text wanted ∷ items) a = absurd a.0
 
 low_rank : (ranks : List ℕ) (number : ℕ) → AllByRecursion (λ n. n ≤ 9) ranks → ((ranks ≡ []) × (number ≡ 0)) ⊎ (ranks ≡ number ∷ []) → number ≤ 9
@@ -584,11 +635,11 @@ all_locks locks more h e = All-from_recursion LockHasUtf8 locks (subst (AllByRec
 all_utf8 : (texts more : List (List ℕ)) → AllByRecursion IsUtf8 more → texts ≡ more → All IsUtf8 texts
 all_utf8 texts more h e = All-from_recursion IsUtf8 texts (subst (AllByRecursion IsUtf8) (sym e) h)
 
-asked_utf8 : (word : List ℕ) (words : List (List ℕ)) (p name : List ℕ) (locks : List Lock) (journals : List (List ℕ)) (onlys : List Only) (h : AsksFor word words p name locks journals onlys) → AllByRecursion IsUtf8 words
+asked_utf8 : (k : Kind) (word : List ℕ) (words : List (List ℕ)) (p name : List ℕ) (by : Bool) (locks : List Lock) (journals : List (List ℕ)) (onlys : List Only) (h : AsksFor k word words p name by locks journals onlys) → AllByRecursion IsUtf8 words
     → IsUtf8 p × IsUtf8 name × All LockHasUtf8 locks × All IsUtf8 journals
-asked_utf8 word words p name locks journals onlys h u =
+asked_utf8 k word words p name by locks journals onlys h u =
     let v : AllByRecursion IsUtf8 (word ∷ p ∷ h.rest) = subst (AllByRecursion IsUtf8) h.written u in
-    let i = items_utf8 of_list h.items (recursion_from_All (Admits of_list) h.items h.are_items.admitted) (subst (AllByRecursion IsUtf8) h.are_items.written v.1.1) in
+    let i = items_utf8 k h.items (recursion_from_All (Admits k) h.items h.are_items.admitted) (subst (AllByRecursion IsUtf8) h.are_items.written v.1.1) in
     (v.1.0, format_utf8 (formats_of h.items) name i.formats h.format, all_locks locks (locks_of h.items) i.locks h.locks_are, all_utf8 journals (journals_of h.items) i.journals h.journals_are)
 
 pub command_utf8 : (words : List (List ℕ)) (c : Command) → IsCommand words c → AllByRecursion IsUtf8 words → HasUtf8 c
@@ -598,8 +649,8 @@ command_utf8 words (view_text p view) h u = by h.written where
   by : ((words ≡ codes "text" ∷ p ∷ []) × (view ≡ Final)) ⊎ (words ≡ codes "text" ∷ p ∷ codes "--view" ∷ view_name view ∷ []) → IsUtf8 p
   by (inl w) = let v : AllByRecursion IsUtf8 (codes "text" ∷ p ∷ []) = subst (AllByRecursion IsUtf8) w.0 u in v.1.0
   by (inr w) = let v : AllByRecursion IsUtf8 (codes "text" ∷ p ∷ codes "--view" ∷ view_name view ∷ []) = subst (AllByRecursion IsUtf8) w u in v.1.0
-command_utf8 words (list p name locks journals onlys) h u = asked_utf8 (codes "list") words p name locks journals onlys h u
-command_utf8 words (report p name locks journals) h u = asked_utf8 (codes "report") words p name locks journals [] h u
+command_utf8 words (list p name locks journals onlys) h u = asked_utf8 of_list (codes "list") words p name false locks journals onlys h u
+command_utf8 words (report p name by locks journals) h u = asked_utf8 of_report (codes "report") words p name by locks journals [] h u
 command_utf8 words (page p locks journals) h u =
     let v : AllByRecursion IsUtf8 (codes "page" ∷ p ∷ h.rest) = subst (AllByRecursion IsUtf8) h.written u in
     let i = items_utf8 of_write h.items (recursion_from_All (Admits of_write) h.items h.are_items.admitted) (subst (AllByRecursion IsUtf8) h.are_items.written v.1.1) in

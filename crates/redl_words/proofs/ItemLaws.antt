@@ -13,7 +13,7 @@ use Rattle.redl_select.specs.Selections.{Selection}
 use Rattle.redl_select.specs.declared.lock.Lock.{Lock}
 use Rattle.redl_select.specs.declared.lock.Lock.TheVariants.{Author, Kind as OfKind, Span}
 use Rattle.redl_words.specs.Selections.{Means, MeansLock}
-use Rattle.redl_words.specs.Items.{Item, format, lock, journal, named_journal, choice, rank, only, item_words, Admits, of_list, of_write, of_decide, Form as Kind, formats_of, locks_of, journals_of, choices_of, ranks_of, onlys_of, is_name, option_of, lock_option}
+use Rattle.redl_words.specs.Items.{Item, format, lock, journal, named_journal, choice, rank, by_kind, item_words, Admits, of_list, of_report, of_write, of_decide, Form as Kind, formats_of, locks_of, journals_of, choices_of, ranks_of, bys_of, if_so, is_name, option_of, lock_option, only, onlys_of}
 use Rattle.redl_words.specs.declared.options.Form.{Form}
 use Rattle.redl_words.specs.declared.options.Form.TheVariants as forms
 use Rattle.redl_words.specs.declared.options.Locked.{Locked}
@@ -26,9 +26,9 @@ use Rattle.redl_words.specs.Reading.Answers.{Fails, Finds}
 use Rattle.redl_words.specs.Reading.Locks.{lock_in}
 use Rattle.redl_words.specs.Reading.Ranks.{rank_in}
 use Rattle.redl_words.specs.Reading.Selections.{selection_in}
+use Rattle.redl_words.specs.Reading.Items.{Goes, Gathered, nothing, with_journal, with_plain_journal, has_plain_journals, reporting_option, deciding_option, locking_option, own_option, lock_or, option_in, with_format, with_by, with_rank, with_option, with_word, gathered}
 use Rattle.redl_words.specs.Reading.Shown.{only_in}
 use Rattle.redl_words.specs.Shown.{Only, MeansOnly}
-use Rattle.redl_words.specs.Reading.Items.{Goes, Gathered, nothing, with_journal, with_plain_journal, has_plain_journals, deciding_option, locking_option, own_option, lock_or, option_in, with_format, with_rank, with_option, with_word, gathered}
 use Rattle.redl_words.proofs.LockLaws.{lock_on, locked_option, no_name, lock_takes, lock_again}
 use Rattle.redl_words.proofs.RankLaws.{rank_takes, rank_again}
 use Rattle.redl_words.proofs.ShownLaws.{only_takes, only_again}
@@ -37,6 +37,7 @@ use Rattle.redl_words.proofs.SelectionLaws.{bytes_same, pick, selection_takes, s
 -- the form of the definition
 abbrev pub form_of : Form → Kind
 form_of forms.List = of_list
+form_of forms.Report = of_report
 form_of forms.Write = of_write
 form_of forms.Decide = of_decide
 
@@ -81,6 +82,7 @@ pub record Says (before after : Gathered) (items : List Item) : Type 0 where
   pub journals : after.journals ≡ before.journals ++ journals_of items
   pub choices : after.choices ≡ before.choices ++ choices_of items
   pub rank : option_to_list after.rank ≡ option_to_list before.rank ++ ranks_of items
+  pub by_kind : if_so after.by_kind ≡ if_so before.by_kind ++ bys_of items
   pub onlys : after.onlys ≡ before.onlys ++ onlys_of items
 
 -- the words are those of one item that the form admits
@@ -97,10 +99,11 @@ plain_takes : (form : Form) (word : List ℕ) (before after : Gathered) → is_n
 unfolding with_plain_journal
 plain_takes form word before after name e = of form e where
   says : Says before (with_journal word before) (journal word ∷ [])
-  says = record { format = sym (append-nil _); locks = sym (append-nil _); journals = refl; choices = sym (append-nil _); rank = sym (append-nil _); onlys = sym (append-nil _) }
+  says = record { format = sym (append-nil _); locks = sym (append-nil _); journals = refl; choices = sym (append-nil _); rank = sym (append-nil _); by_kind = sym (append-nil _); onlys = sym (append-nil _) }
 
   of : (form : Form) → cond (has_plain_journals form) (Some (with_journal word before)) None ≡ Some after → Turned form (word ∷ []) before after
   of forms.List e = record { item = journal word; written = refl; admitted = name; says = says_same before after (with_journal word before) (journal word ∷ []) (same_Some (with_journal word before) after e) says }
+  of forms.Report e = record { item = journal word; written = refl; admitted = name; says = says_same before after (with_journal word before) (journal word ∷ []) (same_Some (with_journal word before) after e) says }
   of forms.Write e = record { item = journal word; written = refl; admitted = name; says = says_same before after (with_journal word before) (journal word ∷ []) (same_Some (with_journal word before) after e) says }
   of forms.Decide e = absurd cc
 
@@ -108,6 +111,8 @@ plain_takes form word before after name e = of form e where
 abbrev Has : Form → List ℕ → ItemOption → Type 0
 Has forms.List word options.Format = word ≡ codes "--format"
 Has forms.List word options.Only = word ≡ codes "--only"
+Has forms.Report word options.Format = word ≡ codes "--format"
+Has forms.Report word options.By = word ≡ codes "--by"
 Has form word (options.Lock on) = word ≡ locked_option on
 Has forms.Decide word options.Journal = word ≡ codes "--journal"
 Has forms.Decide word (options.Choice decision) = word ≡ option_of decision
@@ -123,6 +128,12 @@ deciding_takes word o e =
     pick (Has forms.Decide word) (bytes_eq word (option_of Withdraw)) (options.Choice Withdraw) _ o e (λ hit. bytes_same word (option_of Withdraw) hit) (λ e.
     pick (Has forms.Decide word) (bytes_eq word (codes "--rank")) options.Rank _ o e (λ hit. bytes_same word (codes "--rank") hit) (λ e. absurd cc)))))
 
+reporting_takes : (word : List ℕ) (o : ItemOption) → reporting_option word ≡ Some o → Has forms.Report word o
+unfolding reporting_option
+reporting_takes word o e =
+    pick (Has forms.Report word) (bytes_eq word (codes "--format")) options.Format _ o e (λ hit. bytes_same word (codes "--format") hit) (λ e.
+    pick (Has forms.Report word) (bytes_eq word (codes "--by")) options.By _ o e (λ hit. bytes_same word (codes "--by") hit) (λ e. absurd cc))
+
 locking_takes : (word : List ℕ) (on : Locked) → locking_option word ≡ Some on → word ≡ locked_option on
 unfolding locking_option
 locking_takes word on e =
@@ -136,11 +147,13 @@ own_takes : (form : Form) (word : List ℕ) (o : ItemOption) → own_option form
 own_takes forms.List word o e =
     pick (Has forms.List word) (bytes_eq word (codes "--format")) options.Format _ o e (λ hit. bytes_same word (codes "--format") hit) (λ e.
     pick (Has forms.List word) (bytes_eq word (codes "--only")) options.Only _ o e (λ hit. bytes_same word (codes "--only") hit) (λ e. absurd cc))
+own_takes forms.Report word o e = reporting_takes word o e
 own_takes forms.Write word o e = absurd cc
 own_takes forms.Decide word o e = deciding_takes word o e
 
 has_lock : (form : Form) (word : List ℕ) (on : Locked) → word ≡ locked_option on → Has form word (options.Lock on)
 has_lock forms.List word on h = h
+has_lock forms.Report word on h = h
 has_lock forms.Write word on h = h
 has_lock forms.Decide word on h = h
 
@@ -154,23 +167,51 @@ option_takes form word o e = of (locking_option word) refl e where
 value_takes : (form : Form) (word value : List ℕ) (o : ItemOption) (before after : Gathered) → Has form word o → with_option o value before ≡ Some after → Turned form (word ∷ value ∷ []) before after
 unfolding with_option
 value_takes form word value options.Format before after has e = of form has before.format refl e where
-  of : (form : Form) → Has form word options.Format → (f : Option (List ℕ)) → before.format ≡ f → with_format value f before ≡ Some after → Turned form (word ∷ value ∷ []) before after
-  of forms.List has None is e = record {
+  turned : (form : Form) → word ≡ codes "--format" → Admits (form_of form) (format value) → (f : Option (List ℕ)) → before.format ≡ f → with_format value f before ≡ Some after → Turned form (word ∷ value ∷ []) before after
+  turned form has admits (Some other) is e = absurd cc
+  turned form has admits None is e = record {
     item = format value;
     written = ap (λ (w : List ℕ). w ∷ value ∷ []) has;
-    admitted = tt;
+    admitted = admits;
     says = says_same before after (record before { format = Some value }) (format value ∷ []) (same_Some (record before { format = Some value }) after e) (record {
       format = ap (λ (f : Option (List ℕ)). option_to_list f ++ value ∷ []) (sym is);
       locks = sym (append-nil _);
       journals = sym (append-nil _);
       choices = sym (append-nil _);
       rank = sym (append-nil _);
+      by_kind = sym (append-nil _);
       onlys = sym (append-nil _);
     });
   }
-  of forms.List has (Some other) is e = absurd cc
-  of forms.Write has f is e = absurd has
-  of forms.Decide has f is e = absurd has
+
+  of : (form : Form) → Has form word options.Format → (f : Option (List ℕ)) → before.format ≡ f → with_format value f before ≡ Some after → Turned form (word ∷ value ∷ []) before after
+  of forms.List has = turned forms.List has tt
+  of forms.Report has = turned forms.Report has tt
+  of forms.Write has = absurd has
+  of forms.Decide has = absurd has
+value_takes form word value options.By before after has e = of form has before.by_kind refl e where
+  of : (form : Form) → Has form word options.By → (b : Bool) → before.by_kind ≡ b → with_by value b before ≡ Some after → Turned form (word ∷ value ∷ []) before after
+  of forms.List has b is e = absurd has
+  of forms.Report has true is e = absurd cc
+  of forms.Report has false is e =
+      let made : Gathered = record before { by_kind = true } in
+      let c = cond_some (bytes_eq value (codes "kind")) made after e in
+      record {
+        item = by_kind;
+        written = ap (λ (w : List ℕ). w ∷ value ∷ []) has ∙ ap (λ (w : List ℕ). codes "--by" ∷ w ∷ []) (bytes_same value (codes "kind") c.0);
+        admitted = tt;
+        says = says_same before after made (by_kind ∷ []) c.1 (record {
+          format = sym (append-nil _);
+          locks = sym (append-nil _);
+          journals = sym (append-nil _);
+          choices = sym (append-nil _);
+          rank = sym (append-nil _);
+          by_kind = ap (λ (b : Bool). if_so b ++ true ∷ []) (sym is);
+          onlys = sym (append-nil _);
+        });
+      }
+  of forms.Write has b is e = absurd has
+  of forms.Decide has b is e = absurd has
 value_takes form word value (options.Lock on) before after has e = of form has where
   read : (l : Lock) × (lock_in on value ≡ Some l) × (Some (record before { locks = before.locks ++ l ∷ [] }) ≡ Some after)
   read = bind_some (lock_in on value) _ after e
@@ -189,17 +230,20 @@ value_takes form word value (options.Lock on) before after has e = of form has w
       journals = sym (append-nil _);
       choices = sym (append-nil _);
       rank = sym (append-nil _);
+      by_kind = sym (append-nil _);
       onlys = sym (append-nil _);
     });
   }
 
   of : (form : Form) → Has form word (options.Lock on) → Turned form (word ∷ value ∷ []) before after
   of forms.List has = turned forms.List has takes.1
+  of forms.Report has = turned forms.Report has takes.1
   of forms.Write has = turned forms.Write has takes.1
   of forms.Decide has = turned forms.Decide has takes.1
 value_takes form word value options.Journal before after has e = of form has where
   of : (form : Form) → Has form word options.Journal → Turned form (word ∷ value ∷ []) before after
   of forms.List has = absurd has
+  of forms.Report has = absurd has
   of forms.Write has = absurd has
   of forms.Decide has =
       let c = cond_some (is_name value) (with_journal value before) after e in
@@ -213,12 +257,14 @@ value_takes form word value options.Journal before after has e = of form has whe
           journals = refl;
           choices = sym (append-nil _);
           rank = sym (append-nil _);
+          by_kind = sym (append-nil _);
           onlys = sym (append-nil _);
         });
       }
 value_takes form word value (options.Choice decision) before after has e = of form has where
   of : (form : Form) → Has form word (options.Choice decision) → Turned form (word ∷ value ∷ []) before after
   of forms.List has = absurd has
+  of forms.Report has = absurd has
   of forms.Write has = absurd has
   of forms.Decide has =
       let s = bind_some (selection_in value) _ after e in
@@ -233,12 +279,14 @@ value_takes form word value (options.Choice decision) before after has e = of fo
           journals = sym (append-nil _);
           choices = refl;
           rank = sym (append-nil _);
+          by_kind = sym (append-nil _);
           onlys = sym (append-nil _);
         });
       }
 value_takes form word value options.Rank before after has e = of form has before.rank refl e where
   of : (form : Form) → Has form word options.Rank → (r : Option ℕ) → before.rank ≡ r → with_rank value r before ≡ Some after → Turned form (word ∷ value ∷ []) before after
   of forms.List has r is e = absurd has
+  of forms.Report has r is e = absurd has
   of forms.Write has r is e = absurd has
   of forms.Decide has (Some other) is e = absurd cc
   of forms.Decide has None is e =
@@ -255,11 +303,13 @@ value_takes form word value options.Rank before after has e = of form has before
           journals = sym (append-nil _);
           choices = sym (append-nil _);
           rank = ap (λ (o : Option ℕ). option_to_list o ++ r.0 ∷ []) (sym is);
+          by_kind = sym (append-nil _);
           onlys = sym (append-nil _);
         });
       }
 value_takes form word value options.Only before after has e = of form has where
   of : (form : Form) → Has form word options.Only → Turned form (word ∷ value ∷ []) before after
+  of forms.Report has = absurd has
   of forms.Write has = absurd has
   of forms.Decide has = absurd has
   of forms.List has =
@@ -275,6 +325,7 @@ value_takes form word value options.Only before after has e = of form has where
           journals = sym (append-nil _);
           choices = sym (append-nil _);
           rank = sym (append-nil _);
+          by_kind = sym (append-nil _);
           onlys = refl;
         });
       }
@@ -300,6 +351,7 @@ formats_more (journal name) items = refl
 formats_more (named_journal name) items = refl
 formats_more (choice word text selection) items = refl
 formats_more (rank number) items = refl
+formats_more by_kind items = refl
 formats_more (only text wanted) items = refl
 
 locks_more : (item : Item) (items : List Item) → locks_of (item ∷ items) ≡ locks_of (item ∷ []) ++ locks_of items
@@ -309,6 +361,7 @@ locks_more (journal name) items = refl
 locks_more (named_journal name) items = refl
 locks_more (choice word text selection) items = refl
 locks_more (rank number) items = refl
+locks_more by_kind items = refl
 locks_more (only text wanted) items = refl
 
 journals_more : (item : Item) (items : List Item) → journals_of (item ∷ items) ≡ journals_of (item ∷ []) ++ journals_of items
@@ -318,6 +371,7 @@ journals_more (journal name) items = refl
 journals_more (named_journal name) items = refl
 journals_more (choice word text selection) items = refl
 journals_more (rank number) items = refl
+journals_more by_kind items = refl
 journals_more (only text wanted) items = refl
 
 choices_more : (item : Item) (items : List Item) → choices_of (item ∷ items) ≡ choices_of (item ∷ []) ++ choices_of items
@@ -327,6 +381,7 @@ choices_more (journal name) items = refl
 choices_more (named_journal name) items = refl
 choices_more (choice word text selection) items = refl
 choices_more (rank number) items = refl
+choices_more by_kind items = refl
 choices_more (only text wanted) items = refl
 
 ranks_more : (item : Item) (items : List Item) → ranks_of (item ∷ items) ≡ ranks_of (item ∷ []) ++ ranks_of items
@@ -336,7 +391,18 @@ ranks_more (journal name) items = refl
 ranks_more (named_journal name) items = refl
 ranks_more (choice word text selection) items = refl
 ranks_more (rank number) items = refl
+ranks_more by_kind items = refl
 ranks_more (only text wanted) items = refl
+
+bys_more : (item : Item) (items : List Item) → bys_of (item ∷ items) ≡ bys_of (item ∷ []) ++ bys_of items
+bys_more (format name) items = refl
+bys_more (lock text of_lock) items = refl
+bys_more (journal name) items = refl
+bys_more (named_journal name) items = refl
+bys_more (choice word text selection) items = refl
+bys_more (rank number) items = refl
+bys_more by_kind items = refl
+bys_more (only text wanted) items = refl
 
 onlys_more : (item : Item) (items : List Item) → onlys_of (item ∷ items) ≡ onlys_of (item ∷ []) ++ onlys_of items
 onlys_more (format name) items = refl
@@ -345,6 +411,7 @@ onlys_more (journal name) items = refl
 onlys_more (named_journal name) items = refl
 onlys_more (choice word text selection) items = refl
 onlys_more (rank number) items = refl
+onlys_more by_kind items = refl
 onlys_more (only text wanted) items = refl
 
 regroup : {A : Type 0} (before one more all between after : List A) → after ≡ between ++ more → between ≡ before ++ one → all ≡ one ++ more → after ≡ before ++ all
@@ -361,6 +428,7 @@ one_more form words later before between after t r = record {
     journals = regroup before.journals (journals_of (t.item ∷ [])) (journals_of r.items) (journals_of (t.item ∷ r.items)) between.journals after.journals r.says.journals t.says.journals (journals_more t.item r.items);
     choices = regroup before.choices (choices_of (t.item ∷ [])) (choices_of r.items) (choices_of (t.item ∷ r.items)) between.choices after.choices r.says.choices t.says.choices (choices_more t.item r.items);
     rank = regroup (option_to_list before.rank) (ranks_of (t.item ∷ [])) (ranks_of r.items) (ranks_of (t.item ∷ r.items)) (option_to_list between.rank) (option_to_list after.rank) r.says.rank t.says.rank (ranks_more t.item r.items);
+    by_kind = regroup (if_so before.by_kind) (bys_of (t.item ∷ [])) (bys_of r.items) (bys_of (t.item ∷ r.items)) (if_so between.by_kind) (if_so after.by_kind) r.says.by_kind t.says.by_kind (bys_more t.item r.items);
     onlys = regroup before.onlys (onlys_of (t.item ∷ [])) (onlys_of r.items) (onlys_of (t.item ∷ r.items)) between.onlys after.onlys r.says.onlys t.says.onlys (onlys_more t.item r.items);
   };
 }
@@ -370,7 +438,7 @@ nothing_more form before after e = record {
   items = [];
   written = refl;
   admitted = tt;
-  says = says_same before after before [] e (record { format = sym (append-nil _); locks = sym (append-nil _); journals = sym (append-nil _); choices = sym (append-nil _); rank = sym (append-nil _); onlys = sym (append-nil _) });
+  says = says_same before after before [] e (record { format = sym (append-nil _); locks = sym (append-nil _); journals = sym (append-nil _); choices = sym (append-nil _); rank = sym (append-nil _); by_kind = sym (append-nil _); onlys = sym (append-nil _) });
 }
 
 pub items_take : (form : Form) (words : List (List ℕ)) (before after : Gathered) → gathered form before words ≡ Some after → Read form words before after
@@ -409,6 +477,7 @@ with_item (journal name) items = record items { journals = items.journals ++ nam
 with_item (named_journal name) items = record items { journals = items.journals ++ name ∷ [] }
 with_item (choice word text selection) items = record items { choices = items.choices ++ (word, selection) ∷ [] }
 with_item (rank number) items = record items { rank = Some number }
+with_item by_kind items = record items { by_kind = true }
 with_item (only text wanted) items = record items { onlys = items.onlys ++ wanted ∷ [] }
 
 -- what is gathered with items more
@@ -416,10 +485,11 @@ abbrev pub with_items : List Item → Gathered → Gathered
 with_items [] items = items
 with_items (item ∷ more) items = with_items more (with_item item items)
 
--- a format comes at most once, and so does a rank
+-- a format comes at most once, and so do a rank and that it goes by kind
 pub record Single (before : Gathered) (items : List Item) : Type 0 where
   pub format : length (option_to_list before.format) + length (formats_of items) ≤ 1
   pub rank : length (option_to_list before.rank) + length (ranks_of items) ≤ 1
+  pub by_kind : length (if_so before.by_kind) + length (bys_of items) ≤ 1
 
 choice_option : (word : Word) (value : List ℕ) (items : Gathered) → with_word forms.Decide (option_of word) value items ≡ with_option (options.Choice word) value items
 unfolding with_word option_in locking_option deciding_option
@@ -474,7 +544,7 @@ only_option value items = refl
 
 turn_again : (form : Form) (item : Item) (before : Gathered) (later : List (List ℕ)) → Admits (form_of form) item → Single before (item ∷ [])
     → gathered form before (item_words item ++ later) ≡ gathered form (with_item item before) later
-unfolding with_plain_journal with_word option_in locking_option deciding_option with_option
+unfolding with_plain_journal with_word option_in locking_option reporting_option deciding_option with_option
 turn_again forms.List (format name) before later h single = goes_pair forms.List before (with_item (format name) before) (codes "--format") name later refl (fresh before.format refl single.format) where
   fresh : (f : Option (List ℕ)) → before.format ≡ f → length (option_to_list f) + 1 ≤ 1 → with_format name f before ≡ Some (with_item (format name) before)
   fresh None is single = refl
@@ -484,14 +554,30 @@ turn_again forms.List (journal name) before later h single = goes_plain forms.Li
 turn_again forms.List (named_journal name) before later h single = absurd h
 turn_again forms.List (choice word text selection) before later h single = absurd h
 turn_again forms.List (rank number) before later h single = absurd h
+turn_again forms.List by_kind before later h single = absurd h
 turn_again forms.List (only text wanted) before later h single =
     goes_pair forms.List before (with_item (only text wanted) before) (codes "--only") text later refl (only_option text before ∙ with_only text wanted before h)
+turn_again forms.Report (format name) before later h single = goes_pair forms.Report before (with_item (format name) before) (codes "--format") name later refl (fresh before.format refl single.format) where
+  fresh : (f : Option (List ℕ)) → before.format ≡ f → length (option_to_list f) + 1 ≤ 1 → with_format name f before ≡ Some (with_item (format name) before)
+  fresh None is single = refl
+  fresh (Some other) is single = absurd (omega arith)
+turn_again forms.Report (lock text of_lock) before later h single = lock_again_in forms.Report of_lock text before later h
+turn_again forms.Report (journal name) before later h single = goes_plain forms.Report before (with_item (journal name) before) name later h refl
+turn_again forms.Report (named_journal name) before later h single = absurd h
+turn_again forms.Report (choice word text selection) before later h single = absurd h
+turn_again forms.Report (rank number) before later h single = absurd h
+turn_again forms.Report (only text wanted) before later h single = absurd h
+turn_again forms.Report by_kind before later h single = goes_pair forms.Report before (with_item by_kind before) (codes "--by") (codes "kind") later refl (fresh before.by_kind refl single.by_kind) where
+  fresh : (b : Bool) → before.by_kind ≡ b → length (if_so b) + 1 ≤ 1 → with_by (codes "kind") b before ≡ Some (with_item by_kind before)
+  fresh false is single = refl
+  fresh true is single = absurd (omega arith)
 turn_again forms.Write (format name) before later h single = absurd h
 turn_again forms.Write (lock text of_lock) before later h single = lock_again_in forms.Write of_lock text before later h
 turn_again forms.Write (journal name) before later h single = goes_plain forms.Write before (with_item (journal name) before) name later h refl
 turn_again forms.Write (named_journal name) before later h single = absurd h
 turn_again forms.Write (choice word text selection) before later h single = absurd h
 turn_again forms.Write (rank number) before later h single = absurd h
+turn_again forms.Write by_kind before later h single = absurd h
 turn_again forms.Write (only text wanted) before later h single = absurd h
 turn_again forms.Decide (format name) before later h single = absurd h
 turn_again forms.Decide (lock text of_lock) before later h single = lock_again_in forms.Decide of_lock text before later h
@@ -502,25 +588,28 @@ turn_again forms.Decide (choice word text selection) before later h single =
     (choice_option word text before ∙ with_choice word text selection before h)
 turn_again forms.Decide (rank number) before later h single =
     goes_pair forms.Decide before (with_item (rank number) before) (codes "--rank") (decimal number) later refl (rank_option (decimal number) before ∙ with_one_rank number before h single.rank)
+turn_again forms.Decide by_kind before later h single = absurd h
 turn_again forms.Decide (only text wanted) before later h single = absurd h
 
 single_first : (item : Item) (before : Gathered) (more : List Item) → Single before (item ∷ more) → Single before (item ∷ [])
-single_first (format name) before more h = record { format = omega arith; rank = omega arith }
-single_first (lock text of_lock) before more h = record { format = omega arith; rank = omega arith }
-single_first (journal name) before more h = record { format = omega arith; rank = omega arith }
-single_first (named_journal name) before more h = record { format = omega arith; rank = omega arith }
-single_first (choice word text selection) before more h = record { format = omega arith; rank = omega arith }
-single_first (rank number) before more h = record { format = omega arith; rank = omega arith }
-single_first (only text wanted) before more h = record { format = omega arith; rank = omega arith }
+single_first (format name) before more h = record { format = omega arith; rank = omega arith; by_kind = omega arith }
+single_first (lock text of_lock) before more h = record { format = omega arith; rank = omega arith; by_kind = omega arith }
+single_first (journal name) before more h = record { format = omega arith; rank = omega arith; by_kind = omega arith }
+single_first (named_journal name) before more h = record { format = omega arith; rank = omega arith; by_kind = omega arith }
+single_first (choice word text selection) before more h = record { format = omega arith; rank = omega arith; by_kind = omega arith }
+single_first (rank number) before more h = record { format = omega arith; rank = omega arith; by_kind = omega arith }
+single_first by_kind before more h = record { format = omega arith; rank = omega arith; by_kind = omega arith }
+single_first (only text wanted) before more h = record { format = omega arith; rank = omega arith; by_kind = omega arith }
 
 single_later : (item : Item) (before : Gathered) (more : List Item) → Single before (item ∷ more) → Single (with_item item before) more
-single_later (format name) before more h = record { format = omega arith; rank = h.rank }
-single_later (lock text of_lock) before more h = record { format = h.format; rank = h.rank }
-single_later (journal name) before more h = record { format = h.format; rank = h.rank }
-single_later (named_journal name) before more h = record { format = h.format; rank = h.rank }
-single_later (choice word text selection) before more h = record { format = h.format; rank = h.rank }
-single_later (rank number) before more h = record { format = h.format; rank = omega arith }
-single_later (only text wanted) before more h = record { format = h.format; rank = h.rank }
+single_later (format name) before more h = record { format = omega arith; rank = h.rank; by_kind = h.by_kind }
+single_later (lock text of_lock) before more h = record { format = h.format; rank = h.rank; by_kind = h.by_kind }
+single_later (journal name) before more h = record { format = h.format; rank = h.rank; by_kind = h.by_kind }
+single_later (named_journal name) before more h = record { format = h.format; rank = h.rank; by_kind = h.by_kind }
+single_later (choice word text selection) before more h = record { format = h.format; rank = h.rank; by_kind = h.by_kind }
+single_later (rank number) before more h = record { format = h.format; rank = omega arith; by_kind = h.by_kind }
+single_later by_kind before more h = record { format = h.format; rank = h.rank; by_kind = omega arith }
+single_later (only text wanted) before more h = record { format = h.format; rank = h.rank; by_kind = h.by_kind }
 
 pub items_again : (form : Form) (items : List Item) (before : Gathered) → AllByRecursion (Admits (form_of form)) items → Single before items
     → gathered form before (flat_map item_words items) ≡ Some (with_items items before)
@@ -531,7 +620,7 @@ items_again form (item ∷ items) before h single =
 
 -- what items say on top of nothing
 says_items : (items : List Item) (before : Gathered) → Single before items → Says before (with_items items before) items
-says_items [] before single = record { format = sym (append-nil _); locks = sym (append-nil _); journals = sym (append-nil _); choices = sym (append-nil _); rank = sym (append-nil _); onlys = sym (append-nil _) }
+says_items [] before single = record { format = sym (append-nil _); locks = sym (append-nil _); journals = sym (append-nil _); choices = sym (append-nil _); rank = sym (append-nil _); by_kind = sym (append-nil _); onlys = sym (append-nil _) }
 says_items (item ∷ items) before single =
     let first = says_item item before (single_first item before items single) in
     let rest = says_items items (with_item item before) (single_later item before items single) in
@@ -541,22 +630,27 @@ says_items (item ∷ items) before single =
       journals = regroup before.journals (journals_of (item ∷ [])) (journals_of items) (journals_of (item ∷ items)) (with_item item before).journals (with_items (item ∷ items) before).journals rest.journals first.journals (journals_more item items);
       choices = regroup before.choices (choices_of (item ∷ [])) (choices_of items) (choices_of (item ∷ items)) (with_item item before).choices (with_items (item ∷ items) before).choices rest.choices first.choices (choices_more item items);
       rank = regroup (option_to_list before.rank) (ranks_of (item ∷ [])) (ranks_of items) (ranks_of (item ∷ items)) (option_to_list (with_item item before).rank) (option_to_list (with_items (item ∷ items) before).rank) rest.rank first.rank (ranks_more item items);
+      by_kind = regroup (if_so before.by_kind) (bys_of (item ∷ [])) (bys_of items) (bys_of (item ∷ items)) (if_so (with_item item before).by_kind) (if_so (with_items (item ∷ items) before).by_kind) rest.by_kind first.by_kind (bys_more item items);
       onlys = regroup before.onlys (onlys_of (item ∷ [])) (onlys_of items) (onlys_of (item ∷ items)) (with_item item before).onlys (with_items (item ∷ items) before).onlys rest.onlys first.onlys (onlys_more item items);
     } where
       says_item : (item : Item) (before : Gathered) → Single before (item ∷ []) → Says before (with_item item before) (item ∷ [])
-      says_item (format name) before single = record { format = fresh before.format single.format; locks = sym (append-nil _); journals = sym (append-nil _); choices = sym (append-nil _); rank = sym (append-nil _); onlys = sym (append-nil _) } where
+      says_item (format name) before single = record { format = fresh before.format single.format; locks = sym (append-nil _); journals = sym (append-nil _); choices = sym (append-nil _); rank = sym (append-nil _); by_kind = sym (append-nil _); onlys = sym (append-nil _) } where
         fresh : (f : Option (List ℕ)) → length (option_to_list f) + 1 ≤ 1 → name ∷ [] ≡ option_to_list f ++ name ∷ []
         fresh None single = refl
         fresh (Some other) single = absurd (omega arith)
-      says_item (lock text of_lock) before single = record { format = sym (append-nil _); locks = refl; journals = sym (append-nil _); choices = sym (append-nil _); rank = sym (append-nil _); onlys = sym (append-nil _) }
-      says_item (journal name) before single = record { format = sym (append-nil _); locks = sym (append-nil _); journals = refl; choices = sym (append-nil _); rank = sym (append-nil _); onlys = sym (append-nil _) }
-      says_item (named_journal name) before single = record { format = sym (append-nil _); locks = sym (append-nil _); journals = refl; choices = sym (append-nil _); rank = sym (append-nil _); onlys = sym (append-nil _) }
-      says_item (choice word text selection) before single = record { format = sym (append-nil _); locks = sym (append-nil _); journals = sym (append-nil _); choices = refl; rank = sym (append-nil _); onlys = sym (append-nil _) }
-      says_item (rank number) before single = record { format = sym (append-nil _); locks = sym (append-nil _); journals = sym (append-nil _); choices = sym (append-nil _); rank = fresh before.rank single.rank; onlys = sym (append-nil _) } where
+      says_item (lock text of_lock) before single = record { format = sym (append-nil _); locks = refl; journals = sym (append-nil _); choices = sym (append-nil _); rank = sym (append-nil _); by_kind = sym (append-nil _); onlys = sym (append-nil _) }
+      says_item (journal name) before single = record { format = sym (append-nil _); locks = sym (append-nil _); journals = refl; choices = sym (append-nil _); rank = sym (append-nil _); by_kind = sym (append-nil _); onlys = sym (append-nil _) }
+      says_item (named_journal name) before single = record { format = sym (append-nil _); locks = sym (append-nil _); journals = refl; choices = sym (append-nil _); rank = sym (append-nil _); by_kind = sym (append-nil _); onlys = sym (append-nil _) }
+      says_item (choice word text selection) before single = record { format = sym (append-nil _); locks = sym (append-nil _); journals = sym (append-nil _); choices = refl; rank = sym (append-nil _); by_kind = sym (append-nil _); onlys = sym (append-nil _) }
+      says_item (rank number) before single = record { format = sym (append-nil _); locks = sym (append-nil _); journals = sym (append-nil _); choices = sym (append-nil _); rank = fresh before.rank single.rank; by_kind = sym (append-nil _); onlys = sym (append-nil _) } where
         fresh : (r : Option ℕ) → length (option_to_list r) + 1 ≤ 1 → number ∷ [] ≡ option_to_list r ++ number ∷ []
         fresh None single = refl
         fresh (Some other) single = absurd (omega arith)
-      says_item (only text wanted) before single = record { format = sym (append-nil _); locks = sym (append-nil _); journals = sym (append-nil _); choices = sym (append-nil _); rank = sym (append-nil _); onlys = refl }
+      says_item by_kind before single = record { format = sym (append-nil _); locks = sym (append-nil _); journals = sym (append-nil _); choices = sym (append-nil _); rank = sym (append-nil _); by_kind = fresh before.by_kind single.by_kind; onlys = sym (append-nil _) } where
+        fresh : (b : Bool) → length (if_so b) + 1 ≤ 1 → true ∷ [] ≡ if_so b ++ true ∷ []
+        fresh false single = refl
+        fresh true single = absurd (omega arith)
+      says_item (only text wanted) before single = record { format = sym (append-nil _); locks = sym (append-nil _); journals = sym (append-nil _); choices = sym (append-nil _); rank = sym (append-nil _); by_kind = sym (append-nil _); onlys = refl }
 
 -- the words of items are read, and give what the items say
 pub record ReadAgain (form : Form) (words : List (List ℕ)) (items : List Item) : Type 0 where
@@ -567,12 +661,13 @@ pub record ReadAgain (form : Form) (words : List (List ℕ)) (items : List Item)
   pub journals : after.journals ≡ journals_of items
   pub choices : after.choices ≡ choices_of items
   pub rank : option_to_list after.rank ≡ ranks_of items
+  pub by_kind : if_so after.by_kind ≡ bys_of items
   pub onlys : after.onlys ≡ onlys_of items
 
 pub read_again : (form : Form) (items : List Item) (words : List (List ℕ)) → words ≡ flat_map item_words items → AllByRecursion (Admits (form_of form)) items
-    → length (formats_of items) ≤ 1 → length (ranks_of items) ≤ 1 → ReadAgain form words items
-read_again form items words e h formats ranks =
-    let one : Single nothing items = record { format = omega (arith, formats); rank = omega (arith, ranks) } in
+    → length (formats_of items) ≤ 1 → length (ranks_of items) ≤ 1 → length (bys_of items) ≤ 1 → ReadAgain form words items
+read_again form items words e h formats ranks bys =
+    let one : Single nothing items = record { format = omega (arith, formats); rank = omega (arith, ranks); by_kind = omega (arith, bys) } in
     let says = says_items items nothing one in
     record {
       after = with_items items nothing;
@@ -582,6 +677,7 @@ read_again form items words e h formats ranks =
       journals = says.journals;
       choices = says.choices;
       rank = says.rank;
+      by_kind = says.by_kind;
       onlys = says.onlys;
     }
 

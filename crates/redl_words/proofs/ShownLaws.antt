@@ -1,11 +1,11 @@
 -- Which revisions a listing shows: what was read is what the text means, and what the text means is read.
-use Rattle.std.proofs.Common.{◌≡◌, ℕ, cond, List, Option, Some, None, refl, sym, ap, subst, ◌∙◌}
+use Rattle.std.proofs.Common.{◌≡◌, ℕ, List, Option, Some, None, refl, sym, ap, subst, ◌∙◌}
 use Rattle.std.specs.Prelude.{codes, option_map}
 use Rattle.std.specs.Str.{bytes_eq}
 use Rattle.std.proofs.lemmas.Option.{same_Some}
 use Rattle.redl_join.specs.declared.verdict.Verdict.{Verdict}
 use Rattle.redl_join.specs.declared.verdict.Verdict.TheVariants.{Undecided, Accept, Reject, Disputed}
-use Rattle.redl_select.specs.Selections.{Selection, all, numbers, author, span, kind, group}
+use Rattle.redl_select.specs.Selections.{Selection}
 use Rattle.redl_reading.specs.Lists.{field_at}
 use Rattle.redl_words.specs.Selections.{Means}
 use Rattle.redl_words.specs.Shown.{Only, chosen, decided, verdict_text, MeansOnly}

@@ -7,7 +7,7 @@ use Rattle.redl_select.specs.declared.lock.Lock.{Lock}
 use Rattle.redl_select.specs.declared.lock.Lock.TheVariants.{Author, Kind, Span}
 use Rattle.redl_words.specs.declared.command.View.{View}
 use Rattle.redl_words.specs.declared.command.View.TheVariants.{Original, Final, Marked}
-use Rattle.redl_words.specs.Items.{Item, AreItems, of_list, of_write, of_decide, is_name, formats_of, locks_of, journals_of, choices_of, ranks_of, onlys_of}
+use Rattle.redl_words.specs.Items.{Item, AreItems, Form, of_list, of_report, of_write, of_decide, is_name, formats_of, bys_of, if_so, locks_of, journals_of, choices_of, ranks_of, onlys_of}
 use Rattle.redl_words.specs.Shown.{Only}
 
 -- what the words ask for; names, texts of authors and of formats are lists of bytes
@@ -20,8 +20,9 @@ pub data Command : Type 0 where
   list : List ℕ → List ℕ → List Lock → List (List ℕ) → List Only → Command
   -- a page of the package's revisions for a browser, with locks and journals
   page : List ℕ → List Lock → List (List ℕ) → Command
-  -- where each reviewer and each author of the package's revisions stands, in the format of this name, with locks and journals
-  report : List ℕ → List ℕ → List Lock → List (List ℕ) → Command
+  -- where each reviewer and each author of the package's revisions stands, in the format of this name, by kind or not, with locks
+  -- and journals
+  report : List ℕ → List ℕ → Bool → List Lock → List (List ℕ) → Command
   -- the package under the joined verdicts, with locks and journals
   write : List ℕ → List Lock → List (List ℕ) → Command
   -- a journal of what a reviewer decides on the package's revisions: journals, locks, the choices in their order, and the rank
@@ -56,14 +57,15 @@ pub record IsText (words : List (List ℕ)) (p : List ℕ) (view : View) : Type 
   pub written : ((words ≡ codes "text" ∷ p ∷ []) × (view ≡ Final)) ⊎ (words ≡ codes "text" ∷ p ∷ codes "--view" ∷ view_name view ∷ [])
   pub name : IsTrue (is_name p)
 
--- this word, a package and items of `list`; without `--format` the format is `text`, and it is given once at most
-pub record AsksFor (word : List ℕ) (words : List (List ℕ)) (p name : List ℕ) (locks : List Lock) (journals : List (List ℕ)) (onlys : List Only) : Type 0 where
+-- this word, a package and items of this form; without `--format` the format is `text`, and it is given once at most, as is `--by kind`
+pub record AsksFor (form : Form) (word : List ℕ) (words : List (List ℕ)) (p name : List ℕ) (by_kind : Bool) (locks : List Lock) (journals : List (List ℕ)) (onlys : List Only) : Type 0 where
   pub items : List Item
   pub rest : List (List ℕ)
   pub written : words ≡ word ∷ p ∷ rest
   pub package_name : IsTrue (is_name p)
-  pub are_items : AreItems of_list rest items
+  pub are_items : AreItems form rest items
   pub format : ((formats_of items ≡ []) × (name ≡ codes "text")) ⊎ (formats_of items ≡ name ∷ [])
+  pub kinds : if_so by_kind ≡ bys_of items
   pub locks_are : locks ≡ locks_of items
   pub journals_are : journals ≡ journals_of items
   pub onlys_are : onlys ≡ onlys_of items
@@ -80,11 +82,11 @@ pub record IsPage (words : List (List ℕ)) (p : List ℕ) (locks : List Lock) (
 
 -- `list P` and items
 abbrev pub IsList : List (List ℕ) → List ℕ → List ℕ → List Lock → List (List ℕ) → List Only → Type 0
-IsList = AsksFor (codes "list")
+IsList words p name locks journals onlys = AsksFor of_list (codes "list") words p name false locks journals onlys
 
--- `report P` and the items of `list` but for `--only`
-abbrev pub IsReport : List (List ℕ) → List ℕ → List ℕ → List Lock → List (List ℕ) → Type 0
-IsReport words p name locks journals = AsksFor (codes "report") words p name locks journals []
+-- `report P` and items
+abbrev pub IsReport : List (List ℕ) → List ℕ → List ℕ → Bool → List Lock → List (List ℕ) → Type 0
+IsReport words p name by_kind locks journals = AsksFor of_report (codes "report") words p name by_kind locks journals []
 
 -- `write P` and items
 pub record IsWrite (words : List (List ℕ)) (p : List ℕ) (locks : List Lock) (journals : List (List ℕ)) : Type 0 where
@@ -132,7 +134,7 @@ IsCommand words (settle accept p) = IsSettle words accept p
 IsCommand words (view_text p view) = IsText words p view
 IsCommand words (list p name locks journals onlys) = IsList words p name locks journals onlys
 IsCommand words (page p locks journals) = IsPage words p locks journals
-IsCommand words (report p name locks journals) = IsReport words p name locks journals
+IsCommand words (report p name by_kind locks journals) = IsReport words p name by_kind locks journals
 IsCommand words (write p locks journals) = IsWrite words p locks journals
 IsCommand words (decide p reviewer journals locks choices number) = IsDecide words p reviewer journals locks choices number
 IsCommand words (join journals) = IsJoin words journals
@@ -155,7 +157,7 @@ HasUtf8 (settle accept p) = IsUtf8 p
 HasUtf8 (view_text p view) = IsUtf8 p
 HasUtf8 (list p name locks journals onlys) = IsUtf8 p × IsUtf8 name × All LockHasUtf8 locks × All IsUtf8 journals
 HasUtf8 (page p locks journals) = IsUtf8 p × All LockHasUtf8 locks × All IsUtf8 journals
-HasUtf8 (report p name locks journals) = IsUtf8 p × IsUtf8 name × All LockHasUtf8 locks × All IsUtf8 journals
+HasUtf8 (report p name by_kind locks journals) = IsUtf8 p × IsUtf8 name × All LockHasUtf8 locks × All IsUtf8 journals
 HasUtf8 (write p locks journals) = IsUtf8 p × All LockHasUtf8 locks × All IsUtf8 journals
 HasUtf8 (decide p reviewer journals locks choices number) = IsUtf8 p × IsReviewer reviewer × All IsUtf8 journals × All LockHasUtf8 locks × (number ≤ 9)
 HasUtf8 (join journals) = All IsUtf8 journals

@@ -20,6 +20,8 @@ is_name (first ∷ _) = not (first == 45)
 pub data Item : Type 0 where
   -- `--format` and the name of a format
   format : List ℕ → Item
+  -- `--by kind`
+  by_kind : Item
   -- `--lock`, `--lock-kind` or `--lock-span`, and the text of a lock
   lock : List ℕ → Lock → Item
   -- the name of a journal
@@ -48,6 +50,7 @@ lock_option (Span start end) = codes "--lock-span"
 -- the words of an item
 abbrev pub item_words : Item → List (List ℕ)
 item_words (format name) = codes "--format" ∷ name ∷ []
+item_words by_kind = codes "--by" ∷ codes "kind" ∷ []
 item_words (lock text of_lock) = lock_option of_lock ∷ text ∷ []
 item_words (journal name) = name ∷ []
 item_words (named_journal name) = codes "--journal" ∷ name ∷ []
@@ -58,6 +61,7 @@ item_words (only text wanted) = codes "--only" ∷ text ∷ []
 -- the commands that have items
 pub data Form : Type 0 where
   of_list : Form
+  of_report : Form
   of_write : Form
   of_decide : Form
 
@@ -67,6 +71,10 @@ Admits of_list (format name) = Unit {0}
 Admits of_list (lock text of_lock) = MeansLock text of_lock
 Admits of_list (journal name) = IsTrue (is_name name)
 Admits of_list (only text wanted) = MeansOnly text wanted
+Admits of_report (format name) = Unit {0}
+Admits of_report by_kind = Unit {0}
+Admits of_report (lock text of_lock) = MeansLock text of_lock
+Admits of_report (journal name) = IsTrue (is_name name)
 Admits of_write (lock text of_lock) = MeansLock text of_lock
 Admits of_write (journal name) = IsTrue (is_name name)
 Admits of_decide (lock text of_lock) = MeansLock text of_lock
@@ -81,6 +89,17 @@ abbrev pub formats_of : List Item → List (List ℕ)
 formats_of [] = []
 formats_of (format name ∷ items) = name ∷ formats_of items
 formats_of (_ ∷ items) = formats_of items
+
+-- once for each time that they say that it goes by kind
+abbrev pub bys_of : List Item → List Bool
+bys_of [] = []
+bys_of (by_kind ∷ items) = true ∷ bys_of items
+bys_of (_ ∷ items) = bys_of items
+
+-- once, if it is so
+abbrev pub if_so : Bool → List Bool
+if_so true = true ∷ []
+if_so false = []
 
 abbrev pub locks_of : List Item → List Lock
 locks_of [] = []

@@ -40,10 +40,12 @@ pub enum Command {
         locks: Vec<Lock>,
         journals: Vec<Text>,
     },
-    /// Where each reviewer and each author of the package's revisions stands, in the format of this name.
+    /// Where each reviewer and each author of the package's revisions stands, in the format of this name, and of an author's
+    /// revisions each kind, if this is asked for.
     Report {
         package: Text,
         format: Text,
+        by_kind: bool,
         locks: Vec<Lock>,
         journals: Vec<Text>,
     },

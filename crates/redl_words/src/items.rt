@@ -21,6 +21,7 @@ use std::str;
 #[derive(Drop)]
 pub(crate) struct Items {
     pub format: Option<Text>,
+    pub by_kind: bool,
     pub locks: Vec<Lock>,
     pub journals: Vec<Text>,
     pub choices: Vec<(Word, Selection)>,
@@ -35,6 +36,7 @@ impl Items {
     {
         Items {
             format: None,
+            by_kind: false,
             locks: Vec::new(alloc),
             journals: Vec::new(alloc),
             choices: Vec::new(alloc),
@@ -54,7 +56,7 @@ impl Items {
         ensures { Finds (λ _. items_view self.new) result (with_plain_journal form name.now (items_view self.old)) }
     {
         match form {
-            Form::List | Form::Write => add_copy(alloc, &mut self.journals, name)?,
+            Form::List | Form::Report | Form::Write => add_copy(alloc, &mut self.journals, name)?,
             Form::Decide => return Err(WordsError::Usage),
         }
         Ok(())
@@ -69,6 +71,18 @@ impl Items {
             return Err(WordsError::Usage);
         }
         self.format = Some(name.copy(alloc)?);
+        Ok(())
+    }
+
+    /// Sets that it goes by kind, which may come once.
+    #[tactic(auto, unfolding(crate::specs::Reading::Items::with_option))]
+    fn set_by(&mut self, value: &Text) -> Result<(), WordsError>
+        ensures { Finds (λ _. items_view self.new) result (with_option ItemOption.By value.now (items_view self.old)) }
+    {
+        if self.by_kind || value.as_bytes() != b"kind".as_slice() {
+            return Err(WordsError::Usage);
+        }
+        self.by_kind = true;
         Ok(())
     }
 
@@ -147,6 +161,7 @@ impl Items {
     {
         match option {
             ItemOption::Format => self.set_format(alloc, value),
+            ItemOption::By => self.set_by(value),
             ItemOption::Lock(on) => self.add_lock(alloc, on, value),
             ItemOption::Journal => self.add_journal(alloc, value),
             ItemOption::Choice(word) => self.add_choice(alloc, word, value),

@@ -1,7 +1,7 @@
 //! Options: the words that say what the next word is.
 
 ghost use Rattle.std.specs.Prelude.{◌≡◌};
-ghost use Rattle.redl_words.specs.Reading.Items.{option_in, locking_option, own_option, deciding_option};
+ghost use Rattle.redl_words.specs.Reading.Items.{option_in, locking_option, own_option, reporting_option, deciding_option};
 
 use redl_journal::Word;
 
@@ -9,6 +9,7 @@ use redl_journal::Word;
 #[derive(Clone, Copy)]
 pub(crate) enum Form {
     List,
+    Report,
     Write,
     Decide,
 }
@@ -21,12 +22,12 @@ pub(crate) enum Locked {
     Span,
 }
 
-/// What an option says of the word after it: the name of a format, what is locked, the name of a journal, what the reviewer
-/// decides on a selection, the reviewer's rank, or
-/// which revisions are shown.
+/// What an option says of the word after it: the name of a format, by what a report counts, what is locked, the name of a
+/// journal, what the reviewer decides on a selection, the reviewer's rank, or which revisions are shown.
 #[derive(Clone, Copy)]
 pub(crate) enum ItemOption {
     Format,
+    By,
     Lock(Locked),
     Journal,
     Choice(Word),
@@ -69,7 +70,22 @@ fn own_option(form: Form, word: &[u8]) -> Option<ItemOption>
         Form::List if word == b"--format".as_slice() => Some(ItemOption::Format),
         Form::List if word == b"--only".as_slice() => Some(ItemOption::Only),
         Form::List | Form::Write => None,
+        Form::Report => reporting_option(word),
         Form::Decide => deciding_option(word),
+    }
+}
+
+/// The option that a word is, besides those for locks, in a report.
+#[tactic(auto, unfolding(crate::specs::Reading::Items::reporting_option))]
+fn reporting_option(word: &[u8]) -> Option<ItemOption>
+    ensures { result ≡ reporting_option word.now }
+{
+    if word == b"--format".as_slice() {
+        Some(ItemOption::Format)
+    } else if word == b"--by".as_slice() {
+        Some(ItemOption::By)
+    } else {
+        None
     }
 }
 

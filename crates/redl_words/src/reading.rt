@@ -137,7 +137,7 @@ fn read_list(alloc: Global, words: &[Text]) -> Result<Command, WordsError>
     requires { All IsUtf8 words.now }
     ensures { Finds command_of result (list_in words.now) }
 {
-    let asked = read_asked(alloc, words)?;
+    let asked = read_asked(alloc, Form::List, words)?;
     Ok(Command::List {
         package: asked.package,
         format: asked.format,
@@ -152,23 +152,22 @@ fn read_report(alloc: Global, words: &[Text]) -> Result<Command, WordsError>
     requires { All IsUtf8 words.now }
     ensures { Finds command_of result (report_in words.now) }
 {
-    let asked = read_asked(alloc, words)?;
-    if !asked.only.is_empty() {
-        return Err(WordsError::Usage);
-    }
+    let asked = read_asked(alloc, Form::Report, words)?;
     Ok(Command::Report {
         package: asked.package,
         format: asked.format,
+        by_kind: asked.by_kind,
         locks: asked.locks,
         journals: asked.journals,
     })
 }
 
-/// What is asked of a package: a format of this name, with locks and journals, and which revisions are shown.
+/// What is asked of a package: a format of this name, by kind or not, with locks and journals, and which revisions are shown.
 #[derive(Drop)]
 struct Asked {
     package: Text,
     format: Text,
+    by_kind: bool,
     locks: Vec<Lock>,
     journals: Vec<Text>,
     only: Vec<Only>,
@@ -176,9 +175,9 @@ struct Asked {
 
 /// The words after `list` or `report`.
 #[tactic(auto, unfolding(crate::specs::Reading::Commands::asked_in))]
-fn read_asked(alloc: Global, words: &[Text]) -> Result<Asked, WordsError>
+fn read_asked(alloc: Global, form: Form, words: &[Text]) -> Result<Asked, WordsError>
     requires { All IsUtf8 words.now }
-    ensures { Finds asked_view result (asked_in words.now) }
+    ensures { Finds asked_view result (asked_in form words.now) }
 {
     let [package, rest @ ..] = words else {
         return Err(WordsError::Usage);
@@ -186,12 +185,13 @@ fn read_asked(alloc: Global, words: &[Text]) -> Result<Asked, WordsError>
     if !is_file_name(package.as_bytes()) {
         return Err(WordsError::Usage);
     }
-    let items = read_items(alloc, Form::List, rest)?;
+    let items = read_items(alloc, form, rest)?;
     let package = package.copy(alloc)?;
     let format = format_or_text(alloc, items.format)?;
     Ok(Asked {
         package,
         format,
+        by_kind: items.by_kind,
         locks: items.locks,
         journals: items.journals,
         only: items.only,

@@ -7,6 +7,7 @@ use Rattle.redl_journal.specs.Reading.{number_in, is_reviewer}
 use Rattle.redl_reading.specs.Steps.{◌>>=◌}
 use Rattle.redl_select.specs.Selections.{Selection}
 use Rattle.redl_select.specs.declared.lock.Lock.{Lock}
+use Rattle.redl_words.specs.declared.options.Form.{Form}
 use Rattle.redl_words.specs.declared.options.Form.TheVariants as forms
 use Rattle.redl_words.specs.declared.reading.Asked as code
 use Rattle.redl_words.specs.declared.verb.Verb.{Verb}
@@ -68,37 +69,33 @@ format_or_text (Some name) = name
 pub record Asked : Type 0 where
   pub package_name : List ℕ
   pub format : List ℕ
+  pub by_kind : Bool
   pub locks : List Lock
   pub journals : List (List ℕ)
   pub onlys : List Only
 
 abbrev pub asked_view : code.Asked → Asked
-asked_view asked = record { package_name = asked.«package»; format = asked.format; locks = asked.locks.items; journals = asked.journals.items; onlys = onlys_view asked.only.items }
+asked_view asked = record { package_name = asked.«package»; format = asked.format; by_kind = asked.by_kind; locks = asked.locks.items; journals = asked.journals.items; onlys = onlys_view asked.only.items }
 
 abbrev pub asked_of : List ℕ → Gathered → Asked
-asked_of p items = record { package_name = p; format = format_or_text items.format; locks = items.locks; journals = items.journals; onlys = items.onlys }
+asked_of p items = record { package_name = p; format = format_or_text items.format; by_kind = items.by_kind; locks = items.locks; journals = items.journals; onlys = items.onlys }
 
 -- the words after `list` or `report`
-unfoldable pub asked_in : List (List ℕ) → Option Asked
-asked_in [] = None
-asked_in (p ∷ rest) = if is_name p then option_map (asked_of p) (gathered forms.List nothing rest) else None
+unfoldable pub asked_in : Form → List (List ℕ) → Option Asked
+asked_in form [] = None
+asked_in form (p ∷ rest) = if is_name p then option_map (asked_of p) (gathered form nothing rest) else None
 
 abbrev pub as_list : Asked → Command
 as_list asked = list asked.package_name asked.format asked.locks asked.journals asked.onlys
 
--- a report is of all revisions
-abbrev pub report_of : List Only → Asked → Option Command
-report_of [] asked = Some (report asked.package_name asked.format asked.locks asked.journals)
-report_of (wanted ∷ more) asked = None
-
-abbrev pub as_report : Asked → Option Command
-as_report asked = report_of asked.onlys asked
+abbrev pub as_report : Asked → Command
+as_report asked = report asked.package_name asked.format asked.by_kind asked.locks asked.journals
 
 abbrev pub list_in : List (List ℕ) → Option Command
-list_in rest = option_map as_list (asked_in rest)
+list_in rest = option_map as_list (asked_in forms.List rest)
 
 abbrev pub report_in : List (List ℕ) → Option Command
-report_in rest = asked_in rest >>= as_report
+report_in rest = option_map as_report (asked_in forms.Report rest)
 
 unfoldable pub page_in : List (List ℕ) → Option Command
 page_in [] = None

@@ -27,6 +27,7 @@ use Rattle.redl_words.specs.Shown.{Only}
 -- what the items of a command say
 pub record Gathered : Type 0 where
   pub format : Option (List ℕ)
+  pub by_kind : Bool
   pub locks : List Lock
   pub journals : List (List ℕ)
   pub choices : List (Word × Selection)
@@ -37,6 +38,7 @@ pub record Gathered : Type 0 where
 abbrev pub items_view : code.Items → Gathered
 items_view items = record {
   format = items.format;
+  by_kind = items.by_kind;
   locks = items.locks.items;
   journals = items.journals.items;
   choices = choices_view items.choices.items;
@@ -45,11 +47,12 @@ items_view items = record {
 }
 
 abbrev pub nothing : Gathered
-nothing = record { format = None; locks = []; journals = []; choices = []; rank = None; onlys = [] }
+nothing = record { format = None; by_kind = false; locks = []; journals = []; choices = []; rank = None; onlys = [] }
 
 -- a command of this form may have journals without an option
 abbrev pub has_plain_journals : Form → Bool
 has_plain_journals forms.List = true
+has_plain_journals forms.Report = true
 has_plain_journals forms.Write = true
 has_plain_journals forms.Decide = false
 
@@ -71,6 +74,13 @@ deciding_option word =
     else if bytes_eq word (codes "--rank") then Some options.Rank
     else None
 
+-- the option that a word is, in a report
+unfoldable pub reporting_option : List ℕ → Option ItemOption
+reporting_option word =
+    if bytes_eq word (codes "--format") then Some options.Format
+    else if bytes_eq word (codes "--by") then Some options.By
+    else None
+
 -- what the option is on that a word is, if it is one of the three for locks
 unfoldable pub locking_option : List ℕ → Option Locked
 locking_option word =
@@ -82,6 +92,7 @@ locking_option word =
 -- the option that a word is, besides those for locks
 abbrev pub own_option : Form → List ℕ → Option ItemOption
 own_option forms.List word = if bytes_eq word (codes "--format") then Some options.Format else if bytes_eq word (codes "--only") then Some options.Only else None
+own_option forms.Report word = reporting_option word
 own_option forms.Write word = None
 own_option forms.Decide word = deciding_option word
 
@@ -99,6 +110,11 @@ abbrev pub with_format : List ℕ → Option (List ℕ) → Gathered → Option 
 with_format name None items = Some (record items { format = Some name })
 with_format name (Some other) items = None
 
+-- by kind, where it isn't said so far
+abbrev pub with_by : List ℕ → Bool → Gathered → Option Gathered
+with_by value false items = if bytes_eq value (codes "kind") then Some (record items { by_kind = true }) else None
+with_by value true items = None
+
 -- with a rank, where there is none so far
 abbrev pub with_rank : List ℕ → Option ℕ → Gathered → Option Gathered
 with_rank value None items = do
@@ -109,6 +125,7 @@ with_rank value (Some other) items = None
 -- with an option and its value
 unfoldable pub with_option : ItemOption → List ℕ → Gathered → Option Gathered
 with_option options.Format value items = with_format value items.format items
+with_option options.By value items = with_by value items.by_kind items
 with_option (options.Lock on) value items = do
   lock ← lock_in on value
   Some (record items { locks = items.locks ++ lock ∷ [] })
