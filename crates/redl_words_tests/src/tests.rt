@@ -184,9 +184,17 @@ fn command_shown(alloc: Global, command: &Command) -> Result<String, AllocError>
         Command::Report {
             package,
             format,
+            by_kind,
             locks,
             journals,
-        } => asked_shown(alloc, "report", (package, format), locks, journals, &[]),
+        } => asked_shown(
+            alloc,
+            if *by_kind { "report by kind" } else { "report" },
+            (package, format),
+            locks,
+            journals,
+            &[],
+        ),
         Command::Page {
             package,
             locks,
@@ -233,7 +241,7 @@ fn line_told(alloc: Global, line: &str) -> Result<String, AllocError> {
 }
 
 // Lines, and what they ask for.
-const COMMANDS: [(&str, &str); 31] = [
+const COMMANDS: [(&str, &str); 32] = [
     ("settle|accept|P", "settle true P"),
     ("settle|reject|P", "settle false P"),
     ("text|P", "text P Final"),
@@ -262,6 +270,10 @@ const COMMANDS: [(&str, &str); 31] = [
         "report P as json locks A,kind Content(Ins), journals J,K,J,",
     ),
     ("report|P|--format|", "report P as  locks  journals "),
+    (
+        "report|P|J|--by|kind|--lock|--by|--format|json",
+        "report by kind P as json locks --by, journals J,",
+    ),
     ("page|P", "page P locks  journals "),
     (
         "page|P|J|--lock|Cy & Co|--lock-kind|row-ins|K|J",
@@ -325,7 +337,7 @@ fn lines_of_each_command(rt: HostRuntime) -> Result<(), Fail> {
 }
 
 // Lines that are those of no command.
-const NO_COMMANDS: [&str; 84] = [
+const NO_COMMANDS: [&str; 89] = [
     "text",
     "text|--view|final",
     "text|P|--view",
@@ -356,6 +368,11 @@ const NO_COMMANDS: [&str; 84] = [
     "report|-P",
     "report|P|--format",
     "report|P|--accept|all",
+    "report|P|--by",
+    "report|P|--by|author",
+    "report|P|--by|kind|--by|kind",
+    "report|P|--by=kind",
+    "list|P|--by|kind",
     "page",
     "page|P|--format|tab",
     "page|P|--journal|J",
