@@ -210,11 +210,11 @@ carried_same reader files brought (list p format locks journals wanted) names ot
     let first = both_ok (has_asked brought asked) (λ there. package_file files p >>= (λ whole. listed reader files brought.formats format locks names wanted whole)) one is in
     let again = both_ok (has_asked brought asked) (λ there. package_file files p >>= (λ whole. listed reader files brought.formats format locks others wanted whole)) other too in
     after_opening reader files locks names others p (λ admission. listing_named brought.formats format wanted admission) one other same first.second again.second
-carried_same reader files brought (report p format locks journals) names others one other same is too =
-    let asked = plan (report p format locks journals) in
-    let first = both_ok (has_asked brought asked) (λ there. package_file files p >>= (λ whole. reported reader files brought.reports format locks names whole)) one is in
-    let again = both_ok (has_asked brought asked) (λ there. package_file files p >>= (λ whole. reported reader files brought.reports format locks others whole)) other too in
-    after_opening reader files locks names others p (λ admission. report_named brought.reports format admission) one other same first.second again.second
+carried_same reader files brought (report p format by_kind locks journals) names others one other same is too =
+    let asked = plan (report p format by_kind locks journals) in
+    let first = both_ok (has_asked brought asked) (λ there. package_file files p >>= (λ whole. reported reader files brought.reports format by_kind locks names whole)) one is in
+    let again = both_ok (has_asked brought asked) (λ there. package_file files p >>= (λ whole. reported reader files brought.reports format by_kind locks others whole)) other too in
+    after_opening reader files locks names others p (λ admission. report_named brought.reports format by_kind admission) one other same first.second again.second
 carried_same reader files brought (page p locks journals) names others one other same is too =
     after_opening reader files locks names others p (λ admission. Ok (page_of brought.skin locks admission)) one other same is too
 carried_same reader files brought (write p locks journals) names others one other same is too =

@@ -28,9 +28,8 @@ use Rattle.redl_join.specs.Verdicts.{verdict_at}
 use Rattle.redl_join.specs.declared.verdict.Verdict.{Verdict}
 use Rattle.redl_listing.specs.Rows.{shown_rows, told_rows}
 use Rattle.redl_listing.specs.declared.row.Row.{Row}
-use Rattle.redl_report.specs.Reports.{report_lines}
 use Rattle.redl_report.specs.declared.line.ReportLine.{ReportLine}
-use Rattle.redl_app.specs.Commands.Report.{report_named, report_of}
+use Rattle.redl_app.specs.Commands.Report.{report_named, report_of, session_lines}
 use Rattle.redl_session.specs.Says.{verdicts_of}
 use Rattle.redl_words.specs.Shown.{Only}
 
@@ -126,25 +125,25 @@ reads_listing name_of text_of name wanted admission formats parts revisions verd
 
 -- ---- a report
 
-reported_by : {F : Type 0} (name_of : F → List ℕ) (text_of : F → List ReportLine → Bool → List ℕ) (name : List ℕ) (admission : Admission) (made : List ℕ) (first : Option F)
-    → IsListed first (λ format. text_of format (report_lines admission.state.revisions admission.state.book) true) true made
-    → found_format name (option_map (format_by name_of text_of) first) >>= (λ format. Ok (report_of admission format)) ≡ Ok (made_by admission made)
-reported_by name_of text_of name admission made None (found, is) = absurd (cc found)
-reported_by name_of text_of name admission made (Some format) (found, is) = ap (λ bytes. Ok (made_by admission bytes)) (sym is)
+reported_by : {F : Type 0} (name_of : F → List ℕ) (text_of : F → List ReportLine → Bool → List ℕ) (name : List ℕ) (by_kind : Bool) (admission : Admission) (made : List ℕ) (first : Option F)
+    → IsListed first (λ format. text_of format (session_lines by_kind admission.state) true) true made
+    → found_format name (option_map (format_by name_of text_of) first) >>= (λ format. Ok (report_of by_kind admission format)) ≡ Ok (made_by admission made)
+reported_by name_of text_of name by_kind admission made None (found, is) = absurd (cc found)
+reported_by name_of text_of name by_kind admission made (Some format) (found, is) = ap (λ bytes. Ok (made_by admission bytes)) (sym is)
 
 -- the format made the report
-pub reads_report : {F : Type 0} (name_of : F → List ℕ) (text_of : F → List ReportLine → Bool → List ℕ) (name : List ℕ) (admission : Admission) (reports : List F)
-    (lines : List ReportLine) (found : Bool) (made : List ℕ) → lines ≡ report_lines admission.state.revisions admission.state.book
+pub reads_report : {F : Type 0} (name_of : F → List ℕ) (text_of : F → List ReportLine → Bool → List ℕ) (name : List ℕ) (by_kind : Bool) (admission : Admission) (reports : List F)
+    (lines : List ReportLine) (found : Bool) (made : List ℕ) → lines ≡ session_lines by_kind admission.state
     → whether (format_named (formats_by name_of text_of reports) name) ≡ Ok tt
     → IsListed (first_named name_of name reports) (λ format. text_of format lines true) found made
-    → Reads (Ok (made_by admission made)) (λ reader. report_named (formats_by name_of text_of reports) name admission)
-reads_report name_of text_of name admission reports lines found made of_lines there listed =
+    → Reads (Ok (made_by admission made)) (λ reader. report_named (formats_by name_of text_of reports) name by_kind admission)
+reads_report name_of text_of name by_kind admission reports lines found made of_lines there listed =
     let is : found ≡ true = found_there name_of text_of _ name found made (first_named name_of name reports)
     (ap whether (sym (named-by name_of text_of name reports)) ∙ there) listed in
     record {
       as_due = λ reader reads.
-          ap (λ one. one >>= (λ format. Ok (report_of admission format))) (named-by name_of text_of name reports)
-          ∙ reported_by name_of text_of name admission made (first_named name_of name reports) (rw (of_lines, is) at listed);
+          ap (λ one. one >>= (λ format. Ok (report_of by_kind admission format))) (named-by name_of text_of name reports)
+          ∙ reported_by name_of text_of name by_kind admission made (first_named name_of name reports) (rw (of_lines, is) at listed);
       never_unread = tt;
     }
 

@@ -13,7 +13,7 @@ abbrev pub with_journals : List (List ℕ) → Command → Command
 with_journals names (settle accept p) = settle accept p
 with_journals names (view_text p view) = view_text p view
 with_journals names (list p format locks journals wanted) = list p format locks names wanted
-with_journals names (report p format locks journals) = report p format locks names
+with_journals names (report p format by_kind locks journals) = report p format by_kind locks names
 with_journals names (page p locks journals) = page p locks names
 with_journals names (write p locks journals) = write p locks names
 with_journals names (decide p reviewer journals locks choices rank) = decide p reviewer names locks choices rank

@@ -62,7 +62,7 @@ plan (list p name locks journals wanted) = record (only (of_package p (λ reader
   locks = locks;
   format = Some name;
 }
-plan (report p name locks journals) = record (only (of_package p (λ reader files brought whole. reported reader files brought.reports name locks journals whole))) {
+plan (report p name by_kind locks journals) = record (only (of_package p (λ reader files brought whole. reported reader files brought.reports name by_kind locks journals whole))) {
   journals = journals;
   locks = locks;
   report = Some name;

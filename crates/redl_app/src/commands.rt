@@ -92,6 +92,7 @@ pub(crate) fn carry_out<'a, F: Shelf, O: Sink>(
         ),
         Command::Report {
             format,
+            by_kind,
             locks,
             journals,
             ..
@@ -99,6 +100,7 @@ pub(crate) fn carry_out<'a, F: Shelf, O: Sink>(
             report_package(
                 alloc,
                 name_of(format),
+                *by_kind,
                 locks,
                 journals,
                 text.unwrap(),

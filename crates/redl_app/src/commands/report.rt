@@ -1,27 +1,30 @@
 //! `report P` with a format, journals and locks.
 
-ghost use Rattle.std.specs.Prelude.{◌≡◌, Ok, All, IsUtf8};
-ghost use Rattle.redl_app.specs.Commands.Report.{report_named, reported};
+ghost use Rattle.std.specs.Prelude.{◌≡◌, Ok, All, IfOk, IsUtf8};
+ghost use Rattle.redl_app.specs.Commands.Report.{report_named, reported, session_lines};
 ghost use Rattle.redl_app.specs.Formats.{AreFresh, LeavesFormats, format_named, formats_by, whether};
 ghost use Rattle.redl_app.specs.Views.{writing_view};
 ghost use Rattle.redl_app.specs.Writing.{outcome_of};
 ghost use Rattle.redl_inputs.specs.Reading.{Reads, ReadsFiles};
 ghost use Rattle.redl_inputs.specs.Views.{admission_view, result_view};
 ghost use Rattle.redl_listing.specs.Formats.{without_named};
+ghost use Rattle.redl_report.specs.Counts.{IsLine};
 
 use crate::output::{Output, Writing};
 use redl_inputs::{Admitted, open};
 use redl_io::{Shelf, Text};
 use redl_lines::Failure;
-use redl_report::{ReportFormat, lines, report};
+use redl_report::{ReportFormat, ReportLine, lines, lines_by_kind, report};
 use redl_select::Lock;
-use std::alloc::Global;
+use redl_session::Session;
+use std::alloc::{AllocError, Global};
 
 /// The report on the package with this text, in the first format of reports that has the name and is there, under the journals of
 /// these names, with these locks. It takes that format out of the list.
 pub(crate) fn report_package<'a, 'b, F: Shelf>(
     alloc: Global,
     name: &'a str,
+    by_kind: bool,
     locks: &[Lock],
     journals: &'a [Text],
     bytes: &'b [u8],
@@ -32,25 +35,26 @@ pub(crate) fn report_package<'a, 'b, F: Shelf>(
     requires there { whether (format_named (formats_by report_name report_text reports.old.items) name.now) ≡ Ok tt }
     requires fresh { AreFresh is_ended lines_so_far reports.old.items }
     ensures read { ReadsFiles F.told F.faults shelf.old shelf.new journals.now
-        (result_view writing_view result) (λ reader files. reported reader files (formats_by report_name report_text reports.old.items) name.now locks.now journals.now bytes.now) }
+        (result_view writing_view result) (λ reader files. reported reader files (formats_by report_name report_text reports.old.items) name.now by_kind locks.now journals.now bytes.now) }
     ensures reports { LeavesFormats (outcome_of (result_view writing_view result)).status
         (without_named report_name name.now reports.old.items) reports.old.items reports.new.items }
 {
     let admitted = open(alloc, locks, journals, bytes, shelf)?;
-    report_session(alloc, name, admitted, reports)
+    report_session(alloc, name, by_kind, admitted, reports)
 }
 
 // The report on a session.
 fn report_session<'a, 'b>(
     alloc: Global,
     name: &'a str,
+    by_kind: bool,
     admitted: Admitted<'b>,
     reports: &mut Vec<Box<dyn ReportFormat>>,
 ) -> Result<Writing<'b>, Failure<'a>>
     requires there { whether (format_named (formats_by report_name report_text reports.old.items) name.now) ≡ Ok tt }
     requires fresh { AreFresh is_ended lines_so_far reports.old.items }
     ensures read { Reads (result_view writing_view result) (λ reader. report_named
-        (formats_by report_name report_text reports.old.items) name.now (admission_view admitted.entry)) }
+        (formats_by report_name report_text reports.old.items) name.now by_kind (admission_view admitted.entry)) }
     ensures reports { LeavesFormats (outcome_of (result_view writing_view result)).status
         (without_named report_name name.now reports.old.items) reports.old.items reports.new.items }
 {
@@ -59,7 +63,7 @@ fn report_session<'a, 'b>(
         remarks,
         ..
     } = admitted;
-    let lines = lines(alloc, session.index(), session.book())?;
+    let lines = session_lines(alloc, by_kind, &session)?;
     let mut made = Vec::new(alloc);
     // The format is there.
     let _ = report(reports, name, &lines, &mut made)?;
@@ -67,4 +71,20 @@ fn report_session<'a, 'b>(
         output: Output::Listing(made),
         remarks,
     })
+}
+
+// The lines of a session, with those of kinds or without.
+fn session_lines(
+    alloc: Global,
+    by_kind: bool,
+    session: &Session,
+) -> Result<Vec<ReportLine>, AllocError>
+    ensures lines { IfOk result (λ lines. lines.items ≡ session_lines by_kind session.now) }
+    ensures names { IfOk result (λ lines. All IsLine lines.items) }
+{
+    if by_kind {
+        lines_by_kind(alloc, session.index(), session.book())
+    } else {
+        lines(alloc, session.index(), session.book())
+    }
 }
