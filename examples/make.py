@@ -183,6 +183,7 @@ def make_contract(folder):
     folder.save("contract.page.html", page.page(read, entries))
     for form in report.FORMS:
         folder.save("contract.report." + form, report.report(read, entries, form))
+        folder.save("contract.kinds." + form, report.report(read, entries, form, by_kind=True))
     for view in VIEWS:
         folder.save("contract.%s.txt" % view, texts.text(read, view))
     # Ann accepts all of Cara's changes in one go, but for the two in the sentence on prices.

@@ -24,7 +24,7 @@ J is a journal: the text file of what reviewers decided.
 ITEM is --lock AUTHOR, --lock-kind KIND or --lock-span SPAN: nobody decides these changes;
   for list, report, page and write also J, and for decide --journal J;
   for list also --format text, words, tab, json or full, and --only SHOWN, once or more;
-  for report also --format text, json or table;
+  for report also --format text, json or table, and --by kind for each kind of an author's changes;
   for decide also --accept CHANGES, --reject CHANGES or --withdraw CHANGES, once at least,
   and --rank N, from 0 to 9: the highest rank that has a word on a change decides it.
 CHANGES is all, numbers:3,7-9, \"author:Ann Gray\", kind:KIND, kind:GROUP or span:SPAN.
