@@ -102,7 +102,8 @@ fn add_option_hint(
     names: &[&str],
     hints: &mut Vec<u8>,
 ) -> Result<(), AllocError> {
-    if !word.starts_with("--") || names.iter().any(|name| *name == word) {
+    // The two dashes of other programs stand near any short option.
+    if !word.starts_with("--") || word == "--" || names.iter().any(|name| *name == word) {
         return Ok(());
     }
     match word.split_once('=') {
