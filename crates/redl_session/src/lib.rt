@@ -16,5 +16,5 @@ pub use admission::{add_copy, cause, take_in};
 pub use laws::{admissions_make_the_union, order_does_not_count};
 pub use locks::Locks;
 pub use refusal::{AdmitError, Bar, Refusal, SessionWriteError, Taken};
-pub use says::{say_of, verdicts};
+pub use says::{book_says, say_of, verdicts};
 pub use session::Session;

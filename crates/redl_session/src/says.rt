@@ -27,6 +27,15 @@ pub(crate) fn decide(book: &Book, says: &mut Vec<Say>, count: u32)
     }
 }
 
+/// The says of a book for the revisions 1 to `count` of a package: those of its verdicts. `Err` means out of memory.
+pub fn book_says(alloc: Global, book: &Book, count: u32) -> Result<Vec<Say>, AllocError>
+    ensures { IfOk result (λ says. says.items ≡ says_of book.now count) }
+{
+    let mut says = vec![in alloc; Say::Keep; count as usize]?;
+    decide(book, &mut says, count);
+    Ok(says)
+}
+
 /// The verdicts on the revisions 1 to `count`. `Err` means out of memory.
 pub fn verdicts(alloc: Global, book: &Book, count: u32) -> Result<Vec<Verdict>, AllocError>
     ensures { IfOk result (λ verdicts. verdicts.items ≡ verdicts_of book.now count) }
