@@ -24,17 +24,20 @@ use Rattle.redl_words.specs.declared.verb.Verb.TheVariants as verbs
 use Rattle.redl_words.specs.declared.command.Command as code
 use Rattle.redl_words.specs.declared.command.View.{View}
 use Rattle.redl_words.specs.declared.command.View.TheVariants.{Original, Final, Marked}
-use Rattle.redl_words.specs.Commands.{Command, settle, view_text, list, report, page, write, decide, join, check, sample, say_word, view_name, IsSettle, IsText, AsksFor, IsPage, IsWrite, IsDecide, IsJoin, IsCheck, IsSample, IsCommand, HasNoCommand, HasUtf8, LockHasUtf8}
+use Rattle.redl_words.specs.Commands.{Command, settle, view_text, list, report, page, write, decide, join, check, sample, say_word, view_name, IsSettle, IsText, AsksFor, IsPage, IsWrite, IsDecide, IsJoin, IsCheck, IsSample, IsCommand, HasNoCommand, HasUtf8, LockHasUtf8, resume, IsResume}
 use Rattle.redl_words.specs.Items.{Item, format, lock, journal, named_journal, choice, rank, by_kind, item_words, Admits, of_list, of_report, of_write, of_decide, Form as Kind, is_name, formats_of, locks_of, journals_of, ranks_of, bys_of, if_so, only, onlys_of}
 use Rattle.redl_words.specs.Shown.{Only}
 use Rattle.redl_words.specs.Selections.{MeansLock}
 use Rattle.redl_words.specs.Views.{command_of}
 use Rattle.redl_words.specs.Reading.Answers.{Finds}
 use Rattle.redl_words.specs.Reading.Items.{Gathered, nothing, gathered}
-use Rattle.redl_words.specs.Reading.Commands.{verb_in, say_in, settle_in, view_in, text_with, text_in, format_or_text, rank_or_0, Asked, asked_of, asked_in, as_list, as_report, list_in, report_in, page_in, write_in, decide_with, decide_in, names_in, join_in, check_in, sample_in, command_with, command_in}
+use Rattle.redl_words.specs.Reading.Commands.{verb_in, say_in, settle_in, view_in, text_with, text_in, format_or_text, rank_or_0, Asked, asked_of, asked_in, as_list, as_report, list_in, report_in, page_in, write_in, decide_with, decide_in, resume_in, names_in, join_in, check_in, sample_in, command_with, command_in}
 use Rattle.redl_words.proofs.SelectionLaws.{bytes_same, map_some, pick}
 use Rattle.redl_words.proofs.LockLaws.{lock_utf8}
 use Rattle.redl_words.proofs.ItemLaws.{form_of, items_take, read_again}
+use Rattle.redl_words.proofs.SittingLaws.{sittings_take, sittings_again, firsts_utf8, seconds_utf8}
+use Rattle.redl_words.specs.Reading.Sittings.{Sittings, no_sittings, sittings_in}
+use Rattle.redl_words.specs.Sittings.{sitting_words, sitting_name, firsts_of, seconds_of}
 
 -- an answer that needs a test
 needs : {A : Type 0} (t : Bool) (x : Option A) (y : A) → cond t x None ≡ Some y → (t ≡ true) × (x ≡ Some y)
@@ -51,6 +54,7 @@ verb_text verbs.Report = codes "report"
 verb_text verbs.Page = codes "page"
 verb_text verbs.Write = codes "write"
 verb_text verbs.Decide = codes "decide"
+verb_text verbs.Resume = codes "resume"
 verb_text verbs.Join = codes "join"
 verb_text verbs.Check = codes "check"
 verb_text verbs.Sample = codes "sample"
@@ -65,9 +69,10 @@ verb_takes word v e =
     pick P (bytes_eq word (codes "page")) verbs.Page _ v e (λ hit. bytes_same word (codes "page") hit) (λ e.
     pick P (bytes_eq word (codes "write")) verbs.Write _ v e (λ hit. bytes_same word (codes "write") hit) (λ e.
     pick P (bytes_eq word (codes "decide")) verbs.Decide _ v e (λ hit. bytes_same word (codes "decide") hit) (λ e.
+    pick P (bytes_eq word (codes "resume")) verbs.Resume _ v e (λ hit. bytes_same word (codes "resume") hit) (λ e.
     pick P (bytes_eq word (codes "join")) verbs.Join _ v e (λ hit. bytes_same word (codes "join") hit) (λ e.
     pick P (bytes_eq word (codes "check")) verbs.Check _ v e (λ hit. bytes_same word (codes "check") hit) (λ e.
-    pick P (bytes_eq word (codes "sample")) verbs.Sample _ v e (λ hit. bytes_same word (codes "sample") hit) (λ e. absurd cc)))))))))) where
+    pick P (bytes_eq word (codes "sample")) verbs.Sample _ v e (λ hit. bytes_same word (codes "sample") hit) (λ e. absurd cc))))))))))) where
       P : Verb → Type 0
       P v = word ≡ verb_text v
 
@@ -80,6 +85,7 @@ verb_again verbs.Report = refl
 verb_again verbs.Page = refl
 verb_again verbs.Write = refl
 verb_again verbs.Decide = refl
+verb_again verbs.Resume = refl
 verb_again verbs.Join = refl
 verb_again verbs.Check = refl
 verb_again verbs.Sample = refl
@@ -430,6 +436,37 @@ decide_again words p reviewer journals locks choices number h =
           → decide_with p reviewer js ls cs n ≡ Some (decide p reviewer journals locks choices number)
       made js ls cs n a b d e = rw (a, b, d, e) (decide_with_again p reviewer journals locks choices number h.some)
 
+-- ---- resume
+
+resume_takes : (rest : List (List ℕ)) (c : Command) → resume_in rest ≡ Some c → IsCommand (codes "resume" ∷ rest) c
+unfolding resume_in
+resume_takes [] c e = absurd cc
+resume_takes (p ∷ []) c e = absurd cc
+resume_takes (p ∷ q ∷ rest) c e =
+    let n = needs (is_name p && is_name q) (option_map (λ sittings. resume p q sittings.firsts sittings.seconds) (sittings_in no_sittings rest)) c e in
+    let both = and_parts (is_name p) (is_name q) n.0 in
+    let s = map_some (λ (sittings : Sittings). resume p q sittings.firsts sittings.seconds) (sittings_in no_sittings rest) c n.1 in
+    let r = sittings_take no_sittings s.0 rest s.1 in
+    let means : IsResume (codes "resume" ∷ p ∷ q ∷ rest) p q s.0.firsts s.0.seconds = record {
+      named = r.journals;
+      rest = rest;
+      written = refl;
+      first_name = both.0;
+      second_name = both.1;
+      journals_written = r.written;
+      names = All-from_recursion (λ journal. IsTrue (is_name (sitting_name journal))) r.journals r.names;
+      firsts_are = r.firsts;
+      journals_are = r.seconds;
+    } in
+    subst (IsCommand (codes "resume" ∷ p ∷ q ∷ rest)) s.2 means
+
+resume_again : (words : List (List ℕ)) (p q : List ℕ) (firsts journals : List (List ℕ)) (h : IsResume words p q firsts journals) → resume_in (p ∷ q ∷ h.rest) ≡ Some (resume p q firsts journals)
+unfolding resume_in
+resume_again words p q firsts journals h =
+    let each = recursion_from_All (λ journal. IsTrue (is_name (sitting_name journal))) h.named h.names in
+    let reads = ap (sittings_in no_sittings) h.journals_written ∙ sittings_again no_sittings h.named each in
+    rw (h.first_name, h.second_name, reads, h.firsts_are, h.journals_are) refl
+
 -- ---- join, check, sample
 
 join_takes : (rest : List (List ℕ)) (c : Command) → join_in rest ≡ Some c → IsCommand (codes "join" ∷ rest) c
@@ -491,6 +528,7 @@ with_takes verbs.Report rest c e = report_takes rest c e
 with_takes verbs.Page rest c e = page_takes rest c e
 with_takes verbs.Write rest c e = write_takes rest c e
 with_takes verbs.Decide rest c e = decide_takes rest c e
+with_takes verbs.Resume rest c e = resume_takes rest c e
 with_takes verbs.Join rest c e = join_takes rest c e
 with_takes verbs.Check rest c e = check_takes rest c e
 with_takes verbs.Sample rest c e = sample_takes rest c e
@@ -534,6 +572,10 @@ decide_line : (rest : List (List ℕ)) → command_in (codes "decide" ∷ rest) 
 unfolding verb_text
 decide_line rest = command_of_verb verbs.Decide rest
 
+resume_line : (rest : List (List ℕ)) → command_in (codes "resume" ∷ rest) ≡ resume_in rest
+unfolding verb_text
+resume_line rest = command_of_verb verbs.Resume rest
+
 join_line : (rest : List (List ℕ)) → command_in (codes "join" ∷ rest) ≡ join_in rest
 unfolding verb_text
 join_line rest = command_of_verb verbs.Join rest
@@ -562,6 +604,8 @@ command_again words (write p locks journals) h =
     ap command_in h.written ∙ write_line (p ∷ h.rest) ∙ write_again p locks journals h.rest h.items h.package_name h.are_items.written h.are_items.admitted h.locks_are h.journals_are
 command_again words (decide p reviewer journals locks choices number) h =
     ap command_in h.written ∙ decide_line (p ∷ reviewer ∷ h.rest) ∙ decide_again words p reviewer journals locks choices number h
+command_again words (resume p q firsts journals) h =
+    ap command_in h.written ∙ resume_line (p ∷ q ∷ h.rest) ∙ resume_again words p q firsts journals h
 command_again words (join journals) h = ap command_in h.written ∙ join_line journals ∙ join_again journals h.some h.names
 command_again words (check p) h = ap command_in h.written ∙ check_line (p ∷ []) ∙ check_again p h.name
 command_again words (sample number) h = ap command_in h.written ∙ sample_line (decimal number ∷ []) ∙ sample_again number (number_again number h.small)
@@ -664,6 +708,10 @@ command_utf8 words (decide p reviewer journals locks choices number) h u =
     let each = recursion_from_All (Admits of_decide) h.items h.are_items.admitted in
     let i = items_utf8 of_decide h.items each (subst (AllByRecursion IsUtf8) h.are_items.written v.1.1.1) in
     (v.1.0, h.reviewer_name, all_utf8 journals (journals_of h.items) i.journals h.journals_are, all_locks locks (locks_of h.items) i.locks h.locks_are, low_rank (ranks_of h.items) number (low_ranks h.items each) h.rank)
+command_utf8 words (resume p q firsts journals) h u =
+    let v : AllByRecursion IsUtf8 (codes "resume" ∷ p ∷ q ∷ h.rest) = subst (AllByRecursion IsUtf8) h.written u in
+    let each : AllByRecursion IsUtf8 (flat_map sitting_words h.named) = subst (AllByRecursion IsUtf8) h.journals_written v.1.1.1 in
+    (v.1.0, v.1.1.0, all_utf8 firsts (firsts_of h.named) (firsts_utf8 h.named each) h.firsts_are, all_utf8 journals (seconds_of h.named) (seconds_utf8 h.named each) h.journals_are)
 command_utf8 words (join journals) h u =
     let v : AllByRecursion IsUtf8 (codes "join" ∷ journals) = subst (AllByRecursion IsUtf8) h.written u in All-from_recursion IsUtf8 journals v.1
 command_utf8 words (check p) h u = let v : AllByRecursion IsUtf8 (codes "check" ∷ p ∷ []) = subst (AllByRecursion IsUtf8) h.written u in v.1.0

@@ -4,4 +4,5 @@ pub mod LockLaws
 pub mod ShownLaws
 pub mod RankLaws
 pub mod ItemLaws
+pub mod SittingLaws
 pub mod CommandLaws

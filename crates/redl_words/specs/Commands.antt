@@ -1,5 +1,6 @@
 -- The words of each command (our own rule). They come without the program's name.
 use Rattle.std.specs.Prelude.{◌≡◌, ◌≢◌, ◌^◌, ◌<◌, ◌≤◌, ◌⊎◌, ℕ, Bool, true, false, List, [], ◌∷◌, IsTrue, All, IsUtf8, codes, decimal}
+use Rattle.std.specs.List.{flat_map}
 use Rattle.redl_journal.specs.declared.entry.Word.{Word}
 use Rattle.redl_journal.specs.Journals.{IsReviewer}
 use Rattle.redl_select.specs.Selections.{Selection}
@@ -9,6 +10,7 @@ use Rattle.redl_words.specs.declared.command.View.{View}
 use Rattle.redl_words.specs.declared.command.View.TheVariants.{Original, Final, Marked}
 use Rattle.redl_words.specs.Items.{Item, AreItems, Form, of_list, of_report, of_write, of_decide, is_name, formats_of, bys_of, if_so, locks_of, journals_of, choices_of, ranks_of, onlys_of}
 use Rattle.redl_words.specs.Shown.{Only}
+use Rattle.redl_words.specs.Sittings.{SittingJournal, sitting_words, sitting_name, firsts_of, seconds_of}
 
 -- what the words ask for; names, texts of authors and of formats are lists of bytes
 pub data Command : Type 0 where
@@ -27,6 +29,8 @@ pub data Command : Type 0 where
   write : List ℕ → List Lock → List (List ℕ) → Command
   -- a journal of what a reviewer decides on the package's revisions: journals, locks, the choices in their order, and the rank
   decide : List ℕ → List ℕ → List (List ℕ) → List Lock → List (Word × Selection) → ℕ → Command
+  -- one journal for the first of two packages, with its journals and those of the second one
+  resume : List ℕ → List ℕ → List (List ℕ) → List (List ℕ) → Command
   -- the union of journals
   join : List (List ℕ) → Command
   -- whether the package is sound
@@ -112,6 +116,18 @@ pub record IsDecide (words : List (List ℕ)) (p reviewer : List ℕ) (journals 
   pub rank : ((ranks_of items ≡ []) × (number ≡ 0)) ⊎ (ranks_of items ≡ number ∷ [])
   pub some : choices ≢ []
 
+-- `resume P Q` and journals of both, in any order
+pub record IsResume (words : List (List ℕ)) (p q : List ℕ) (firsts journals : List (List ℕ)) : Type 0 where
+  pub named : List SittingJournal
+  pub rest : List (List ℕ)
+  pub written : words ≡ codes "resume" ∷ p ∷ q ∷ rest
+  pub first_name : IsTrue (is_name p)
+  pub second_name : IsTrue (is_name q)
+  pub journals_written : rest ≡ flat_map sitting_words named
+  pub names : All (λ journal. IsTrue (is_name (sitting_name journal))) named
+  pub firsts_are : firsts ≡ firsts_of named
+  pub journals_are : journals ≡ seconds_of named
+
 -- `join J ..`, one journal or more
 pub record IsJoin (words journals : List (List ℕ)) : Type 0 where
   pub written : words ≡ codes "join" ∷ journals
@@ -137,6 +153,7 @@ IsCommand words (page p locks journals) = IsPage words p locks journals
 IsCommand words (report p name by_kind locks journals) = IsReport words p name by_kind locks journals
 IsCommand words (write p locks journals) = IsWrite words p locks journals
 IsCommand words (decide p reviewer journals locks choices number) = IsDecide words p reviewer journals locks choices number
+IsCommand words (resume p q firsts journals) = IsResume words p q firsts journals
 IsCommand words (join journals) = IsJoin words journals
 IsCommand words (check p) = IsCheck words p
 IsCommand words (sample number) = IsSample words number
@@ -160,6 +177,7 @@ HasUtf8 (page p locks journals) = IsUtf8 p × All LockHasUtf8 locks × All IsUtf
 HasUtf8 (report p name by_kind locks journals) = IsUtf8 p × IsUtf8 name × All LockHasUtf8 locks × All IsUtf8 journals
 HasUtf8 (write p locks journals) = IsUtf8 p × All LockHasUtf8 locks × All IsUtf8 journals
 HasUtf8 (decide p reviewer journals locks choices number) = IsUtf8 p × IsReviewer reviewer × All IsUtf8 journals × All LockHasUtf8 locks × (number ≤ 9)
+HasUtf8 (resume p q firsts journals) = IsUtf8 p × IsUtf8 q × All IsUtf8 firsts × All IsUtf8 journals
 HasUtf8 (join journals) = All IsUtf8 journals
 HasUtf8 (check p) = IsUtf8 p
 HasUtf8 (sample number) = Unit {0}

@@ -5,4 +5,5 @@ pub mod Locks
 pub mod Ranks
 pub mod Shown
 pub mod Items
+pub mod Sittings
 pub mod Commands

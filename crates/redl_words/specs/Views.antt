@@ -9,7 +9,7 @@ use Rattle.redl_words.specs.declared.only.Only as code_only
 use Rattle.redl_words.specs.declared.only.Only.TheVariants as onlys
 use Rattle.redl_words.specs.Shown.{Only, chosen, decided}
 use Rattle.redl_words.specs.declared.command.Command.TheVariants as variants
-use Rattle.redl_words.specs.Commands.{Command, settle, view_text, list, report, page, write, decide, join, check, sample}
+use Rattle.redl_words.specs.Commands.{Command, settle, view_text, list, report, page, write, decide, resume, join, check, sample}
 
 -- the choices with their selections as plain data
 abbrev pub choices_view : List (Word × code_selection.Selection) → List (Word × Selection)
@@ -31,6 +31,7 @@ command_of (variants.Page p locks journals) = page p locks.items journals.items
 command_of (variants.Report p name by_kind locks journals) = report p name by_kind locks.items journals.items
 command_of (variants.Write p locks journals) = write p locks.items journals.items
 command_of (variants.Decide p reviewer journals locks choices number) = decide p reviewer journals.items locks.items (choices_view choices.items) number
+command_of (variants.Resume p q firsts journals) = resume p q firsts.items journals.items
 command_of (variants.Join journals) = join journals.items
 command_of (variants.Check p) = check p
 command_of (variants.Sample number) = sample number

@@ -64,6 +64,13 @@ pub enum Command {
         choices: Vec<(Word, Selection)>,
         rank: u8,
     },
+    /// One journal for the package, of its own journals and those of the second package.
+    Resume {
+        package: Text,
+        second: Text,
+        firsts: Vec<Text>,
+        journals: Vec<Text>,
+    },
     /// The union of the journals.
     Join {
         journals: Vec<Text>,

@@ -15,6 +15,7 @@ mod options;
 mod ranks;
 mod reading;
 mod selections;
+mod sittings;
 mod verb;
 
 pub use command::{Command, View};

@@ -3,7 +3,7 @@
 ghost use Rattle.std.specs.Prelude.{◌≡◌, All, IfOk, IsErrOf, IsUtf8};
 ghost use Rattle.redl_words.specs.Commands.{HasNoCommand, HasUtf8, IsCommand};
 ghost use Rattle.redl_words.specs.Reading.Answers.{Finds};
-ghost use Rattle.redl_words.specs.Reading.Commands.{asked_in, asked_view, check_in, command_in, decide_in, format_or_text, rank_or_0, join_in, list_in, report_in, page_in, sample_in, say_in, settle_in, text_in, text_with, view_in, write_in};
+ghost use Rattle.redl_words.specs.Reading.Commands.{asked_in, asked_view, check_in, command_in, decide_in, format_or_text, rank_or_0, join_in, list_in, report_in, page_in, resume_in, sample_in, say_in, settle_in, text_in, text_with, view_in, write_in};
 ghost use Rattle.redl_words.specs.Views.{command_of};
 
 use crate::command::{Command, View};
@@ -12,6 +12,7 @@ use crate::items::read_items;
 use crate::names::{is_file_name, read_names};
 use crate::only::Only;
 use crate::options::Form;
+use crate::sittings::read_sittings;
 use crate::verb::{Verb, read_verb};
 use redl_io::Text;
 use redl_journal::{is_reviewer, read_number};
@@ -49,6 +50,7 @@ fn read_command(alloc: Global, words: &[Text]) -> Result<Command, WordsError>
         Some(Verb::Page) => read_page(alloc, rest),
         Some(Verb::Write) => read_write(alloc, rest),
         Some(Verb::Decide) => read_decide(alloc, rest),
+        Some(Verb::Resume) => read_resume(alloc, rest),
         Some(Verb::Join) => read_join(alloc, rest),
         Some(Verb::Check) => read_check(alloc, rest),
         Some(Verb::Sample) => read_sample(rest),
@@ -284,6 +286,28 @@ fn rank_or_0(rank: Option<u8>) -> u8
     ensures { result ≡ rank_or_0 rank }
 {
     rank.unwrap_or(0)
+}
+
+/// The words after `resume`.
+#[tactic(auto, unfolding(crate::specs::Reading::Commands::resume_in))]
+fn read_resume(alloc: Global, words: &[Text]) -> Result<Command, WordsError>
+    ensures { Finds command_of result (resume_in words.now) }
+{
+    let [package, second, rest @ ..] = words else {
+        return Err(WordsError::Usage);
+    };
+    if !is_file_name(package.as_bytes()) || !is_file_name(second.as_bytes()) {
+        return Err(WordsError::Usage);
+    }
+    let sittings = read_sittings(alloc, rest)?;
+    let package = package.copy(alloc)?;
+    let second = second.copy(alloc)?;
+    Ok(Command::Resume {
+        package,
+        second,
+        firsts: sittings.firsts,
+        journals: sittings.seconds,
+    })
 }
 
 /// The words after `join`.

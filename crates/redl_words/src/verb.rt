@@ -13,6 +13,7 @@ pub(crate) enum Verb {
     Page,
     Write,
     Decide,
+    Resume,
     Join,
     Check,
     Sample,
@@ -37,6 +38,8 @@ pub(crate) fn read_verb(word: &[u8]) -> Option<Verb>
         Some(Verb::Write)
     } else if word == b"decide".as_slice() {
         Some(Verb::Decide)
+    } else if word == b"resume".as_slice() {
+        Some(Verb::Resume)
     } else if word == b"join".as_slice() {
         Some(Verb::Join)
     } else if word == b"check".as_slice() {

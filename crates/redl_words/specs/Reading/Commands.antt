@@ -14,11 +14,12 @@ use Rattle.redl_words.specs.declared.verb.Verb.{Verb}
 use Rattle.redl_words.specs.declared.verb.Verb.TheVariants as verbs
 use Rattle.redl_words.specs.declared.command.View.{View}
 use Rattle.redl_words.specs.declared.command.View.TheVariants.{Original, Final, Marked}
-use Rattle.redl_words.specs.Commands.{Command, settle, view_text, list, report, page, write, decide, join, check, sample, say_word, view_name}
+use Rattle.redl_words.specs.Commands.{Command, settle, view_text, list, report, page, write, decide, resume, join, check, sample, say_word, view_name}
 use Rattle.redl_words.specs.Items.{is_name}
 use Rattle.redl_words.specs.Reading.Items.{Gathered, nothing, gathered}
 use Rattle.redl_words.specs.Shown.{Only}
 use Rattle.redl_words.specs.Views.{onlys_view}
+use Rattle.redl_words.specs.Reading.Sittings.{no_sittings, sittings_in}
 
 unfoldable pub verb_in : List ℕ → Option Verb
 verb_in word =
@@ -29,6 +30,7 @@ verb_in word =
     else if bytes_eq word (codes "page") then Some verbs.Page
     else if bytes_eq word (codes "write") then Some verbs.Write
     else if bytes_eq word (codes "decide") then Some verbs.Decide
+    else if bytes_eq word (codes "resume") then Some verbs.Resume
     else if bytes_eq word (codes "join") then Some verbs.Join
     else if bytes_eq word (codes "check") then Some verbs.Check
     else if bytes_eq word (codes "sample") then Some verbs.Sample
@@ -122,6 +124,11 @@ decide_in (p ∷ reviewer ∷ rest) =
     else None
 decide_in _ = None
 
+unfoldable pub resume_in : List (List ℕ) → Option Command
+resume_in (p ∷ q ∷ rest) =
+    if is_name p && is_name q then option_map (λ sittings. resume p q sittings.firsts sittings.seconds) (sittings_in no_sittings rest) else None
+resume_in _ = None
+
 -- the words, where each can name a file
 abbrev pub names_in : List (List ℕ) → Option (List (List ℕ))
 names_in words = if list_all is_name words then Some words else None
@@ -147,6 +154,7 @@ command_with verbs.Report rest = report_in rest
 command_with verbs.Page rest = page_in rest
 command_with verbs.Write rest = write_in rest
 command_with verbs.Decide rest = decide_in rest
+command_with verbs.Resume rest = resume_in rest
 command_with verbs.Join rest = join_in rest
 command_with verbs.Check rest = check_in rest
 command_with verbs.Sample rest = sample_in rest
