@@ -168,6 +168,21 @@ fn join_shown(alloc: Global, journals: &[Text]) -> Result<String, AllocError> {
     format!(in alloc; "join {journals}")
 }
 
+fn resume_shown(
+    alloc: Global,
+    packages: (&Text, &Text),
+    firsts: &[Text],
+    journals: &[Text],
+) -> Result<String, AllocError> {
+    let firsts = all_shown(alloc, firsts)?;
+    let journals = all_shown(alloc, journals)?;
+    format!(in alloc;
+        "resume {} {} firsts {firsts} journals {journals}",
+        shown(packages.0),
+        shown(packages.1)
+    )
+}
+
 fn command_shown(alloc: Global, command: &Command) -> Result<String, AllocError> {
     match command {
         Command::Settle { accept, package } => {
@@ -218,6 +233,12 @@ fn command_shown(alloc: Global, command: &Command) -> Result<String, AllocError>
             (journals, locks, *rank),
             choices,
         ),
+        Command::Resume {
+            package,
+            second,
+            firsts,
+            journals,
+        } => resume_shown(alloc, (package, second), firsts, journals),
         Command::Join { journals } => join_shown(alloc, journals),
         Command::Check { package } => format!(in alloc; "check {}", shown(package)),
         Command::Sample { number } => format!(in alloc; "sample {number}"),
@@ -241,7 +262,7 @@ fn line_told(alloc: Global, line: &str) -> Result<String, AllocError> {
 }
 
 // Lines, and what they ask for.
-const COMMANDS: [(&str, &str); 32] = [
+const COMMANDS: [(&str, &str); 35] = [
     ("settle|accept|P", "settle true P"),
     ("settle|reject|P", "settle false P"),
     ("text|P", "text P Final"),
@@ -320,6 +341,15 @@ const COMMANDS: [(&str, &str); 32] = [
         "decide|P|Dee|--accept|all|--rank|0",
         "decide P by Dee rank 0 journals  locks  choices Accept all,",
     ),
+    ("resume|P|Q", "resume P Q firsts  journals "),
+    (
+        "resume|P|Q|K|--journal|J|L|--journal|J|K",
+        "resume P Q firsts J,J, journals K,L,K,",
+    ),
+    (
+        "resume|P|P|--journal|P|P",
+        "resume P P firsts P, journals P,",
+    ),
     ("join|J", "join J,"),
     ("join|K|J|K", "join K,J,K,"),
     ("check|P", "check P"),
@@ -337,7 +367,7 @@ fn lines_of_each_command(rt: HostRuntime) -> Result<(), Fail> {
 }
 
 // Lines that are those of no command.
-const NO_COMMANDS: [&str; 89] = [
+const NO_COMMANDS: [&str; 98] = [
     "text",
     "text|--view|final",
     "text|P|--view",
@@ -413,6 +443,15 @@ const NO_COMMANDS: [&str; 89] = [
     "decide|P|Dee|--accept|all|--rank|-1",
     "decide|P|Dee|--rank|1|--accept|all|--rank|1",
     "decide|P|Dee|--rank|1",
+    "resume",
+    "resume|P",
+    "resume|P|--journal|J",
+    "resume|--journal|J|P|Q",
+    "resume|P|Q|--journal",
+    "resume|P|Q|--journal|-J",
+    "resume|P|Q|--journal=J",
+    "resume|P|Q|--lock|A",
+    "resume|P|Q|--rank|1",
     "join",
     "join|",
     "join|-J",
