@@ -1,5 +1,5 @@
 -- The digits of the limits, as the lines print them.
-use Rattle.std.proofs.Common.{◌≡◌, List, ℕ, codes, arith}
+use Rattle.std.proofs.Common.{◌≡◌, codes, arith}
 use Rattle.std.specs.Fmt.{decimal}
 use Rattle.std.specs.Str.Parse.{AllDigits, digits_value}
 use Rattle.std.proofs.lemmas.Fmt.{decimal-digits_value}

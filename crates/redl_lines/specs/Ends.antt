@@ -7,7 +7,7 @@ use Rattle.redl_io.specs.Sink.{GrowsByFront}
 use Rattle.redl_lines.specs.Failures.{Failure, failure_view, failure_status}
 use Rattle.redl_lines.specs.Lines.{failure_line, idle_line, refused_line, unwritten_line}
 use Rattle.redl_lines.specs.Refused.{RefusedEntries}
-use Rattle.redl_lines.specs.Remarks.{Remarks, remarks_view}
+use Rattle.redl_lines.specs.Remarks.{Remarks, all_refused, remarks_view}
 use Rattle.redl_lines.specs.declared.end.End.{End as Declared}
 use Rattle.redl_lines.specs.declared.end.End.TheVariants as declared
 use Rattle.redl_lines.specs.declared.status.Status.{Status}
@@ -33,13 +33,13 @@ written_status [] = status.Done
 written_status (refused ∷ more) = status.Refused
 
 abbrev pub end_status : End → Status
-end_status (written remarks) = written_status remarks.refused
+end_status (written remarks) = written_status (all_refused remarks)
 end_status (unwritten remarks) = status.WriteFault
 end_status (failed failure) = failure_status failure
 
--- a line for each refused entry, and then one for each lock that holds nothing
+-- a line for each refused entry, then one for each of a second package, and then one for each lock that holds nothing
 abbrev pub remark_lines : Remarks → List ℕ
-remark_lines remarks = flat_map refused_line remarks.refused ++ flat_map idle_line remarks.idle
+remark_lines remarks = flat_map refused_line remarks.refused ++ (flat_map refused_line remarks.second ++ flat_map idle_line remarks.idle)
 
 abbrev pub end_lines : End → List ℕ
 end_lines (written remarks) = remark_lines remarks

@@ -17,6 +17,8 @@ pub data Cause : Type 0 where
   no_format : List ℕ → Cause
   -- the file is no package
   no_package : PackageFault → Cause
+  -- the second of two files is no package
+  no_second : PackageFault → Cause
   -- the journal of this name has no reading
   malformed : List ℕ → Cause
   -- the journal of this name has the first digest, and the package the second
@@ -25,6 +27,10 @@ pub data Cause : Type 0 where
   other_count : List ℕ → ℕ → ℕ → Cause
   -- this reviewer has no sequence number left
   no_sequence : List ℕ → Cause
+  -- the second package isn't what the first one's journals leave of it
+  not_written : Cause
+  -- two sittings come to different documents
+  differ : Cause
   -- a quantity is over its limit
   over : Limit → Cause
 
@@ -41,10 +47,13 @@ abbrev pub cause_view : DeclaredCause → Cause
 cause_view cause.Usage = usage
 cause_view (cause.NoFormat name) = no_format name.now
 cause_view (cause.Package fault) = no_package fault
+cause_view (cause.Second fault) = no_second fault
 cause_view (cause.Malformed name) = malformed name.now
 cause_view (cause.OtherDocument journal found expected) = other_document journal.now found expected
 cause_view (cause.OtherCount journal found expected) = other_count journal.now found expected
 cause_view (cause.NoSequence reviewer) = no_sequence reviewer.now
+cause_view cause.NotWritten = not_written
+cause_view cause.Differ = differ
 cause_view (cause.Limit limit) = over limit
 
 abbrev pub failure_view : DeclaredFailure → Failure
@@ -56,10 +65,13 @@ abbrev pub cause_status : Cause → Status
 cause_status usage = status.Usage
 cause_status (no_format name) = status.Usage
 cause_status (no_package fault) = status.Package
+cause_status (no_second fault) = status.Package
 cause_status (malformed name) = status.Journal
 cause_status (other_document name found expected) = status.Journal
 cause_status (other_count name found expected) = status.Journal
 cause_status (no_sequence reviewer) = status.Sequence
+cause_status not_written = status.NotWritten
+cause_status differ = status.Differ
 cause_status (over limit) = status.Limit
 
 abbrev pub failure_status : Failure → Status

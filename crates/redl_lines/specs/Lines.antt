@@ -4,7 +4,7 @@ use Rattle.hex.specs.Hex.{encode_lower}
 use Rattle.redl_io.specs.Limits.{package_bytes, journal_bytes, depth, nodes}
 use Rattle.redl_journal.specs.declared.entry.Entry.{Entry}
 use Rattle.redl_journal.specs.Journals.{word_text}
-use Rattle.redl_lines.specs.Failures.{Cause, usage, no_format, no_package, malformed, other_document, other_count, no_sequence, over, Failure, caused, unread, no_memory}
+use Rattle.redl_lines.specs.Failures.{Cause, usage, no_format, no_package, no_second, malformed, other_document, other_count, no_sequence, not_written, differ, over, Failure, caused, unread, no_memory}
 use Rattle.redl_lines.specs.declared.failure.Limit.{Limit}
 use Rattle.redl_lines.specs.declared.failure.Limit.TheVariants.{PackageBytes, JournalBytes, Depth, Nodes, Sample}
 use Rattle.redl_lines.specs.declared.failure.PackageFault.{PackageFault}
@@ -29,12 +29,30 @@ no_format_line name = codes "redline: no format " ++ (name ++ newline)
 
 -- ---- the package
 
-abbrev pub fault_line : PackageFault → List ℕ
-fault_line NotReadable = codes "redline: package: not readable" ++ newline
-fault_line NotPackage = codes "redline: package: not a package" ++ newline
-fault_line PartShape = codes "redline: package: part shape" ++ newline
-fault_line NoDocument = codes "redline: package: no document" ++ newline
-fault_line (Rule rule) = codes "redline: package: rule " ++ (decimal rule ++ newline)
+-- what is wrong with a file that is no package
+abbrev pub fault_text : PackageFault → List ℕ
+fault_text NotReadable = codes "not readable"
+fault_text NotPackage = codes "not a package"
+fault_text PartShape = codes "part shape"
+fault_text NoDocument = codes "no document"
+fault_text (Rule rule) = codes "rule " ++ decimal rule
+
+-- its line, which begins with a title
+abbrev pub fault_line : List ℕ → PackageFault → List ℕ
+fault_line title fault = title ++ (fault_text fault ++ newline)
+
+abbrev pub package_title : List ℕ
+package_title = codes "redline: package: "
+
+-- the title of the second of two packages
+abbrev pub second_title : List ℕ
+second_title = codes "redline: second package: "
+
+abbrev pub not_written_line : List ℕ
+not_written_line = codes "redline: second package: not what the first one gives" ++ newline
+
+abbrev pub differ_line : List ℕ
+differ_line = codes "redline: the sittings differ" ++ newline
 
 -- ---- the journals
 
@@ -74,11 +92,14 @@ limit_line Sample = codes "redline: limit sample " ++ decimal sample_paragraphs 
 abbrev pub cause_line : Cause → List ℕ
 cause_line usage = usage_line
 cause_line (no_format name) = no_format_line name
-cause_line (no_package fault) = fault_line fault
+cause_line (no_package fault) = fault_line package_title fault
+cause_line (no_second fault) = fault_line second_title fault
 cause_line (malformed name) = malformed_line name
 cause_line (other_document name found expected) = other_document_line name found expected
 cause_line (other_count name found expected) = other_count_line name found expected
 cause_line (no_sequence reviewer) = no_sequence_line reviewer
+cause_line not_written = not_written_line
+cause_line differ = differ_line
 cause_line (over limit) = limit_line limit
 
 abbrev pub unread_line : List ℕ → List ℕ

@@ -1,17 +1,22 @@
 -- What a call says beside its output.
-use Rattle.std.specs.Prelude.{List, []}
+use Rattle.std.specs.Prelude.{List, [], ◌++◌}
 use Rattle.redl_lines.specs.Refused.{RefusedEntries}
 use Rattle.redl_lines.specs.declared.remarks.Remarks.{Remarks as Declared}
 use Rattle.redl_select.specs.declared.lock.Lock.{Lock}
 
--- the refused entries with their causes, and the locks that hold nothing
+-- the refused entries with their causes, those of a second package, and the locks that hold nothing
 pub record Remarks : Type 0 where
   pub refused : RefusedEntries
+  pub second : RefusedEntries
   pub idle : List Lock
 
 abbrev pub no_remarks : Remarks
-no_remarks = record { refused = []; idle = [] }
+no_remarks = record { refused = []; second = []; idle = [] }
+
+-- the refused entries of both packages
+abbrev pub all_refused : Remarks → RefusedEntries
+all_refused remarks = remarks.refused ++ remarks.second
 
 -- what a clause sees of the code's remarks
 abbrev pub remarks_view : Declared → Remarks
-remarks_view remarks = record { refused = remarks.refused; idle = remarks.idle.items }
+remarks_view remarks = record { refused = remarks.refused; second = remarks.second; idle = remarks.idle.items }

@@ -15,3 +15,5 @@ code_of status.WriteFault = 6
 code_of status.Limit = 7
 code_of status.NoMemory = 8
 code_of status.Sequence = 9
+code_of status.NotWritten = 11
+code_of status.Differ = 12

@@ -27,7 +27,8 @@ fn write_cause<K: Sink>(cause: &Cause<'_>, err: &mut K) -> Result<(), Failed>
     match cause {
         Cause::Usage => put_piece(b"redline: cannot read the command line\n", err),
         Cause::NoFormat(name) => write_no_format(name, err),
-        Cause::Package(fault) => write_fault(*fault, err),
+        Cause::Package(fault) => write_fault(b"redline: package: ", *fault, err),
+        Cause::Second(fault) => write_fault(b"redline: second package: ", *fault, err),
         Cause::Malformed(journal) => write_malformed(journal, err),
         Cause::OtherDocument {
             journal,
@@ -40,6 +41,11 @@ fn write_cause<K: Sink>(cause: &Cause<'_>, err: &mut K) -> Result<(), Failed>
             expected,
         } => write_other_count(journal, *found, *expected, err),
         Cause::NoSequence(reviewer) => write_no_sequence(reviewer, err),
+        Cause::NotWritten => put_piece(
+            b"redline: second package: not what the first one gives\n",
+            err,
+        ),
+        Cause::Differ => put_piece(b"redline: the sittings differ\n", err),
         Cause::Limit(limit) => put_piece(limit_line(*limit), err),
     }
 }
@@ -53,31 +59,24 @@ fn write_no_format<K: Sink>(name: &str, err: &mut K) -> Result<(), Failed>
     )
 }
 
-fn write_fault<K: Sink>(fault: PackageFault, err: &mut K) -> Result<(), Failed>
-    ensures { Puts K.told K.faults K.settled K.lenders err.old err.new (fault_line fault) result }
+fn write_fault<K: Sink>(title: &[u8], fault: PackageFault, err: &mut K) -> Result<(), Failed>
+    ensures { Puts K.told K.faults K.settled K.lenders err.old err.new (fault_line title.now fault) result }
 {
     match fault {
-        PackageFault::NotReadable => put_piece(b"redline: package: not readable\n", err),
-        PackageFault::NotPackage => put_piece(b"redline: package: not a package\n", err),
-        PackageFault::PartShape => put_piece(b"redline: package: part shape\n", err),
-        PackageFault::NoDocument => put_piece(b"redline: package: no document\n", err),
-        PackageFault::Rule(rule) => write_rule(rule, err),
+        PackageFault::NotReadable => put_pieces(&[title, b"not readable\n"], err),
+        PackageFault::NotPackage => put_pieces(&[title, b"not a package\n"], err),
+        PackageFault::PartShape => put_pieces(&[title, b"part shape\n"], err),
+        PackageFault::NoDocument => put_pieces(&[title, b"no document\n"], err),
+        PackageFault::Rule(rule) => write_rule(title, rule, err),
     }
 }
 
-fn write_rule<K: Sink>(rule: u8, err: &mut K) -> Result<(), Failed>
-    ensures { Puts K.told K.faults K.settled K.lenders err.old err.new (fault_line (PackageFault.Rule rule)) result }
+fn write_rule<K: Sink>(title: &[u8], rule: u8, err: &mut K) -> Result<(), Failed>
+    ensures { Puts K.told K.faults K.settled K.lenders err.old err.new (fault_line title.now (PackageFault.Rule rule)) result }
 {
     let mut buffer = Buffer::new();
     let rule = buffer.format(rule);
-    put_pieces(
-        &[
-            b"redline: package: rule ".as_slice(),
-            rule.as_bytes(),
-            b"\n",
-        ],
-        err,
-    )
+    put_pieces(&[title, b"rule ", rule.as_bytes(), b"\n"], err)
 }
 
 fn limit_line(limit: Limit) -> &'static [u8]

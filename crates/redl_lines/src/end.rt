@@ -25,7 +25,7 @@ impl End<'_> {
         ensures { result ≡ end_status (end_view self.now) }
     {
         match self {
-            End::Written(remarks) if remarks.refused.is_empty() => Status::Done,
+            End::Written(remarks) if remarks.are_none_refused() => Status::Done,
             End::Written(_) => Status::Refused,
             End::Unwritten(_) => Status::WriteFault,
             End::Failed(failure) => failure.status(),

@@ -47,6 +47,8 @@ pub enum Cause<'a> {
     NoFormat(&'a str),
     /// The file is no package.
     Package(PackageFault),
+    /// The second of two files is no package.
+    Second(PackageFault),
     /// The journal of this name has no reading.
     Malformed(&'a str),
     /// The journal of this name is one of another document.
@@ -63,6 +65,10 @@ pub enum Cause<'a> {
     },
     /// The reviewer has no sequence number left.
     NoSequence(&'a [u8]),
+    /// The second package isn't what the first one's journals leave of it.
+    NotWritten,
+    /// Two sittings come to different documents.
+    Differ,
     /// A quantity is over its limit.
     Limit(Limit),
 }
@@ -76,10 +82,12 @@ impl Cause<'_> {
     {
         match self {
             Cause::Usage | Cause::NoFormat(_) => Status::Usage,
-            Cause::Package(_) => Status::Package,
+            Cause::Package(_) | Cause::Second(_) => Status::Package,
             Cause::Malformed(_) | Cause::OtherDocument { .. } | Cause::OtherCount { .. } =>
                 Status::Journal,
             Cause::NoSequence(_) => Status::Sequence,
+            Cause::NotWritten => Status::NotWritten,
+            Cause::Differ => Status::Differ,
             Cause::Limit(_) => Status::Limit,
         }
     }

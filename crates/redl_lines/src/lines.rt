@@ -55,6 +55,7 @@ fn write_remarks<K: Sink>(remarks: &Remarks, err: &mut K) -> Result<(), Failed>
     ensures { Puts K.told K.faults K.settled K.lenders err.old err.new (remark_lines (remarks_view remarks.now)) result }
 {
     write_refused(&remarks.refused, err)?;
+    write_refused(&remarks.second, err)?;
     write_idle(&remarks.idle, err)
 }
 

@@ -1,7 +1,8 @@
 //! What a call says beside its output.
 
 ghost use Rattle.std.specs.Prelude.{◌≡◌};
-ghost use Rattle.redl_lines.specs.Remarks.{no_remarks, remarks_view};
+ghost use Rattle.redl_lines.specs.Refused.{is_empty as has_none};
+ghost use Rattle.redl_lines.specs.Remarks.{all_refused, no_remarks, remarks_view};
 
 use crate::refused::RefusedEntries;
 use redl_select::Lock;
@@ -12,6 +13,8 @@ use std::alloc::Global;
 pub struct Remarks {
     /// The entries that it refused, with their causes.
     pub refused: RefusedEntries,
+    /// The same of a second package, where there is one.
+    pub second: RefusedEntries,
     /// The locks that hold no revision of the package, in the order of the words.
     pub idle: Vec<Lock>,
 }
@@ -23,7 +26,16 @@ impl Remarks {
     {
         Remarks {
             refused: RefusedEntries::new(alloc),
+            second: RefusedEntries::new(alloc),
             idle: Vec::new(alloc),
         }
+    }
+
+    /// Whether no entry was refused.
+    #[tactic(auto, using(crate::proofs::RefusedLaws::both_empty))]
+    pub fn are_none_refused(&self) -> bool
+        ensures { result ≡ has_none (all_refused (remarks_view self.now)) }
+    {
+        self.refused.is_empty() && self.second.is_empty()
     }
 }

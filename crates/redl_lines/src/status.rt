@@ -25,6 +25,10 @@ pub enum Status {
     NoMemory = 8,
     /// A reviewer has no sequence number left.
     Sequence = 9,
+    /// The second package isn't what the first one's journals leave of it.
+    NotWritten = 11,
+    /// Two sittings come to different documents.
+    Differ = 12,
 }
 
 impl Status {

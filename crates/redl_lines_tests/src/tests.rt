@@ -42,6 +42,32 @@ fn a_fault_of_the_package_has_its_line(rt: HostRuntime) -> Result<(), Fail> {
 }
 
 #[test]
+fn a_second_package_has_lines_of_its_own(rt: HostRuntime) -> Result<(), Fail> {
+    for (cause, code, line) in [
+        (
+            Cause::Second(PackageFault::NotReadable),
+            3,
+            "redline: second package: not readable\n",
+        ),
+        (
+            Cause::Second(PackageFault::Rule(9)),
+            3,
+            "redline: second package: rule 9\n",
+        ),
+        (
+            Cause::NotWritten,
+            11,
+            "redline: second package: not what the first one gives\n",
+        ),
+        (Cause::Differ, 12, "redline: the sittings differ\n"),
+    ] {
+        let same = fails_with(rt.alloc(), cause, code, line)?;
+        assert!(rt; same, "{line}");
+    }
+    Ok(())
+}
+
+#[test]
 fn a_limit_has_its_line(rt: HostRuntime) -> Result<(), Fail> {
     for (limit, line) in [
         (
@@ -154,6 +180,7 @@ fn tells_refused(
 ) -> Result<bool, Fail> {
     let remarks = Remarks {
         refused: refused(alloc, entries)?,
+        second: RefusedEntries::new(alloc),
         idle: Vec::new(alloc),
     };
     let end = if writes {

@@ -1,4 +1,4 @@
-use Rattle.std.proofs.Common.{List, ℕ, ◌++◌, codes, ap, sym}
+use Rattle.std.proofs.Common.{◌++◌, codes, ap, sym}
 use Rattle.redl_lines.specs.Lines.{newline}
 use Rattle.redl_lines.proofs.LimitLaws.{package_bytes_digits, journal_bytes_digits, depth_digits, nodes_digits, sample_digits}
 use Rattle.redl_lines.proofs.causes.limit_line.Goals as goal

@@ -5,5 +5,9 @@ use Rattle.redl_lines.proofs.lines.write_remarks.Goals as goal
 pub returns-in_err-write_refused : goal.returns-in_err-write_refused
 returns-in_err-write_refused g c = puts_fails _ refl c.from_residual.ensures.1 c.in_err-write_refused.ensures
 
+pub returns-in_err-write_refused-2 : goal.returns-in_err-write_refused-2
+returns-in_err-write_refused-2 g c =
+    puts_then refl c.in_ok-write_refused.ensures (puts_fails _ refl c.from_residual-in_err-write_refused-2.ensures.1 c.in_err-write_refused-2.ensures)
+
 pub returns : goal.returns
-returns g c = rw c.deref.ensures.value at (puts_then refl c.in_ok-write_refused.ensures c.write_idle.ensures)
+returns g c = rw c.deref.ensures.value at (puts_then refl c.in_ok-write_refused.ensures (puts_then refl c.in_ok-write_refused-2.ensures c.write_idle.ensures))
