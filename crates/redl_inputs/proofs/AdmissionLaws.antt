@@ -1,5 +1,5 @@
 -- Entries that a session admits and refuses, one list after the other.
-use Rattle.std.proofs.Common.{◌≡◌, ℕ, List, [], ◌∷◌, ◌++◌, filter, Bool, Result, Ok, Err, OnOk, is_none, refl, sym, ap, ◌∙◌}
+use Rattle.std.proofs.Common.{◌≡◌, ℕ, List, [], ◌++◌, filter, Bool, Result, Ok, Err, OnOk, is_none, refl, sym, ap, ◌∙◌}
 use Rattle.std.proofs.lemmas.List.Elements.{filter-append, filter_map-append}
 use Rattle.redl_index.specs.Numbers.{package_revisions, numbered_package}
 use Rattle.redl_index.specs.Revisions.{revisions_of}
@@ -50,18 +50,18 @@ pub admits_nothing : (before : Admission) → admission_with before [] ≡ befor
 admits_nothing before = refl
 
 -- an admission of these parts
-abbrev pub with_parts : DocumentId → State → RefusedEntries → List Lock → Admission
-with_parts document state refused idle = record { document = document; state = state; remarks = record { refused = refused; idle = idle } }
+abbrev pub with_parts : DocumentId → State → RefusedEntries → RefusedEntries → List Lock → Admission
+with_parts document state refused second idle = record { document = document; state = state; remarks = record { refused = refused; second = second; idle = idle } }
 
 -- a session after these entries, and the refusals that it gave
 pub admitted_all : (before : Admission) (entries : List Entry) (state : State) (given : List Refusal) (kept : RefusedEntries)
     → state ≡ record before.state { book = union before.state.book (admitted before.state.revisions before.state.locks entries) }
     → given ≡ refusals before.state.revisions before.state.locks entries
     → kept ≡ with_refusals before.remarks.refused given
-    → with_parts before.document state kept before.remarks.idle ≡ admission_with before entries
+    → with_parts before.document state kept before.remarks.second before.remarks.idle ≡ admission_with before entries
 admitted_all before entries state given kept is were added =
-    ap (λ s. with_parts before.document s kept before.remarks.idle) is
-    ∙ ap (λ rs. with_parts before.document (record before.state { book = union before.state.book (admitted before.state.revisions before.state.locks entries) }) rs before.remarks.idle)
+    ap (λ s. with_parts before.document s kept before.remarks.second before.remarks.idle) is
+    ∙ ap (λ rs. with_parts before.document (record before.state { book = union before.state.book (admitted before.state.revisions before.state.locks entries) }) rs before.remarks.second before.remarks.idle)
     (added ∙ ap (with_refusals before.remarks.refused) were)
 
 -- what holds of a result that is Ok follows from what holds of it
@@ -70,8 +70,8 @@ on_ok (Ok x) step h = step h
 on_ok (Err e) step h = h
 
 -- a session over a package, before any entry
-pub starts : (whole : List ℕ) (pkg : Nodes) (locks : List Lock) (nodes : Nodes) (revisions : List Revision) (held : List Lock) (state : State) (refused : RefusedEntries) (idle : List Lock) (count : ℕ)
+pub starts : (whole : List ℕ) (pkg : Nodes) (locks : List Lock) (nodes : Nodes) (revisions : List Revision) (held : List Lock) (state : State) (refused second : RefusedEntries) (idle : List Lock) (count : ℕ)
     → state ≡ record { nodes = nodes; revisions = revisions; locks = held; book = [] } → nodes ≡ numbered_package pkg → revisions ≡ revisions_of pkg → held ≡ locks
-    → refused ≡ [] → idle ≡ idle_locks revisions locks → count ≡ package_revisions pkg → let document : DocumentId = record { digest = sha256 whole; count = count } in with_parts document state refused idle ≡ no_admission whole pkg locks
-starts whole pkg locks nodes revisions held state refused idle count is of_nodes of_revisions of_locks none idly counted =
-    rw (is, idly, of_nodes, of_revisions, of_locks, none, counted) refl
+    → refused ≡ [] → second ≡ [] → idle ≡ idle_locks revisions locks → count ≡ package_revisions pkg → let document : DocumentId = record { digest = sha256 whole; count = count } in with_parts document state refused second idle ≡ no_admission whole pkg locks
+starts whole pkg locks nodes revisions held state refused second idle count is of_nodes of_revisions of_locks none nor idly counted =
+    rw (is, idly, of_nodes, of_revisions, of_locks, none, nor, counted) refl

@@ -4,16 +4,17 @@ use Rattle.std.proofs.lemmas.List.Elements.{Contains-append_left, Contains-appen
 use Rattle.std.specs.BTreeMap.{insert_entry}
 use Rattle.std.specs.Ordering.{match_ordering}
 use Rattle.redl_index.specs.declared.revision.Revision.{Revision}
+use Rattle.redl_inputs.proofs.LeftLaws.{gathered_of}
 use Rattle.redl_inputs.proofs.StepLaws.{both_ok, same_ok}
-use Rattle.redl_inputs.specs.Admission.{Admission, admission_with, no_admission, opened_over, opened}
-use Rattle.redl_inputs.specs.Journals.{AreSame, DocumentId, document_of, entries_of, gathered, journal_at}
+use Rattle.redl_inputs.specs.Admission.{Admission, admission_with, no_admission, opened_over, opened, sitting_over}
+use Rattle.redl_inputs.specs.Journals.{AreSame, DocumentId, document_of, entries_of, gathered, gathered_with, journal_at}
 use Rattle.redl_inputs.specs.Packages.{package_in}
 use Rattle.redl_inputs.specs.Readers.{Reader}
 use Rattle.redl_inputs.specs.Steps.{◌>>=◌, file, held, within}
 use Rattle.redl_io.specs.Limits.{journal_bytes}
 use Rattle.redl_io.specs.Shelf.{Files}
 use Rattle.redl_join.proofs.Unions.{book-none, has_entry-filter, has_entry-same, union-same}
-use Rattle.redl_join.specs.Books.{has_entry, union, with_entry}
+use Rattle.redl_join.specs.Books.{union, with_entry}
 use Rattle.redl_journal.proofs.EntryOrder.{entry_order-exact}
 use Rattle.redl_journal.specs.Order.{entry_order}
 use Rattle.redl_journal.specs.declared.entry.Entry.{Entry}
@@ -225,3 +226,21 @@ opens_same reader files locks names others whole one other same is too =
       gathered_among reader files document journal_bytes journal_bytes others names all.x entries.x (λ name. (same name).1) all.first entries.first entry,
     ))
     ∙ same_ok all.second
+
+-- The same of a sitting, whose journals may have other bytes left both times.
+pub sits_same : (reader : Reader) (files : Files) (most more : ℕ) (names others : List (List ℕ)) (whole : List ℕ) (nodes : Nodes) (one other : Admission × ℕ) → AreSame names others
+    → sitting_over reader files most names whole nodes ≡ Ok one → sitting_over reader files more others whole nodes ≡ Ok other → one.0 ≡ other.0
+sits_same reader files most more names others whole nodes one other same is too =
+    let document = document_of whole nodes in
+    let taken : List Entry × ℕ → Result (Admission × ℕ) Failure = λ entries. Ok (admission_with (no_admission whole nodes []) entries.0, entries.1) in
+    let entries = both_ok (gathered_with reader files document most names) taken one is in
+    let all = both_ok (gathered_with reader files document more others) taken other too in
+    let first = gathered_of reader files document most names entries.x entries.first in
+    let again = gathered_of reader files document more others all.x all.first in
+    ap (λ (x : Admission × ℕ). x.0) (sym (same_ok entries.second))
+    ∙ admits_same whole nodes [] entries.x.0 all.x.0
+    (λ entry. (
+      gathered_among reader files document most more names others entries.x.0 all.x.0 (λ name. (same name).0) first again entry,
+      gathered_among reader files document more most others names all.x.0 entries.x.0 (λ name. (same name).1) again first entry,
+    ))
+    ∙ ap (λ (x : Admission × ℕ). x.0) (same_ok all.second)

@@ -4,6 +4,7 @@ pub mod ReadLaws
 pub mod NameLaws
 pub mod JournalLaws
 pub mod GatherLaws
+pub mod LeftLaws
 pub mod AdmissionLaws
 pub mod OpenLaws
 pub mod PackageLaws

@@ -1,6 +1,6 @@
 -- What becomes of the entries of journals: those that a session admits, and those that it refuses.
 use Rattle.std.specs.Prelude.{ℕ, List, [], Result, Ok}
-use Rattle.redl_inputs.specs.Journals.{DocumentId, document_of, gathered}
+use Rattle.redl_inputs.specs.Journals.{DocumentId, document_of, gathered, gathered_with}
 use Rattle.redl_inputs.specs.Packages.{package_in}
 use Rattle.redl_inputs.specs.Readers.{Reader}
 use Rattle.redl_inputs.specs.Steps.{◌>>=◌}
@@ -31,7 +31,7 @@ abbrev pub no_admission : List ℕ → Nodes → List Lock → Admission
 no_admission whole nodes locks = record {
   document = document_of whole nodes;
   state = record { nodes = numbered_package nodes; revisions = revisions_of nodes; locks = locks; book = [] };
-  remarks = record { refused = []; idle = idle_locks (revisions_of nodes) locks };
+  remarks = record { refused = []; second = []; idle = idle_locks (revisions_of nodes) locks };
 }
 
 -- After these entries too: the book has those that are not refused, and the refused ones are kept with their causes.
@@ -46,6 +46,17 @@ abbrev pub admission_of : Reader → Files → Admission → ℕ → List (List 
 admission_of reader files before most names = do
   entries ← gathered reader files before.document most names
   Ok (admission_with before entries)
+
+-- The same, with how many bytes may still come of other journals.
+abbrev pub admission_left : Reader → Files → Admission → ℕ → List (List ℕ) → Result (Admission × ℕ) Failure
+admission_left reader files before most names = do
+  entries ← gathered_with reader files before.document most names
+  Ok (admission_with before entries.0, entries.1)
+
+-- A session over the package with this text and these nodes, without locks, what becomes of the entries of the journals of these
+-- names, of at most `most` bytes together, and how many bytes may still come of other journals.
+abbrev pub sitting_over : Reader → Files → ℕ → List (List ℕ) → List ℕ → Nodes → Result (Admission × ℕ) Failure
+sitting_over reader files most names whole nodes = admission_left reader files (no_admission whole nodes []) most names
 
 -- A session over the package with this text and these nodes, with these locks, and what becomes of the entries of
 -- the journals of these names.

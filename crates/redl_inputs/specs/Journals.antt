@@ -53,6 +53,14 @@ gathered reader files document left (name ∷ names) = do
   more ← gathered reader files document (left - first.1) names
   Ok (first.0 ++ more)
 
+-- The same, with how many bytes may still come of other journals.
+abbrev pub gathered_with : Reader → Files → DocumentId → ℕ → List (List ℕ) → Result (List Entry × ℕ) Failure
+gathered_with reader files document left [] = Ok ([], left)
+gathered_with reader files document left (name ∷ names) = do
+  first ← journal_at reader files document left name
+  more ← gathered_with reader files document (left - first.1) names
+  Ok (first.0 ++ more.0, more.1)
+
 -- a set of entries with those of the journals of these names, which are of one document
 abbrev pub union_with : Reader → Files → DocumentId → ℕ → List Entry → List (List ℕ) → Result (List Entry) Failure
 union_with reader files document most before names = do

@@ -1,7 +1,7 @@
 //! The journals of a call: the entries of each, or why it is refused.
 
 ghost use Rattle.std.specs.Prelude.{◌≡◌, ◌<◌, ◌≤◌, ◌^◌, ◌∷◌, [], All, IsUtf8, IfOk, OnOk};
-ghost use Rattle.redl_inputs.specs.Admission.{admission_of};
+ghost use Rattle.redl_inputs.specs.Admission.{admission_left, admission_of};
 ghost use Rattle.redl_inputs.specs.Journals.{entries_of, first_journal, journal_at, journal_or_none, union_with};
 ghost use Rattle.redl_inputs.specs.Reading.{ReadsFiles, Reads};
 ghost use Rattle.redl_inputs.specs.Views.{admission_view, document_view, known_view, result_view};
@@ -36,6 +36,28 @@ pub fn admit_journals<'a, 'b, F: Shelf>(
     ensures nodes { IfOk result (λ admitted. admitted.session.nodes ≡ before.entry.session.nodes) }
     ensures revisions { IfOk result (λ admitted. admitted.session.revisions ≡ before.entry.session.revisions) }
 {
+    let (admitted, _) = admit_within(alloc, document, journals, limit, before, shelf)?;
+    Ok(admitted)
+}
+
+/// The same, with how many bytes may still come of other journals.
+pub fn admit_within<'a, 'b, F: Shelf>(
+    alloc: Global,
+    document: DocumentId,
+    journals: &'a [Text],
+    limit: usize,
+    before: Admitted<'b>,
+    shelf: &mut F,
+) -> Result<(Admitted<'b>, usize), Failure<'a>>
+    requires utf8 { All IsUtf8 journals.now }
+    requires limit { limit < 2 ^ 32 }
+    requires document { document_view document ≡ known_view before.document }
+    ensures read { ReadsFiles F.told F.faults shelf.old shelf.new journals.now
+        (result_view (λ x. (admission_view x.0, x.1)) result) (λ reader files. admission_left reader files (admission_view before.entry) limit journals.now) }
+    ensures within { IfOk result (λ x. x.1 ≤ limit) }
+    ensures nodes { IfOk result (λ x. x.0.session.nodes ≡ before.entry.session.nodes) }
+    ensures revisions { IfOk result (λ x. x.0.session.revisions ≡ before.entry.session.revisions) }
+{
     let mut admitted = before;
     let mut left = limit;
     for journal in journals {
@@ -43,7 +65,7 @@ pub fn admit_journals<'a, 'b, F: Shelf>(
         left -= size;
         admitted.admit(entries)?;
     }
-    Ok(admitted)
+    Ok((admitted, left))
 }
 
 /// The book with the entries of the journals of these names too, which are of one document. All journals together have at

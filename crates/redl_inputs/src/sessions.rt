@@ -1,7 +1,7 @@
 //! A session over a package, with the entries of journals.
 
-ghost use Rattle.std.specs.Prelude.{◌≡◌, None, All, IsUtf8, IfOk};
-ghost use Rattle.redl_inputs.specs.Admission.{no_admission, opened, opened_over};
+ghost use Rattle.std.specs.Prelude.{◌≡◌, ◌<◌, ◌≤◌, ◌^◌, None, All, IsUtf8, IfOk};
+ghost use Rattle.redl_inputs.specs.Admission.{no_admission, opened, opened_over, sitting_over};
 ghost use Rattle.redl_inputs.specs.Reading.{ReadsFiles};
 ghost use Rattle.redl_inputs.specs.Views.{admission_view, result_view};
 ghost use Rattle.redl_index.specs.Numbers.{numbered_package};
@@ -12,7 +12,7 @@ use crate::JOURNALS_LIMIT;
 use crate::admitted::Admitted;
 use crate::document::{Document, LazyDigest};
 use crate::idle::idle_locks;
-use crate::journals::admit_journals;
+use crate::journals::{admit_journals, admit_within};
 use crate::package::{number_package, read_package};
 use redl_io::{Shelf, Text};
 use redl_lines::{Failure, RefusedEntries, Remarks};
@@ -62,6 +62,30 @@ pub fn open_package<'a, 'b, F: Shelf>(
     admit_journals(alloc, document, journals, JOURNALS_LIMIT, started, shelf)
 }
 
+/// A session over this package, which has this text, with the entries of the journals of these names, which have at most `limit`
+/// bytes together, and without locks. Also how many bytes may still come of other journals.
+pub fn sit<'a, 'b, F: Shelf>(
+    alloc: Global,
+    package: Package<'b>,
+    limit: usize,
+    journals: &'a [Text],
+    bytes: &'b [u8],
+    shelf: &mut F,
+) -> Result<(Admitted<'b>, usize), Failure<'a>>
+    requires utf8 { All IsUtf8 journals.now }
+    requires limit { limit < 2 ^ 32 }
+    requires sound { broken_rule «package» ≡ None }
+    ensures read { ReadsFiles F.told F.faults shelf.old shelf.new journals.now
+        (result_view (λ x. (admission_view x.0, x.1)) result) (λ reader files. sitting_over reader files limit journals.now bytes.now «package».entry) }
+    ensures within { IfOk result (λ x. x.1 ≤ limit) }
+    ensures nodes { IfOk result (λ x. x.0.session.nodes ≡ numbered_package «package».entry) }
+    ensures revisions { IfOk result (λ x. x.0.session.revisions ≡ revisions_of «package».entry) }
+{
+    let mut started = start(alloc, package, &[], bytes)?;
+    let document = started.document.id();
+    admit_within(alloc, document, journals, limit, started, shelf)
+}
+
 /// A session over this package, which has this text, before any entry.
 pub fn start<'b>(
     alloc: Global,
@@ -84,6 +108,7 @@ pub fn start<'b>(
         session: Session::start(alloc, numbered.package, numbered.index, locks)?,
         remarks: Remarks {
             refused: RefusedEntries::new(alloc),
+            second: RefusedEntries::new(alloc),
             idle,
         },
     })

@@ -1,78 +1,12 @@
-use Rattle.std.proofs.Common.{◌≡◌, ◌+◌, ◌-◌, ◌∷◌, drop, Contains, IsUtf8, arith, ap, sym, ◌∙◌, refl, subst}
-use Rattle.std.proofs.lemmas.List.{drop_more, drop_all}
-use Rattle.std.proofs.lemmas.List.Elements.{All-get_or, Contains-get_or}
 use Rattle.std.proofs.lemmas.Result.{err_from_is_err_and}
-use Rattle.redl_inputs.proofs.AdmissionLaws.{admits_in_steps, admits_nothing}
-use Rattle.redl_inputs.proofs.GatherLaws.{IsTaking, taking_begins, taking_goes_on, taking_stops, taking_ends}
-use Rattle.redl_inputs.proofs.NameLaws.{only_one}
-use Rattle.redl_inputs.specs.Admission.{Admission, admission_with, admission_of}
-use Rattle.redl_inputs.specs.Journals.{DocumentId}
-use Rattle.redl_inputs.specs.Views.{admission_view, document_view, known_view}
+use Rattle.redl_inputs.proofs.LeftLaws.{admits_left, admits_left_stops}
+use Rattle.redl_inputs.specs.Views.{admission_view}
 use Rattle.redl_inputs.proofs.journals.admit_journals.Goals as goal
 
-pub name_of-requires : goal.name_of-requires
-name_of-requires g c =
-    rw c.journal-item.is (All-get_or IsUtf8 c.args.journals.now c.loop-journal.journal-index c.journal-item.result c.loop-journal-test.true c.requires.utf8)
-
-pub loop-journal-init : goal.loop-journal-init
-loop-journal-init g c = record {
-  left = omega arith;
-  taking =
-      subst (λ (document : DocumentId). IsTaking admission_with (g.F.Shelf.told c.args.shelf.now) c.args.journals.now document
-      (λ reader files. admission_of reader files (admission_view c.args.before) c.args.limit c.args.journals.now) (admission_view c.args.before) c.args.limit c.args.journals.now)
-      (sym c.requires.document)
-      (taking_begins admission_with (g.F.Shelf.told c.args.shelf.now) (known_view c.args.before.document) (admission_view c.args.before) c.args.limit c.args.journals.now);
-  told = refl;
-  stands = refl;
-  nodes = refl;
-  revisions = refl;
-}
-
-pub returns-in_err-entries-clause-read : goal.returns-in_err-entries-clause-read
-returns-in_err-entries-clause-read g c =
+pub returns-in_err-admitted-clause-read : goal.returns-in_err-admitted-clause-read
+returns-in_err-admitted-clause-read g c =
     let p = err_from_is_err_and c.from_residual.result c.from_residual.ensures.1 in
-    let journals = c.args.journals.now in
-    let index = c.loop-journal.journal-index in
-    let name = c.name_of.result.now in
-    let is : name ≡ c.journal-item.result = c.name_of.ensures in
-    let here : drop index journals ≡ name ∷ drop (index + 1) journals =
-    drop_more journals index c.journal-item.result c.loop-journal-test.true ∙ ap (λ one. one ∷ drop (index + 1) journals) (sym c.journal-item.is ∙ sym is) in
-    let among : Contains journals name =
-    rw (is, c.journal-item.is) (Contains-get_or journals index c.journal-item.result c.loop-journal-test.true) in
-    rw (p.1, p.2) (taking_stops admission_with c.args.shelf.now (document_view c.args.document) (λ reader files. admission_of reader files (admission_view c.args.before) c.args.limit journals)
-    (admission_view c.loop-journal.admitted) c.loop-journal.left name (drop (index + 1) journals) journals
-    c.loop-journal.invariant.told c.loop-journal.invariant.stands (rw here at c.loop-journal.invariant.taking)
-    (λ one h. subst (Contains journals) (only_one name one h) among) c.in_err-entries.ensures.read)
-
-pub loop-journal-preserved : goal.loop-journal-preserved
-loop-journal-preserved g c =
-    let journals = c.args.journals.now in
-    let index = c.loop-journal.journal-index in
-    let name = c.name_of.result.now in
-    let is : name ≡ c.journal-item.result = c.name_of.ensures in
-    let here : drop index journals ≡ name ∷ drop (index + 1) journals =
-    drop_more journals index c.journal-item.result c.loop-journal-test.true ∙ ap (λ one. one ∷ drop (index + 1) journals) (sym c.journal-item.is ∙ sym is) in
-    let among : Contains journals name =
-    rw (is, c.journal-item.is) (Contains-get_or journals index c.journal-item.result c.loop-journal-test.true) in
-    let P : Admission → Type 0 = λ a. IsTaking admission_with (g.F.Shelf.told c.args.shelf.now) journals (document_view c.args.document) (λ reader files. admission_of reader files (admission_view c.args.before) c.args.limit journals)
-    a (c.loop-journal.left - c.in_ok-entries.size) (drop (index + 1) journals) in
-    let next = taking_goes_on admission_with admits_in_steps c.args.shelf.now journals (document_view c.args.document) (λ reader files. admission_of reader files (admission_view c.args.before) c.args.limit journals)
-    (admission_view c.loop-journal.admitted) c.loop-journal.left name (drop (index + 1) journals)
-    c.in_ok-entries.entries.items c.in_ok-entries.size c.loop-journal.invariant.told (rw here at c.loop-journal.invariant.taking)
-    (λ one h. subst (Contains journals) (only_one name one h) among) c.in_ok-entries.ensures.read in
-    record {
-      left = omega (arith, c.loop-journal.invariant.left);
-      taking = subst P (sym c.in_ok-admit.ensures) next;
-      told = c.in_ok-entries.ensures.read.same_files ∙ c.loop-journal.invariant.told;
-      stands = c.in_ok-entries.ensures.read.stands ∙ c.loop-journal.invariant.stands;
-      nodes = ap (λ (a : Admission). a.state.nodes) c.in_ok-admit.ensures ∙ c.loop-journal.invariant.nodes;
-      revisions = ap (λ (a : Admission). a.state.revisions) c.in_ok-admit.ensures ∙ c.loop-journal.invariant.revisions;
-    }
+    rw (p.1, p.2) (admits_left_stops (admission_view c.args.before) c.args.limit c.args.journals.now c.in_err-admitted.ensures.read)
 
 pub returns-clause-read : goal.returns-clause-read
-returns-clause-read g c =
-    let journals = c.args.journals.now in
-    let none = drop_all c.loop-journal.journal-index journals (omega arith) in
-    taking_ends admission_with admits_nothing c.args.shelf.now (document_view c.args.document) (λ reader files. admission_of reader files (admission_view c.args.before) c.args.limit journals)
-    (admission_view c.loop-journal.admitted) c.loop-journal.left journals
-    c.loop-journal.invariant.told c.loop-journal.invariant.stands (rw none at c.loop-journal.invariant.taking)
+returns-clause-read g c = admits_left (admission_view c.args.before) c.args.limit c.args.journals.now c.in_ok-admitted.ensures.read

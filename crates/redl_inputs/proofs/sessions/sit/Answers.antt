@@ -1,0 +1,13 @@
+use Rattle.std.proofs.Common.{◌∙◌, ap, sym}
+use Rattle.redl_inputs.proofs.LeftLaws.{sits}
+use Rattle.redl_inputs.specs.Journals.{DocumentId}
+use Rattle.redl_inputs.specs.Views.{admission_view}
+use Rattle.redl_inputs.proofs.sessions.sit.Goals as goal
+
+pub admit_within-requires-clause-document : goal.admit_within-requires-clause-document
+admit_within-requires-clause-document g c = c.id-document.ensures.id ∙ sym c.id-document.ensures.same
+
+pub returns-clause-read : goal.returns-clause-read
+returns-clause-read g c =
+    let same = ap (λ (document : DocumentId). record (admission_view c.in_ok-started.started) { document = document }) c.id-document.ensures.same in
+    sits c.args.limit _ _ (same ∙ c.in_ok-started.ensures) c.admit_within.ensures.read
