@@ -33,7 +33,7 @@ use Rattle.redl_journal.specs.declared.entry.Entry.{Entry}
 use Rattle.redl_lines.specs.Failures.{Failure}
 use Rattle.redl_lines.specs.declared.failure.Limit.TheVariants.{JournalBytes}
 use Rattle.redl_select.specs.declared.lock.Lock.{Lock}
-use Rattle.redl_words.specs.Commands.{Command, settle, view_text, list, report, page, write, decide, join, check, sample}
+use Rattle.redl_words.specs.Commands.{Command, settle, view_text, list, report, page, write, decide, resume, join, check, sample}
 
 -- what a command makes of the session over its package, and of the journals
 after_opening : (reader : Reader) (files : Files) (locks : List Lock) (names others : List (List ℕ)) (p : List ℕ) (next : Admission → Result Writing Failure) (one other : Writing) → AreSame names others
@@ -221,6 +221,7 @@ carried_same reader files brought (write p locks journals) names others one othe
     after_opening reader files locks names others p (λ admission. Ok (resolved admission)) one other same is too
 carried_same reader files brought (decide p reviewer journals locks choices rank) names others one other same is too =
     after_opening reader files locks names others p (λ before. with_choices reviewer rank choices before >>= (λ admission. Ok (book_written admission))) one other same is too
+carried_same reader files brought (resume p q firsts journals) names others one other same is too = same_ok (sym is ∙ too)
 carried_same reader files brought (join journals) names others one other same is too = joins_same reader files journal_bytes names others one other same is too
 carried_same reader files brought (check p) names others one other same is too = same_ok (sym is ∙ too)
 carried_same reader files brought (sample number) names others one other same is too = same_ok (sym is ∙ too)

@@ -17,6 +17,7 @@ use Rattle.redl_inputs.specs.Steps.{◌>>=◌}
 use Rattle.redl_app.specs.Writing.{Writing, outcome_of}
 use Rattle.redl_io.specs.Shelf.{Files}
 use Rattle.redl_journal.specs.declared.entry.Entry.{Entry}
+use Rattle.redl_lines.specs.Remarks.{all_refused}
 use Rattle.redl_lines.specs.Ends.{End, end_status, failed, written_status}
 use Rattle.redl_lines.specs.Refused.{RefusedEntries}
 use Rattle.redl_lines.specs.Failures.{Failure, caused, unread, no_memory, no_format, failure_status}
@@ -156,7 +157,7 @@ leaves_written without old new (entry ∷ refused) is = is
 pub leaves_failed : {F : Type 0} (without old new : List F) (failure : Failure) → new ≡ old → LeavesFormats (failure_status failure) without old new
 leaves_failed without old new no_memory is = inl is
 leaves_failed without old new (unread name) is = is
-leaves_failed without old new (caused cause) is = by_cause (λ s. LeavesFormats s without old new) is is is is is cause
+leaves_failed without old new (caused cause) is = by_cause (λ s. LeavesFormats s without old new) is is is is is is is cause
 
 taken_by : {F : Type 0} (without old new : List F) (refused : RefusedEntries) → LeavesFormats (written_status refused) without old new → new ≡ without
 taken_by without old new [] is = is
@@ -166,7 +167,7 @@ taken_by without old new (entry ∷ refused) is = is
 pub leaves_end : {F : Type 0} (without old new : List F) {K : Type 0} (told : K → Option (List ℕ)) (faults : K → ℕ) (out out_new : K) (made : Result Writing Failure) (end : End)
     → Finishes told faults out out_new made end → LeavesFormats (outcome_of made).status without old new → LeavesFormats (end_status end) without old new
 leaves_end without old new told faults out out_new (Ok writing) end (inl (is, all)) left = rw is left
-leaves_end without old new told faults out out_new (Ok writing) end (inr (is, front)) left = rw is (taken_by without old new writing.remarks.refused left)
+leaves_end without old new told faults out out_new (Ok writing) end (inr (is, front)) left = rw is (taken_by without old new (all_refused writing.remarks) left)
 leaves_end without old new told faults out out_new (Err failure) end (is, same, stands) left = rw is left
 
 -- ---- the step before the package

@@ -18,7 +18,7 @@ use Rattle.redl_inputs.proofs.StepLaws.{both_ok, same_ok, same_some}
 use Rattle.redl_inputs.specs.Readers.{Reader}
 use Rattle.redl_inputs.specs.Steps.{◌>>=◌}
 use Rattle.redl_app.specs.Writing.{Outcome, Writing, only_bytes, outcome_of}
-use Rattle.redl_words.specs.Commands.{Command, settle, view_text, list, report, page, write, decide, join, check, sample}
+use Rattle.redl_words.specs.Commands.{Command, settle, view_text, list, report, page, write, decide, resume, join, check, sample}
 use Rattle.redl_io.specs.Limits.{journal_bytes}
 use Rattle.redl_locks_sound.proofs.Opened.{opened-left}
 use Rattle.redl_index.specs.Numbers.{numbered_package}
@@ -53,7 +53,7 @@ failed_is_not_written no_memory is = absurd (unwritten (λ e. cc e) (λ e. cc e)
 failed_is_not_written (unread name) is = absurd (unwritten (λ e. cc e) (λ e. cc e) is)
 failed_is_not_written (caused cause) is =
     by_cause (λ s. IsWritten s → ⊥) (unwritten (λ e. cc e) (λ e. cc e)) (unwritten (λ e. cc e) (λ e. cc e)) (unwritten (λ e. cc e) (λ e. cc e))
-    (unwritten (λ e. cc e) (λ e. cc e)) (unwritten (λ e. cc e) (λ e. cc e)) cause is
+    (unwritten (λ e. cc e) (λ e. cc e)) (unwritten (λ e. cc e) (λ e. cc e)) (unwritten (λ e. cc e) (λ e. cc e)) (unwritten (λ e. cc e) (λ e. cc e)) cause is
 
 pub is_made : (made : Result Writing Failure) → IsWritten (outcome_of made).status → (writing : Writing) × (made ≡ Ok writing)
 is_made (Ok writing) is = (writing, refl)
@@ -70,7 +70,7 @@ none_broken number (test ∷ later) parts is = here (holds test parts) refl (non
     here true e rest none = and_from (holds test parts) (list_all (λ other. holds other parts) later) e (rest none)
     here false e rest none = absurd (cc none)
 
-sound_of : (broken : Option ℕ) (nodes made : Nodes) → sound_unless broken nodes ≡ Ok made → (broken ≡ None) × (made ≡ nodes)
+pub sound_of : (broken : Option ℕ) (nodes made : Nodes) → sound_unless broken nodes ≡ Ok made → (broken ≡ None) × (made ≡ nodes)
 sound_of None nodes made is = (refl, sym (same_ok is))
 sound_of (Some rule) nodes made is = absurd (cc is)
 
@@ -138,6 +138,7 @@ leaves reader files brought (list other format locks journals wanted) name writi
 leaves reader files brought (report other format by_kind locks journals) name writing named is = absurd (cc named)
 leaves reader files brought (page other locks journals) name writing named is = absurd (cc named)
 leaves reader files brought (decide other reviewer journals locks choices rank) name writing named is = absurd (cc named)
+leaves reader files brought (resume other q firsts journals) name writing named is = absurd (cc named)
 leaves reader files brought (join journals) name writing named is = absurd (cc named)
 leaves reader files brought (view_text other view) name writing named is = absurd (cc named)
 leaves reader files brought (check other) name writing named is = absurd (cc named)
@@ -149,7 +150,7 @@ leaves_sound reader words files brought command name commands named written =
     let by_command : writing_of reader files brought (Some command) ≡ Ok made.0 = ap (writing_of reader files brought) (sym commands) ∙ made.1 in
     subst (IsLeft reader files (plan command) name) (sym (ap (λ w. (outcome_of w).bytes) made.1)) (leaves reader files brought command name made.0 named by_command)
 
-same_status : (ended : Status) (o : Outcome) (read_failed write_failed : Type 0) → IsAnswer ended o read_failed write_failed → IsWritten ended → IsWritten o.status
+pub same_status : (ended : Status) (o : Outcome) (read_failed write_failed : Type 0) → IsAnswer ended o read_failed write_failed → IsWritten ended → IsWritten o.status
 same_status ended o read_failed write_failed answer (inl is) = inl (subst (λ s. IsAnswer s o read_failed write_failed) is answer)
 same_status ended o read_failed write_failed answer (inr is) = inr (subst (λ s. IsAnswer s o read_failed write_failed) is answer)
 

@@ -8,7 +8,10 @@ pub mod PlanLaws
 pub mod FormatLaws
 pub mod PartNameLaws
 pub mod LeftLaws
+mod SittingLaws
+mod ResumeLaws
 pub mod AnyOrderLaws
+mod SittingOrderLaws
 pub mod TextLaws
 pub mod LockLaws
 pub mod PageLaws

@@ -6,11 +6,12 @@ use Rattle.redl_app.specs.Finishing.{Ends, Finishes}
 use Rattle.redl_app.specs.Brought.{Brought}
 use Rattle.redl_app.specs.Files.{asked_by}
 use Rattle.redl_inputs.specs.Readers.{Reader, IsReader}
+use Rattle.redl_lines.specs.Remarks.{all_refused}
 use Rattle.redl_lines.specs.Ends.{End, end_status, end_lines, written_status, remark_lines}
 use Rattle.redl_app.specs.Outcome.{writing_of}
 use Rattle.redl_app.specs.Writing.{Outcome, Writing, outcome_of}
 use Rattle.redl_inputs.specs.Reading.{IsMade, IsUnread, MayHold, UnlessUnread}
-use Rattle.redl_lines.specs.Failures.{Failure, Cause, usage, no_format, no_package, malformed, other_document, other_count, no_sequence, over, caused, unread, no_memory, failure_status, cause_status}
+use Rattle.redl_lines.specs.Failures.{Failure, Cause, usage, no_format, no_package, no_second, malformed, other_document, other_count, no_sequence, not_written, differ, over, caused, unread, no_memory, failure_status, cause_status}
 use Rattle.redl_lines.specs.Lines.{failure_line, unwritten_line}
 use Rattle.redl_lines.specs.declared.status.Status.{Status}
 use Rattle.redl_lines.specs.declared.status.Status.TheVariants as status
@@ -21,17 +22,20 @@ use Rattle.redl_lines.specs.Refused.{RefusedEntries}
 
 -- ---- the status of a cause
 
--- what holds of the five statuses of causes holds of the status of each cause
+-- what holds of the seven statuses of causes holds of the status of each cause
 pub by_cause : (Holds : Status → Type 0) → Holds status.Usage → Holds status.Package → Holds status.Journal → Holds status.Limit → Holds status.Sequence
-    → (cause : Cause) → Holds (cause_status cause)
-by_cause Holds words_ package_ journal limit sequence usage = words_
-by_cause Holds words_ package_ journal limit sequence (no_format name) = words_
-by_cause Holds words_ package_ journal limit sequence (no_package fault) = package_
-by_cause Holds words_ package_ journal limit sequence (malformed name) = journal
-by_cause Holds words_ package_ journal limit sequence (other_document name found expected) = journal
-by_cause Holds words_ package_ journal limit sequence (other_count name found expected) = journal
-by_cause Holds words_ package_ journal limit sequence (no_sequence reviewer) = sequence
-by_cause Holds words_ package_ journal limit sequence (over quantity) = limit
+    → Holds status.NotWritten → Holds status.Differ → (cause : Cause) → Holds (cause_status cause)
+by_cause Holds words_ package_ journal limit sequence not_left_ differ_ usage = words_
+by_cause Holds words_ package_ journal limit sequence not_left_ differ_ (no_format name) = words_
+by_cause Holds words_ package_ journal limit sequence not_left_ differ_ (no_package fault) = package_
+by_cause Holds words_ package_ journal limit sequence not_left_ differ_ (no_second fault) = package_
+by_cause Holds words_ package_ journal limit sequence not_left_ differ_ (malformed name) = journal
+by_cause Holds words_ package_ journal limit sequence not_left_ differ_ (other_document name found expected) = journal
+by_cause Holds words_ package_ journal limit sequence not_left_ differ_ (other_count name found expected) = journal
+by_cause Holds words_ package_ journal limit sequence not_left_ differ_ (no_sequence reviewer) = sequence
+by_cause Holds words_ package_ journal limit sequence not_left_ differ_ not_written = not_left_
+by_cause Holds words_ package_ journal limit sequence not_left_ differ_ differ = differ_
+by_cause Holds words_ package_ journal limit sequence not_left_ differ_ (over quantity) = limit
 
 -- ---- the outcome of what was due
 
@@ -50,14 +54,14 @@ answer_failed (unread name) due failed w (inl h) = inl h
 answer_failed (unread name) due failed w (inr h) = inr (ap (λ d. (outcome_of d).status) h)
 answer_failed (caused cause) due failed w h =
     let o = outcome_of due in
-    by_cause (λ s. o.status ≡ s → IsAnswer s o failed w) (λ is. is) (λ is. is) (λ is. is) (λ is. is) (λ is. is) cause (ap (λ d. (outcome_of d).status) h)
+    by_cause (λ s. o.status ≡ s → IsAnswer s o failed w) (λ is. is) (λ is. is) (λ is. is) (λ is. is) (λ is. is) (λ is. is) (λ is. is) cause (ap (λ d. (outcome_of d).status) h)
 
 pub answer_by : {K : Type 0} (told : K → Option (List ℕ)) (faults : K → ℕ) (old new : K) (made : Result Writing Failure) (end : End) (due : Result Writing Failure) (failed : Type 0)
     → Finishes told faults old new made end → IsMade made due failed → IsAnswer (end_status end) (outcome_of due) failed (Rose (faults old) (faults new))
 answer_by told faults old new (Ok writing) end due failed (inl (is, all)) h =
-    rw is (answer_written writing.remarks.refused (outcome_of due) failed (Rose (faults old) (faults new)) (ap (λ d. (outcome_of d).status) h))
+    rw is (answer_written (all_refused writing.remarks) (outcome_of due) failed (Rose (faults old) (faults new)) (ap (λ d. (outcome_of d).status) h))
 answer_by told faults old new (Ok writing) end due failed (inr (is, front)) h =
-    rw is (front.rose, subst IsWritten (sym (ap (λ d. (outcome_of d).status) h)) (is_written writing.remarks.refused))
+    rw is (front.rose, subst IsWritten (sym (ap (λ d. (outcome_of d).status) h)) (is_written (all_refused writing.remarks)))
 answer_by told faults old new (Err failure) end due failed (is, same, stands) h =
     rw is (answer_failed failure due failed (Rose (faults old) (faults new)) h)
 
@@ -68,13 +72,13 @@ writes_written told (entry ∷ refused) old new bytes is = is
 writes_nothing : {K : Type 0} (told : K → Option (List ℕ)) (failure : Failure) (old new : K) (bytes : List ℕ) → told new ≡ told old → Writes told old new (failure_status failure) bytes
 writes_nothing told no_memory old new bytes is = is
 writes_nothing told (unread name) old new bytes is = is
-writes_nothing told (caused cause) old new bytes is = by_cause (λ s. Writes told old new s bytes) is is is is is cause
+writes_nothing told (caused cause) old new bytes is = by_cause (λ s. Writes told old new s bytes) is is is is is is is cause
 
 pub writes_by : {K : Type 0} (told : K → Option (List ℕ)) (faults : K → ℕ) (old new : K) (made : Result Writing Failure) (end : End) (due : Result Writing Failure) (failed : Type 0)
     → Finishes told faults old new made end → IsMade made due failed → Writes told old new (end_status end) (outcome_of due).bytes
 writes_by told faults old new (Ok writing) end due failed (inl (is, all)) h =
-    rw is (subst (λ bytes. Writes told old new (written_status writing.remarks.refused) bytes) (sym (ap (λ d. (outcome_of d).bytes) h))
-    (writes_written told writing.remarks.refused old new writing.bytes all.bytes))
+    rw is (subst (λ bytes. Writes told old new (written_status (all_refused writing.remarks)) bytes) (sym (ap (λ d. (outcome_of d).bytes) h))
+    (writes_written told (all_refused writing.remarks) old new writing.bytes all.bytes))
 writes_by told faults old new (Ok writing) end due failed (inr (is, front)) h =
     rw is (subst (λ bytes. GrowsByFront (told old) (told new) bytes) (sym (ap (λ d. (outcome_of d).bytes) h)) front.bytes)
 writes_by told faults old new (Err failure) end due failed (is, same, stands) h =
@@ -97,13 +101,13 @@ lines_failed (unread name) due words brought names shelf failed named (inr h) u 
     inl (ap (λ d. (outcome_of d).status) h, sym (ap (λ d. (outcome_of d).lines) h))
 lines_failed (caused cause) due words brought names shelf failed named h u =
     let is : failure_line (caused cause) ≡ (outcome_of due).lines = sym (ap (λ d. (outcome_of d).lines) h) in
-    by_cause (λ s. AreLines s (outcome_of due) words brought failed (failure_line (caused cause))) is is is is is cause
+    by_cause (λ s. AreLines s (outcome_of due) words brought failed (failure_line (caused cause))) is is is is is is is cause
 
 pub lines_by : {K : Type 0} (told : K → Option (List ℕ)) (faults : K → ℕ) (old new : K) (made : Result Writing Failure) (end : End) (due : Result Writing Failure) (words : List (List ℕ)) (brought : Brought) (names : List (List ℕ)) (shelf : Option Files) (failed : Type 0)
     → AreNamed words brought names → Finishes told faults old new made end → IsMade made due failed → IsUnread made names shelf failed
     → AreLines (end_status end) (outcome_of due) words brought failed (end_lines end)
 lines_by told faults old new (Ok writing) end due words brought names shelf failed named (inl (is, all)) h u =
-    rw is (lines_written writing.remarks.refused (outcome_of due) words brought failed (remark_lines writing.remarks) (sym (ap (λ d. (outcome_of d).lines) h)))
+    rw is (lines_written (all_refused writing.remarks) (outcome_of due) words brought failed (remark_lines writing.remarks) (sym (ap (λ d. (outcome_of d).lines) h)))
 lines_by told faults old new (Ok writing) end due words brought names shelf failed named (inr (is, front)) h u =
     rw is (ap (λ l. l ++ unwritten_line) (sym (ap (λ d. (outcome_of d).lines) h)))
 lines_by told faults old new (Err failure) end due words brought names shelf failed named (is, same, stands) h u =
@@ -160,7 +164,7 @@ no_read_fault (entry ∷ refused) is = absurd (cc is)
 
 not_read_fault : {Holds : Type 0} (cause : Cause) → cause_status cause ≡ status.ReadFault → Holds
 not_read_fault cause is =
-    absurd (by_cause (λ s. s ≡ status.ReadFault → ⊥) (λ e. absurd (cc e)) (λ e. absurd (cc e)) (λ e. absurd (cc e)) (λ e. absurd (cc e)) (λ e. absurd (cc e)) cause is)
+    absurd (by_cause (λ s. s ≡ status.ReadFault → ⊥) (λ e. absurd (cc e)) (λ e. absurd (cc e)) (λ e. absurd (cc e)) (λ e. absurd (cc e)) (λ e. absurd (cc e)) (λ e. absurd (cc e)) (λ e. absurd (cc e)) cause is)
 
 may_fault : (failure : Failure) (words : List (List ℕ)) (brought : Brought) (names : List (List ℕ)) (shelf : Option Files) (failed : Type 0) → AreNamed words brought names
     → IsUnread {Y = Writing} (Err failure) names shelf failed → failure_status failure ≡ status.ReadFault → MayFault words brought shelf failed
@@ -170,7 +174,7 @@ may_fault (caused cause) words brought names shelf failed named u is = not_read_
 
 read_by : {K : Type 0} (told : K → Option (List ℕ)) (faults : K → ℕ) (old new : K) (made : Result Writing Failure) (end : End) (words : List (List ℕ)) (brought : Brought) (names : List (List ℕ)) (shelf : Option Files) (failed : Type 0) → AreNamed words brought names
     → Finishes told faults old new made end → IsUnread made names shelf failed → end_status end ≡ status.ReadFault → MayFault words brought shelf failed
-read_by told faults old new (Ok writing) end words brought names shelf failed named (inl (is, all)) u fault = absurd (no_read_fault writing.remarks.refused (sym (ap end_status is) ∙ fault))
+read_by told faults old new (Ok writing) end words brought names shelf failed named (inl (is, all)) u fault = absurd (no_read_fault (all_refused writing.remarks) (sym (ap end_status is) ∙ fault))
 read_by told faults old new (Ok writing) end words brought names shelf failed named (inr (is, front)) u fault = absurd (cc (sym (ap end_status is) ∙ fault))
 read_by told faults old new (Err failure) end words brought names shelf failed named (is, same, stands) u fault =
     may_fault failure words brought names shelf failed named u (sym (ap end_status is) ∙ fault)
@@ -190,11 +194,11 @@ failed_no_write_fault : (failure : Failure) → failure_status failure ≡ statu
 failed_no_write_fault no_memory is = absurd (cc is)
 failed_no_write_fault (unread name) is = absurd (cc is)
 failed_no_write_fault (caused cause) is =
-    by_cause (λ s. s ≡ status.WriteFault → ⊥) (λ e. absurd (cc e)) (λ e. absurd (cc e)) (λ e. absurd (cc e)) (λ e. absurd (cc e)) (λ e. absurd (cc e)) cause is
+    by_cause (λ s. s ≡ status.WriteFault → ⊥) (λ e. absurd (cc e)) (λ e. absurd (cc e)) (λ e. absurd (cc e)) (λ e. absurd (cc e)) (λ e. absurd (cc e)) (λ e. absurd (cc e)) (λ e. absurd (cc e)) cause is
 
 pub write_cause : {K : Type 0} (told : K → Option (List ℕ)) (faults : K → ℕ) (old new : K) (made : Result Writing Failure) (end : End)
     → Finishes told faults old new made end → end_status end ≡ status.WriteFault → Rose (faults old) (faults new)
-write_cause told faults old new (Ok writing) end (inl (is, all)) fault = absurd (no_write_fault writing.remarks.refused (sym (ap end_status is) ∙ fault))
+write_cause told faults old new (Ok writing) end (inl (is, all)) fault = absurd (no_write_fault (all_refused writing.remarks) (sym (ap end_status is) ∙ fault))
 write_cause told faults old new (Ok writing) end (inr (is, front)) fault = front.rose
 write_cause told faults old new (Err failure) end (is, same, stands) fault = absurd (failed_no_write_fault failure (sym (ap end_status is) ∙ fault))
 
@@ -213,7 +217,7 @@ untouched_written (entry ∷ refused) not_done not_refused = not_refused refl
 pub untouched : {K : Type 0} (told : K → Option (List ℕ)) (faults : K → ℕ) (old new : K) (made : Result Writing Failure) (end : End)
     → Finishes told faults old new made end → end_status end ≢ status.Done → end_status end ≢ status.Refused → end_status end ≢ status.WriteFault → told new ≡ told old
 untouched told faults old new (Ok writing) end (inl (is, all)) not_done not_refused not_failed =
-    absurd (untouched_written writing.remarks.refused (λ e. not_done (ap end_status is ∙ e)) (λ e. not_refused (ap end_status is ∙ e)))
+    absurd (untouched_written (all_refused writing.remarks) (λ e. not_done (ap end_status is ∙ e)) (λ e. not_refused (ap end_status is ∙ e)))
 untouched told faults old new (Ok writing) end (inr (is, front)) not_done not_refused not_failed = absurd (not_failed (ap end_status is))
 untouched told faults old new (Err failure) end (is, same, stands) not_done not_refused not_failed = same
 
@@ -244,6 +248,8 @@ answered_surely status.Package o read_failed write_failed reads writes h = inl (
 answered_surely status.Journal o read_failed write_failed reads writes h = inl (sym h)
 answered_surely status.Limit o read_failed write_failed reads writes h = inl (sym h)
 answered_surely status.Sequence o read_failed write_failed reads writes h = inl (sym h)
+answered_surely status.NotWritten o read_failed write_failed reads writes h = inl (sym h)
+answered_surely status.Differ o read_failed write_failed reads writes h = inl (sym h)
 
 pub never_rose : Rose 0 0 → ⊥
 never_rose rose = absurd (omega (arith, rose.more))

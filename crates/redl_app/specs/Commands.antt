@@ -9,3 +9,4 @@ pub mod Join
 pub mod Check
 pub mod Decide
 pub mod Sample
+pub mod Resume

@@ -8,6 +8,8 @@ pub mod Files
 pub mod Outcome
 pub mod Answers
 pub mod Left
+pub mod Sittings
+pub mod FirstSittings
 pub mod AnyOrder
 pub mod Views
 pub mod Finishing

@@ -1,11 +1,12 @@
 -- The plan of each command: what it makes and of which package, its journals and locks, its format, and what it decides.
-use Rattle.std.specs.Prelude.{ℕ, Bool, List, [], Option, None, Some, Result, Err}
+use Rattle.std.specs.Prelude.{◌++◌, ◌∷◌, ℕ, Bool, List, [], Option, None, Some, Result, Err}
 use Rattle.redl_app.specs.Commands.Check.{checked}
 use Rattle.redl_app.specs.Commands.Decide.{chosen_journal}
 use Rattle.redl_app.specs.Commands.Join.{joined}
 use Rattle.redl_app.specs.Commands.List.{listed}
 use Rattle.redl_app.specs.Commands.Page.{paged}
 use Rattle.redl_app.specs.Commands.Report.{reported}
+use Rattle.redl_app.specs.Commands.Resume.{resumed}
 use Rattle.redl_app.specs.Commands.Sample.{sampled}
 use Rattle.redl_app.specs.Commands.Settle.{settled}
 use Rattle.redl_app.specs.Commands.Text.{viewed}
@@ -20,7 +21,7 @@ use Rattle.redl_io.specs.Limits.{journal_bytes}
 use Rattle.redl_io.specs.Shelf.{Files}
 use Rattle.redl_lines.specs.Failures.{Failure, no_memory}
 use Rattle.redl_select.specs.declared.lock.Lock.{Lock}
-use Rattle.redl_words.specs.Commands.{Command, settle, view_text, list, report, page, write, decide, join, check, sample}
+use Rattle.redl_words.specs.Commands.{Command, settle, view_text, list, report, page, write, decide, resume, join, check, sample}
 
 -- what a command makes
 pub data Making : Type 0 where
@@ -37,8 +38,8 @@ pub data Deciding : Type 0 where
   -- the verdicts of its journals, with its locks
   by_verdicts : Deciding
 
--- what a command makes and of which package, the names of its journals, its locks, the name of the format of listings or of
--- reports that it asks for, and what it decides
+-- what a command makes and of which package, the names of its journals and of a second package among them, its locks, the name of
+-- the format of listings or of reports that it asks for, and what it decides
 pub record Plan : Type 0 where
   pub makes : Making
   pub journals : List (List ℕ)
@@ -81,6 +82,9 @@ plan (decide p reviewer journals locks choices rank) =
       journals = journals;
       locks = locks;
     }
+plan (resume p q firsts journals) = record (only (of_package p (λ reader files brought whole. resumed reader files q firsts journals whole))) {
+  journals = firsts ++ q ∷ journals;
+}
 plan (join journals) = record (only (of_no_package (λ reader files. joined reader files journal_bytes journals))) {
   journals = journals;
 }

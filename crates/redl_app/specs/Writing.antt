@@ -3,7 +3,7 @@ use Rattle.std.specs.Prelude.{ℕ, List, [], Result, Ok, Err}
 use Rattle.redl_lines.specs.Ends.{written_status, remark_lines}
 use Rattle.redl_lines.specs.Failures.{Failure, failure_status}
 use Rattle.redl_lines.specs.Lines.{failure_line}
-use Rattle.redl_lines.specs.Remarks.{Remarks, no_remarks}
+use Rattle.redl_lines.specs.Remarks.{Remarks, all_refused, no_remarks}
 use Rattle.redl_lines.specs.declared.status.Status.{Status}
 
 -- what a call writes: bytes, and what there is to remark
@@ -25,7 +25,7 @@ pub record Outcome : Type 0 where
 abbrev pub outcome_of : Result Writing Failure → Outcome
 outcome_of (Err failure) = record { status = failure_status failure; bytes = []; lines = failure_line failure }
 outcome_of (Ok writing) = record {
-  status = written_status writing.remarks.refused;
+  status = written_status (all_refused writing.remarks);
   bytes = writing.bytes;
   lines = remark_lines writing.remarks;
 }

@@ -1,9 +1,9 @@
 //! A sink that keeps all bytes.
 
-ghost use Rattle.std.specs.Prelude.{◌≡◌, [], Some, length};
+ghost use Rattle.std.specs.Prelude.{◌≡◌, [], IfOk, Some, length};
 
 use redl_io::{Failed, Sink};
-use std::alloc::Global;
+use std::alloc::{AllocError, Global};
 
 /// The bytes that were put. A put fails only where memory runs out, and then it takes none.
 #[derive(Drop)]
@@ -23,6 +23,16 @@ impl Collected {
             bytes: Vec::new(alloc),
             faults: 0,
         }
+    }
+
+    /// No bytes, and room for so many. `Err` means out of memory.
+    pub(crate) fn with_room(alloc: Global, room: usize) -> Result<Collected, AllocError>
+        ensures { IfOk result (λ sink. sink.bytes.items ≡ []) }
+    {
+        Ok(Collected {
+            bytes: Vec::with_capacity(alloc, room)?,
+            faults: 0,
+        })
     }
 }
 

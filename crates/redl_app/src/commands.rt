@@ -24,6 +24,7 @@ use redl_page::Skin;
 use redl_report::ReportFormat;
 use redl_words::Command;
 use report::report_package;
+use resume::resume;
 use sample::sample;
 use settle::settle;
 use std::alloc::Global;
@@ -36,6 +37,7 @@ mod join;
 mod list;
 mod page;
 mod report;
+mod resume;
 mod sample;
 mod settle;
 mod shown;
@@ -134,6 +136,22 @@ pub(crate) fn carry_out<'a, F: Shelf, O: Sink>(
                 locks,
                 journals,
                 choices,
+                text.unwrap(),
+                shelf,
+            ),
+            out,
+        ),
+        Command::Resume {
+            second,
+            firsts,
+            journals,
+            ..
+        } => put(
+            resume(
+                alloc,
+                name_of(second),
+                firsts,
+                journals,
                 text.unwrap(),
                 shelf,
             ),

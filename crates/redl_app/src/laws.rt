@@ -1,10 +1,11 @@
 //! What holds of every outcome of a call, and of the readers that it is told by.
 
 ghost use Rattle.std.specs.Prelude.{◌≡◌, ◌≤◌, ℕ, List};
-ghost use Rattle.redl_app.specs.AnyOrder.{OrderDoesNotCount};
+ghost use Rattle.redl_app.specs.AnyOrder.{OrderDoesNotCount, OrderOfSittings};
 ghost use Rattle.redl_app.specs.Brought.{Brought};
 ghost use Rattle.redl_app.specs.Left.{LeavesSound};
 ghost use Rattle.redl_app.specs.Outcome.{outcome};
+ghost use Rattle.redl_app.specs.Sittings.{DifferExactly, SittingsAgree};
 ghost use Rattle.redl_inputs.specs.Readers.{Reader, IsReader};
 ghost use Rattle.redl_io.specs.Shelf.{Files};
 ghost use Rattle.redl_lines.specs.Lines.{sample_paragraphs};
@@ -34,6 +35,17 @@ pub fn what_is_left_is_sound()
     ensures { (reader : Reader) (words : List (List ℕ)) (files : Files) (brought : Brought) → LeavesSound reader words files brought }
 {}
 
+/// One journal of two sittings, where it is written, is that of the joined book, and both sittings come to the same text.
+pub fn sittings_agree()
+    ensures { (reader : Reader) (words : List (List ℕ)) (files : Files) (brought : Brought) → SittingsAgree reader words files brought }
+{}
+
+/// A call for one journal of two sittings has the status 12 exactly where no other refusal holds and the sittings come to different
+/// texts.
+pub fn sittings_differ()
+    ensures { (reader : Reader) (words : List (List ℕ)) (files : Files) (brought : Brought) → DifferExactly reader words files brought }
+{}
+
 /// A call for a sample that is within its limit comes to its summary: the sample is a sound package.
 pub fn samples_are_written()
     ensures { (reader : Reader) → IsReader reader → (words : List (List ℕ)) (files : Files) (brought : Brought) (number : ℕ)
@@ -46,4 +58,10 @@ pub fn samples_are_written()
 /// they have the same status, bytes and lines. A repeat counts only for the limit on the bytes of all journals.
 pub fn order_does_not_count()
     ensures { (reader : Reader) (files : Files) (brought : Brought) → OrderDoesNotCount reader files brought }
+{}
+
+/// The same of one journal of two sittings: neither the order of the journals of the first package nor that of those of the second one
+/// counts, and repeats do not.
+pub fn order_of_sittings_does_not_count()
+    ensures { (reader : Reader) (files : Files) (brought : Brought) → OrderOfSittings reader files brought }
 {}

@@ -16,7 +16,8 @@ mod top;
 mod words;
 
 pub use laws::{
-    a_reader, one_outcome, order_does_not_count, samples_are_written, what_is_left_is_sound,
+    a_reader, one_outcome, order_does_not_count, order_of_sittings_does_not_count,
+    samples_are_written, sittings_agree, sittings_differ, what_is_left_is_sound,
 };
 pub use redl_inputs::{JOURNALS_LIMIT, PACKAGE_LIMIT};
 pub use redl_lines::Status;

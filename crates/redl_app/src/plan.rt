@@ -22,6 +22,7 @@ pub(crate) fn package(command: &Command) -> Option<&str>
         | Command::Page { package, .. }
         | Command::Write { package, .. }
         | Command::Decide { package, .. }
+        | Command::Resume { package, .. }
         | Command::Check { package } => Some(name_of(package)),
         Command::Join { .. } | Command::Sample { .. } => None,
     }

@@ -11,6 +11,7 @@ ghost use Rattle.redl_app.specs.Finishing.{Ends, IsWanted, words_failure};
 ghost use Rattle.redl_app.specs.Brought.{brought_by};
 ghost use Rattle.redl_app.specs.Formats.{AreFresh, LeavesFormats, formats_by, has_format, without_asked};
 ghost use Rattle.redl_app.specs.Left.{Leaves};
+ghost use Rattle.redl_app.specs.Sittings.{Resumes};
 ghost use Rattle.redl_app.specs.Outcome.{carried_out, outcome};
 ghost use Rattle.redl_app.specs.Plans.{has_asked, plan};
 ghost use Rattle.redl_app.specs.Views.{named_files, read_view};
@@ -91,6 +92,8 @@ pub fn run<F: Shelf, O: Sink, E: Sink>(
         (brought_by format_name text_for formats.old.items report_name report_text reports.old.items skin.now)
         (λ outcome. Writes O.told out.old out.new result outcome.bytes) }
     ensures left { Leaves result (F.told shelf.old) words.now
+        (brought_by format_name text_for formats.old.items report_name report_text reports.old.items skin.now) }
+    ensures resumes { Resumes result (F.told shelf.old) words.now
         (brought_by format_name text_for formats.old.items report_name report_text reports.old.items skin.now) }
     ensures untouched { result ≢ Status.Done → result ≢ Status.Refused → result ≢ Status.WriteFault → O.told out.new ≡ O.told out.old }
     ensures lines { OfOutcome (F.told shelf.old) words.now

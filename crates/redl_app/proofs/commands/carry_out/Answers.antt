@@ -100,3 +100,19 @@ returns-in-Report-clause-ends g c = record {
       (rw (c.name_of-in-Report.ensures, c.deref-in-Report.ensures.value, c.deref-in-Report-2.ensures.value) at c.report_package.ensures.read);
   finishes = c.put-in-Report.ensures;
 }
+
+pub name_of-requires-in-Resume : goal.name_of-requires-in-Resume
+name_of-requires-in-Resume g c = (rw c.in-Resume.is at c.requires.utf8).1
+
+pub resume-requires-clause-firsts : goal.resume-requires-clause-firsts
+resume-requires-clause-firsts g c = rw c.deref-in-Resume.ensures.value (rw c.in-Resume.is at c.requires.utf8).2
+
+pub resume-requires-clause-seconds : goal.resume-requires-clause-seconds
+resume-requires-clause-seconds g c = rw c.deref-in-Resume-2.ensures.value (rw c.in-Resume.is at c.requires.utf8).3
+
+pub returns-in-Resume-clause-ends : goal.returns-in-Resume-clause-ends
+returns-in-Resume-clause-ends g c = record {
+  made = result_view writing_view c.resume.result;
+  reads = rw (c.in-Resume.is, c.unwrap-in-Resume.ensures) (rw (c.name_of-in-Resume.ensures, c.deref-in-Resume.ensures.value, c.deref-in-Resume-2.ensures.value) at c.resume.ensures);
+  finishes = c.put-in-Resume.ensures;
+}

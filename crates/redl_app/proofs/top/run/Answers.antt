@@ -1,5 +1,6 @@
 use Rattle.std.proofs.Common.{◌≡◌, ◌∙◌, sym, ℕ, List}
 use Rattle.redl_app.proofs.LeftLaws.{leaves_package}
+use Rattle.redl_app.proofs.SittingLaws.{call_resumes}
 use Rattle.redl_app.proofs.TopLaws.{due_by, answers, writes, tells, read_cause, write_cause, out_stands, untouched, shelf_stands}
 use Rattle.redl_app.proofs.WordLaws.{are_named, is_wanted, ends_as_usage, leaves_by_words, leaves_all, names_asked}
 use Rattle.redl_app.specs.Brought.{brought_by}
@@ -86,3 +87,10 @@ returns-clause-taken_report g c = λ command reads.
 pub returns-clause-no_report : goal.returns-clause-no_report
 returns-clause-no_report g c = λ none.
     leaves_all _ _ c.args.words.now c.read_words-read.result c.read_words-read.ensures.found c.end_of_words-end.ensures.no_report none
+
+pub returns-clause-resumes : goal.returns-clause-resumes
+returns-clause-resumes g c =
+    let brought = brought_by (λ b. (goal.RowFormat-dyn g (b.vtable, b.value)).format_name b.value) (λ b. (goal.RowFormat-dyn g (b.vtable, b.value)).text_for b.value) c.args.formats.now.items (λ b. (goal.ReportFormat-dyn g (b.vtable, b.value)).report_name b.value) (λ b. (goal.ReportFormat-dyn g (b.vtable, b.value)).report_text b.value) c.args.reports.now.items c.args.skin.now in
+    call_resumes c.status.result (g.F.Shelf.told c.args.shelf.now) c.args.words.now brought
+    (Rose (g.F.Shelf.faults c.args.shelf.now) (g.F.Shelf.faults c.end_of_words-end.new.shelf)) (Rose (g.O.Sink.faults c.args.out.now) (g.O.Sink.faults c.end_of_words-end.new.out))
+    (returns-clause-status g c)
