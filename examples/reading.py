@@ -566,6 +566,32 @@ def decide(package, reviewer, entries, choices, locks=(), rank=0):
     return in_order(book + admitted(package, new, locks)), refused_lines(package, list(entries) + new, locks)
 
 
+# Two sittings
+
+
+def first_numbers(package, says, second):
+    """By each number of `second`, which is what these says leave of the package, its number in the package or 0."""
+    tagged = Package(package.text)
+    for _, root in tagged.stories:
+        for element in elements([root]):
+            element.tail += ' number="%d"' % element.number
+    firsts = {}
+    for (_, left), (_, root) in zip(Package(decided(tagged, says)).stories, second.stories):
+        for before, after in zip(elements([left]), elements([root])):
+            firsts.setdefault(after.number, int(re.search(r' number="(\d+)"\Z', before.tail).group(1)))
+    return firsts
+
+
+def resumed(package, entries, second, later):
+    """The entries of the journal of two sittings, or None where they come to different texts."""
+    book = admitted(package, entries)
+    decides = lambda number: verdict(number, book) if verdict(number, book) in ("accept", "reject") else None
+    firsts = first_numbers(package, decides, second)
+    kept = [entry for entry in book if decides(entry.revision)]
+    joined = in_order(kept + [entry._replace(revision=firsts[entry.revision]) for entry in admitted(second, later) if firsts[entry.revision]])
+    return joined if written(package, joined) == written(second, later) else None
+
+
 # Listings
 
 

@@ -4,12 +4,14 @@
 //! The other lines are these, in any order; a block without `words` is a heading.
 //!
 //! - `words: write P --lock "Cy & Co" J`: the words of the command line, one of them in quotes; `P` is the package, and the
-//!   other names are journals
+//!   other names but `Q` are journals
 //! - `P: <w:p/>`: the body of the package, which is a document with this one part
 //! - `text: ..`: the whole text of the package, in place of a body
 //! - `J: 1 1 accept Ann; 2 1 withdraw Ann`: the entries of the journal `J`: sequence number, revision, word, reviewer
 //! - `J ranked: 1 1 accept 2 Ann`: the same in version 2, with the rank before the reviewer
 //! - `J text: ..`: the whole text of the journal `J`, in place of its entries
+//! - `Q: <w:p/>`: the body of a second package, which the words call `Q`
+//! - `K of Q: 1 1 accept Bob`, `K ranked of Q: 1 1 accept 2 Bob`: the entries of a journal of the second package
 //! - `revisions: 2`: the number of revisions that the journals tell; without it they tell the right one
 //! - `again: check P`: the words of a second call, for which what the first one wrote is the package
 //!

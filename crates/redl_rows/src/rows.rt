@@ -55,14 +55,16 @@ fn field<'a>(row: &'a str, name: &str) -> Option<&'a str> {
 fn package_of(alloc: Global, row: &str) -> Result<String, AllocError> {
     match field(row, "text") {
         Some(text) => spell_out(alloc, text),
-        None => {
-            let body = field(row, "P").unwrap_or("");
-            spell_out(alloc, format!(in alloc; "{FRONT}{body}{BACK}")?.as_str())
-        }
+        None => package_with(alloc, field(row, "P").unwrap_or("")),
     }
 }
 
-// The package, and the journals that the words name.
+// The text of a package with this body.
+fn package_with(alloc: Global, body: &str) -> Result<String, AllocError> {
+    spell_out(alloc, format!(in alloc; "{FRONT}{body}{BACK}")?.as_str())
+}
+
+// The package, the second package where the row has one, and the journals that the words name.
 fn files_of(
     alloc: Global,
     row: &str,
@@ -70,26 +72,40 @@ fn files_of(
     package: &[u8],
 ) -> Result<Vec<(Text, Vec<u8>)>, AllocError> {
     let mut files = only_package(alloc, package)?;
-    for name in words.split(' ').filter(|name| *name != "P") {
-        if let Some(journal) = file_of(alloc, row, package, name)? {
+    let second = match field(row, "Q") {
+        Some(body) => package_with(alloc, body)?,
+        None => String::new(alloc),
+    };
+    if !second.is_empty() {
+        add_file(alloc, &mut files, "Q", second.as_bytes())?;
+    }
+    for name in words.split(' ').filter(|name| *name != "P" && *name != "Q") {
+        if let Some(journal) = file_of(alloc, row, package, second.as_bytes(), name)? {
             add_file(alloc, &mut files, name, journal.as_bytes())?;
         }
     }
     Ok(files)
 }
 
-// The text of the journal of this name, where the row has one.
+// The text of the journal of this name, where the row has one, of the package or of the second one.
 fn file_of(
     alloc: Global,
     row: &str,
     package: &[u8],
+    second: &[u8],
     name: &str,
 ) -> Result<Option<String>, AllocError> {
     if let Some(text) = field(row, format!(in alloc; "{name} text")?.as_str()) {
         return Ok(Some(spell_out(alloc, text)?));
     }
-    if let Some(entries) = field(row, format!(in alloc; "{name} ranked")?.as_str()) {
-        return Ok(Some(journal_of(alloc, row, package, 2, entries)?));
+    for (kind, package, version) in [
+        ("ranked", package, 2),
+        ("of Q", second, 1),
+        ("ranked of Q", second, 2),
+    ] {
+        if let Some(entries) = field(row, format!(in alloc; "{name} {kind}")?.as_str()) {
+            return Ok(Some(journal_of(alloc, row, package, version, entries)?));
+        }
     }
     match field(row, name) {
         Some(entries) => Ok(Some(journal_of(alloc, row, package, 1, entries)?)),

@@ -17,6 +17,7 @@ pub const HELP: &str =
   redline settle accept P       writes P with each change accepted
   redline settle reject P       writes P with each change rejected
   redline join J ..             writes the journal of several journals together
+  redline resume P Q --journal J K  writes one journal for P; write made Q of it by J, K decides Q
   redline sample N              decides a made-up document of N paragraphs, and tells what came out
 
 P is a document that Word saved as \"Word XML Document (*.xml)\"; redline-docx takes a .docx.
@@ -38,7 +39,7 @@ SPAN is two dates, the second not included: 2026-11-01T00:00:00Z/2026-11-02T00:0
 
 Exit status: 0 done, 1 done and some entries refused, 2 usage, 3 package, 4 journal,
 5 a file can't be read, 6 the output failed, 7 a limit is passed, 8 out of memory,
-9 no sequence number is left for the reviewer.
+9 no sequence number is left for the reviewer, 11 Q is not what P gives, 12 the sittings differ.
 
 A whole round:
   redline list contract.xml
