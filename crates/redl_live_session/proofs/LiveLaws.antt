@@ -1,0 +1,72 @@
+-- The invariant of a session with an editor, after entries.
+use Rattle.std.proofs.Common.{◌≡◌, ◌∙◌, sym, ap, subst, ℕ, zero, suc, ◌-◌, ◌<◌, ◌≤◌, true, List, [], None, replicate, set, length, arith}
+use Rattle.std.specs.Prelude.{not}
+use Rattle.redl_editor.specs.Documents.{Document}
+use Rattle.redl_index.specs.Numbers.{numbered_package}
+use Rattle.redl_index.specs.declared.revision.Revision.{Revision}
+use Rattle.redl_join.proofs.Unions.{book-none, book-union, not_true, without-with}
+use Rattle.redl_join.specs.Books.{has_entry, union, with_entry, without_entry}
+use Rattle.redl_join.specs.Verdicts.{verdict_at}
+use Rattle.redl_journal.specs.declared.entry.Entry.{Entry}
+use Rattle.redl_rules.specs.Attributes.{broken_rule}
+use Rattle.redl_select.specs.declared.lock.Lock.{Lock}
+use Rattle.redl_session.proofs.Consistency.{consistent-with}
+use Rattle.redl_session.proofs.SaysLaws.{says_of-none}
+use Rattle.redl_session.specs.Refusals.{admitted}
+use Rattle.redl_session.specs.Says.{say_of_verdict, says_of}
+use Rattle.redl_session.specs.Sessions.{IsConsistent, State}
+use Rattle.redl_tree.specs.Leaves.Settings.{set_say}
+use Rattle.redl_tree.specs.Model.Nodes.{Nodes}
+use Rattle.redl_tree.specs.declared.kinds.Say.{Say}
+use Rattle.redl_tree.specs.declared.kinds.Say.TheVariants.{Keep}
+
+-- what contracts see of a session with this editor
+abbrev pub state_of : Document → List Revision → List Lock → List Entry → State
+state_of document revisions locks book = record { nodes = document.nodes; revisions = revisions; locks = locks; book = book }
+
+-- an editor in which nothing is decided
+pub live-begun : (editor : Document) (pkg : Nodes) (revisions : List Revision) (book : List Entry) (count : ℕ)
+    → editor ≡ record { nodes = pkg; says = replicate count Keep } → count ≡ length revisions → book ≡ []
+    → numbered_package pkg ≡ pkg → broken_rule pkg ≡ None → IsConsistent editor.nodes revisions book editor.says
+live-begun editor pkg revisions book count is many none numbered sound =
+    subst (λ (d : Document). IsConsistent d.nodes revisions book d.says) (sym is)
+    (record {
+      numbered = numbered;
+      sound = sound;
+      ordered = rw none book-none;
+      decided = ap (λ (n : ℕ). replicate n Keep) many ∙ says_of-none (length revisions) ∙ ap (λ (b : List Entry). says_of b (length revisions)) (sym none);
+    })
+
+-- numbers begin with 1
+set-is : (said : List Say) (rev : ℕ) (say : Say) → 0 < rev → set said (rev - 1) say ≡ set_say said rev say
+set-is said zero say some = absurd (omega (arith, some))
+set-is said (suc n) say some = let at : suc n - 1 ≡ n = omega arith in ap (λ (k : ℕ). set said k say) at
+
+-- a new entry, whose revision got the say of its verdict
+pub live-with : (old new : Document) (revisions : List Revision) (book later : List Entry) (entry : Entry) (say : Say)
+    → IsConsistent old.nodes revisions book old.says → 0 < entry.rev → entry.rev ≤ length revisions
+    → later ≡ with_entry book entry → say ≡ say_of_verdict (verdict_at later entry.rev)
+    → new ≡ record { nodes = old.nodes; says = set_say old.says entry.rev say }
+    → IsConsistent new.nodes revisions later new.says
+live-with old new revisions book later entry say kept some within is said made =
+    subst (λ (d : Document). IsConsistent d.nodes revisions later d.says) (sym made)
+    (subst (λ (s : List Say). IsConsistent old.nodes revisions later s) (set-is old.says entry.rev say some)
+    (consistent-with old.nodes revisions book later old.says entry say kept some within is said))
+
+-- an entry that was new, and was removed again
+pub book-back : (book added removed : List Entry) (entry : Entry) → added ≡ with_entry book entry → true ≡ not (has_entry book entry)
+    → removed ≡ without_entry added entry → removed ≡ book
+book-back book added removed entry is new gone =
+    gone ∙ ap (λ (b : List Entry). without_entry b entry) is ∙ without-with book entry (not_true (has_entry book entry) new)
+
+-- another book, whose verdicts have been set
+pub live-turned : (old new : Document) (revisions : List Revision) (locks : List Lock) (book later entries : List Entry)
+    → IsConsistent old.nodes revisions book old.says → later ≡ union book (admitted revisions locks entries)
+    → new.nodes ≡ old.nodes → new.says ≡ says_of later (length revisions)
+    → IsConsistent new.nodes revisions later new.says
+live-turned old new revisions locks book later entries kept is nodes said = record {
+  numbered = rw nodes kept.numbered;
+  sound = rw nodes kept.sound;
+  ordered = rw is (book-union book (admitted revisions locks entries) kept.ordered);
+  decided = said;
+}
