@@ -4,15 +4,20 @@
     lines.py PAPER
 
 Each fenced block "sh" is run by sh, in the order of the paper and in one folder, so that a later one finds what an earlier one
-wrote. A block whose first word no PATH has is skipped. Where a block "text" follows at once, it is what the commands print; in
-it a line ".." stands for any lines. A block ends with status 0, or with 1 where a line of it says that an entry was refused.
-Blocks of other kinds, as "console", are not run. A block "make" is written to the file Makefile.
+wrote. A block is skipped where no PATH has the first word of a line, or what that word needs. Where a block "text" follows at
+once, it is what the commands print; in it a line ".." stands for any lines. A block ends with status 0, or with 1 where a line of
+it says that an entry was refused. Blocks of other kinds, as "console", are not run. A block "make" is written to the file
+Makefile.
 """
 import os
 import re
 import shutil
 import subprocess
 import sys
+
+
+# What our own tools call.
+NEEDS = {"redline-batch": "parallel"}
 
 
 def blocks_of(path):
@@ -49,7 +54,8 @@ def main():
         if kind != "sh":
             continue
         case = "%s:%d" % (name, line)
-        missing = [word for word in re.findall(r"^(\w[\w-]*)(?= )", text, re.M) if not shutil.which(word)]
+        words = re.findall(r"^(\w[\w-]*)(?= )", text, re.M)
+        missing = [word for word in words + [NEEDS[word] for word in words if word in NEEDS] if not shutil.which(word)]
         if missing:
             print("skipped %s: there is no %s" % (case, missing[0]))
             continue
