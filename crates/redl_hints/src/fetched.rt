@@ -78,6 +78,8 @@ impl<F: Shelf> Shelf for Fetched<F> {
 
     ghost faults = { λ fetched. F.faults fetched.shelf };
 
+    ghost asked = { λ fetched. F.asked fetched.shelf };
+
     fn fetch(&mut self, alloc: Global, name: &str, cap: usize) -> Result<Vec<u8>, ShelfError> {
         let fetched = self.shelf.fetch(alloc, name, cap);
         if let Ok(bytes) = &fetched {

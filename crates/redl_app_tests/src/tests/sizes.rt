@@ -20,6 +20,8 @@ impl Shelf for NotingShelf {
 
     ghost faults = { λ _. 0 };
 
+    ghost asked = { λ _. None };
+
     fn fetch(&mut self, alloc: Global, name: &str, cap: usize) -> Result<Vec<u8>, ShelfError> {
         let _noted = self.caps.push(cap);
         let file = if name == "P" {
