@@ -76,9 +76,9 @@ refusal_of (Some root) = parts_refusal (elements_of root.kids)
 abbrev pub refusal : Nodes → Option OpcError
 refusal nodes = refusal_of (package_of nodes)
 
--- An error is the first cause, or out of memory, which says nothing of the nodes.
+-- An error is the first cause. Memory runs out only where there is none.
 abbrev pub IsCause : OpcError → Nodes → Type 0
 IsCause NotPackage nodes = refusal nodes ≡ Some NotPackage
 IsCause PartShape nodes = refusal nodes ≡ Some PartShape
 IsCause NoDocument nodes = refusal nodes ≡ Some NoDocument
-IsCause NoMemory nodes = Unit {0}
+IsCause NoMemory nodes = refusal nodes ≡ None

@@ -19,7 +19,7 @@ pub enum OpcError {
     /// No part has the root `document`.
     #[error("no document")]
     NoDocument,
-    /// An allocation failed; nothing is known of the nodes.
+    /// An allocation failed. The nodes have the shape of a package.
     #[error("no memory")]
     NoMemory,
 }

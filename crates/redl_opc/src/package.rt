@@ -82,8 +82,8 @@ impl<'a> Package<'a> {
     /// The nodes are those of a text that was read: the tail of each element is UTF-8, and there are fewer than 2^32 nodes.
     /// `NotPackage` exactly if the root is not `package` in the package's namespace. Otherwise `PartShape` exactly if a child
     /// element of the root is not a part with a name, a content type, and one `binaryData` or one `xmlData` with one element.
-    /// Otherwise `NoDocument` exactly if no part has the root `document`. `NoMemory` means out of memory. A refusal drops the
-    /// nodes.
+    /// Otherwise `NoDocument` exactly if no part has the root `document`. `NoMemory` means out of memory, and comes only
+    /// where none of these holds. A refusal drops the nodes.
     pub fn make(alloc: Global, nodes: Vec<Node<'a>>) -> Result<Package<'a>, OpcError>
         requires { IsTree (nodes_of nodes.items) }
         ensures nodes { IfOk result (λ pkg. pkg ≡ nodes_of nodes.entry.items) }
