@@ -64,6 +64,8 @@ def make_files():
     put("web.xml", b"<html><body>Terms</body></html>")
     put("empty.xml", b"")
     put("x.pdf", b"%PDF-1.7\n")
+    put("old.doc", b"\xd0\xcf\x11\xe0\xa1\xb1\x1a\xe1")
+    put("x.rtf", b"{\\rtf1 Terms}")
     put("cut.xml", contract[:1000])
     put("tail.xml", contract + b"<!-- approved -->")
     put("crlf.xml", contract.replace(b"\n", b"\r\n"))

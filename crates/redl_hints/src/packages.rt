@@ -32,7 +32,12 @@ fn guess_by_first_bytes(front: &[u8]) -> Option<&'static str> {
     }
     if front.starts_with(b"\xd0\xcf\x11\xe0") {
         return Some(
-            "the package is an old Word document (.doc); save it in Word as \"Word XML Document (*.xml)\"",
+            "the package is an old Word document (.doc), or has a password; open it in Word, and save it as \"Word XML Document (*.xml)\"",
+        );
+    }
+    if front.starts_with(b"{\\rtf") {
+        return Some(
+            "the package is an RTF file; open it in Word, and save it as \"Word XML Document (*.xml)\"",
         );
     }
     if front.starts_with(b"%PDF") {

@@ -13,12 +13,18 @@ pub(crate) fn fault_of_value(help: &str, option: &str, value: &str) -> Option<&'
         ),
         "--lock-span" => fault_of_labelled(help, "span", value),
         "--rank" if !is_rank(value) => Some("a rank is one digit, from 0 to 9"),
+        "--view" if !is_view(value) => Some("--view takes original, final or marked"),
+        "--by" if value != "kind" => Some("--by takes kind, for each kind of an author's changes"),
         _ => None,
     }
 }
 
 fn is_rank(value: &str) -> bool {
     value.len() == 1 && value.as_bytes().iter().all(u8::is_ascii_digit)
+}
+
+fn is_view(name: &str) -> bool {
+    matches!(name, "original" | "final" | "marked")
 }
 
 // The names of the groups of kinds.
