@@ -9,7 +9,7 @@ use Rattle.redl_journal.specs.declared.entry.Entry.{Entry}
 use Rattle.redl_select.specs.declared.lock.Lock.{Lock}
 use Rattle.redl_session.specs.Refusals.{admitted, cause_of, refusal_of, refusals, TakesFirst}
 use Rattle.redl_session.specs.Says.{says_of}
-use Rattle.redl_session.specs.Sessions.{State, StopsAfter, after, says}
+use Rattle.redl_session.specs.Sessions.{State, StopsAfter, after, after_entry, says}
 use Rattle.redl_session.specs.declared.refusal.AdmitError.{AdmitError}
 use Rattle.redl_session.specs.declared.refusal.Refusal.{Refusal}
 
@@ -61,6 +61,11 @@ after-union state (entry ∷ entries) = by (is_none (cause_of state.revisions st
       ≡ record state { book = union state.book (cond free (entry ∷ admitted state.revisions state.locks entries) (admitted state.revisions state.locks entries)) }
   by true rest = rest (record state { book = with_entry state.book entry })
   by false rest = rest state
+
+-- first some entries, then others
+pub after-append : (state : State) (entries others : List Entry) → after state (entries ++ others) ≡ after (after state entries) others
+after-append state [] others = refl
+after-append state (entry ∷ entries) others = after-append (after_entry state entry) entries others
 
 pub stops_after : (state : State) (book entries : List Entry) → TakesFirst state.revisions state.locks state.book book entries
     → StopsAfter state (record state { book = book }) entries
