@@ -10,6 +10,7 @@ ghost use Rattle.redl_tree.specs.Model.Tree.{IsTree};
 ghost use Rattle.redl_rules.specs.Attributes.{broken_rule};
 ghost use Rattle.redl_tree.specs.Decisions.Packages.{pass_package};
 ghost use Rattle.redl_tree.specs.Model.View.{nodes_of};
+ghost use Rattle.redl_tree.specs.Revisions.Labels.{unlabelled};
 
 use redl_index::{Index, number};
 use redl_lines::Failure;
@@ -21,10 +22,11 @@ use std::alloc::{AllocError, Global};
 use std::marker::Brand;
 use std::sync::ledger::{Blank, Ledger};
 
-/// The package with this text.
+/// The package with this text. No element of it has a label yet.
 pub fn read_package<'a, 'b>(alloc: Global, bytes: &'b [u8]) -> Result<Package<'b>, Failure<'a>>
     ensures read { Reads (result_view (λ made. made) result) (λ reader. package_in reader bytes.now) }
     ensures sound { IfOk result (λ made. broken_rule made ≡ None) }
+    ensures unlabelled { IfOk result (λ made. unlabelled made ≡ made) }
 {
     let nodes = read_nodes(alloc, bytes)?;
     let package = shape(alloc, nodes)?;
@@ -36,6 +38,7 @@ pub fn read_package<'a, 'b>(alloc: Global, bytes: &'b [u8]) -> Result<Package<'b
 fn read_nodes<'a, 'b>(alloc: Global, bytes: &'b [u8]) -> Result<Vec<Node<'b>>, Failure<'a>>
     ensures read { Reads (result_view (λ nodes. nodes_of nodes.items) result) (λ reader. tree_in (reader.tree bytes.now)) }
     ensures tree { IfOk result (λ nodes. IsTree (nodes_of nodes.items)) }
+    ensures unlabelled { IfOk result (λ nodes. unlabelled (nodes_of nodes.items) ≡ nodes_of nodes.items) }
 {
     Ok(redl_xml::read(alloc, bytes)?)
 }
@@ -43,7 +46,8 @@ fn read_nodes<'a, 'b>(alloc: Global, bytes: &'b [u8]) -> Result<Vec<Node<'b>>, F
 // The package that the nodes are.
 fn shape<'a, 'b>(alloc: Global, nodes: Vec<Node<'b>>) -> Result<Package<'b>, Failure<'a>>
     requires { IsTree (nodes_of nodes.items) }
-    ensures { Reads (result_view (λ made. made) result) (λ _. shaped (nodes_of nodes.entry.items)) }
+    ensures read { Reads (result_view (λ made. made) result) (λ _. shaped (nodes_of nodes.entry.items)) }
+    ensures nodes { IfOk result (λ made. made ≡ nodes_of nodes.entry.items) }
 {
     Ok(Package::make(alloc, nodes)?)
 }

@@ -1,6 +1,7 @@
 use Rattle.redl_inputs.proofs.PackageLaws.{tree_read, tree_fails, failed_as}
 use Rattle.redl_inputs.specs.Packages.{tree_in}
 use Rattle.redl_tree.specs.Model.View.{nodes_of}
+use Rattle.redl_xml.proofs.Unlabelled.{reading-unlabelled}
 use Rattle.redl_inputs.proofs.package.read_nodes.Goals as goal
 
 pub returns-clause-read : goal.returns-clause-read
@@ -9,6 +10,9 @@ returns-clause-read c = record {
       c.in_ok-read.ensures.within.0 c.in_ok-read.ensures.within.1;
   never_unread = tt;
 }
+
+pub returns-clause-unlabelled : goal.returns-clause-unlabelled
+returns-clause-unlabelled c = reading-unlabelled c.args.bytes.now (nodes_of c.in_ok-read.field-0.items) c.in_ok-read.ensures.found
 
 pub returns-in_err-read-clause-read : goal.returns-in_err-read-clause-read
 returns-in_err-read-clause-read c =
