@@ -4,8 +4,10 @@
 //! Calls that decide a document once and write it take a `Session`, which keeps no leaves.
 #![tactic(auto)]
 
+mod admission;
 mod live_session;
 mod setting;
 mod turning;
 
+pub use admission::admit_each;
 pub use live_session::LiveSession;
