@@ -54,7 +54,7 @@ impl Detail {
             behind,
             ..
         } = excerpt;
-        let words = kept(alloc, words.text(alloc)?)?;
+        let words = kept(alloc, words.into_text(alloc)?)?;
         let before = kept(alloc, before)?;
         let after = kept(alloc, behind)?;
         let id = kept_if_any(alloc, id)?;

@@ -1,4 +1,6 @@
 pub mod PhraseLaws
+pub mod EvenLaws
+pub mod SaidLaws
 pub mod TellLaws
 pub mod MemberLaws
 mod Rows

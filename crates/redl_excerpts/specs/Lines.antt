@@ -1,7 +1,7 @@
 -- The line of a paragraph: what it says, with one space for each stretch of white space, and none at its beginning; and places
 -- in a line (our own rule).
-use Rattle.std.specs.Prelude.{ℕ, zero, suc, ◌-◌, ◌+◌, Bool, true, false, List, [], ◌∷◌, ◌++◌, length, take, drop, if◌then◌else◌}
-use Rattle.redl_excerpts.specs.Phrases.{is_white, is_inner, heard, nothing_heard}
+use Rattle.std.specs.Prelude.{ℕ, zero, suc, ◌-◌, ◌+◌, Bool, true, List, [], ◌∷◌, ◌++◌, length, take, drop, if◌then◌else◌}
+use Rattle.redl_excerpts.specs.Phrases.{is_white, is_inner}
 use Rattle.redl_excerpts.specs.declared.line.Place.{Place}
 
 -- what one byte adds to a line, where white space came before or not
@@ -64,10 +64,14 @@ last_bytes bytes = drop (length bytes - 160) bytes
 abbrev pub last_characters : List ℕ → List ℕ
 last_characters bytes = without_characters (characters_in (last_bytes bytes) - 40) (last_bytes bytes)
 
+-- the first characters, at most so many
+abbrev pub first_characters : ℕ → List ℕ → List ℕ
+first_characters n bytes = take (length bytes - length (without_characters n bytes)) bytes
+
 -- up to 40 characters of a line before a place
 abbrev pub before : List ℕ → Place → List ℕ
 before line place = last_characters (take (length line - place.left) line)
 
 -- up to 40 characters of a line behind a place
 abbrev pub behind : List ℕ → Place → List ℕ
-behind line place = (heard (nothing_heard 40 false) (drop (length line - place.left) line)).text
+behind line place = first_characters 40 (drop (length line - place.left) line)

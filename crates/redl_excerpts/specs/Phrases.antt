@@ -1,6 +1,6 @@
 -- The beginning of a text as a listing shows it: a stretch of white space is one space, and where the text has more characters
 -- than there is room for, three dots stand for the rest (our own rule). Texts are UTF-8.
-use Rattle.std.specs.Prelude.{ℕ, ◌-◌, ◌==◌, ◌||◌, ◌&&◌, nat_le, nat_lt, Bool, true, false, List, [], ◌∷◌, ◌++◌, if◌then◌else◌}
+use Rattle.std.specs.Prelude.{ℕ, ◌-◌, ◌==◌, ◌||◌, ◌&&◌, nat_le, nat_lt, not, Bool, true, false, List, [], ◌∷◌, ◌++◌, Option, None, Some, if◌then◌else◌}
 
 -- What is kept of a text so far: the characters, for how many more there is room, whether white space came last, and whether
 -- there were more.
@@ -17,6 +17,15 @@ is_white b = b == 32 || b == 9 || b == 10 || b == 13
 -- a byte with which no character begins (RFC 3629)
 abbrev pub is_inner : ℕ → Bool
 is_inner b = nat_le 128 b && nat_lt b 192
+
+-- a byte that is kept as it is, where a space came last or not: no other white space, no second space, and no inner byte after a space
+abbrev pub fits : Bool → ℕ → Bool
+fits space b = not ((space && (b == 32 || is_inner b)) || b == 9 || b == 10 || b == 13)
+
+-- where all bytes are kept as they are (and those before them, `even`), whether a space comes last
+abbrev pub even_from : Bool → Bool → List ℕ → Option Bool
+even_from even space [] = if even then Some space else None
+even_from even space (b ∷ bs) = even_from (even && fits space b) (b == 32) bs
 
 -- one character more begins with this byte
 unfoldable pub begun : Kept → ℕ → Bool → Kept

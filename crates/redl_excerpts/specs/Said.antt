@@ -1,10 +1,15 @@
 -- What nodes say: their text as a reader sees it, deleted text too, with a space for each break (our own rule; ECMA-376 Part 1,
 -- 17.3.3 for the elements of a run).
 use Rattle.std.specs.Prelude.{ℕ, List, [], ◌∷◌, ◌++◌, Bool, ◌&&◌, ◌||◌, if◌then◌else◌}
-use Rattle.redl_shown.specs.Shown.{shown}
+use Rattle.redl_shown.specs.Shown.{is_plain, shown}
 use Rattle.redl_tree.specs.Model.Nodes.{Tag, Nodes, no_nodes, bytes, element, Item, bytes_item, element_item}
 use Rattle.redl_tree.specs.Roles.Names.{is, is_any}
 use Rattle.redl_tree.specs.Roles.Places.{is_quiet}
+
+-- whether bytes are shown as they are, each of them (and those before them, `plain`)
+abbrev pub all_plain_from : Bool → List ℕ → Bool
+all_plain_from plain [] = plain
+all_plain_from plain (b ∷ bs) = all_plain_from (plain && is_plain b) bs
 
 -- a tab, a line break, or the beginning of a paragraph
 abbrev pub is_break : Tag → Bool

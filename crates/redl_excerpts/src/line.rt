@@ -1,10 +1,10 @@
 //! The line of a paragraph, and places in it.
 
-ghost use Rattle.std.specs.Prelude.{◌≡◌, ◌++◌, ◌-◌, ◌∷◌, [], IfOk, OnOk, length, take, drop, false, true, if◌then◌else◌};
-ghost use Rattle.redl_excerpts.specs.Lines.{before, drawn, behind, characters_in, last_bytes, last_characters, line_end, line_start, passed, without_characters};
+ghost use Rattle.std.specs.Prelude.{◌≡◌, ◌++◌, ◌-◌, ◌≤◌, ◌∷◌, [], IfOk, OnOk, length, take, drop, false, true, if◌then◌else◌};
+ghost use Rattle.redl_excerpts.specs.Lines.{before, drawn, behind, characters_in, first_characters, last_bytes, last_characters, line_end, line_start, passed, without_characters};
 
 use crate::ear::Ear;
-use crate::phrase::{Phrase, is_inner, is_white};
+use crate::phrase::{even_end, is_inner, is_white};
 use redl_io::Text;
 use std::alloc::{AllocError, Global};
 use std::marker::Model;
@@ -56,7 +56,7 @@ impl Line {
     }
 
     /// Makes room for this number of bytes more. `Err` means out of memory.
-    fn make_room(&mut self, count: usize) -> Result<(), AllocError>
+    pub(crate) fn make_room(&mut self, count: usize) -> Result<(), AllocError>
         ensures { self.new ≡ self.old }
     {
         self.text.reserve(count)
@@ -80,6 +80,11 @@ impl Ear for Line {
     ghost heard_more = { drawn-more };
 
     fn hear(&mut self, bytes: &[u8]) -> Result<(), AllocError> {
+        if let Some(gap) = even_end(self.gap, bytes) {
+            self.text.extend_from_slice(bytes)?;
+            self.gap = gap;
+            return Ok(());
+        }
         self.make_room(bytes.len())?;
         for byte in bytes {
             self.draw(*byte)?;
@@ -142,6 +147,11 @@ impl Ear for Place {
     ghost heard_more = { along-more };
 
     fn hear(&mut self, bytes: &[u8]) -> Result<(), AllocError> {
+        if let Some(gap) = even_end(self.gap, bytes) {
+            self.left = self.left.saturating_sub(bytes.len());
+            self.gap = gap;
+            return Ok(());
+        }
         for byte in bytes {
             self.pass(*byte);
         }
@@ -166,9 +176,15 @@ pub(crate) fn behind(alloc: Global, line: &[u8], place: Place) -> Result<Text, A
     ensures { IfOk result (λ text. text ≡ behind line.now place) }
 {
     let from = line.len().saturating_sub(place.left);
-    let mut phrase = Phrase::new(alloc, NEAR as u8, false);
-    phrase.hear(&line[from..])?;
-    Text::copy_of(alloc, phrase.characters())
+    Text::copy_of(alloc, first_characters(NEAR, &line[from..]))
+}
+
+/// The first characters, at most so many.
+fn first_characters(count: usize, bytes: &[u8]) -> &[u8]
+    ensures { result.now ≡ first_characters count bytes.now }
+{
+    let rest = without_characters(count, bytes);
+    &bytes[..bytes.len().saturating_sub(rest.len())]
 }
 
 /// The last 40 characters, which are among the last 160 bytes.
@@ -182,7 +198,8 @@ fn last_characters(bytes: &[u8]) -> &[u8]
 
 /// The number of characters of a text. It takes no memory.
 pub fn characters_in(bytes: &[u8]) -> usize
-    ensures { result ≡ characters_in bytes.now }
+    ensures value { result ≡ characters_in bytes.now }
+    ensures few { result ≤ length bytes.now }
 {
     let mut count = 0;
     for byte in bytes {

@@ -15,6 +15,9 @@ use redl_index::{RevKind, Revision};
 use redl_tree::{Elem, Kind, Node, Trace, is_quiet};
 use std::alloc::{AllocError, Global};
 
+/// For how many bytes a line takes room at first.
+const USUAL_LINE: usize = 400;
+
 /// Where nodes stand, but for their place in the line: in an element that holds text or not; what the nearest ancestor holds
 /// that is no properties, and where that begins; and the whole line.
 #[derive(Clone, Copy)]
@@ -148,6 +151,7 @@ fn line_of(alloc: Global, nodes: &[Node]) -> Result<Line, AllocError>
     ensures { IfOk result (λ line. line.text ≡ line_of (said true false (nodes_of nodes.now))) }
 {
     let mut line = Line::new(alloc);
+    line.make_room(USUAL_LINE)?;
     tell_nodes(nodes, true, false, &mut line)?;
     Ok(line)
 }

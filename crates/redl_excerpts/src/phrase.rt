@@ -1,9 +1,10 @@
 //! The beginning of a text, with one space for each stretch of white space.
 
-ghost use Rattle.std.specs.Prelude.{◌≡◌, [], false, IfOk, OnOk};
-ghost use Rattle.redl_excerpts.specs.Phrases.{begun, heard, heard_byte, is_inner, is_white, kept_text, nothing_heard, paused};
+ghost use Rattle.std.specs.Prelude.{◌≡◌, [], true, false, IfOk, OnOk};
+ghost use Rattle.redl_excerpts.specs.Phrases.{begun, even_from, fits, heard, heard_byte, is_inner, is_white, kept_text, nothing_heard, paused};
 
 use crate::ear::Ear;
+use crate::line::characters_in;
 use redl_io::Text;
 use std::alloc::{AllocError, Global};
 use std::marker::Model;
@@ -40,6 +41,31 @@ pub(crate) fn is_inner(byte: u8) -> bool
     ensures { result ≡ is_inner byte }
 {
     128 <= byte && byte < 192
+}
+
+/// Whether a byte is kept as it is, where a space came last or not.
+fn fits(space: bool, byte: u8) -> bool
+    ensures { result ≡ fits space byte }
+{
+    !((space & ((byte == b' ') | is_inner(byte)))
+        | (byte == b'\t')
+        | (byte == b'\n')
+        | (byte == b'\r'))
+}
+
+/// Whether a space comes last, where all bytes are kept as they are. Whether a space came before them is `space`.
+///
+/// It looks at every byte: so the compiler takes many at a time.
+pub(crate) fn even_end(space: bool, bytes: &[u8]) -> Option<bool>
+    ensures { result ≡ even_from true space bytes.now }
+{
+    let mut even = true;
+    let mut last = space;
+    for byte in bytes {
+        even &= fits(last, *byte);
+        last = *byte == b' ';
+    }
+    even.then_some(last)
 }
 
 impl Phrase {
@@ -81,6 +107,23 @@ impl Phrase {
         self.begin(byte, false)
     }
 
+    /// Hears the first bytes at once, where they are kept as they are, and answers those that are left. `Err` means out of memory.
+    fn hear_front<'a>(&mut self, bytes: &'a [u8]) -> Result<&'a [u8], AllocError>
+        ensures { IfOk result (λ rest. heard self.new rest.now ≡ heard self.old bytes.now) }
+    {
+        if self.over {
+            return Ok(bytes);
+        }
+        let (front, rest) = bytes.split_at(bytes.len().min(self.room as usize));
+        let Some(gap) = even_end(self.gap, front) else {
+            return Ok(bytes);
+        };
+        self.text.extend_from_slice(front)?;
+        self.room -= characters_in(front) as u8;
+        self.gap = gap;
+        Ok(rest)
+    }
+
     /// White space comes.
     #[tactic(auto, unfolding(crate::specs::Phrases::paused))]
     fn pause(&mut self) -> Result<(), AllocError>
@@ -107,23 +150,15 @@ impl Phrase {
         Ok(())
     }
 
-    /// What is kept, without dots.
-    pub(crate) fn characters(&self) -> &[u8]
-        ensures { result.now ≡ self.now.text }
-    {
-        &self.text
-    }
-
     /// What is kept, with three dots for the rest. `Err` means out of memory.
-    pub fn text(&self, alloc: Global) -> Result<Text, AllocError>
-        ensures { IfOk result (λ text. text ≡ kept_text self.now) }
+    pub fn into_text(self, alloc: Global) -> Result<Text, AllocError>
+        ensures { IfOk result (λ text. text ≡ kept_text self) }
     {
-        if !self.over {
-            return Text::copy_of(alloc, &self.text);
+        let mut text = self.text;
+        if self.over {
+            text.extend_from_slice("\u{2026}".as_bytes())?;
         }
-        let mut whole = Vec::from_slice(alloc, &self.text)?;
-        whole.extend_from_slice("\u{2026}".as_bytes())?;
-        Text::copy_of(alloc, &whole)
+        Text::copy_of(alloc, &text)
     }
 }
 
@@ -139,8 +174,9 @@ impl Ear for Phrase {
     ghost heard_more = { heard-more };
 
     fn hear(&mut self, bytes: &[u8]) -> Result<(), AllocError> {
-        self.make_room(bytes.len())?;
-        for byte in bytes {
+        let left = self.hear_front(bytes)?;
+        self.make_room(left.len())?;
+        for byte in left {
             if self.over {
                 return Ok(());
             }
@@ -161,6 +197,6 @@ pub fn shortened(alloc: Global, bytes: &[u8], room: u8) -> Result<Text, AllocErr
 {
     let mut phrase = Phrase::new(alloc, room, false);
     phrase.hear(bytes)?;
-    let text = phrase.text(alloc)?;
+    let text = phrase.into_text(alloc)?;
     Ok(text)
 }

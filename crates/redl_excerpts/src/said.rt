@@ -1,11 +1,11 @@
 //! What nodes say.
 
-ghost use Rattle.std.specs.Prelude.{◌≡◌, [], OnOk, if◌then◌else◌};
+ghost use Rattle.std.specs.Prelude.{◌≡◌, [], OnOk, true, if◌then◌else◌};
 ghost use Rattle.redl_shown.specs.Pieces.{piece_text};
 ghost use Rattle.redl_shown.specs.Shown.{shown};
 ghost use Rattle.redl_tree.specs.Roles.Names.{is};
 ghost use Rattle.redl_tree.specs.Model.View.{nodes_of, item_of, tag_of, kids_of};
-ghost use Rattle.redl_excerpts.specs.Said.{element_said, holds_text, is_break, is_silent, item_said, said, start_said};
+ghost use Rattle.redl_excerpts.specs.Said.{all_plain_from, element_said, holds_text, is_break, is_silent, item_said, said, start_said};
 
 use crate::ear::Ear;
 use redl_shown::{Piece, next_shown, start};
@@ -71,6 +71,9 @@ pub(crate) fn tell_bytes<E: Ear>(bytes: &[u8], in_text: bool, ear: &mut E) -> Re
 fn tell_shown<E: Ear>(bytes: &[u8], ear: &mut E) -> Result<(), AllocError>
     ensures { OnOk result (ear.new ≡ E.heard ear.old (shown bytes.now)) }
 {
+    if is_all_plain(bytes) {
+        return ear.hear(bytes);
+    }
     let mut here = start();
     let mut left = bytes;
     while let Some(step) = next_shown(here, left) {
@@ -79,6 +82,19 @@ fn tell_shown<E: Ear>(bytes: &[u8], ear: &mut E) -> Result<(), AllocError>
         left = step.rest;
     }
     Ok(())
+}
+
+/// Whether bytes are shown as they are, each of them.
+///
+/// It looks at every byte: so the compiler takes many at a time.
+fn is_all_plain(bytes: &[u8]) -> bool
+    ensures { result ≡ all_plain_from true bytes.now }
+{
+    let mut plain = true;
+    for byte in bytes {
+        plain &= !((*byte == b'<') | (*byte == b'&'));
+    }
+    plain
 }
 
 fn tell_piece<E: Ear>(piece: Piece<'_>, ear: &mut E) -> Result<(), AllocError>

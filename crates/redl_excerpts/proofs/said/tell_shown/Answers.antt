@@ -2,7 +2,11 @@
 use Rattle.std.proofs.Common.{◌∙◌, sym, ap}
 use Rattle.redl_shown.specs.Shown.{shown_from}
 use Rattle.redl_shown.specs.Pieces.{piece_text}
+use Rattle.redl_excerpts.proofs.SaidLaws.{shown-all-plain}
 use Rattle.redl_excerpts.proofs.said.tell_shown.Goals as goal
+
+pub returns-then-is_all_plain : goal.returns-then-is_all_plain
+returns-then-is_all_plain g c = rw (shown-all-plain c.args.bytes.now (sym c.is_all_plain.ensures ∙ c.if-is_all_plain.true)) c.hear.ensures
 
 pub loop-step-preserved : goal.loop-step-preserved
 loop-step-preserved g c =

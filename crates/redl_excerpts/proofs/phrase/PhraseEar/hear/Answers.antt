@@ -7,6 +7,8 @@ use Rattle.redl_excerpts.proofs.phrase.PhraseEar.hear.Goals as goal
 pub returns-then-self : goal.returns-then-self
 returns-then-self c =
     let over = ap (λ (kept : Kept). kept.over) (sym c.self.view_is) ∙ c.if-self.true in
-    sym (heard-over c.loop-byte.self (drop c.loop-byte.byte-index c.args.bytes.now) over)
+    let left = c.in_ok-left.left.now in
+    sym (heard-over c.loop-byte.self (drop c.loop-byte.byte-index left) over)
     ∙ c.loop-byte.invariant
-    ∙ ap (λ (kept : Kept). heard kept c.args.bytes.now) c.make_room.ensures
+    ∙ ap (λ (kept : Kept). heard kept left) c.make_room.ensures
+    ∙ c.in_ok-left.ensures
