@@ -1,5 +1,5 @@
 -- Details: what a listing shows of a revision beside its row, its text and the last words of its reviewers (our own rule).
-use Rattle.std.specs.Prelude.{ℕ, ◌+◌, Bool, List, [], ◌∷◌, map, All, IfSome, Option, None, if◌then◌else◌}
+use Rattle.std.specs.Prelude.{ℕ, ◌+◌, List, [], ◌∷◌, map, All, IfSome, None, if◌then◌else◌}
 use Rattle.std.specs.Option.{option_map}
 use Rattle.std.specs.Str.{IsUtf8, is_utf8}
 use Rattle.redl_excerpts.specs.declared.excerpt.Excerpt.{Excerpt}

@@ -1,10 +1,9 @@
 -- One detail more.
-use Rattle.std.proofs.Common.{◌≡◌, ◌+◌, ◌<◌, ◌^◌, ◌∷◌, ◌∙◌, ap, sym, subst, length, refl, rules, [], All, arith, List}
+use Rattle.std.proofs.Common.{◌≡◌, ◌+◌, ◌^◌, ◌∷◌, ◌∙◌, ap, sym, subst, length, rules, [], All, arith}
 use Rattle.std.proofs.lemmas.List.{nil_from_length}
 use Rattle.std.proofs.lemmas.List.Elements.{All-push}
 use Rattle.std.specs.Vec.Iter.{into_iter_items}
 use Rattle.redl_join.specs.LastWords.{words_on}
-use Rattle.redl_details.specs.declared.detail.Detail.{Detail}
 use Rattle.redl_details.specs.Details.{IsDetail, detail_of, details_of}
 use Rattle.redl_details.proofs.DetailLaws.{count-more, details-begun, details-done, details-more}
 use Rattle.redl_details.proofs.detail.details.Goals as goal

@@ -1,7 +1,6 @@
 -- The excerpts are those of the package, and the words those of the book.
-use Rattle.std.proofs.Common.{◌≡◌, ◌<◌, ◌^◌, ◌∙◌, length, ap, arith}
-use Rattle.std.proofs.lemmas.List.{length-map}
-use Rattle.redl_excerpts.specs.Excerpts.{excerpt_of, excerpts_of}
+use Rattle.std.proofs.Common.{◌∙◌, ap}
+use Rattle.redl_excerpts.specs.Excerpts.{excerpts_of}
 use Rattle.redl_join.specs.LastWords.{last_words, words_on}
 use Rattle.redl_details.specs.Details.{details_of}
 use Rattle.redl_details.proofs.DetailLaws.{details_from-same}

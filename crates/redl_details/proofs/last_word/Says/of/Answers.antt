@@ -1,12 +1,8 @@
 -- One word more.
-use Rattle.std.proofs.Common.{◌≡◌, ◌<◌, ◌∙◌, ◌++◌, ◌∷◌, [], List, length, map, take, get_or, ap, sym, subst, All, arith}
-use Rattle.std.proofs.lemmas.List.{map_more}
+use Rattle.std.proofs.Common.{◌∙◌, sym, subst, All, arith}
 use Rattle.std.proofs.lemmas.List.Elements.{All-push}
-use Rattle.std.specs.Map.Iter.{deref}
 use Rattle.std.specs.Str.{IsUtf8}
-use Rattle.redl_journal.specs.declared.entry.Entry.{Entry}
 use Rattle.redl_details.specs.declared.last_word.LastWord.{LastWord}
-use Rattle.redl_details.specs.Details.{last_word_of}
 use Rattle.redl_details.proofs.DetailLaws.{words-more}
 use Rattle.redl_details.proofs.last_word.Says.of.Goals as goal
 
