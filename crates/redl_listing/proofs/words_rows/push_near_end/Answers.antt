@@ -10,8 +10,8 @@ pub returns : goal.returns
 returns c =
     let line = c.args.line.now.items in
     let end = c.without_characters.result.now in
-    let more : 11 < characters_in c.args.text.now = omega (arith, c.characters_in-count.ensures, c.if-count-le-BEFORE.false) in
+    let more : 11 < characters_in c.args.text.now = omega (arith, c.characters_in-count.ensures.value, c.if-count-le-BEFORE.false) in
     c.in_ok-push_shown.ensures
     ∙ ap (λ (front : List ℕ). front ++ map shown end) (c.in_ok-extend_from_slice.ensures.items ∙ ap (λ (bytes : List ℕ). line ++ bytes) c.as_bytes.ensures.value)
     ∙ append_assoc line dots (map shown end)
-    ∙ ap (λ (bytes : List ℕ). line ++ bytes) (near_end-shown c.args.text.now c.characters_in-count.result end more c.characters_in-count.ensures c.without_characters.ensures)
+    ∙ ap (λ (bytes : List ℕ). line ++ bytes) (near_end-shown c.args.text.now c.characters_in-count.result end more c.characters_in-count.ensures.value c.without_characters.ensures)
