@@ -1,6 +1,5 @@
 -- The list of changes: what is written of it, and that each revision has an item.
-use Prim.Native.String.{String}
-use Rattle.std.proofs.Common.{◌≡◌, ℕ, ◌+◌, ◌<◌, ◌≤◌, List, [], ◌∷◌, ◌++◌, map, length, drop, get_or, Bool, true, false, ◌&&◌, Option, Some, None, eqb, eq-eqb, refl, sym, ap, ◌∙◌, append_assoc, append-nil, arith, codes, if◌then◌else◌}
+use Rattle.std.proofs.Common.{◌≡◌, ℕ, ◌+◌, ◌<◌, ◌≤◌, List, [], ◌∷◌, ◌++◌, length, drop, get_or, Bool, true, ◌&&◌, Option, Some, eqb, eq-eqb, refl, sym, ap, ◌∙◌, append_assoc, append-nil, arith, codes, if◌then◌else◌}
 use Rattle.std.specs.Prelude.{decimal}
 use Rattle.std.specs.List.{flat_map, AllByRecursion}
 use Rattle.std.proofs.lemmas.List.{drop_more, drop_all}
@@ -8,12 +7,12 @@ use Rattle.redl_index.specs.KindNames.{kind_name}
 use Rattle.redl_index.specs.declared.revision.Revision.{Revision}
 use Rattle.redl_journal.specs.declared.entry.Entry.{Entry}
 use Rattle.redl_join.specs.LastWords.{last_words}
-use Rattle.redl_join.specs.Verdicts.{verdict_at, greatest_seq}
+use Rattle.redl_join.specs.Verdicts.{verdict_at}
 use Rattle.redl_join.specs.declared.verdict.Verdict.{Verdict}
 use Rattle.redl_listing.specs.Dates.{date_text}
-use Rattle.redl_page.specs.Changes.{change, change_head, change_state, changes, saying, word_before, verdict_before, locked_before, reviewer_item, reviewers_after, is_last}
+use Rattle.redl_page.specs.Changes.{change, change_head, change_state, changes, saying, verdict_before, locked_before, reviewer_item, reviewers_after, is_last}
 use Rattle.redl_page.specs.Escaping.{escaped}
-use Rattle.redl_page.specs.Pieces.{Piece, own, number, opens_item, starts_with_number, has_number, has_item, pieces_text}
+use Rattle.redl_page.specs.Pieces.{own, opens_item, has_item, pieces_text}
 use Rattle.redl_page.proofs.NumberLaws.{or_left, and_both, has-left, has-right}
 use Rattle.redl_page.proofs.PieceLaws.{pieces_text-append}
 

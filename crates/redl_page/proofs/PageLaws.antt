@@ -1,5 +1,5 @@
 -- What is written of the page, part by part.
-use Rattle.std.proofs.Common.{◌≡◌, ℕ, List, ◌++◌, true, length, ap, ◌∙◌, codes}
+use Rattle.std.proofs.Common.{◌≡◌, List, ◌++◌, true, length, ap, ◌∙◌, codes}
 use Rattle.redl_journal.specs.declared.entry.Entry.{Entry}
 use Rattle.redl_opc.specs.Shape.{parts_of}
 use Rattle.redl_shown.specs.Shown.{shown}

@@ -1,7 +1,7 @@
 -- The list of changes beside the document (our own rule): an item for each revision in the order of the numbers, with the last words
 -- of each reviewer on it; and the reviewers, each with the greatest sequence number of their entries.
 use Prim.Native.String.{String}
-use Rattle.std.specs.Prelude.{ℕ, List, [], ◌∷◌, ◌++◌, Bool, true, false, ◌==◌, Option, Some, None, if◌then◌else◌}
+use Rattle.std.specs.Prelude.{ℕ, List, [], ◌∷◌, ◌++◌, Bool, true, false, Option, Some, None, if◌then◌else◌}
 use Rattle.std.specs.List.{flat_map}
 use Rattle.std.specs.Str.{bytes_eq}
 use Rattle.redl_index.specs.KindNames.{kind_name}

@@ -1,4 +1,4 @@
-use Rattle.std.proofs.Common.{refl, ap, sym, ◌∙◌, ◌++◌, codes}
+use Rattle.std.proofs.Common.{ap, sym, ◌++◌, codes}
 use Rattle.redl_io.proofs.Puts.{puts_then, puts_fails}
 use Rattle.redl_listing.specs.Dates.{date_text}
 use Rattle.redl_page.specs.Escaping.{escaped}

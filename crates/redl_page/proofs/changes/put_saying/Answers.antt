@@ -1,4 +1,4 @@
-use Rattle.std.proofs.Common.{codes, ◌++◌, refl, ap, sym}
+use Rattle.std.proofs.Common.{codes, ◌++◌, ap, sym}
 use Rattle.std.specs.Prelude.{decimal}
 use Rattle.redl_io.proofs.Puts.{puts_then, puts_fails}
 use Rattle.redl_page.specs.Changes.{word_before}
