@@ -2,11 +2,10 @@
 
 ghost use Rattle.std.specs.Prelude.{IfOk, All, IsUtf8};
 
-use redl_app::{Status, add_word, run};
+use redl_app::{Status, add_word};
 use redl_io::{MemShelf, MemSink, Text};
-use redl_listing::{FullFormat, JsonFormat, TabFormat, TextFormat, WordsFormat, add_format};
 use redl_page::Skin;
-use redl_report::{JsonReport, TableReport, TextReport, add_report_format};
+use redl_program::run_words;
 use std::alloc::{AllocError, Global};
 
 /// What a call came to: its status, what was written, and the lines on standard error.
@@ -37,44 +36,12 @@ pub(crate) fn call(
     let mut written = MemSink::new(alloc, ROOM, Vec::new(alloc))?;
     let mut lines = MemSink::new(alloc, ROOM, Vec::new(alloc))?;
     let mut shelf = MemShelf::new(files, Vec::new(alloc));
-    let status = run_words(alloc, &words, &mut shelf, &mut written, &mut lines)?;
+    let status = run_words(alloc, &words, &mut shelf, &mut written, &mut lines, &SKIN);
     Ok(Answer {
         status,
         written,
         lines,
     })
-}
-
-// Makes the program's formats, and does the call.
-fn run_words(
-    alloc: Global,
-    words: &[Text],
-    shelf: &mut MemShelf,
-    written: &mut MemSink,
-    lines: &mut MemSink,
-) -> Result<Status, AllocError>
-    requires { All IsUtf8 words.now }
-{
-    let mut formats = Vec::new(alloc);
-    add_format(&mut formats, Box::new(alloc, TextFormat::new(alloc)?)?)?;
-    add_format(&mut formats, Box::new(alloc, TabFormat::new(alloc)?)?)?;
-    add_format(&mut formats, Box::new(alloc, JsonFormat::new(alloc)?)?)?;
-    add_format(&mut formats, Box::new(alloc, WordsFormat::new(alloc)?)?)?;
-    add_format(&mut formats, Box::new(alloc, FullFormat::new(alloc)?)?)?;
-    let mut reports = Vec::new(alloc);
-    add_report_format(&mut reports, Box::new(alloc, TextReport::new(alloc)?)?)?;
-    add_report_format(&mut reports, Box::new(alloc, JsonReport::new(alloc)?)?)?;
-    add_report_format(&mut reports, Box::new(alloc, TableReport::new(alloc)?)?)?;
-    Ok(run(
-        alloc,
-        words,
-        shelf,
-        written,
-        lines,
-        &mut formats,
-        &mut reports,
-        &SKIN,
-    ))
 }
 
 // The words of a line, with spaces between them. What stands between two quotes is one word.

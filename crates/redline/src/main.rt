@@ -1,11 +1,9 @@
 //! The program: real files, standard output and standard error, and the words of the command line.
 //!
-//! All that it does is a call of `run`, whose clauses say what goes out and which exit status comes when; hints follow the
+//! All that it does is a call of `answer`, whose clauses say what goes out and which exit status comes when; hints follow the
 //! lines that the call told. What they go by is remembered on the way: the lines, the first of the output, and of the file that
-//! was read last its beginning and its end. Only where the words ask for help or for the version, or there are none, it writes
-//! a text of its own.
-//! The words are copied first; a word that isn't UTF-8 ends the program before the call. Then the formats of listings and of
-//! reports are made; where memory runs out there, the program ends as it does for the words.
+//! was read last its beginning and its end.
+//! The words are copied first; a word that isn't UTF-8 ends the program with its line.
 #![tactic(auto)]
 
 mod help;
@@ -16,12 +14,11 @@ ghost use Rattle.std.specs.String.{string_bytes};
 ghost use Rattle.std.specs.Vec.Iter.{into_iter_items};
 
 use help::{HELP, VERSION};
-use redl_app::{Status, WordsError, add_word, refuse_words, run, tell_text};
+use redl_app::{Status, WordsError, add_word};
 use redl_hints::{Fetched, Told, tell_hints, tell_word_hint};
 use redl_io::{FileShelf, Shelf, Sink, StdSink, Text};
-use redl_listing::{FullFormat, JsonFormat, TabFormat, TextFormat, WordsFormat, add_format};
 use redl_page::Skin;
-use redl_report::{JsonReport, TableReport, TextReport, add_report_format};
+use redl_program::{Texts, answer, own_of};
 use skin::{POLICY, SCRIPT, STYLE};
 use std::alloc::{AllocError, Global};
 use std::env;
@@ -30,92 +27,51 @@ use std::io::ErrorKind;
 use std::process::ExitCode;
 use std::rt::Env;
 
+// What the program tells of itself.
+const TEXTS: Texts<'static> = Texts {
+    help: HELP,
+    version: VERSION,
+};
+
 fn main(rt: HostRuntime) -> ExitCode {
     let mut shelf = Fetched::new(rt.alloc(), FileShelf::new(&rt));
     let mut out = Told::new(rt.alloc(), StdSink::new(rt.stdout()));
     let mut err = Told::new(rt.alloc(), StdSink::new(rt.stderr()));
-    let status = match read_words(&rt) {
-        Ok(words) => match own_text(&words) {
-            Some(text) => tell_text(rt.alloc(), text, &mut out, &mut err),
-            None => run_with_hints(rt.alloc(), &words, &mut shelf, &mut out, &mut err),
-        },
-        Err(error) => refuse_with_hint(error, &mut err),
-    };
+    let words = read_words(&rt);
+    let status = answer(
+        rt.alloc(),
+        &words,
+        &TEXTS,
+        &page_skin(),
+        &mut shelf,
+        &mut out,
+        &mut err,
+    );
+    tell_hint(rt.alloc(), &words, &shelf, &out, &mut err);
     ExitCode::from(status.code())
 }
 
-// Tells why the words could not be read.
-fn refuse_with_hint<E: Sink>(error: WordsError, err: &mut E) -> Status {
-    let is_usage = matches!(error, WordsError::Usage);
-    let status = refuse_words(error, err);
-    if is_usage {
-        tell_word_hint(err);
-    }
-    status
-}
-
-// Does what the words ask, and then tells what probably went wrong.
-fn run_with_hints<F: Shelf, O: Sink, E: Sink>(
+// Tells what probably went wrong.
+fn tell_hint<F: Shelf, O: Sink, E: Sink>(
     alloc: Global,
-    words: &[Text],
-    shelf: &mut Fetched<F>,
-    out: &mut Told<O>,
+    words: &Result<Vec<Text>, WordsError>,
+    shelf: &Fetched<F>,
+    out: &Told<O>,
     err: &mut Told<E>,
-) -> Status
-    requires { All IsUtf8 words.now }
-{
-    let status = run_words(alloc, words, shelf, out, err);
-    // What was read last is remembered. Opened once more, a pipe would wait for a writer that is gone.
-    tell_hints(alloc, words, HELP, shelf.last_text(), out, err);
-    status
-}
-
-// Does what the words ask, with the formats of listings and of reports.
-fn run_words<F: Shelf, O: Sink, E: Sink>(
-    alloc: Global,
-    words: &[Text],
-    shelf: &mut F,
-    out: &mut O,
-    err: &mut E,
-) -> Status
-    requires { All IsUtf8 words.now }
-{
-    match run_with_formats(alloc, words, shelf, out, err) {
-        Ok(status) => status,
-        Err(_) => refuse_words(WordsError::NoMemory, err),
+) {
+    match words {
+        // What was read last is remembered. Opened once more, a pipe would wait for a writer that is gone.
+        Ok(words) if own_of(words).is_none() => tell_hints(
+            alloc,
+            words,
+            HELP,
+            shelf.last_text(),
+            out,
+            err,
+        ),
+        Err(WordsError::Usage) => tell_word_hint(err),
+        _ => {}
     }
-}
-
-// Makes the formats and does what the words ask. `Err` means that memory ran out before.
-fn run_with_formats<F: Shelf, O: Sink, E: Sink>(
-    alloc: Global,
-    words: &[Text],
-    shelf: &mut F,
-    out: &mut O,
-    err: &mut E,
-) -> Result<Status, AllocError>
-    requires { All IsUtf8 words.now }
-{
-    let mut formats = Vec::new(alloc);
-    add_format(&mut formats, Box::new(alloc, TextFormat::new(alloc)?)?)?;
-    add_format(&mut formats, Box::new(alloc, TabFormat::new(alloc)?)?)?;
-    add_format(&mut formats, Box::new(alloc, JsonFormat::new(alloc)?)?)?;
-    add_format(&mut formats, Box::new(alloc, WordsFormat::new(alloc)?)?)?;
-    add_format(&mut formats, Box::new(alloc, FullFormat::new(alloc)?)?)?;
-    let mut reports = Vec::new(alloc);
-    add_report_format(&mut reports, Box::new(alloc, TextReport::new(alloc)?)?)?;
-    add_report_format(&mut reports, Box::new(alloc, JsonReport::new(alloc)?)?)?;
-    add_report_format(&mut reports, Box::new(alloc, TableReport::new(alloc)?)?)?;
-    Ok(run(
-        alloc,
-        words,
-        shelf,
-        out,
-        err,
-        &mut formats,
-        &mut reports,
-        &page_skin(),
-    ))
 }
 
 // The program's own policy, style and script for a page.
@@ -125,22 +81,6 @@ fn page_skin() -> Skin<'static> {
         style: STYLE.as_bytes(),
         script: SCRIPT.as_bytes(),
     }
-}
-
-// What the program tells of itself, where the words ask for that alone, or where there are none.
-fn own_text(words: &[Text]) -> Option<&'static str> {
-    match words {
-        [] => Some(HELP),
-        [word] if word.as_bytes() == b"--version".as_slice() => Some(VERSION),
-        [word] if asks_for_help(word) => Some(HELP),
-        [_, word] if word.as_bytes() == b"--help".as_slice() => Some(HELP),
-        _ => None,
-    }
-}
-
-fn asks_for_help(word: &Text) -> bool {
-    let word = word.as_bytes();
-    word == b"--help".as_slice() || word == b"-h".as_slice() || word == b"help".as_slice()
 }
 
 // The words of the command line.
