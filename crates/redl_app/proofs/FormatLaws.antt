@@ -5,6 +5,7 @@ use Rattle.std.proofs.lemmas.List.FromFn.{length-map-range_with_len}
 use Rattle.std.specs.Option.{option_map}
 use Rattle.std.specs.Str.{bytes_eq}
 use Rattle.redl_app.proofs.TopLaws.{by_cause}
+use Rattle.redl_inputs.proofs.ReadLaws.{fails_alone}
 use Rattle.redl_inputs.specs.Admission.{Admission}
 use Rattle.redl_app.specs.Commands.List.{listing, listing_named, part_names, session_details, session_rows, session_verdicts}
 use Rattle.redl_app.specs.Commands.Shown.{shown_revisions}
@@ -12,7 +13,7 @@ use Rattle.redl_app.specs.Files.{where_ok}
 use Rattle.redl_app.specs.Finishing.{Ends, Finishes}
 use Rattle.redl_app.specs.Formats.{Format, LeavesFormats, format_named, formats_by, found_format, has_format, whether}
 use Rattle.redl_inputs.specs.Readers.{Reader}
-use Rattle.redl_inputs.specs.Reading.{IsMade, IsUnread, NeverUnread, Reads, UnlessUnread}
+use Rattle.redl_inputs.specs.Reading.{IsMade, NeverUnread, Reads}
 use Rattle.redl_inputs.specs.Steps.{◌>>=◌}
 use Rattle.redl_app.specs.Writing.{Writing, outcome_of}
 use Rattle.redl_io.specs.Shelf.{Files}
@@ -197,35 +198,25 @@ same_failure no_memory fault = tt
 same_failure (unread name) fault = inr refl
 same_failure (caused cause) fault = refl
 
-never_file : (failure : Failure) (names : List (List ℕ)) (told : Option Files) (fault : Type 0) → NeverUnread {Y = Unit {0}} (Err failure) → IsUnread {Y = Writing} (Err failure) names told fault
-never_file no_memory names told fault never = tt
-never_file (unread name) names told fault never = absurd never
-never_file (caused cause) names told fault never = tt
-
-stands_still : (failure : Failure) (Holds : Type 0) → Holds → UnlessUnread {Y = Writing} (Err failure) Holds
-stands_still no_memory Holds h = h
-stands_still (unread name) Holds h = tt
-stands_still (caused cause) Holds h = h
+never_file : (failure : Failure) → NeverUnread {Y = Unit {0}} (Err failure) → NeverUnread {Y = Writing} (Err failure)
+never_file no_memory never = tt
+never_file (unread name) never = never
+never_file (caused cause) never = tt
 
 -- a call ends before it asks for a file
-pub ends_at_once : {S K : Type 0} {holds : S → Option Files} {misses : S → ℕ} (shelf : S) {told : K → Option (List ℕ)} {faults : K → ℕ} (out : K)
+pub ends_at_once : {S K : Type 0} {holds : S → Option Files} {misses : S → ℕ} {asked : S → Option (List (List ℕ))} (shelf : S) {told : K → Option (List ℕ)} {faults : K → ℕ} (out : K)
     (there : Result (Unit {0}) Failure) (names : List (List ℕ)) (next : Reader → Files → Result Writing Failure) (failure : Failure)
     → there ≡ Err failure → NeverUnread {Y = Unit {0}} (Err failure)
-    → Ends holds misses shelf shelf told faults out out (where_ok there names) (λ reader files. there >>= (λ found. next reader files)) (failed failure)
-ends_at_once {holds = holds} {misses = misses} shelf out there names next failure is never = rw is (record {
+    → Ends holds misses asked shelf shelf told faults out out (where_ok there names) (λ reader files. there >>= (λ found. next reader files)) (failed failure)
+ends_at_once shelf out there names next failure is never = rw is (record {
   made = Err failure;
-  reads = record {
-    as_due = λ files may reader reads. same_failure failure _;
-    unread = never_file failure [] (holds shelf) _ never;
-    same_files = refl;
-    stands = stands_still failure (misses shelf ≡ misses shelf) refl;
-  };
+  reads = fails_alone shelf [] (never_file failure never) (λ reader files reads. same_failure failure ⊥);
   finishes = (refl, refl, refl);
 })
 
 -- the format is there, and the call goes on
-pub ends_after : {S K : Type 0} {holds : S → Option Files} {misses : S → ℕ} {shelf shelf_new : S} {told : K → Option (List ℕ)} {faults : K → ℕ} {out out_new : K}
+pub ends_after : {S K : Type 0} {holds : S → Option Files} {misses : S → ℕ} {asked : S → Option (List (List ℕ))} {shelf shelf_new : S} {told : K → Option (List ℕ)} {faults : K → ℕ} {out out_new : K}
     (end : End) (there : Result (Unit {0}) Failure) (names : List (List ℕ)) (next : Reader → Files → Result Writing Failure) (found : Unit {0}) → there ≡ Ok found
-    → Ends holds misses shelf shelf_new told faults out out_new names next end
-    → Ends holds misses shelf shelf_new told faults out out_new (where_ok there names) (λ reader files. there >>= (λ one. next reader files)) end
+    → Ends holds misses asked shelf shelf_new told faults out out_new names next end
+    → Ends holds misses asked shelf shelf_new told faults out out_new (where_ok there names) (λ reader files. there >>= (λ one. next reader files)) end
 ends_after end there names next found is ends = rw is ends

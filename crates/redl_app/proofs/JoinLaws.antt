@@ -3,6 +3,7 @@ use Rattle.std.proofs.Common.{◌≡◌, ◌<◌, ◌≤◌, ◌-◌, ℕ, List,
 use Rattle.std.proofs.lemmas.List.{take_all}
 use Rattle.redl_app.specs.Commands.Join.{joined}
 use Rattle.redl_app.specs.Writing.{Writing}
+use Rattle.redl_inputs.proofs.ReadLaws.{fails_alone}
 use Rattle.redl_inputs.specs.Reading.{ReadsFiles}
 use Rattle.redl_io.specs.Limits.{journal_bytes}
 use Rattle.redl_io.specs.Shelf.{Files}
@@ -14,19 +15,14 @@ first_rest [] x some is = absurd (omega (arith, some))
 first_rest (y ∷ ys) x some is =
     ap (λ z. z ∷ take (length (y ∷ ys) - 1) ys) is ∙ ap (λ zs. y ∷ zs) (take_all (length (y ∷ ys) - 1) ys (omega arith))
 
-pub joins_same : {S : Type 0} {told : S → Option Files} {faults : S → ℕ} {old new : S} {made : Result Writing Failure} (names others : List (List ℕ)) → names ≡ others
-    → ReadsFiles told faults old new names made (λ reader files. joined reader files journal_bytes names)
-    → ReadsFiles told faults old new others made (λ reader files. joined reader files journal_bytes others)
-joins_same {told = told} {faults = faults} {old = old} {new = new} {made = made} names others same step =
-    subst (λ ns. ReadsFiles told faults old new ns made (λ reader files. joined reader files journal_bytes ns)) same step
+pub joins_same : {S : Type 0} {told : S → Option Files} {faults : S → ℕ} {asked : S → Option (List (List ℕ))} {old new : S} {made : Result Writing Failure} (names others : List (List ℕ)) → names ≡ others
+    → ReadsFiles told faults asked old new names made (λ reader files. joined reader files journal_bytes names)
+    → ReadsFiles told faults asked old new others made (λ reader files. joined reader files journal_bytes others)
+joins_same {told = told} {faults = faults} {asked = asked} {old = old} {new = new} {made = made} names others same step =
+    subst (λ ns. ReadsFiles told faults asked old new ns made (λ reader files. joined reader files journal_bytes ns)) same step
 
 -- without a journal there is no union
-pub joins_nothing : {S : Type 0} {told : S → Option Files} {faults : S → ℕ} (shelf : S) (names : List (List ℕ)) → length names < 1
-    → ReadsFiles {Y = Writing} told faults shelf shelf names (Err (caused usage)) (λ reader files. joined reader files journal_bytes names)
-joins_nothing shelf [] none = record {
-  as_due = λ files may reader is. refl;
-  unread = tt;
-  same_files = refl;
-  stands = refl;
-}
+pub joins_nothing : {S : Type 0} {told : S → Option Files} {faults : S → ℕ} {asked : S → Option (List (List ℕ))} (shelf : S) (names : List (List ℕ)) → length names < 1
+    → ReadsFiles {Y = Writing} told faults asked shelf shelf names (Err (caused usage)) (λ reader files. joined reader files journal_bytes names)
+joins_nothing shelf [] none = fails_alone shelf [] tt (λ reader files is. refl)
 joins_nothing shelf (name ∷ names) none = absurd (omega (arith, none))

@@ -1,5 +1,5 @@
 -- Two sittings, one step after the other.
-use Rattle.std.proofs.Common.{◌≡◌, ℕ, List, [], length, map, true, false, cond, Option, None, Some, Result, Ok, Err, Contains, refl, sym, ap, ◌∙◌}
+use Rattle.std.proofs.Common.{◌≡◌, ◌++◌, ℕ, List, [], length, map, true, false, cond, Option, None, Some, Result, Ok, Err, refl, sym, ap, ◌∙◌}
 use Rattle.std.specs.Str.{bytes_eq}
 use Rattle.redl_app.proofs.LeftLaws.{sound_of}
 use Rattle.redl_app.specs.Commands.Join.{book_text}
@@ -11,7 +11,7 @@ use Rattle.redl_app.specs.Writing.{Writing}
 use Rattle.redl_app.specs.declared.commands.resume.First.{First}
 use Rattle.redl_index.proofs.RevisionLaws.{length-revisions_of}
 use Rattle.redl_index.specs.Numbers.{numbered_package, package_revisions}
-use Rattle.redl_inputs.proofs.ReadLaws.{always, reads_stops, reads_then, reads_then_takes, reads_when}
+use Rattle.redl_inputs.proofs.ReadLaws.{always, fails_alone, reads_stops, reads_then, reads_then_takes, reads_when}
 use Rattle.redl_inputs.proofs.StepLaws.{both_ok, same_ok}
 use Rattle.redl_inputs.specs.Admission.{Admission}
 use Rattle.redl_inputs.specs.Journals.{DocumentId}
@@ -41,17 +41,14 @@ steps_in_one (Ok x) next last = refl
 steps_in_one (Err failure) next last = refl
 
 -- a step that went well, and then two more
-pub reads_then_in : {S X Y Z : Type 0} {told : S → Option Files} {faults : S → ℕ} {old mid new : S} {names more whole : List (List ℕ)} {x : X} {made : Result Z Failure}
+pub reads_then_in : {S X Y Z : Type 0} {told : S → Option Files} {faults : S → ℕ} {asked : S → Option (List (List ℕ))} {old mid new : S} {names more : List (List ℕ)} {x : X} {made : Result Z Failure}
     {due : Reader → Files → Result X Failure} (next : X → Reader → Files → Result Y Failure) (last : Y → Result Z Failure)
-    → ReadsFiles told faults old mid names (Ok x) due
-    → ((name : List ℕ) → Contains names name → Contains whole name)
-    → ((name : List ℕ) → Contains more name → Contains whole name)
-    → ReadsFiles told faults mid new more made (λ reader files. next x reader files >>= last)
-    → ReadsFiles told faults old new whole made (λ reader files. (due reader files >>= (λ y. next y reader files)) >>= last)
-reads_then_in {told = told} {old = old} {whole = whole} {due = due} next last first early among rest =
+    → ReadsFiles told faults asked old mid names (Ok x) due → ReadsFiles told faults asked mid new more made (λ reader files. next x reader files >>= last)
+    → ReadsFiles told faults asked old new (names ++ more) made (λ reader files. (due reader files >>= (λ y. next y reader files)) >>= last)
+reads_then_in {told = told} {old = old} {names = names} {more = more} {due = due} next last first rest =
     reads_when (λ reader files. (due reader files >>= (λ y. next y reader files)) >>= last)
-    (always (told old) whole (λ files reader is. steps_in_one (due reader files) (λ y. next y reader files) last))
-    (reads_then (λ y reader files. next y reader files >>= last) first early among rest)
+    (always (told old) (names ++ more) (λ files reader is. steps_in_one (due reader files) (λ y. next y reader files) last))
+    (reads_then (λ y reader files. next y reader files >>= last) first rest)
 
 -- ---- the second package
 
@@ -70,24 +67,21 @@ is_not_left : (state-text whole : List ℕ) → bytes_eq whole state-text ≡ fa
 is_not_left state-text whole e = rw e refl
 
 -- another package is refused
-pub reads_other : {S : Type 0} {told : S → Option Files} {faults : S → ℕ} (shelf : S) (one : Admission) (left : ℕ) (whole text_ : List ℕ) (journals : List (List ℕ))
+pub reads_other : {S : Type 0} {told : S → Option Files} {faults : S → ℕ} {asked : S → Option (List (List ℕ))} (shelf : S) (one : Admission) (left : ℕ) (whole text_ : List ℕ) (journals : List (List ℕ))
     → text_ ≡ left_text one.state → bytes_eq whole text_ ≡ false
-    → ReadsFiles {Y = Writing} told faults shelf shelf journals (Err (caused not_written))
+    → ReadsFiles {Y = Writing} told faults asked shelf shelf journals (Err (caused not_written))
     (λ reader files. (left_by one.state whole >>= (λ w. sitting_on reader files left journals w)) >>= (λ two. resumption one two.0))
-reads_other shelf one left whole text_ journals same other = record {
-  as_due = λ files may reader is.
-      ap (λ (made : Result (List ℕ) Failure). (made >>= (λ w. sitting_on reader files left journals w)) >>= (λ two. resumption one two.0))
-      (is_not_left (left_text one.state) whole (ap (bytes_eq whole) (sym same) ∙ other));
-  unread = tt;
-  same_files = refl;
-  stands = refl;
-}
+reads_other shelf one left whole text_ journals same other =
+    fails_alone shelf journals tt
+    (λ reader files is.
+    ap (λ (made : Result (List ℕ) Failure). (made >>= (λ w. sitting_on reader files left journals w)) >>= (λ two. resumption one two.0))
+    (is_not_left (left_text one.state) whole (ap (bytes_eq whole) (sym same) ∙ other)))
 
 -- what was left is gone on with
-pub reads_left : {S : Type 0} {told : S → Option Files} {faults : S → ℕ} {old new : S} {made : Result Writing Failure} (one : Admission) (left : ℕ) (whole text_ : List ℕ) (journals : List (List ℕ))
+pub reads_left : {S : Type 0} {told : S → Option Files} {faults : S → ℕ} {asked : S → Option (List (List ℕ))} {old new : S} {made : Result Writing Failure} (one : Admission) (left : ℕ) (whole text_ : List ℕ) (journals : List (List ℕ))
     → text_ ≡ left_text one.state → bytes_eq whole text_ ≡ true
-    → ReadsFiles told faults old new journals made (λ reader files. sitting_on reader files left journals whole >>= (λ two. resumption one two.0))
-    → ReadsFiles told faults old new journals made (λ reader files. (left_by one.state whole >>= (λ w. sitting_on reader files left journals w)) >>= (λ two. resumption one two.0))
+    → ReadsFiles told faults asked old new journals made (λ reader files. sitting_on reader files left journals whole >>= (λ two. resumption one two.0))
+    → ReadsFiles told faults asked old new journals made (λ reader files. (left_by one.state whole >>= (λ w. sitting_on reader files left journals w)) >>= (λ two. resumption one two.0))
 reads_left {told = told} {old = old} one left whole text_ journals same equal step =
     reads_when (λ reader files. (left_by one.state whole >>= (λ w. sitting_on reader files left journals w)) >>= (λ two. resumption one two.0))
     (always (told old) journals (λ files reader is.
@@ -198,21 +192,21 @@ by_sittings : (one : Admission) (first : First) → IsFirst one first → (made 
 by_sittings one first is (Ok two) = sym (resumption_is one two.0 first is)
 by_sittings one first is (Err failure) = refl
 
-pub concludes_all : {S : Type 0} {told : S → Option Files} {faults : S → ℕ} {old new : S} {second : SecondSitting} {made : Result Writing Failure}
+pub concludes_all : {S : Type 0} {told : S → Option Files} {faults : S → ℕ} {asked : S → Option (List (List ℕ))} {old new : S} {second : SecondSitting} {made : Result Writing Failure}
     (one : Admission) (first : First) (left : ℕ) (journals : List (List ℕ)) (whole : List ℕ) → IsFirst one first
-    → ReadsFiles told faults old new journals (Ok second) (λ reader files. sitting_on reader files left journals whole >>= (λ two. Ok (joined_by first.decided (map (λ part. part.items) first.numbers.items) two.0)))
+    → ReadsFiles told faults asked old new journals (Ok second) (λ reader files. sitting_on reader files left journals whole >>= (λ two. Ok (joined_by first.decided (map (λ part. part.items) first.numbers.items) two.0)))
     → Reads made (λ reader. resumption_of one second)
-    → ReadsFiles told faults old new journals made (λ reader files. sitting_on reader files left journals whole >>= (λ two. resumption one two.0))
+    → ReadsFiles told faults asked old new journals made (λ reader files. sitting_on reader files left journals whole >>= (λ two. resumption one two.0))
 concludes_all {told = told} {old = old} one first left journals whole is step last =
     reads_when (λ reader files. sitting_on reader files left journals whole >>= (λ two. resumption one two.0))
     (always (told old) journals (λ files reader reads. by_sittings one first is (sitting_on reader files left journals whole)))
     (reads_then_takes (λ second reader. resumption_of one second) step last)
 
-pub stops_all : {S : Type 0} {told : S → Option Files} {faults : S → ℕ} {old new : S} {failure : Failure}
+pub stops_all : {S : Type 0} {told : S → Option Files} {faults : S → ℕ} {asked : S → Option (List (List ℕ))} {old new : S} {failure : Failure}
     (one : Admission) (first : First) (left : ℕ) (journals : List (List ℕ)) (whole : List ℕ) → IsFirst one first
-    → ReadsFiles {Y = SecondSitting} told faults old new journals (Err failure) (λ reader files. sitting_on reader files left journals whole >>= (λ two. Ok (joined_by first.decided (map (λ part. part.items) first.numbers.items) two.0)))
-    → ReadsFiles {Y = Writing} told faults old new journals (Err failure) (λ reader files. sitting_on reader files left journals whole >>= (λ two. resumption one two.0))
+    → ReadsFiles {Y = SecondSitting} told faults asked old new journals (Err failure) (λ reader files. sitting_on reader files left journals whole >>= (λ two. Ok (joined_by first.decided (map (λ part. part.items) first.numbers.items) two.0)))
+    → ReadsFiles {Y = Writing} told faults asked old new journals (Err failure) (λ reader files. sitting_on reader files left journals whole >>= (λ two. resumption one two.0))
 stops_all {told = told} {old = old} one first left journals whole is step =
     reads_when (λ reader files. sitting_on reader files left journals whole >>= (λ two. resumption one two.0))
     (always (told old) journals (λ files reader reads. by_sittings one first is (sitting_on reader files left journals whole)))
-    (reads_stops {X = SecondSitting} {Y = Writing} (λ second reader files. resumption_of one second) step (λ name h. h))
+    (reads_stops {X = SecondSitting} {Y = Writing} (λ second reader files. resumption_of one second) step)

@@ -128,25 +128,25 @@ may_hold none (inr nothing) = inr (none nothing)
 abbrev pub due_by : List (List ℕ) → Brought → Reader → Files → Result Writing Failure
 due_by words brought reader files = writing_of reader files brought (reader.command words)
 
-pub answers : (brought : Brought) {S K : Type 0} {holds : S → Option Files} {misses : S → ℕ} {shelf shelf_new : S} {told : K → Option (List ℕ)} {faults : K → ℕ} {out out_new : K}
+pub answers : (brought : Brought) {S K : Type 0} {holds : S → Option Files} {misses : S → ℕ} {asked : S → Option (List (List ℕ))} {shelf shelf_new : S} {told : K → Option (List ℕ)} {faults : K → ℕ} {out out_new : K}
     {words : List (List ℕ)} {names : List (List ℕ)} {end : End}
-    → NamesWhatIsAsked words brought names → Ends holds misses shelf shelf_new told faults out out_new names (due_by words brought) end
+    → NamesWhatIsAsked words brought names → Ends holds misses asked shelf shelf_new told faults out out_new names (due_by words brought) end
     → OfOutcome (holds shelf) words brought (λ o. IsAnswer (end_status end) o (Rose (misses shelf) (misses shelf_new)) (Rose (faults out) (faults out_new)))
 answers brought {misses = misses} {shelf = shelf} {shelf_new = shelf_new} {told = told} {faults = faults} {out = out} {out_new = out_new} {words = words} {end = end} asked ends =
     λ files reader is may. answer_by told faults out out_new ends.made end (due_by words brought reader files) (Rose (misses shelf) (misses shelf_new)) ends.finishes
     (ends.reads.as_due files (may_hold (asked reader is) may) reader is)
 
-pub writes : (brought : Brought) {S K : Type 0} {holds : S → Option Files} {misses : S → ℕ} {shelf shelf_new : S} {told : K → Option (List ℕ)} {faults : K → ℕ} {out out_new : K}
+pub writes : (brought : Brought) {S K : Type 0} {holds : S → Option Files} {misses : S → ℕ} {asked : S → Option (List (List ℕ))} {shelf shelf_new : S} {told : K → Option (List ℕ)} {faults : K → ℕ} {out out_new : K}
     {words : List (List ℕ)} {names : List (List ℕ)} {end : End}
-    → NamesWhatIsAsked words brought names → Ends holds misses shelf shelf_new told faults out out_new names (due_by words brought) end
+    → NamesWhatIsAsked words brought names → Ends holds misses asked shelf shelf_new told faults out out_new names (due_by words brought) end
     → OfOutcome (holds shelf) words brought (λ o. Writes told out out_new (end_status end) o.bytes)
 writes brought {misses = misses} {shelf = shelf} {shelf_new = shelf_new} {told = told} {faults = faults} {out = out} {out_new = out_new} {words = words} {end = end} asked ends =
     λ files reader is may. writes_by told faults out out_new ends.made end (due_by words brought reader files) (Rose (misses shelf) (misses shelf_new)) ends.finishes
     (ends.reads.as_due files (may_hold (asked reader is) may) reader is)
 
-pub tells : (Told : List ℕ → Type 0) {S K : Type 0} {holds : S → Option Files} {misses : S → ℕ} {shelf shelf_new : S} {told : K → Option (List ℕ)} {faults : K → ℕ} {out out_new : K}
+pub tells : (Told : List ℕ → Type 0) {S K : Type 0} {holds : S → Option Files} {misses : S → ℕ} {asked : S → Option (List (List ℕ))} {shelf shelf_new : S} {told : K → Option (List ℕ)} {faults : K → ℕ} {out out_new : K}
     {words : List (List ℕ)} {brought : Brought} {names : List (List ℕ)} {end : End} → AreNamed words brought names
-    → NamesWhatIsAsked words brought names → Ends holds misses shelf shelf_new told faults out out_new names (due_by words brought) end → Told (end_lines end)
+    → NamesWhatIsAsked words brought names → Ends holds misses asked shelf shelf_new told faults out out_new names (due_by words brought) end → Told (end_lines end)
     → OfOutcome (holds shelf) words brought (λ o. (lines : List ℕ) × AreLines (end_status end) o words brought (Rose (misses shelf) (misses shelf_new)) lines × Told lines)
 tells Told {holds = holds} {misses = misses} {shelf = shelf} {shelf_new = shelf_new} {told = told} {faults = faults} {out = out} {out_new = out_new} {words = words} {brought = brought} {names = names} {end = end} named asked ends h =
     λ files reader is may. (
@@ -179,9 +179,9 @@ read_by told faults old new (Ok writing) end words brought names shelf failed na
 read_by told faults old new (Err failure) end words brought names shelf failed named (is, same, stands) u fault =
     may_fault failure words brought names shelf failed named u (sym (ap end_status is) ∙ fault)
 
-pub read_cause : {S K : Type 0} {holds : S → Option Files} {misses : S → ℕ} {shelf shelf_new : S} {told : K → Option (List ℕ)} {faults : K → ℕ} {out out_new : K}
+pub read_cause : {S K : Type 0} {holds : S → Option Files} {misses : S → ℕ} {asked : S → Option (List (List ℕ))} {shelf shelf_new : S} {told : K → Option (List ℕ)} {faults : K → ℕ} {out out_new : K}
     {words : List (List ℕ)} {brought : Brought} {names : List (List ℕ)} {end : End} {due : Reader → Files → Result Writing Failure}
-    → AreNamed words brought names → Ends holds misses shelf shelf_new told faults out out_new names due end → end_status end ≡ status.ReadFault
+    → AreNamed words brought names → Ends holds misses asked shelf shelf_new told faults out out_new names due end → end_status end ≡ status.ReadFault
     → MayFault words brought (holds shelf) (Rose (misses shelf) (misses shelf_new))
 read_cause {holds = holds} {misses = misses} {shelf = shelf} {shelf_new = shelf_new} {told = told} {faults = faults} {out = out} {out_new = out_new} {words = words} {brought = brought} {names = names} {end = end} named ends fault =
     read_by told faults out out_new ends.made end words brought names (holds shelf) (Rose (misses shelf) (misses shelf_new)) named ends.finishes ends.reads.unread fault

@@ -1,20 +1,26 @@
 -- How a call ends, by the words as they were read.
-use Rattle.std.proofs.Common.{◌≡◌, ◌⊎◌, inl, inr, ℕ, List, [], Option, Result, Ok, Err, IfOk, IfErr, IsErrOf, refl, sym, ap, ◌∙◌, subst, arith}
-use Rattle.redl_inputs.proofs.ReadLaws.{always, reads_when, reads_no_memory}
+use Rattle.std.proofs.Common.{◌≡◌, ◌⊎◌, inl, inr, ℕ, List, [], ◌∷◌, Option, Result, Ok, Err, IfOk, IfErr, IsErrOf, refl, sym, ap, ◌∙◌, subst, arith}
+use Rattle.redl_inputs.proofs.AskLaws.{ask_more-nothing, asked_none}
+use Rattle.redl_inputs.proofs.ReadLaws.{always, fails_alone, reads_when}
 use Rattle.redl_inputs.proofs.ReaderLaws.{reads_command, reads_no_command}
-use Rattle.redl_app.proofs.TopLaws.{AreNamed, NamesWhatIsAsked, due_by}
-use Rattle.redl_app.specs.Files.{asked_by}
-use Rattle.redl_app.specs.Finishing.{Ends, IsWanted, words_failure}
+use Rattle.redl_app.proofs.TopLaws.{AreNamed, NamesWhatIsAsked, by_cause, due_by}
+use Rattle.redl_app.specs.Answers.{Asks, AsksUpTo}
+use Rattle.redl_app.specs.Files.{asked_by, files_of}
+use Rattle.redl_app.specs.Finishing.{Ends, Finishes, IsWanted, words_failure}
 use Rattle.redl_app.specs.Brought.{Brought}
 use Rattle.redl_app.specs.Formats.{LeavesFormats, without_asked}
 use Rattle.redl_app.specs.Outcome.{writing_of}
 use Rattle.redl_app.specs.Plans.{Plan, plan}
+use Rattle.redl_inputs.specs.Asking.{EndsAsking}
 use Rattle.redl_inputs.specs.Readers.{Reader, IsReader}
 use Rattle.redl_app.specs.Views.{read_view, named_files}
 use Rattle.redl_app.specs.Writing.{Writing}
 use Rattle.redl_io.specs.Shelf.{Files}
-use Rattle.redl_lines.specs.Ends.{End, failed, end_status}
-use Rattle.redl_lines.specs.Failures.{Failure, caused, usage}
+use Rattle.redl_lines.specs.Ends.{End, end_lines, end_status, failed, written_status}
+use Rattle.redl_lines.specs.Failures.{Failure, caused, failure_status, no_memory, unread, usage}
+use Rattle.redl_lines.specs.Lines.{failure_line}
+use Rattle.redl_lines.specs.Refused.{RefusedEntries}
+use Rattle.redl_lines.specs.Remarks.{all_refused}
 use Rattle.redl_lines.specs.declared.status.Status.TheVariants as status
 use Rattle.redl_words.proofs.CommandLaws.{at_most_one}
 use Rattle.redl_words.specs.Commands.{Command, IsCommand, HasNoCommand}
@@ -43,10 +49,10 @@ is_wanted words brought (Err error.Usage) is none = λ reader files reads. ap (w
 is_wanted words brought (Err error.NoMemory) is none = tt
 
 -- ends for one thing that is due are ends for the same by another name
-pub ends_when : {S K : Type 0} {holds : S → Option Files} {misses : S → ℕ} {shelf shelf_new : S} {told : K → Option (List ℕ)} {faults : K → ℕ} {out out_new : K}
+pub ends_when : {S K : Type 0} {holds : S → Option Files} {misses : S → ℕ} {asked : S → Option (List (List ℕ))} {shelf shelf_new : S} {told : K → Option (List ℕ)} {faults : K → ℕ} {out out_new : K}
     {names : List (List ℕ)} {end : End} {due : Reader → Files → Result Writing Failure}
     (later : Reader → Files → Result Writing Failure) → ((reader : Reader) (files : Files) → IsReader reader → later reader files ≡ due reader files)
-    → Ends holds misses shelf shelf_new told faults out out_new names due end → Ends holds misses shelf shelf_new told faults out out_new names later end
+    → Ends holds misses asked shelf shelf_new told faults out out_new names due end → Ends holds misses asked shelf shelf_new told faults out out_new names later end
 ends_when {holds = holds} {shelf = shelf} {names = names} later same ends = record {
   made = ends.made;
   reads = reads_when later (always (holds shelf) names (λ files reader is. same reader files is)) ends.reads;
@@ -54,22 +60,17 @@ ends_when {holds = holds} {shelf = shelf} {names = names} later same ends = reco
 }
 
 -- a call ends with no more than a line where the words could not be had
-pub ends_unread : (brought : Brought) {S K : Type 0} {holds : S → Option Files} {misses : S → ℕ} (shelf : S) {told : K → Option (List ℕ)} {faults : K → ℕ} (out : K)
+pub ends_unread : (brought : Brought) {S K : Type 0} {holds : S → Option Files} {misses : S → ℕ} {asked : S → Option (List (List ℕ))} (shelf : S) {told : K → Option (List ℕ)} {faults : K → ℕ} (out : K)
     (error : WordsError) (due : Reader → Files → Result Writing Failure) → IsWanted brought (Err error) due
-    → Ends holds misses shelf shelf told faults out out [] due (failed (words_failure error))
+    → Ends holds misses asked shelf shelf told faults out out [] due (failed (words_failure error))
 ends_unread brought shelf out error.Usage due wanted = record {
   made = Err (caused usage);
-  reads = record {
-    as_due = λ files may reader is. wanted reader files is;
-    unread = tt;
-    same_files = refl;
-    stands = refl;
-  };
+  reads = fails_alone shelf [] tt wanted;
   finishes = (refl, refl, refl);
 }
 ends_unread brought shelf out error.NoMemory due wanted = record {
   made = Err (words_failure error.NoMemory);
-  reads = reads_no_memory [] due refl refl;
+  reads = fails_alone shelf [] tt (λ reader files is. tt);
   finishes = (refl, refl, refl);
 }
 
@@ -101,3 +102,54 @@ pub leaves_all : {F : Type 0} (old new : List F) (words : List (List ℕ)) (read
     → IfErr read (λ error. new ≡ old) → HasNoCommand words → new ≡ old
 leaves_all old new words (Ok command) is same none = absurd (none (command_of command) is)
 leaves_all old new words (Err error) is same none = same
+
+-- ---- what the shelf was asked for
+
+ends_asking : (failure : Failure) (front later : List (List ℕ)) (Told : List ℕ → Type 0) → EndsAsking {Y = Writing} (Err failure) front later → Told (failure_line failure)
+    → AsksUpTo (failure_status failure) front later Told
+ends_asking no_memory front later Told ends told = tt
+ends_asking (unread name) front later Told (before, is) told = record { before = before; name = name; last = is; told = told }
+ends_asking (caused cause) front later Told ends told = by_cause (λ s. AsksUpTo s front later Told) tt tt tt tt tt tt tt cause
+
+ends_all : (refused : RefusedEntries) (front later : List (List ℕ)) (Told : List ℕ → Type 0) → later ≡ [] → AsksUpTo (written_status refused) front later Told
+ends_all [] front later Told none = none
+ends_all (entry ∷ refused) front later Told none = none
+
+-- by how the call ends
+asks_to_end : {K : Type 0} (told : K → Option (List ℕ)) (faults : K → ℕ) (out out_new : K) (made : Result Writing Failure) (end : End) (front later : List (List ℕ)) (Told : List ℕ → Type 0)
+    → Finishes told faults out out_new made end → EndsAsking made front later → Told (end_lines end) → AsksUpTo (end_status end) front later Told
+asks_to_end told faults out out_new (Ok writing) end front later Told (inl (is, all)) none lines = rw is (ends_all (all_refused writing.remarks) front later Told none)
+asks_to_end told faults out out_new (Ok writing) end front later Told (inr (is, some)) none lines = rw is none
+asks_to_end told faults out out_new (Err failure) end front later Told (is, same, stands) ends lines = rw is (ends_asking failure front later Told ends (rw is at lines))
+
+-- what a call asked a shelf for that read the words of a command, or had no memory to
+pub asks_by_words : (brought : Brought) {S K : Type 0} {holds : S → Option Files} {misses : S → ℕ} {asked : S → Option (List (List ℕ))} {shelf shelf_new : S} {told : K → Option (List ℕ)} {faults : K → ℕ} {out out_new : K}
+    {due : Reader → Files → Result Writing Failure} {Told : List ℕ → Type 0} (words : List (List ℕ)) (read : Result Declared WordsError) (end : End)
+    → IfOk read (λ command. IsCommand words (command_of command)) → (IsErrOf read error.Usage → HasNoCommand words) → IfErr read (λ error. end ≡ failed (words_failure error))
+    → Ends holds misses asked shelf shelf_new told faults out out_new (named_files brought read) due end → Told (end_lines end)
+    → (command : Command) → IsCommand words command → Asks (asked shelf) (asked shelf_new) (files_of brought (plan command)) (end_status end) Told
+asks_by_words brought {told = told} {faults = faults} {out = out} {out_new = out_new} {Told = Told} words (Ok found) end is none ends done lines command reads =
+    let asks = done.reads.asks in
+    record {
+      front = asks.front;
+      later = asks.later;
+      prefix = ap (λ c. files_of brought (plan c)) (sym (at_most_one words (command_of found) command is reads)) ∙ asks.prefix;
+      asked = asks.asked;
+      ends = asks_to_end told faults out out_new done.made end asks.front asks.later Told done.finishes asks.ends lines;
+    }
+asks_by_words brought words (Err error.Usage) end is none ends done lines command reads = absurd (none refl command reads)
+asks_by_words brought {asked = asked} {shelf = shelf} words (Err error.NoMemory) end is none ends done lines command reads = record {
+  front = [];
+  later = files_of brought (plan command);
+  prefix = refl;
+  asked = asked_none done.reads.asks ∙ ask_more-nothing (asked shelf);
+  ends = rw ends tt;
+}
+
+-- words of no command ask for nothing
+pub asks_for_nothing : (brought : Brought) {S K : Type 0} {holds : S → Option Files} {misses : S → ℕ} {asked : S → Option (List (List ℕ))} {shelf shelf_new : S} {told : K → Option (List ℕ)} {faults : K → ℕ} {out out_new : K}
+    {due : Reader → Files → Result Writing Failure} {end : End} (words : List (List ℕ)) (read : Result Declared WordsError)
+    → IfOk read (λ command. IsCommand words (command_of command)) → Ends holds misses asked shelf shelf_new told faults out out_new (named_files brought read) due end
+    → HasNoCommand words → asked shelf_new ≡ asked shelf
+asks_for_nothing brought words (Ok command) is done none = absurd (none (command_of command) is)
+asks_for_nothing brought words (Err error) is done none = asked_none done.reads.asks

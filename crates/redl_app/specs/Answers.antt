@@ -1,7 +1,7 @@
 -- What a call answers and leaves behind, by its outcome.
-use Rattle.std.specs.Prelude.{◌≡◌, ◌⊎◌, ℕ, List, ◌++◌, Option, Contains}
+use Rattle.std.specs.Prelude.{◌≡◌, ◌⊎◌, ℕ, List, [], ◌∷◌, ◌++◌, Option, Contains}
 use Rattle.std.specs.Io.KnownBytes.{append_known}
-use Rattle.redl_io.specs.Shelf.{Files, Lacks}
+use Rattle.redl_io.specs.Shelf.{Files, Lacks, ask_more}
 use Rattle.redl_io.specs.Sink.{GrowsByFront}
 use Rattle.redl_app.specs.Outcome.{outcome}
 use Rattle.redl_inputs.specs.Readers.{Reader, IsReader}
@@ -67,3 +67,26 @@ TellsSome told faults old new Holds = (lines : List ℕ) × Holds lines × Tells
 -- why a read fault may be answered: the words ask for files, and the shelf failed or lacks one of them
 abbrev pub MayFault : List (List ℕ) → Brought → Option Files → Type 0 → Type 0
 MayFault words brought told failed = (name : List ℕ) × IsFileOf words brought name × (failed ⊎ Lacks told name)
+
+-- the last of these names is told
+pub record TellsLast (front : List (List ℕ)) (Told : List ℕ → Type 0) : Type 0 where
+  pub before : List (List ℕ)
+  pub name : List ℕ
+  pub last : front ≡ before ++ name ∷ []
+  pub told : Told (unread_line name)
+
+-- Where a call put its output, no name is left. Where a file could not be read, the line tells the last name that was asked for.
+abbrev pub AsksUpTo : Status → List (List ℕ) → List (List ℕ) → (List ℕ → Type 0) → Type 0
+AsksUpTo status.Done front later Told = later ≡ []
+AsksUpTo status.Refused front later Told = later ≡ []
+AsksUpTo status.WriteFault front later Told = later ≡ []
+AsksUpTo status.ReadFault front later Told = TellsLast front Told
+AsksUpTo _ front later Told = Unit {0}
+
+-- A call with this status, which told lines of which this holds, asked a shelf for a front of these names, in their order, each once.
+pub record Asks (old new : Option (List (List ℕ))) (names : List (List ℕ)) (status : Status) (Told : List ℕ → Type 0) : Type 0 where
+  pub front : List (List ℕ)
+  pub later : List (List ℕ)
+  pub prefix : names ≡ front ++ later
+  pub asked : new ≡ ask_more old front
+  pub ends : AsksUpTo status front later Told

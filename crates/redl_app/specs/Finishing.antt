@@ -32,11 +32,11 @@ Finishes told faults old new (Ok writing) end =
     ⊎ ((end ≡ unwritten writing.remarks) × WritesFront told faults old new writing.bytes)
 Finishes told faults old new (Err failure) end = (end ≡ failed failure) × (told new ≡ told old) × (faults new ≡ faults old)
 
--- A call took files of these names from a shelf, made what was due or failed, and put what it made on the output.
-pub record Ends {S K : Type 0} (holds : S → Option Files) (misses : S → ℕ) (shelf shelf_new : S) (told : K → Option (List ℕ)) (faults : K → ℕ) (out out_new : K)
+-- A call took files of these names from a shelf, in their order, made what was due or failed, and put what it made on the output.
+pub record Ends {S K : Type 0} (holds : S → Option Files) (misses : S → ℕ) (asked : S → Option (List (List ℕ))) (shelf shelf_new : S) (told : K → Option (List ℕ)) (faults : K → ℕ) (out out_new : K)
     (names : List (List ℕ)) (due : Reader → Files → Result Writing Failure) (end : End) : Type 0 where
   pub made : Result Writing Failure
-  pub reads : ReadsFiles holds misses shelf shelf_new names made due
+  pub reads : ReadsFiles holds misses asked shelf shelf_new names made due
   pub finishes : Finishes told faults out out_new made end
 
 -- What was due was made without files of a shelf, or memory ran out, and with this the call ended.

@@ -62,7 +62,7 @@ pub(crate) fn carry_out<'a, F: Shelf, O: Sink>(
     requires report { has_format (formats_by report_name report_text reports.old.items) (plan (command_of command.now)).report ≡ Ok tt }
     requires fresh { AreFresh is_closed rows_so_far formats.old.items }
     requires fresh_reports { AreFresh is_ended lines_so_far reports.old.items }
-    ensures ends { Ends F.told F.faults shelf.old shelf.new O.told O.faults out.old out.new (plan (command_of command.now)).journals
+    ensures ends { Ends F.told F.faults F.asked shelf.old shelf.new O.told O.faults out.old out.new (plan (command_of command.now)).journals
         (λ reader files. made_with reader files (brought_by format_name text_for formats.old.items report_name report_text reports.old.items skin.now) (plan (command_of command.now)).makes (option_copied text.entry))
         (end_view result) }
     ensures formats { LeavesFormats (end_status (end_view result))

@@ -5,7 +5,7 @@
 
 ghost use Rattle.std.specs.Prelude.{◌≡◌, ◌≢◌, ◌⊎◌, [], All, IfErr, IfOk, IsOk, IsUtf8, Ok, Result};
 ghost use Rattle.std.specs.Io.KnownBytes.{append_known};
-ghost use Rattle.redl_app.specs.Answers.{AreLines, IsAnswer, MayFault, OfOutcome, TellsSome, Writes};
+ghost use Rattle.redl_app.specs.Answers.{AreLines, Asks, IsAnswer, MayFault, OfOutcome, TellsSome, Writes};
 ghost use Rattle.redl_app.specs.Files.{files_of};
 ghost use Rattle.redl_app.specs.Finishing.{Ends, IsWanted, words_failure};
 ghost use Rattle.redl_app.specs.Brought.{brought_by};
@@ -74,6 +74,13 @@ pub fn run<F: Shelf, O: Sink, E: Sink>(
         (F.told shelf.old) (Rose (F.faults shelf.old) (F.faults shelf.new)) }
     ensures write { result ≡ Status.WriteFault → Rose (O.faults out.old) (O.faults out.new) }
 
+    // A command asks for a front of its files, in their order, each once: for all of them where its output was put. The line of a read
+    // fault tells the last name. Other words ask for none.
+    ensures asked { (command : CommandOf) → IsCommand words.now command → Asks (F.asked shelf.old) (F.asked shelf.new)
+        (files_of (brought_by format_name text_for formats.old.items report_name report_text reports.old.items skin.now) (plan command))
+        result (Tells E.told E.faults err.old err.new) }
+    ensures unasked { HasNoCommand words.now → F.asked shelf.new ≡ F.asked shelf.old }
+
     // No fault is passed over, and nothing is taken from the shelf.
     ensures shelf_stands { result ≢ Status.ReadFault → F.faults shelf.new ≡ F.faults shelf.old }
     ensures out_stands { result ≢ Status.WriteFault → O.faults out.new ≡ O.faults out.old }
@@ -124,7 +131,7 @@ fn end_of_words<'a, F: Shelf, O: Sink>(
     requires fresh_reports { AreFresh is_ended lines_so_far reports.old.items }
     ensures ends { (due : Reader → Files → Result WritingOf FailureOf) → IsWanted
         (brought_by format_name text_for formats.old.items report_name report_text reports.old.items skin.now) (read_view read.now) due
-        → Ends F.told F.faults shelf.old shelf.new O.told O.faults out.old out.new
+        → Ends F.told F.faults F.asked shelf.old shelf.new O.told O.faults out.old out.new
         (named_files (brought_by format_name text_for formats.old.items report_name report_text reports.old.items skin.now) read.now) due (end_view result) }
     ensures words { IfErr read.now (λ error. end_view result ≡ failed (words_failure error)) }
     ensures taken { IfOk read.now (λ command. LeavesFormats (end_status (end_view result))
@@ -178,7 +185,7 @@ fn end_of_command<'a, F: Shelf, O: Sink>(
     requires utf8 { HasUtf8 (command_of command.now) }
     requires fresh { AreFresh is_closed rows_so_far formats.old.items }
     requires fresh_reports { AreFresh is_ended lines_so_far reports.old.items }
-    ensures ends { Ends F.told F.faults shelf.old shelf.new O.told O.faults out.old out.new
+    ensures ends { Ends F.told F.faults F.asked shelf.old shelf.new O.told O.faults out.old out.new
         (files_of (brought_by format_name text_for formats.old.items report_name report_text reports.old.items skin.now)
         (plan (command_of command.now)))
         (λ reader files. carried_out reader files

@@ -1,7 +1,8 @@
+pub mod NameLaws
 pub mod StepLaws
 pub mod FetchLaws
+pub mod AskLaws
 pub mod ReadLaws
-pub mod NameLaws
 pub mod JournalLaws
 pub mod GatherLaws
 pub mod LeftLaws

@@ -4,5 +4,6 @@ pub mod Packages
 pub mod Journals
 pub mod Idle
 pub mod Admission
+pub mod Asking
 pub mod Reading
 pub mod Views

@@ -1,5 +1,6 @@
 -- What a step of a call does that takes files from the shelf.
 use Rattle.std.specs.Prelude.{◌≡◌, ◌⊎◌, ℕ, List, [], Option, Some, Result, Ok, Err, Contains, take}
+use Rattle.redl_inputs.specs.Asking.{AsksFor}
 use Rattle.redl_inputs.specs.Readers.{Reader, IsReader}
 use Rattle.redl_io.specs.Faults.{Rose}
 use Rattle.redl_io.specs.Shelf.{Files, Lacks}
@@ -26,14 +27,15 @@ UnlessUnread made Holds = Holds
 abbrev pub MayHold : Option Files → List (List ℕ) → Files → Type 0
 MayHold told names files = (told ≡ Some files) ⊎ (names ≡ [])
 
--- A step took files of these names from a shelf, and made what was due.
-pub record ReadsFiles {S Y : Type 0} (told : S → Option Files) (faults : S → ℕ) (old new : S) (names : List (List ℕ)) (made : Result Y Failure)
-    (due : Reader → Files → Result Y Failure) : Type 0 where
+-- A step took files of these names from a shelf, in their order, and made what was due.
+pub record ReadsFiles {S Y : Type 0} (told : S → Option Files) (faults : S → ℕ) (asked : S → Option (List (List ℕ))) (old new : S) (names : List (List ℕ))
+    (made : Result Y Failure) (due : Reader → Files → Result Y Failure) : Type 0 where
   pub as_due : (files : Files) → MayHold (told old) names files → (reader : Reader) → IsReader reader
       → IsMade made (due reader files) (Rose (faults old) (faults new))
   pub unread : IsUnread made names (told old) (Rose (faults old) (faults new))
   pub same_files : told new ≡ told old
   pub stands : UnlessUnread made (faults new ≡ faults old)
+  pub asks : AsksFor (asked old) (asked new) names made
 
 -- the first bytes of a file, at most so many
 abbrev pub front_of : ℕ → Result (List ℕ) Failure → Result (List ℕ) Failure

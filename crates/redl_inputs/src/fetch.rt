@@ -26,7 +26,7 @@ pub fn fetch_package<'a, F: Shelf>(
     name: &'a str,
     shelf: &mut F,
 ) -> Result<Vec<u8>, Failure<'a>>
-    ensures { ReadsFiles F.told F.faults shelf.old shelf.new (name.now ∷ [])
+    ensures { ReadsFiles F.told F.faults F.asked shelf.old shelf.new (name.now ∷ [])
         (result_view (λ bytes. bytes.items) result) (λ reader files. package_file files name.now) }
 {
     fetch_file(alloc, name, PACKAGE_LIMIT, Limit::PackageBytes, shelf)
@@ -43,7 +43,7 @@ pub fn fetch_file<'a, F: Shelf>(
     shelf: &mut F,
 ) -> Result<Vec<u8>, Failure<'a>>
     requires { most < 2 ^ 32 }
-    ensures read { ReadsFiles F.told F.faults shelf.old shelf.new (name.now ∷ [])
+    ensures read { ReadsFiles F.told F.faults F.asked shelf.old shelf.new (name.now ∷ [])
         (result_view (λ bytes. bytes.items) result) (λ reader files. file files name.now most limit) }
     ensures within { IfOk result (λ bytes. length bytes.items ≤ most) }
 {
@@ -61,7 +61,7 @@ fn fetch_front<'a, F: Shelf>(
     cap: usize,
     shelf: &mut F,
 ) -> Result<Vec<u8>, Failure<'a>>
-    ensures { ReadsFiles F.told F.faults shelf.old shelf.new (name.now ∷ [])
+    ensures { ReadsFiles F.told F.faults F.asked shelf.old shelf.new (name.now ∷ [])
         (result_view (λ bytes. bytes.items) result) (λ reader files. front_of cap (held name.now (files name.now))) }
 {
     match shelf.fetch(alloc, name, cap) {

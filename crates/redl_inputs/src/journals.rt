@@ -31,7 +31,7 @@ pub fn admit_journals<'a, 'b, F: Shelf>(
     requires utf8 { All IsUtf8 journals.now }
     requires limit { limit < 2 ^ 32 }
     requires document { document_view document ≡ known_view before.document }
-    ensures read { ReadsFiles F.told F.faults shelf.old shelf.new journals.now
+    ensures read { ReadsFiles F.told F.faults F.asked shelf.old shelf.new journals.now
         (result_view admission_view result) (λ reader files. admission_of reader files (admission_view before.entry) limit journals.now) }
     ensures nodes { IfOk result (λ admitted. admitted.session.nodes ≡ before.entry.session.nodes) }
     ensures revisions { IfOk result (λ admitted. admitted.session.revisions ≡ before.entry.session.revisions) }
@@ -52,7 +52,7 @@ pub fn admit_within<'a, 'b, F: Shelf>(
     requires utf8 { All IsUtf8 journals.now }
     requires limit { limit < 2 ^ 32 }
     requires document { document_view document ≡ known_view before.document }
-    ensures read { ReadsFiles F.told F.faults shelf.old shelf.new journals.now
+    ensures read { ReadsFiles F.told F.faults F.asked shelf.old shelf.new journals.now
         (result_view (λ x. (admission_view x.0, x.1)) result) (λ reader files. admission_left reader files (admission_view before.entry) limit journals.now) }
     ensures within { IfOk result (λ x. x.1 ≤ limit) }
     ensures nodes { IfOk result (λ x. x.0.session.nodes ≡ before.entry.session.nodes) }
@@ -80,7 +80,7 @@ pub fn join_journals<'a, F: Shelf>(
 ) -> Result<Book, Failure<'a>>
     requires utf8 { All IsUtf8 journals.now }
     requires limit { limit < 2 ^ 32 }
-    ensures { ReadsFiles F.told F.faults shelf.old shelf.new journals.now
+    ensures { ReadsFiles F.told F.faults F.asked shelf.old shelf.new journals.now
         (result_view (λ book. book) result) (λ reader files. union_with reader files (document_view document) limit before journals.now) }
 {
     let mut book = before;
@@ -112,7 +112,7 @@ pub fn read_first<'a, F: Shelf>(
     shelf: &mut F,
 ) -> Result<(Journal, usize), Failure<'a>>
     requires { most < 2 ^ 32 }
-    ensures read { ReadsFiles F.told F.faults shelf.old shelf.new (name.now ∷ [])
+    ensures read { ReadsFiles F.told F.faults F.asked shelf.old shelf.new (name.now ∷ [])
         (result_view (λ x. (journal_of x.0, x.1)) result) (λ reader files. first_journal reader files most name.now) }
     ensures allowed { IfOk result (λ x. All IsAllowed x.0.entries.items) }
     ensures within { IfOk result (λ x. x.1 ≤ most) }
@@ -131,7 +131,7 @@ fn read_journal<'a, F: Shelf>(
     shelf: &mut F,
 ) -> Result<(Vec<Entry>, usize), Failure<'a>>
     requires { left < 2 ^ 32 }
-    ensures read { ReadsFiles F.told F.faults shelf.old shelf.new (name.now ∷ [])
+    ensures read { ReadsFiles F.told F.faults F.asked shelf.old shelf.new (name.now ∷ [])
         (result_view (λ x. (x.0.items, x.1)) result) (λ reader files. journal_at reader files (document_view document) left name.now) }
     ensures allowed { IfOk result (λ x. All IsAllowed x.0.items) }
     ensures within { IfOk result (λ x. x.1 ≤ left) }

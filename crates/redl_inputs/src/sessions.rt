@@ -30,7 +30,7 @@ pub fn open<'a, 'b, F: Shelf>(
     shelf: &mut F,
 ) -> Result<Admitted<'b>, Failure<'a>>
     requires { All IsUtf8 journals.now }
-    ensures { ReadsFiles F.told F.faults shelf.old shelf.new journals.now
+    ensures { ReadsFiles F.told F.faults F.asked shelf.old shelf.new journals.now
         (result_view admission_view result) (λ reader files. opened reader files locks.now journals.now bytes.now) }
 {
     let package = read_package(alloc, bytes)?;
@@ -49,7 +49,7 @@ pub fn open_package<'a, 'b, F: Shelf>(
 ) -> Result<Admitted<'b>, Failure<'a>>
     requires utf8 { All IsUtf8 journals.now }
     requires sound { broken_rule «package» ≡ None }
-    ensures read { ReadsFiles F.told F.faults shelf.old shelf.new journals.now
+    ensures read { ReadsFiles F.told F.faults F.asked shelf.old shelf.new journals.now
         (result_view admission_view result) (λ reader files. opened_over reader files locks.now journals.now bytes.now «package».entry) }
     ensures nodes { IfOk result (λ admitted. admitted.session.nodes ≡ numbered_package «package».entry) }
     ensures revisions { IfOk result (λ admitted. admitted.session.revisions ≡ revisions_of «package».entry) }
@@ -75,7 +75,7 @@ pub fn sit<'a, 'b, F: Shelf>(
     requires utf8 { All IsUtf8 journals.now }
     requires limit { limit < 2 ^ 32 }
     requires sound { broken_rule «package» ≡ None }
-    ensures read { ReadsFiles F.told F.faults shelf.old shelf.new journals.now
+    ensures read { ReadsFiles F.told F.faults F.asked shelf.old shelf.new journals.now
         (result_view (λ x. (admission_view x.0, x.1)) result) (λ reader files. sitting_over reader files limit journals.now bytes.now «package».entry) }
     ensures within { IfOk result (λ x. x.1 ≤ limit) }
     ensures nodes { IfOk result (λ x. x.0.session.nodes ≡ numbered_package «package».entry) }

@@ -33,7 +33,7 @@ pub(crate) fn decide<'a, 'b, F: Shelf>(
     requires reviewer { IsReviewer reviewer.now }
     requires rank { rank ≤ 9 }
     requires journals { All IsUtf8 journals.now }
-    ensures { ReadsFiles F.told F.faults shelf.old shelf.new journals.now
+    ensures { ReadsFiles F.told F.faults F.asked shelf.old shelf.new journals.now
         (result_view writing_view result) (λ reader files. chosen_journal reader files reviewer.now rank locks.now journals.now (choices_view choices.now) bytes.now) }
 {
     let admitted = open(alloc, locks, journals, bytes, shelf)?;

@@ -25,7 +25,7 @@ pub(crate) fn join<'a, 'b, F: Shelf>(
     shelf: &mut F,
 ) -> Result<Writing<'b>, Failure<'a>>
     requires { All IsUtf8 journals.now }
-    ensures { ReadsFiles F.told F.faults shelf.old shelf.new journals.now
+    ensures { ReadsFiles F.told F.faults F.asked shelf.old shelf.new journals.now
         (result_view writing_view result) (λ reader files. joined reader files journal_bytes journals.now) }
 {
     match journals {
@@ -42,7 +42,7 @@ fn join_to<'a, 'b, F: Shelf>(
     shelf: &mut F,
 ) -> Result<Writing<'b>, Failure<'a>>
     requires { All IsUtf8 others.now }
-    ensures { ReadsFiles F.told F.faults shelf.old shelf.new (name.now ∷ others.now)
+    ensures { ReadsFiles F.told F.faults F.asked shelf.old shelf.new (name.now ∷ others.now)
         (result_view writing_view result) (λ reader files. joined reader files journal_bytes (name.now ∷ others.now)) }
 {
     let (journal, size) = read_first(alloc, name, JOURNALS_LIMIT, shelf)?;

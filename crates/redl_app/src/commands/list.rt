@@ -40,7 +40,7 @@ pub(crate) fn list<'a, 'b, F: Shelf>(
     requires utf8 { All IsUtf8 journals.now }
     requires there { whether (format_named (formats_by format_name text_for formats.old.items) name.now) ≡ Ok tt }
     requires fresh { AreFresh is_closed rows_so_far formats.old.items }
-    ensures read { ReadsFiles F.told F.faults shelf.old shelf.new journals.now
+    ensures read { ReadsFiles F.told F.faults F.asked shelf.old shelf.new journals.now
         (result_view writing_view result) (λ reader files. listed reader files (formats_by format_name text_for formats.old.items) name.now locks.now journals.now (onlys_view only.now) bytes.now) }
     ensures formats { LeavesFormats (outcome_of (result_view writing_view result)).status
         (without_named format_name name.now formats.old.items) formats.old.items formats.new.items }

@@ -38,7 +38,7 @@ pub(crate) fn put_page<'a, F: Shelf, O: Sink>(
     out: &mut O,
 ) -> End<'a>
     requires { All IsUtf8 journals.now }
-    ensures { Ends F.told F.faults shelf.old shelf.new O.told O.faults out.old out.new journals.now
+    ensures { Ends F.told F.faults F.asked shelf.old shelf.new O.told O.faults out.old out.new journals.now
         (λ reader files. paged reader files (skin_view skin.now) locks.now journals.now bytes.now) (end_view result) }
 {
     match open(alloc, locks, journals, bytes, shelf) {

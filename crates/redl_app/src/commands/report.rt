@@ -34,7 +34,7 @@ pub(crate) fn report_package<'a, 'b, F: Shelf>(
     requires utf8 { All IsUtf8 journals.now }
     requires there { whether (format_named (formats_by report_name report_text reports.old.items) name.now) ≡ Ok tt }
     requires fresh { AreFresh is_ended lines_so_far reports.old.items }
-    ensures read { ReadsFiles F.told F.faults shelf.old shelf.new journals.now
+    ensures read { ReadsFiles F.told F.faults F.asked shelf.old shelf.new journals.now
         (result_view writing_view result) (λ reader files. reported reader files (formats_by report_name report_text reports.old.items) name.now by_kind locks.now journals.now bytes.now) }
     ensures reports { LeavesFormats (outcome_of (result_view writing_view result)).status
         (without_named report_name name.now reports.old.items) reports.old.items reports.new.items }

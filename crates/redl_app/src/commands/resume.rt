@@ -49,7 +49,7 @@ pub(crate) fn resume<'a, 'b, F: Shelf>(
 ) -> Result<Writing<'b>, Failure<'a>>
     requires firsts { All IsUtf8 firsts.now }
     requires seconds { All IsUtf8 journals.now }
-    ensures { ReadsFiles F.told F.faults shelf.old shelf.new (firsts.now ++ second.now ∷ journals.now)
+    ensures { ReadsFiles F.told F.faults F.asked shelf.old shelf.new (firsts.now ++ second.now ∷ journals.now)
         (result_view writing_view result) (λ reader files. resumed reader files second.now firsts.now journals.now bytes.now) }
 {
     let package = read_package(alloc, bytes)?;
@@ -121,7 +121,7 @@ fn resume_on<'a, 'b, F: Shelf>(
     requires utf8 { All IsUtf8 journals.now }
     requires left { left < 2 ^ 32 }
     ensures { (one : Admission) → IsFirst one first → IsReadAgain bytes.now one → text.items ≡ left_text one.state
-        → ReadsFiles F.told F.faults shelf.old shelf.new (second.now ∷ journals.now) (result_view writing_view result)
+        → ReadsFiles F.told F.faults F.asked shelf.old shelf.new (second.now ∷ journals.now) (result_view writing_view result)
         (λ reader files. resumed_with reader files second.now journals.now (one, left)) }
 {
     let whole = fetch_package(alloc, second, shelf)?;
@@ -151,7 +151,7 @@ fn resume_with<'a, 'b, F: Shelf>(
     requires utf8 { All IsUtf8 journals.now }
     requires left { left < 2 ^ 32 }
     ensures { (one : Admission) → IsFirst one first → IsReadAgain bytes.now one
-        → ReadsFiles F.told F.faults shelf.old shelf.new journals.now (result_view writing_view result)
+        → ReadsFiles F.told F.faults F.asked shelf.old shelf.new journals.now (result_view writing_view result)
         (λ reader files. resumed_on reader files left journals.now whole.items one) }
 {
     let First {
@@ -176,7 +176,7 @@ fn take_second<'a, F: Shelf>(
 ) -> Result<Joined, Failure<'a>>
     requires utf8 { All IsUtf8 journals.now }
     requires left { left < 2 ^ 32 }
-    ensures { ReadsFiles F.told F.faults shelf.old shelf.new journals.now (result_view joined_view result)
+    ensures { ReadsFiles F.told F.faults F.asked shelf.old shelf.new journals.now (result_view joined_view result)
         (λ reader files. second_joined reader files left journals.now whole.items decided (map (λ part. part.items) numbers.now)) }
 {
     let package = read_second(alloc, &whole)?;

@@ -22,7 +22,7 @@ pub(crate) fn write<'a, 'b, F: Shelf>(
     shelf: &mut F,
 ) -> Result<Writing<'b>, Failure<'a>>
     requires { All IsUtf8 journals.now }
-    ensures { ReadsFiles F.told F.faults shelf.old shelf.new journals.now
+    ensures { ReadsFiles F.told F.faults F.asked shelf.old shelf.new journals.now
         (result_view writing_view result) (λ reader files. written reader files locks.now journals.now bytes.now) }
 {
     let admitted = open(alloc, locks, journals, bytes, shelf)?;

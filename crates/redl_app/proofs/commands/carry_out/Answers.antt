@@ -21,14 +21,14 @@ join-requires g c = rw c.deref-in-Join.ensures.value (rw c.in-Join.is at c.requi
 pub returns-in-Settle-clause-ends : goal.returns-in-Settle-clause-ends
 returns-in-Settle-clause-ends g c = record {
   made = result_view writing_view c.settle.result;
-  reads = rw (c.in-Settle.is, c.unwrap.ensures) (reads_nothing _ _ c.settle.ensures);
+  reads = rw (c.in-Settle.is, c.unwrap.ensures) (reads_nothing _ c.settle.ensures);
   finishes = c.put.ensures;
 }
 
 pub returns-in-Text-clause-ends : goal.returns-in-Text-clause-ends
 returns-in-Text-clause-ends g c = record {
   made = c.put_text.ensures.made;
-  reads = rw (c.in-Text.is, c.unwrap-in-Text.ensures) (reads_nothing _ _ c.put_text.ensures.reads);
+  reads = rw (c.in-Text.is, c.unwrap-in-Text.ensures) (reads_nothing _ c.put_text.ensures.reads);
   finishes = c.put_text.ensures.finishes;
 }
 
@@ -63,7 +63,7 @@ returns-in-Join-clause-ends g c = record {
 pub returns-in-Check-clause-ends : goal.returns-in-Check-clause-ends
 returns-in-Check-clause-ends g c = record {
   made = result_view writing_view c.check.result;
-  reads = rw (c.in-Check.is, c.unwrap-in-Check.ensures) (reads_nothing _ _ c.check.ensures);
+  reads = rw (c.in-Check.is, c.unwrap-in-Check.ensures) (reads_nothing _ c.check.ensures);
   finishes = c.put-in-Check.ensures;
 }
 
@@ -83,7 +83,7 @@ returns-in-Decide-clause-ends g c = record {
 pub returns-in-Sample-clause-ends : goal.returns-in-Sample-clause-ends
 returns-in-Sample-clause-ends g c = record {
   made = result_view writing_view c.sample.result;
-  reads = rw c.in-Sample.is (reads_nothing _ _ c.sample.ensures);
+  reads = rw c.in-Sample.is (reads_nothing _ c.sample.ensures);
   finishes = c.put-in-Sample.ensures;
 }
 

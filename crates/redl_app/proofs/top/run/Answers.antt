@@ -2,7 +2,7 @@ use Rattle.std.proofs.Common.{◌≡◌, ◌∙◌, sym, ℕ, List}
 use Rattle.redl_app.proofs.LeftLaws.{leaves_package}
 use Rattle.redl_app.proofs.SittingLaws.{call_resumes}
 use Rattle.redl_app.proofs.TopLaws.{due_by, answers, writes, tells, read_cause, write_cause, out_stands, untouched, shelf_stands}
-use Rattle.redl_app.proofs.WordLaws.{are_named, is_wanted, ends_as_usage, leaves_by_words, leaves_all, names_asked}
+use Rattle.redl_app.proofs.WordLaws.{are_named, asks_by_words, asks_for_nothing, is_wanted, ends_as_usage, leaves_by_words, leaves_all, names_asked}
 use Rattle.redl_app.specs.Brought.{brought_by}
 use Rattle.redl_io.specs.Faults.{Rose}
 use Rattle.redl_lines.specs.Ends.{Tells, end_view}
@@ -27,6 +27,20 @@ pub returns-clause-write : goal.returns-clause-write
 returns-clause-write g c = λ fault.
     let ends = c.end_of_words-end.ensures.ends (due_by c.args.words.now _) (is_wanted c.args.words.now _ c.read_words-read.result c.read_words-read.ensures.found c.read_words-read.ensures.usage) in
     write_cause g.O.Sink.told g.O.Sink.faults _ _ ends.made _ ends.finishes (sym c.status.ensures ∙ fault)
+
+pub returns-clause-asked : goal.returns-clause-asked
+returns-clause-asked g c = λ command reads.
+    let brought = brought_by (λ b. (goal.RowFormat-dyn g (b.vtable, b.value)).format_name b.value) (λ b. (goal.RowFormat-dyn g (b.vtable, b.value)).text_for b.value) c.args.formats.now.items (λ b. (goal.ReportFormat-dyn g (b.vtable, b.value)).report_name b.value) (λ b. (goal.ReportFormat-dyn g (b.vtable, b.value)).report_text b.value) c.args.reports.now.items c.args.skin.now in
+    let ends = c.end_of_words-end.ensures.ends (due_by c.args.words.now brought) (is_wanted c.args.words.now brought c.read_words-read.result c.read_words-read.ensures.found c.read_words-read.ensures.usage) in
+    rw c.status.ensures (asks_by_words brought {Told = λ (lines : List ℕ). Tells g.E.Sink.told g.E.Sink.faults c.args.err.now c.tell.new.err lines}
+    c.args.words.now c.read_words-read.result (end_view c.end_of_words-end.result) c.read_words-read.ensures.found c.read_words-read.ensures.usage
+    c.end_of_words-end.ensures.words ends c.tell.ensures command reads)
+
+pub returns-clause-unasked : goal.returns-clause-unasked
+returns-clause-unasked g c = λ none.
+    let brought = brought_by (λ b. (goal.RowFormat-dyn g (b.vtable, b.value)).format_name b.value) (λ b. (goal.RowFormat-dyn g (b.vtable, b.value)).text_for b.value) c.args.formats.now.items (λ b. (goal.ReportFormat-dyn g (b.vtable, b.value)).report_name b.value) (λ b. (goal.ReportFormat-dyn g (b.vtable, b.value)).report_text b.value) c.args.reports.now.items c.args.skin.now in
+    asks_for_nothing brought c.args.words.now c.read_words-read.result c.read_words-read.ensures.found
+    (c.end_of_words-end.ensures.ends (due_by c.args.words.now brought) (is_wanted c.args.words.now brought c.read_words-read.result c.read_words-read.ensures.found c.read_words-read.ensures.usage)) none
 
 pub returns-clause-shelf_stands : goal.returns-clause-shelf_stands
 returns-clause-shelf_stands g c = λ other.

@@ -11,7 +11,7 @@ returns-in_err-bytes-clause-read g c =
     let p = err_from_is_err_and c.from_residual.result c.from_residual.ensures.1 in
     let name = c.args.name.now in
     rw (p.1, p.2) (reads_stops (λ whole reader files. within c.args.most c.args.limit whole)
-    (fetch_stops (c.args.most + 1) (λ reader files. held name (files name)) c.in_err-bytes.ensures) (λ one h. h))
+    (fetch_stops (c.args.most + 1) (λ reader files. held name (files name)) c.in_err-bytes.ensures))
 
 pub returns-then-len-most-clause-read : goal.returns-then-len-most-clause-read
 returns-then-len-most-clause-read g c =

@@ -1,11 +1,14 @@
-use Rattle.std.proofs.Common.{◌≡◌, ◌+◌, ◌∷◌, drop, Contains, IsUtf8, arith, ap, sym, ◌∙◌, refl, subst}
-use Rattle.std.proofs.lemmas.List.{drop_more, drop_all}
-use Rattle.std.proofs.lemmas.List.Elements.{All-get_or, Contains-get_or}
+use Rattle.std.proofs.Common.{◌+◌, ◌∷◌, [], drop, take, IsUtf8, arith, ap, sym, ◌∙◌, refl}
+use Rattle.std.proofs.lemmas.List.{drop_all, take_all, take-append-drop}
+use Rattle.std.proofs.lemmas.List.Elements.{All-get_or}
 use Rattle.std.proofs.lemmas.Result.{err_from_is_err_and}
 use Rattle.redl_join.proofs.Unions.{union-append}
+use Rattle.redl_inputs.proofs.AskLaws.{ask_more-nothing, asked_all, asked_more}
 use Rattle.redl_inputs.proofs.GatherLaws.{taking_begins, taking_goes_on, taking_stops, taking_ends}
-use Rattle.redl_inputs.proofs.NameLaws.{only_one}
+use Rattle.redl_inputs.proofs.NameLaws.{is_at}
+use Rattle.redl_inputs.proofs.ReadLaws.{reads_no_memory}
 use Rattle.redl_inputs.specs.Journals.{union_with}
+use Rattle.redl_io.specs.Shelf.{ask_more}
 use Rattle.redl_join.specs.Books.{union}
 use Rattle.redl_inputs.specs.Views.{document_view}
 use Rattle.redl_inputs.proofs.journals.join_journals.Goals as goal
@@ -20,6 +23,7 @@ loop-journal-init g c = record {
   taking = taking_begins union (g.F.Shelf.told c.args.shelf.now) (document_view c.args.document) (c.args.before) c.args.limit c.args.journals.now;
   told = refl;
   stands = refl;
+  asked = ask_more-nothing (g.F.Shelf.asked c.args.shelf.now);
 }
 
 pub returns-in_err-entries : goal.returns-in_err-entries
@@ -28,35 +32,41 @@ returns-in_err-entries g c =
     let journals = c.args.journals.now in
     let index = c.loop-journal.journal-index in
     let name = c.name_of.result.now in
-    let is : name ≡ c.journal-item.result = c.name_of.ensures in
-    let here : drop index journals ≡ name ∷ drop (index + 1) journals =
-    drop_more journals index c.journal-item.result c.loop-journal-test.true ∙ ap (λ one. one ∷ drop (index + 1) journals) (sym c.journal-item.is ∙ sym is) in
-    let among : Contains journals name =
-    rw (is, c.journal-item.is) (Contains-get_or journals index c.journal-item.result c.loop-journal-test.true) in
+    let at = is_at journals index name c.journal-item.result c.loop-journal-test.true c.journal-item.is c.name_of.ensures in
     rw (p.1, p.2) (taking_stops union c.args.shelf.now (document_view c.args.document) (λ reader files. union_with reader files (document_view c.args.document) c.args.limit c.args.before journals)
-    (c.loop-journal.book) c.loop-journal.left name (drop (index + 1) journals) journals
-    c.loop-journal.invariant.told c.loop-journal.invariant.stands (rw here at c.loop-journal.invariant.taking)
-    (λ one h. subst (Contains journals) (only_one name one h) among) c.in_err-entries.ensures.read)
+    (c.loop-journal.book) c.loop-journal.left (take index journals) name (drop (index + 1) journals) journals at.split
+    c.loop-journal.invariant.told c.loop-journal.invariant.stands c.loop-journal.invariant.asked (rw at.left at c.loop-journal.invariant.taking)
+    c.in_err-entries.ensures.read)
+
+pub returns-in_err-add_entries : goal.returns-in_err-add_entries
+returns-in_err-add_entries g c =
+    let p = err_from_is_err_and c.from_residual-in_err-add_entries.result c.from_residual-in_err-add_entries.ensures.1 in
+    let journals = c.args.journals.now in
+    let index = c.loop-journal.journal-index in
+    let name = c.name_of.result.now in
+    let at = is_at journals index name c.journal-item.result c.loop-journal-test.true c.journal-item.is c.name_of.ensures in
+    rw (p.1, p.2) (reads_no_memory (take (index + 1) journals) (drop (index + 1) journals) _ (sym (take-append-drop (index + 1) journals))
+    (c.in_ok-entries.ensures.read.same_files ∙ c.loop-journal.invariant.told) (c.in_ok-entries.ensures.read.stands ∙ c.loop-journal.invariant.stands)
+    (asked_more (g.F.Shelf.asked c.args.shelf.now) (take index journals) (name ∷ []) c.loop-journal.invariant.asked (asked_all c.in_ok-entries.ensures.read.asks)
+    ∙ ap (ask_more (g.F.Shelf.asked c.args.shelf.now)) (sym at.more)))
 
 pub loop-journal-preserved : goal.loop-journal-preserved
 loop-journal-preserved g c =
     let journals = c.args.journals.now in
     let index = c.loop-journal.journal-index in
     let name = c.name_of.result.now in
-    let is : name ≡ c.journal-item.result = c.name_of.ensures in
-    let here : drop index journals ≡ name ∷ drop (index + 1) journals =
-    drop_more journals index c.journal-item.result c.loop-journal-test.true ∙ ap (λ one. one ∷ drop (index + 1) journals) (sym c.journal-item.is ∙ sym is) in
-    let among : Contains journals name =
-    rw (is, c.journal-item.is) (Contains-get_or journals index c.journal-item.result c.loop-journal-test.true) in
+    let at = is_at journals index name c.journal-item.result c.loop-journal-test.true c.journal-item.is c.name_of.ensures in
     let next = taking_goes_on union (λ state first more. sym (union-append state first more)) c.args.shelf.now journals (document_view c.args.document) (λ reader files. union_with reader files (document_view c.args.document) c.args.limit c.args.before journals)
-    (c.loop-journal.book) c.loop-journal.left name (drop (index + 1) journals)
-    c.in_ok-entries.entries.items c.in_ok-entries.size c.loop-journal.invariant.told (rw here at c.loop-journal.invariant.taking)
-    (λ one h. subst (Contains journals) (only_one name one h) among) c.in_ok-entries.ensures.read in
+    (c.loop-journal.book) c.loop-journal.left (take index journals) name (drop (index + 1) journals)
+    c.in_ok-entries.entries.items c.in_ok-entries.size at.split c.loop-journal.invariant.told (rw at.left at c.loop-journal.invariant.taking)
+    c.in_ok-entries.ensures.read in
     record {
       left = omega (arith, c.loop-journal.invariant.left);
       taking = rw c.in_ok-add_entries.ensures next;
       told = c.in_ok-entries.ensures.read.same_files ∙ c.loop-journal.invariant.told;
       stands = c.in_ok-entries.ensures.read.stands ∙ c.loop-journal.invariant.stands;
+      asked = asked_more (g.F.Shelf.asked c.args.shelf.now) (take index journals) (name ∷ []) c.loop-journal.invariant.asked (asked_all c.in_ok-entries.ensures.read.asks)
+          ∙ ap (ask_more (g.F.Shelf.asked c.args.shelf.now)) (sym at.more);
     }
 
 pub returns : goal.returns
@@ -65,4 +75,5 @@ returns g c =
     let none = drop_all c.loop-journal.journal-index journals (omega arith) in
     taking_ends union (λ state. refl) c.args.shelf.now (document_view c.args.document) (λ reader files. union_with reader files (document_view c.args.document) c.args.limit c.args.before journals)
     (c.loop-journal.book) c.loop-journal.left journals
-    c.loop-journal.invariant.told c.loop-journal.invariant.stands (rw none at c.loop-journal.invariant.taking)
+    c.loop-journal.invariant.told c.loop-journal.invariant.stands (rw (take_all c.loop-journal.journal-index journals (omega arith)) at c.loop-journal.invariant.asked)
+    (rw none at c.loop-journal.invariant.taking)

@@ -9,7 +9,7 @@ pub returns-in_err-bytes-clause-read : goal.returns-in_err-bytes-clause-read
 returns-in_err-bytes-clause-read g c =
     let p = err_from_is_err_and c.from_residual.result c.from_residual.ensures.1 in
     rw (p.1, p.2) (reads_stops (λ whole reader files. journal_or_none c.args.name.now (reader.journal whole) >>= (λ journal. Ok (journal, length whole)))
-    c.in_err-bytes.ensures.read (λ one h. h))
+    c.in_err-bytes.ensures.read)
 
 pub returns-in_err-journal-clause-read : goal.returns-in_err-journal-clause-read
 returns-in_err-journal-clause-read g c =

@@ -11,7 +11,7 @@ returns-in_err-bytes-clause-read g c =
     let p = err_from_is_err_and c.from_residual.result c.from_residual.ensures.1 in
     let document = document_view c.args.document in
     rw (p.1, p.2) (reads_stops (λ whole reader files. entries_of document c.args.name.now (reader.journal whole) >>= (λ entries. Ok (entries, length whole)))
-    c.in_err-bytes.ensures.read (λ one h. h))
+    c.in_err-bytes.ensures.read)
 
 pub returns-in_err-entries-clause-read : goal.returns-in_err-entries-clause-read
 returns-in_err-entries-clause-read g c =

@@ -1,11 +1,18 @@
 use Rattle.std.proofs.Common.{◌∙◌, ap, sym}
 use Rattle.std.proofs.lemmas.Bool.{eqb-true}
 use Rattle.std.proofs.lemmas.List.{nil_from_length}
+use Rattle.std.proofs.lemmas.Result.{err_from_is_err_and}
 use Rattle.redl_inputs.proofs.OpenLaws.{opens, opens_nothing}
+use Rattle.redl_inputs.proofs.ReadLaws.{fails_alone}
 use Rattle.redl_inputs.specs.Journals.{DocumentId}
 use Rattle.redl_inputs.specs.Views.{admission_view}
 use Rattle.redl_io.specs.Limits.{journal_bytes}
 use Rattle.redl_inputs.proofs.sessions.open_package.Goals as goal
+
+pub returns-in_err-started-clause-read : goal.returns-in_err-started-clause-read
+returns-in_err-started-clause-read g c =
+    let p = err_from_is_err_and c.from_residual.result c.from_residual.ensures.1 in
+    rw (p.1, p.2) (fails_alone _ c.args.journals.now tt (λ reader files is. tt))
 
 pub returns-then-is_empty-clause-read : goal.returns-then-is_empty-clause-read
 returns-then-is_empty-clause-read g c =

@@ -1,8 +1,15 @@
 use Rattle.std.proofs.Common.{◌∙◌, ap, sym}
+use Rattle.std.proofs.lemmas.Result.{err_from_is_err_and}
 use Rattle.redl_inputs.proofs.LeftLaws.{sits}
+use Rattle.redl_inputs.proofs.ReadLaws.{fails_alone}
 use Rattle.redl_inputs.specs.Journals.{DocumentId}
 use Rattle.redl_inputs.specs.Views.{admission_view}
 use Rattle.redl_inputs.proofs.sessions.sit.Goals as goal
+
+pub returns-in_err-started-clause-read : goal.returns-in_err-started-clause-read
+returns-in_err-started-clause-read g c =
+    let p = err_from_is_err_and c.from_residual.result c.from_residual.ensures.1 in
+    rw (p.1, p.2) (fails_alone _ c.args.journals.now tt (λ reader files is. tt))
 
 pub admit_within-requires-clause-document : goal.admit_within-requires-clause-document
 admit_within-requires-clause-document g c = c.id-document.ensures.id ∙ sym c.id-document.ensures.same

@@ -1,7 +1,7 @@
 use Rattle.std.proofs.Common.{◌∙◌, sym, subst, All, IsUtf8}
 use Rattle.std.proofs.lemmas.Result.{err_from_is_err_and}
 use Rattle.redl_app.proofs.PartNameLaws.{session_names, revisions_named}
-use Rattle.redl_inputs.proofs.ReadLaws.{reads_stops, reads_then_takes, takes_stops_reads, takes_then_reads}
+use Rattle.redl_inputs.proofs.ReadLaws.{fails_alone, reads_stops, reads_then_takes, takes_stops_reads, takes_then_reads}
 use Rattle.redl_inputs.specs.Admission.{opened_over}
 use Rattle.redl_app.specs.Commands.List.{listing_named}
 use Rattle.redl_app.specs.Formats.{formats_by}
@@ -14,7 +14,12 @@ returns-in_err-package-clause-read g c =
     let journals = c.args.journals.now in
     let formats = formats_by (λ b. (goal.RowFormat-dyn g (b.vtable, b.value)).format_name b.value) (λ b. (goal.RowFormat-dyn g (b.vtable, b.value)).text_for b.value) c.args.formats.now.items in
     rw (p.1, p.2) (reads_stops (λ admission reader files. listing_named formats c.args.name.now (onlys_view c.args.only.now) admission)
-    (takes_stops_reads (λ nodes reader files. opened_over reader files c.args.locks.now journals c.args.bytes.now nodes) _ journals c.in_err-package.ensures.read) (λ one h. h))
+    (takes_stops_reads (λ nodes reader files. opened_over reader files c.args.locks.now journals c.args.bytes.now nodes) _ journals c.in_err-package.ensures.read))
+
+pub returns-in_err-names-clause-read : goal.returns-in_err-names-clause-read
+returns-in_err-names-clause-read g c =
+    let p = err_from_is_err_and c.from_residual-in_err-names.result c.from_residual-in_err-names.ensures.1 in
+    rw (p.1, p.2) (fails_alone _ c.args.journals.now tt (λ reader files is. tt))
 
 pub returns-in_err-admitted-clause-read : goal.returns-in_err-admitted-clause-read
 returns-in_err-admitted-clause-read g c =
@@ -22,7 +27,7 @@ returns-in_err-admitted-clause-read g c =
     let formats = formats_by (λ b. (goal.RowFormat-dyn g (b.vtable, b.value)).format_name b.value) (λ b. (goal.RowFormat-dyn g (b.vtable, b.value)).text_for b.value) c.args.formats.now.items in
     rw (p.1, p.2) (reads_stops (λ admission reader files. listing_named formats c.args.name.now (onlys_view c.args.only.now) admission)
     (takes_then_reads (λ nodes reader files. opened_over reader files c.args.locks.now c.args.journals.now c.args.bytes.now nodes)
-    c.in_ok-package.ensures.read c.in_err-admitted.ensures.read) (λ one h. h))
+    c.in_ok-package.ensures.read c.in_err-admitted.ensures.read))
 
 pub returns-clause-read : goal.returns-clause-read
 returns-clause-read g c =

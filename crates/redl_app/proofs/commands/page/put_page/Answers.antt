@@ -15,6 +15,6 @@ returns-in-Ok g c = record {
 pub returns-in-Err : goal.returns-in-Err
 returns-in-Err g c = record {
   made = Err (failure_view c.in-Err.failure);
-  reads = reads_stops (λ admission reader files. Ok (page_of (skin_view c.args.skin.now) c.args.locks.now admission)) c.in-Err.ensures (λ one h. h);
+  reads = reads_stops (λ admission reader files. Ok (page_of (skin_view c.args.skin.now) c.args.locks.now admission)) c.in-Err.ensures;
   finishes = (refl, refl, refl);
 }

@@ -8,7 +8,7 @@ pub returns-in_err-admitted-clause-read : goal.returns-in_err-admitted-clause-re
 returns-in_err-admitted-clause-read g c =
     let p = err_from_is_err_and c.from_residual.result c.from_residual.ensures.1 in
     let reports = formats_by (λ b. (goal.ReportFormat-dyn g (b.vtable, b.value)).report_name b.value) (λ b. (goal.ReportFormat-dyn g (b.vtable, b.value)).report_text b.value) c.args.reports.now.items in
-    rw (p.1, p.2) (reads_stops (λ admission reader files. report_named reports c.args.name.now c.args.by_kind admission) c.in_err-admitted.ensures (λ one h. h))
+    rw (p.1, p.2) (reads_stops (λ admission reader files. report_named reports c.args.name.now c.args.by_kind admission) c.in_err-admitted.ensures)
 
 pub returns-clause-read : goal.returns-clause-read
 returns-clause-read g c =

@@ -1,30 +1,37 @@
-use Rattle.std.proofs.Common.{◌∷◌}
-use Rattle.std.proofs.lemmas.List.Elements.{Contains-append_left, Contains-append_right}
+use Rattle.std.proofs.Common.{◌∷◌, Err}
 use Rattle.std.proofs.lemmas.Result.{err_from_is_err_and}
-use Rattle.redl_app.specs.Commands.Resume.{resumption, second_sitting}
+use Rattle.redl_app.specs.Commands.Resume.{resumed, resumption, second_sitting}
 use Rattle.redl_app.specs.FirstSittings.{IsReadAgain}
-use Rattle.redl_inputs.proofs.ReadLaws.{reads_then, reads_stops, takes_stops_reads, takes_then_reads}
+use Rattle.redl_inputs.proofs.ReadLaws.{reads_after, reads_before, reads_then, reads_stops, takes_stops_reads, takes_then_reads}
 use Rattle.redl_inputs.specs.Admission.{sitting_over}
 use Rattle.redl_inputs.specs.Steps.{◌>>=◌}
 use Rattle.redl_inputs.specs.Views.{admission_view}
 use Rattle.redl_io.specs.Limits.{journal_bytes}
+use Rattle.redl_lines.specs.Failures.{no_memory}
 use Rattle.redl_app.proofs.commands.resume.resume.Goals as goal
 
 pub returns-in_err-package : goal.returns-in_err-package
 returns-in_err-package g c =
     let p = err_from_is_err_and c.from_residual.result c.from_residual.ensures.1 in
     let firsts = c.args.firsts.now in
-    rw (p.1, p.2) (reads_stops (λ one reader files. second_sitting reader files c.args.second.now c.args.journals.now one >>= (λ two. resumption one.0 two.0))
-    (takes_stops_reads (λ nodes reader files. sitting_over reader files journal_bytes firsts c.args.bytes.now nodes) _ firsts c.in_err-package.ensures.read)
-    (Contains-append_left firsts (c.args.second.now ∷ c.args.journals.now)))
+    rw (p.1, p.2) (reads_before (c.args.second.now ∷ c.args.journals.now) (reads_stops (λ one reader files. second_sitting reader files c.args.second.now c.args.journals.now one >>= (λ two. resumption one.0 two.0))
+    (takes_stops_reads (λ nodes reader files. sitting_over reader files journal_bytes firsts c.args.bytes.now nodes) _ firsts c.in_err-package.ensures.read)))
 
 pub returns-in_err-admitted : goal.returns-in_err-admitted
 returns-in_err-admitted g c =
     let p = err_from_is_err_and c.from_residual-in_err-admitted.result c.from_residual-in_err-admitted.ensures.1 in
     let firsts = c.args.firsts.now in
-    rw (p.1, p.2) (reads_stops (λ one reader files. second_sitting reader files c.args.second.now c.args.journals.now one >>= (λ two. resumption one.0 two.0))
-    (takes_then_reads (λ nodes reader files. sitting_over reader files journal_bytes firsts c.args.bytes.now nodes) c.in_ok-package.ensures.read c.in_err-admitted.ensures.read)
-    (Contains-append_left firsts (c.args.second.now ∷ c.args.journals.now)))
+    rw (p.1, p.2) (reads_before (c.args.second.now ∷ c.args.journals.now) (reads_stops (λ one reader files. second_sitting reader files c.args.second.now c.args.journals.now one >>= (λ two. resumption one.0 two.0))
+    (takes_then_reads (λ nodes reader files. sitting_over reader files journal_bytes firsts c.args.bytes.now nodes) c.in_ok-package.ensures.read c.in_err-admitted.ensures.read)))
+
+pub returns-in_err-first : goal.returns-in_err-first
+returns-in_err-first g c =
+    let p = err_from_is_err_and c.from_residual-in_err-first.result c.from_residual-in_err-first.ensures.1 in
+    let firsts = c.args.firsts.now in
+    rw (p.1, p.2) (reads_before (c.args.second.now ∷ c.args.journals.now)
+    (reads_after (Err no_memory) (λ reader files. resumed reader files c.args.second.now firsts c.args.journals.now c.args.bytes.now)
+    (takes_then_reads (λ nodes reader files. sitting_over reader files journal_bytes firsts c.args.bytes.now nodes) c.in_ok-package.ensures.read c.in_ok-admitted.ensures.read)
+    tt (λ reader files is read. tt)))
 
 pub returns : goal.returns
 returns g c =
@@ -37,5 +44,4 @@ returns g c =
     } in
     reads_then (λ one reader files. second_sitting reader files c.args.second.now c.args.journals.now one >>= (λ two. resumption one.0 two.0))
     (takes_then_reads (λ nodes reader files. sitting_over reader files journal_bytes firsts c.args.bytes.now nodes) c.in_ok-package.ensures.read c.in_ok-admitted.ensures.read)
-    (Contains-append_left firsts (c.args.second.now ∷ c.args.journals.now)) (Contains-append_right firsts (c.args.second.now ∷ c.args.journals.now))
     (c.resume_on.ensures (admission_view c.in_ok-admitted.admitted) c.in_ok-first.ensures.first again c.in_ok-first.ensures.text)
