@@ -1,8 +1,11 @@
 -- What a call comes to for which memory ran out before anything was done.
-use Rattle.std.proofs.Common.{inl, inr, ℕ, List, Option, refl}
+use Rattle.std.proofs.Common.{inl, inr, ℕ, List, [], Option, refl}
 use Rattle.redl_app.specs.Answers.{IsWritten}
 use Rattle.redl_app.specs.Brought.{Brought}
 use Rattle.redl_app.specs.Sittings.{DifferExactly, Resumes}
+use Rattle.redl_app.specs.Files.{files_of}
+use Rattle.redl_app.specs.Plans.{plan}
+use Rattle.redl_inputs.proofs.AskLaws.{ask_more-nothing}
 use Rattle.redl_inputs.proofs.ReaderLaws.{reads_command}
 use Rattle.redl_inputs.specs.Readers.{Reader}
 use Rattle.redl_io.specs.Shelf.{Files}
@@ -25,16 +28,18 @@ resumes_nothing held words brought exactly p q firsts journals is files reader r
 )
 
 -- Nothing was taken and nothing went out but the line.
-pub answers_without_memory : {F O E : Type 0} (held : F → Option Files) (misses : F → ℕ) (shelf : F) (told : O → Option (List ℕ)) (faults : O → ℕ) (out : O)
+pub answers_without_memory : {F O E : Type 0} (held : F → Option Files) (misses : F → ℕ) (noted : F → Option (List (List ℕ))) (shelf : F) (told : O → Option (List ℕ)) (faults : O → ℕ) (out : O)
     (lines_told : E → Option (List ℕ)) (line_faults : E → ℕ) (err err_new : E) (words : List (List ℕ)) (brought : Brought)
     → ((reader : Reader) (words : List (List ℕ)) (files : Files) (brought : Brought) → DifferExactly reader words files brought)
     → Tells lines_told line_faults err err_new no_memory_line
-    → Answers held misses shelf shelf told faults out out lines_told line_faults err err_new words brought status.NoMemory
-answers_without_memory held misses shelf told faults out lines_told line_faults err err_new words brought exactly tells = record {
+    → Answers held misses noted shelf shelf told faults out out lines_told line_faults err err_new words brought status.NoMemory
+answers_without_memory held misses noted shelf told faults out lines_told line_faults err err_new words brought exactly tells = record {
   status = λ files reader reads may. tt;
   usage = λ none. inr refl;
   read = λ e. absurd (cc e);
   write = λ e. absurd (cc e);
+  asked = λ command reads. record { front = []; later = files_of brought (plan command); prefix = refl; asked = ask_more-nothing (noted shelf); ends = tt };
+  unasked = λ none. refl;
   shelf_stands = λ other. refl;
   out_stands = λ other. refl;
   same_files = refl;

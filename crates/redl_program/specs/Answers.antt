@@ -1,18 +1,21 @@
 -- What a call with words that ask for files comes to (our own rule).
 use Rattle.std.specs.Prelude.{◌≡◌, ◌≢◌, ◌⊎◌, ℕ, List, Option}
-use Rattle.redl_app.specs.Answers.{AreLines, IsAnswer, MayFault, OfOutcome, TellsSome, Writes as WritesBytes}
+use Rattle.redl_app.specs.Answers.{AreLines, Asks, IsAnswer, MayFault, OfOutcome, TellsSome, Writes as WritesBytes}
 use Rattle.redl_app.specs.Brought.{Brought}
+use Rattle.redl_app.specs.Files.{files_of}
 use Rattle.redl_app.specs.Left.{Leaves}
+use Rattle.redl_app.specs.Plans.{plan}
 use Rattle.redl_app.specs.Sittings.{Resumes}
 use Rattle.redl_io.specs.Faults.{Rose}
 use Rattle.redl_io.specs.Shelf.{Files}
+use Rattle.redl_lines.specs.Ends.{Tells}
 use Rattle.redl_lines.specs.declared.status.Status.{Status}
 use Rattle.redl_lines.specs.declared.status.Status.TheVariants.{Done, NoMemory, ReadFault, Refused, Usage, WriteFault}
-use Rattle.redl_words.specs.Commands.{HasNoCommand}
+use Rattle.redl_words.specs.Commands.{Command, HasNoCommand, IsCommand}
 
 -- A call with these words ended with this status. The shelf, the output and the lines are given by what they tell and count, before and after.
 pub record Answers {F O E : Type 0}
-    (held : F → Option Files) (misses : F → ℕ) (shelf shelf_new : F)
+    (held : F → Option Files) (misses : F → ℕ) (noted : F → Option (List (List ℕ))) (shelf shelf_new : F)
     (told : O → Option (List ℕ)) (faults : O → ℕ) (out out_new : O)
     (lines_told : E → Option (List ℕ)) (line_faults : E → ℕ) (err err_new : E)
     (words : List (List ℕ)) (brought : Brought) (ended : Status) : Type 0 where
@@ -22,6 +25,9 @@ pub record Answers {F O E : Type 0}
   pub usage : HasNoCommand words → (ended ≡ Usage) ⊎ (ended ≡ NoMemory)
   pub read : ended ≡ ReadFault → MayFault words brought (held shelf) (Rose (misses shelf) (misses shelf_new))
   pub write : ended ≡ WriteFault → Rose (faults out) (faults out_new)
+  -- A command asks for a front of its files, in their order, each once: for all of them where its output was put. Other words ask for none.
+  pub asked : (command : Command) → IsCommand words command → Asks (noted shelf) (noted shelf_new) (files_of brought (plan command)) ended (Tells lines_told line_faults err err_new)
+  pub unasked : HasNoCommand words → noted shelf_new ≡ noted shelf
   -- No fault is passed over, and nothing is taken from the shelf.
   pub shelf_stands : ended ≢ ReadFault → misses shelf_new ≡ misses shelf
   pub out_stands : ended ≢ WriteFault → faults out_new ≡ faults out

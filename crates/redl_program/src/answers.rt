@@ -44,7 +44,7 @@ pub fn answer<F: Shelf, O: Sink, E: Sink>(
     ensures own_alone { IfOk words.now (λ words. IfSome (own_of words.items) (λ _. shelf.new ≡ shelf.old)) }
 
     // What is asked of files.
-    ensures answers { IfOk words.now (λ words. own_of words.items ≡ None → Answers F.told F.faults shelf.old shelf.new O.told O.faults out.old out.new
+    ensures answers { IfOk words.now (λ words. own_of words.items ≡ None → Answers F.told F.faults F.asked shelf.old shelf.new O.told O.faults out.old out.new
         E.told E.faults err.old err.new words.items (program_brings skin.now) result) }
 
     // Over all words.

@@ -22,7 +22,7 @@ pub fn run_words<F: Shelf, O: Sink, E: Sink>(
     skin: &Skin<'_>,
 ) -> Status
     requires utf8 { All IsUtf8 words.now }
-    ensures answers { Answers F.told F.faults shelf.old shelf.new O.told O.faults out.old out.new E.told E.faults err.old err.new
+    ensures answers { Answers F.told F.faults F.asked shelf.old shelf.new O.told O.faults out.old out.new E.told E.faults err.old err.new
         words.now (program_brings skin.now) result }
 {
     match run_with_formats(alloc, words, shelf, out, err, skin) {
@@ -45,7 +45,7 @@ fn run_with_formats<F: Shelf, O: Sink, E: Sink>(
     skin: &Skin<'_>,
 ) -> Result<Status, AllocError>
     requires utf8 { All IsUtf8 words.now }
-    ensures answers { IfOk result (λ status. Answers F.told F.faults shelf.old shelf.new O.told O.faults out.old out.new
+    ensures answers { IfOk result (λ status. Answers F.told F.faults F.asked shelf.old shelf.new O.told O.faults out.old out.new
         E.told E.faults err.old err.new words.now (program_brings skin.now) status) }
     ensures same_shelf { OnErr result (shelf.new ≡ shelf.old) }
     ensures same_out { OnErr result (out.new ≡ out.old) }

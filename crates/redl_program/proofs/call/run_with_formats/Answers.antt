@@ -7,7 +7,7 @@ use Rattle.redl_program.proofs.call.run_with_formats.Goals as goal
 
 pub returns-clause-answers : goal.returns-clause-answers
 returns-clause-answers g c = with_known
-    (λ brought. Answers g.F.Shelf.told g.F.Shelf.faults c.args.shelf.now c.run.new.shelf g.O.Sink.told g.O.Sink.faults c.args.out.now c.run.new.out
+    (λ brought. Answers g.F.Shelf.told g.F.Shelf.faults g.F.Shelf.asked c.args.shelf.now c.run.new.shelf g.O.Sink.told g.O.Sink.faults c.args.out.now c.run.new.out
     g.E.Sink.told g.E.Sink.faults c.args.err.now c.run.new.err c.args.words.now brought c.run.result)
     _ _ _ _ (skin_view c.args.skin.now) row_formats report_formats
     (record {
@@ -15,6 +15,8 @@ returns-clause-answers g c = with_known
       usage = c.run.ensures.usage;
       read = c.run.ensures.read;
       write = c.run.ensures.write;
+      asked = c.run.ensures.asked;
+      unasked = c.run.ensures.unasked;
       shelf_stands = c.run.ensures.shelf_stands;
       out_stands = c.run.ensures.out_stands;
       same_files = c.run.ensures.same_files;
