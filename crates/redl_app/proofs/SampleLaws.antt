@@ -6,13 +6,15 @@ use Rattle.std.specs.List.{flat_map, range_with_len}
 use Rattle.redl_inputs.proofs.FetchLaws.{if_false}
 use Rattle.redl_inputs.proofs.PackageLaws.{tree_read}
 use Rattle.redl_inputs.proofs.ReaderLaws.{reads_command}
-use Rattle.redl_app.specs.Commands.Sample.{sampled, summarized}
+use Rattle.redl_app.specs.Commands.Sample.{reviewers_entries, sampled, summarized, summary_of}
 use Rattle.redl_app.specs.Brought.{Brought}
 use Rattle.redl_app.specs.Outcome.{outcome, writing_of}
 use Rattle.redl_inputs.specs.Packages.{package_in, shaped, sound}
 use Rattle.redl_inputs.specs.Readers.{Reader, IsReader}
 use Rattle.redl_inputs.specs.Steps.{◌>>=◌}
-use Rattle.redl_app.specs.Writing.{Writing, outcome_of}
+use Rattle.redl_app.specs.Writing.{Writing, only_bytes, outcome_of}
+use Rattle.redl_index.specs.Numbers.{numbered_package}
+use Rattle.redl_index.specs.Revisions.{revisions_of}
 use Rattle.redl_inputs.specs.Admission.{no_admission}
 use Rattle.redl_inputs.specs.Reading.{IsMade, Reads}
 use Rattle.redl_io.specs.Shelf.{Files}
@@ -23,7 +25,10 @@ use Rattle.redl_lines.specs.declared.status.Status.TheVariants as status
 use Rattle.redl_sample.proofs.Laws.{range_more}
 use Rattle.redl_sample.specs.Journals.{sample_journal}
 use Rattle.redl_sample.specs.Packages.{package_text}
+use Rattle.redl_sample.specs.Summaries.{summary_text}
 use Rattle.redl_sample_sound.proofs.Samples.{sound_sample}
+use Rattle.redl_session.proofs.Admissions.{after-union}
+use Rattle.redl_session.specs.Sessions.{State, after}
 use Rattle.redl_tree.specs.Model.Nodes.{Nodes}
 use Rattle.redl_words.specs.Commands.{Command, IsCommand, sample}
 
@@ -36,6 +41,14 @@ entries_more number count =
     ap (flat_map (λ reviewer. (sample_journal number reviewer).entries)) (range_more 0 count count (omega arith))
     ∙ flat_map-append (λ reviewer. (sample_journal number reviewer).entries) (range_with_len 0 count) (count ∷ [])
     ∙ ap (λ (es : List Entry). first_entries number count ++ es) (append-nil (sample_journal number count).entries)
+
+-- the summary of a session after the reviewers' entries, one after another
+pub summarized_after : (number : ℕ) (whole : List ℕ) (nodes : Nodes) (begun state : State)
+    → begun ≡ record { nodes = numbered_package nodes; revisions = revisions_of nodes; locks = []; book = [] } → state ≡ after begun (reviewers_entries number)
+    → only_bytes (summary_text (summary_of number state)) ≡ summarized number (no_admission whole nodes [])
+summarized_after number whole nodes begun state is admitted =
+    ap (λ (s : State). only_bytes (summary_text (summary_of number s)))
+    (admitted ∙ ap (λ (s : State). after s (reviewers_entries number)) is ∙ after-union (no_admission whole nodes []).state (reviewers_entries number))
 
 -- ---- a sample is written
 

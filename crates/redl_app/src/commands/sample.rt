@@ -1,21 +1,26 @@
 //! `sample N`.
 
-ghost use Rattle.std.specs.Prelude.{◌≡◌, ◌≤◌, [], None, IfOk};
-ghost use Rattle.redl_inputs.specs.Admission.{admission_with, no_admission};
+ghost use Rattle.std.specs.Prelude.{◌≡◌, ◌≤◌, ℕ, List, [], None, IfOk, OnOk};
 ghost use Rattle.redl_app.specs.Commands.Sample.{reviewers_entries, sampled, summarized, summary_of};
 ghost use Rattle.redl_app.specs.Commands.Write.{left_text};
-ghost use Rattle.redl_inputs.specs.Reading.{Reads};
 ghost use Rattle.redl_app.specs.Views.{writing_view};
-ghost use Rattle.redl_inputs.specs.Views.{admission_view, result_view};
+ghost use Rattle.redl_index.specs.Numbers.{numbered_package};
+ghost use Rattle.redl_index.specs.Revisions.{revisions_of};
+ghost use Rattle.redl_inputs.specs.Admission.{no_admission};
+ghost use Rattle.redl_inputs.specs.Reading.{Reads};
+ghost use Rattle.redl_inputs.specs.Views.{result_view};
 ghost use Rattle.redl_rules.specs.Attributes.{broken_rule};
+ghost use Rattle.redl_session.specs.Sessions.{after};
+ghost use Rattle.redl_tree.specs.Revisions.Labels.{unlabelled};
 
 use crate::collected::Collected;
 use crate::output::{Output, Writing};
-use redl_inputs::{Admitted, read_package, start};
+use redl_inputs::{number_package, read_package};
 use redl_lines::{Cause, Failure, Limit};
+use redl_live_session::{LiveSession, admit_each};
 use redl_opc::Package;
 use redl_sample::{SAMPLE_LIMIT, Summary, Tally, sample_journal, sample_package};
-use redl_session::Session;
+use redl_session::Locks;
 use sha2::{Digest, Sha256};
 use std::alloc::{AllocError, Global};
 
@@ -31,41 +36,47 @@ pub(crate) fn sample<'a, 'b>(alloc: Global, number: u32) -> Result<Writing<'b>, 
     }
     let bytes = sample_package(alloc, number)?;
     let package = read_package(alloc, &bytes)?;
-    Ok(summarize(alloc, number, package, &bytes)?)
+    Ok(summarize(alloc, number, package)?)
 }
 
-// The summary of the sample, which is this package and has this text.
-fn summarize<'b, 'p>(
-    alloc: Global,
-    number: u32,
-    pkg: Package<'p>,
-    bytes: &'p [u8],
-) -> Result<Writing<'b>, AllocError>
+// The summary of the sample, which is this package. Its text does not matter.
+fn summarize<'b>(alloc: Global, number: u32, pkg: Package) -> Result<Writing<'b>, AllocError>
     requires number { number ≤ SAMPLE_LIMIT }
     requires sound { broken_rule pkg ≡ None }
-    ensures { IfOk result (λ writing. writing_view writing ≡ summarized number (no_admission bytes.now pkg.entry [])) }
+    requires unlabelled { unlabelled pkg ≡ pkg }
+    ensures { IfOk result (λ writing. (whole : List ℕ) → writing_view writing ≡ summarized number (no_admission whole pkg.entry [])) }
 {
-    let begun = start(alloc, pkg, &[], bytes)?;
-    let admitted = admit_reviewers(alloc, number, begun)?;
-    let summary = summary_of(alloc, number, &admitted.session)?;
+    let mut session = begin(alloc, pkg)?;
+    admit_reviewers(alloc, number, &mut session)?;
+    let summary = summary_of(alloc, number, &session)?;
     Ok(Writing::only(alloc, Output::Summary(summary)))
 }
 
-// Admits the entries of the reviewers' journals.
-fn admit_reviewers(alloc: Global, number: u32, begun: Admitted) -> Result<Admitted, AllocError>
-    requires { number ≤ SAMPLE_LIMIT }
-    ensures { IfOk result (λ admitted. admission_view admitted ≡ admission_with (admission_view begun.entry) (reviewers_entries number)) }
+// A session over the package, before any entry.
+fn begin(alloc: Global, pkg: Package) -> Result<LiveSession, AllocError>
+    requires sound { broken_rule pkg ≡ None }
+    requires unlabelled { unlabelled pkg ≡ pkg }
+    ensures { IfOk result (λ session. session ≡ record { nodes = numbered_package pkg.entry; revisions = revisions_of pkg.entry; locks = []; book = [] }) }
 {
-    let mut admitted = begun;
+    let numbered = number_package(alloc, pkg)?;
+    let no_locks = Locks::new(Vec::new(alloc));
+    LiveSession::start(alloc, numbered.package, numbered.index, no_locks)
+}
+
+// Admits the entries of the reviewers' journals. The document follows each entry.
+fn admit_reviewers(alloc: Global, number: u32, session: &mut LiveSession) -> Result<(), AllocError>
+    requires { number ≤ SAMPLE_LIMIT }
+    ensures { OnOk result (session.new ≡ after session.old (reviewers_entries number)) }
+{
     for reviewer in 0..REVIEWERS {
         let journal = sample_journal(alloc, number, reviewer)?;
-        admitted.admit(journal.entries)?;
+        admit_each(session, journal.entries)?;
     }
-    Ok(admitted)
+    Ok(())
 }
 
 // What a session over the sample comes to.
-fn summary_of(alloc: Global, number: u32, session: &Session) -> Result<Summary, AllocError>
+fn summary_of(alloc: Global, number: u32, session: &LiveSession) -> Result<Summary, AllocError>
     ensures { IfOk result (λ summary. summary ≡ summary_of number session.now) }
 {
     let verdicts = session.verdicts()?;
@@ -80,8 +91,8 @@ fn summary_of(alloc: Global, number: u32, session: &Session) -> Result<Summary, 
     })
 }
 
-// The text of the session's package under its says.
-fn written_text(alloc: Global, session: &Session) -> Result<Vec<u8>, AllocError>
+// The text of the document as it is at present.
+fn written_text(alloc: Global, session: &LiveSession) -> Result<Vec<u8>, AllocError>
     ensures { IfOk result (λ bytes. bytes.items ≡ left_text session.now) }
 {
     let mut written = Collected::new(alloc);

@@ -12,4 +12,4 @@ returns c =
     let first : c.deref.result.now ≡ package_text number = c.deref.ensures.value ∙ c.in_ok-bytes.ensures in
     sampled_within number _ (omega (arith, c.if-number-gt-SAMPLE_LIMIT.false))
     (takes_ok (λ nodes. Ok (summarized number (no_admission (package_text number) nodes []))) (rw first at c.in_ok-package.ensures.read)
-    (ap Ok (sym c.in_ok-summarize.ensures)))
+    (ap Ok (sym (c.in_ok-summarize.ensures (package_text number)))))
