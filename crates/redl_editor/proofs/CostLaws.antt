@@ -5,8 +5,8 @@ use Rattle.std.proofs.lemmas.List.Sums.{sum_by-cons}
 use Rattle.std.proofs.lemmas.Bool.{eqb-true, eq-eqb}
 use Rattle.std.specs.List.Sorted.{IsStrictlyIncreasing}
 use Rattle.redl_leaves.specs.Finds.{size_at}
-use Rattle.redl_tree.proofs.Leaves.Lending.{leaf-numbered}
-use Rattle.redl_tree.proofs.Leaves.Places.{list-count}
+use Rattle.redl_laws.proofs.Leaves.Lending.{leaf-numbered}
+use Rattle.redl_laws.proofs.Leaves.Places.{list-count}
 use Rattle.redl_tree.specs.Leaves.Leaf.{leaf_list, leaf_count, leaf_size, leaves}
 use Rattle.redl_tree.specs.Leaves.Settings.{has_member, slots_cost, setting_cost}
 use Rattle.redl_tree.specs.Leaves.Slots.{Leaf, Slots, no_slots, leaf_slot, container_slot}

@@ -2,7 +2,7 @@
 use Rattle.std.proofs.Common.{◌≡◌, ◌<◌, ◌≤◌, ◌+◌, ◌==◌, ℕ, zero, suc, List, [], ◌∷◌, length, get_or, drop, Bool, true, false, true≢false, ◌&&◌, ◌||◌, not, refl, sym, ap, ◌∙◌, arith}
 use Rattle.std.proofs.lemmas.List.{drop_all}
 use Rattle.std.proofs.lemmas.Bool.{eqb-true, eq-eqb, ne_eqb}
-use Rattle.redl_tree.proofs.Leaves.Places.{ways-numbered, ways-count}
+use Rattle.redl_laws.proofs.Leaves.Places.{ways-numbered, ways-count}
 use Rattle.redl_tree.specs.Leaves.Leaf.{leaf_count}
 use Rattle.redl_tree.specs.Leaves.Pending.{Covers}
 use Rattle.redl_tree.specs.Leaves.Settings.{has_member}

@@ -2,11 +2,11 @@
 use Rattle.std.proofs.Common.{◌≡◌, ◌∙◌, ℕ, zero, suc, List, [], ◌∷◌, map, slice_get, Result, Ok, Err, Bool, true, false, All, replicate, refl, sym, ap, subst, if◌then◌else◌}
 use Rattle.std.proofs.lemmas.List.Elements.{All-head, All-tail}
 use Rattle.std.specs.Result.{OnErr, OnOk}
-use Rattle.redl_tree.proofs.Leaves.Members as members
-use Rattle.redl_tree.proofs.Leaves.Members.{package-unheld}
-use Rattle.redl_tree.proofs.Leaves.Originals.{original-slots}
-use Rattle.redl_tree.proofs.Leaves.Shown.{IsBlind, changed-blind, shown-blind, package-shows}
-use Rattle.redl_tree.proofs.Leaves.Stories.{package-shown}
+use Rattle.redl_laws.proofs.Leaves.Members as members
+use Rattle.redl_laws.proofs.Leaves.Members.{package-unheld}
+use Rattle.redl_laws.proofs.Leaves.Originals.{original-slots}
+use Rattle.redl_laws.proofs.Leaves.Shown.{IsBlind, changed-blind, shown-blind, package-shows}
+use Rattle.redl_laws.proofs.Leaves.Stories.{package-shown}
 use Rattle.redl_tree.proofs.StoryLaws.{Agree, changed_in-agree}
 use Rattle.redl_tree.specs.Decisions.Packages.{is_root, roots_are_plain, stories, StoryRule, changed_in, changed_package, pass_package}
 use Rattle.redl_tree.specs.Leaves.Containers.{opens}

@@ -1,9 +1,9 @@
 -- Leaves by their numbers.
 use Rattle.std.proofs.Common.{◌≡◌, ◌∙◌, ◌<◌, ◌≤◌, ◌+◌, ℕ, zero, suc, List, [], ◌∷◌, length, get_or, slice_get, None, false, refl, sym, ap, subst, arith}
 use Rattle.std.proofs.lemmas.Option.{slice_get_past, slice_get_read}
-use Rattle.redl_tree.proofs.Leaves.Costs.{count-leaves}
-use Rattle.redl_tree.proofs.Leaves.Lending.{lent-count, lent-numbered}
-use Rattle.redl_tree.proofs.Leaves.Places.{ways-count}
+use Rattle.redl_laws.proofs.Leaves.Costs.{count-leaves}
+use Rattle.redl_laws.proofs.Leaves.Lending.{lent-count, lent-numbered}
+use Rattle.redl_laws.proofs.Leaves.Places.{ways-count}
 use Rattle.redl_tree.specs.Leaves.Containers.{opens}
 use Rattle.redl_tree.specs.Leaves.Leaf.{leaves, leaf_count}
 use Rattle.redl_tree.specs.Leaves.Slots.{slots_in}

@@ -4,7 +4,7 @@ use Rattle.std.proofs.lemmas.List.{ext_get_or, drop_more, drop_all, map-append}
 use Rattle.std.proofs.lemmas.List.Folds.{list_any-append}
 use Rattle.std.proofs.lemmas.Option.{unwrap_or-slice_get}
 use Rattle.std.proofs.lemmas.Bool.Decides.{eqb_tells}
-use Rattle.redl_tree.proofs.Leaves.Says.{set_say-length, set_each-length, set_say-same, set_say-other, set_say-own, same_say-is, same_say-refl}
+use Rattle.redl_laws.proofs.Leaves.Says.{set_say-length, set_each-length, set_say-same, set_say-other, set_say-own, same_say-is, same_say-refl}
 use Rattle.redl_tree.proofs.NameLaws.{or-left, or-right}
 use Rattle.redl_tree.specs.Decisions.Fates.{say_of}
 use Rattle.redl_tree.specs.Leaves.Settings.{Setting, set_say, set_each, is_among, same_say, SameBut}

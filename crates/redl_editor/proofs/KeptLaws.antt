@@ -7,7 +7,7 @@ use Rattle.std.specs.List.Sorted.{IsNonDecreasingBy}
 use Rattle.redl_leaves.specs.Spots.{spot_of}
 use Rattle.redl_leaves.specs.Steps.{AreMade, CanSet, way_of}
 use Rattle.redl_leaves.specs.declared.stepping.Made.{Made}
-use Rattle.redl_tree.proofs.Leaves.Costs.{cost-walk}
+use Rattle.redl_laws.proofs.Leaves.Costs.{cost-walk}
 use Rattle.redl_tree.specs.Leaves.Containers.{opens}
 use Rattle.redl_tree.specs.Leaves.Shown.{AreStatesOf}
 use Rattle.redl_tree.specs.Leaves.Leaf.{leaves}

@@ -11,8 +11,8 @@ use Rattle.redl_tree.specs.Leaves.Slots.{Slots, no_slots, leaf_slot, container_s
 use Rattle.redl_tree.specs.Leaves.States.{States, no_states, leaf_state, container_state, fresh_states, fresh_tally}
 use Rattle.redl_tree.specs.Leaves.Waiting.{lone_slots, slots_left}
 use Rattle.redl_tree.proofs.Laws.{count-⊕}
-use Rattle.redl_tree.proofs.Leaves.Originals.{original-slots}
-use Rattle.redl_tree.proofs.Leaves.Waiting.{IsOne, thin-waits, bytes-one, element-one}
+use Rattle.redl_laws.proofs.Leaves.Originals.{original-slots}
+use Rattle.redl_laws.proofs.Leaves.Waiting.{IsOne, thin-waits, bytes-one, element-one}
 use Rattle.redl_tree.specs.declared.node.Node.{Node}
 use Rattle.redl_leaves.specs.Splits.{chain_of, lone_states, ended, item_sibling, share_at, owned_at}
 use Rattle.redl_leaves.specs.Spots.{spot_of, opens_at}

@@ -1,6 +1,6 @@
 -- Several steps of an editor, one after the other.
 use Rattle.std.proofs.Common.{◌≡◌, ◌∷◌, [], List, map, refl, sym, ap, ◌∙◌, subst}
-use Rattle.redl_tree.proofs.Leaves.Ways.{made-slots, made-tallied}
+use Rattle.redl_laws.proofs.Leaves.Ways.{made-slots, made-tallied}
 use Rattle.redl_tree.specs.Leaves.States.{States, slots_of, AreTallied}
 use Rattle.redl_tree.specs.Leaves.Ways.{leaf_at, made_at, made_each}
 use Rattle.redl_tree.specs.Model.Nodes.{Tag}

@@ -6,7 +6,7 @@ use Rattle.std.proofs.Math.Seq.{set-append_seam}
 use Rattle.std.specs.List.{range_with_len}
 use Rattle.redl_editor.specs.Changes.{setting_of}
 use Rattle.redl_editor.specs.declared.changing.Change.{Change}
-use Rattle.redl_tree.proofs.Leaves.Says.{set_each-append}
+use Rattle.redl_laws.proofs.Leaves.Says.{set_each-append}
 use Rattle.redl_tree.specs.Leaves.Settings.{set_say, set_each}
 use Rattle.redl_tree.specs.declared.kinds.Say.{Say}
 use Rattle.redl_tree.specs.declared.kinds.Say.TheVariants.{Keep}

@@ -10,7 +10,7 @@ use Rattle.redl_tree.specs.Rules.CellEnds.{or_before, end_of_one, end_of}
 use Rattle.redl_tree.specs.declared.lists.Reach.TheVariants.{Direct}
 use Rattle.redl_tree.proofs.Named.{by_names}
 use Rattle.redl_tree.proofs.PassLaws.{next-thick}
-use Rattle.redl_tree.proofs.Walk.{some-⊕, and_no}
+use Rattle.redl_laws.proofs.Soundness.Walk.{some-⊕, and_no}
 use Rattle.redl_paras.specs.Ends.{is_chain, keeps_last}
 
 -- Blocks that are no paragraphs

@@ -1,8 +1,8 @@
 -- The pass keeps the text that survives, and the rules of structure.
 use Rattle.std.proofs.Common.{◌≡◌, List}
 use Rattle.redl_resolve.specs.Keeps.{KeepsText, KeepsRules}
-use Rattle.redl_tree.proofs.Indexed.{survival-package}
-use Rattle.redl_tree.proofs.Soundness.{again_1, again_2, again_3, again_4, again_5, again_6, again_7, again_8, again_9, IsSoundPackage}
+use Rattle.redl_laws.proofs.Survival.Indexed.{survival-package}
+use Rattle.redl_laws.proofs.Soundness.AllRules.{again_1, again_2, again_3, again_4, again_5, again_6, again_7, again_8, again_9, IsSoundPackage}
 use Rattle.redl_tree.specs.Model.Nodes.{Nodes}
 use Rattle.redl_tree.specs.Decisions.Packages.{pass_package}
 use Rattle.redl_tree.specs.declared.kinds.Say.{Say}

@@ -6,8 +6,8 @@ use Rattle.std.specs.List.{list_all}
 use Rattle.redl_index.specs.Numbers.{numbered_package}
 use Rattle.redl_rules.specs.Attributes.{broken_rule, declares, has_id, rules}
 use Rattle.redl_stamp.specs.Attribute.{attribute_value}
-use Rattle.redl_tree.proofs.Indexed.{survival-package}
-use Rattle.redl_tree.proofs.Soundness.{soundness}
+use Rattle.redl_laws.proofs.Survival.Indexed.{survival-package}
+use Rattle.redl_laws.proofs.Soundness.AllRules.{soundness}
 use Rattle.redl_tree.specs.Decisions.Packages.{pass_package, stories}
 use Rattle.redl_tree.specs.Decisions.Survivors.{survivors, text_pieces}
 use Rattle.redl_tree.specs.Model.Nodes.{Nodes}

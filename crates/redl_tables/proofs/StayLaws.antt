@@ -5,7 +5,7 @@ use Rattle.std.specs.List.{list_all}
 use Rattle.redl_tree.specs.Model.Nodes.{Nodes}
 use Rattle.redl_tree.specs.Decisions.Tables.{own, has_own, all_of_some}
 use Rattle.redl_tree.specs.declared.lists.Reach.{Reach}
-use Rattle.redl_tree.proofs.RowLaws.{is_empty, own-has}
+use Rattle.redl_laws.proofs.Soundness.RowLaws.{is_empty, own-has}
 
 -- where some are own and not all go, one stays
 pub own-keeps : (name : String) (reach : Reach) (test : Nodes → Bool) (kids : Nodes) → has_own name reach kids ≡ true → all_of_some test (own name reach kids) ≡ false

@@ -12,7 +12,7 @@ use Rattle.redl_tree.specs.Decisions.Pass.{pass}
 use Rattle.redl_tree.specs.declared.kinds.Say.{Say}
 use Rattle.redl_tree.proofs.Named.{by_name}
 use Rattle.redl_tree.proofs.Fits.{open_∷}
-use Rattle.redl_tree.proofs.Indexed.{IsStory, AreStories, indexed_stories, passed, stories-pass}
+use Rattle.redl_laws.proofs.Survival.Indexed.{IsStory, AreStories, indexed_stories, passed, stories-pass}
 use Rattle.redl_views.specs.PlainText.{plain_in, story_plain, plain_text}
 use Rattle.redl_views.specs.Views.{is_freed, in_shown, view_in, story_view, view_text}
 use Rattle.redl_tree.specs.Roles.Places.{is_quiet}

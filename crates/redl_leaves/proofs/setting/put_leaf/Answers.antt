@@ -1,5 +1,5 @@
 use Rattle.std.proofs.Common.{◌≡◌, false, sym, ap, ◌∙◌}
-use Rattle.redl_tree.proofs.Leaves.Undecided.{pass_leaf-undecided}
+use Rattle.redl_laws.proofs.Leaves.Undecided.{pass_leaf-undecided}
 use Rattle.redl_tree.specs.Leaves.Settings.{has_member, is_decided}
 use Rattle.redl_tree.specs.Model.View.{nodes_of}
 use Rattle.redl_leaves.specs.View.{leaf_model}

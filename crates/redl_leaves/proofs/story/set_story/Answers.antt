@@ -1,5 +1,5 @@
 use Rattle.std.proofs.Common.{[], map, sym, subst}
-use Rattle.redl_tree.proofs.Leaves.Ways.{story-set}
+use Rattle.redl_laws.proofs.Leaves.Ways.{story-set}
 use Rattle.redl_tree.specs.Leaves.Containers.{opens}
 use Rattle.redl_tree.specs.Leaves.Shown.{AreStatesOf}
 use Rattle.redl_tree.specs.Leaves.States.{States}

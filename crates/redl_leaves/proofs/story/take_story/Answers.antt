@@ -1,5 +1,5 @@
 use Rattle.std.proofs.Common.{◌≡◌, ◌<◌, ◌^◌, ◌∷◌, [], replicate, sym, ap, ◌∙◌, subst, arith}
-use Rattle.redl_tree.proofs.Leaves.Fresh.{fresh-story}
+use Rattle.redl_laws.proofs.Leaves.Fresh.{fresh-story}
 use Rattle.redl_tree.specs.Leaves.Containers.{opens}
 use Rattle.redl_tree.specs.Leaves.Shown.{AreStatesOf}
 use Rattle.redl_tree.specs.Leaves.Slots.{slots_in}

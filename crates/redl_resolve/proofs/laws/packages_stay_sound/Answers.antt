@@ -1,4 +1,4 @@
-use Rattle.redl_tree.proofs.Soundness.{soundness}
+use Rattle.redl_laws.proofs.Soundness.AllRules.{soundness}
 use Rattle.redl_resolve.proofs.laws.packages_stay_sound.Goals as goal
 
 pub returns : goal.returns

@@ -1,6 +1,6 @@
 use Rattle.std.proofs.Common.{sym, ap, ◌∙◌}
 use Rattle.redl_tables.proofs.StayLaws.{own-keeps}
-use Rattle.redl_tree.proofs.PartLaws.{row-keeps, table-keeps}
+use Rattle.redl_laws.proofs.Soundness.PartLaws.{row-keeps, table-keeps}
 use Rattle.redl_tree.specs.Roles.Lists.{into}
 use Rattle.redl_tree.specs.Decisions.Tables.{all_of_some, cell_is_cut, own, row_goes}
 use Rattle.redl_tree.specs.Model.View.{nodes_of, tag_of, kids_of}

@@ -1,0 +1,125 @@
+-- A package whose stories are rebuilt from their leaves is the passed package.
+use Rattle.std.proofs.Common.{◌≡◌, refl, List, [], ◌∷◌, ◌++◌, Bool, true, false, if◌then◌else◌, ◌&&◌, ◌∙◌, sym, ap}
+use Rattle.std.proofs.lemmas.Bool.{and_parts}
+use Rattle.redl_tree.specs.Model.Nodes.{Tag, Nodes, no_nodes, bytes, element}
+use Rattle.redl_tree.specs.Model.View.{Parts}
+use Rattle.redl_tree.specs.Decisions.Pass.{pass}
+use Rattle.redl_tree.specs.Decisions.Packages.{is_root, is_story_root, is_plain, roots_are_plain, stories_in, stories, element_stories, pass_rule, changed_package, pass_package, StoryRule, left_after, changed_in}
+use Rattle.redl_tree.specs.Revisions.Markers.{Value}
+use Rattle.redl_tree.specs.Revisions.Numbers.{number_rule, numbered_package, IsIndexed}
+use Rattle.redl_tree.specs.Revisions.Labels.{unlabelled_tag, unlabelled}
+use Rattle.redl_tree.specs.Leaves.Containers.{opens, opens_outer}
+use Rattle.redl_tree.specs.Leaves.Slots.{slots_in}
+use Rattle.redl_tree.specs.Leaves.Rebuilt.{rebuilt, rebuild_rule}
+use Rattle.redl_tree.specs.declared.kinds.Kind.{Kind}
+use Rattle.redl_tree.specs.declared.kinds.Kind.TheVariants.{Plain, Content, Mark, Row, Cell, Change, Marker}
+use Rattle.redl_tree.specs.declared.kinds.Say.{Say}
+use Rattle.redl_tree.proofs.NameLaws.{frame_names, is_any-among}
+use Rattle.redl_tree.proofs.Fits.{AllFit}
+use Rattle.redl_laws.proofs.Survival.Indexed.{AreStories, indexed_stories}
+use Rattle.redl_tree.proofs.StoryLaws.{Agree, changed_in-agree}
+use Rattle.redl_laws.proofs.Leaves.StandIns.{IsPlain}
+use Rattle.redl_laws.proofs.Leaves.Openings.{story_roots, rebuilt-story, rebuilt-outer_story}
+
+plain_kind : (k : Kind) → is_plain k ≡ true → k ≡ Plain
+plain_kind Plain e = refl
+plain_kind (Content t) e = cc
+plain_kind (Mark t) e = cc
+plain_kind (Row t) e = cc
+plain_kind (Cell t) e = cc
+plain_kind (Change p) e = cc
+plain_kind Marker e = cc
+
+-- the roots of these stories have no role
+abbrev pub ArePlain : List Parts → Type 0
+ArePlain [] = Unit {0}
+ArePlain (story ∷ later) = (story.tag.kind ≡ Plain) × ArePlain later
+
+ArePlain-++ : (xs ys : List Parts) → ArePlain xs → ArePlain ys → ArePlain (xs ++ ys)
+ArePlain-++ [] ys h k = k
+ArePlain-++ (x ∷ xs) ys h k = (h.0, ArePlain-++ xs ys h.1 k)
+
+pub roots-plain : (ancestors : List Tag) (nodes : Nodes) → roots_are_plain ancestors nodes ≡ true → ArePlain (stories_in ancestors nodes)
+roots-plain ancestors no_nodes p = tt
+roots-plain ancestors (bytes b rest) p = roots-plain ancestors rest p
+roots-plain ancestors (element tag kids rest) p =
+    let both = and_parts (if is_root ancestors tag then is_plain tag.kind else roots_are_plain (tag ∷ ancestors) kids) (roots_are_plain ancestors rest) p in
+    ArePlain-++ (element_stories ancestors tag kids) (stories_in ancestors rest) (at (is_root ancestors tag) both.0 (roots-plain (tag ∷ ancestors) kids))
+    (roots-plain ancestors rest both.1)
+  where
+    at : (b : Bool) → (if b then is_plain tag.kind else roots_are_plain (tag ∷ ancestors) kids) ≡ true
+        → (roots_are_plain (tag ∷ ancestors) kids ≡ true → ArePlain (stories_in (tag ∷ ancestors) kids))
+        → ArePlain (if b then record { tag = tag; kids = kids } ∷ [] else stories_in (tag ∷ ancestors) kids)
+    at true e below = (plain_kind tag.kind e, tt)
+    at false e below = below e
+
+-- what is rebuilt of a story is its pass
+abbrev RebuildsStories : (List Tag → Tag → Bool) → List Say → Type 0
+RebuildsStories opens says =
+    (root : Tag) (kids : Nodes) → is_story_root root ≡ true → IsPlain root → AllFit (root ∷ []) kids
+    → rebuilt says (root ∷ []) (slots_in opens (root ∷ []) kids) ≡ pass says (root ∷ []) kids
+
+module _ (opens : List Tag → Tag → Bool) (says : List Say) (rebuilds : RebuildsStories opens says) where
+  stories-agree : (xs : List Parts) → AreStories xs → ArePlain xs → Agree (rebuild_rule opens) pass_rule says says xs
+  stories-agree [] h p = tt
+  stories-agree (story ∷ later) h p = (
+    rebuilds story.tag story.kids h.0.root (is_any-among story_roots frame_names story.tag h.0.root refl, p.0) h.0.fits,
+    stories-agree later h.1 p.1,
+  )
+
+  package-agrees : (value : Value) (nodes : Nodes) → roots_are_plain [] nodes ≡ true → IsIndexed value nodes
+      → changed_package (rebuild_rule opens) says nodes ≡ pass_package says nodes
+  package-agrees value nodes plain indexed =
+      changed_in-agree (rebuild_rule opens) pass_rule says says [] nodes
+      (stories-agree (stories nodes) (indexed_stories value nodes indexed) (roots-plain [] nodes plain))
+
+-- The law of rebuilding, for a package: the containers that stay, round the passes of their leaves, are the pass.
+pub package-rebuilt : (value : Value) (says : List Say) (nodes : Nodes) → roots_are_plain [] nodes ≡ true → IsIndexed value nodes
+    → changed_package (rebuild_rule opens) says nodes ≡ pass_package says nodes
+package-rebuilt value says nodes =
+    package-agrees opens says (λ root kids named plain fits. rebuilt-story says root kids plain fits) value nodes
+
+-- the same where the outer containers alone are opened
+pub package-rebuilt_outer : (value : Value) (says : List Say) (nodes : Nodes) → roots_are_plain [] nodes ≡ true → IsIndexed value nodes
+    → changed_package (rebuild_rule opens_outer) says nodes ≡ pass_package says nodes
+package-rebuilt_outer value says nodes =
+    package-agrees opens_outer says (λ root kids named plain fits. rebuilt-outer_story says root kids named plain fits) value nodes
+
+-- ---- packages as they are read and numbered
+
+-- a change of stories leaves the roots as they are
+pub roots-changed : {S : Type 0} (rule : StoryRule S) (given : S) (ancestors : List Tag) (nodes : Nodes)
+    → roots_are_plain ancestors (changed_in rule given ancestors nodes) ≡ roots_are_plain ancestors nodes
+roots-changed rule given ancestors no_nodes = refl
+roots-changed rule given ancestors (bytes b rest) = roots-changed rule given ancestors rest
+roots-changed rule given ancestors (element tag kids rest) =
+    let left = left_after rule given (element_stories ancestors tag kids) in
+    ap (λ b. b && roots_are_plain ancestors (changed_in rule left ancestors rest)) (at (is_root ancestors tag) (roots-changed rule given (tag ∷ ancestors) kids))
+    ∙ ap (λ b. (if is_root ancestors tag then is_plain tag.kind else roots_are_plain (tag ∷ ancestors) kids) && b) (roots-changed rule left ancestors rest)
+  where
+    at : (b : Bool) → roots_are_plain (tag ∷ ancestors) (changed_in rule given (tag ∷ ancestors) kids) ≡ roots_are_plain (tag ∷ ancestors) kids
+        → (if b then is_plain tag.kind else roots_are_plain (tag ∷ ancestors) (if b then rule.kids given tag kids else changed_in rule given (tag ∷ ancestors) kids))
+        ≡ (if b then is_plain tag.kind else roots_are_plain (tag ∷ ancestors) kids)
+    at true below = refl
+    at false below = below
+
+-- nodes without labels have plain roots
+pub roots-unlabelled : (ancestors : List Tag) (nodes : Nodes) → unlabelled nodes ≡ nodes → roots_are_plain ancestors nodes ≡ true
+roots-unlabelled ancestors no_nodes e = refl
+roots-unlabelled ancestors (bytes b rest) e = roots-unlabelled ancestors rest cc
+roots-unlabelled ancestors (element tag kids rest) e =
+    let same : unlabelled_tag tag ≡ tag = cc in
+    and_both (if is_root ancestors tag then is_plain tag.kind else roots_are_plain (tag ∷ ancestors) kids) (roots_are_plain ancestors rest)
+    (at (is_root ancestors tag) (ap (λ t. is_plain t.kind) (sym same)) (roots-unlabelled (tag ∷ ancestors) kids cc)) (roots-unlabelled ancestors rest cc)
+  where
+    and_both : (a b : Bool) → a ≡ true → b ≡ true → (a && b) ≡ true
+    and_both a b p q = ap (λ x. x && b) p ∙ q
+
+    at : (b : Bool) → is_plain tag.kind ≡ true → roots_are_plain (tag ∷ ancestors) kids ≡ true
+        → (if b then is_plain tag.kind else roots_are_plain (tag ∷ ancestors) kids) ≡ true
+    at true here below = here
+    at false here below = below
+
+-- So a package that was read, and then numbered, has plain roots.
+pub roots-numbered : (value : Value) (nodes : Nodes) → unlabelled nodes ≡ nodes → roots_are_plain [] (numbered_package value nodes) ≡ true
+roots-numbered value nodes bare = roots-changed (number_rule value) 1 [] nodes ∙ roots-unlabelled [] nodes bare
