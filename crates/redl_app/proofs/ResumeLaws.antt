@@ -6,7 +6,7 @@ use Rattle.redl_app.specs.Commands.Join.{book_text}
 use Rattle.redl_app.specs.Commands.Resume.{left_by, of_second, resumption, second_failure, sitting_on, text_under}
 use Rattle.redl_app.specs.Commands.Settle.{passed_text}
 use Rattle.redl_app.specs.Commands.Write.{left_text}
-use Rattle.redl_app.specs.FirstSittings.{IsFirst, IsReadAgain, SecondSitting, joined_by, resumption_of}
+use Rattle.redl_app.specs.Inside.FirstSittings.{IsFirst, IsReadAgain, SecondSitting, joined_by, resumption_of}
 use Rattle.redl_app.specs.Writing.{Writing}
 use Rattle.redl_app.specs.declared.commands.resume.First.{First}
 use Rattle.redl_index.proofs.RevisionLaws.{length-revisions_of}

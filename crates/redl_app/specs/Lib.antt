@@ -9,7 +9,7 @@ pub mod Outcome
 pub mod Answers
 pub mod Left
 pub mod Sittings
-pub mod FirstSittings
 pub mod AnyOrder
 pub mod Views
 pub mod Finishing
+pub mod Inside

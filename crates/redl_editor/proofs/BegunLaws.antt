@@ -1,7 +1,7 @@
 -- Stories that are taken one after the other.
 use Rattle.std.proofs.Common.{◌≡◌, ◌∙◌, List, [], ◌∷◌, ◌++◌, refl, sym, ap, subst, append_assoc}
 use Rattle.redl_tree.specs.Model.View.{Parts}
-use Rattle.redl_editor.specs.Begun.{IsBegun, AreBegun, AddsBegun}
+use Rattle.redl_editor.specs.Inside.Begun.{IsBegun, AreBegun, AddsBegun}
 use Rattle.redl_editor.specs.declared.story.Story.{Story}
 
 append-none : (xs : List Story) → xs ++ [] ≡ xs

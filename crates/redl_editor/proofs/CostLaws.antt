@@ -16,7 +16,7 @@ use Rattle.redl_tree.specs.Model.View.{Parts}
 use Rattle.redl_editor.proofs.CoverLaws.{some-holder, holds-within, way-numbered, or-left, or-right}
 use Rattle.redl_editor.specs.Costs.{parts_cost}
 use Rattle.redl_editor.specs.Holdings.{HoldsOf, is_rev, is_touched, slots_hold, some_held}
-use Rattle.redl_editor.specs.Makes.{sizes_of}
+use Rattle.redl_editor.specs.Inside.Makes.{sizes_of}
 use Rattle.redl_editor.specs.declared.holding.Held.{Held}
 
 -- ---- numbers of a list that are chosen, each once

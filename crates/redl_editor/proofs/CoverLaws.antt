@@ -10,7 +10,7 @@ use Rattle.redl_tree.specs.Leaves.Slots.{Slots, no_slots, leaf_slot, container_s
 use Rattle.redl_tree.specs.Leaves.Ways.{ways, IsWay, AreWays, AreNumbered, number_at, is_end}
 use Rattle.redl_tree.specs.Model.Nodes.{Nodes, no_nodes, bytes, element}
 use Rattle.redl_editor.specs.Holdings.{HoldsOf, is_rev, is_held, is_touched, nodes_hold, slots_hold, some_held}
-use Rattle.redl_editor.specs.Makes.{AreWithin, ways_of}
+use Rattle.redl_editor.specs.Inside.Makes.{AreWithin, ways_of}
 use Rattle.redl_editor.specs.declared.holding.Held.{Held}
 
 pub or-left : (a b : Bool) → a ≡ true → (a || b) ≡ true

@@ -19,7 +19,7 @@ use Rattle.redl_tree.specs.declared.kinds.Say.{Say}
 use Rattle.redl_tree.specs.declared.kinds.Say.TheVariants.{Keep}
 use Rattle.redl_tree.specs.declared.node.Node.{Node}
 use Rattle.redl_editor.proofs.KeptLaws.{kept-slots}
-use Rattle.redl_editor.specs.Begun.{AreBegun}
+use Rattle.redl_editor.specs.Inside.Begun.{AreBegun}
 use Rattle.redl_editor.specs.Changes.{is_changed}
 use Rattle.redl_editor.specs.Documents.{Document, IsNumbered, IsConsistent, leaf_of}
 use Rattle.redl_editor.specs.Kept.{AreKept, AreUnheld, AreTables, lent_story}

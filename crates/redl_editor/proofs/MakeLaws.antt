@@ -10,7 +10,7 @@ use Rattle.redl_tree.specs.Leaves.Ways.{leaf_at}
 use Rattle.redl_tree.specs.Model.View.{nodes_of}
 use Rattle.redl_tree.specs.declared.kinds.Say.{Say}
 use Rattle.redl_leaves.specs.Finds.{size_at}
-use Rattle.redl_editor.specs.Makes.{AreWithin, ways_of, sizes_of}
+use Rattle.redl_editor.specs.Inside.Makes.{AreWithin, ways_of, sizes_of}
 use Rattle.redl_leaves.specs.Puts.{IsMade}
 use Rattle.redl_leaves.specs.Steps.{AreMade, way_of}
 use Rattle.redl_leaves.specs.declared.stepping.Made.{Made}

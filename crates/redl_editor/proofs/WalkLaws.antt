@@ -5,7 +5,7 @@ use Rattle.redl_tree.specs.Leaves.Ways.{ways_from}
 use Rattle.redl_leaves.proofs.ViewLaws.{states_here, states_end}
 use Rattle.redl_editor.specs.Places.{HasWays}
 use Rattle.redl_leaves.specs.View.{SlotView, leaf_view, container_view, before, view_of, states_of}
-use Rattle.redl_editor.specs.Walks.{AddsWays, ways_in, fronted}
+use Rattle.redl_editor.specs.Inside.Walks.{AddsWays, ways_in, fronted}
 use Rattle.redl_editor.specs.declared.places.Places.{Places as Kept}
 use Rattle.redl_leaves.specs.declared.slots.Slot.{Slot}
 

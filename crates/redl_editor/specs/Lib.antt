@@ -1,11 +1,9 @@
 pub mod Places
-pub mod Walks
 pub mod Holdings
-pub mod Makes
 pub mod Tables
 pub mod Changes
 pub mod Stories
-pub mod Begun
 pub mod Kept
 pub mod Costs
 pub mod Documents
+pub mod Inside

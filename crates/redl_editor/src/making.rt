@@ -2,7 +2,7 @@
 
 ghost use Rattle.std.specs.Prelude.{◌≡◌, ◌≤◌, ◌<◌, ◌+◌, ℕ, List, true, length, map, sum_by, IfOk};
 ghost use Rattle.redl_editor.specs.Holdings.{is_touched};
-ghost use Rattle.redl_editor.specs.Makes.{AreWithin, ways_of, sizes_of};
+ghost use Rattle.redl_editor.specs.Inside.Makes.{AreWithin, ways_of, sizes_of};
 ghost use Rattle.redl_editor.specs.Places.{HasWays};
 ghost use Rattle.redl_leaves.specs.Steps.{AreMade, way_of};
 ghost use Rattle.redl_leaves.specs.View.{states_of};

@@ -1,7 +1,7 @@
 //! The stories of a package, taken out of its nodes.
 
 ghost use Rattle.std.specs.Prelude.{◌≡◌, ◌<◌, ◌^◌, ◌∷◌, [], List, IfOk, OnOk};
-ghost use Rattle.redl_editor.specs.Begun.{AreBegun, AddsBegun};
+ghost use Rattle.redl_editor.specs.Inside.Begun.{AreBegun, AddsBegun};
 ghost use Rattle.redl_editor.specs.Stories.{empty_rule};
 ghost use Rattle.redl_tree.specs.Decisions.Packages.{level_of, stories_in, stories as stories_of, element_stories, changed_in, changed_package};
 ghost use Rattle.redl_tree.specs.Decisions.StoryWalk.{changed_kids, changed_item, item_stories};

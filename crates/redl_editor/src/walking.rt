@@ -3,7 +3,7 @@
 ghost use Rattle.std.specs.Prelude.{◌≡◌, ◌∷◌, [], OnOk, IfOk, map};
 ghost use Rattle.redl_editor.specs.Places.{HasWays};
 ghost use Rattle.redl_leaves.specs.View.{states_of, view_of, container_of};
-ghost use Rattle.redl_editor.specs.Walks.{AddsWays, ways_in};
+ghost use Rattle.redl_editor.specs.Inside.Walks.{AddsWays, ways_in};
 ghost use Rattle.redl_tree.specs.Leaves.States.{slots_of};
 ghost use Rattle.redl_tree.specs.Leaves.Ways.{ways, ways_from};
 

@@ -3,5 +3,5 @@ pub mod Phrases
 pub mod Lines
 pub mod Ears
 pub mod Mentions
-pub mod Views
 pub mod Excerpts
+pub mod Inside

@@ -6,7 +6,7 @@ ghost use Rattle.redl_excerpts.specs.Excerpts.{TellsEach, is_moved, told_all};
 ghost use Rattle.redl_excerpts.specs.Lines.{along, line_of};
 ghost use Rattle.redl_excerpts.specs.Mentions.{bytes_said, element_mentions, in_paragraph, item_mentions, member_told, mentions, told_by};
 ghost use Rattle.redl_excerpts.specs.Said.{element_said, item_said, said, start_said};
-ghost use Rattle.redl_excerpts.specs.Views.{where_of};
+ghost use Rattle.redl_excerpts.specs.Inside.Views.{where_of};
 
 use crate::excerpt::Excerpt;
 use crate::line::{Line, Place};

@@ -31,7 +31,7 @@ use Rattle.redl_markers.specs.Free.{Every, IsFree}
 use Rattle.redl_markers.proofs.WalkLaws.{none-seen}
 use Rattle.redl_markers.proofs.FreeLaws.{content-apart, mark-apart}
 use Rattle.redl_moves.specs.declared.start.Start.{Start}
-use Rattle.redl_index.specs.Contexts.{para_end, context_of, inside_context, context_below, move_by, IsApartAs, is_marker_by}
+use Rattle.redl_index.specs.Inside.Contexts.{para_end, context_of, inside_context, context_below, move_by, IsApartAs, is_marker_by}
 
 -- ---- a mark is at the end of the nearest paragraph
 

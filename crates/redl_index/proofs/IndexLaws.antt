@@ -9,7 +9,7 @@ use Rattle.redl_tree.specs.declared.node.Node.{Node}
 use Rattle.redl_tree.proofs.Laws.{count-in_front}
 use Rattle.redl_index.specs.declared.revision.Revision.{Revision}
 use Rattle.redl_index.specs.Revisions.{IsTold, AreNumbered, IsIndex}
-use Rattle.redl_index.specs.Tallies.{with_one_more, replaced}
+use Rattle.redl_index.specs.Inside.Tallies.{with_one_more, replaced}
 use Rattle.redl_index.proofs.TallyLaws.{length-replaced}
 
 -- a node has no more nodes in it than the nodes from it on

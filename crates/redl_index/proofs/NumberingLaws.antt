@@ -17,7 +17,7 @@ use Rattle.redl_moves.specs.declared.start.Start.{Start}
 use Rattle.redl_moves.proofs.AgainLaws.{In, filter-in}
 use Rattle.redl_moves.proofs.ThereLaws.{pair-there}
 use Rattle.redl_index.specs.Kinds.{kind_of}
-use Rattle.redl_index.specs.Numberings.{number_in, IsPlaced, IsNumbering}
+use Rattle.redl_index.specs.Inside.Numberings.{number_in, IsPlaced, IsNumbering}
 use Rattle.redl_index.specs.declared.numbers.Numbers.{Numbers}
 
 -- ---- the source of each move starts with a marker

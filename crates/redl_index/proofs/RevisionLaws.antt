@@ -28,7 +28,7 @@ use Rattle.redl_index.proofs.LabelLaws.{counted_all, numbering-fold}
 use Rattle.redl_index.specs.declared.revision.Revision.{Revision}
 use Rattle.redl_index.specs.Mentions.{Mention, mention_by, mentions, Sight, sight_in}
 use Rattle.redl_index.specs.Revisions.{starts_at, is_of, is_new, firsts, members_of, revision_with, revision_of, numbered, story_revisions, revisions_in, revisions_from, revisions_of}
-use Rattle.redl_index.specs.Tallies.{Tally, next_number, known_number, with_move, with_one_more, replaced, mentioned_again, mentioned, mentioned_by, noted_by, noted_all}
+use Rattle.redl_index.specs.Inside.Tallies.{Tally, next_number, known_number, with_move, with_one_more, replaced, mentioned_again, mentioned, mentioned_by, noted_by, noted_all}
 
 -- ---- equal starts
 

@@ -10,7 +10,7 @@ use Rattle.redl_markers.specs.Walks.{item_tags, item_seen, item_ends}
 use Rattle.redl_markers.proofs.WalkLaws.{seen-in_front, ends-in_front}
 use Rattle.redl_index.specs.declared.revision.Revision.{Revision}
 use Rattle.redl_index.specs.Mentions.{Sight, sight_by}
-use Rattle.redl_index.specs.Tallies.{Tally, with_one_more, replaced, noted, noted_all}
+use Rattle.redl_index.specs.Inside.Tallies.{Tally, with_one_more, replaced, noted, noted_all}
 
 pub noted_all-append : (part : ℕ) (t : Tally) (xs ys : List Sight) → noted_all part t (xs ++ ys) ≡ noted_all part (noted_all part t xs) ys
 noted_all-append part t [] ys = refl

@@ -3,9 +3,6 @@ pub mod Kinds
 pub mod KindNames
 pub mod Mentions
 pub mod Revisions
-pub mod Tallies
-pub mod Contexts
-pub mod Stories
 pub mod Known
-pub mod Numberings
 pub mod Unlabelled
+pub mod Inside

@@ -5,7 +5,7 @@ ghost use Rattle.redl_tree.specs.Decisions.Packages.{is_story_root};
 ghost use Rattle.redl_tree.specs.Model.Seen.{root_spots};
 ghost use Rattle.redl_tree.specs.Model.View.{tag_of, kids_of};
 ghost use Rattle.redl_markers.specs.Ends.{one_end};
-ghost use Rattle.redl_index.specs.Contexts.{context_of, context_below};
+ghost use Rattle.redl_index.specs.Inside.Contexts.{context_of, context_below};
 ghost use Rattle.redl_tree.specs.Roles.Names.{is};
 
 use redl_tree::{Around, Elem, has_elements, is_named};

@@ -11,11 +11,11 @@ ghost use Rattle.redl_tree.specs.Model.Tree.{HasUtf8Tails};
 ghost use Rattle.redl_markers.specs.Ends.{ends_from};
 ghost use Rattle.redl_markers.specs.Free.{Every, IsFree};
 ghost use Rattle.redl_markers.specs.Walks.{item_tags, item_seen, item_ends, element_seen, element_ends};
-ghost use Rattle.redl_index.specs.Contexts.{context_of};
+ghost use Rattle.redl_index.specs.Inside.Contexts.{context_of};
 ghost use Rattle.redl_index.specs.Known.{known_of, known_in, parts_by};
 ghost use Rattle.redl_index.specs.Revisions.{numbered, story_revisions, revisions_of};
-ghost use Rattle.redl_index.specs.Stories.{tails_in, sight_of};
-ghost use Rattle.redl_index.specs.Tallies.{Tally, noted_all, IsTally};
+ghost use Rattle.redl_index.specs.Inside.Stories.{tails_in, sight_of};
+ghost use Rattle.redl_index.specs.Inside.Tallies.{Tally, noted_all, IsTally};
 
 use crate::context::{Context, Walk};
 use crate::found::Found;

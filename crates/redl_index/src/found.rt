@@ -7,8 +7,8 @@ ghost use Rattle.redl_tree.specs.Model.View.{tag_of};
 ghost use Rattle.redl_index.specs.Kinds.{kind_of, is_named};
 ghost use Rattle.redl_index.specs.Mentions.{mention_as, move_mention, sight_by};
 ghost use Rattle.redl_index.specs.Revisions.{revision_of, revision_with};
-ghost use Rattle.redl_index.specs.Stories.{tails_in};
-ghost use Rattle.redl_index.specs.Tallies.{Tally, mentioned_by, noted, IsTally};
+ghost use Rattle.redl_index.specs.Inside.Stories.{tails_in};
+ghost use Rattle.redl_index.specs.Inside.Tallies.{Tally, mentioned_by, noted, IsTally};
 
 use crate::index::Index;
 use crate::revision::{RevKind, Revision};

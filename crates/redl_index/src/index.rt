@@ -4,7 +4,7 @@ ghost use Rattle.std.specs.Prelude.{◌≡◌, ◌+◌, ◌-◌, ◌^◌, ◌<�
 ghost use Rattle.redl_tree.specs.Model.Text.{text};
 ghost use Rattle.redl_index.specs.Numbers.{numbered_package, package_revisions};
 ghost use Rattle.redl_index.specs.Revisions.{AreNumbered, IsInStory, IsTold, revisions_of};
-ghost use Rattle.redl_index.specs.Tallies.{mentioned_again, replaced};
+ghost use Rattle.redl_index.specs.Inside.Tallies.{mentioned_again, replaced};
 
 use crate::find::find_in_stories;
 use crate::known::known_stories;

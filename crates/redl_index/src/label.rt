@@ -13,9 +13,9 @@ ghost use Rattle.redl_stamp.specs.Attribute.{attribute_value};
 ghost use Rattle.redl_markers.specs.Ends.{ends_from};
 ghost use Rattle.redl_markers.specs.Free.{Every, IsFree};
 ghost use Rattle.redl_markers.specs.Walks.{item_tags, item_seen, item_ends, element_seen, element_ends};
-ghost use Rattle.redl_index.specs.Contexts.{context_of};
+ghost use Rattle.redl_index.specs.Inside.Contexts.{context_of};
 ghost use Rattle.redl_index.specs.Known.{known_of, known_in, parts_by};
-ghost use Rattle.redl_index.specs.Numberings.{IsNumbering};
+ghost use Rattle.redl_index.specs.Inside.Numberings.{IsNumbering};
 ghost use Rattle.redl_index.specs.Numbers.{numbered_package, package_revisions};
 ghost use Rattle.redl_index.specs.Unlabelled.{labelled_item, item_numbering, element_numbering};
 

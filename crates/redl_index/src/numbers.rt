@@ -5,7 +5,7 @@ ghost use Rattle.redl_tree.specs.Revisions.Moves.{Marking, Pair, place_of};
 ghost use Rattle.redl_tree.specs.Revisions.Numbers.{Numbering, in_own, in_move, membership, number_for, counted};
 ghost use Rattle.redl_moves.specs.Starts.{start_in};
 ghost use Rattle.redl_index.specs.Kinds.{kind_of};
-ghost use Rattle.redl_index.specs.Numberings.{IsNumbering, IsPlaced};
+ghost use Rattle.redl_index.specs.Inside.Numberings.{IsNumbering, IsPlaced};
 
 use crate::story::Sight;
 use redl_tree::Kind;

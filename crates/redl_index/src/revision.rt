@@ -4,7 +4,7 @@ ghost use Rattle.std.specs.Prelude.{◌≡◌, IfOk, IsTrue};
 ghost use Rattle.std.specs.Str.{IsUtf8};
 ghost use Rattle.redl_index.specs.Kinds.{kind_of, is_named};
 ghost use Rattle.redl_index.specs.Revisions.{IsTold, revision_with};
-ghost use Rattle.redl_index.specs.Tallies.{with_one_more};
+ghost use Rattle.redl_index.specs.Inside.Tallies.{with_one_more};
 
 use redl_io::Text;
 use redl_stamp::read_stamp;

@@ -11,9 +11,9 @@ ghost use Rattle.redl_stamp.specs.Attribute.{attribute_value};
 ghost use Rattle.redl_moves.specs.Standing.{IsApart};
 ghost use Rattle.redl_moves.specs.Starts.{start_in};
 ghost use Rattle.redl_markers.specs.Free.{IsFree};
-ghost use Rattle.redl_index.specs.Contexts.{context_of, move_by, IsApartAs, is_marker_by};
+ghost use Rattle.redl_index.specs.Inside.Contexts.{context_of, move_by, IsApartAs, is_marker_by};
 ghost use Rattle.redl_index.specs.Kinds.{kind_of, is_named};
-ghost use Rattle.redl_index.specs.Stories.{tails_in};
+ghost use Rattle.redl_index.specs.Inside.Stories.{tails_in};
 
 use crate::context::Context;
 use redl_moves::{Half, Moves, Start};

@@ -8,9 +8,9 @@ use Rattle.std.proofs.lemmas.Cmp.{tied_itself}
 use Rattle.redl_journal.specs.declared.entry.Entry.{Entry}
 use Rattle.redl_journal.proofs.EntryOrder.{entry_order-total}
 use Rattle.redl_join.specs.Books.{is_on, is_same, has_entry}
-use Rattle.redl_join.specs.Latest.{latest_words}
+use Rattle.redl_join.specs.Inside.Latest.{latest_words}
 use Rattle.redl_join.specs.LastWords.{last_words}
-use Rattle.redl_join.specs.Ranks.{rank_where, higher, verdict_by}
+use Rattle.redl_join.specs.Inside.Ranks.{rank_where, higher, verdict_by}
 use Rattle.redl_join.specs.Verdicts.{has_same_reviewer, counts, is_accept, is_reject, verdict_at}
 use Rattle.redl_join.proofs.Decides.{highest_of, verdict-highest}
 use Rattle.redl_join.proofs.LatestWords.{is_by-true}

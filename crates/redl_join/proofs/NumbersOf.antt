@@ -12,7 +12,7 @@ use Rattle.std.proofs.lemmas.Cmp.{nat_list_cmp_total, tied_itself}
 use Rattle.std.proofs.lemmas.Bool.Decides.{nat_tests}
 use Rattle.std.proofs.lemmas.Map.Lookups.{exact_bytes}
 use Rattle.std.proofs.lemmas.Slice.Eq.{bytes_eq-Decides}
-use Rattle.redl_join.specs.Numbers.{Numbered, AreNumbers, has_number, is_numbered, is_taken}
+use Rattle.redl_join.specs.Inside.Numbers.{Numbered, AreNumbers, has_number, is_numbered, is_taken}
 
 -- the order of names
 abbrev name_order : Vec ℕ → Vec ℕ → Ordering

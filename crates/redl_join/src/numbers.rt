@@ -1,7 +1,7 @@
 //! Numbers of reviewers.
 ghost use Rattle.std.specs.Prelude.{◌≡◌, ◌&&◌, ◌||◌, ◌==◌, ℕ, List, IfOk, IfSome, IfNone, OnErr, false, true};
 ghost use Rattle.std.specs.Str.{bytes_eq};
-ghost use Rattle.redl_join.specs.Numbers.{AreNumbers, has_number, is_numbered};
+ghost use Rattle.redl_join.specs.Inside.Numbers.{AreNumbers, has_number, is_numbered};
 
 use std::alloc::{AllocError, Global};
 use std::collections::BTreeMap;

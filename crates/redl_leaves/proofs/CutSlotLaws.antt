@@ -10,8 +10,8 @@ use Rattle.redl_tree.specs.Model.Kids.{kids_of_all}
 use Rattle.redl_tree.specs.Model.Nodes.{◌⊕◌}
 use Rattle.redl_tree.specs.Roles.Names.{is}
 use Rattle.redl_tree.specs.declared.kinds.Say.{Say}
-use Rattle.redl_leaves.specs.Cuts.{cut_slots, member_slots, cut_in, member_in}
-use Rattle.redl_leaves.specs.Mends.{recut, recut_in}
+use Rattle.redl_leaves.specs.Inside.Cuts.{cut_slots, member_slots, cut_in, member_in}
+use Rattle.redl_leaves.specs.Inside.Mends.{recut, recut_in}
 use Rattle.redl_leaves.specs.View.{SlotView, leaf_view, container_view, before, view_of, states_of}
 use Rattle.redl_leaves.specs.declared.slots.Slot.{Slot}
 use Rattle.redl_leaves.proofs.ViewLaws.{states_here}

@@ -10,7 +10,7 @@ use Rattle.redl_tree.specs.Roles.Kinds.{is_mark}
 use Rattle.redl_tree.specs.Leaves.Slots.{has_mark}
 use Rattle.redl_tree.specs.declared.node.Node.{Node}
 use Rattle.redl_tree.proofs.Laws.{⊕_assoc, nodes_here}
-use Rattle.redl_leaves.specs.Marks.{marks_run, marks_para, item_marks, item_marks_run, item_marks_para}
+use Rattle.redl_leaves.specs.Inside.Marks.{marks_run, marks_para, item_marks, item_marks_run, item_marks_para}
 
 some-⊕ : (test : Tag → Bool) (xs ys : Nodes) → some_element test (xs ⊕ ys) ≡ (some_element test xs || some_element test ys)
 some-⊕ test no_nodes ys = refl

@@ -11,7 +11,7 @@ use Rattle.redl_tree.specs.Model.Nodes.{Tag}
 use Rattle.redl_tree.specs.Revisions.Markers.{is_own}
 use Rattle.redl_leaves.specs.declared.mending.Shift.{Shift}
 use Rattle.redl_leaves.specs.declared.slots.Slot.{Slot}
-use Rattle.redl_leaves.specs.Mends.{recut, retallied, retallied_in, HasNumbers, HasNumbersIn, share, Mends, MendsIn}
+use Rattle.redl_leaves.specs.Inside.Mends.{recut, retallied, retallied_in, HasNumbers, HasNumbersIn, share, Mends, MendsIn}
 use Rattle.redl_leaves.specs.View.{SlotView, leaf_view, container_view, before, view_of, states_of}
 
 -- ---- no more stay than there are

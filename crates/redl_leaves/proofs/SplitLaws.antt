@@ -14,7 +14,7 @@ use Rattle.redl_tree.proofs.Laws.{count-⊕}
 use Rattle.redl_laws.proofs.Leaves.Originals.{original-slots}
 use Rattle.redl_laws.proofs.Leaves.Waiting.{IsOne, thin-waits, bytes-one, element-one}
 use Rattle.redl_tree.specs.declared.node.Node.{Node}
-use Rattle.redl_leaves.specs.Splits.{chain_of, lone_states, ended, item_sibling, share_at, owned_at}
+use Rattle.redl_leaves.specs.Inside.Splits.{chain_of, lone_states, ended, item_sibling, share_at, owned_at}
 use Rattle.redl_leaves.specs.Spots.{spot_of, opens_at}
 use Rattle.redl_leaves.specs.View.{SlotView, leaf_view, container_view, before}
 use Rattle.redl_leaves.specs.declared.spot.Spot.{Spot}

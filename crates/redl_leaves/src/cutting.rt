@@ -1,8 +1,8 @@
 //! Which rows and cells are cut by a member of their own.
 
 ghost use Rattle.std.specs.Prelude.{◌≡◌, ◌&&◌};
-ghost use Rattle.redl_leaves.specs.Cuts.{cut_slots, cut_in, member_slots, member_in};
-ghost use Rattle.redl_leaves.specs.Mends.{recut, recut_in};
+ghost use Rattle.redl_leaves.specs.Inside.Cuts.{cut_slots, cut_in, member_slots, member_in};
+ghost use Rattle.redl_leaves.specs.Inside.Mends.{recut, recut_in};
 ghost use Rattle.redl_leaves.specs.View.{states_of, view_of, container_of};
 ghost use Rattle.redl_tables.specs.Lines.{test_of, name_of};
 ghost use Rattle.redl_tree.specs.Decisions.Fates.{fate_of as fate_by};

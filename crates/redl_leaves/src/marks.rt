@@ -1,7 +1,7 @@
 //! Paragraphs whose mark has a member.
 
 ghost use Rattle.std.specs.Prelude.{◌≡◌};
-ghost use Rattle.redl_leaves.specs.Marks.{item_marks, item_marks_run, item_marks_para, marks_run, marks_para};
+ghost use Rattle.redl_leaves.specs.Inside.Marks.{item_marks, item_marks_run, item_marks_para, marks_run, marks_para};
 ghost use Rattle.redl_tree.specs.Leaves.Slots.{has_mark};
 ghost use Rattle.redl_tree.specs.Model.View.{nodes_of, item_of};
 

@@ -1,7 +1,7 @@
 //! The tallies of the containers on a way, mended from the inside out.
 
 ghost use Rattle.std.specs.Prelude.{◌≡◌, ◌∷◌, List};
-ghost use Rattle.redl_leaves.specs.Mends.{HasNumbers, HasNumbersIn, Mends, MendsIn, left_at, shifted, goes_at_counts};
+ghost use Rattle.redl_leaves.specs.Inside.Mends.{HasNumbers, HasNumbersIn, Mends, MendsIn, left_at, shifted, goes_at_counts};
 ghost use Rattle.redl_leaves.specs.Spots.{spot_of};
 ghost use Rattle.redl_leaves.specs.View.{states_of, view_of, container_of};
 ghost use Rattle.redl_tree.specs.Model.Nodes.{Tag};

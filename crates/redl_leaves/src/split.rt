@@ -2,7 +2,7 @@
 
 ghost use Rattle.std.specs.Prelude.{◌≡◌, ◌≤◌, ◌<◌, ◌^◌, ◌∷◌, [], List, Option, None, Some, IfOk, OnOk, false};
 ghost use Rattle.redl_paras.specs.Pieces.{is_other};
-ghost use Rattle.redl_leaves.specs.Splits.{AddsLeaf, AddsLone, AddsView, AddsSibling, ended, chain_of, whole_of, whole, item_sibling, share_at, owned_at};
+ghost use Rattle.redl_leaves.specs.Inside.Splits.{AddsLeaf, AddsLone, AddsView, AddsSibling, ended, chain_of, whole_of, whole, item_sibling, share_at, owned_at};
 ghost use Rattle.redl_leaves.specs.Spots.{spot_of};
 ghost use Rattle.redl_leaves.specs.View.{SlotView, container_view, view_of, container_of, states_of};
 ghost use Rattle.redl_tree.specs.Leaves.Containers.{opens};

@@ -2,7 +2,7 @@
 
 ghost use Rattle.std.specs.Prelude.{◌≡◌};
 ghost use Rattle.redl_leaves.specs.View.{states_of, view_of, container_of, present_of};
-ghost use Rattle.redl_leaves.specs.Texts.{shown_view};
+ghost use Rattle.redl_leaves.specs.Inside.Texts.{shown_view};
 ghost use Rattle.redl_io.specs.Sink.{Puts};
 ghost use Rattle.redl_tree.specs.Leaves.States.{shown};
 ghost use Rattle.redl_tree.specs.Model.Text.{text, element_text};

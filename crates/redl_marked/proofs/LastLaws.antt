@@ -16,7 +16,7 @@ use Rattle.redl_tree.proofs.Laws.{nodes_of-append}
 use Rattle.redl_marked.specs.declared.summary.Summary.{Summary}
 use Rattle.redl_marked.specs.Signs.{sign_begin, sign_end, opening, word_sign, change_sign, para_signs}
 use Rattle.redl_marked.specs.MarkedText.{open_end, heading}
-use Rattle.redl_marked.specs.Walks.{inside, marked, item_marked, last_of}
+use Rattle.redl_marked.specs.Inside.Walks.{inside, marked, item_marked, last_of}
 use Rattle.redl_marked.proofs.WalkLaws.{marked-⊕, marked-in_front}
 
 pub last_or-append : (before : Option ℕ) (xs ys : List ℕ) → last_or before (xs ++ ys) ≡ last_or (last_or before xs) ys

@@ -10,7 +10,7 @@ use Rattle.redl_opc.specs.Stories.{story_view}
 use Rattle.redl_opc.proofs.WalkLaws.{part-at}
 use Rattle.redl_marked.specs.declared.summary.Summary.{Summary}
 use Rattle.redl_marked.specs.MarkedText.{NamedStory, named_story, marked_in, heading, headed, stories_marked}
-use Rattle.redl_marked.specs.Walks.{summary_of, marked, named_of, named_in}
+use Rattle.redl_marked.specs.Inside.Walks.{summary_of, marked, named_of, named_in}
 use Rattle.redl_marked.proofs.WalkLaws.{marked-summary}
 use Rattle.redl_marked.proofs.LastLaws.{last_or-append}
 

@@ -6,7 +6,7 @@ use Rattle.redl_shown.specs.Shown.{shown}
 use Rattle.redl_marked.specs.declared.summary.Summary.{Summary}
 use Rattle.redl_marked.specs.Signs.{mark_signs, run_signs, para_signs}
 use Rattle.redl_marked.specs.MarkedText.{in_text, open_end, start_marked, end_marked, marked_in}
-use Rattle.redl_marked.specs.Walks.{summary_of, inside, start_of, end_of, marked, item_marked, item_mark, item_run, item_para}
+use Rattle.redl_marked.specs.Inside.Walks.{summary_of, inside, start_of, end_of, marked, item_marked, item_mark, item_run, item_para}
 
 pub marked-summary : (ancestors : List Tag) (nodes : Nodes) → marked_in ancestors nodes ≡ marked (summary_of ancestors) nodes
 marked-summary ancestors no_nodes = refl

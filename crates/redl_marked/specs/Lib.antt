@@ -1,4 +1,4 @@
 pub mod Signs
 pub mod MarkedText
-pub mod Walks
 pub mod Members
+pub mod Inside

@@ -8,7 +8,7 @@ ghost use Rattle.redl_shown.specs.Shown.{shown};
 ghost use Rattle.redl_shown.specs.Pieces.{piece_text};
 ghost use Rattle.redl_marked.specs.Signs.{start_sign, end_sign};
 ghost use Rattle.redl_marked.specs.MarkedText.{open_start, open_end};
-ghost use Rattle.redl_marked.specs.Walks.{marked, item_marked, inside, start_of, end_of, last_of};
+ghost use Rattle.redl_marked.specs.Inside.Walks.{marked, item_marked, inside, start_of, end_of, last_of};
 
 use crate::signs::sign_end;
 use crate::summary::{Summary, inside};

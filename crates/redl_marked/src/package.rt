@@ -6,7 +6,7 @@ ghost use Rattle.redl_io.specs.Sink.{Puts};
 ghost use Rattle.redl_opc.specs.Elements.{element_of};
 ghost use Rattle.redl_opc.specs.Stories.{story_view};
 ghost use Rattle.redl_marked.specs.MarkedText.{NamedStory, heading, headed, stories_marked, marked_text};
-ghost use Rattle.redl_marked.specs.Walks.{named_in};
+ghost use Rattle.redl_marked.specs.Inside.Walks.{named_in};
 
 use crate::last::last_of_nodes;
 use crate::summary::in_root;

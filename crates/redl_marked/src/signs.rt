@@ -4,7 +4,7 @@ ghost use Rattle.std.specs.Prelude.{◌≡◌, List, ℕ, codes};
 ghost use Rattle.redl_io.specs.Sink.{Puts};
 ghost use Rattle.redl_tree.specs.Model.View.{nodes_of, item_of, tag_of};
 ghost use Rattle.redl_marked.specs.Signs.{sign_begin as sign_begin_of, sign_end as sign_end_of, opening, word_sign, change_sign, pilcrow, start_sign, end_sign, mark_sign, mark_signs, run_signs, para_signs};
-ghost use Rattle.redl_marked.specs.Walks.{item_mark, item_run, item_para};
+ghost use Rattle.redl_marked.specs.Inside.Walks.{item_mark, item_run, item_para};
 
 use itoa::Buffer;
 use redl_index::RevKind;

@@ -3,7 +3,7 @@
 ghost use Rattle.std.specs.Prelude.{◌≡◌, ◌∷◌, ◌||◌, []};
 ghost use Rattle.redl_tree.specs.Model.View.{tag_of};
 ghost use Rattle.redl_tree.specs.Roles.Names.{is_any};
-ghost use Rattle.redl_marked.specs.Walks.{summary_of, inside};
+ghost use Rattle.redl_marked.specs.Inside.Walks.{summary_of, inside};
 
 use redl_tree::{Elem, is_named, is_quiet};
 

@@ -5,7 +5,7 @@ ghost use Rattle.redl_io.specs.Sink.{Puts};
 ghost use Rattle.redl_tree.specs.Model.View.{nodes_of, item_of, tag_of, kids_of};
 ghost use Rattle.redl_shown.specs.Shown.{shown};
 ghost use Rattle.redl_marked.specs.MarkedText.{open_start, open_end};
-ghost use Rattle.redl_marked.specs.Walks.{marked, item_marked, inside, start_of, end_of};
+ghost use Rattle.redl_marked.specs.Inside.Walks.{marked, item_marked, inside, start_of, end_of};
 
 use crate::signs::{put_end_sign, put_para_signs, put_start_sign};
 use crate::summary::{Summary, inside};

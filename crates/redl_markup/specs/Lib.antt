@@ -14,4 +14,4 @@ pub mod ScanPieces
 pub mod Views
 pub mod PieceViews
 pub mod Terms
-pub mod Near
+pub mod Inside

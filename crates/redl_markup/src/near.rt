@@ -2,7 +2,7 @@
 
 ghost use Rattle.std.specs.Prelude.{◌≡◌};
 ghost use Rattle.redl_reading.specs.Lists.{front, after, is_none_of};
-ghost use Rattle.redl_markup.specs.Near.{plain_in};
+ghost use Rattle.redl_markup.specs.Inside.Near.{plain_in};
 
 use redl_reading::{before, run};
 use std::simd::prelude::*;

@@ -3,7 +3,7 @@ use Rattle.std.proofs.Common.{◌≡◌, ◌∙◌, refl, ap, cond, ℕ, inl, in
 use Rattle.redl_tree.specs.Revisions.Moves.{Marking, Pair, Move, pairs, is_of_pair, place_of, by_places, paired_moves}
 use Rattle.redl_moves.specs.Marks.{RisesFrom}
 use Rattle.redl_moves.specs.Starts.{at_of, start_by, start_in}
-use Rattle.redl_moves.specs.Owners.{is_at, first_owner, owner_over}
+use Rattle.redl_moves.specs.Inside.Owners.{is_at, first_owner, owner_over}
 use Rattle.redl_moves.specs.declared.start.Start.{Start}
 use Rattle.redl_moves.proofs.AgainLaws.{In}
 use Rattle.redl_moves.proofs.ThereLaws.{IsThere, pair-there}

@@ -5,10 +5,10 @@ use Rattle.redl_tree.specs.Revisions.Moves as moves
 use Rattle.redl_tree.specs.Revisions.Moves.{Marking, Pair, pairs, pair_at, by_places, paired_moves}
 use Rattle.redl_moves.specs.Marks.{move_of, RisesFrom}
 use Rattle.redl_moves.specs.Opens.{opens_over}
-use Rattle.redl_moves.specs.Owners.{owner_over}
+use Rattle.redl_moves.specs.Inside.Owners.{owner_over}
 use Rattle.redl_moves.specs.Standing.{side_of, before, IsApart, pair_open}
 use Rattle.redl_moves.specs.Starts.{at_of, start_in}
-use Rattle.redl_moves.specs.Stories.{item_of, start_of_move, open_in, IsTables}
+use Rattle.redl_moves.specs.Inside.Stories.{item_of, start_of_move, open_in, IsTables}
 use Rattle.redl_moves.specs.declared.marker.Move.{Move}
 use Rattle.redl_moves.specs.declared.opens.Half.{Half}
 use Rattle.redl_moves.specs.declared.opens.Half.TheVariants.{From, To}

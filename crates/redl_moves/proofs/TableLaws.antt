@@ -5,7 +5,7 @@ use Rattle.redl_tree.proofs.NameLaws.{bytes-same}
 use Rattle.redl_tree.specs.Revisions.Moves.{Edge, Marking, only_one, same_edge, has_name}
 use Rattle.redl_moves.specs.Keys.{has_key, key_of}
 use Rattle.redl_moves.specs.Places.{places_from}
-use Rattle.redl_moves.specs.Seats.{seat_place, noted, noted_key, noted_all}
+use Rattle.redl_moves.specs.Inside.Seats.{seat_place, noted, noted_key, noted_all}
 use Rattle.redl_moves.specs.declared.table.Key.{Key}
 use Rattle.redl_moves.specs.declared.table.Key.TheVariants.{Id, Name}
 

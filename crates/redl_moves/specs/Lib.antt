@@ -1,10 +1,7 @@
 pub mod Marks
 pub mod Keys
 pub mod Places
-pub mod Seats
-pub mod Sides
 pub mod Opens
 pub mod Standing
 pub mod Starts
-pub mod Owners
-pub mod Stories
+pub mod Inside

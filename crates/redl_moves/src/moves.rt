@@ -25,7 +25,7 @@ impl Model for Moves {
     ghost use Rattle.std.specs.Prelude.{List};
     ghost use Rattle.redl_tree.specs.Revisions.Moves.{Marking};
     ghost use Rattle.redl_moves.specs.Marks.{markings};
-    ghost use Rattle.redl_moves.specs.Stories.{IsStory};
+    ghost use Rattle.redl_moves.specs.Inside.Stories.{IsStory};
 
     ghost Value = { List Marking };
 

@@ -3,7 +3,7 @@
 ghost use Rattle.std.specs.Prelude.{◌≡◌, ◌^◌, ◌<◌, [], length, map, IfOk, OnOk, option_map};
 ghost use Rattle.redl_moves.specs.Marks.{markings, edge_of, move_of};
 ghost use Rattle.redl_moves.specs.Opens.{start_of, is_open_at, find_last, opens_over, OpenAlike};
-ghost use Rattle.redl_moves.specs.Sides.{IsSides};
+ghost use Rattle.redl_moves.specs.Inside.Sides.{IsSides};
 
 use crate::marker::{Marker, MarkerKind, Move};
 use crate::pairing::{add, move_begun};

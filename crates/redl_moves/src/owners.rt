@@ -3,7 +3,7 @@
 ghost use Rattle.std.specs.Prelude.{◌≡◌, ◌==◌, ◌^◌, ◌<◌, ℕ, None, nat_eq, length, map, IfOk, OnOk};
 ghost use Rattle.indexmap.specs.IndexMap.{get};
 ghost use Rattle.redl_moves.specs.Marks.{markings, move_of};
-ghost use Rattle.redl_moves.specs.Owners.{first_owner, is_at, owner_over};
+ghost use Rattle.redl_moves.specs.Inside.Owners.{first_owner, is_at, owner_over};
 ghost use Rattle.redl_moves.specs.Starts.{start_by};
 
 use crate::marker::{Marker, Move};

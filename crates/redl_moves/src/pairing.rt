@@ -4,7 +4,7 @@ ghost use Rattle.std.specs.Prelude.{◌≡◌, ◌^◌, ◌<◌, ◌++◌, List,
 ghost use Rattle.redl_tree.specs.Revisions.Moves.{Marking, paired_moves, from_start};
 ghost use Rattle.redl_moves.specs.Marks.{marking_of, markings, edge_of, move_of, RisesFrom};
 ghost use Rattle.redl_moves.specs.Places.{move_begun, move_with_name};
-ghost use Rattle.redl_moves.specs.Sides.{IsSides};
+ghost use Rattle.redl_moves.specs.Inside.Sides.{IsSides};
 
 use crate::marker::{Marker, MarkerKind, Move};
 use crate::side::Sides;

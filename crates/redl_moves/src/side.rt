@@ -4,7 +4,7 @@ ghost use Rattle.std.specs.Prelude.{◌≡◌, ◌^◌, ◌<◌, List, length, I
 ghost use Rattle.redl_tree.specs.Revisions.Moves.{Edge, Marking};
 ghost use Rattle.redl_moves.specs.Marks.{markings, edge_of};
 ghost use Rattle.redl_moves.specs.Places.{span_with_id, span_with_name};
-ghost use Rattle.redl_moves.specs.Sides.{IsSide, IsSides, span_of};
+ghost use Rattle.redl_moves.specs.Inside.Sides.{IsSide, IsSides, span_of};
 
 use crate::marker::{Marker, MarkerKind};
 use crate::table::{Key, Table};

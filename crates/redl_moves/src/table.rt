@@ -4,7 +4,7 @@ ghost use Rattle.std.specs.Prelude.{◌≡◌, ◌^◌, ◌<◌, List, ℕ, leng
 ghost use Rattle.redl_moves.specs.Marks.{marking_of, markings, edge_of};
 ghost use Rattle.redl_moves.specs.Keys.{key_of, has_key};
 ghost use Rattle.redl_moves.specs.Places.{only_place};
-ghost use Rattle.redl_moves.specs.Seats.{seat, noted, noted_key, seat_place};
+ghost use Rattle.redl_moves.specs.Inside.Seats.{seat, noted, noted_key, seat_place};
 
 use crate::marker::{Marker, MarkerKind};
 use indexmap::IndexMap;

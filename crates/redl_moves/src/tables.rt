@@ -3,8 +3,8 @@
 ghost use Rattle.std.specs.Prelude.{◌≡◌, ◌^◌, ◌<◌, [], length, nat_eq, slice_get, IfOk};
 ghost use Rattle.indexmap.specs.IndexMap.{get};
 ghost use Rattle.redl_moves.specs.Marks.{markings, RisesFrom};
-ghost use Rattle.redl_moves.specs.Sides.{IsSides};
-ghost use Rattle.redl_moves.specs.Stories.{IsTables, open_in};
+ghost use Rattle.redl_moves.specs.Inside.Sides.{IsSides};
+ghost use Rattle.redl_moves.specs.Inside.Stories.{IsTables, open_in};
 
 use crate::marker::{Marker, Move};
 use crate::opens::{Half, open_moves};

@@ -3,5 +3,5 @@ pub mod Elements
 pub mod Shape
 pub mod Parts
 pub mod Labels
-pub mod PartView
 pub mod Stories
+pub mod Inside

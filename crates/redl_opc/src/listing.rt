@@ -4,7 +4,7 @@ ghost use Rattle.std.specs.Prelude.{◌≡◌, IfOk, map};
 ghost use Rattle.std.specs.Str.{IsUtf8};
 ghost use Rattle.redl_tree.specs.Model.View.{nodes_of, tag_of};
 ghost use Rattle.redl_opc.specs.Parts.{name_in, places_from};
-ghost use Rattle.redl_opc.specs.PartView.{part_view};
+ghost use Rattle.redl_opc.specs.Inside.PartView.{part_view};
 ghost use Rattle.redl_tree.specs.Model.Tree.{HasUtf8Tails};
 
 use crate::part::Part;

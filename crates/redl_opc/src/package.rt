@@ -11,7 +11,7 @@ ghost use Rattle.redl_tree.specs.Decisions.Taken.{TakesAll};
 ghost use Rattle.redl_opc.specs.Elements.{element_of};
 ghost use Rattle.redl_opc.specs.Shape.{refusal, IsCause, parts_of};
 ghost use Rattle.redl_opc.specs.Parts.{part_name, story, places_of};
-ghost use Rattle.redl_opc.specs.PartView.{part_view};
+ghost use Rattle.redl_opc.specs.Inside.PartView.{part_view};
 ghost use Rattle.redl_opc.specs.Labels.{way_to_story, labelled_package, SetsLabels};
 ghost use Rattle.redl_tree.specs.Model.Tree.{HasUtf8Tails, IsTree};
 
@@ -45,7 +45,7 @@ impl<'a> Model for Package<'a> {
 
     ghost use Rattle.redl_tree.specs.Model.View.{nodes_of};
     ghost use Rattle.redl_opc.specs.Parts.{IsKept};
-    ghost use Rattle.redl_opc.specs.PartView.{part_view};
+    ghost use Rattle.redl_opc.specs.Inside.PartView.{part_view};
 
     ghost view = { λ pkg. nodes_of pkg.nodes.items };
 

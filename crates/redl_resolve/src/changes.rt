@@ -1,7 +1,7 @@
 //! A rejected change of properties, and the former properties that it gives back.
 
 ghost use Rattle.std.specs.Prelude.{◌≡◌, ◌+◌, IfOk};
-ghost use Rattle.redl_resolve.specs.Changes.{former_of, elem_rejected, item_rejected, copies_of, item_former, present_in, after_in};
+ghost use Rattle.redl_resolve.specs.Inside.Changes.{former_of, elem_rejected, item_rejected, copies_of, item_former, present_in, after_in};
 ghost use Rattle.redl_resolve.specs.Counts.{former_count};
 ghost use Rattle.redl_tree.specs.Roles.Names.{named};
 ghost use Rattle.redl_tree.specs.Roles.Places.{props_name};

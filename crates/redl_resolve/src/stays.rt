@@ -2,8 +2,8 @@
 
 ghost use Rattle.std.specs.Prelude.{◌≡◌, true, List};
 ghost use Rattle.redl_resolve.specs.Counts.{visits, item_visits, kids_visits};
-ghost use Rattle.redl_resolve.specs.Rounds.{round_of};
-ghost use Rattle.redl_resolve.specs.Stays.{item_stays, elem_stays as elem_stays_by, all_stay as all_stay_by};
+ghost use Rattle.redl_resolve.specs.Inside.Rounds.{round_of};
+ghost use Rattle.redl_resolve.specs.Inside.Stays.{item_stays, elem_stays as elem_stays_by, all_stay as all_stay_by};
 ghost use Rattle.redl_tree.specs.Model.Count.{count, item_count};
 ghost use Rattle.redl_tree.specs.Model.Nodes.{Tag};
 ghost use Rattle.redl_tree.specs.Model.View.{nodes_of, item_of, tag_of, kids_of};

@@ -6,7 +6,7 @@ ghost use Rattle.redl_tree.specs.Roles.Lists.{into, is_direct};
 ghost use Rattle.redl_tree.specs.Rules.CellEnds.{end_of, end_of_one, end_of_two as end_of_two_of, or_before, is_so};
 ghost use Rattle.redl_tree.specs.Decisions.Tables.{has_own};
 ghost use Rattle.redl_tree.specs.Model.View.{nodes_of, item_of, tag_of, kids_of};
-ghost use Rattle.redl_rules.specs.Ends.{item_end, item_has_own, element_has_own};
+ghost use Rattle.redl_rules.specs.Inside.Ends.{item_end, item_has_own, element_has_own};
 
 use redl_tree::{Elem, Node, Reach, is_named, is_thick, is_wrapper};
 

@@ -1,7 +1,7 @@
 -- Numbers side by side, from a place on.
 use Rattle.std.proofs.Common.{◌≡◌, ℕ, zero, suc, ◌<◌, ◌≤◌, List, [], ◌∷◌, ◌++◌, drop, get_or, length, refl, sym, ap, ◌∙◌, arith, subst}
 use Rattle.std.proofs.lemmas.List.{drop_all}
-use Rattle.redl_sittings.specs.Filling.{with_number, with_pairs}
+use Rattle.redl_sittings.specs.Inside.Filling.{with_number, with_pairs}
 use Rattle.redl_sittings.proofs.FillLaws.{with-append}
 use Rattle.redl_sittings.specs.SecondNumbers.{beside, parts_beside}
 

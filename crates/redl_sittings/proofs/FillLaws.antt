@@ -3,7 +3,7 @@ use Rattle.std.proofs.Common.{◌≡◌, ℕ, zero, suc, ◌+◌, ◌<◌, List,
 use Rattle.std.specs.List.{range_with_len}
 use Rattle.std.proofs.lemmas.Bool.{eqb-true, eq-eqb}
 use Rattle.std.proofs.lemmas.List.{drop_all, take_all}
-use Rattle.redl_sittings.specs.Filling.{with_number, with_pairs}
+use Rattle.redl_sittings.specs.Inside.Filling.{with_number, with_pairs}
 use Rattle.redl_sittings.specs.SecondNumbers.{numbers_beside}
 
 -- this number for one of them, and for each other one what a function gives

@@ -1,3 +1,3 @@
 pub mod SecondNumbers
 pub mod JoinedBooks
-pub mod Filling
+pub mod Inside

@@ -2,7 +2,7 @@
 
 ghost use Rattle.std.specs.Prelude.{◌≡◌, ◌<◌, [], IfOk, length, map, slice_index_or};
 ghost use Rattle.redl_tree.specs.Decisions.Packages.{pass_package};
-ghost use Rattle.redl_sittings.specs.Filling.{with_number, with_pairs};
+ghost use Rattle.redl_sittings.specs.Inside.Filling.{with_number, with_pairs};
 ghost use Rattle.redl_sittings.specs.SecondNumbers.{beside, first_numbers, numbers_beside, parts_beside};
 
 use crate::parts::numbers_by_part;

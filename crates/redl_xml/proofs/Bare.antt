@@ -8,7 +8,7 @@ use Rattle.redl_reading.specs.Steps.{◌>>=◌}
 use Rattle.redl_markup.specs.Names.{Name, name_eq}
 use Rattle.redl_markup.specs.Pieces.{Piece, start_tag, empty_tag, end_tag, stretch}
 use Rattle.redl_xml.specs.Scopes.{Scope}
-use Rattle.redl_xml.specs.Elements.{Frame, State, bare, without_nodes, one_element, entered, declared_in, added, opened, closed, stretched, placed}
+use Rattle.redl_xml.specs.Inside.Elements.{Frame, State, bare, without_nodes, one_element, entered, declared_in, added, opened, closed, stretched, placed}
 use Rattle.redl_xml.proofs.Buildings.{state}
 
 bare-again : (fs : List Frame) → map bare (map bare fs) ≡ map bare fs

@@ -20,8 +20,8 @@ use Rattle.redl_markup.specs.Names.{Name, name_eq}
 use Rattle.redl_markup.specs.Pieces.{empty_tag}
 use Rattle.redl_xml.specs.declared.open_element.OpenElement.{OpenElement}
 use Rattle.redl_xml.specs.Scopes.{Scope}
-use Rattle.redl_xml.specs.Elements.{Frame, State, plain_start, plain_tag, one_element, entered, declared_in, bare, closed, stretched, placed}
-use Rattle.redl_xml.specs.Buildings.{frame_view, frames}
+use Rattle.redl_xml.specs.Inside.Elements.{Frame, State, plain_start, plain_tag, one_element, entered, declared_in, bare, closed, stretched, placed}
+use Rattle.redl_xml.specs.Inside.Buildings.{frame_view, frames}
 use Rattle.redl_xml.proofs.Scoping.{left_entered}
 
 pub pushed : (old now : List Node) (n : Node) (i : Item) → now ≡ old ++ n ∷ [] → item_of n ≡ i → nodes_of now ≡ nodes_of old ⊕ in_front i no_nodes

@@ -17,7 +17,7 @@ use Rattle.redl_markup.proofs.Pieces.{piece_again, start_ends_stretch, end_ends_
 use Rattle.redl_xml.specs.Shapes.{begins_with_bytes}
 use Rattle.redl_xml.specs.Scopes.{Scope, scope_in, space_of}
 use Rattle.redl_xml.specs.Readings.{name_of, IsTag, ClosesBy, AreLegal}
-use Rattle.redl_xml.specs.Elements.{declared_in, Frame, State, plain_tag, placed, finished, nothing_yet, Point, element_step, element_at}
+use Rattle.redl_xml.specs.Inside.Elements.{declared_in, Frame, State, plain_tag, placed, finished, nothing_yet, Point, element_step, element_at}
 use Rattle.redl_xml.proofs.Scoping.{MayEnter, entered_again, left_again}
 use Rattle.redl_xml.proofs.Buildings.{state}
 use Rattle.redl_xml.proofs.Loops.{size, shrinks, step_goes, step_ends}

@@ -10,7 +10,7 @@ use Rattle.redl_markup.specs.ScanPieces.{piece_at}
 use Rattle.redl_markup.proofs.Pieces.{piece_shorter}
 use Rattle.redl_reading.proofs.Turns.{Going, begins, goes_on, ends}
 use Rattle.redl_tree.specs.Model.Nodes.{Nodes}
-use Rattle.redl_xml.specs.Elements.{State, placed, finished, nothing_yet, Point, from_nodes, from_state, from_piece, element_step, element_at}
+use Rattle.redl_xml.specs.Inside.Elements.{State, placed, finished, nothing_yet, Point, from_nodes, from_state, from_piece, element_step, element_at}
 
 -- each turn leaves less
 abbrev pub size : Point → ℕ

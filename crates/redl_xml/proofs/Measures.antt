@@ -13,8 +13,8 @@ use Rattle.redl_reading.proofs.Steps.{bind_some}
 use Rattle.std.proofs.lemmas.Bool.{cases_Bool}
 use Rattle.redl_xml.specs.Shapes.{depth_of}
 use Rattle.redl_xml.specs.Scopes.{Scope}
-use Rattle.redl_xml.specs.Elements.{entered, Frame, State, one_element, added, opened, closed, stretched, placed}
-use Rattle.redl_xml.specs.Sizes.{capped, one_more, deepest_with, nodes_with}
+use Rattle.redl_xml.specs.Inside.Elements.{entered, Frame, State, one_element, added, opened, closed, stretched, placed}
+use Rattle.redl_xml.specs.Inside.Sizes.{capped, one_more, deepest_with, nodes_with}
 use Rattle.redl_xml.specs.declared.sizes.Sizes.{Sizes}
 
 -- ---- depth and count of nodes

@@ -8,14 +8,14 @@ use Rattle.redl_markup.specs.declared.error.MarkupError.{MarkupError}
 use Rattle.redl_markup.specs.declared.error.MarkupError.TheVariants.{Unreadable, NoMemory}
 use Rattle.redl_reading.specs.Lists.{is_filled}
 use Rattle.redl_markup.specs.Reading.{Fails}
-use Rattle.redl_xml.specs.Elements.{element_at}
-use Rattle.redl_xml.specs.Sizes.{capped, sizes_of, found_sizes, element_sizes}
+use Rattle.redl_xml.specs.Inside.Elements.{element_at}
+use Rattle.redl_xml.specs.Inside.Sizes.{capped, sizes_of, found_sizes, element_sizes}
 use Rattle.redl_xml.specs.Shapes.{depth_of}
 use Rattle.redl_tree.specs.Model.Count.{count}
 use Rattle.std.specs.Option.{option_map}
 use Rattle.redl_xml.proofs.Bare.{some_of, none_of}
 use Rattle.redl_xml.proofs.Measures.{depth-⊕, count-⊕, one_more-capped, one_more_grows}
-use Rattle.redl_xml.specs.Documents.{stretch_in, bytes_or_none, whole_nodes, document_at, counted, sizes_at}
+use Rattle.redl_xml.specs.Inside.Documents.{stretch_in, bytes_or_none, whole_nodes, document_at, counted, sizes_at}
 
 pub none_filled : (bs : List ℕ) → length bs ≡ 0 → is_filled bs ≡ false
 none_filled [] e = refl

@@ -11,8 +11,8 @@ use Rattle.redl_markup.specs.Reading.{Fails}
 use Rattle.redl_markup.specs.Pieces.{Piece}
 use Rattle.redl_markup.specs.ScanPieces.{piece_at}
 use Rattle.redl_xml.specs.Shapes.{depth_of}
-use Rattle.redl_xml.specs.Elements.{Frame, State, without_nodes, placed, finished_by, nothing_yet, element_at}
-use Rattle.redl_xml.specs.Sizes.{capped, found_sizes, element_sizes}
+use Rattle.redl_xml.specs.Inside.Elements.{Frame, State, without_nodes, placed, finished_by, nothing_yet, element_at}
+use Rattle.redl_xml.specs.Inside.Sizes.{capped, found_sizes, element_sizes}
 use Rattle.redl_xml.specs.declared.sizes.Limits.{Limits}
 use Rattle.redl_xml.specs.declared.sizes.Sizes.{Sizes}
 use Rattle.redl_xml.proofs.Bare.{next_alike, refused_alike, open_alike}

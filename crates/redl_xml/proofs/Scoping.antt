@@ -16,7 +16,7 @@ use Rattle.redl_reading.proofs.Steps.{bind_some}
 use Rattle.std.proofs.lemmas.Bool.{and_parts, and_from}
 use Rattle.std.specs.Str.{bytes_eq}
 use Rattle.redl_xml.specs.Scopes.{Scope, is_xmlns, space_named, declared_prefix, declared_by, is_allowed, with_declarations, scope_in, space_of, is_known, is_element_prefix, is_known_attribute, is_plain_name}
-use Rattle.redl_xml.specs.Elements.{with_attribute, with_attributes, known, entered, declarations, declared_in}
+use Rattle.redl_xml.specs.Inside.Elements.{with_attribute, with_attributes, known, entered, declarations, declared_in}
 
 -- ---- the scope grows by the declarations
 

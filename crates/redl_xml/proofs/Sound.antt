@@ -22,7 +22,7 @@ use Rattle.redl_markup.proofs.Pieces.{piece_takes}
 use Rattle.redl_xml.specs.Shapes.{begins_with_bytes}
 use Rattle.redl_xml.specs.Scopes.{Scope}
 use Rattle.redl_xml.specs.Readings.{IsTag, ClosesBy, AreLegal}
-use Rattle.redl_xml.specs.Elements.{entered, declared_in, Frame, State, plain_tag, one_element, added, opened, closed, stretched, placed, finished_by, finished, nothing_yet, element_step, element_at}
+use Rattle.redl_xml.specs.Inside.Elements.{entered, declared_in, Frame, State, plain_tag, one_element, added, opened, closed, stretched, placed, finished_by, finished, nothing_yet, element_step, element_at}
 use Rattle.redl_xml.proofs.Scoping.{MayEnter, inside, entered_takes, left_entered}
 use Rattle.redl_xml.proofs.Buildings.{state}
 use Rattle.redl_xml.proofs.Loops.{step_goes, step_ends, step_fails, step_refuses}

@@ -1,9 +1,6 @@
 pub mod Shapes
 pub mod Scopes
 pub mod Readings
-pub mod Elements
-pub mod Sizes
 pub mod Stacks
-pub mod Buildings
-pub mod Documents
 pub mod Errors
+pub mod Inside

@@ -6,8 +6,8 @@ ghost use Rattle.redl_tree.specs.Model.View.{item_of, nodes_of};
 ghost use Rattle.redl_markup.specs.Views.{name_view};
 ghost use Rattle.redl_markup.specs.PieceViews.{piece_view};
 ghost use Rattle.redl_markup.specs.Pieces.{start_tag, empty_tag, end_tag, stretch};
-ghost use Rattle.redl_xml.specs.Elements.{placed, nothing_yet, without_nodes};
-ghost use Rattle.redl_xml.specs.Buildings.{frame_view, building_view};
+ghost use Rattle.redl_xml.specs.Inside.Elements.{placed, nothing_yet, without_nodes};
+ghost use Rattle.redl_xml.specs.Inside.Buildings.{frame_view, building_view};
 
 use crate::namespaces::enter;
 use crate::open_element::OpenElement;

@@ -8,7 +8,7 @@ ghost use Rattle.redl_tree.specs.Model.View.{nodes_of};
 ghost use Rattle.redl_markup.specs.Reading.{Finds};
 ghost use Rattle.redl_io.specs.Limits.{depth as depth_limit, nodes as node_limit};
 ghost use Rattle.redl_xml.specs.Shapes.{depth_of};
-ghost use Rattle.redl_xml.specs.Documents.{stretch_in, bytes_or_none, document_at, counted, sizes_at};
+ghost use Rattle.redl_xml.specs.Inside.Documents.{stretch_in, bytes_or_none, document_at, counted, sizes_at};
 ghost use Rattle.redl_xml.specs.Readings.{IsReading, HasReading, HasNoReading};
 
 use crate::element::read_element;
@@ -27,7 +27,7 @@ struct Document<'a> {
 }
 
 /// The leading stretch of this place, which may be empty, and the bytes after it.
-#[tactic(auto, unfolding(crate::specs::Documents::stretch_in))]
+#[tactic(auto, unfolding(crate::specs::Inside::Documents::stretch_in))]
 #[inline(never)]
 fn stretch(alloc: Global, bytes: &[u8], place: Place) -> Result<(&[u8], &[u8]), MarkupError>
     ensures { Finds (λ x. (x.0.now, x.1.now)) result (Some (stretch_in place bytes.now)) }

@@ -3,8 +3,8 @@
 ghost use Rattle.std.specs.Prelude.{◌≡◌, ◌≤◌, IfOk, Some};
 ghost use Rattle.redl_tree.specs.Model.View.{nodes_of};
 ghost use Rattle.redl_markup.specs.Reading.{Finds};
-ghost use Rattle.redl_xml.specs.Elements.{element_at};
-ghost use Rattle.redl_xml.specs.Sizes.{element_sizes};
+ghost use Rattle.redl_xml.specs.Inside.Elements.{element_at};
+ghost use Rattle.redl_xml.specs.Inside.Sizes.{element_sizes};
 
 use crate::building::Building;
 use crate::sizes::{Limits, Sizes};

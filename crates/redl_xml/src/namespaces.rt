@@ -9,7 +9,7 @@ ghost use Rattle.redl_markup.specs.Decoding.{decoded_value};
 ghost use Rattle.redl_markup.specs.Attributes.{attributes_of};
 ghost use Rattle.redl_markup.specs.Views.{name_view, attribute_view};
 ghost use Rattle.redl_xml.specs.Scopes.{space_named, is_xml_namespace, is_xml_prefix, is_xmlns, declared_prefix, may_declare, is_known, is_known_attribute, is_element_prefix, is_plain_name};
-ghost use Rattle.redl_xml.specs.Elements.{with_attribute, with_attributes, known, entered, declared_in};
+ghost use Rattle.redl_xml.specs.Inside.Elements.{with_attribute, with_attributes, known, entered, declared_in};
 
 use crate::spaces::Spaces;
 use redl_markup::{Attribute, MarkupError, Name, StartTag, decode_value, next_attribute};
@@ -104,7 +104,7 @@ fn is_known_attribute<'a>(scopes: &Spaces<'a>, name: Name<'a>) -> bool
 }
 
 /// Adds the declaration of an attribute, if it is one.
-#[tactic(auto, unfolding(crate::specs::Elements::with_attribute))]
+#[tactic(auto, unfolding(crate::specs::Inside::Elements::with_attribute))]
 fn declare_attribute<'a>(
     scopes: &mut Spaces<'a>,
     alloc: Global,
@@ -155,7 +155,7 @@ fn are_known<'a>(scopes: &Spaces<'a>, tail: &'a [u8]) -> bool
 
 /// The space of an element, if its prefix may be used.
 #[inline(always)]
-#[tactic(auto, unfolding(crate::specs::Scopes::is_known, crate::specs::Elements::known))]
+#[tactic(auto, unfolding(crate::specs::Scopes::is_known, crate::specs::Inside::Elements::known))]
 fn element_space<'a>(scopes: &mut Spaces<'a>, name: Name<'a>) -> Option<Space>
     ensures space { Gives (λ space. (space, scopes.old)) result (known (name_view name.entry) [] scopes.old) }
     ensures same { scopes.new ≡ scopes.old }
@@ -171,7 +171,7 @@ fn element_space<'a>(scopes: &mut Spaces<'a>, name: Name<'a>) -> Option<Space>
 }
 
 /// The space of an element, if its prefix and those of its attributes may be used.
-#[tactic(auto, unfolding(crate::specs::Elements::known))]
+#[tactic(auto, unfolding(crate::specs::Inside::Elements::known))]
 fn known_space<'a>(scopes: &mut Spaces<'a>, name: Name<'a>, tail: &'a [u8]) -> Option<Space>
     ensures space { Gives (λ space. (space, scopes.old)) result (known (name_view name.entry) (attributes_of tail.entry.now) scopes.old) }
     ensures same { scopes.new ≡ scopes.old }
@@ -216,7 +216,7 @@ pub(crate) struct Entered {
 
 /// Enters an element of this name and tail: adds its declarations, and gives its space.
 #[cold]
-#[tactic(auto, unfolding(crate::specs::Elements::entered))]
+#[tactic(auto, unfolding(crate::specs::Inside::Elements::entered))]
 fn enter_declaring<'a>(
     scopes: &mut Spaces<'a>,
     alloc: Global,
@@ -238,7 +238,7 @@ fn enter_declaring<'a>(
 /// Enters an element: adds its declarations, and gives its space.
 ///
 /// `Unreadable` exactly if a declaration is not allowed, or a prefix of the tag may not be used.
-#[tactic(auto, unfolding(crate::specs::Elements::entered))]
+#[tactic(auto, unfolding(crate::specs::Inside::Elements::entered))]
 #[inline(always)]
 pub(crate) fn enter<'a>(
     scopes: &mut Spaces<'a>,

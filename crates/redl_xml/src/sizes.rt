@@ -2,7 +2,7 @@
 
 ghost use Rattle.std.specs.Prelude.{◌≡◌, ◌≤◌, ◌↔◌, max, true};
 ghost use Rattle.redl_markup.specs.PieceViews.{piece_view};
-ghost use Rattle.redl_xml.specs.Sizes.{one_more, deepest_with, nodes_with};
+ghost use Rattle.redl_xml.specs.Inside.Sizes.{one_more, deepest_with, nodes_with};
 
 use redl_markup::Piece;
 

@@ -1,7 +1,7 @@
 //! Start tags as the tree keeps them.
 
 ghost use Rattle.std.specs.Prelude.{◌≡◌, IfOk};
-ghost use Rattle.redl_xml.specs.Elements.{plain_start};
+ghost use Rattle.redl_xml.specs.Inside.Elements.{plain_start};
 
 use redl_markup::StartTag;
 use redl_tree::{Space, Tag};

@@ -9,7 +9,7 @@ ghost use Rattle.std.specs.Str.{bytes_eq};
 ghost use Rattle.redl_app.specs.Commands.Resume.{of_second, resumed, resumed_on, resumed_with, second_cause, second_failure};
 ghost use Rattle.redl_app.specs.Commands.Settle.{passed_text};
 ghost use Rattle.redl_app.specs.Commands.Write.{left_text};
-ghost use Rattle.redl_app.specs.FirstSittings.{IsFirst, IsReadAgain, joined_by, joined_view, read_under, resumption_of, second_joined};
+ghost use Rattle.redl_app.specs.Inside.FirstSittings.{IsFirst, IsReadAgain, joined_by, joined_view, read_under, resumption_of, second_joined};
 ghost use Rattle.redl_app.specs.Views.{writing_view};
 ghost use Rattle.redl_index.specs.Numbers.{package_revisions};
 ghost use Rattle.redl_inputs.specs.Admission.{Admission};

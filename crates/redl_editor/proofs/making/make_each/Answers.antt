@@ -3,7 +3,7 @@ use Rattle.redl_tree.specs.Leaves.States.{slots_of}
 use Rattle.redl_tree.specs.Leaves.Ways.{leaf_at}
 use Rattle.redl_editor.proofs.MakeLaws.{made-pushed, leaf-within, ways-more, sizes-here, any-number}
 use Rattle.redl_leaves.specs.Finds.{size_at}
-use Rattle.redl_editor.specs.Makes.{ways_of}
+use Rattle.redl_editor.specs.Inside.Makes.{ways_of}
 use Rattle.redl_leaves.specs.Steps.{AreMade, way_of}
 use Rattle.redl_leaves.specs.View.{states_of}
 use Rattle.redl_leaves.specs.declared.stepping.Made.{Made}

@@ -1,6 +1,6 @@
 use Rattle.std.proofs.Common.{◌≡◌, ◌≤◌, ◌+◌, ◌++◌, ℕ, List, map, drop}
 use Rattle.redl_tree.specs.Leaves.States.{slots_of}
-use Rattle.redl_editor.specs.Makes.{AreWithin, ways_of, sizes_of}
+use Rattle.redl_editor.specs.Inside.Makes.{AreWithin, ways_of, sizes_of}
 use Rattle.redl_editor.specs.Places.{HasWays}
 use Rattle.redl_leaves.specs.Steps.{AreMade, way_of}
 use Rattle.redl_leaves.specs.View.{states_of}

@@ -4,7 +4,7 @@ use Rattle.redl_tree.specs.Leaves.States.{slots_of}
 use Rattle.redl_tree.specs.Leaves.Ways.{ways, AreWays, is_end}
 use Rattle.redl_editor.specs.Holdings.{HoldsOf}
 use Rattle.redl_editor.proofs.CostLaws.{touched-cost}
-use Rattle.redl_editor.specs.Makes.{AreWithin, ways_of, sizes_of}
+use Rattle.redl_editor.specs.Inside.Makes.{AreWithin, ways_of, sizes_of}
 use Rattle.redl_tree.specs.Leaves.Settings.{slots_cost}
 use Rattle.redl_leaves.specs.Steps.{way_of}
 use Rattle.redl_leaves.specs.View.{states_of}

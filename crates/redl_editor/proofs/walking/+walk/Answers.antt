@@ -3,7 +3,7 @@ use Rattle.std.specs.Vec.{vec_len}
 use Rattle.redl_editor.proofs.PlaceLaws.{take-front}
 use Rattle.redl_editor.proofs.WalkLaws.{adds-slot, walk-more}
 use Rattle.redl_leaves.specs.View.{view_of}
-use Rattle.redl_editor.specs.Walks.{ways_in}
+use Rattle.redl_editor.specs.Inside.Walks.{ways_in}
 use Rattle.redl_editor.proofs.walking.+walk.Goals as goal
 
 pub add_slot-returns : goal.add_slot-returns

@@ -7,7 +7,7 @@ use Rattle.redl_excerpts.specs.Excerpts.{is_moved}
 use Rattle.redl_excerpts.specs.Lines.{along}
 use Rattle.redl_excerpts.specs.Mentions.{item_mentions, mentions}
 use Rattle.redl_excerpts.specs.Said.{item_said, said}
-use Rattle.redl_excerpts.specs.Views.{where_of}
+use Rattle.redl_excerpts.specs.Inside.Views.{where_of}
 use Rattle.redl_excerpts.proofs.MemberLaws.{mentions-in_front, said-in_front, tells-begins, tells-goes_on}
 use Rattle.redl_excerpts.proofs.members.+members.Goals as goal
 

@@ -4,7 +4,7 @@ use Rattle.redl_excerpts.specs.Excerpts.{is_moved}
 use Rattle.redl_excerpts.specs.Lines.{along}
 use Rattle.redl_excerpts.specs.Mentions.{mentions}
 use Rattle.redl_excerpts.specs.Said.{said}
-use Rattle.redl_excerpts.specs.Views.{where_of}
+use Rattle.redl_excerpts.specs.Inside.Views.{where_of}
 use Rattle.redl_excerpts.proofs.MemberLaws.{TellsSoFar}
 use Rattle.redl_excerpts.proofs.members.+members.Given as goal
 

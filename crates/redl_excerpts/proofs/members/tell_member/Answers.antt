@@ -5,7 +5,7 @@ use Rattle.std.proofs.lemmas.Option.{slice_get_read}
 use Rattle.redl_tree.specs.Model.View.{tag_of, kids_of}
 use Rattle.redl_excerpts.specs.Excerpts.{TellsEach, is_moved, told_all}
 use Rattle.redl_excerpts.specs.Mentions.{told_by}
-use Rattle.redl_excerpts.specs.Views.{where_of}
+use Rattle.redl_excerpts.specs.Inside.Views.{where_of}
 use Rattle.redl_excerpts.proofs.TellLaws.{tells-at, tells-none, where_it_is}
 use Rattle.redl_excerpts.proofs.members.tell_member.Goals as goal
 

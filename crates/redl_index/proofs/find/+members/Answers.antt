@@ -11,10 +11,10 @@ use Rattle.redl_markers.specs.Free.{Every, IsFree}
 use Rattle.redl_markers.specs.Walks.{item_seen, item_ends}
 use Rattle.redl_markers.proofs.FreeLaws.{every-step}
 use Rattle.redl_markers.proofs.WalkLaws.{tags-step, none-seen}
-use Rattle.redl_index.specs.Contexts.{context_of}
+use Rattle.redl_index.specs.Inside.Contexts.{context_of}
 use Rattle.redl_index.specs.Mentions.{Sight}
-use Rattle.redl_index.specs.Stories.{tails_in, sight_of}
-use Rattle.redl_index.specs.Tallies.{Tally, noted, noted_all, IsTally}
+use Rattle.redl_index.specs.Inside.Stories.{tails_in, sight_of}
+use Rattle.redl_index.specs.Inside.Tallies.{Tally, noted, noted_all, IsTally}
 use Rattle.redl_index.proofs.ContextLaws.{context-below}
 use Rattle.redl_index.proofs.TallyLaws.{sight-is, noted-step, ends-left}
 use Rattle.redl_index.proofs.find.+members.Goals as goal

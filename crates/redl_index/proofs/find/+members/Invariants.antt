@@ -5,9 +5,9 @@ use Rattle.redl_tree.specs.Model.View.{nodes_of}
 use Rattle.redl_tree.specs.Model.Tree.{HasUtf8Tails}
 use Rattle.redl_markers.specs.Ends.{ends_from}
 use Rattle.redl_markers.specs.Free.{Every, IsFree}
-use Rattle.redl_index.specs.Contexts.{context_of}
-use Rattle.redl_index.specs.Stories.{sight_of}
-use Rattle.redl_index.specs.Tallies.{Tally, noted_all, IsTally}
+use Rattle.redl_index.specs.Inside.Contexts.{context_of}
+use Rattle.redl_index.specs.Inside.Stories.{sight_of}
+use Rattle.redl_index.specs.Inside.Tallies.{Tally, noted_all, IsTally}
 use Rattle.redl_index.proofs.find.+members.Given as goal
 
 -- what is in the nodes so far is found, and what is in the nodes that are left is to come after it

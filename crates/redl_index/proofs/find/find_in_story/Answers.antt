@@ -13,7 +13,7 @@ use Rattle.redl_markers.proofs.FreeLaws.{story-free}
 use Rattle.redl_markers.proofs.StoryLaws.{tags-count}
 use Rattle.redl_markers.proofs.TailLaws.{utf8-tails}
 use Rattle.redl_index.specs.Known.{Marked}
-use Rattle.redl_index.specs.Tallies.{Tally, IsTally}
+use Rattle.redl_index.specs.Inside.Tallies.{Tally, IsTally}
 use Rattle.redl_index.proofs.RevisionLaws.{story-index, told-tally}
 use Rattle.redl_index.proofs.find.find_in_story.Goals as goal
 

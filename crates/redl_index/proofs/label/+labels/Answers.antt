@@ -15,7 +15,7 @@ use Rattle.redl_markers.specs.Free.{Every, IsFree}
 use Rattle.redl_markers.specs.Walks.{item_tags}
 use Rattle.redl_markers.proofs.FreeLaws.{every-step}
 use Rattle.redl_markers.proofs.WalkLaws.{tags-step}
-use Rattle.redl_index.specs.Numberings.{IsNumbering}
+use Rattle.redl_index.specs.Inside.Numberings.{IsNumbering}
 use Rattle.redl_index.specs.Unlabelled.{item_numbering, labelled_item}
 use Rattle.redl_index.proofs.ContextLaws.{context-below}
 use Rattle.redl_index.proofs.NumberingLaws.{placed-move}

@@ -8,8 +8,8 @@ use Rattle.redl_tree.specs.Revisions.Numbers.{Numbering, numbering_after, labell
 use Rattle.redl_stamp.specs.Attribute.{attribute_value}
 use Rattle.redl_markers.specs.Ends.{ends_from}
 use Rattle.redl_markers.specs.Free.{Every, IsFree}
-use Rattle.redl_index.specs.Contexts.{context_of}
-use Rattle.redl_index.specs.Numberings.{IsNumbering}
+use Rattle.redl_index.specs.Inside.Contexts.{context_of}
+use Rattle.redl_index.specs.Inside.Numberings.{IsNumbering}
 use Rattle.redl_index.proofs.label.+labels.Given as goal
 
 -- the nodes so far have their labels, and those that are left get theirs from here on

@@ -1,6 +1,6 @@
 use Rattle.std.proofs.Common.{◌≡◌, ap, sym, ◌∙◌, true}
 use Rattle.std.specs.Str.{bytes_eq}
-use Rattle.redl_join.specs.Latest.{later}
+use Rattle.redl_join.specs.Inside.Latest.{later}
 use Rattle.redl_join.proofs.LatestWords.{latest_step, is_by-true}
 use Rattle.redl_join.proofs.latest.find_latest.Goals as goal
 

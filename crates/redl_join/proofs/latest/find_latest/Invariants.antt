@@ -1,5 +1,5 @@
 use Rattle.std.proofs.Common.{◌≡◌, filter}
-use Rattle.redl_join.specs.Latest.{latest_from, latest_words, is_by}
+use Rattle.redl_join.specs.Inside.Latest.{latest_from, latest_words, is_by}
 use Rattle.redl_join.proofs.latest.find_latest.Given as goal
 
 abbrev pub invariant-loop-entry : goal.invariant-loop-entry

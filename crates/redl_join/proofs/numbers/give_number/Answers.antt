@@ -1,7 +1,7 @@
 use Rattle.std.proofs.Common.{◌≡◌, ℕ, List, false, sym, ap, ◌∙◌, subst}
 use Rattle.std.specs.Str.{bytes_eq}
 use Rattle.std.specs.Prelude.{◌&&◌, ◌||◌, ◌==◌}
-use Rattle.redl_join.specs.Numbers.{is_numbered, has_number}
+use Rattle.redl_join.specs.Inside.Numbers.{is_numbered, has_number}
 use Rattle.redl_join.proofs.NumbersOf.{given, are_more}
 use Rattle.redl_join.proofs.numbers.give_number.Goals as goal
 

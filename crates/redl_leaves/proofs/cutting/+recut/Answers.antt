@@ -1,7 +1,7 @@
 use Rattle.std.proofs.Common.{◌≡◌, ◌<◌, ◌-◌, length, get_or, take, drop, ap, ◌∙◌, arith}
 use Rattle.std.proofs.lemmas.List.{take_all, length-drop}
 use Rattle.redl_leaves.proofs.CutSlotLaws.{recut-here, recut-beyond, recut-end}
-use Rattle.redl_leaves.specs.Mends.{recut_in}
+use Rattle.redl_leaves.specs.Inside.Mends.{recut_in}
 use Rattle.redl_leaves.specs.View.{view_of, states_of}
 use Rattle.redl_leaves.proofs.cutting.+recut.Goals as goal
 

@@ -1,7 +1,7 @@
 use Rattle.std.proofs.Common.{true, false, sym, ap, ◌∙◌, arith}
 use Rattle.redl_leaves.proofs.CutSlotLaws.{step, cut-before}
 use Rattle.redl_leaves.proofs.ViewLaws.{states_end}
-use Rattle.redl_leaves.specs.Cuts.{cut_slots, cut_in}
+use Rattle.redl_leaves.specs.Inside.Cuts.{cut_slots, cut_in}
 use Rattle.redl_leaves.proofs.cutting.are_cut.Goals as goal
 
 pub loop-slot-preserved : goal.loop-slot-preserved

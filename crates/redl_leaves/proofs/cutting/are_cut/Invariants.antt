@@ -1,5 +1,5 @@
 use Rattle.std.proofs.Common.{◌≡◌, drop}
-use Rattle.redl_leaves.specs.Cuts.{cut_slots}
+use Rattle.redl_leaves.specs.Inside.Cuts.{cut_slots}
 use Rattle.redl_leaves.specs.View.{states_of}
 use Rattle.redl_leaves.proofs.cutting.are_cut.Given as goal
 

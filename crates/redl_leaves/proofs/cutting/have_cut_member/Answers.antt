@@ -1,7 +1,7 @@
 use Rattle.std.proofs.Common.{true, false, sym, ap, ◌∙◌, arith}
 use Rattle.redl_leaves.proofs.CutSlotLaws.{step, member-before}
 use Rattle.redl_leaves.proofs.ViewLaws.{states_end}
-use Rattle.redl_leaves.specs.Cuts.{member_slots, member_in}
+use Rattle.redl_leaves.specs.Inside.Cuts.{member_slots, member_in}
 use Rattle.redl_leaves.proofs.cutting.have_cut_member.Goals as goal
 
 pub loop-slot-preserved : goal.loop-slot-preserved

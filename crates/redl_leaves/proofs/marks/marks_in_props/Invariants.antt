@@ -1,5 +1,5 @@
 use Rattle.std.proofs.Common.{◌≡◌, drop}
-use Rattle.redl_leaves.specs.Marks.{marks_para}
+use Rattle.redl_leaves.specs.Inside.Marks.{marks_para}
 use Rattle.redl_tree.specs.Model.View.{nodes_of}
 use Rattle.redl_leaves.proofs.marks.marks_in_props.Given as goal
 

@@ -2,7 +2,7 @@ use Rattle.std.proofs.Common.{◌≡◌, ◌<◌, ◌≤◌, ◌-◌, ◌^◌, �
 use Rattle.std.proofs.lemmas.List.{take_all, take_at, length-drop}
 use Rattle.redl_leaves.proofs.MendLaws.{mend-here, mend-numbers, mend-beyond, mend-end, living-within, numbers-retallied, owned-retallied, shifted-is, same-tally}
 use Rattle.redl_leaves.proofs.ViewLaws.{container_of-fields, container_of-made}
-use Rattle.redl_leaves.specs.Mends.{HasNumbersIn, Mends, retally, retallied, retallied_in, share, left_at, shifted, goes_at_counts}
+use Rattle.redl_leaves.specs.Inside.Mends.{HasNumbersIn, Mends, retally, retallied, retallied_in, share, left_at, shifted, goes_at_counts}
 use Rattle.redl_tree.specs.Leaves.Living.{goes_by_counts}
 use Rattle.redl_tree.specs.Leaves.States.{states_living}
 use Rattle.redl_tree.specs.Model.View.{tag_of}

@@ -13,7 +13,7 @@ use Rattle.redl_tree.specs.Roles.Lists.{in_blocks, is_block_list, is_thick}
 use Rattle.redl_tree.specs.Roles.Names.{is}
 use Rattle.redl_leaves.proofs.SplitLaws.{opens-at, list-given, fresh-owned_at, owned-within}
 use Rattle.redl_leaves.proofs.ViewLaws.{container_of-made}
-use Rattle.redl_leaves.specs.Splits.{chain_of, whole, owned_at}
+use Rattle.redl_leaves.specs.Inside.Splits.{chain_of, whole, owned_at}
 use Rattle.redl_leaves.specs.Spots.{spot_of, opens_at}
 use Rattle.redl_leaves.specs.View.{container_view, states_of}
 use Rattle.redl_leaves.proofs.split.+split.Goals as goal

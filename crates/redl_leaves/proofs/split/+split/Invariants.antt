@@ -7,7 +7,7 @@ use Rattle.redl_tree.specs.Model.Count.{count}
 use Rattle.redl_tree.specs.Model.Nodes.{Tag}
 use Rattle.redl_tree.specs.Model.View.{nodes_of}
 use Rattle.redl_tree.specs.Roles.Lists.{is_block_list}
-use Rattle.redl_leaves.specs.Splits.{whole}
+use Rattle.redl_leaves.specs.Inside.Splits.{whole}
 use Rattle.redl_leaves.specs.Spots.{spot_of}
 use Rattle.redl_leaves.proofs.split.+split.Given as goal
 

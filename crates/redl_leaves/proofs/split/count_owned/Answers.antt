@@ -1,7 +1,7 @@
 use Rattle.std.proofs.Common.{◌+◌, drop, ap, arith}
 use Rattle.redl_leaves.proofs.SplitLaws.{owned-before}
 use Rattle.redl_leaves.proofs.ViewLaws.{states_here, states_end}
-use Rattle.redl_leaves.specs.Splits.{owned_at}
+use Rattle.redl_leaves.specs.Inside.Splits.{owned_at}
 use Rattle.redl_leaves.specs.View.{view_of, states_of}
 use Rattle.redl_leaves.proofs.split.count_owned.Goals as goal
 

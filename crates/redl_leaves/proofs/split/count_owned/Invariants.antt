@@ -1,5 +1,5 @@
 use Rattle.std.proofs.Common.{◌≡◌, ◌<◌, ◌^◌, ◌+◌, drop}
-use Rattle.redl_leaves.specs.Splits.{owned_at}
+use Rattle.redl_leaves.specs.Inside.Splits.{owned_at}
 use Rattle.redl_leaves.specs.View.{states_of}
 use Rattle.redl_leaves.proofs.split.count_owned.Given as goal
 

@@ -4,7 +4,7 @@ use Rattle.std.specs.Vec.Iter.{into_iter_items}
 use Rattle.redl_tree.specs.Leaves.States.{joined_states}
 use Rattle.redl_tree.specs.Model.View.{nodes_of, item_of}
 use Rattle.redl_leaves.proofs.SplitLaws.{lone-in_front}
-use Rattle.redl_leaves.specs.Splits.{lone_states}
+use Rattle.redl_leaves.specs.Inside.Splits.{lone_states}
 use Rattle.redl_leaves.specs.View.{states_of}
 use Rattle.redl_leaves.proofs.split.push_each.Goals as goal
 

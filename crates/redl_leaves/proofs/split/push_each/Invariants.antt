@@ -2,7 +2,7 @@ use Rattle.std.proofs.Common.{◌≡◌}
 use Rattle.std.specs.Vec.Iter.{into_iter_items}
 use Rattle.redl_tree.specs.Leaves.States.{States, joined_states}
 use Rattle.redl_tree.specs.Model.View.{nodes_of}
-use Rattle.redl_leaves.specs.Splits.{lone_states}
+use Rattle.redl_leaves.specs.Inside.Splits.{lone_states}
 use Rattle.redl_leaves.specs.View.{states_of}
 use Rattle.redl_leaves.proofs.split.push_each.Given as goal
 

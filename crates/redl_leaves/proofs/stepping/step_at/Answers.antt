@@ -2,7 +2,7 @@ use Rattle.std.proofs.Common.{◌≡◌, ◌∷◌, sym, ap, subst, ◌∙◌}
 use Rattle.redl_tree.specs.Leaves.States.{States}
 use Rattle.redl_leaves.proofs.MendLaws.{mended-recut, numbers-tallied, numbers-recut}
 use Rattle.redl_leaves.proofs.PutLaws.{mended-remade, tallied-remade}
-use Rattle.redl_leaves.specs.Mends.{HasNumbers, recut, retallied}
+use Rattle.redl_leaves.specs.Inside.Mends.{HasNumbers, recut, retallied}
 use Rattle.redl_leaves.specs.Puts.{remade}
 use Rattle.redl_leaves.specs.View.{states_of}
 use Rattle.redl_leaves.proofs.stepping.step_at.Goals as goal

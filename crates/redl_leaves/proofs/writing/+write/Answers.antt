@@ -5,7 +5,7 @@ use Rattle.redl_tree.specs.Model.Text.{text}
 use Rattle.redl_tree.specs.Model.View.{tag_of, close_of}
 use Rattle.redl_leaves.proofs.TextLaws.{text-before, element-ended, element-opened}
 use Rattle.redl_leaves.proofs.ViewLaws.{states_here, states_end}
-use Rattle.redl_leaves.specs.Texts.{shown_view}
+use Rattle.redl_leaves.specs.Inside.Texts.{shown_view}
 use Rattle.redl_leaves.specs.View.{view_of, states_of}
 use Rattle.redl_leaves.proofs.writing.+write.Goals as goal
 

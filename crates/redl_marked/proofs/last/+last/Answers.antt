@@ -1,6 +1,6 @@
 use Rattle.std.proofs.Common.{◌≡◌, ◌+◌, ◌-◌, length, take, Some, None, sym, ap, ◌∙◌, arith}
 use Rattle.redl_tree.specs.Model.View.{tag_of, kids_of, nodes_of}
-use Rattle.redl_marked.specs.Walks.{start_of, end_of, inside, marked, last_of}
+use Rattle.redl_marked.specs.Inside.Walks.{start_of, end_of, inside, marked, last_of}
 use Rattle.redl_marked.proofs.LastLaws.{last_end, last_inner, inner_last, from_end}
 use Rattle.redl_marked.proofs.last.+last.Goals as goal
 

@@ -2,7 +2,7 @@ use Rattle.std.proofs.Common.{ap, ◌∙◌, [], not, if◌then◌else◌}
 use Rattle.redl_tree.specs.Model.View.{tag_of}
 use Rattle.redl_marked.specs.Signs.{start_sign}
 use Rattle.redl_marked.specs.MarkedText.{open_start}
-use Rattle.redl_marked.specs.Walks.{last_of}
+use Rattle.redl_marked.specs.Inside.Walks.{last_of}
 use Rattle.redl_marked.proofs.LastLaws.{last_two}
 use Rattle.redl_marked.proofs.last.last_of_start.Goals as goal
 

@@ -1,6 +1,6 @@
 use Rattle.std.proofs.Common.{sym, ap, ◌∙◌, codes}
 use Rattle.redl_marked.specs.Signs.{start_sign}
-use Rattle.redl_marked.specs.Walks.{last_of}
+use Rattle.redl_marked.specs.Inside.Walks.{last_of}
 use Rattle.redl_marked.proofs.LastLaws.{content_last, change_last, word_last}
 use Rattle.redl_marked.proofs.last.last_of_start_sign.Goals as goal
 

@@ -1,7 +1,7 @@
 use Rattle.std.proofs.Common.{◌≡◌, length}
 use Rattle.std.specs.List.{last_or}
 use Rattle.redl_shown.specs.Shown.{shown, shown_from}
-use Rattle.redl_marked.specs.Walks.{last_of}
+use Rattle.redl_marked.specs.Inside.Walks.{last_of}
 use Rattle.redl_marked.proofs.last.last_shown.Given as goal
 
 abbrev pub invariant-loop-step : goal.invariant-loop-step

@@ -1,7 +1,7 @@
 use Rattle.std.proofs.Common.{[], ◌∷◌, ap, ◌∙◌}
 use Rattle.redl_tree.specs.Model.View.{tag_of, kids_of, nodes_of}
 use Rattle.redl_marked.specs.MarkedText.{heading, marked_in}
-use Rattle.redl_marked.specs.Walks.{last_of}
+use Rattle.redl_marked.specs.Inside.Walks.{last_of}
 use Rattle.redl_marked.proofs.LastLaws.{story_last, story_last_none}
 use Rattle.redl_marked.proofs.StoryLaws.{story_text}
 use Rattle.redl_marked.proofs.package.last_of_story.Goals as goal

@@ -2,7 +2,7 @@ use Rattle.std.proofs.Common.{◌+◌, ◌<◌, ◌≤◌, ◌++◌, arith, ap, 
 use Rattle.redl_io.proofs.Puts.{so_far_begins, so_far_goes_on, so_far_stops, so_far_ends}
 use Rattle.redl_opc.specs.Shape.{parts_of}
 use Rattle.redl_marked.specs.MarkedText.{stories_marked}
-use Rattle.redl_marked.specs.Walks.{named_in}
+use Rattle.redl_marked.specs.Inside.Walks.{named_in}
 use Rattle.redl_marked.proofs.StoryLaws.{named_from, marked-part, named-past}
 use Rattle.redl_marked.proofs.package.put_marked.Goals as goal
 

@@ -2,7 +2,7 @@ use Rattle.std.proofs.Common.{[], ◌∷◌, sym, append-nil, refl}
 use Rattle.redl_io.proofs.Puts.{puts_then, puts_fails, puts_as}
 use Rattle.redl_tree.specs.Model.View.{nodes_of}
 use Rattle.redl_opc.specs.Elements.{element_of}
-use Rattle.redl_marked.specs.Walks.{summary_of}
+use Rattle.redl_marked.specs.Inside.Walks.{summary_of}
 use Rattle.redl_marked.proofs.StoryLaws.{part_text, part_last}
 use Rattle.redl_marked.proofs.package.put_part.Goals as goal
 

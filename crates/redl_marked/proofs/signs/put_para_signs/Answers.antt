@@ -3,7 +3,7 @@ use Rattle.redl_io.proofs.Puts.{so_far_begins, so_far_goes_on, so_far_stops, so_
 use Rattle.redl_tree.specs.Model.View.{nodes_of, item_of}
 use Rattle.redl_tree.proofs.Laws.{nodes_here, nodes_end}
 use Rattle.redl_marked.specs.Signs.{para_signs}
-use Rattle.redl_marked.specs.Walks.{item_para}
+use Rattle.redl_marked.specs.Inside.Walks.{item_para}
 use Rattle.redl_marked.proofs.WalkLaws.{para_signs-in_front}
 use Rattle.redl_marked.proofs.signs.put_para_signs.Goals as goal
 

@@ -1,7 +1,7 @@
 use Rattle.std.proofs.Common.{drop}
 use Rattle.redl_io.proofs.Puts.{PutsSoFar}
 use Rattle.redl_tree.specs.Model.View.{nodes_of}
-use Rattle.redl_marked.specs.Walks.{marked}
+use Rattle.redl_marked.specs.Inside.Walks.{marked}
 use Rattle.redl_marked.proofs.walk.+marked.Given as goal
 
 abbrev pub invariant-put_nodes-loop-node : goal.invariant-put_nodes-loop-node

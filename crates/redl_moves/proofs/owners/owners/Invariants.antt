@@ -1,7 +1,7 @@
 use Rattle.std.proofs.Common.{◌≡◌, ℕ, None, nat_eq, drop, map}
 use Rattle.indexmap.specs.IndexMap.{get}
 use Rattle.redl_moves.specs.Marks.{markings, move_of}
-use Rattle.redl_moves.specs.Owners.{owner_over}
+use Rattle.redl_moves.specs.Inside.Owners.{owner_over}
 use Rattle.redl_moves.proofs.owners.owners.Given as goal
 
 -- what is noted of the moves so far, and what the moves that are left add

@@ -3,7 +3,7 @@ use Rattle.std.specs.Str.{IsUtf8}
 use Rattle.std.proofs.lemmas.List.{map_push}
 use Rattle.redl_tree.specs.Model.View.{tag_of}
 use Rattle.redl_opc.specs.Parts.{name_in}
-use Rattle.redl_opc.specs.PartView.{part_view}
+use Rattle.redl_opc.specs.Inside.PartView.{part_view}
 use Rattle.redl_opc.proofs.PartLaws.{tails-element, tails-more, places-element, places-bytes, parts-more}
 use Rattle.redl_opc.proofs.listing.list_parts.Goals as goal
 use Rattle.redl_opc.proofs.listing.list_parts.Goals.{in-Elem+in_ok-name+in_ok-push, in_default}

@@ -1,7 +1,7 @@
 use Rattle.std.proofs.Common.{◌≡◌, ◌++◌, map, drop}
 use Rattle.redl_tree.specs.Model.View.{nodes_of}
 use Rattle.redl_opc.specs.Parts.{places_from}
-use Rattle.redl_opc.specs.PartView.{part_view}
+use Rattle.redl_opc.specs.Inside.PartView.{part_view}
 use Rattle.redl_tree.specs.Model.Tree.{HasUtf8Tails}
 use Rattle.redl_opc.proofs.listing.list_parts.Given as goal
 

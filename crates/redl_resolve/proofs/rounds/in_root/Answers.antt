@@ -1,5 +1,5 @@
 use Rattle.std.proofs.Common.{[], false, ap, ◌∙◌}
-use Rattle.redl_resolve.specs.Rounds.{inside_of}
+use Rattle.redl_resolve.specs.Inside.Rounds.{inside_of}
 use Rattle.redl_tables.specs.Asked.{asked}
 use Rattle.redl_tables.specs.declared.ancestors.Ancestors.{Ancestors}
 use Rattle.redl_tree.specs.Model.View.{tag_of}

@@ -1,5 +1,5 @@
 use Rattle.std.proofs.Common.{◌≡◌, Bool, true, false, List, [], refl, ap, ◌∙◌}
-use Rattle.redl_resolve.specs.Rounds.{round_of}
+use Rattle.redl_resolve.specs.Inside.Rounds.{round_of}
 use Rattle.redl_resolve.specs.declared.rounds.Round.{Round}
 use Rattle.redl_tables.specs.Asked.{asked}
 use Rattle.redl_tables.specs.declared.ancestors.Ancestors.{Ancestors}

@@ -1,5 +1,5 @@
 use Rattle.std.proofs.Common.{◌≡◌, ◌-◌, drop, length, map}
-use Rattle.redl_sittings.specs.Filling.{with_pairs}
+use Rattle.redl_sittings.specs.Inside.Filling.{with_pairs}
 use Rattle.redl_sittings.specs.SecondNumbers.{parts_beside}
 use Rattle.redl_sittings.proofs.back.fill.Given as goal
 

@@ -1,5 +1,5 @@
 use Rattle.std.proofs.Common.{◌≡◌, ◌-◌, drop, length}
-use Rattle.redl_sittings.specs.Filling.{with_pairs}
+use Rattle.redl_sittings.specs.Inside.Filling.{with_pairs}
 use Rattle.redl_sittings.specs.SecondNumbers.{beside}
 use Rattle.redl_sittings.proofs.back.fill_part.Given as goal
 

@@ -1,5 +1,5 @@
 use Rattle.std.proofs.Common.{◌≡◌, ℕ, length, map, replicate, arith, ap, ◌∙◌}
-use Rattle.redl_sittings.specs.Filling.{with_pairs}
+use Rattle.redl_sittings.specs.Inside.Filling.{with_pairs}
 use Rattle.redl_sittings.specs.SecondNumbers.{parts_beside}
 use Rattle.redl_sittings.proofs.FillLaws.{filled, written_whole}
 use Rattle.redl_sittings.proofs.back.first_numbers.Goals as goal

@@ -4,7 +4,7 @@ use Rattle.redl_tree.specs.Model.View.{nodes_of}
 use Rattle.redl_markup.specs.Characters.{IsText}
 use Rattle.redl_markup.specs.Reading.{Fails}
 use Rattle.redl_markup.specs.declared.error.MarkupError.{MarkupError}
-use Rattle.redl_xml.specs.Documents.{sizes_at}
+use Rattle.redl_xml.specs.Inside.Documents.{sizes_at}
 use Rattle.redl_xml.proofs.Documents.{has_sizes, no_sizes, reading_of_document, no_document}
 use Rattle.redl_xml.proofs.Answered.{too_deep, too_many, is_within, is_tree, error_was}
 use Rattle.redl_xml.proofs.document.read_within.Goals as goal

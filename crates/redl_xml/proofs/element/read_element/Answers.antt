@@ -8,8 +8,8 @@ use Rattle.redl_markup.proofs.Pieces.{piece_shorter}
 use Rattle.redl_xml.specs.declared.building.Building.{Building}
 use Rattle.redl_xml.specs.declared.sizes.Limits.{Limits}
 use Rattle.redl_xml.specs.declared.sizes.Sizes.{Sizes}
-use Rattle.redl_xml.specs.Elements.{placed, without_nodes}
-use Rattle.redl_xml.specs.Buildings.{building_view}
+use Rattle.redl_xml.specs.Inside.Elements.{placed, without_nodes}
+use Rattle.redl_xml.specs.Inside.Buildings.{building_view}
 use Rattle.redl_xml.proofs.Buildings.{length-open}
 use Rattle.redl_xml.proofs.Measures.{Adds}
 use Rattle.redl_xml.proofs.Progress.{IsTurn, reading_begins, reading_goes, reading_ends, reading_fails, reading_refuses}

@@ -1,5 +1,5 @@
 use Rattle.std.proofs.Common.{length}
-use Rattle.redl_xml.specs.Buildings.{building_view}
+use Rattle.redl_xml.specs.Inside.Buildings.{building_view}
 use Rattle.redl_xml.proofs.Progress.{IsRead}
 use Rattle.redl_xml.proofs.element.read_element.Given as goal
 

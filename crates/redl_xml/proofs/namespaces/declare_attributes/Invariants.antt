@@ -1,6 +1,6 @@
 use Rattle.std.proofs.Common.{◌≡◌, length}
 use Rattle.redl_markup.specs.Attributes.{attributes_of}
-use Rattle.redl_xml.specs.Elements.{with_attributes}
+use Rattle.redl_xml.specs.Inside.Elements.{with_attributes}
 use Rattle.redl_xml.proofs.namespaces.declare_attributes.Given as goal
 
 abbrev pub invariant-loop-attribute : goal.invariant-loop-attribute

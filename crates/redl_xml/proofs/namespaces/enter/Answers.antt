@@ -4,7 +4,7 @@ use Rattle.redl_markup.specs.Attributes.{names_in}
 use Rattle.redl_markup.specs.Names.{Name}
 use Rattle.redl_markup.specs.Views.{name_view}
 use Rattle.redl_xml.specs.Scopes.{is_plain_name}
-use Rattle.redl_xml.specs.Elements.{known}
+use Rattle.redl_xml.specs.Inside.Elements.{known}
 use Rattle.redl_xml.proofs.Scoping.{plain_entered, plain_declares_nothing, own_is_known}
 use Rattle.redl_xml.proofs.namespaces.enter.Goals as goal
 

@@ -1,7 +1,7 @@
 use Rattle.std.proofs.Common.{◌∙◌, sym}
 use Rattle.std.proofs.lemmas.Result.{err_from_is_err_and}
 use Rattle.redl_app.proofs.ResumeLaws.{conclude_differs, conclude_fails, conclude_ok}
-use Rattle.redl_app.specs.FirstSittings.{joined_view}
+use Rattle.redl_app.specs.Inside.FirstSittings.{joined_view}
 use Rattle.redl_inputs.specs.Views.{document_view}
 use Rattle.redl_app.proofs.commands.resume.conclude.Goals as goal
 

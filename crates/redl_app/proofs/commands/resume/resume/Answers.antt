@@ -1,7 +1,7 @@
 use Rattle.std.proofs.Common.{◌∷◌, Err}
 use Rattle.std.proofs.lemmas.Result.{err_from_is_err_and}
 use Rattle.redl_app.specs.Commands.Resume.{resumed, resumption, second_sitting}
-use Rattle.redl_app.specs.FirstSittings.{IsReadAgain}
+use Rattle.redl_app.specs.Inside.FirstSittings.{IsReadAgain}
 use Rattle.redl_inputs.proofs.ReadLaws.{reads_after, reads_before, reads_then, reads_stops, takes_stops_reads, takes_then_reads}
 use Rattle.redl_inputs.specs.Admission.{sitting_over}
 use Rattle.redl_inputs.specs.Steps.{◌>>=◌}

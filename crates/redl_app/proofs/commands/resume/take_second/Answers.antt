@@ -1,6 +1,6 @@
 use Rattle.std.proofs.Common.{Ok, Err, map, sym, ap}
 use Rattle.std.proofs.lemmas.Result.{err_from_is_err_and}
-use Rattle.redl_app.specs.FirstSittings.{joined_by, second_joined}
+use Rattle.redl_app.specs.Inside.FirstSittings.{joined_by, second_joined}
 use Rattle.redl_inputs.proofs.ReadLaws.{reads_after, reads_stops, reads_then_takes, takes_stops_reads, takes_then_reads}
 use Rattle.redl_inputs.specs.Admission.{sitting_over}
 use Rattle.redl_lines.specs.Failures.{no_memory}

@@ -9,7 +9,7 @@ use Rattle.redl_tree.specs.declared.kinds.Say.{Say}
 use Rattle.redl_tree.specs.declared.kinds.Say.TheVariants.{Keep}
 use Rattle.redl_tree.specs.declared.node.Node.{Node}
 use Rattle.redl_editor.proofs.DocumentLaws.{original-taken, begun-consistent}
-use Rattle.redl_editor.specs.Begun.{AreBegun}
+use Rattle.redl_editor.specs.Inside.Begun.{AreBegun}
 use Rattle.redl_editor.specs.Documents.{Document, IsConsistent}
 use Rattle.redl_editor.specs.Kept.{AreTables}
 use Rattle.redl_editor.specs.Stories.{empty_rule, original_package}

@@ -2,8 +2,8 @@ use Rattle.std.proofs.Common.{Option, option_map, subst}
 use Rattle.std.proofs.lemmas.Result.{on_ok_weaker}
 use Rattle.redl_tree.specs.Model.View.{tag_of}
 use Rattle.redl_index.specs.Mentions.{mention_as}
-use Rattle.redl_index.specs.Stories.{tails_in}
-use Rattle.redl_index.specs.Tallies.{Tally, noted_by, IsTally}
+use Rattle.redl_index.specs.Inside.Stories.{tails_in}
+use Rattle.redl_index.specs.Inside.Tallies.{Tally, noted_by, IsTally}
 use Rattle.redl_index.specs.declared.revision.RevKind.{RevKind}
 use Rattle.redl_index.proofs.found.Found.add.Goals as goal
 

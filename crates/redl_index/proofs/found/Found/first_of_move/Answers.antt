@@ -1,6 +1,6 @@
 use Rattle.std.proofs.Common.{sym, subst}
 use Rattle.std.specs.Str.{IsUtf8}
-use Rattle.redl_index.specs.Stories.{tails_in}
+use Rattle.redl_index.specs.Inside.Stories.{tails_in}
 use Rattle.redl_index.proofs.StoryLaws.{utf8-at}
 use Rattle.redl_index.proofs.found.Found.first_of_move.Goals as goal
 

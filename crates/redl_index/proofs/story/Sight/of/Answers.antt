@@ -5,7 +5,7 @@ use Rattle.redl_tree.specs.Model.Seen.{seen_one, tags_of}
 use Rattle.redl_tree.specs.Model.View.{tag_of}
 use Rattle.redl_tree.specs.declared.kinds.Kind.{Kind}
 use Rattle.redl_moves.specs.Starts.{start_in}
-use Rattle.redl_index.specs.Contexts.{move_by, IsApartAs, para_end}
+use Rattle.redl_index.specs.Inside.Contexts.{move_by, IsApartAs, para_end}
 use Rattle.redl_index.specs.declared.context.Context.{Context}
 use Rattle.redl_index.proofs.ContextLaws.{IsNamed, named-role_in, apart-here, member-move}
 use Rattle.redl_index.proofs.story.Sight.of.Goals as goal

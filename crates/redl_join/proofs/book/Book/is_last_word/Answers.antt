@@ -2,8 +2,8 @@ use Rattle.std.proofs.Common.{◌≡◌, true, false, eqb, List, ap, subst, sym,
 use Rattle.redl_journal.specs.declared.entry.Entry.{Entry}
 use Rattle.redl_join.specs.declared.latest.Latest.{Latest}
 use Rattle.redl_join.specs.Books.{has_entry}
-use Rattle.redl_join.specs.Latest.{latest_words}
-use Rattle.redl_join.specs.Numbers.{has_number, is_numbered}
+use Rattle.redl_join.specs.Inside.Latest.{latest_words}
+use Rattle.redl_join.specs.Inside.Numbers.{has_number, is_numbered}
 use Rattle.redl_join.specs.Verdicts.{counts}
 use Rattle.redl_join.proofs.Kept.{numbered_there}
 use Rattle.redl_join.proofs.LastWordLaws.{counts-seq}

@@ -1,7 +1,7 @@
 use Rattle.std.proofs.Common.{◌≡◌, true, false, sym, ◌∙◌}
 use Rattle.redl_journal.proofs.EntryOrder.{entry_order-total}
 use Rattle.redl_join.specs.Books.{has_entry}
-use Rattle.redl_join.specs.Numbers.{has_number, is_numbered}
+use Rattle.redl_join.specs.Inside.Numbers.{has_number, is_numbered}
 use Rattle.redl_join.proofs.Kept.{kept-without, numbered_there}
 use Rattle.redl_join.proofs.Parts.{remove_absent}
 use Rattle.redl_join.proofs.book.Book.remove.Goals as goal

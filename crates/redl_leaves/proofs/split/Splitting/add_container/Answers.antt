@@ -7,7 +7,7 @@ use Rattle.redl_tree.specs.Leaves.Waiting.{slots_left}
 use Rattle.redl_tree.specs.Model.View.{nodes_of}
 use Rattle.redl_leaves.proofs.SplitLaws.{open-given}
 use Rattle.redl_leaves.proofs.ViewLaws.{states_of-push, view_of-Container}
-use Rattle.redl_leaves.specs.Splits.{chain_of}
+use Rattle.redl_leaves.specs.Inside.Splits.{chain_of}
 use Rattle.redl_leaves.specs.View.{before, container_of, states_of}
 use Rattle.redl_leaves.proofs.split.Splitting.add_container.Goals as goal
 

@@ -5,7 +5,7 @@ use Rattle.redl_tree.specs.Leaves.Waiting.{slots_left}
 use Rattle.redl_tree.specs.Model.Nodes.{no_nodes, in_front}
 use Rattle.redl_tree.specs.Model.View.{nodes_of, item_of}
 use Rattle.redl_leaves.proofs.SplitLaws.{thick-given}
-use Rattle.redl_leaves.specs.Splits.{chain_of}
+use Rattle.redl_leaves.specs.Inside.Splits.{chain_of}
 use Rattle.redl_leaves.specs.View.{states_of}
 use Rattle.redl_leaves.proofs.split.Splitting.add_thick.Goals as goal
 

@@ -3,7 +3,7 @@ use Rattle.redl_tree.specs.Leaves.States.{joined_states, fresh_states}
 use Rattle.redl_tree.specs.Model.View.{nodes_of, item_of}
 use Rattle.redl_tree.proofs.Laws.{nodes_of-push}
 use Rattle.redl_leaves.proofs.SplitLaws.{thin-left}
-use Rattle.redl_leaves.specs.Splits.{chain_of, whole_of}
+use Rattle.redl_leaves.specs.Inside.Splits.{chain_of, whole_of}
 use Rattle.redl_leaves.specs.View.{states_of}
 use Rattle.redl_leaves.proofs.split.Splitting.add_thin.Goals as goal
 

@@ -1,6 +1,6 @@
 use Rattle.std.proofs.Common.{◌∙◌}
 use Rattle.std.proofs.lemmas.Map.Text.{hash_map_updates_str}
-use Rattle.redl_moves.specs.Seats.{seat}
+use Rattle.redl_moves.specs.Inside.Seats.{seat}
 use Rattle.redl_moves.proofs.TableLaws.{noted-updated}
 use Rattle.redl_moves.proofs.table.Table.note.Goals as goal
 

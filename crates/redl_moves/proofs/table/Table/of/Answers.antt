@@ -2,7 +2,7 @@ use Rattle.std.proofs.Common.{◌∙◌, sym, ap, arith}
 use Rattle.redl_moves.specs.Marks.{markings, edge_of}
 use Rattle.redl_moves.specs.Keys.{has_key}
 use Rattle.redl_moves.specs.Places.{places_from}
-use Rattle.redl_moves.specs.Seats.{seat, seat_place, noted_all}
+use Rattle.redl_moves.specs.Inside.Seats.{seat, seat_place, noted_all}
 use Rattle.redl_moves.specs.declared.marker.Marker.{Marker}
 use Rattle.std.proofs.Common.{List}
 use Rattle.redl_moves.proofs.TableLaws.{noted-only_one, drop-past}

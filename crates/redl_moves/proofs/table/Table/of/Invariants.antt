@@ -2,7 +2,7 @@ use Rattle.std.proofs.Common.{◌≡◌, List, ℕ, drop, None}
 use Rattle.redl_moves.specs.Marks.{markings, edge_of}
 use Rattle.redl_moves.specs.Keys.{has_key}
 use Rattle.redl_moves.specs.Places.{places_from}
-use Rattle.redl_moves.specs.Seats.{seat, noted_all}
+use Rattle.redl_moves.specs.Inside.Seats.{seat, noted_all}
 use Rattle.redl_moves.proofs.table.Table.of.Given as goal
 
 -- the table has what is noted of the markers so far

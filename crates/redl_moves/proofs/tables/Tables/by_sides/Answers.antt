@@ -1,6 +1,6 @@
 use Rattle.std.proofs.Common.{◌∙◌, ap, None, List, map}
 use Rattle.redl_moves.specs.Marks.{markings, move_of}
-use Rattle.redl_moves.specs.Owners.{owner_over}
+use Rattle.redl_moves.specs.Inside.Owners.{owner_over}
 use Rattle.redl_moves.specs.declared.marker.Move.{Move}
 use Rattle.redl_moves.proofs.StoryLaws.{tables-are}
 use Rattle.redl_moves.proofs.tables.Tables.by_sides.Goals as goal

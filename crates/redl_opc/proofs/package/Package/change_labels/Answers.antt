@@ -4,7 +4,7 @@ use Rattle.redl_tree.specs.Decisions.Packages.{changed_package}
 use Rattle.redl_tree.specs.Model.Text.{text}
 use Rattle.redl_tree.specs.Model.View.{nodes_of}
 use Rattle.redl_tree.specs.Revisions.Labels.{unlabelled}
-use Rattle.redl_opc.specs.PartView.{part_view}
+use Rattle.redl_opc.specs.Inside.PartView.{part_view}
 use Rattle.redl_opc.proofs.LabelLaws.{kept-labelled, stories_alone, text-labelled}
 use Rattle.redl_opc.proofs.package.Package.change_labels.Goals as goal
 

@@ -2,7 +2,7 @@ use Rattle.std.proofs.Common.{ap, map, ◌∙◌}
 use Rattle.redl_tree.specs.Model.Text.{text}
 use Rattle.redl_tree.specs.Model.View.{nodes_of}
 use Rattle.redl_tree.specs.Revisions.Labels.{unlabelled}
-use Rattle.redl_opc.specs.PartView.{part_view}
+use Rattle.redl_opc.specs.Inside.PartView.{part_view}
 use Rattle.redl_opc.proofs.LabelLaws.{kept-labelled, labels_alone, text-labelled}
 use Rattle.redl_opc.proofs.package.Package.label.Goals as goal
 

@@ -1,6 +1,6 @@
 use Rattle.std.proofs.Common.{◌≡◌, ap, map, ◌∙◌}
 use Rattle.redl_tree.specs.Model.View.{nodes_of}
-use Rattle.redl_opc.specs.PartView.{part_view}
+use Rattle.redl_opc.specs.Inside.PartView.{part_view}
 use Rattle.redl_opc.specs.Parts.{places_of}
 use Rattle.redl_opc.proofs.package.Package.make.Goals as goal
 

@@ -1,6 +1,6 @@
 use Rattle.std.proofs.Common.{sym, ap, map, Some, ◌∙◌}
 use Rattle.redl_tree.specs.Model.View.{nodes_of}
-use Rattle.redl_opc.specs.PartView.{part_view}
+use Rattle.redl_opc.specs.Inside.PartView.{part_view}
 use Rattle.redl_opc.proofs.PartLaws.{gives_none, name-listed}
 use Rattle.redl_opc.proofs.package.Package.part_name.Goals as goal
 

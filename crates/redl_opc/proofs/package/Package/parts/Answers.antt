@@ -3,7 +3,7 @@ use Rattle.std.proofs.lemmas.List.{length-map}
 use Rattle.redl_tree.specs.Model.View.{nodes_of}
 use Rattle.redl_opc.specs.Parts.{places_of}
 use Rattle.redl_opc.specs.Shape.{parts_of}
-use Rattle.redl_opc.specs.PartView.{part_view}
+use Rattle.redl_opc.specs.Inside.PartView.{part_view}
 use Rattle.redl_opc.proofs.PartLaws.{length-places_of, few-places_of}
 use Rattle.redl_opc.proofs.package.Package.parts.Goals as goal
 

@@ -4,7 +4,7 @@ use Rattle.redl_tree.specs.Model.View.{nodes_of}
 use Rattle.redl_opc.specs.Elements.{element_of}
 use Rattle.redl_opc.specs.Parts.{story}
 use Rattle.redl_opc.specs.Shape.{package_of, story_of}
-use Rattle.redl_opc.specs.PartView.{part_view}
+use Rattle.redl_opc.specs.Inside.PartView.{part_view}
 use Rattle.redl_opc.proofs.PartLaws.{gives_none, gives-some, story-listed, story-part}
 use Rattle.redl_opc.proofs.WalkLaws.{name-story, tails-story}
 use Rattle.redl_tree.specs.Model.Tree.{HasUtf8Tails}

@@ -1,7 +1,7 @@
 use Rattle.std.proofs.Common.{◌∙◌, ap, ℕ, drop}
 use Rattle.redl_tree.specs.Model.Nodes.{Item, Empty, no_nodes, in_front, ◌⊕◌}
 use Rattle.redl_tree.specs.Model.View.{nodes_of}
-use Rattle.redl_xml.specs.Buildings.{building_view}
+use Rattle.redl_xml.specs.Inside.Buildings.{building_view}
 use Rattle.redl_xml.proofs.Buildings.{elem_is, empty_at}
 use Rattle.redl_xml.proofs.building.Building.empty.Goals as goal
 

@@ -6,8 +6,8 @@ use Rattle.redl_tree.specs.declared.node.Node.{Node}
 use Rattle.redl_markup.specs.Names.{Name, name_eq}
 use Rattle.redl_markup.specs.Views.{name_view}
 use Rattle.redl_xml.specs.Scopes.{Scope}
-use Rattle.redl_xml.specs.Elements.{one_element}
-use Rattle.redl_xml.specs.Buildings.{frame_view, frames, building_view}
+use Rattle.redl_xml.specs.Inside.Elements.{one_element}
+use Rattle.redl_xml.specs.Inside.Buildings.{frame_view, frames, building_view}
 use Rattle.redl_xml.proofs.Buildings.{elem_is, is_plain_start, not-false, state, frames-pop, closed_at}
 use Rattle.redl_xml.proofs.building.Building.end.Goals as goal
 

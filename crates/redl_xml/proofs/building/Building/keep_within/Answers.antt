@@ -2,8 +2,8 @@ use Rattle.std.proofs.Common.{◌∙◌, ap, List, map, reverse}
 use Rattle.std.specs.Global.{Vec}
 use Rattle.redl_tree.specs.Model.Nodes.{no_nodes}
 use Rattle.redl_tree.specs.declared.node.Node.{Node}
-use Rattle.redl_xml.specs.Elements.{Frame, bare}
-use Rattle.redl_xml.specs.Buildings.{frames}
+use Rattle.redl_xml.specs.Inside.Elements.{Frame, bare}
+use Rattle.redl_xml.specs.Inside.Buildings.{frames}
 use Rattle.redl_xml.proofs.Buildings.{state, frames-bare}
 use Rattle.redl_xml.proofs.building.Building.keep_within.Goals as goal
 

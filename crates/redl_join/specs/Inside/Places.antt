@@ -8,8 +8,8 @@ use Rattle.redl_journal.specs.declared.entry.Entry.{Entry}
 use Rattle.redl_journal.specs.Journals.{IsAllowed}
 use Rattle.redl_join.specs.declared.latest.Latest.{Latest}
 use Rattle.redl_join.specs.Books.{IsBook}
-use Rattle.redl_join.specs.Latest.{no_words, latest_words}
-use Rattle.redl_join.specs.Numbers.{Numbered, AreNumbers, has_number, is_numbered, is_taken}
+use Rattle.redl_join.specs.Inside.Latest.{no_words, latest_words}
+use Rattle.redl_join.specs.Inside.Numbers.{Numbered, AreNumbers, has_number, is_numbered, is_taken}
 
 -- the words of the reviewer with this number, or no words
 abbrev pub words_of : BTreeMap ℕ Latest → ℕ → Latest

@@ -4,7 +4,7 @@ use Rattle.redl_tree.specs.Revisions.Moves.{Edge, from_start, from_end, to_start
 use Rattle.redl_moves.specs.Marks.{markings}
 use Rattle.redl_moves.specs.Keys.{has_key}
 use Rattle.redl_moves.specs.Places.{only_place, Span}
-use Rattle.redl_moves.specs.Seats.{seat, seat_place}
+use Rattle.redl_moves.specs.Inside.Seats.{seat, seat_place}
 use Rattle.redl_moves.specs.declared.table.Key.TheVariants.{Id, Name}
 use Rattle.redl_moves.specs.declared.side.Range.{Range}
 use Rattle.redl_moves.specs.declared.side.Side.{Side}

@@ -10,7 +10,7 @@ use Rattle.redl_tree.specs.declared.node.Elem.{Elem}
 use Rattle.redl_tables.specs.Asked.{answer}
 use Rattle.redl_tables.specs.declared.owned.Finding.{Finding}
 use Rattle.redl_resolve.specs.Chains.{AddsPiece, elem_answer}
-use Rattle.redl_resolve.specs.Rounds.{round_of}
+use Rattle.redl_resolve.specs.Inside.Rounds.{round_of}
 use Rattle.redl_resolve.specs.declared.made.Made.{Made}
 use Rattle.redl_resolve.specs.declared.rounds.Round.{Round}
 use Rattle.redl_resolve.specs.declared.walk.Walk.{Walk}

@@ -6,7 +6,7 @@ use Rattle.redl_tree.specs.Model.View.{nodes_of}
 use Rattle.redl_tree.specs.declared.node.Node.{Node}
 use Rattle.redl_xml.specs.declared.open_element.OpenElement.{OpenElement}
 use Rattle.redl_xml.specs.declared.building.Building.{Building}
-use Rattle.redl_xml.specs.Elements.{Frame, State}
+use Rattle.redl_xml.specs.Inside.Elements.{Frame, State}
 
 -- an open element with these nodes before it
 abbrev pub frame_view : OpenElement → Nodes → Frame

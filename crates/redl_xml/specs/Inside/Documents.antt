@@ -8,8 +8,8 @@ use Rattle.redl_reading.specs.Lists.{is_filled}
 use Rattle.redl_reading.specs.Steps.{◌>>=◌}
 use Rattle.redl_markup.specs.Pieces.{Piece, start_tag, empty_tag, end_tag, stretch}
 use Rattle.redl_markup.specs.ScanPieces.{piece_at}
-use Rattle.redl_xml.specs.Elements.{element_at}
-use Rattle.redl_xml.specs.Sizes.{sizes_of, one_more}
+use Rattle.redl_xml.specs.Inside.Elements.{element_at}
+use Rattle.redl_xml.specs.Inside.Sizes.{sizes_of, one_more}
 
 abbrev pub stretch_or_none : List ℕ → Option (Piece × List ℕ) → List ℕ × List ℕ
 stretch_or_none bs None = ([], bs)

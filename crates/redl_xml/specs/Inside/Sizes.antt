@@ -5,7 +5,7 @@ use Rattle.redl_tree.specs.Model.Nodes.{Nodes}
 use Rattle.redl_tree.specs.Model.Count.{count}
 use Rattle.redl_markup.specs.Pieces.{Piece, start_tag, empty_tag, end_tag, stretch}
 use Rattle.redl_xml.specs.Shapes.{depth_of}
-use Rattle.redl_xml.specs.Elements.{element_at}
+use Rattle.redl_xml.specs.Inside.Elements.{element_at}
 
 -- a count, up to one above the limit
 abbrev pub capped : ℕ → ℕ → ℕ
