@@ -1,4 +1,4 @@
-//! What holds of every outcome of a call, and of the readers that it is told by.
+//! What holds of every outcome of a call, and of the readers that define it.
 
 ghost use Rattle.std.specs.Prelude.{◌≡◌, ◌≤◌, ℕ, List};
 ghost use Rattle.redl_app.specs.AnyOrder.{OrderDoesNotCount, OrderOfSittings};

@@ -26,7 +26,7 @@ use redl_opc::Package;
 use redl_tree::{Around, Elem, Node};
 use std::alloc::{AllocError, Global};
 
-/// The revisions in the stories of a package, of which this is known. `Err` means out of memory.
+/// The revisions in the stories of a package, given `known`, one for each story. `Err` means out of memory.
 pub(crate) fn find_in_stories(
     alloc: Global,
     pkg: &Package,

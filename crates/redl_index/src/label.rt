@@ -28,7 +28,7 @@ use redl_opc::Package;
 use redl_tree::{Body, Elem, Node, Spaced, StoryChange};
 use std::convert::Infallible;
 
-/// Labels the stories of a package, of which this is known, and gives how many revisions there are. It takes no memory.
+/// Labels the stories of a package, given `known`, one for each story, and gives how many revisions there are. It takes no memory.
 pub(crate) fn label_stories(pkg: &mut Package, known: Vec<Known>) -> u32
     requires known { map known_of known.items ≡ map known_in (stories pkg.old) }
     requires shape { refusal pkg.old ≡ None }
@@ -87,7 +87,7 @@ impl StoryChange<Unlabelled<'_>> for Labelling {
     }
 }
 
-/// Labels a story of which this is known, and gives the next number after it.
+/// Labels a story, given what is known of it, and gives the next number after it.
 fn label_story(known: &mut Known<'_>, root: &mut Elem, next: u32) -> u32
     requires known { known_of known.old ≡ known_in (parts_by (tag_of root.old) (kids_of root.old)) }
     requires root { IsTrue (is_story_root (tag_of root.old)) }

@@ -19,8 +19,8 @@ pub(crate) struct Numbers {
 }
 
 impl Numbers {
-    /// The number of an element that is seen so, 0 where it is in no revision. The first element of a revision takes the next
-    /// number.
+    /// The number of the element with this `Sight`, 0 where it is in no revision. The first element of a revision takes the
+    /// next number.
     pub(crate) fn number(&mut self, sight: Sight) -> u32
         requires few { self.old.next + 1 < 2 ^ 32 }
         ensures at_most { self.new.next ≤ self.old.next + 1 }

@@ -71,7 +71,7 @@ fn paras_in(piece: &Piece) -> usize
     }
 }
 
-// Adds what a piece gives by itself, and gives what the next paragraph is to take up. `more`: a paragraph comes later in
+// Adds a piece's own nodes, and gives what the next paragraph takes over. `more`: a paragraph comes later in
 // the chain.
 fn add<'a>(
     alloc: Global,

@@ -60,7 +60,7 @@ fn end_of_elem(elem: &Elem, reach: Reach) -> Option<bool>
     }
 }
 
-/// What two neighbours that are reached so say together.
+/// The end of two lists, one after the other.
 fn end_of_two(reach: Reach, before: Option<bool>, last: Option<bool>) -> Option<bool>
     ensures { result ≡ end_of_two_of reach before last }
 {

@@ -209,7 +209,7 @@ fn keeps_own_tag(elem: &Elem, kind: Kind, parent: Parent) -> bool
     !loses_tags(kind, parent) || !declares_names(elem.tail())
 }
 
-/// Whether some decision takes the tags of an element of this role, which is so to its kids, and leaves the kids.
+/// Whether a decision may remove the tags of an element of this role, which is `parent` to its kids, and keep the kids.
 fn loses_tags(kind: Kind, parent: Parent) -> bool
     ensures { result ≡ loses_tags_of parent kind }
 {

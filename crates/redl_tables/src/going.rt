@@ -43,7 +43,7 @@ pub fn goes(elem: &Elem, in_row: bool, says: &[Say]) -> bool
     }
 }
 
-// Own rows or cells are among nodes that are reached so, and all of them go.
+// Whether these nodes hold own rows or cells, and all of them go.
 fn all_go(nodes: &[Node], unit: Unit, reach: Reach, says: &[Say]) -> bool
     ensures { result ≡ all_of_some (unit_goes unit says.now) (own (unit_name unit) reach (nodes_of nodes.now)) }
 {

@@ -52,7 +52,7 @@ impl Finding {
     }
 }
 
-/// What is found among nodes that are reached so. It stops at the first row or cell that stays.
+/// What these nodes hold, reached as `reach` says. It stops at the first row or cell that stays.
 #[cycle(own)]
 pub(crate) fn found(nodes: &[Node], unit: Unit, reach: Reach, says: &[Say]) -> Finding
     ensures { result ≡ found_of (unit_goes unit says.now) (own (unit_name unit) reach (nodes_of nodes.now)) }
@@ -112,7 +112,7 @@ fn found_further(nodes: &[Node], unit: Unit, reach: Reach, says: &[Say]) -> Find
     }
 }
 
-/// Whether an element is an own row or cell, among nodes that are reached so.
+/// Whether an element is an own row or cell, where its list is reached as `reach` says.
 pub(crate) fn is_own(elem: &Elem, unit: Unit, reach: Reach) -> bool
     ensures { result ≡ (is_direct reach && is (unit_name unit) (tag_of elem.now)) }
 {

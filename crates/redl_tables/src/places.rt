@@ -31,7 +31,7 @@ pub fn is_shell(elem: &Elem, place: Place) -> bool
     is_wrapper(elem) && (is_row_list(place) || is_cell_list(place))
 }
 
-/// Whether an element at this place is of a sort that goes in some documents: a table, a row, a cell or a shell.
+/// Whether an element at this place may be removed by decisions: it is a table, a row, a cell or a shell.
 pub fn may_go(elem: &Elem, place: Place) -> bool
     ensures { result ≡ may_go_by place (tag_of elem.now) }
 {

@@ -19,7 +19,7 @@ pub struct Question {
 }
 
 impl Question {
-    /// What is asked of a story: no table reaches it, so it has none of these.
+    /// The question for a story: it is outside every table, so it has no own rows and cells.
     pub fn nothing() -> Question
         ensures { result ≡ asked [] }
     {
@@ -29,7 +29,7 @@ impl Question {
         }
     }
 
-    /// What is asked of the kids of an element that is in a list of which this is asked.
+    /// The question for the kids of `elem`, whose own list has the question `self`.
     pub fn inside(self, elem: &Elem) -> Question
         ensures { result ≡ asked_inside (tag_of elem.now) self }
     {

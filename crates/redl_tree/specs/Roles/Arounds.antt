@@ -61,7 +61,7 @@ props_in InRow tag = if is "tblPrEx" tag then ExceptProps else if is "trPr" tag 
 props_in InCell tag = if is "tcPr" tag then CellProps else Other
 props_in _ tag = Other
 
--- what an element is to its kids, where its own ancestors are so
+-- the parent that the kids of an element see, where `quiet` and `parent` are of its own ancestors
 abbrev pub parent_inside : Tag → Bool → Parent → Parent
 parent_inside tag quiet parent = if quiet then props_in parent tag else opened tag (props_in parent tag)
 
