@@ -3,11 +3,12 @@
 use redl_editor::Editor;
 use redl_index::Index;
 use redl_opc::{OpcError, Package};
+use redl_rules::{RuleError, check};
 use redl_xml::XmlError;
 use std::alloc::{AllocError, Global};
 
-/// An editor of the package with this text, where each revision is undecided. `None` if the text is no package, and `Err` means out of
-/// memory.
+/// An editor of the package with this text, where each revision is undecided. `None` if the text is no package or breaks a rule of
+/// structure, and `Err` means out of memory.
 pub(crate) fn open(alloc: Global, text: &[u8]) -> Result<Option<Editor>, AllocError> {
     let nodes = match redl_xml::read(alloc, text) {
         Ok(nodes) => nodes,
@@ -19,6 +20,11 @@ pub(crate) fn open(alloc: Global, text: &[u8]) -> Result<Option<Editor>, AllocEr
         Err(OpcError::NoMemory) => return Err(AllocError),
         Err(_) => return Ok(None),
     };
+    match check(alloc, &pkg) {
+        Ok(()) => {}
+        Err(RuleError::NoMemory) => return Err(AllocError),
+        Err(RuleError::Broken(_)) => return Ok(None),
+    }
     let index = Index::build(alloc, &mut pkg)?;
     Ok(Some(Editor::new(alloc, pkg, index.count())?))
 }
