@@ -1,0 +1,18 @@
+-- The summary of the ancestors of an element, which code that goes down a story carries in place of them.
+use Rattle.std.specs.Prelude.{List, ◌||◌, not, if◌then◌else◌}
+use Rattle.redl_tree.specs.Model.Nodes.{Tag}
+use Rattle.redl_tree.specs.Roles.Places.{is_quiet}
+use Rattle.redl_tree.specs.Roles.Arounds.{around_of, inside_of}
+use Rattle.redl_tree.specs.Roles.Lists.{nowhere, inside, place}
+use Rattle.redl_visit.specs.declared.ancestors.Ancestors.{Ancestors}
+
+-- of these ancestors, the nearest first
+abbrev pub ancestors_of : List Tag → Ancestors
+ancestors_of tags = record { around = around_of tags; place = place tags }
+
+-- the same with this one as the nearest
+abbrev pub ancestors_inside : Tag → Ancestors → Ancestors
+ancestors_inside tag here = record {
+  around = inside_of tag here.around;
+  place = if not (is_quiet tag || here.around.quiet) then inside tag here.place else nowhere;
+}

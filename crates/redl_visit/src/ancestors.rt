@@ -1,0 +1,90 @@
+//! A summary of an element's ancestors.
+
+ghost use Rattle.std.specs.Prelude.{◌≡◌, [], not, if◌then◌else◌};
+ghost use Rattle.redl_tree.specs.Model.Nodes.{Tag};
+ghost use Rattle.redl_tree.specs.Model.View.{tag_of};
+ghost use Rattle.redl_tree.specs.Roles.Arounds.{inside_of};
+ghost use Rattle.redl_tree.specs.Roles.Lists.{inside as inside_place, nowhere};
+ghost use Rattle.redl_visit.specs.Summaries.{ancestors_of, ancestors_inside};
+ghost use Rattle.redl_visit.specs.Visits.{inner_of};
+
+use crate::element::Element;
+use redl_tree::{Around, Elem, Place, has_elements};
+
+/// A summary of an element's ancestors in its story, by which its role and its list are known.
+#[derive(Clone, Copy, Debug, PartialEq, Eq)]
+pub struct Ancestors {
+    /// Whether some ancestor holds properties, and what the nearest ancestor is.
+    pub around: Around,
+    /// What the list that the element is in consists of.
+    pub place: Place,
+}
+
+impl Ancestors {
+    /// The summary for a story's root, which has no ancestors.
+    pub fn none() -> Ancestors
+        ensures { result ≡ ancestors_of [] }
+    {
+        Ancestors {
+            around: Around::top(),
+            place: Place::nowhere(),
+        }
+    }
+
+    /// The summary for the kids of `elem`, from its own.
+    pub fn inside(self, elem: &Elem) -> Ancestors
+        ensures { result ≡ ancestors_inside (tag_of elem.now) self }
+    {
+        let around = self.around.inside(elem);
+        Ancestors {
+            around,
+            place: place_inside(self.place, elem, around.is_quiet()),
+        }
+    }
+}
+
+/// A summary of an element's ancestors, which a walk hands down from element to element.
+pub trait Summary<E: Element>: Copy {
+    ghost inside: { Tag → Self → Self };
+
+    /// The summary for the kids of `elem`, from its own. `None` exactly where no element is among the kids.
+    fn inner(self, elem: &E) -> Option<Self>
+        ensures { result ≡ inner_of Self.inside (E.tag elem.now) (E.kids elem.now) self };
+}
+
+impl<'a> Summary<Elem<'a>> for Ancestors {
+    ghost inside = { ancestors_inside };
+
+    #[inline(always)]
+    fn inner(self, elem: &Elem<'a>) -> Option<Ancestors> {
+        if has_elements(elem.kids()) {
+            Some(self.inside(elem))
+        } else {
+            None
+        }
+    }
+}
+
+impl<'a> Summary<Elem<'a>> for Around {
+    ghost inside = { inside_of };
+
+    #[inline(always)]
+    fn inner(self, elem: &Elem<'a>) -> Option<Around> {
+        if has_elements(elem.kids()) {
+            Some(self.inside(elem))
+        } else {
+            None
+        }
+    }
+}
+
+/// The place of the kids of `elem`, from its own. `quiet` says that the element or some ancestor holds properties.
+fn place_inside(here: Place, elem: &Elem, quiet: bool) -> Place
+    ensures { result ≡ (if not quiet then inside_place (tag_of elem.now) here else nowhere) }
+{
+    if quiet {
+        Place::nowhere()
+    } else {
+        here.inside(elem)
+    }
+}

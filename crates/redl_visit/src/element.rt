@@ -1,0 +1,64 @@
+//! An element as a walk sees it.
+
+ghost use Rattle.std.specs.Prelude.{◌≡◌, ◌<◌, ◌≤◌, ℕ, map};
+ghost use Rattle.redl_tree.specs.Model.Nodes.{Tag, Nodes, Item, from_items};
+ghost use Rattle.redl_tree.specs.Model.View.{item_of, tag_of, kids_of};
+ghost use Rattle.redl_tree.specs.declared.node.Body.TheViews.{size-Node};
+ghost use Rattle.redl_tree.specs.declared.node.Elem.{size-Elem};
+ghost use Rattle.redl_visit.specs.Elements.{IsFound};
+ghost use denote.Param.Weighed.{most};
+
+use redl_tree::{Elem, Node};
+
+/// An element with its kids. Only `Elem<'a>` is one: functions that call each other can't name `'a` in a bound, so they name this.
+pub trait Element {
+    /// What its kids are: elements, and bytes between them.
+    type Node;
+
+    ghost tag: { Self → Tag };
+
+    ghost kids: { Self → Nodes };
+
+    ghost item: { Self.Node → Item };
+
+    // What grows from a kid to its element, by which the walk ends: of an element, and of a node.
+    ghost depth: { Self → ℕ };
+
+    ghost node_depth: { Self.Node → ℕ };
+
+    /// Its kids.
+    fn nodes(&self) -> &[Self::Node]
+        ensures kids { from_items (map item result.now) ≡ kids self.now }
+        ensures below { most node_depth result.now < depth self.now };
+
+    /// The element that a node is. `None` exactly where the node is bytes.
+    fn element(node: &Self::Node) -> Option<&Self>
+        ensures { IsFound tag kids depth (item node.now) (node_depth node.now) result };
+}
+
+impl<'a> Element for Elem<'a> {
+    type Node = Node<'a>;
+
+    ghost tag = { tag_of };
+
+    ghost kids = { kids_of };
+
+    ghost item = { item_of };
+
+    ghost depth = { size-Elem };
+
+    ghost node_depth = { size-Node };
+
+    #[inline(always)]
+    fn nodes(&self) -> &[Node<'a>] {
+        self.kids()
+    }
+
+    #[inline(always)]
+    fn element<'b>(node: &'b Node<'a>) -> Option<&'b Elem<'a>> {
+        match node {
+            Node::Elem(elem) => Some(elem),
+            Node::Bytes(_) => None,
+        }
+    }
+}
