@@ -1,5 +1,5 @@
 -- How much a story has of what is found, by the number of its nodes.
-use Rattle.std.proofs.Common.{◌≡◌, ◌∙◌, ap, ℕ, ◌+◌, ◌≤◌, List, [], ◌∷◌, ◌++◌, Option, Some, None, filter_map, map, length, length-append, arith}
+use Rattle.std.proofs.Common.{ℕ, ◌+◌, ◌≤◌, List, [], ◌∷◌, Option, Some, None, filter_map, length, length-append, arith}
 use Rattle.std.specs.List.{cons_option}
 use Rattle.redl_tree.specs.Model.Nodes.{Nodes, no_nodes, bytes, element}
 use Rattle.redl_tree.specs.Model.Count.{count}
@@ -31,7 +31,3 @@ found-few {Y = Y} find (x ∷ xs) = by (find x) (found-few find xs)
 -- what is found among nodes is at most as much as the nodes
 pub few-found : {X : Type 0} (find : Seen → Option X) (ancestors : List Spot) (at : ℕ) (nodes : Nodes) → length (filter_map find (seen_from ancestors at nodes)) ≤ count nodes
 few-found find ancestors at nodes = omega (arith, found-few find (seen_from ancestors at nodes), seen-count ancestors at nodes)
-
--- where nothing was found before
-pub from-none : {X Y : Type 0} (f : X → Y) (old : List X) (all more : List Y) → old ≡ [] → all ≡ map f old ++ more → all ≡ more
-from-none f old all more none e = e ∙ ap (λ xs. map f xs ++ more) none

@@ -1,80 +1,79 @@
-//! What a marker has to know of its ancestors.
+//! What a marker has to know of its ancestors, beside their summary.
 
-ghost use Rattle.std.specs.Prelude.{◌≡◌, [], not, if◌then◌else◌};
-ghost use Rattle.redl_tree.specs.Roles.Lists.{inside, nowhere};
+ghost use Rattle.std.specs.Prelude.{◌≡◌, []};
 ghost use Rattle.redl_tree.specs.Revisions.Markers.{is_in_grid as in_grid, is_reached as reached};
-ghost use Rattle.redl_tree.specs.Model.Seen.{Spot};
+ghost use Rattle.redl_tree.specs.Model.Kids.{has_element};
 ghost use Rattle.redl_tree.specs.Model.View.{tag_of, kids_of};
-ghost use Rattle.redl_markers.specs.Trails.{trail_of, inside_trail, trail_below, is_loose_at, is_own_at, leaves_grid_at};
+ghost use Rattle.redl_markers.specs.Trails.{trail_of, inside_trail, trail_below, below_root, is_loose_at, is_own_at, leaves_grid_at};
 
 use crate::revised::is_revised;
-use redl_tree::{Elem, Lot, Place, Reach, has_elements, is_named, is_quiet};
+use redl_tree::{Elem, Lot, Place, Reach, is_named};
+use redl_visit::Ancestors;
 
-/// What a marker has to know of its ancestors in its story.
+/// What a marker has to know of its ancestors in its story, beside their summary.
 ///
-/// `quiet` says that some ancestor holds properties, `place` which list the element is in, `revised` that some ancestor is a
-/// revision itself, and `astray` that some ancestor is in a table outside its own rows, or in a row outside its own cells.
+/// `revised` says that some ancestor is a revision itself, and `astray` that some ancestor is in a table outside its own rows, or
+/// in a row outside its own cells.
 #[derive(Clone, Copy, Debug, PartialEq, Eq)]
 pub(crate) struct Trail {
-    pub(crate) quiet: bool,
-    pub(crate) place: Place,
     pub(crate) revised: bool,
     pub(crate) astray: bool,
 }
 
+/// What is handed down to the kids of an element: their trail, and the place among the ends for the end of the element.
+#[derive(Clone, Copy, Debug, PartialEq, Eq)]
+pub struct Below {
+    pub(crate) trail: Trail,
+    pub(crate) place: usize,
+}
+
 impl Trail {
     /// The trail of a story's root, which has no ancestors.
-    pub(crate) fn top() -> Trail
+    fn top() -> Trail
         ensures { result ≡ trail_of [] }
     {
         Trail {
-            quiet: false,
-            place: Place::nowhere(),
             revised: false,
             astray: false,
         }
     }
 
-    /// The trail of the kids of an element with this trail.
-    pub(crate) fn inside(self, elem: &Elem) -> Trail
-        ensures { result ≡ inside_trail (tag_of elem.now) (kids_of elem.now) self }
+    /// The trail of the kids of `elem`, from its own. `here` sums up the ancestors of the element.
+    fn inside(self, elem: &Elem, here: &Ancestors) -> Trail
+        ensures { result ≡ inside_trail (tag_of elem.now) (kids_of elem.now) here.now self }
     {
-        let quiet = self.quiet || is_quiet(elem);
         Trail {
-            quiet,
-            place: place_inside(self.place, elem, quiet),
             revised: self.revised || is_revised(elem),
-            astray: self.astray || leaves_grid(self.place, elem),
+            astray: self.astray || leaves_grid(here.place, elem),
         }
     }
 
-    /// The same where the element holds elements. Where it holds none there is nothing to know, and the trail stays as it is.
-    pub(crate) fn below(self, elem: &Elem) -> Trail
-        ensures { result ≡ trail_below (tag_of elem.now) (kids_of elem.now) self }
+    /// The same where `holds` says that an element is among the kids. Where none is there is nothing to know, and the trail stays
+    /// as it is.
+    pub(crate) fn below(self, elem: &Elem, here: &Ancestors, holds: bool) -> Trail
+        requires { holds ≡ has_element (kids_of elem.now) }
+        ensures { result ≡ trail_below (tag_of elem.now) (kids_of elem.now) here.now self }
     {
-        if has_elements(elem.kids()) {
-            self.inside(elem)
-        } else {
-            self
-        }
+        if holds { self.inside(elem, here) } else { self }
     }
 
-    /// Whether a marker here is loose.
-    pub(crate) fn is_loose(self) -> bool
-        ensures { result ≡ is_loose_at self }
+    /// Whether a marker with this trail is loose. `here` sums up its ancestors.
+    pub(crate) fn is_loose(self, here: &Ancestors) -> bool
+        ensures { result ≡ is_loose_at here.now self }
     {
-        self.revised || is_in_grid(self.place) || self.astray
+        self.revised || is_in_grid(here.place) || self.astray
     }
 }
 
-/// The place of the kids of an element, which is quiet or below a quiet one or neither.
-fn place_inside(here: Place, elem: &Elem, quiet: bool) -> Place
-    ensures { result ≡ (if not quiet then inside (tag_of elem.now) here else nowhere) }
-{
-    if quiet {
-        Place::nowhere()
-    } else {
-        here.inside(elem)
+impl Below {
+    /// What is handed down to the kids of a story's root.
+    pub fn of_root(root: &Elem) -> Below
+        ensures { result ≡ below_root (tag_of root.now) (kids_of root.now) }
+    {
+        Below {
+            trail: Trail::top().inside(root, &Ancestors::none()),
+            place: 0,
+        }
     }
 }
 
