@@ -3,7 +3,7 @@ use Rattle.std.proofs.Common.{◌≡◌, refl, ap, sym, ◌∙◌, ℕ, ◌+◌,
 use Rattle.std.proofs.lemmas.List.{drop_more}
 use Rattle.redl_tree.specs.Model.Nodes.{Tag, Nodes, no_nodes, bytes, element, Item, bytes_item, element_item, in_front, from_items}
 use Rattle.redl_tree.specs.Model.Kids.{has_element}
-use Rattle.redl_visit.specs.Visits.{VisitRule, VisitNeeds, inner_of, visited, visited_element, visited_item, no_needs, Needs, NeedsElement, NeedsItem}
+use Rattle.redl_visit.specs.Visits.{VisitRule, VisitNeeds, inner_of, visited, visited_element, visited_item, no_needs, Needs, NeedsItem}
 
 -- ---- a node in front of others
 
@@ -82,7 +82,3 @@ needs-nothing inside rule here own (element tag kids rest) s = (
   tt,
   needs-nothing inside rule here own rest (visited_element inside rule here own tag kids s),
 )
-
-pub needs-nothing_element : {H O S : Type 0} (inside : Tag → H → H) (rule : VisitRule H O S) (here : H) (own : O) (tag : Tag) (kids : Nodes) (s : S) →
-    NeedsElement inside rule no_needs here own tag kids s
-needs-nothing_element inside rule here own tag kids s = let all = needs-nothing inside rule here own (element tag kids no_nodes) s in (all.0, all.1, all.2)

@@ -52,26 +52,6 @@ pub trait Visitor<E: Element, H: Summary<E>> {
         ensures stops { IfErr result (λ error. (Self.stops).Leave here.now below.now (E.tag elem.now) (E.kids elem.now) (Self.state self.old) (Self.state self.new) error) };
 }
 
-/// Shows a visitor an element and all elements below it. `here` sums up the ancestors of the element, and `own` is handed down to it.
-///
-/// The first `Err` of the visitor ends the walk.
-#[cycle(visit)]
-pub fn visit_elem<E: Element, H: Summary<E>, V: Visitor<E, H>>(
-    elem: &E,
-    here: &H,
-    own: &V::Own,
-    visitor: &mut V,
-) -> Result<(), V::Error>
-    requires needs { NeedsElement H.inside V.rule V.needs here.now own.now (E.tag elem.now) (E.kids elem.now) (V.state visitor.old) }
-    ensures state { OnOk result (V.state visitor.new ≡ visited_element H.inside V.rule here.now own.now (E.tag elem.now) (E.kids elem.now) (V.state visitor.old)) }
-    ensures stops { IfErr result (λ error. StopsElement H.inside V.rule V.stops here.now own.now (E.tag elem.now) (E.kids elem.now) (V.state visitor.old) (V.state visitor.new) error) }
-{
-    let inner = here.inner(elem);
-    let below = visitor.enter(elem, here, &inner, own)?;
-    visit_inner(elem, here, inner, &below, visitor)?;
-    visitor.leave(elem, here, &below)
-}
-
 /// Shows a visitor all elements below this one. `inner` sums up the ancestors of its kids, and `below` is handed down to them.
 ///
 /// The first `Err` of the visitor ends the walk.
@@ -92,6 +72,42 @@ pub fn visit_kids<E: Element, H: Summary<E>, V: Visitor<E, H>>(
     Ok(())
 }
 
+/// Shows a visitor the element that a node is, and all elements below it.
+#[cycle(visit)]
+fn visit_node<E: Element, H: Summary<E>, V: Visitor<E, H>>(
+    node: &E::Node,
+    here: &H,
+    own: &V::Own,
+    visitor: &mut V,
+) -> Result<(), V::Error>
+    requires needs { NeedsItem H.inside V.rule V.needs here.now own.now (E.item node.now) (V.state visitor.old) }
+    ensures state { OnOk result (V.state visitor.new ≡ visited_item H.inside V.rule here.now own.now (E.item node.now) (V.state visitor.old)) }
+    ensures stops { IfErr result (λ error. StopsItem H.inside V.rule V.stops here.now own.now (E.item node.now) (V.state visitor.old) (V.state visitor.new) error) }
+{
+    match E::element(node) {
+        Some(elem) => visit_elem(elem, here, own, visitor),
+        None => Ok(()),
+    }
+}
+
+/// Shows a visitor an element and all elements below it. `here` sums up the ancestors of the element, and `own` is handed down to it.
+#[cycle(visit)]
+fn visit_elem<E: Element, H: Summary<E>, V: Visitor<E, H>>(
+    elem: &E,
+    here: &H,
+    own: &V::Own,
+    visitor: &mut V,
+) -> Result<(), V::Error>
+    requires needs { NeedsElement H.inside V.rule V.needs here.now own.now (E.tag elem.now) (E.kids elem.now) (V.state visitor.old) }
+    ensures state { OnOk result (V.state visitor.new ≡ visited_element H.inside V.rule here.now own.now (E.tag elem.now) (E.kids elem.now) (V.state visitor.old)) }
+    ensures stops { IfErr result (λ error. StopsElement H.inside V.rule V.stops here.now own.now (E.tag elem.now) (E.kids elem.now) (V.state visitor.old) (V.state visitor.new) error) }
+{
+    let inner = here.inner(elem);
+    let below = visitor.enter(elem, here, &inner, own)?;
+    visit_inner(elem, here, inner, &below, visitor)?;
+    visitor.leave(elem, here, &below)
+}
+
 /// Shows a visitor all elements below this one, where `inner` is not `None`. There are none otherwise.
 #[cycle(visit)]
 #[inline(always)]
@@ -110,24 +126,6 @@ fn visit_inner<E: Element, H: Summary<E>, V: Visitor<E, H>>(
 {
     match inner {
         Some(inner) => visit_kids(elem, &inner, below, visitor),
-        None => Ok(()),
-    }
-}
-
-/// Shows a visitor the element that a node is, and all elements below it.
-#[cycle(visit)]
-fn visit_node<E: Element, H: Summary<E>, V: Visitor<E, H>>(
-    node: &E::Node,
-    here: &H,
-    own: &V::Own,
-    visitor: &mut V,
-) -> Result<(), V::Error>
-    requires needs { NeedsItem H.inside V.rule V.needs here.now own.now (E.item node.now) (V.state visitor.old) }
-    ensures state { OnOk result (V.state visitor.new ≡ visited_item H.inside V.rule here.now own.now (E.item node.now) (V.state visitor.old)) }
-    ensures stops { IfErr result (λ error. StopsItem H.inside V.rule V.stops here.now own.now (E.item node.now) (V.state visitor.old) (V.state visitor.new) error) }
-{
-    match E::element(node) {
-        Some(elem) => visit_elem(elem, here, own, visitor),
         None => Ok(()),
     }
 }
