@@ -1,7 +1,7 @@
-pub mod RoundLaws
 pub mod EndLaws
 pub mod KeptLaws
 pub mod RuleLaws
 pub mod DeclarationLaws
 pub mod ChangeLaws
+pub mod KeeperLaws
 mod Rows

@@ -1,24 +1,54 @@
 -- The rules by what the ancestors are to an element are the rules.
 use Rattle.std.proofs.Common.{◌≡◌, refl, ap, ◌∙◌, List, [], ◌∷◌, Bool, true, false, ◌&&◌, ◌||◌, not}
-use Rattle.redl_tree.specs.Model.Nodes.{Tag, Nodes}
+use Rattle.redl_tree.specs.Model.Nodes.{Tag, Nodes, no_nodes, bytes, element}
+use Rattle.redl_tree.specs.Model.Kids.{has_element}
 use Rattle.redl_tree.specs.Rules.Tests.{implies, open_one, once, each_once, only_first, only_last}
 use Rattle.redl_tree.specs.Rules.CellEnds.{end_of, is_so}
-use Rattle.redl_tree.specs.Rules.Sound.{change_declares, test_1, test_2, test_3, test_5, test_6, test_9}
+use Rattle.redl_tree.specs.Rules.Sound.{change_declares, test_1, test_2, test_3, test_4, test_5, test_6, test_7, test_8, test_9}
 use Rattle.redl_tree.specs.Decisions.Tables.{has_own}
 use Rattle.redl_tree.specs.Roles.Names.{is}
 use Rattle.redl_tree.specs.Roles.Kinds.{is_content, is_change}
 use Rattle.redl_tree.specs.declared.lists.Reach.TheVariants.{Direct}
-use Rattle.redl_tree.specs.Roles.Arounds.{parent_of, around_of}
+use Rattle.redl_tree.specs.Roles.Arounds.{parent_of, around_of, role_in}
 use Rattle.redl_tree.specs.Roles.Places.{role, in_para_props, in_mark_props, in_row_props, in_cell_props}
 use Rattle.redl_tree.specs.declared.around.Parent.{Parent}
 use Rattle.redl_tree.specs.declared.around.Parent.TheVariants.{Para as InPara, Row as InRow, Cell as InCell, Body as InBody, ParaProps, MarkProps, RowProps, CellProps}
-use Rattle.redl_tree.proofs.AroundLaws.{and-true, same, fits-same}
-use Rattle.redl_rules.specs.Attributes.{declares}
+use Rattle.redl_tree.proofs.AroundLaws.{and-true, same, fits-same, role-in}
+use Rattle.redl_rules.proofs.ChangeLaws.{no_change_in_content}
+use Rattle.redl_rules.specs.Attributes.{has_id, declares}
 use Rattle.redl_rules.specs.Rounds.{round_of}
-use Rattle.redl_rules.specs.Rules.{ends_well, has_cells, by_round_3, marks_once, props_in_place, by_round_6, is_in_para, by_round_9}
+use Rattle.redl_rules.specs.Inside.Rules.{ends_well, has_cells, by_round_3, by_round_4, marks_once, props_in_place, by_round_6, by_round_7, by_round_8, is_in_para, by_round_9}
 
-pub test_3-by : (ancestors : List Tag) (tag : Tag) (kids : Nodes) → test_3 ancestors tag kids ≡ by_round_3 (round_of ancestors) (role ancestors tag) tag kids
+pub test_3-by : (ancestors : List Tag) (tag : Tag) (kids : Nodes) → test_3 ancestors tag kids ≡ by_round_3 (around_of ancestors) (round_of ancestors) (role ancestors tag) tag kids
 test_3-by ancestors tag kids = refl
+
+pub test_7-by : (ancestors : List Tag) (tag : Tag) (kids : Nodes) → test_7 has_id ancestors tag kids ≡ by_round_7 (around_of ancestors) tag kids
+test_7-by ancestors tag kids = refl
+
+pub test_8-by : (ancestors : List Tag) (tag : Tag) (kids : Nodes) → test_8 ancestors tag kids ≡ by_round_8 (round_of ancestors) tag
+test_8-by ancestors tag kids = refl
+
+-- ---- rule 4
+
+last-same : (test other : Tag → Bool) → ((tag : Tag) → test tag ≡ other tag) → (nodes : Nodes) → only_last test nodes ≡ only_last other nodes
+last-same test other same no_nodes = refl
+last-same test other same (bytes b rest) = last-same test other same rest
+last-same test other same (element tag kids rest) =
+    ap (λ b. implies b (not (has_element rest)) && only_last test rest) (same tag)
+    ∙ ap (λ b. implies (other tag) (not (has_element rest)) && b) (last-same test other same rest)
+
+pub test_4-by : (ancestors : List Tag) (tag : Tag) (kids : Nodes) → test_4 ancestors tag kids ≡ by_round_4 (around_of (tag ∷ ancestors)) kids
+test_4-by ancestors tag kids = by (around_of (tag ∷ ancestors)).quiet refl
+  where
+    told : only_last (λ kid. is_change (role (tag ∷ ancestors) kid)) kids ≡ only_last (λ kid. is_change (role_in (around_of (tag ∷ ancestors)) kid)) kids
+    told =
+        last-same (λ kid. is_change (role (tag ∷ ancestors) kid)) (λ kid. is_change (role_in (around_of (tag ∷ ancestors)) kid))
+        (λ kid. ap is_change (role-in (tag ∷ ancestors) kid)) kids
+
+    by : (b : Bool) → (around_of (tag ∷ ancestors)).quiet ≡ b →
+        test_4 ancestors tag kids ≡ (not b || only_last (λ kid. is_change (role_in (around_of (tag ∷ ancestors)) kid)) kids)
+    by true is = told
+    by false is = no_change_in_content (tag ∷ ancestors) (around_of (tag ∷ ancestors)) kids refl is
 
 -- ---- rules of one parent
 

@@ -1,7 +1,7 @@
 -- Which rules hold, of an element, of nodes, and of stories.
 use Rattle.std.specs.Prelude.{ℕ, List, [], ◌∷◌, Bool, true, ◌&&◌, not, map, Option}
 use Rattle.std.specs.List.{position_from}
-use Rattle.redl_tree.specs.Model.Nodes.{Tag, Nodes, Item, bytes_item, element_item}
+use Rattle.redl_tree.specs.Model.Nodes.{Tag, Nodes}
 use Rattle.redl_tree.specs.Model.View.{Parts}
 use Rattle.redl_tree.specs.Rules.Tests.{Test, everywhere}
 use Rattle.redl_tree.specs.Rules.Sound.{holds}
@@ -33,13 +33,9 @@ kept_here ancestors tag kids = kept_by (λ test. test ancestors tag kids)
 abbrev pub kept_in : List Tag → Nodes → Kept
 kept_in ancestors nodes = kept_by (λ test. everywhere test ancestors nodes)
 
--- the same of an element and all below it, and of a node
+-- the same of an element and all below it
 abbrev pub element_kept : List Tag → Tag → Nodes → Kept
 element_kept ancestors tag kids = in_both (kept_here ancestors tag kids) (kept_in (tag ∷ ancestors) kids)
-
-abbrev pub item_kept : List Tag → Item → Kept
-item_kept ancestors (bytes_item b) = all_kept
-item_kept ancestors (element_item tag kids) = element_kept ancestors tag kids
 
 -- the same of stories
 abbrev pub kept_among : List Parts → Kept

@@ -1,6 +1,6 @@
 pub mod Attributes
 pub mod Rounds
-pub mod Rules
 pub mod Keeping
 pub mod Answers
+pub mod Visiting
 pub mod Inside

@@ -1,15 +1,14 @@
 //! Questions about the kids of an element.
 
-ghost use Rattle.std.specs.Prelude.{◌≡◌, ◌∷◌, List};
-ghost use Rattle.redl_tree.specs.Model.Nodes.{Tag};
+ghost use Rattle.std.specs.Prelude.{◌≡◌};
 ghost use Rattle.redl_tree.specs.Roles.Names.{named};
 ghost use Rattle.redl_tree.specs.Model.Kids.{some_element};
 ghost use Rattle.redl_tree.specs.Roles.Kinds.{is_change};
 ghost use Rattle.redl_tree.specs.Roles.Lists.{is_thick as is_thick_tag};
-ghost use Rattle.redl_tree.specs.Roles.Places.{role};
+ghost use Rattle.redl_rules.specs.Inside.Rules.{by_round_4};
 ghost use Rattle.redl_tree.specs.Rules.Tests.{at_most_one, only_first, only_last};
 ghost use Rattle.redl_tree.specs.Model.View.{nodes_of};
-ghost use Rattle.redl_tree.specs.Roles.Arounds.{around_of};
+ghost use Rattle.redl_tree.specs.Roles.Arounds.{role_in};
 
 use redl_tree::{Around, Node, is_named, is_thick};
 
@@ -88,10 +87,8 @@ pub fn is_only_last(nodes: &[Node], name: &[u8]) -> bool
 }
 
 /// Whether no element comes after a change of properties. `around` is what is round these nodes.
-#[tactic(auto, using(crate::proofs::ChangeLaws::no_change_in_content))]
 pub fn changes_are_last(nodes: &[Node], around: Around) -> bool
-    ensures { (ancestors : List Tag) → around ≡ around_of ancestors
-        → result ≡ only_last (λ kid. is_change (role ancestors kid)) (nodes_of nodes.now) }
+    ensures { result ≡ by_round_4 around (nodes_of nodes.now) }
 {
     // A change stands in properties alone.
     !around.is_quiet() || changes_end_properties(nodes, around)
@@ -99,8 +96,7 @@ pub fn changes_are_last(nodes: &[Node], around: Around) -> bool
 
 /// The same, by the role of each element.
 fn changes_end_properties(nodes: &[Node], around: Around) -> bool
-    ensures { (ancestors : List Tag) → around ≡ around_of ancestors
-        → result ≡ only_last (λ kid. is_change (role ancestors kid)) (nodes_of nodes.now) }
+    ensures { result ≡ only_last (λ kid. is_change (role_in around kid)) (nodes_of nodes.now) }
 {
     let mut ended = false;
     for node in nodes {

@@ -1,7 +1,8 @@
 //! The nine rules of structure that a package must keep, for its revisions to be decided: a package goes in, and the least
 //! rule that it breaks comes out. Read `check` first, then the rules in `rules.rt` beside `Sound` of `redl_tree`.
 //! A package that keeps them all is sound: whatever is decided, what the decision leaves is a document.
-//! Which elements are revisions is told by `Around` of `redl_tree`; what a decision does is left to the crates above.
+//! `Keeper` tells the same of a story in a visit that others may share. Which elements are revisions is told by `Around` of
+//! `redl_tree`; what a decision does is left to the crates above.
 #![tactic(auto)]
 
 mod attributes;
@@ -14,5 +15,8 @@ mod rules;
 mod soundness;
 mod walk;
 
+pub use kept::Kept;
 pub use laws::numbering_keeps_rules;
+pub use round::Round;
 pub use soundness::{RuleError, check};
+pub use walk::Keeper;

@@ -1,23 +1,20 @@
-//! What the ancestors of an element are to the rules.
+//! What the ancestors of an element are to the rules, beside their summary.
 
-ghost use Rattle.std.specs.Prelude.{◌≡◌, ◌∷◌, ◌&&◌, ◌||◌, not, [], List, if◌then◌else◌};
-ghost use Rattle.redl_tree.specs.Model.Nodes.{Tag};
-ghost use Rattle.redl_tree.specs.Model.View.{tag_of};
+ghost use Rattle.std.specs.Prelude.{◌≡◌, ◌&&◌, ◌||◌, not, [], if◌then◌else◌};
+ghost use Rattle.redl_tree.specs.Model.View.{tag_of, kids_of};
 ghost use Rattle.redl_tree.specs.Roles.Kinds.{is_change};
-ghost use Rattle.redl_tree.specs.Roles.Lists.{nowhere, inside, is_block_list};
+ghost use Rattle.redl_tree.specs.Roles.Lists.{is_block_list};
 ghost use Rattle.redl_tree.specs.Roles.Names.{is};
-ghost use Rattle.redl_tree.specs.Roles.Places.{role};
-ghost use Rattle.redl_rules.specs.Rounds.{round_of, round_inside};
-ghost use Rattle.redl_tree.specs.Roles.Arounds.{around_of, inside_of};
+ghost use Rattle.redl_visit.specs.Summaries.{ancestors_inside};
+ghost use Rattle.redl_visit.specs.Visits.{inner_of};
+ghost use Rattle.redl_rules.specs.Rounds.{round_of, round_inside, round_below};
 
-use redl_tree::{Around, Elem, Kind, Place, is_named, trace_of};
+use redl_tree::{Elem, Kind, Place, is_named, trace_of};
+use redl_visit::Ancestors;
 
-/// What the ancestors of an element are to the rules, in its story.
+/// What the ancestors of an element are to the rules, in its story, beside their summary.
 #[derive(Clone, Copy)]
 pub struct Round {
-    pub around: Around,
-    /// What the nearest ancestor's kids are.
-    pub here: Place,
     /// The nearest ancestor is a content revision.
     pub in_content: bool,
     /// Some ancestor is a content revision, with no text box between.
@@ -34,8 +31,6 @@ impl Round {
         ensures { result ≡ round_of [] }
     {
         Round {
-            around: Around::top(),
-            here: Place::nowhere(),
             in_content: false,
             below_content: false,
             among_blocks: false,
@@ -43,38 +38,29 @@ impl Round {
         }
     }
 
-    /// What is round the kids of an element that stands here and has this role, and is this to its kids.
-    pub fn inside(self, elem: &Elem, kind: Kind, inner: Around) -> Round
-        ensures { (ancestors : List Tag) → self ≡ round_of ancestors
-            → kind ≡ role ancestors (tag_of elem.now)
-            → inner ≡ around_of (tag_of elem.now ∷ ancestors)
-            → result ≡ round_of (tag_of elem.now ∷ ancestors) }
+    /// The round of the kids of an element with this role. Where no element is among them, nothing asks for it, and the
+    /// element's own will do.
+    #[tactic(auto, using(redl_visit::proofs::VisitLaws::some_inner, redl_visit::proofs::VisitLaws::has_inner, redl_visit::proofs::VisitLaws::no_inner))]
+    pub fn below(self, elem: &Elem, kind: Kind, here: &Ancestors, inner: Option<Ancestors>) -> Round
+        requires { inner ≡ inner_of ancestors_inside (tag_of elem.now) (kids_of elem.now) here.now }
+        ensures { result ≡ round_below (tag_of elem.now) (kids_of elem.now) kind (ancestors_inside (tag_of elem.now) here.now) self }
     {
-        self.step(elem, kind, inner)
-    }
-
-    fn step(self, elem: &Elem, kind: Kind, inner: Around) -> Round
-        ensures { inner ≡ inside_of (tag_of elem.now) self.around → result ≡ round_inside (tag_of elem.now) kind self }
-    {
-        let here = self.place_inside(elem, inner.is_quiet());
-        let in_content = trace_of(elem).is_some();
-        Round {
-            around: inner,
-            here,
-            in_content,
-            below_content: self.is_below_content(elem, in_content),
-            among_blocks: self.is_among_blocks(here, in_content),
-            below_change: self.is_below_change(kind),
+        match inner {
+            Some(inner) => self.inside(elem, kind, &inner),
+            None => self,
         }
     }
 
-    fn place_inside(self, elem: &Elem, quiet: bool) -> Place
-        ensures { result ≡ (if not quiet then inside (tag_of elem.now) self.here else nowhere) }
+    /// The round of the kids of an element with this role, whose ancestors are summed up by `inner`.
+    pub fn inside(self, elem: &Elem, kind: Kind, inner: &Ancestors) -> Round
+        ensures { result ≡ round_inside (tag_of elem.now) kind inner.now self }
     {
-        if quiet {
-            Place::nowhere()
-        } else {
-            self.here.inside(elem)
+        let in_content = trace_of(elem).is_some();
+        Round {
+            in_content,
+            below_content: self.is_below_content(elem, in_content),
+            among_blocks: self.is_among_blocks(inner.place, in_content),
+            below_change: self.is_below_change(kind),
         }
     }
 

@@ -1,19 +1,16 @@
 //! The nine rules, of one element by itself.
 
-ghost use Rattle.std.specs.Prelude.{◌≡◌, ◌∷◌, ◌&&◌, not, [], List};
-ghost use Rattle.redl_tree.specs.Model.Nodes.{Tag};
+ghost use Rattle.std.specs.Prelude.{◌≡◌, ◌∷◌, ◌&&◌, not, []};
 ghost use Rattle.redl_tree.specs.Roles.Names.{is, is_any};
 ghost use Rattle.redl_tree.specs.Model.Kids.{some_element};
 ghost use Rattle.redl_tree.specs.Roles.Kinds.{is_content};
 ghost use Rattle.redl_tree.specs.Roles.Lists.{is_thick};
 ghost use Rattle.redl_tree.specs.Roles.Places.{props_name as props_name_of};
 ghost use Rattle.redl_tree.specs.Rules.Tests.{implies, once, each_once, only_first, only_last};
-ghost use Rattle.redl_tree.specs.Rules.Sound.{is_banned as is_banned_tag, is_banned_below_change as is_banned_below_change_tag, test_4, test_7, test_8, former_declares, change_declares as change_declares_by};
+ghost use Rattle.redl_tree.specs.Rules.Sound.{is_banned as is_banned_tag, is_banned_below_change as is_banned_below_change_tag, former_declares, change_declares as change_declares_by};
 ghost use Rattle.redl_tree.specs.Model.View.{tag_of, kids_of, nodes_of};
-ghost use Rattle.redl_tree.specs.Roles.Arounds.{around_of};
-ghost use Rattle.redl_rules.specs.Attributes.{has_id as has_id_tail, declares};
-ghost use Rattle.redl_rules.specs.Rounds.{round_of};
-ghost use Rattle.redl_rules.specs.Rules.{open_in, loses_tags as loses_tags_of, ends_well, has_cells, by_round_3, marks_once, props_in_place, by_round_6, by_round_9};
+ghost use Rattle.redl_rules.specs.Attributes.{declares};
+ghost use Rattle.redl_rules.specs.Inside.Rules.{open_in, loses_tags as loses_tags_of, ends_well, has_cells, by_round_3, by_round_4, marks_once, props_in_place, by_round_6, by_round_7, by_round_8, by_round_9};
 
 use crate::attributes::{declares_names, has_id};
 use crate::ends::{end_of_nodes, has_own_cell, is_so_end};
@@ -44,24 +41,24 @@ pub fn keeps_2(elem: &Elem, inner: Around) -> bool
 }
 
 /// A content revision holds no block (rule 3). `kind` is the element's role.
-pub fn keeps_3(elem: &Elem, kind: Kind, round: Round) -> bool
-    ensures { result ≡ by_round_3 round kind (tag_of elem.now) (kids_of elem.now) }
+pub fn keeps_3(elem: &Elem, kind: Kind, here: Around, round: Round) -> bool
+    ensures { result ≡ by_round_3 here round kind (tag_of elem.now) (kids_of elem.now) }
 {
-    is_no_block_below(elem, round)
-        && is_no_props_in(elem, round)
+    is_no_block_below(elem, here, round)
+        && is_no_props_in(elem, here, round)
         && is_thin_among_blocks(elem, kind, round)
 }
 
-fn is_no_block_below(elem: &Elem, round: Round) -> bool
-    ensures { result ≡ implies (is_banned_tag (tag_of elem.now) && not round.around.quiet) (not round.below_content) }
+fn is_no_block_below(elem: &Elem, here: Around, round: Round) -> bool
+    ensures { result ≡ implies (is_banned_tag (tag_of elem.now) && not here.quiet) (not round.below_content) }
 {
-    !round.below_content || round.around.is_quiet() || !is_banned(elem)
+    !round.below_content || here.is_quiet() || !is_banned(elem)
 }
 
-fn is_no_props_in(elem: &Elem, round: Round) -> bool
-    ensures { result ≡ implies (open_in ("rPr" ∷ "sdtContent" ∷ []) round.around (tag_of elem.now)) (not round.in_content) }
+fn is_no_props_in(elem: &Elem, here: Around, round: Round) -> bool
+    ensures { result ≡ implies (open_in ("rPr" ∷ "sdtContent" ∷ []) here (tag_of elem.now)) (not round.in_content) }
 {
-    !round.in_content || round.around.is_quiet() || !is_run_props_or_control(elem)
+    !round.in_content || here.is_quiet() || !is_run_props_or_control(elem)
 }
 
 fn is_thin_among_blocks(elem: &Elem, kind: Kind, round: Round) -> bool
@@ -100,8 +97,7 @@ fn is_run_props_or_control(elem: &Elem) -> bool
 
 /// A change is the last kid (rule 4). `inner` is round the kids.
 pub fn keeps_4(elem: &Elem, inner: Around) -> bool
-    ensures { (ancestors : List Tag) → inner ≡ around_of (tag_of elem.now ∷ ancestors)
-        → result ≡ test_4 ancestors (tag_of elem.now) (kids_of elem.now) }
+    ensures { result ≡ by_round_4 inner (kids_of elem.now) }
 {
     changes_are_last(elem.kids(), inner)
 }
@@ -142,10 +138,10 @@ fn cell_is_once(kids: &[Node]) -> bool
 }
 
 /// Properties stand once and in their place, and a control has one content (rule 6). `inner` is round the kids.
-pub fn keeps_6(elem: &Elem, inner: Around, round: Round) -> bool
-    ensures { result ≡ by_round_6 inner round.around (tag_of elem.now) (kids_of elem.now) }
+pub fn keeps_6(elem: &Elem, inner: Around, here: Around) -> bool
+    ensures { result ≡ by_round_6 inner here (tag_of elem.now) (kids_of elem.now) }
 {
-    has_props_in_place(elem.kids(), inner.parent()) && keeps_control(elem, round)
+    has_props_in_place(elem.kids(), inner.parent()) && keeps_control(elem, here)
 }
 
 fn has_props_in_place(kids: &[Node], parent: Parent) -> bool
@@ -160,18 +156,17 @@ fn has_props_in_place(kids: &[Node], parent: Parent) -> bool
     }
 }
 
-fn keeps_control(elem: &Elem, round: Round) -> bool
-    ensures { result ≡ implies (is "sdt" (tag_of elem.now) && not round.around.quiet) (once "sdtContent" (kids_of elem.now)) }
+fn keeps_control(elem: &Elem, here: Around) -> bool
+    ensures { result ≡ implies (is "sdt" (tag_of elem.now) && not here.quiet) (once "sdtContent" (kids_of elem.now)) }
 {
-    round.around.is_quiet() || !is_named(elem, b"sdt") || is_once(elem.kids(), b"sdtContent")
+    here.is_quiet() || !is_named(elem, b"sdt") || is_once(elem.kids(), b"sdtContent")
 }
 
 /// A marker of a move holds no element (rule 7).
-pub fn keeps_7(elem: &Elem, round: Round) -> bool
-    ensures { (ancestors : List Tag) → round ≡ round_of ancestors
-        → result ≡ test_7 has_id_tail ancestors (tag_of elem.now) (kids_of elem.now) }
+pub fn keeps_7(elem: &Elem, here: Around) -> bool
+    ensures { result ≡ by_round_7 here (tag_of elem.now) (kids_of elem.now) }
 {
-    if round.around.is_quiet() || !is_range_edge(elem) {
+    if here.is_quiet() || !is_range_edge(elem) {
         return true;
     }
     !has_id(elem.tail()) || !has_elements(elem.kids())
@@ -179,7 +174,7 @@ pub fn keeps_7(elem: &Elem, round: Round) -> bool
 
 /// Former properties hold no change element and no block (rule 8).
 pub fn keeps_8(elem: &Elem, round: Round) -> bool
-    ensures { (ancestors : List Tag) → round ≡ round_of ancestors → result ≡ test_8 ancestors (tag_of elem.now) (kids_of elem.now) }
+    ensures { result ≡ by_round_8 round (tag_of elem.now) }
 {
     !round.below_change || !is_banned_below_change(elem)
 }

@@ -1,78 +1,129 @@
-//! The rules that hold in a story, by one walk through its elements.
+//! The rules that hold in a story, by one visit of its elements.
 
-ghost use Rattle.std.specs.Prelude.{◌≡◌, ◌∷◌, [], List};
-ghost use Rattle.redl_tree.specs.Model.Nodes.{Tag};
-ghost use Rattle.redl_tree.specs.Roles.Places.{role};
-ghost use Rattle.redl_tree.specs.Model.View.{nodes_of, item_of, tag_of, kids_of};
-ghost use Rattle.redl_tree.specs.Roles.Arounds.{around_of};
+ghost use Rattle.std.specs.Prelude.{◌≡◌, ◌∷◌, []};
+ghost use Rattle.redl_tree.specs.Model.View.{tag_of, kids_of};
+ghost use Rattle.redl_tree.specs.Roles.Arounds.{inside_of};
+ghost use Rattle.redl_visit.specs.Summaries.{ancestors_inside};
+ghost use Rattle.redl_visit.specs.Visits.{inner_of};
+ghost use Rattle.redl_rules.specs.Keeping.{kept_here as kept_of, element_kept};
 ghost use Rattle.redl_rules.specs.Rounds.{round_of};
-ghost use Rattle.redl_rules.specs.Keeping.{kept_here as kept_of, kept_in, element_kept, item_kept};
+ghost use Rattle.redl_rules.specs.Visiting.{kept_by_round};
 
 use crate::kept::Kept;
 use crate::round::Round;
 use crate::rules::{
     keeps_1, keeps_2, keeps_3, keeps_4, keeps_5, keeps_6, keeps_7, keeps_8, keeps_9,
 };
-use redl_tree::{Around, Elem, Kind, Node, has_elements};
+use redl_tree::{Around, Elem, Kind};
+use redl_visit::{Ancestors, Visitor, visit_kids};
+use std::convert::Infallible;
+use std::marker::PhantomData;
 
 /// Which rules hold in the story with this root.
 pub fn kept_by_story(root: &Elem) -> Kept
     ensures { result ≡ element_kept [] (tag_of root.now) (kids_of root.now) }
 {
-    kept_by_elem(root, &Round::top())
-}
-
-#[cycle(kept)]
-fn kept_by_nodes(nodes: &[Node], round: &Round) -> Kept
-    ensures { (ancestors : List Tag) → round.now ≡ round_of ancestors → result ≡ kept_in ancestors (nodes_of nodes.now) }
-{
-    let mut kept = Kept::all();
-    for node in nodes {
-        kept = kept.and(kept_by_node(node, round));
-    }
-    kept
-}
-
-#[cycle(kept)]
-fn kept_by_node(node: &Node, round: &Round) -> Kept
-    ensures { (ancestors : List Tag) → round.now ≡ round_of ancestors → result ≡ item_kept ancestors (item_of node.now) }
-{
-    match node {
-        Node::Elem(elem) => kept_by_elem(elem, round),
-        Node::Bytes(_) => Kept::all(),
+    let inner = Ancestors::none().inside(root);
+    let (mut keeper, round) = Keeper::<Infallible>::at_root(root);
+    match visit_kids(root, &inner, &round, &mut keeper) {
+        Ok(()) => keeper.kept,
+        Err(never) => match never {},
     }
 }
 
-#[cycle(kept)]
-fn kept_by_elem(elem: &Elem, round: &Round) -> Kept
-    ensures { (ancestors : List Tag) → round.now ≡ round_of ancestors
-        → result ≡ element_kept ancestors (tag_of elem.now) (kids_of elem.now) }
-{
-    let kind = round.around.role(elem);
-    let inner = round.around.inside(elem);
-    let here = kept_here(elem, kind, *round, inner);
-    if !has_elements(elem.kids()) {
-        return here;
-    }
-    here.and(kept_by_nodes(elem.kids(), &round.inside(elem, kind, inner)))
+/// Tells which rules hold of all elements so far. It never stops, and so goes beside any visitor that stops with an `X`.
+#[derive(Drop)]
+pub struct Keeper<X> {
+    pub kept: Kept,
+    error: PhantomData<X>,
 }
 
-/// Which rules hold of an element with this role by itself. `inner` is round its kids.
-fn kept_here(elem: &Elem, kind: Kind, round: Round, inner: Around) -> Kept
-    ensures { (ancestors : List Tag) → round ≡ round_of ancestors
-        → kind ≡ role ancestors (tag_of elem.now)
-        → inner ≡ around_of (tag_of elem.now ∷ ancestors)
-        → result ≡ kept_of ancestors (tag_of elem.now) (kids_of elem.now) }
+impl<X> Keeper<X> {
+    /// Where a visit of the kids of a story's root begins: what the rules say of the root by itself, and what is handed down
+    /// to its kids.
+    pub fn at_root(root: &Elem) -> (Keeper<X>, Round)
+        ensures kept { result.0.kept ≡ kept_of [] (tag_of root.now) (kids_of root.now) }
+        ensures round { result.1 ≡ round_of (tag_of root.now ∷ []) }
+    {
+        let here = Ancestors::none();
+        let inner = here.inside(root);
+        let round = Round::top();
+        let kind = here.around.role(root);
+        let keeper = Keeper {
+            kept: kept_here(root, kind, here.around, inner.around, round),
+            error: PhantomData,
+        };
+        (keeper, round.inside(root, kind, &inner))
+    }
+}
+
+impl<'a, X> Visitor<Elem<'a>, Ancestors> for Keeper<X> {
+    type Error = X;
+
+    type Own = Round;
+
+    ghost use Rattle.redl_rules.specs.declared.kept.Kept.{Kept};
+    ghost use Rattle.redl_rules.specs.Visiting.{keeper_rule};
+    ghost use Rattle.redl_visit.specs.Visits.{no_needs};
+    ghost use Rattle.redl_visit.specs.Stops.{any_stops};
+
+    ghost State = { Kept };
+
+    ghost state = { λ it. it.kept };
+
+    ghost rule = { keeper_rule };
+
+    ghost needs = { no_needs };
+
+    ghost stops = { any_stops };
+
+    #[inline(always)]
+    fn enter(
+        &mut self,
+        elem: &Elem<'a>,
+        here: &Ancestors,
+        inner: &Option<Ancestors>,
+        own: &Round,
+    ) -> Result<Round, X> {
+        let kind = here.around.role(elem);
+        let around = around_inside(elem, here, *inner);
+        self.kept = self
+            .kept
+            .and(kept_here(elem, kind, here.around, around, *own));
+        Ok(own.below(elem, kind, here, *inner))
+    }
+
+    #[inline(always)]
+    fn leave(&mut self, _elem: &Elem<'a>, _here: &Ancestors, _below: &Round) -> Result<(), X> {
+        Ok(())
+    }
+}
+
+/// What is round the kids of an element, whether or not an element is among them.
+#[inline(always)]
+fn around_inside(elem: &Elem, here: &Ancestors, inner: Option<Ancestors>) -> Around
+    requires { inner ≡ inner_of ancestors_inside (tag_of elem.now) (kids_of elem.now) here.now }
+    ensures { result ≡ inside_of (tag_of elem.now) here.now.around }
+{
+    match inner {
+        Some(inner) => inner.around,
+        None => here.around.inside(elem),
+    }
+}
+
+/// Which rules hold of an element with this role by itself. `here` is round it, and `inner` is round its kids.
+fn kept_here(elem: &Elem, kind: Kind, here: Around, inner: Around, round: Round) -> Kept
+    ensures { result ≡ kept_by_round here inner round kind (tag_of elem.now) (kids_of elem.now) }
 {
     Kept {
         rules: [
             keeps_1(elem, inner),
             keeps_2(elem, inner),
-            keeps_3(elem, kind, round),
+            keeps_3(elem, kind, here, round),
             keeps_4(elem, inner),
             keeps_5(elem, inner),
-            keeps_6(elem, inner, round),
-            keeps_7(elem, round),
+            keeps_6(elem, inner, here),
+            keeps_7(elem, here),
             keeps_8(elem, round),
             keeps_9(elem, kind, inner),
         ],
