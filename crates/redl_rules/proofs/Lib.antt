@@ -4,4 +4,5 @@ pub mod RuleLaws
 pub mod DeclarationLaws
 pub mod ChangeLaws
 pub mod KeeperLaws
+pub mod StoryLaws
 mod Rows
