@@ -1,5 +1,9 @@
 -- What is known of the stories of a package before their revisions are numbered.
-use Rattle.std.specs.Prelude.{ℕ, List, map, length, replicate}
+use Rattle.std.specs.Prelude.{◌≡◌, ◌<◌, ◌^◌, ℕ, List, map, length, replicate, Option, None}
+use Rattle.redl_opc.specs.Shape.{refusal}
+use Rattle.redl_rules.specs.Attributes.{broken_rule}
+use Rattle.redl_tree.specs.Decisions.Packages.{stories}
+use Rattle.redl_tree.specs.Model.Count.{count}
 use Rattle.redl_tree.specs.Model.Nodes.{Tag, Nodes}
 use Rattle.redl_tree.specs.Model.View.{Parts}
 use Rattle.redl_tree.specs.Revisions.Moves.{Marking}
@@ -33,3 +37,10 @@ known_in story = record {
   ends = ends_from 1 story.kids;
   numbers = replicate (length (markers_of story.tag story.kids)) 0;
 }
+
+-- the rule that a package breaks, and what is known of its stories
+pub record IsSurvey (nodes : Nodes) (rule : Option ℕ) (surveyed : List Marked) : Type 0 where
+  pub broken : rule ≡ broken_rule nodes
+  pub known : surveyed ≡ map known_in (stories nodes)
+  pub shape : refusal nodes ≡ None
+  pub few : count nodes < 2 ^ 32

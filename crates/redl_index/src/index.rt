@@ -1,13 +1,17 @@
 //! The index of a package.
 
-ghost use Rattle.std.specs.Prelude.{◌≡◌, ◌+◌, ◌-◌, ◌^◌, ◌<◌, ◌≤◌, ◌↔◌, ◌++◌, ◌∷◌, [], Some, All, length, slice_get, IfOk, IfSome, IsSome, IsTrue, OnOk, OnErr};
+ghost use Rattle.std.specs.Prelude.{◌≡◌, ◌+◌, ◌-◌, ◌^◌, ◌<◌, ◌≤◌, ◌↔◌, ◌++◌, ◌∷◌, [], None, Some, All, length, map, slice_get, IfOk, IfSome, IsSome, IsTrue, OnOk, OnErr};
+ghost use Rattle.redl_tree.specs.Decisions.Packages.{stories};
+ghost use Rattle.redl_tree.specs.Model.Count.{count};
 ghost use Rattle.redl_tree.specs.Model.Text.{text};
+ghost use Rattle.redl_opc.specs.Shape.{refusal};
+ghost use Rattle.redl_index.specs.Known.{known_of, known_in};
 ghost use Rattle.redl_index.specs.Numbers.{numbered_package, package_revisions};
 ghost use Rattle.redl_index.specs.Revisions.{AreNumbered, IsInStory, IsTold, revisions_of};
 ghost use Rattle.redl_index.specs.Inside.Tallies.{mentioned_again, replaced};
 
 use crate::find::find_in_stories;
-use crate::known::known_stories;
+use crate::known::{Known, known_stories};
 use crate::label::label_stories;
 use crate::revision::Revision;
 use redl_opc::Package;
@@ -78,6 +82,25 @@ impl Index {
         ensures unchanged { OnErr result (pkg.new ≡ pkg.old) }
     {
         let known = known_stories(alloc, pkg)?;
+        Index::of_known(alloc, pkg, known)
+    }
+
+    /// The same, given `known`, one for each story.
+    pub(crate) fn of_known(
+        alloc: Global,
+        pkg: &mut Package,
+        known: Vec<Known>,
+    ) -> Result<Index, AllocError>
+        requires known { map known_of known.items ≡ map known_in (stories pkg.old) }
+        requires shape { refusal pkg.old ≡ None }
+        requires few { count pkg.old < 2 ^ 32 }
+        ensures index { IfOk result (λ index. index ≡ revisions_of pkg.old) }
+        ensures count { IfOk result (λ index. length index ≡ package_revisions pkg.old) }
+        ensures stories { IfOk result (λ index. All (IsInStory pkg.new) index) }
+        ensures nodes { OnOk result (pkg.new ≡ numbered_package pkg.old) }
+        ensures text { OnOk result (text pkg.new ≡ text pkg.old) }
+        ensures unchanged { OnErr result (pkg.new ≡ pkg.old) }
+    {
         let index = find_in_stories(alloc, pkg, &known)?;
         label_stories(pkg, known);
         Ok(index)

@@ -5,7 +5,7 @@ use Rattle.redl_index.specs.declared.revision.Revision.{Revision}
 use Rattle.redl_index.proofs.AgainLaws.{revisions-numbered}
 use Rattle.redl_index.proofs.RevisionLaws.{length-revisions_of}
 use Rattle.redl_index.proofs.PartLaws.{revisions-in_story}
-use Rattle.redl_index.proofs.index.Index.build.Goals as goal
+use Rattle.redl_index.proofs.index.Index.of_known.Goals as goal
 
 pub returns-clause-stories : goal.returns-clause-stories
 returns-clause-stories c =
@@ -15,4 +15,4 @@ returns-clause-stories c =
     subst P found (subst (λ pkg. All (IsInStory pkg) (revisions_of (numbered_package nodes))) (sym c.label_stories.ensures.nodes) (revisions-in_story (numbered_package nodes)))
 
 pub returns-clause-count : goal.returns-clause-count
-returns-clause-count c = ap (λ (rs : List Revision). length rs) c.in_ok-index.ensures ∙ length-revisions_of c.args.pkg.now c.in_ok-known.ensures.shape
+returns-clause-count c = ap (λ (rs : List Revision). length rs) c.in_ok-index.ensures ∙ length-revisions_of c.args.pkg.now c.requires.shape

@@ -1,0 +1,118 @@
+//! A package before it is numbered, with what one look at its stories gives.
+
+ghost use Rattle.std.specs.Prelude.{◌≡◌, All, length, IfOk};
+ghost use Rattle.redl_tree.specs.Model.Text.{text};
+ghost use Rattle.redl_rules.specs.Attributes.{broken_rule as broken_rule_of};
+ghost use Rattle.redl_index.specs.Numbers.{numbered_package, package_revisions};
+ghost use Rattle.redl_index.specs.Revisions.{IsInStory, revisions_of};
+
+use crate::index::Index;
+use crate::known::{Known, known_stories};
+use crate::label::label_stories;
+use redl_opc::Package;
+use redl_rules::{RuleError, check};
+use std::alloc::{AllocError, Global};
+use std::marker::Model;
+
+/// A package with what its numbers rest on: which rule of structure it breaks, and what is known of its stories. A contract sees
+/// its nodes.
+#[derive(Drop)]
+pub struct Surveyed<'a> {
+    package: Package<'a>,
+    broken: Option<u8>,
+    stories: Vec<Known<'a>>,
+}
+
+impl<'a> Model for Surveyed<'a> {
+    ghost use Rattle.std.specs.Coded.{codes};
+    ghost use Rattle.redl_tree.specs.Model.Nodes.{Nodes};
+    ghost use Rattle.redl_opc.specs.Code.{nodes_code};
+
+    ghost Value = { Nodes };
+
+    ghost coded = { nodes_code (Prim.hlevel codes) };
+
+    ghost use Rattle.std.specs.Prelude.{map};
+    ghost use Rattle.redl_index.specs.Known.{known_of, IsSurvey};
+
+    ghost view = { λ surveyed. surveyed.«package» };
+
+    ghost invariant = { λ surveyed. IsSurvey surveyed.«package» surveyed.broken (map known_of surveyed.stories.items) };
+}
+
+/// A package with the kinds and numbers of its revisions, and the revisions.
+#[derive(Drop)]
+pub struct Numbered<'a> {
+    pub package: Package<'a>,
+    pub index: Index,
+}
+
+/// A package with the kinds and numbers of its revisions, and how many it has.
+#[derive(Drop)]
+pub struct Counted<'a> {
+    pub package: Package<'a>,
+    pub count: u32,
+}
+
+impl<'a> Surveyed<'a> {
+    /// Looks at the stories of a package. `Err` means out of memory, and drops it.
+    pub fn of(alloc: Global, pkg: Package<'a>) -> Result<Surveyed<'a>, AllocError>
+        ensures { IfOk result (λ surveyed. surveyed ≡ pkg.entry) }
+    {
+        let broken = broken_rule(alloc, &pkg);
+        let stories = known_stories(alloc, &pkg)?;
+        Ok(Surveyed {
+            package: pkg,
+            broken,
+            stories,
+        })
+    }
+
+    /// The package, as it was before.
+    pub fn package(&self) -> &Package<'a>
+        ensures { result.now ≡ self.now }
+    {
+        &self.package
+    }
+
+    /// The least of the nine rules of structure that the package breaks, where they count from 1.
+    pub fn broken_rule(&self) -> Option<u8>
+        ensures { result ≡ broken_rule_of self.now }
+    {
+        self.broken
+    }
+
+    /// Numbers the revisions as `Index::build` does, and only counts them. It takes no memory, and reads no author and no date.
+    pub fn into_counted(self) -> Counted<'a>
+        ensures nodes { result.«package» ≡ numbered_package self.entry }
+        ensures count { result.count ≡ package_revisions self.entry }
+        ensures text { text result.«package» ≡ text self.entry }
+    {
+        let mut package = self.package;
+        let count = label_stories(&mut package, self.stories);
+        Counted { package, count }
+    }
+
+    /// Numbers the revisions as `Index::build` does. `Err` means out of memory, and drops the package.
+    pub fn into_numbered(self, alloc: Global) -> Result<Numbered<'a>, AllocError>
+        ensures nodes { IfOk result (λ made. made.«package» ≡ numbered_package self.entry) }
+        ensures index { IfOk result (λ made. made.index ≡ revisions_of self.entry) }
+        ensures count { IfOk result (λ made. length made.index ≡ package_revisions self.entry) }
+        ensures stories { IfOk result (λ made. All (IsInStory made.«package») made.index) }
+        ensures text { IfOk result (λ made. text made.«package» ≡ text self.entry) }
+    {
+        let mut package = self.package;
+        let index = Index::of_known(alloc, &mut package, self.stories)?;
+        Ok(Numbered { package, index })
+    }
+}
+
+/// The least rule that a package breaks.
+fn broken_rule(alloc: Global, pkg: &Package) -> Option<u8>
+    ensures { result ≡ broken_rule_of pkg.now }
+{
+    match check(alloc, pkg) {
+        Err(RuleError::Broken(rule)) => Some(rule),
+        _ => None,
+    }
+}
