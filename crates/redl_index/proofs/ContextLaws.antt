@@ -1,13 +1,12 @@
 -- What the code keeps of the ancestors tells the kind and the move of an element.
-use Rattle.std.proofs.Common.{◌≡◌, ◌∙◌, refl, ap, sym, subst, ℕ, ◌+◌, List, [], ◌∷◌, Bool, true, false, ◌&&◌, ◌||◌, true≢false, is_some, find, cond, not, IfSome, IsTrue, Option, Some, None, option_map, if◌then◌else◌}
+use Rattle.std.proofs.Common.{◌≡◌, ◌∙◌, refl, ap, sym, subst, ℕ, List, [], ◌∷◌, Bool, true, false, ◌&&◌, ◌||◌, true≢false, is_some, find, cond, not, IfSome, IsTrue, Option, Some, None, option_map, if◌then◌else◌}
 use Rattle.redl_tree.specs.Model.Nodes.{Tag, Nodes}
-use Rattle.redl_tree.specs.Model.Kids.{has_element}
 use Rattle.redl_tree.specs.Roles.Names.{is}
 use Rattle.redl_tree.specs.Decisions.Packages.{is_story_root}
 use Rattle.redl_tree.specs.Roles.Places.{is_open, within, role, placed, first_role, change_at, in_mark_props, in_row_props, in_cell_props, in_props, trace_of, row_trace_of, cell_trace_of, prop_of}
-use Rattle.redl_tree.specs.Roles.Arounds.{around_of, inside_of}
+use Rattle.redl_tree.specs.Roles.Arounds.{around_of}
 use Rattle.redl_tree.specs.Revisions.Moves.{Marking, Pair, pairs, is_of_pair}
-use Rattle.redl_tree.specs.Model.Seen.{Spot, spot, Seen, seen_one, seen_from, root_spots, tags, tags_of}
+use Rattle.redl_tree.specs.Model.Seen.{Spot, Seen, seen_one, tags_of}
 use Rattle.redl_tree.specs.Revisions.Markers.{mark_end, move_of_member, move_of_marker, move_of, whole_role, either, own_role}
 use Rattle.redl_tree.specs.declared.around.Around.{Around}
 use Rattle.redl_tree.specs.declared.kinds.Kind.{Kind}
@@ -18,20 +17,17 @@ use Rattle.redl_tree.specs.Roles.Arounds.{role_in, role_below, mark_in, change_i
 use Rattle.redl_tree.specs.declared.around.Parent.{Parent}
 use Rattle.redl_tree.specs.declared.around.Parent.TheVariants.{ParaProps, MarkProps, RunProps, SectProps, TableProps, ExceptProps, RowProps, CellProps}
 use Rattle.redl_tree.specs.declared.kinds.Prop.TheVariants.{Run, Para, Sect, Table, Except, Row as RowProp, Cell as CellProp}
-use Rattle.redl_tree.proofs.AroundLaws.{around_of-∷}
 use Rattle.std.specs.Option.{unwrap_or}
-use Rattle.redl_index.specs.declared.context.Context.{Context}
 use Rattle.redl_tree.specs.declared.kinds.Prop.{Prop}
 use Rattle.redl_index.specs.Kinds.{kind_of, is_named}
 use Rattle.redl_tree.proofs.NameLaws.{and-left, and-right, is-other, is_any-apart}
 use Rattle.redl_stamp.specs.Attribute.{attribute_value}
 use Rattle.redl_moves.specs.Standing.{IsApart}
 use Rattle.redl_moves.specs.Starts.{start_in}
-use Rattle.redl_markers.specs.Free.{Every, IsFree}
-use Rattle.redl_markers.proofs.WalkLaws.{none-seen}
+use Rattle.redl_markers.specs.Free.{IsFree}
 use Rattle.redl_markers.proofs.FreeLaws.{content-apart, mark-apart}
 use Rattle.redl_moves.specs.declared.start.Start.{Start}
-use Rattle.redl_index.specs.Inside.Contexts.{para_end, context_of, inside_context, context_below, move_by, IsApartAs, is_marker_by}
+use Rattle.redl_index.specs.Inside.Contexts.{para_end, move_by, IsApartAs, is_marker_by}
 
 -- ---- a mark is at the end of the nearest paragraph
 
@@ -148,37 +144,6 @@ module _ (marks : List Marking) (x : Seen) (found : Option Start) (is : found �
       let m = move_of_marker attribute_value (pairs marks) x in
       ap (option_map (start_in marks))
       (sym (member-here (pairs marks) x) ∙ sym (either-none m (move_of_member (pairs marks) (own_role x) x) (sym (is_some-map marks m) ∙ sym (ap is_some is) ∙ e)))
-
--- ---- contexts
-
-pub context-inside : (at : ℕ) (tag : Tag) (kids : Nodes) (ancestors : List Spot) →
-    inside_context tag (at + 1 + tags kids) (context_of ancestors) ≡ context_of (spot at tag kids ∷ ancestors)
-context-inside at tag kids ancestors =
-    let Told : Around → Context = λ around. record (context_of (spot at tag kids ∷ ancestors)) { around = around } in
-    ap Told (sym (around_of-∷ tag (tags_of ancestors)))
-
--- What is proved with what is round the kids of an element holds of its ancestors and itself. Where it holds no element, what is
--- round the element itself serves as well.
-pub context-below : (marks : List Marking) (P : List Spot → Type 0) (at : ℕ) (tag : Tag) (kids : Nodes) (ancestors : List Spot) (here below : Context)
-    → below ≡ context_below tag kids (at + 1 + tags kids) here → here ≡ context_of ancestors
-    → Every (IsFree marks) (seen_from (spot at tag kids ∷ ancestors) (at + 1) kids)
-    → ((spots : List Spot) → below ≡ context_of spots → Every (IsFree marks) (seen_from spots (at + 1) kids) → P spots)
-    → (has_element kids ≡ false → P ancestors → P (spot at tag kids ∷ ancestors))
-    → P (spot at tag kids ∷ ancestors)
-context-below marks P at tag kids ancestors here below is known free holds none_below = by (has_element kids) refl is
-  where
-    by : (b : Bool) → has_element kids ≡ b → below ≡ (if b then inside_context tag (at + 1 + tags kids) here else here) → P (spot at tag kids ∷ ancestors)
-    by true some is =
-        holds (spot at tag kids ∷ ancestors) (is ∙ ap (inside_context tag (at + 1 + tags kids)) known ∙ context-inside at tag kids ancestors) free
-    by false none is =
-        none_below none
-        (holds ancestors (is ∙ known) (subst (λ xs. Every (IsFree marks) xs) (none-seen (spot at tag kids ∷ ancestors) ancestors (at + 1) kids none) free))
-
-pub context-root : (tag : Tag) (kids : Nodes) (around : Around) → around ≡ inside_of tag (around_of []) → is "p" tag ≡ false →
-    record { around = around; para_end = 0 } ≡ context_of (root_spots tag kids)
-context-root tag kids around is no_p =
-    ap (λ a. record { around = a; para_end = 0 }) (is ∙ sym (around_of-∷ tag []))
-    ∙ ap (λ b. record { around = around_of (tag ∷ []); para_end = if b then 0 + 1 + tags kids else 0 }) (sym no_p)
 
 -- the root of a story is no paragraph
 pub root-no_p : (tag : Tag) → is_story_root tag ≡ true → is "p" tag ≡ false

@@ -1,21 +1,11 @@
--- Laws of nodes, and of what an index keeps.
-use Rattle.std.proofs.Common.{◌≡◌, ◌∙◌, refl, sym, subst, ℕ, zero, suc, ◌+◌, ◌<◌, ◌≤◌, List, [], ◌∷◌, ◌++◌, All, Option, Some, None, length, get_or, set, drop, slice_get, arith, ap}
-use Rattle.std.proofs.lemmas.List.{drop_more}
+-- Laws of what an index keeps.
+use Rattle.std.proofs.Common.{◌≡◌, ◌∙◌, refl, sym, subst, ℕ, zero, suc, ◌+◌, List, [], ◌∷◌, ◌++◌, All, Option, Some, None, length, set, slice_get, arith, ap}
 use Rattle.std.proofs.lemmas.List.Elements.{All-set}
 use Rattle.std.proofs.lemmas.Option.{slice_get_within, get_or_from_slice_get}
-use Rattle.redl_tree.specs.Model.Count.{count, item_count}
-use Rattle.redl_tree.specs.Model.View.{item_of, nodes_of}
-use Rattle.redl_tree.specs.declared.node.Node.{Node}
-use Rattle.redl_tree.proofs.Laws.{count-in_front}
 use Rattle.redl_index.specs.declared.revision.Revision.{Revision}
 use Rattle.redl_index.specs.Revisions.{IsTold, AreNumbered, IsIndex}
 use Rattle.redl_index.specs.Inside.Tallies.{with_one_more, replaced}
 use Rattle.redl_index.proofs.TallyLaws.{length-replaced}
-
--- a node has no more nodes in it than the nodes from it on
-pub count_here : (xs : List Node) (i : ℕ) (d : Node) → i < length xs → item_count (item_of (get_or xs i d)) ≤ count (nodes_of (drop i xs))
-count_here xs i d within =
-    omega (arith, ap (λ ns. count (nodes_of ns)) (drop_more xs i d within), count-in_front (item_of (get_or xs i d)) (nodes_of (drop (i + 1) xs)))
 
 told-more : (r : Revision) → IsTold r → IsTold (with_one_more r)
 told-more r told = record { named = told.named; author = told.author; moment = told.moment }

@@ -1,14 +1,11 @@
--- Laws of labels and numbers in a story, an element at a time and a node at a time.
-use Rattle.std.proofs.Common.{◌≡◌, ◌∙◌, refl, ap, sym, ℕ, ◌+◌, ◌≤◌, List, [], ◌∷◌, ◌++◌, Option, Some, None, arith, false, true≢false}
+-- Laws of the numbers in a story.
+use Rattle.std.proofs.Common.{◌≡◌, ◌∙◌, refl, ap, sym, ℕ, ◌+◌, ◌≤◌, List, [], ◌∷◌, ◌++◌, Option, Some, None, arith}
 use Rattle.redl_tree.specs.Model.Count.{count}
-use Rattle.redl_tree.specs.Model.Kids.{has_element}
-use Rattle.redl_tree.specs.Model.Nodes.{Nodes, no_nodes, bytes, element, Item, bytes_item, element_item, in_front, ◌⊕◌}
+use Rattle.redl_tree.specs.Model.Nodes.{Nodes, no_nodes, bytes, element}
 use Rattle.redl_tree.specs.Model.Seen.{Spot, spot, Seen, seen_one, seen_from, tags}
 use Rattle.redl_tree.specs.Revisions.Moves.{Pair}
-use Rattle.redl_tree.specs.Revisions.Numbers.{Membership, in_none, in_own, in_move, Numbering, number_of_move, counted, counted_move, revision_of, numbering_after, labelled}
+use Rattle.redl_tree.specs.Revisions.Numbers.{Membership, in_none, in_own, in_move, Numbering, number_of_move, counted, counted_move, revision_of, numbering_after}
 use Rattle.redl_stamp.specs.Attribute.{attribute_value}
-use Rattle.redl_markers.specs.Walks.{item_tags}
-use Rattle.redl_index.specs.Unlabelled.{item_numbering, labelled_item}
 
 -- how far the numbering is behind these elements
 abbrev pub counted_all : List Pair → Numbering → List Seen → Numbering
@@ -32,46 +29,6 @@ module _ (moves : List Pair) where
       ∙ numbering-fold ancestors (at + 2 + tags kids) (counted_all moves one inner) rest
       ∙ sym (counted-append one inner (seen_from ancestors (at + 2 + tags kids) rest))
 
--- ---- a node at a time
-
-next_at : (at n : ℕ) → at + 2 + n ≡ at + (2 + n)
-next_at at n = omega arith
-
-module _ (moves : List Pair) (ancestors : List Spot) (at : ℕ) (so_far : Numbering) where
-  pub numbering-in_front : (x : Item) (rest : Nodes) →
-      numbering_after attribute_value moves ancestors at so_far (in_front x rest)
-      ≡ numbering_after attribute_value moves ancestors (at + item_tags x) (item_numbering moves ancestors at so_far x) rest
-  numbering-in_front (bytes_item b) rest =
-      let same : at ≡ at + 0 = omega arith in
-      ap (λ n. numbering_after attribute_value moves ancestors n so_far rest) same
-  numbering-in_front (element_item tag kids) rest =
-      ap (λ n. numbering_after attribute_value moves ancestors n (item_numbering moves ancestors at so_far (element_item tag kids)) rest) (next_at at (tags kids))
-
-  pub labelled-in_front : (x : Item) (rest : Nodes) →
-      labelled attribute_value moves ancestors at so_far (in_front x rest)
-      ≡ in_front (labelled_item moves ancestors at so_far x) no_nodes
-      ⊕ labelled attribute_value moves ancestors (at + item_tags x) (item_numbering moves ancestors at so_far x) rest
-  labelled-in_front (bytes_item b) rest =
-      let same : at ≡ at + 0 = omega arith in
-      ap (λ n. bytes b (labelled attribute_value moves ancestors n so_far rest)) same
-  labelled-in_front (element_item tag kids) rest =
-      ap (λ n. in_front (labelled_item moves ancestors at so_far (element_item tag kids)) no_nodes
-      ⊕ labelled attribute_value moves ancestors n (item_numbering moves ancestors at so_far (element_item tag kids)) rest) (next_at at (tags kids))
-
--- ---- kids without an element
-
-pub none-labelled : (moves : List Pair) (some other : List Spot) (at : ℕ) (s : Numbering) (kids : Nodes) → has_element kids ≡ false
-    → labelled attribute_value moves some at s kids ≡ labelled attribute_value moves other at s kids
-none-labelled moves some other at s no_nodes none = refl
-none-labelled moves some other at s (bytes b rest) none = ap (bytes b) (none-labelled moves some other at s rest none)
-none-labelled moves some other at s (element tag kids rest) none = absurd (true≢false none)
-
-pub none-numbered : (moves : List Pair) (some other : List Spot) (at : ℕ) (s : Numbering) (kids : Nodes) → has_element kids ≡ false
-    → numbering_after attribute_value moves some at s kids ≡ numbering_after attribute_value moves other at s kids
-none-numbered moves some other at s no_nodes none = refl
-none-numbered moves some other at s (bytes b rest) none = none-numbered moves some other at s rest none
-none-numbered moves some other at s (element tag kids rest) none = absurd (true≢false none)
-
 -- ---- how far numbers go
 
 -- the next number is at most one more, and no less
@@ -79,7 +36,7 @@ pub record GoesOn (before after many : ℕ) : Type 0 where
   pub at_least : before ≤ after
   pub at_most : after ≤ before + many
 
-counted-goes : (i : Membership) (s : Numbering) → GoesOn s.next (counted i s).next 1
+pub counted-goes : (i : Membership) (s : Numbering) → GoesOn s.next (counted i s).next 1
 counted-goes in_none s = record { at_least = omega arith; at_most = omega arith }
 counted-goes in_own s = record { at_least = omega arith; at_most = omega arith }
 counted-goes (in_move start) s = by (number_of_move s.moves start)

@@ -2,8 +2,12 @@ pub mod StoryLaws
 pub mod TallyLaws
 pub mod IndexLaws
 pub mod ContextLaws
+pub mod SightLaws
+pub mod SeekerLaws
 pub mod LabelLaws
 pub mod NumberingLaws
+pub mod NumbererLaws
+pub mod KnownLaws
 pub mod UnlabelledLaws
 pub mod RevisionLaws
 pub mod PartLaws

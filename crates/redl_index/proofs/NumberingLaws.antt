@@ -1,11 +1,11 @@
 -- The code's numbers are those of the numbering so far.
-use Rattle.std.proofs.Common.{◌≡◌, ◌∙◌, refl, ap, sym, subst, ℕ, zero, suc, ◌+◌, ◌<◌, ◌==◌, List, [], ◌∷◌, Bool, true, false, true≢false, inl, inr, is_some, find, filter, get_or, set, length, replicate, Option, Some, None, IfSome, option_map, arith, if◌then◌else◌, nat_lt}
+use Rattle.std.proofs.Common.{◌≡◌, ◌∙◌, refl, ap, sym, subst, ℕ, zero, suc, ◌+◌, ◌<◌, ◌==◌, List, [], ◌∷◌, Bool, true, false, true≢false, inl, inr, is_some, find, filter, get_or, set, length, replicate, Option, Some, None, IfSome, option_map, unwrap_or, arith, if◌then◌else◌, nat_lt}
 use Rattle.std.proofs.lemmas.List.{length-set, get_or-set_same, get_or-set_other}
 use Rattle.std.proofs.lemmas.Option.{slice_get_within}
 use Rattle.redl_tree.specs.Model.Seen.{Seen}
 use Rattle.redl_tree.specs.Revisions.Markers.{move_at, move_of_member, move_of_marker, move_of, either, own_role}
 use Rattle.redl_tree.specs.Revisions.Moves.{Marking, Range, Pair, pairs, pair_at, latest, later, is_open_at, place_of}
-use Rattle.redl_tree.specs.Revisions.Numbers.{Membership, in_none, in_own, in_move, membership, Numbering, number_of_move, counted, counted_move}
+use Rattle.redl_tree.specs.Revisions.Numbers.{Membership, in_none, in_own, in_move, membership, Numbering, number_of_move, number_for, counted, counted_move, start_with}
 use Rattle.redl_tree.specs.declared.kinds.Kind.{Kind}
 use Rattle.redl_tree.specs.declared.kinds.Kind.TheVariants.{Content, Mark, Row, Cell, Change, Plain, Marker}
 use Rattle.redl_tree.specs.declared.kinds.Trace.{Trace}
@@ -13,12 +13,11 @@ use Rattle.redl_tree.specs.declared.kinds.Trace.TheVariants.{Ins, Del, From, To}
 use Rattle.redl_stamp.specs.Attribute.{attribute_value}
 use Rattle.redl_moves.specs.Marks.{RisesFrom}
 use Rattle.redl_moves.specs.Starts.{start_in}
-use Rattle.redl_moves.specs.declared.start.Start.{Start}
 use Rattle.redl_moves.proofs.AgainLaws.{In, filter-in}
 use Rattle.redl_moves.proofs.ThereLaws.{pair-there}
 use Rattle.redl_index.specs.Kinds.{kind_of}
-use Rattle.redl_index.specs.Inside.Numberings.{number_in, IsPlaced, IsNumbering}
-use Rattle.redl_index.specs.declared.numbers.Numbers.{Numbers}
+use Rattle.redl_index.specs.Inside.Numberings.{NumbersView, taken, number_at, given_at, number_in_revision, given_in_revision, number_given, given, number_in, IsPlaced, IsNumbering}
+use Rattle.redl_index.specs.declared.story.Sight.{Sight}
 
 -- ---- the source of each move starts with a marker
 
@@ -126,70 +125,15 @@ length-replicate zero = refl
 length-replicate (suc n) = ap suc (length-replicate n)
 
 -- before the first element of a story
-pub numbering-begins : (marks : List Marking) (numbers : Numbers) (next : ℕ) → RisesFrom 0 marks → 0 < next → numbers.next ≡ next
-    → numbers.moves.items ≡ none_of (length marks) → IsNumbering marks numbers (record { next = next; moves = [] })
-numbering-begins marks numbers next rises begun is_next none = record {
+pub numbering-begins : (marks : List Marking) (next : ℕ) → RisesFrom 0 marks → 0 < next
+    → IsNumbering marks (record { next = next; moves = none_of (length marks) }) (start_with next)
+numbering-begins marks next rises begun = record {
   rising = rises;
-  next = is_next;
+  next = refl;
   begun = begun;
-  places = ap length none ∙ length-replicate (length marks);
-  moves = λ start within. sym (ap (λ (ns : List ℕ). number_in (get_or ns (place_of marks start) 0)) none ∙ ap number_in (get-replicate (length marks) (place_of marks start)));
+  places = length-replicate (length marks);
+  moves = λ start within. sym (ap number_in (get-replicate (length marks) (place_of marks start)));
 }
-
-module _ (marks : List Marking) (numbers : Numbers) (so_far : Numbering) (had : IsNumbering marks numbers so_far) where
-  -- a number more
-  pub numbering-own : (new : Numbers) → new.next ≡ numbers.next + 1 → new.moves.items ≡ numbers.moves.items → IsNumbering marks new (counted in_own so_far)
-  numbering-own new next moves = record {
-    rising = had.rising;
-    next = next ∙ ap (λ n. n + 1) had.next;
-    begun = omega (arith, had.begun);
-    places = ap length moves ∙ had.places;
-    moves = λ start within. had.moves start within ∙ ap (λ (ns : List ℕ). number_in (get_or ns (place_of marks start) 0)) (sym moves);
-  }
-
-  module _ (start : ℕ) (within : place_of marks start < length marks) (known : ℕ) (is : known ≡ get_or numbers.moves.items (place_of marks start) 0) where
-    -- a move that has a number
-    pub move-known : (known == 0) ≡ false → number_of_move so_far.moves start ≡ Some known
-    move-known some = had.moves start within ∙ ap number_in (sym is) ∙ some-number known some
-
-    -- a move that has none
-    pub move-unknown : (known == 0) ≡ true → number_of_move so_far.moves start ≡ None
-    move-unknown none = had.moves start within ∙ ap number_in (sym is) ∙ no-number known none
-
-    pub numbering-again : (known == 0) ≡ false → counted (in_move start) so_far ≡ so_far
-    numbering-again some = ap (λ o. counted_move start o so_far) (move-known some)
-
-    pub numbering-first : (known == 0) ≡ true → (new : Numbers) → new.next ≡ numbers.next + 1 → new.moves.items ≡ set numbers.moves.items (place_of marks start) numbers.next
-        → IsNumbering marks new (counted (in_move start) so_far)
-    numbering-first none new next moves =
-        subst (IsNumbering marks new) (sym (ap (λ o. counted_move start o so_far) (move-unknown none)))
-        (record {
-          rising = had.rising;
-          next = next ∙ ap (λ n. n + 1) had.next;
-          begun = omega (arith, had.begun);
-          places = ap length moves ∙ length-set numbers.moves.items (place_of marks start) numbers.next ∙ had.places;
-          moves = λ other there. by other there (start == other) refl ∙ ap (λ (ns : List ℕ). number_in (get_or ns (place_of marks other) 0)) (sym moves);
-        })
-      where
-        by : (other : ℕ) → place_of marks other < length marks → (b : Bool) → (start == other) ≡ b
-            → (if start == other then Some so_far.next else number_of_move so_far.moves other)
-            ≡ number_in (get_or (set numbers.moves.items (place_of marks start) numbers.next) (place_of marks other) 0)
-        by other there true e =
-            ap (λ b. if b then Some so_far.next else number_of_move so_far.moves other) e
-            ∙ ap Some (sym had.next)
-            ∙ sym (positive-number numbers.next (omega (arith, had.begun, had.next)))
-            ∙ ap number_in (sym (get_or-set_same numbers.moves.items (place_of marks start) numbers.next 0 (omega (arith, within, had.places))))
-            ∙ ap (λ n. number_in (get_or (set numbers.moves.items (place_of marks start) numbers.next) (place_of marks n) 0)) (same start other e)
-        by other there false e =
-            ap (λ b. if b then Some so_far.next else number_of_move so_far.moves other) e
-            ∙ had.moves other there
-            ∙ ap number_in (sym (get_or-set_other numbers.moves.items (place_of marks start) (place_of marks other) numbers.next 0 apart))
-          where
-            apart : place_of marks other ≡ place_of marks start → ⊥
-            apart is = true≢false (sym (ap (λ n. start == n) (sym (one_place marks start other within (sym is))) ∙ itself start) ∙ e)
-              where
-                itself : (n : ℕ) → (n == n) ≡ true
-                itself n = grind arith
 
 -- ---- the revision of an element
 
@@ -198,7 +142,7 @@ abbrev pub in_revision : Option Pair → Membership
 in_revision None = in_own
 in_revision (Some pair) = in_move pair.source.start.at
 
-pub in-revision : (kind : Kind) (p : Option Pair) → is_some (kind_of kind) ≡ true → membership kind p ≡ in_revision p
+in-revision : (kind : Kind) (p : Option Pair) → is_some (kind_of kind) ≡ true → membership kind p ≡ in_revision p
 in-revision Plain p is = absurd (true≢false (sym is))
 in-revision (Content x) None is = refl
 in-revision (Content x) (Some pair) is = refl
@@ -213,7 +157,7 @@ in-revision (Change x) (Some pair) is = refl
 in-revision Marker None is = refl
 in-revision Marker (Some pair) is = refl
 
-pub in-none : (kind : Kind) (p : Option Pair) → is_some (kind_of kind) ≡ false → membership kind p ≡ in_none
+in-none : (kind : Kind) (p : Option Pair) → is_some (kind_of kind) ≡ false → membership kind p ≡ in_none
 in-none Plain p is = refl
 in-none (Content x) p is = absurd (true≢false is)
 in-none (Mark x) p is = absurd (true≢false is)
@@ -222,21 +166,99 @@ in-none (Cell x) p is = absurd (true≢false is)
 in-none (Change x) p is = absurd (true≢false is)
 in-none Marker p is = absurd (true≢false is)
 
--- an element in a revision of its own
-pub own-start : (marks : List Marking) (p : Option Pair) → None ≡ option_map (start_in marks) p → in_revision p ≡ in_own
-own-start marks None is = refl
-own-start marks (Some pair) is = absurd (cc)
+-- ---- the number of an element, and the numbers after it
 
--- an element in a move
-pub record IsInMove (marks : List Marking) (place : ℕ) (p : Option Pair) : Type 0 where
-  pub start : ℕ
-  pub member : in_revision p ≡ in_move start
-  pub place_is : place ≡ place_of marks start
-  pub within : place < length marks
+module _ (marks : List Marking) (numbers : NumbersView) (so_far : Numbering) (had : IsNumbering marks numbers so_far) where
+  numbering-own : IsNumbering marks (taken numbers) (counted in_own so_far)
+  numbering-own = record {
+    rising = had.rising;
+    next = ap (λ n. n + 1) had.next;
+    begun = omega (arith, had.begun);
+    places = had.places;
+    moves = had.moves;
+  }
 
-pub move-start : (marks : List Marking) (p : Option Pair) (start : Start) → Some start ≡ option_map (start_in marks) p → IsPlaced marks p → IsInMove marks start.place p
-move-start marks None start is placed = absurd (cc)
-move-start marks (Some pair) start is placed =
-    let at : start ≡ start_in marks pair = cc in
-    let place = ap (λ (s : Start). s.place) at in
-    record { start = pair.source.start.at; member = refl; place_is = place; within = omega (arith, place, placed) }
+  module _ (start : ℕ) (within : place_of marks start < length marks) where
+    abbrev Known : ℕ
+    Known = get_or numbers.moves (place_of marks start) 0
+
+    -- a move that has a number
+    move-known : (Known == 0) ≡ false → number_of_move so_far.moves start ≡ Some Known
+    move-known some = had.moves start within ∙ some-number Known some
+
+    -- a move that has none
+    move-unknown : (Known == 0) ≡ true → number_of_move so_far.moves start ≡ None
+    move-unknown none = had.moves start within ∙ no-number Known none
+
+    number-move : number_at (place_of marks start) numbers ≡ number_for (in_move start) so_far
+    number-move = by (Known == 0) refl
+      where
+        by : (b : Bool) → (Known == 0) ≡ b → (if b then numbers.next else Known) ≡ number_for (in_move start) so_far
+        by true none = had.next ∙ ap (λ o. unwrap_or o so_far.next) (sym (move-unknown none))
+        by false some = ap (λ o. unwrap_or o so_far.next) (sym (move-known some))
+
+    abbrev First : NumbersView
+    First = record { next = numbers.next + 1; moves = set numbers.moves (place_of marks start) numbers.next }
+
+    first-moves : (other : ℕ) → place_of marks other < length marks → (b : Bool) → (start == other) ≡ b
+        → (if start == other then Some so_far.next else number_of_move so_far.moves other) ≡ number_in (get_or First.moves (place_of marks other) 0)
+    first-moves other there true e =
+        ap (λ b. if b then Some so_far.next else number_of_move so_far.moves other) e
+        ∙ ap Some (sym had.next)
+        ∙ sym (positive-number numbers.next (omega (arith, had.begun, had.next)))
+        ∙ ap number_in (sym (get_or-set_same numbers.moves (place_of marks start) numbers.next 0 (omega (arith, within, had.places))))
+        ∙ ap (λ n. number_in (get_or First.moves (place_of marks n) 0)) (same start other e)
+    first-moves other there false e =
+        ap (λ b. if b then Some so_far.next else number_of_move so_far.moves other) e
+        ∙ had.moves other there
+        ∙ ap number_in (sym (get_or-set_other numbers.moves (place_of marks start) (place_of marks other) numbers.next 0 apart))
+      where
+        itself : (n : ℕ) → (n == n) ≡ true
+        itself n = grind arith
+
+        apart : place_of marks other ≡ place_of marks start → ⊥
+        apart is = true≢false (sym (ap (λ n. start == n) (sym (one_place marks start other within (sym is))) ∙ itself start) ∙ e)
+
+    numbering-first : IsNumbering marks First (counted_move start None so_far)
+    numbering-first = record {
+      rising = had.rising;
+      next = ap (λ n. n + 1) had.next;
+      begun = omega (arith, had.begun);
+      places = length-set numbers.moves (place_of marks start) numbers.next ∙ had.places;
+      moves = λ other there. first-moves other there (start == other) refl;
+    }
+
+    numbering-move : IsNumbering marks (given_at (place_of marks start) numbers) (counted (in_move start) so_far)
+    numbering-move = by (Known == 0) refl
+      where
+        by : (b : Bool) → (Known == 0) ≡ b → IsNumbering marks (if b then First else numbers) (counted (in_move start) so_far)
+        by true none = subst (λ o. IsNumbering marks First (counted_move start o so_far)) (sym (move-unknown none)) numbering-first
+        by false some = subst (λ o. IsNumbering marks numbers (counted_move start o so_far)) (sym (move-known some)) had
+
+  -- of an element that is in a revision
+  number-in_revision : (p : Option Pair) → IsPlaced marks p → number_in_revision (option_map (start_in marks) p) numbers ≡ number_for (in_revision p) so_far
+  number-in_revision None placed = had.next
+  number-in_revision (Some pair) placed = number-move pair.source.start.at placed
+
+  numbering-in_revision : (p : Option Pair) → IsPlaced marks p → IsNumbering marks (given_in_revision (option_map (start_in marks) p) numbers) (counted (in_revision p) so_far)
+  numbering-in_revision None placed = numbering-own
+  numbering-in_revision (Some pair) placed = numbering-move pair.source.start.at placed
+
+  -- of any element
+  module _ (kind : Kind) (p : Option Pair) (placed : IsPlaced marks p) where
+    abbrev Here : Sight
+    Here = record { kind = kind; start = option_map (start_in marks) p }
+
+    pub number-given : number_given Here numbers ≡ number_for (membership kind p) so_far
+    number-given = by (is_some (kind_of kind)) refl
+      where
+        by : (b : Bool) → is_some (kind_of kind) ≡ b → (if b then number_in_revision Here.start numbers else 0) ≡ number_for (membership kind p) so_far
+        by true is = number-in_revision p placed ∙ ap (λ m. number_for m so_far) (sym (in-revision kind p is))
+        by false is = ap (λ m. number_for m so_far) (sym (in-none kind p is))
+
+    pub numbering-given : IsNumbering marks (given Here numbers) (counted (membership kind p) so_far)
+    numbering-given = by (is_some (kind_of kind)) refl
+      where
+        by : (b : Bool) → is_some (kind_of kind) ≡ b → IsNumbering marks (if b then given_in_revision Here.start numbers else numbers) (counted (membership kind p) so_far)
+        by true is = subst (λ m. IsNumbering marks (given_in_revision Here.start numbers) (counted m so_far)) (sym (in-revision kind p is)) (numbering-in_revision p placed)
+        by false is = subst (λ m. IsNumbering marks numbers (counted m so_far)) (sym (in-none kind p is)) had

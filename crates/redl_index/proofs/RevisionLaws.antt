@@ -9,7 +9,7 @@ use Rattle.redl_tree.specs.Revisions.Markers.{whole_role, move_of}
 use Rattle.redl_tree.specs.Revisions.Moves.{Marking, Pair, pairs}
 use Rattle.redl_tree.specs.Revisions.Numbers.{Membership, in_none, in_own, in_move, membership, Numbering, number_of_move, counted, counted_move, start_with, next_after_story, number_rule}
 use Rattle.redl_tree.specs.Decisions.Packages.{left_after, stories}
-use Rattle.redl_tree.specs.Model.Seen.{Seen, seen, seen_from, root_spots}
+use Rattle.redl_tree.specs.Model.Seen.{Seen, seen, root_spots}
 use Rattle.redl_tree.specs.declared.kinds.Kind.{Kind}
 use Rattle.redl_tree.specs.declared.kinds.Kind.TheVariants.{Content, Mark, Row, Cell, Change, Plain, Marker}
 use Rattle.redl_stamp.specs.Attribute.{attribute_value}
@@ -28,7 +28,8 @@ use Rattle.redl_index.proofs.LabelLaws.{counted_all, numbering-fold}
 use Rattle.redl_index.specs.declared.revision.Revision.{Revision}
 use Rattle.redl_index.specs.Mentions.{Mention, mention_by, mentions, Sight, sight_in}
 use Rattle.redl_index.specs.Revisions.{starts_at, is_of, is_new, firsts, members_of, revision_with, revision_of, numbered, story_revisions, revisions_in, revisions_from, revisions_of}
-use Rattle.redl_index.specs.Inside.Tallies.{Tally, next_number, known_number, with_move, with_one_more, replaced, mentioned_again, mentioned, mentioned_by, noted_by, noted_all}
+use Rattle.redl_index.specs.Inside.Tallies.{Tally, next_number, move_number, known_number, with_move, with_one_more, replaced, mentioned_again, mentioned, mentioned_by, noted_by, noted_all}
+use Rattle.redl_index.proofs.TallyLaws.{move_number-insert}
 
 -- ---- equal starts
 
@@ -390,7 +391,7 @@ module _ (part : ℕ) (done : List Mention) (m : Mention) where
 
 pub record IsSoFar (part : ℕ) (base : List Revision) (done : List Mention) (t : Tally) : Type 0 where
   pub index : t.index ≡ base ++ numbered (1 + length base) (map (revision_of part done) (firsts [] done))
-  pub moves : (s : ℕ) → number_of_move t.moves s ≡ option_map (λ p. (1 + length base) + p) (place_of s (firsts [] done))
+  pub moves : (s : ℕ) → move_number t.moves s ≡ option_map (λ p. (1 + length base) + p) (place_of s (firsts [] done))
 
 module _ (part : ℕ) (base : List Revision) (done : List Mention) (t : Tally) (m : Mention) (had : IsSoFar part base done t) (few : length done + 1 < 2 ^ 32) where
   abbrev number : ℕ
@@ -427,7 +428,7 @@ module _ (part : ℕ) (base : List Revision) (done : List Mention) (t : Tally) (
       record {
         index = new-index new (own-apart part done m is fs);
         moves = λ s.
-            ap (λ o. number_of_move (with_move o (next_number t) t.moves) s) is ∙ had.moves s
+            ap (λ o. move_number (with_move o (next_number t) t.moves) s) is ∙ had.moves s
             ∙ ap (option_map (λ p. number + p)) (sym (ap (place_of s) (firsts-new new) ∙ place-more s fs m (ap (starts_at s) is)));
       }
 
@@ -441,18 +442,18 @@ module _ (part : ℕ) (base : List Revision) (done : List Mention) (t : Tally) (
       record {
         index = new-index new (all-apart part done m s is fs none);
         moves = λ x.
-            ap (λ o. number_of_move (with_move o (next_number t) t.moves) x) is ∙ by x (s == x) refl none
+            ap (λ o. move_number (with_move o (next_number t) t.moves) x) is ∙ move_number-insert t.moves s (next_number t) x ∙ by x (s == x) refl none
             ∙ ap (λ ms. option_map (λ p. number + p) (place_of x ms)) (sym (firsts-new new));
       }
     where
       by : (x : ℕ) (b : Bool) → (s == x) ≡ b → None_of s fs →
-          (if s == x then Some (next_number t) else number_of_move t.moves x) ≡ option_map (λ p. number + p) (place_of x (fs ++ m ∷ []))
+          (if s == x then Some (next_number t) else move_number t.moves x) ≡ option_map (λ p. number + p) (place_of x (fs ++ m ∷ []))
       by x true e none =
           let at : s ≡ x = same s x e in
-          ap (λ b. if b then Some (next_number t) else number_of_move t.moves x) e ∙ ap Some next-is
+          ap (λ b. if b then Some (next_number t) else move_number t.moves x) e ∙ ap Some next-is
           ∙ ap (option_map (λ p. number + p)) (sym (ap (λ y. place_of y (fs ++ m ∷ [])) (sym at) ∙ place-new s fs m none (ap (starts_at s) is ∙ ap (λ y. s == y) at ∙ e)))
       by x false e none =
-          ap (λ b. if b then Some (next_number t) else number_of_move t.moves x) e ∙ had.moves x
+          ap (λ b. if b then Some (next_number t) else move_number t.moves x) e ∙ had.moves x
           ∙ ap (option_map (λ p. number + p)) (sym (place-more x fs m (ap (starts_at x) is ∙ e)))
 
   -- a further mention
@@ -485,7 +486,7 @@ module _ (part : ℕ) (base : List Revision) (done : List Mention) (t : Tally) (
       P : Option ℕ → Type 0
       P o = IsSoFar part base (done ++ m ∷ []) (mentioned part t m o)
 
-      at : (o : Option ℕ) → place_of s fs ≡ o → IsSoFar part base (done ++ m ∷ []) (mentioned part t m (number_of_move t.moves s))
+      at : (o : Option ℕ) → place_of s fs ≡ o → IsSoFar part base (done ++ m ∷ []) (mentioned part t m (move_number t.moves s))
       at None without = subst P (sym (had.moves s ∙ ap (option_map (λ p. number + p)) without)) (so-far-new s is without)
       at (Some p) is_p = subst P (sym (had.moves s ∙ ap (option_map (λ p. number + p)) is_p)) (so-far-again s p is is_p)
 
@@ -707,12 +708,3 @@ module _ (part : ℕ) (base : List Revision) (root : Tag) (kids : Nodes) where
       map-length : (f : Seen → Sight) (xs : List Seen) → length (map f xs) ≡ length xs
       map-length f [] = refl
       map-length f (x ∷ xs) = ap suc (map-length f xs)
-
-  -- the tally by what the first walk found
-  pub told-tally : (marks : List Marking) (tails : List (List ℕ)) (ns : Nodes) → marks ≡ markers_of root kids → tails ≡ marker_tails root kids → ns ≡ kids →
-      noted_all part (record { index = base; moves = [] }) (map (sight_in marks tails) (seen_from (root_spots root kids) 1 ns)) ≡ story_tally
-  told-tally marks tails ns is_marks is_tails is_kids =
-      let start : Tally = record { index = base; moves = [] } in
-      ap (λ ns. noted_all part start (map (sight_in marks tails) (seen_from (root_spots root kids) 1 ns))) is_kids
-      ∙ ap (λ marks. noted_all part start (map (sight_in marks tails) (seen root kids))) is_marks
-      ∙ ap (λ tails. noted_all part start (map (sight_in (markers_of root kids) tails) (seen root kids))) is_tails

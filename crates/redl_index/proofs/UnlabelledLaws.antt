@@ -1,5 +1,5 @@
 -- What is known of the stories of a package serves for all of them, and labels them as the definition does.
-use Rattle.std.proofs.Common.{◌≡◌, ◌∙◌, refl, ap, sym, subst, ℕ, zero, suc, ◌+◌, ◌^◌, ◌<◌, ◌≤◌, List, [], ◌∷◌, ◌++◌, map, drop, length, slice_get, Some, Bool, true, false, arith, if◌then◌else◌}
+use Rattle.std.proofs.Common.{◌≡◌, ◌∙◌, refl, ap, sym, subst, ℕ, ◌+◌, ◌^◌, ◌<◌, ◌≤◌, List, [], ◌∷◌, ◌++◌, map, Bool, true, false, arith, if◌then◌else◌}
 use Rattle.redl_tree.specs.Model.Count.{count}
 use Rattle.redl_tree.specs.Model.Nodes.{Tag, Nodes, no_nodes, bytes, element}
 use Rattle.redl_tree.specs.Model.Seen.{seen, root_spots}
@@ -14,8 +14,7 @@ use Rattle.redl_tree.proofs.StoryLaws.{Agree, changed_in-agree}
 use Rattle.redl_opc.specs.Labels.{SetsLabels}
 use Rattle.redl_stamp.specs.Attribute.{attribute_value}
 use Rattle.redl_markers.specs.Free.{Every}
-use Rattle.redl_index.specs.Known.{Marked, known_of, known_in}
-use Rattle.redl_index.specs.declared.known.Known.{Known}
+use Rattle.redl_index.specs.Known.{Marked, known_in}
 use Rattle.redl_index.specs.Numbers.{numbered_package}
 use Rattle.redl_index.specs.Unlabelled.{Left, left_rule, IsNext}
 use Rattle.redl_index.proofs.LabelLaws.{GoesOn, numbering-goes}
@@ -97,22 +96,3 @@ pub takes-stories : (known : List Marked) (nodes : Nodes) → known ≡ map know
 takes-stories known nodes is few =
     let P : List Marked → Type 0 = λ stories_known. TakesAll left_rule IsNext (record { next = 1; stories = stories_known }) (stories nodes) in
     subst P (sym is) (takes-known 1 (stories nodes) (roots-in [] nodes) (omega arith) (omega (arith, size-in [] nodes, few)))
-
--- ---- what is known of the next story, at a place in the list
-
--- this is known at a place, and that of the later ones
-pub record IsKnownAt (known : List Known) (place : ℕ) (now : Marked) (more : List Marked) : Type 0 where
-  pub within : place < length known
-  pub here : (k : Known) → slice_get known place ≡ Some k → known_of k ≡ now
-  pub later : map known_of (drop (place + 1) known) ≡ more
-
-pub known-at : (known : List Known) (place : ℕ) (now : Marked) (more : List Marked) → map known_of (drop place known) ≡ now ∷ more → IsKnownAt known place now more
-known-at [] zero now more is = absurd (cc)
-known-at [] (suc place) now more is = absurd (cc)
-known-at (k ∷ known) zero now more is =
-    let same : known_of k ≡ now = cc in
-    record { within = omega arith; here = λ other there. let it : k ≡ other = cc in ap known_of (sym it) ∙ same; later = cc }
-known-at (k ∷ known) (suc place) now more is =
-    let rest = known-at known place now more is in
-    let next : suc place + 1 ≡ suc (place + 1) = omega arith in
-    record { within = omega (arith, rest.within); here = rest.here; later = ap (λ n. map known_of (drop n (k ∷ known))) next ∙ rest.later }

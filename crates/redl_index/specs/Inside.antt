@@ -3,3 +3,6 @@ pub mod Numberings
 pub mod Stories
 pub mod Tallies
 pub mod Contexts
+pub mod Sights
+pub mod Seeking
+pub mod Numberers

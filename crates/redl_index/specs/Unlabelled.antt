@@ -1,11 +1,9 @@
--- The stories of a package that are still to be labelled, as the code keeps them, and labels a node at a time.
-use Rattle.std.specs.Prelude.{◌≡◌, ◌<◌, ◌^◌, ◌+◌, ℕ, List, ◌∷◌, drop, map, slice_get, Some, IsTrue}
+-- The stories of a package that are still to be labelled, as the code keeps them.
+use Rattle.std.specs.Prelude.{◌≡◌, ◌<◌, ◌^◌, ◌+◌, ℕ, List, drop, map, slice_get, Some, IsTrue}
 use Rattle.redl_tree.specs.Model.Count.{count}
-use Rattle.redl_tree.specs.Model.Nodes.{Tag, Nodes, Item, bytes_item, element_item}
-use Rattle.redl_tree.specs.Model.Seen.{Spot, spot, seen_one}
+use Rattle.redl_tree.specs.Model.Nodes.{Tag, Nodes}
 use Rattle.redl_tree.specs.Decisions.Packages.{StoryRule, is_story_root}
-use Rattle.redl_tree.specs.Revisions.Moves.{Pair}
-use Rattle.redl_tree.specs.Revisions.Numbers.{Numbering, counted, revision_of, numbering_after, labelled, labelled_tag, labelled_story, next_after_story}
+use Rattle.redl_tree.specs.Revisions.Numbers.{labelled_story, next_after_story}
 use Rattle.redl_stamp.specs.Attribute.{attribute_value}
 use Rattle.redl_index.specs.Known.{Marked, known_of, known_in, parts_by}
 use Rattle.redl_index.specs.declared.label.Unlabelled.{Unlabelled}
@@ -31,23 +29,3 @@ pub record IsNext (left : Left) (tag : Tag) (kids : Nodes) : Type 0 where
   pub known : slice_get left.stories 0 ≡ Some (known_in (parts_by tag kids))
   pub begun : 0 < left.next
   pub few : left.next + count kids < 2 ^ 32
-
--- ---- labels a node at a time
-
--- how far the numbering is after an element and all in it
-abbrev pub element_numbering : List Pair → List Spot → ℕ → Numbering → Tag → Nodes → Numbering
-element_numbering moves ancestors at so_far tag kids =
-    numbering_after attribute_value moves (spot at tag kids ∷ ancestors) (at + 1)
-    (counted (revision_of attribute_value moves (seen_one ancestors at tag kids)) so_far) kids
-
-abbrev pub item_numbering : List Pair → List Spot → ℕ → Numbering → Item → Numbering
-item_numbering moves ancestors at so_far (bytes_item b) = so_far
-item_numbering moves ancestors at so_far (element_item tag kids) = element_numbering moves ancestors at so_far tag kids
-
--- a node with its labels
-abbrev pub labelled_item : List Pair → List Spot → ℕ → Numbering → Item → Item
-labelled_item moves ancestors at so_far (bytes_item b) = bytes_item b
-labelled_item moves ancestors at so_far (element_item tag kids) =
-    element_item (labelled_tag attribute_value moves so_far (seen_one ancestors at tag kids))
-    (labelled attribute_value moves (spot at tag kids ∷ ancestors) (at + 1)
-    (counted (revision_of attribute_value moves (seen_one ancestors at tag kids)) so_far) kids)

@@ -1,14 +1,14 @@
 //! What is found in the stories of a package.
 
-ghost use Rattle.std.specs.Prelude.{◌≡◌, ◌+◌, ◌^◌, ◌<◌, ◌≤◌, ◌++◌, ◌∷◌, ◌==◌, ℕ, List, [], Some, None, nat_eq, length, if◌then◌else◌, All, IfSome, IsTrue, OnOk};
+ghost use Rattle.std.specs.Prelude.{◌≡◌, ◌+◌, ◌^◌, ◌<◌, ◌++◌, ◌∷◌, [], None, length, All, IfSome, IsTrue, OnOk};
 ghost use Rattle.std.specs.Str.{IsUtf8};
-ghost use Rattle.indexmap.specs.IndexMap.{get};
 ghost use Rattle.redl_tree.specs.Model.View.{tag_of};
 ghost use Rattle.redl_index.specs.Kinds.{kind_of, is_named};
-ghost use Rattle.redl_index.specs.Mentions.{mention_as, move_mention, sight_by};
-ghost use Rattle.redl_index.specs.Revisions.{revision_of, revision_with};
+ghost use Rattle.redl_index.specs.Mentions.{mention_as, move_mention};
+ghost use Rattle.redl_index.specs.Revisions.{revision_with};
+ghost use Rattle.redl_index.specs.Inside.Seeking.{added};
 ghost use Rattle.redl_index.specs.Inside.Stories.{tails_in};
-ghost use Rattle.redl_index.specs.Inside.Tallies.{Tally, mentioned_by, noted, IsTally};
+ghost use Rattle.redl_index.specs.Inside.Tallies.{tally_of, move_number, mentioned, mentioned_by};
 
 use crate::index::Index;
 use crate::revision::{RevKind, Revision};
@@ -42,7 +42,7 @@ impl Found {
     /// Forgets the moves of the story before. It takes no memory.
     pub(crate) fn begin_story(&mut self)
         ensures index { self.new.index ≡ self.old.index }
-        ensures moves { (start : ℕ) → get nat_eq self.new.moves start ≡ None }
+        ensures moves { self.new.moves.entries ≡ [] }
     {
         self.moves = IndexMap::new(self.alloc);
     }
@@ -58,9 +58,7 @@ impl Found {
         requires tail { IsUtf8 ((tag_of elem.now).tail) }
         requires tails { All IsUtf8 (tails_in story.now) }
         requires named { IfSome (kind_of sight.kind) (λ named. IsTrue (is_named named)) }
-        ensures at_most { OnOk result (length self.new.index ≤ length self.old.index + 1) }
-        ensures tally { OnOk result ((tally : Tally) → IsTally self.old tally
-            → IsTally self.new (noted story.now.part tally (sight_by (tails_in story.now) (tag_of elem.now).tail sight.kind sight.start))) }
+        ensures { OnOk result (tally_of self.new ≡ added story.now.part (tails_in story.now) (tag_of elem.now).tail sight (tally_of self.old)) }
     {
         match RevKind::of(sight.kind) {
             Some(named) => self.mention(story, elem, named, sight),
@@ -80,9 +78,7 @@ impl Found {
         requires tail { IsUtf8 ((tag_of elem.now).tail) }
         requires tails { All IsUtf8 (tails_in story.now) }
         requires named { IsTrue (is_named named) }
-        ensures at_most { OnOk result (length self.new.index ≤ length self.old.index + 1) }
-        ensures tally { OnOk result ((tally : Tally) → IsTally self.old tally
-            → IsTally self.new (mentioned_by story.now.part tally (mention_as (tails_in story.now) (tag_of elem.now).tail sight.kind named sight.start))) }
+        ensures { OnOk result (tally_of self.new ≡ mentioned_by story.now.part (tally_of self.old) (mention_as (tails_in story.now) (tag_of elem.now).tail sight.kind named sight.start)) }
     {
         match sight.start {
             Some(start) => self.mention_move(story, start, sight.kind != Kind::Marker),
@@ -99,9 +95,7 @@ impl Found {
     ) -> Result<(), AllocError>
         requires few { length self.old.index + 1 < 2 ^ 32 }
         requires tails { All IsUtf8 (tails_in story.now) }
-        ensures at_most { OnOk result (length self.new.index ≤ length self.old.index + 1) }
-        ensures tally { OnOk result ((tally : Tally) → IsTally self.old tally
-            → IsTally self.new (mentioned_by story.now.part tally (move_mention (tails_in story.now) start counts))) }
+        ensures { OnOk result (tally_of self.new ≡ mentioned_by story.now.part (tally_of self.old) (move_mention (tails_in story.now) start counts)) }
     {
         match self.known_number(start.at) {
             Some(number) => {
@@ -114,7 +108,7 @@ impl Found {
 
     /// The number that the move has whose source starts at this position, if it has one yet.
     fn known_number(&self, start: u64) -> Option<u32>
-        ensures { result ≡ get nat_eq self.now.moves start }
+        ensures { result ≡ move_number self.now.moves.entries start }
     {
         match self.moves.get(&start) {
             Some(number) => Some(*number),
@@ -131,11 +125,7 @@ impl Found {
     ) -> Result<(), AllocError>
         requires few { length self.old.index + 1 < 2 ^ 32 }
         requires tails { All IsUtf8 (tails_in story.now) }
-        ensures at_most { OnOk result (length self.new.index ≤ length self.old.index + 1) }
-        ensures index { OnOk result (self.new.index ≡ self.old.index ++ revision_of story.now.part
-            (move_mention (tails_in story.now) start counts ∷ [])
-            (move_mention (tails_in story.now) start counts) (1 + length self.old.index) ∷ []) }
-        ensures moves { OnOk result ((other : ℕ) → get nat_eq self.new.moves other ≡ (if start.at == other then Some (1 + length self.old.index) else get nat_eq self.old.moves other)) }
+        ensures { OnOk result (tally_of self.new ≡ mentioned story.now.part (tally_of self.old) (move_mention (tails_in story.now) start counts) None) }
     {
         let number = self.index.count() + 1;
         let tail = story.tail(start.place);
@@ -155,9 +145,8 @@ impl Found {
         requires few { length self.old.index + 1 < 2 ^ 32 }
         requires named { IsTrue (is_named kind) }
         requires tail { IsUtf8 tail.now }
-        ensures at_most { OnOk result (length self.new.index ≤ length self.old.index + 1) }
         ensures index { OnOk result (self.new.index ≡ self.old.index ++ revision_with part kind tail.now members (1 + length self.old.index) ∷ []) }
-        ensures moves { OnOk result ((start : ℕ) → get nat_eq self.new.moves start ≡ get nat_eq self.old.moves start) }
+        ensures moves { OnOk result (self.new.moves.entries ≡ self.old.moves.entries) }
     {
         let number = self.index.count() + 1;
         let revision = Revision::read(self.alloc, kind, part, number, tail, members)?;

@@ -1,32 +1,26 @@
 //! The walk that labels the stories of a package: each element below a root gets its kind and the number of its revision.
 
-ghost use Rattle.std.specs.Prelude.{◌≡◌, ◌+◌, ◌-◌, ◌^◌, ◌<◌, ◌≤◌, ◌++◌, ◌∷◌, ℕ, IsTrue, List, None, map};
-ghost use Rattle.redl_tree.specs.Model.Count.{count, item_count};
-ghost use Rattle.redl_tree.specs.Model.Seen.{Spot, spot, seen_one, seen_from, tags};
+ghost use Rattle.std.specs.Prelude.{◌≡◌, ◌+◌, ◌^◌, ◌<◌, IsTrue, None, map};
+ghost use Rattle.redl_tree.specs.Model.Count.{count};
 ghost use Rattle.redl_tree.specs.Model.Text.{text};
-ghost use Rattle.redl_tree.specs.Model.View.{nodes_of, item_of, tag_of, kids_of, held_of, spaced_of};
+ghost use Rattle.redl_tree.specs.Model.View.{tag_of, kids_of};
 ghost use Rattle.redl_tree.specs.Decisions.Packages.{is_story_root, stories};
-ghost use Rattle.redl_tree.specs.Revisions.Moves.{pairs};
-ghost use Rattle.redl_tree.specs.Revisions.Numbers.{Numbering, counted, numbering_after, labelled, labelled_tag, labelled_story, next_after_story, revision_of};
+ghost use Rattle.redl_tree.specs.Revisions.Numbers.{labelled_story, next_after_story};
 ghost use Rattle.redl_opc.specs.Shape.{refusal};
 ghost use Rattle.redl_stamp.specs.Attribute.{attribute_value};
-ghost use Rattle.redl_markers.specs.Ends.{ends_from};
-ghost use Rattle.redl_markers.specs.Free.{Every, IsFree};
-ghost use Rattle.redl_markers.specs.Walks.{item_tags, item_seen, item_ends, element_seen, element_ends};
-ghost use Rattle.redl_index.specs.Inside.Contexts.{context_of};
 ghost use Rattle.redl_index.specs.Known.{known_of, known_in, parts_by};
-ghost use Rattle.redl_index.specs.Inside.Numberings.{IsNumbering};
 ghost use Rattle.redl_index.specs.Numbers.{numbered_package, package_revisions};
-ghost use Rattle.redl_index.specs.Unlabelled.{labelled_item, item_numbering, element_numbering};
 
-use crate::context::{Context, Walk};
+use crate::context::Walk;
 use crate::known::Known;
 use crate::numbers::Numbers;
 use crate::story::Sight;
 use redl_moves::Moves;
 use redl_opc::Package;
-use redl_tree::{Body, Elem, Node, Spaced, StoryChange};
+use redl_tree::{Around, Elem, StoryChange};
+use redl_visit::{Label, Labeller, label_kids};
 use std::convert::Infallible;
+use std::mem;
 
 /// Labels the stories of a package, given `known`, one for each story, and gives how many revisions there are. It takes no memory.
 pub(crate) fn label_stories(pkg: &mut Package, known: Vec<Known>) -> u32
@@ -97,179 +91,60 @@ fn label_story(known: &mut Known<'_>, root: &mut Elem, next: u32) -> u32
     ensures kids { kids_of root.new ≡ labelled_story attribute_value next (tag_of root.old) (kids_of root.old) }
     ensures next { result ≡ next_after_story attribute_value next (tag_of root.old) (kids_of root.old) }
 {
-    let here = Context::below(root);
-    let mut walk = Walk {
-        at: 1,
-        ends: &known.ends,
+    let none = Vec::new(*known.numbers.moves.allocator());
+    let moves = mem::replace(&mut known.numbers.moves, none);
+    let mut numberer = Numberer {
+        moves: &known.moves,
+        walk: Walk::begin(&known.ends),
+        numbers: Numbers { next, moves },
     };
-    known.numbers.next = next;
-    label_in_body(
-        &known.moves,
-        &mut root.body,
-        here,
-        &mut walk,
-        &mut known.numbers,
-    );
-    known.numbers.next
+    label_kids(root, Around::top().inside(root), 0, &mut numberer);
+    numberer.numbers.next
 }
 
-/// Labels nodes of a story with these moves.
-#[cycle(labels)]
-fn label_nodes(
-    moves: &Moves,
-    nodes: &mut [Node],
-    here: Context,
-    walk: &mut Walk<'_>,
-    numbers: &mut Numbers,
-)
-    requires few { numbers.old.next + count (nodes_of nodes.old) < 2 ^ 32 }
-    requires fits { walk.old.at + tags (nodes_of nodes.old) < 2 ^ 64 }
-    ensures at_most { numbers.new.next ≤ numbers.old.next + count (nodes_of nodes.old) }
-    ensures at { walk.new.at ≡ walk.old.at + tags (nodes_of nodes.old) }
-    ensures ends { (later : List ℕ) → walk.old.ends.now ≡ ends_from walk.old.at (nodes_of nodes.old) ++ later → walk.new.ends.now ≡ later }
-    ensures nodes { (ancestors : List Spot) (later : List ℕ) (so_far : Numbering) → here ≡ context_of ancestors
-        → walk.old.ends.now ≡ ends_from walk.old.at (nodes_of nodes.old) ++ later
-        → Every (IsFree moves.now) (seen_from ancestors walk.old.at (nodes_of nodes.old))
-        → IsNumbering moves.now numbers.old so_far
-        → nodes_of nodes.new ≡ labelled attribute_value (pairs moves.now) ancestors walk.old.at so_far (nodes_of nodes.old) }
-    ensures numbers { (ancestors : List Spot) (later : List ℕ) (so_far : Numbering) → here ≡ context_of ancestors
-        → walk.old.ends.now ≡ ends_from walk.old.at (nodes_of nodes.old) ++ later
-        → Every (IsFree moves.now) (seen_from ancestors walk.old.at (nodes_of nodes.old))
-        → IsNumbering moves.now numbers.old so_far
-        → IsNumbering moves.now numbers.new (numbering_after attribute_value (pairs moves.now) ancestors walk.old.at so_far (nodes_of nodes.old)) }
-{
-    for i in 0..nodes.len() {
-        label_node(moves, &mut nodes[i], here, walk, numbers);
+/// Gives the elements of a story their kinds and numbers. What is handed down is where the nearest paragraph ends.
+#[derive(Drop)]
+pub(crate) struct Numberer<'s> {
+    pub(crate) moves: &'s Moves,
+    pub(crate) walk: Walk<'s>,
+    pub(crate) numbers: Numbers,
+}
+
+impl<'s> Labeller for Numberer<'s> {
+    type Own = u64;
+
+    ghost use Rattle.redl_index.specs.Inside.Numberers.{NumbererState, numberer_state, numberer_rule, numberer_needs};
+
+    ghost State = { NumbererState };
+
+    ghost state = { numberer_state };
+
+    ghost rule = { numberer_rule };
+
+    ghost needs = { numberer_needs };
+
+    #[inline(always)]
+    fn enter(
+        &mut self,
+        elem: &Elem,
+        here: Around,
+        _inner: &Option<Around>,
+        para_end: u64,
+    ) -> (u64, Label) {
+        let sight = Sight::of(self.moves, elem, here, para_end, self.walk.at);
+        let rev = self.numbers.number(sight);
+        let below = self.walk.enter(elem, para_end);
+        (
+            below,
+            Label {
+                kind: sight.kind,
+                rev,
+            },
+        )
     }
-}
 
-#[cycle(labels)]
-fn label_node(
-    moves: &Moves,
-    node: &mut Node,
-    here: Context,
-    walk: &mut Walk<'_>,
-    numbers: &mut Numbers,
-)
-    requires few { numbers.old.next + item_count (item_of node.old) < 2 ^ 32 }
-    requires fits { walk.old.at + item_tags (item_of node.old) < 2 ^ 64 }
-    ensures at_most { numbers.new.next ≤ numbers.old.next + item_count (item_of node.old) }
-    ensures at { walk.new.at ≡ walk.old.at + item_tags (item_of node.old) }
-    ensures ends { (later : List ℕ) → walk.old.ends.now ≡ item_ends walk.old.at (item_of node.old) ++ later → walk.new.ends.now ≡ later }
-    ensures node { (ancestors : List Spot) (later : List ℕ) (so_far : Numbering) → here ≡ context_of ancestors
-        → walk.old.ends.now ≡ item_ends walk.old.at (item_of node.old) ++ later
-        → Every (IsFree moves.now) (item_seen ancestors walk.old.at (item_of node.old))
-        → IsNumbering moves.now numbers.old so_far
-        → item_of node.new ≡ labelled_item (pairs moves.now) ancestors walk.old.at so_far (item_of node.old) }
-    ensures numbers { (ancestors : List Spot) (later : List ℕ) (so_far : Numbering) → here ≡ context_of ancestors
-        → walk.old.ends.now ≡ item_ends walk.old.at (item_of node.old) ++ later
-        → Every (IsFree moves.now) (item_seen ancestors walk.old.at (item_of node.old))
-        → IsNumbering moves.now numbers.old so_far
-        → IsNumbering moves.now numbers.new (item_numbering (pairs moves.now) ancestors walk.old.at so_far (item_of node.old)) }
-{
-    match node {
-        Node::Elem(elem) => label_elem(moves, elem, here, walk, numbers),
-        Node::Bytes(_) => {}
+    #[inline(always)]
+    fn leave(&mut self) {
+        self.walk.leave();
     }
-}
-
-#[cycle(labels)]
-fn label_elem(
-    moves: &Moves,
-    elem: &mut Elem,
-    here: Context,
-    walk: &mut Walk<'_>,
-    numbers: &mut Numbers,
-)
-    requires few { numbers.old.next + (1 + count (kids_of elem.old)) < 2 ^ 32 }
-    requires fits { walk.old.at + (2 + tags (kids_of elem.old)) < 2 ^ 64 }
-    ensures at_most { numbers.new.next ≤ numbers.old.next + (1 + count (kids_of elem.old)) }
-    ensures at { walk.new.at ≡ walk.old.at + (2 + tags (kids_of elem.old)) }
-    ensures ends { (later : List ℕ) → walk.old.ends.now ≡ element_ends walk.old.at (tag_of elem.old) (kids_of elem.old) ++ later → walk.new.ends.now ≡ later }
-    ensures tag { (ancestors : List Spot) (later : List ℕ) (so_far : Numbering) → here ≡ context_of ancestors
-        → walk.old.ends.now ≡ element_ends walk.old.at (tag_of elem.old) (kids_of elem.old) ++ later
-        → Every (IsFree moves.now) (element_seen ancestors walk.old.at (tag_of elem.old) (kids_of elem.old))
-        → IsNumbering moves.now numbers.old so_far
-        → tag_of elem.new ≡ labelled_tag attribute_value (pairs moves.now) so_far (seen_one ancestors walk.old.at (tag_of elem.old) (kids_of elem.old)) }
-    ensures kids { (ancestors : List Spot) (later : List ℕ) (so_far : Numbering) → here ≡ context_of ancestors
-        → walk.old.ends.now ≡ element_ends walk.old.at (tag_of elem.old) (kids_of elem.old) ++ later
-        → Every (IsFree moves.now) (element_seen ancestors walk.old.at (tag_of elem.old) (kids_of elem.old))
-        → IsNumbering moves.now numbers.old so_far
-        → kids_of elem.new ≡ labelled attribute_value (pairs moves.now) (spot walk.old.at (tag_of elem.old) (kids_of elem.old) ∷ ancestors) (walk.old.at + 1)
-        (counted (revision_of attribute_value (pairs moves.now) (seen_one ancestors walk.old.at (tag_of elem.old) (kids_of elem.old))) so_far) (kids_of elem.old) }
-    ensures numbers { (ancestors : List Spot) (later : List ℕ) (so_far : Numbering) → here ≡ context_of ancestors
-        → walk.old.ends.now ≡ element_ends walk.old.at (tag_of elem.old) (kids_of elem.old) ++ later
-        → Every (IsFree moves.now) (element_seen ancestors walk.old.at (tag_of elem.old) (kids_of elem.old))
-        → IsNumbering moves.now numbers.old so_far
-        → IsNumbering moves.now numbers.new (element_numbering (pairs moves.now) ancestors walk.old.at so_far (tag_of elem.old) (kids_of elem.old)) }
-{
-    let sight = Sight::of(moves, elem, here, walk.at);
-    let number = numbers.number(sight);
-    let inside = walk.inside(elem, here);
-    walk.at += 1;
-    elem.tag.set_label(sight.kind, number);
-    label_in_body(moves, &mut elem.body, inside, walk, numbers);
-    walk.at += 1;
-}
-
-/// Labels what an element holds.
-#[cycle(labels)]
-fn label_in_body(
-    moves: &Moves,
-    body: &mut Body,
-    here: Context,
-    walk: &mut Walk<'_>,
-    numbers: &mut Numbers,
-)
-    requires few { numbers.old.next + count (held_of body.old).kids < 2 ^ 32 }
-    requires fits { walk.old.at + tags (held_of body.old).kids < 2 ^ 64 }
-    ensures close { (held_of body.new).close ≡ (held_of body.old).close }
-    ensures at_most { numbers.new.next ≤ numbers.old.next + count (held_of body.old).kids }
-    ensures at { walk.new.at ≡ walk.old.at + tags (held_of body.old).kids }
-    ensures ends { (later : List ℕ) → walk.old.ends.now ≡ ends_from walk.old.at (held_of body.old).kids ++ later → walk.new.ends.now ≡ later }
-    ensures kids { (ancestors : List Spot) (later : List ℕ) (so_far : Numbering) → here ≡ context_of ancestors
-        → walk.old.ends.now ≡ ends_from walk.old.at (held_of body.old).kids ++ later
-        → Every (IsFree moves.now) (seen_from ancestors walk.old.at (held_of body.old).kids)
-        → IsNumbering moves.now numbers.old so_far
-        → (held_of body.new).kids ≡ labelled attribute_value (pairs moves.now) ancestors walk.old.at so_far (held_of body.old).kids }
-    ensures numbers { (ancestors : List Spot) (later : List ℕ) (so_far : Numbering) → here ≡ context_of ancestors
-        → walk.old.ends.now ≡ ends_from walk.old.at (held_of body.old).kids ++ later
-        → Every (IsFree moves.now) (seen_from ancestors walk.old.at (held_of body.old).kids)
-        → IsNumbering moves.now numbers.old so_far
-        → IsNumbering moves.now numbers.new (numbering_after attribute_value (pairs moves.now) ancestors walk.old.at so_far (held_of body.old).kids) }
-{
-    match body {
-        Body::Empty => {}
-        Body::Kids(kids) => label_nodes(moves, kids, here, walk, numbers),
-        Body::Spaced(spaced) => label_in_spaced(moves, spaced, here, walk, numbers),
-    }
-}
-
-// Apart from `label_in_body`, since a write through a box in a variant is proved in two steps.
-#[cycle(labels)]
-fn label_in_spaced(
-    moves: &Moves,
-    spaced: &mut Box<Spaced>,
-    here: Context,
-    walk: &mut Walk<'_>,
-    numbers: &mut Numbers,
-)
-    requires few { numbers.old.next + count (spaced_of spaced.old.value).kids < 2 ^ 32 }
-    requires fits { walk.old.at + tags (spaced_of spaced.old.value).kids < 2 ^ 64 }
-    ensures close { (spaced_of spaced.new.value).close ≡ (spaced_of spaced.old.value).close }
-    ensures at_most { numbers.new.next ≤ numbers.old.next + count (spaced_of spaced.old.value).kids }
-    ensures at { walk.new.at ≡ walk.old.at + tags (spaced_of spaced.old.value).kids }
-    ensures ends { (later : List ℕ) → walk.old.ends.now ≡ ends_from walk.old.at (spaced_of spaced.old.value).kids ++ later → walk.new.ends.now ≡ later }
-    ensures kids { (ancestors : List Spot) (later : List ℕ) (so_far : Numbering) → here ≡ context_of ancestors
-        → walk.old.ends.now ≡ ends_from walk.old.at (spaced_of spaced.old.value).kids ++ later
-        → Every (IsFree moves.now) (seen_from ancestors walk.old.at (spaced_of spaced.old.value).kids)
-        → IsNumbering moves.now numbers.old so_far
-        → (spaced_of spaced.new.value).kids ≡ labelled attribute_value (pairs moves.now) ancestors walk.old.at so_far (spaced_of spaced.old.value).kids }
-    ensures numbers { (ancestors : List Spot) (later : List ℕ) (so_far : Numbering) → here ≡ context_of ancestors
-        → walk.old.ends.now ≡ ends_from walk.old.at (spaced_of spaced.old.value).kids ++ later
-        → Every (IsFree moves.now) (seen_from ancestors walk.old.at (spaced_of spaced.old.value).kids)
-        → IsNumbering moves.now numbers.old so_far
-        → IsNumbering moves.now numbers.new (numbering_after attribute_value (pairs moves.now) ancestors walk.old.at so_far (spaced_of spaced.old.value).kids) }
-{
-    label_nodes(moves, &mut spaced.kids, here, walk, numbers);
 }

@@ -1,11 +1,8 @@
 //! The numbers that the elements of a story get, in the order of their start tags.
 
-ghost use Rattle.std.specs.Prelude.{◌≡◌, ◌+◌, ◌≤◌, ◌^◌, ◌<◌, ℕ, List, Option, get_or, set, length, is_some, option_map};
-ghost use Rattle.redl_tree.specs.Revisions.Moves.{Marking, Pair, place_of};
-ghost use Rattle.redl_tree.specs.Revisions.Numbers.{Numbering, in_own, in_move, membership, number_for, counted};
-ghost use Rattle.redl_moves.specs.Starts.{start_in};
+ghost use Rattle.std.specs.Prelude.{◌≡◌, ◌+◌, ◌^◌, ◌<◌, get_or, set, is_some};
 ghost use Rattle.redl_index.specs.Kinds.{kind_of};
-ghost use Rattle.redl_index.specs.Inside.Numberings.{IsNumbering, IsPlaced};
+ghost use Rattle.redl_index.specs.Inside.Numberings.{numbers_view, taken, number_at, given_at, number_given, given};
 
 use crate::story::Sight;
 use redl_tree::Kind;
@@ -23,11 +20,8 @@ impl Numbers {
     /// next number.
     pub(crate) fn number(&mut self, sight: Sight) -> u32
         requires few { self.old.next + 1 < 2 ^ 32 }
-        ensures at_most { self.new.next ≤ self.old.next + 1 }
-        ensures number { (marks : List Marking) (pair : Option Pair) (so_far : Numbering) → sight.start ≡ option_map (start_in marks) pair
-            → IsPlaced marks pair → IsNumbering marks self.old so_far → result ≡ number_for (membership sight.kind pair) so_far }
-        ensures counted { (marks : List Marking) (pair : Option Pair) (so_far : Numbering) → sight.start ≡ option_map (start_in marks) pair
-            → IsPlaced marks pair → IsNumbering marks self.old so_far → IsNumbering marks self.new (counted (membership sight.kind pair) so_far) }
+        ensures number { result ≡ number_given sight (numbers_view self.old) }
+        ensures given { numbers_view self.new ≡ given sight (numbers_view self.old) }
     {
         if !is_member(sight.kind) {
             return 0;
@@ -41,11 +35,8 @@ impl Numbers {
     /// The number of the move whose source starts with the marker at this place.
     fn number_of_move(&mut self, place: u32) -> u32
         requires few { self.old.next + 1 < 2 ^ 32 }
-        ensures at_most { self.new.next ≤ self.old.next + 1 }
-        ensures number { (marks : List Marking) (start : ℕ) (so_far : Numbering) → place ≡ place_of marks start → place < length marks
-            → IsNumbering marks self.old so_far → result ≡ number_for (in_move start) so_far }
-        ensures counted { (marks : List Marking) (start : ℕ) (so_far : Numbering) → place ≡ place_of marks start → place < length marks
-            → IsNumbering marks self.old so_far → IsNumbering marks self.new (counted (in_move start) so_far) }
+        ensures number { result ≡ number_at place (numbers_view self.old) }
+        ensures given { numbers_view self.new ≡ given_at place (numbers_view self.old) }
     {
         let known = self.known(place);
         if known != 0 {
@@ -60,8 +51,7 @@ impl Numbers {
     fn take(&mut self) -> u32
         requires few { self.old.next + 1 < 2 ^ 32 }
         ensures number { result ≡ self.old.next }
-        ensures next { self.new.next ≡ self.old.next + 1 }
-        ensures moves { self.new.moves.items ≡ self.old.moves.items }
+        ensures taken { numbers_view self.new ≡ taken (numbers_view self.old) }
     {
         let number = self.next;
         self.next += 1;

@@ -1,21 +1,17 @@
 //! One story: which move its elements are in.
 
-ghost use Rattle.std.specs.Prelude.{◌≡◌, [], List, find, get_or, option_map, IfSome, IsTrue};
-ghost use Rattle.redl_tree.specs.Model.Nodes.{Nodes};
+ghost use Rattle.std.specs.Prelude.{◌≡◌, [], get_or, option_map, IfSome, IsTrue};
 ghost use Rattle.redl_tree.specs.Revisions.Moves.{pairs};
-ghost use Rattle.redl_tree.specs.Revisions.Markers.{move_at, move_of, move_of_marker, whole_role};
-ghost use Rattle.redl_tree.specs.Model.Seen.{Spot, seen_one, tags_of};
+ghost use Rattle.redl_tree.specs.Revisions.Markers.{move_at};
 ghost use Rattle.redl_tree.specs.Model.View.{tag_of};
-ghost use Rattle.redl_tree.specs.Roles.Arounds.{around_of};
-ghost use Rattle.redl_stamp.specs.Attribute.{attribute_value};
+ghost use Rattle.redl_tree.specs.Roles.Arounds.{role_in};
 ghost use Rattle.redl_moves.specs.Standing.{IsApart};
 ghost use Rattle.redl_moves.specs.Starts.{start_in};
-ghost use Rattle.redl_markers.specs.Free.{IsFree};
-ghost use Rattle.redl_index.specs.Inside.Contexts.{context_of, move_by, IsApartAs, is_marker_by};
+ghost use Rattle.redl_index.specs.Inside.Contexts.{IsApartAs, is_marker_by};
 ghost use Rattle.redl_index.specs.Kinds.{kind_of, is_named};
 ghost use Rattle.redl_index.specs.Inside.Stories.{tails_in};
+ghost use Rattle.redl_index.specs.Inside.Sights.{marker_start, member_start, sight_at};
 
-use crate::context::Context;
 use redl_moves::{Half, Moves, Start};
 use redl_stamp::has_attribute;
 use redl_tree::{Around, Elem, Kind, Trace, is_range_edge};
@@ -48,33 +44,31 @@ impl<'a> Story<'_, 'a> {
 }
 
 impl Sight {
-    /// What an element is that has its start tag at this position, in a story with these moves.
-    pub(crate) fn of(moves: &Moves, elem: &Elem, here: Context, at: u64) -> Sight
+    /// What an element is that has its start tag at this position, in a story with these moves, where the nearest paragraph ends
+    /// at `para_end`. No marker may be where its role is.
+    pub(crate) fn of(moves: &Moves, elem: &Elem, around: Around, para_end: u64, at: u64) -> Sight
+        requires apart { IsApartAs moves.now (role_in around (tag_of elem.now)) at para_end }
+        ensures sight { result ≡ sight_at moves.now around para_end at (tag_of elem.now) }
         ensures named { IfSome (kind_of result.kind) (λ named. IsTrue (is_named named)) }
-        ensures kind { (ancestors : List Spot) (kids : Nodes) → here ≡ context_of ancestors → IsFree moves.now (seen_one ancestors at (tag_of elem.now) kids)
-            → result.kind ≡ whole_role attribute_value (pairs moves.now) (seen_one ancestors at (tag_of elem.now) kids) }
-        ensures start { (ancestors : List Spot) (kids : Nodes) → here ≡ context_of ancestors → IsFree moves.now (seen_one ancestors at (tag_of elem.now) kids)
-            → result.start ≡ option_map (start_in moves.now) (move_of attribute_value (pairs moves.now) (seen_one ancestors at (tag_of elem.now) kids)) }
     {
-        let marker = marker(moves, elem, here.around, at);
+        let marker = marker(moves, elem, around, at);
         if marker.is_some() {
             return Sight {
                 kind: Kind::Marker,
                 start: marker,
             };
         }
-        let kind = here.around.role(elem);
+        let kind = around.role(elem);
         Sight {
             kind,
-            start: member(moves, kind, at, here.para_end),
+            start: member(moves, kind, at, para_end),
         }
     }
 }
 
 /// Where the move starts of which an element is a marker.
 fn marker(moves: &Moves, elem: &Elem, around: Around, at: u64) -> Option<Start>
-    ensures { (ancestors : List Spot) (kids : Nodes) → around ≡ around_of (tags_of ancestors)
-        → result ≡ option_map (start_in moves.now) (move_of_marker attribute_value (pairs moves.now) (seen_one ancestors at (tag_of elem.now) kids)) }
+    ensures { result ≡ marker_start moves.now around at (tag_of elem.now) }
 {
     if is_marker(elem, around) {
         moves.at_marker(at)
@@ -86,7 +80,8 @@ fn marker(moves: &Moves, elem: &Elem, around: Around, at: u64) -> Option<Start>
 /// Where the move starts of which an element with this role is a member. Content is where it starts, and the mark of a paragraph
 /// where the paragraph ends.
 fn member(moves: &Moves, role: Kind, at: u64, para_end: u64) -> Option<Start>
-    ensures { IsApartAs moves.now role at para_end → result ≡ option_map (start_in moves.now) (move_by (pairs moves.now) role at para_end) }
+    requires apart { IsApartAs moves.now role at para_end }
+    ensures { result ≡ member_start moves.now role at para_end }
 {
     match role {
         Kind::Content(trace) => open_at(moves, trace, at),
@@ -97,7 +92,8 @@ fn member(moves: &Moves, role: Kind, at: u64, para_end: u64) -> Option<Start>
 
 /// Where the move starts that something with this trace is in at this position.
 fn open_at(moves: &Moves, trace: Trace, at: u64) -> Option<Start>
-    ensures { IsApart at moves.now → result ≡ option_map (start_in moves.now) (move_at (pairs moves.now) trace at) }
+    requires apart { IsApart at moves.now }
+    ensures { result ≡ option_map (start_in moves.now) (move_at (pairs moves.now) trace at) }
 {
     match trace {
         Trace::From => moves.open_at(Half::From, at),

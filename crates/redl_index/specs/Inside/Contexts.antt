@@ -1,11 +1,9 @@
 -- What is round an element of a story, as the code keeps it.
 use Rattle.std.specs.Prelude.{ℕ, List, [], ◌∷◌, Bool, ◌&&◌, not, codes, is_some, if◌then◌else◌, Option, None}
-use Rattle.redl_tree.specs.Model.Nodes.{Tag, Nodes}
-use Rattle.redl_tree.specs.Model.Kids.{has_element}
+use Rattle.redl_tree.specs.Model.Nodes.{Tag}
 use Rattle.redl_tree.specs.Roles.Names.{is}
-use Rattle.redl_tree.specs.Roles.Arounds.{around_of, inside_of}
 use Rattle.redl_tree.specs.Revisions.Moves.{Marking, Pair}
-use Rattle.redl_tree.specs.Model.Seen.{Spot, tags_of}
+use Rattle.redl_tree.specs.Model.Seen.{Spot}
 use Rattle.redl_tree.specs.Revisions.Markers.{move_at}
 use Rattle.redl_tree.specs.Roles.Places.{is_range_edge}
 use Rattle.redl_tree.specs.declared.around.Around.{Around}
@@ -13,27 +11,11 @@ use Rattle.redl_tree.specs.declared.kinds.Kind.{Kind}
 use Rattle.redl_tree.specs.declared.kinds.Kind.TheVariants.{Content, Mark}
 use Rattle.redl_stamp.specs.Attribute.{attribute_value}
 use Rattle.redl_moves.specs.Standing.{IsApart}
-use Rattle.redl_index.specs.declared.context.Context.{Context}
 
 -- the end of the nearest paragraph
 abbrev pub para_end : List Spot → ℕ
 para_end [] = 0
 para_end (spot ∷ ancestors) = if is "p" spot.tag then spot.end else para_end ancestors
-
--- what these ancestors are to an element
-abbrev pub context_of : List Spot → Context
-context_of ancestors = record { around = around_of (tags_of ancestors); para_end = para_end ancestors }
-
--- the same with this element as the nearest ancestor, which ends there
-abbrev pub inside_context : Tag → ℕ → Context → Context
-inside_context tag end here = record {
-  around = inside_of tag here.around;
-  para_end = if is "p" tag then end else here.para_end;
-}
-
--- the same, but for an element that holds no element, where nothing is below
-abbrev pub context_below : Tag → Nodes → ℕ → Context → Context
-context_below tag kids end here = if has_element kids then inside_context tag end here else here
 
 -- The move of an element with this role, by where its own start tag and the end tag of its paragraph are: a mark is at the
 -- end of its paragraph.

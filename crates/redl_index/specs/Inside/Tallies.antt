@@ -1,28 +1,35 @@
 -- What has been found after some elements of a story, one element after the other.
-use Rattle.std.specs.Prelude.{ℕ, ◌+◌, ◌-◌, ◌^◌, ◌≡◌, nat_lt, nat_eq, List, [], ◌∷◌, ◌++◌, ◌==◌, ◌&&◌, not, Bool, set, slice_get, Option, Some, None, length, if◌then◌else◌}
-use Rattle.indexmap.specs.IndexMap.{get}
-use Rattle.redl_tree.specs.Revisions.Numbers.{Numbered, number_of_move}
+use Rattle.std.specs.Prelude.{ℕ, ◌+◌, ◌-◌, ◌^◌, nat_lt, nat_eq, List, [], ◌∷◌, ◌++◌, ◌==◌, ◌&&◌, not, Bool, set, slice_get, Option, Some, None, length, if◌then◌else◌}
+use Rattle.std.specs.Map.{lookup}
+use Rattle.indexmap.specs.IndexMap.{insert_entry}
 use Rattle.redl_index.specs.Mentions.{Mention, Sight}
 use Rattle.redl_index.specs.Revisions.{revision_of}
 use Rattle.redl_index.specs.declared.revision.Revision.{Revision}
 use Rattle.redl_index.specs.declared.found.Found.{Found}
 
--- the revisions so far, and the moves of the story that have a number
+-- the revisions so far, and the moves of the story that have a number, each by where its source starts
 pub record Tally : Type 0 where
   pub index : List Revision
-  pub moves : List Numbered
+  pub moves : List (ℕ × ℕ)
+
+abbrev pub tally_of : Found → Tally
+tally_of found = record { index = found.index; moves = found.moves.entries }
 
 abbrev pub next_number : Tally → ℕ
 next_number tally = 1 + length tally.index
 
--- the number that a move has so far
-abbrev pub known_number : List Numbered → Option ℕ → Option ℕ
-known_number moves None = None
-known_number moves (Some start) = number_of_move moves start
+-- the number of the move whose source starts at this position, if it has one
+abbrev pub move_number : List (ℕ × ℕ) → ℕ → Option ℕ
+move_number moves start = lookup (nat_eq start) moves
 
-abbrev pub with_move : Option ℕ → ℕ → List Numbered → List Numbered
+-- the number that a move has so far
+abbrev pub known_number : List (ℕ × ℕ) → Option ℕ → Option ℕ
+known_number moves None = None
+known_number moves (Some start) = move_number moves start
+
+abbrev pub with_move : Option ℕ → ℕ → List (ℕ × ℕ) → List (ℕ × ℕ)
 with_move None number moves = moves
-with_move (Some start) number moves = record { start = start; number = number } ∷ moves
+with_move (Some start) number moves = insert_entry nat_eq moves start number
 
 -- a revision with one member more, as far as 32 bits count
 abbrev pub with_one_more : Revision → Revision
@@ -62,8 +69,3 @@ noted part tally sight = noted_by part tally sight.mention
 abbrev pub noted_all : ℕ → Tally → List Sight → Tally
 noted_all part tally [] = tally
 noted_all part tally (sight ∷ sights) = noted_all part (noted part tally sight) sights
-
--- what code has found is that
-pub record IsTally (found : Found) (tally : Tally) : Type 0 where
-  pub index : found.index ≡ tally.index
-  pub moves : (start : ℕ) → get nat_eq found.moves start ≡ number_of_move tally.moves start

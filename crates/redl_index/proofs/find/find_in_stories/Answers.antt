@@ -10,7 +10,7 @@ use Rattle.redl_index.specs.Known.{known_in}
 use Rattle.redl_index.specs.Revisions.{numbered, revisions_in, revisions_from}
 use Rattle.redl_index.specs.declared.revision.Revision.{Revision}
 use Rattle.redl_index.proofs.RevisionLaws.{found-part}
-use Rattle.redl_index.proofs.UnlabelledLaws.{known-at}
+use Rattle.redl_index.proofs.KnownLaws.{known-at}
 use Rattle.redl_index.proofs.find.find_in_stories.Goals as goal
 
 pub loop-part-init : goal.loop-part-init
@@ -30,13 +30,13 @@ loop-part-preserved c =
     let root = element_of c.in-Some.root.now in
     let is_story : story pkg part ≡ Some root = c.in-Some.ensures.value in
     let within : part < length (parts_of pkg) = omega (arith, c.parts-part-end.ensures.value, c.loop-part-test.true) in
-    let now = c.find_in_story.new.found.index in
+    let now = c.in_ok-found.found.index in
     let now_is : now ≡ old ++ numbered (1 + length old) (revisions_in part (story pkg part)) =
-    c.in_ok-find_in_story.ensures.index ∙ ap (λ o. old ++ numbered (1 + length old) (revisions_in part o)) (sym is_story) in
+    c.in_ok-found.ensures.index ∙ ap (λ o. old ++ numbered (1 + length old) (revisions_in part o)) (sym is_story) in
     let here : stories_from part pkg ≡ story_view root ∷ stories_from (part + 1) pkg =
     stories_from-part pkg part within ∙ ap (λ o. option_to_list (option_map story_view o) ++ stories_from (part + 1) pkg) is_story in
     record {
-      at_most = omega (arith, c.in_ok-find_in_story.ensures.at_most, count_from-story pkg part root within is_story, c.loop-part.invariant.at_most);
+      at_most = omega (arith, c.in_ok-found.ensures.at_most, count_from-story pkg part root within is_story, c.loop-part.invariant.at_most);
       found = found-part pkg part within old now now_is ∙ c.loop-part.invariant.found;
       known = (known-at c.args.known.now c.loop-part.place (known_in (story_view root)) (map known_in (stories_from (part + 1) pkg)) (c.loop-part.invariant.known ∙ ap (map known_in) here)).later;
     }

@@ -1,0 +1,36 @@
+-- What an element of a story is, by what is handed down to it, and how a walk goes on behind its start tag.
+use Rattle.std.specs.Prelude.{ℕ, List, drop, find, get_or, is_some, option_map, Option, None, if◌then◌else◌}
+use Rattle.redl_tree.specs.Model.Nodes.{Tag}
+use Rattle.redl_tree.specs.Roles.Names.{is}
+use Rattle.redl_tree.specs.Roles.Arounds.{role_in}
+use Rattle.redl_tree.specs.Revisions.Moves.{Marking, pairs, is_of_pair}
+use Rattle.redl_tree.specs.declared.around.Around.{Around}
+use Rattle.redl_tree.specs.declared.kinds.Kind.{Kind}
+use Rattle.redl_tree.specs.declared.kinds.Kind.TheVariants.{Marker}
+use Rattle.redl_moves.specs.Starts.{start_in}
+use Rattle.redl_moves.specs.declared.start.Start.{Start}
+use Rattle.redl_index.specs.Inside.Contexts.{move_by, is_marker_by}
+use Rattle.redl_index.specs.declared.story.Sight.{Sight}
+
+-- where the move starts of which an element is a marker, whose start tag has this position
+abbrev pub marker_start : List Marking → Around → ℕ → Tag → Option Start
+marker_start marks around at tag = option_map (start_in marks) (if is_marker_by around tag then find (is_of_pair at) (pairs marks) else None)
+
+-- where the move starts of which an element with this role is a member, whose nearest paragraph ends there
+abbrev pub member_start : List Marking → Kind → ℕ → ℕ → Option Start
+member_start marks role at end = option_map (start_in marks) (move_by (pairs marks) role at end)
+
+-- what an element is: a marker of a move, or what its role makes of it
+abbrev pub sight_at : List Marking → Around → ℕ → ℕ → Tag → Sight
+sight_at marks around end at tag =
+    if is_some (marker_start marks around at tag) then record { kind = Marker; start = marker_start marks around at tag }
+    else record { kind = role_in around tag; start = member_start marks (role_in around tag) at end }
+
+-- where the nearest paragraph ends for the kids of an element: `ends` are those of the paragraphs that start from the element on,
+-- and `other` is that for the element itself
+abbrev pub next_end : Tag → List ℕ → ℕ → ℕ
+next_end tag ends other = if is "p" tag then get_or ends 0 0 else other
+
+-- the ends behind the start tag of an element
+abbrev pub ends_after : Tag → List ℕ → List ℕ
+ends_after tag ends = if is "p" tag then drop 1 ends else ends
