@@ -4,7 +4,7 @@ use Rattle.std.proofs.lemmas.List.{length-map}
 use Rattle.std.proofs.lemmas.List.Elements.{filter_map-append}
 use Rattle.redl_tree.specs.Model.Count.{count}
 use Rattle.redl_tree.specs.Model.Nodes.{Tag, Nodes, no_nodes, bytes, element}
-use Rattle.redl_tree.specs.Model.Seen.{Spot, spot, seen_one, seen_from, tags, tags_of, root_spots}
+use Rattle.redl_tree.specs.Model.Seen.{Spot, spot, Seen, seen_one, seen_from, tags, tags_of, root_spots}
 use Rattle.redl_tree.specs.Revisions.Moves.{Marking}
 use Rattle.redl_tree.specs.Revisions.Markers.{marker_of}
 use Rattle.redl_stamp.specs.Attribute.{attribute_value}
@@ -18,13 +18,12 @@ use Rattle.redl_visit.proofs.SummaryLaws.{ancestors_of-∷}
 use Rattle.redl_markers.specs.declared.trail.Trail.{Trail}
 use Rattle.redl_markers.specs.declared.trail.Below.{Below}
 use Rattle.redl_markers.specs.Trails.{trail_of, inside_trail, trail_below, below_root}
-use Rattle.redl_markers.specs.Ends.{ends_from}
+use Rattle.redl_markers.specs.Ends.{one_end, ends_from}
 use Rattle.redl_markers.specs.Found.{markers_of, marker_tail}
-use Rattle.redl_markers.specs.Walks.{element_seen, element_ends}
 use Rattle.redl_markers.specs.Finding.{Finding, nothing_found, all_found, finder_rule, finder_needs}
 use Rattle.redl_markers.proofs.RiseLaws.{between-rises, story-between}
 use Rattle.redl_markers.proofs.StoryLaws.{tags-count, few-found}
-use Rattle.redl_markers.proofs.WalkLaws.{mended, element-more, trail-inside}
+use Rattle.redl_markers.proofs.ElementLaws.{mended, element-more, trail-inside}
 
 -- ---- what is found among nodes
 
@@ -37,6 +36,13 @@ handed trail place = record { trail = trail; place = place }
 same : (m n : List Marking) (t u : List (List ℕ)) (e f : List ℕ) (a b : ℕ) → m ≡ n → t ≡ u → e ≡ f → a ≡ b →
     finding m t e a ≡ finding n u f b
 same m n t u e f a b p q r w = rw (p, q, r, w) refl
+
+-- the elements in an element, itself included, and the ends of the paragraphs among them
+abbrev element_seen : List Spot → ℕ → Tag → Nodes → List Seen
+element_seen spots at tag kids = seen_one spots at tag kids ∷ seen_from (spot at tag kids ∷ spots) (at + 1) kids
+
+abbrev element_ends : ℕ → Tag → Nodes → List ℕ
+element_ends at tag kids = one_end tag (at + 1 + tags kids) ++ ends_from (at + 1) kids
 
 -- with what is found among nodes with these ancestors
 abbrev grown : List Spot → Nodes → Finding → Finding

@@ -1,6 +1,6 @@
 -- Which positions of a story are free of markers.
-use Rattle.std.proofs.Common.{◌≡◌, ◌∙◌, refl, ap, sym, subst, ℕ, ◌+◌, List, [], ◌∷◌, ◌++◌, Bool, true, false, true≢false, ◌||◌, Option, Some, None, option_map, option_and_then, codes, arith, if◌then◌else◌}
-use Rattle.redl_tree.specs.Model.Nodes.{Tag, Nodes, no_nodes, bytes, element, Item, in_front}
+use Rattle.std.proofs.Common.{◌≡◌, ◌∙◌, refl, ap, sym, ℕ, ◌+◌, List, [], ◌∷◌, ◌++◌, Bool, true, false, true≢false, ◌||◌, Option, Some, None, option_map, option_and_then, codes, arith, if◌then◌else◌}
+use Rattle.redl_tree.specs.Model.Nodes.{Tag, Nodes, no_nodes, bytes, element}
 use Rattle.redl_tree.specs.Roles.Names.{is, is_any}
 use Rattle.redl_tree.specs.Roles.Places.{is_open, role, placed, first_role, change_at, in_props, trace_of, is_range_edge, in_mark_props, in_row_props, in_cell_props, row_trace_of, cell_trace_of, prop_of}
 use Rattle.redl_tree.specs.Model.Seen.{Spot, spot, Seen, seen_from, seen, root_spots, tags, tags_of}
@@ -16,12 +16,10 @@ use Rattle.redl_stamp.specs.Attribute.{attribute_value}
 use Rattle.redl_moves.specs.Standing.{IsApart}
 use Rattle.redl_markers.specs.Found.{markers_of}
 use Rattle.redl_markers.specs.Free.{Every, AreFreeEnds, IsFree}
-use Rattle.redl_markers.specs.Walks.{item_tags, item_seen}
 use Rattle.redl_markers.proofs.ApartLaws.{Free, seen-free, apart-is, apart-above}
 use Rattle.redl_markers.proofs.RiseLaws.{story-between}
-use Rattle.redl_markers.proofs.WalkLaws.{seen-in_front}
 
--- ---- facts on each element, along a walk
+-- ---- facts on each element of a list
 
 pub every-left : {X : Type 0} (P : X → Type 0) (xs ys : List X) → Every P (xs ++ ys) → Every P xs
 every-left P [] ys a = tt
@@ -34,17 +32,6 @@ every-right P (x ∷ xs) ys a = every-right P xs ys a.1
 every-both : {X : Type 0} (P Q R : X → Type 0) (xs : List X) → ((x : X) → P x → Q x → R x) → Every P xs → Every Q xs → Every R xs
 every-both P Q R [] f p q = tt
 every-both P Q R (x ∷ xs) f p q = (f x p.0 q.0, every-both P Q R xs f p.1 q.1)
-
-module _ (P : Seen → Type 0) (ancestors : List Spot) (at next : ℕ) (x : Item) (rest nodes : Nodes) (moved : next ≡ at + item_tags x) (splits : nodes ≡ in_front x rest) where
-  -- of the nodes that are left: of the first of them, and of those after it
-  pub every-step : Every P (seen_from ancestors at nodes) → Every P (item_seen ancestors at x) × Every P (seen_from ancestors next rest)
-  every-step all =
-      let whole : Every P (item_seen ancestors at x ++ seen_from ancestors (at + item_tags x) rest) =
-      subst (Every P) (ap (seen_from ancestors at) splits ∙ seen-in_front ancestors at x rest) all in
-      let later : ℕ → Type 0 = λ n. Every P (seen_from ancestors n rest) in (
-        every-left P (item_seen ancestors at x) (seen_from ancestors (at + item_tags x) rest) whole,
-        subst later (sym moved) (every-right P (item_seen ancestors at x) (seen_from ancestors (at + item_tags x) rest) whole),
-      )
 
 -- ---- the ends of the ancestors
 

@@ -5,7 +5,7 @@ use Rattle.redl_tree.specs.Revisions.Markers.{is_cell_revision}
 use Rattle.redl_tree.specs.Roles.Places.{cell_trace_of}
 use Rattle.redl_tree.specs.Model.View.{nodes_of, item_of}
 use Rattle.redl_tree.proofs.Laws.{nodes_here}
-use Rattle.redl_markers.proofs.WalkLaws.{revised-here}
+use Rattle.redl_markers.proofs.ElementLaws.{revised-here}
 use Rattle.redl_markers.proofs.revised.is_cell_revision.Goals as goal
 
 pub returns-then-makes_cell_revision : goal.returns-then-makes_cell_revision
