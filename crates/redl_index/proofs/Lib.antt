@@ -8,6 +8,7 @@ pub mod LabelLaws
 pub mod NumberingLaws
 pub mod NumbererLaws
 pub mod KnownLaws
+pub mod SurveyLaws
 pub mod UnlabelledLaws
 pub mod RevisionLaws
 pub mod PartLaws

@@ -7,6 +7,8 @@ use Rattle.redl_tree.specs.Model.Count.{count}
 use Rattle.redl_tree.specs.Model.Nodes.{Tag, Nodes}
 use Rattle.redl_tree.specs.Model.View.{Parts}
 use Rattle.redl_tree.specs.Revisions.Moves.{Marking}
+use Rattle.redl_moves.specs.Marks.{markings}
+use Rattle.redl_markers.specs.declared.markers.StoryMarkers.{StoryMarkers}
 use Rattle.redl_markers.specs.Ends.{ends_from}
 use Rattle.redl_markers.specs.Found.{markers_of, marker_tails}
 use Rattle.redl_index.specs.declared.known.Known.{Known}
@@ -24,6 +26,15 @@ known_of known = record {
   tails = map (λ tail. tail.now) known.tails.items;
   ends = known.ends.items;
   numbers = known.numbers.moves.items;
+}
+
+-- the same by what was found in it, where no move has a number yet
+abbrev pub known_by : StoryMarkers → Marked
+known_by found = record {
+  marks = markings found.marks.items;
+  tails = map (λ tail. tail.now) found.tails.items;
+  ends = found.ends.items;
+  numbers = replicate (length (markings found.marks.items)) 0;
 }
 
 abbrev pub parts_by : Tag → Nodes → Parts

@@ -1,14 +1,15 @@
 //! What is known of the stories of a package before their revisions are numbered.
 
-ghost use Rattle.std.specs.Prelude.{◌≡◌, ◌<◌, ◌^◌, map, None, IfOk};
+ghost use Rattle.std.specs.Prelude.{◌≡◌, ◌<◌, ◌^◌, map, length, None, IfOk};
 ghost use Rattle.redl_tree.specs.Model.Count.{count};
 ghost use Rattle.redl_tree.specs.Model.View.{tag_of, kids_of};
 ghost use Rattle.redl_tree.specs.Decisions.Packages.{stories};
 ghost use Rattle.redl_opc.specs.Shape.{refusal};
-ghost use Rattle.redl_index.specs.Known.{known_of, known_in, parts_by};
+ghost use Rattle.redl_moves.specs.Marks.{markings, RisesFrom};
+ghost use Rattle.redl_index.specs.Known.{known_of, known_by, known_in, parts_by};
 
 use crate::numbers::Numbers;
-use redl_markers::find_markers;
+use redl_markers::{StoryMarkers, find_markers};
 use redl_moves::Moves;
 use redl_opc::Package;
 use redl_tree::Elem;
@@ -49,7 +50,18 @@ impl<'a> Known<'a> {
         requires few { count (kids_of root.now) < 2 ^ 32 }
         ensures { IfOk result (λ known. known_of known ≡ known_in (parts_by (tag_of root.now) (kids_of root.now))) }
     {
-        let found = find_markers(alloc, root)?;
+        Known::of_markers(alloc, find_markers(alloc, root)?)
+    }
+
+    /// What is known of the story whose markers and ends these are. `Err` means out of memory.
+    pub(crate) fn of_markers(
+        alloc: Global,
+        found: StoryMarkers<'a>,
+    ) -> Result<Known<'a>, AllocError>
+        requires few { length found.marks.items < 2 ^ 32 }
+        requires rising { RisesFrom 0 (markings found.marks.items) }
+        ensures { IfOk result (λ known. known_of known ≡ known_by found.entry) }
+    {
         let numbers = vec![in alloc; 0; found.marks.len()]?;
         Ok(Known {
             moves: Moves::of(alloc, found.marks)?,

@@ -1,16 +1,25 @@
 //! A package before it is numbered, with what one look at its stories gives.
 
-ghost use Rattle.std.specs.Prelude.{◌≡◌, All, length, IfOk};
+ghost use Rattle.std.specs.Prelude.{◌≡◌, ◌^◌, ◌<◌, [], All, length, map, None, IfOk};
+ghost use Rattle.redl_tree.specs.Decisions.Packages.{stories};
+ghost use Rattle.redl_tree.specs.Model.Count.{count};
 ghost use Rattle.redl_tree.specs.Model.Text.{text};
+ghost use Rattle.redl_tree.specs.Model.View.{tag_of, kids_of};
+ghost use Rattle.redl_opc.specs.Shape.{refusal};
 ghost use Rattle.redl_rules.specs.Attributes.{broken_rule as broken_rule_of};
+ghost use Rattle.redl_rules.specs.Keeping.{element_kept, kept_among};
+ghost use Rattle.redl_index.specs.Known.{known_of, known_in, parts_by};
 ghost use Rattle.redl_index.specs.Numbers.{numbered_package, package_revisions};
 ghost use Rattle.redl_index.specs.Revisions.{IsInStory, revisions_of};
 
 use crate::index::Index;
-use crate::known::{Known, known_stories};
+use crate::known::Known;
 use crate::label::label_stories;
+use redl_markers::{Below, Finder};
 use redl_opc::Package;
-use redl_rules::{RuleError, check};
+use redl_rules::{Keeper, Kept};
+use redl_tree::Elem;
+use redl_visit::{Ancestors, Both, visit_kids};
 use std::alloc::{AllocError, Global};
 use std::marker::Model;
 
@@ -59,11 +68,10 @@ impl<'a> Surveyed<'a> {
     pub fn of(alloc: Global, pkg: Package<'a>) -> Result<Surveyed<'a>, AllocError>
         ensures { IfOk result (λ surveyed. surveyed ≡ pkg.entry) }
     {
-        let broken = broken_rule(alloc, &pkg);
-        let stories = known_stories(alloc, &pkg)?;
+        let (kept, stories) = survey_stories(alloc, &pkg)?;
         Ok(Surveyed {
             package: pkg,
-            broken,
+            broken: kept.least_broken(),
             stories,
         })
     }
@@ -107,12 +115,43 @@ impl<'a> Surveyed<'a> {
     }
 }
 
-/// The least rule that a package breaks.
-fn broken_rule(alloc: Global, pkg: &Package) -> Option<u8>
-    ensures { result ≡ broken_rule_of pkg.now }
+/// Which rules hold in all stories of a package, and what is known of each of them, in their order. `Err` means out of memory.
+fn survey_stories<'a>(
+    alloc: Global,
+    pkg: &Package<'a>,
+) -> Result<(Kept, Vec<Known<'a>>), AllocError>
+    ensures rules { IfOk result (λ seen. seen.0 ≡ kept_among (stories pkg.now)) }
+    ensures known { IfOk result (λ seen. map known_of seen.1.items ≡ map known_in (stories pkg.now)) }
+    ensures shape { IfOk result (λ seen. refusal pkg.now ≡ None) }
+    ensures few { IfOk result (λ seen. count pkg.now < 2 ^ 32) }
 {
-    match check(alloc, pkg) {
-        Err(RuleError::Broken(rule)) => Some(rule),
-        _ => None,
+    let mut kept = Kept::all();
+    let mut known = Vec::new(alloc);
+    for part in 0..pkg.parts() {
+        let Some(root) = pkg.story(part) else {
+            continue;
+        };
+        let (rules, story) = survey_story(alloc, root)?;
+        kept = kept.and(rules);
+        known.push(story)?;
     }
+    Ok((kept, known))
+}
+
+/// Which rules hold in the story with this root, and what is known of it, by one walk. `Err` means out of memory.
+fn survey_story<'a>(alloc: Global, root: &Elem<'a>) -> Result<(Kept, Known<'a>), AllocError>
+    requires few { count (kids_of root.now) < 2 ^ 32 }
+    ensures rules { IfOk result (λ seen. seen.0 ≡ element_kept [] (tag_of root.now) (kids_of root.now)) }
+    ensures known { IfOk result (λ seen. known_of seen.1 ≡ known_in (parts_by (tag_of root.now) (kids_of root.now))) }
+{
+    let inner = Ancestors::none().inside(root);
+    let (keeper, round) = Keeper::<AllocError>::at_root(root);
+    let below = Below::of_root(root);
+    let mut both = Both {
+        first: keeper,
+        second: Finder::new(alloc),
+    };
+    visit_kids(root, &inner, &(round, below), &mut both)?;
+    let known = Known::of_markers(alloc, both.second.found)?;
+    Ok((both.first.kept, known))
 }
