@@ -1,7 +1,7 @@
 //! A document that is opened.
 
 use redl_editor::Editor;
-use redl_index::Index;
+use redl_index::number;
 use redl_opc::{OpcError, Package};
 use redl_rules::{RuleError, check};
 use redl_xml::XmlError;
@@ -25,6 +25,6 @@ pub(crate) fn open(alloc: Global, text: &[u8]) -> Result<Option<Editor>, AllocEr
         Err(RuleError::NoMemory) => return Err(AllocError),
         Err(RuleError::Broken(_)) => return Ok(None),
     }
-    let index = Index::build(alloc, &mut pkg)?;
-    Ok(Some(Editor::new(alloc, pkg, index.count())?))
+    let count = number(alloc, &mut pkg)?;
+    Ok(Some(Editor::new(alloc, pkg, count)?))
 }

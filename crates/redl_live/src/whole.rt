@@ -3,7 +3,7 @@
 use crate::open::open;
 use crate::setting::set;
 use redl_editor::{Change, Editor};
-use redl_io::{Failed, Sink};
+use redl_io::{Failed, Sink, Staged};
 use redl_tree::Say;
 use std::alloc::{AllocError, Global};
 
@@ -40,12 +40,23 @@ pub(crate) fn write_whole<K: Sink>(
 ) -> Result<(), Stopped> {
     if let Some(mut editor) = open(alloc, text)? {
         set_all(alloc, way, &mut editor)?;
-        editor.write(out)?;
+        write_staged(&editor, out)?;
     }
     Ok(())
 }
 
 fn set_all(alloc: Global, way: Way, editor: &mut Editor) -> Result<(), AllocError> {
+    match way {
+        Way::Undecided => Ok(()),
+        Way::AtOnce => set(editor, &acceptances(alloc, editor)?),
+        Way::OneByOne => acceptances(alloc, editor)?
+            .iter()
+            .try_for_each(|change| set(editor, &[*change])),
+    }
+}
+
+// That each revision is accepted, in their order.
+fn acceptances(alloc: Global, editor: &Editor) -> Result<Vec<Change>, AllocError> {
     let mut changes = Vec::new(alloc);
     // There are fewer than 2^32 revisions.
     let count = u32::try_from(editor.says().len()).unwrap_or(u32::MAX);
@@ -55,13 +66,14 @@ fn set_all(alloc: Global, way: Way, editor: &mut Editor) -> Result<(), AllocErro
             say: Say::Accept,
         })?;
     }
-    match way {
-        Way::Undecided => Ok(()),
-        Way::AtOnce => set(editor, &changes),
-        Way::OneByOne => changes
-            .iter()
-            .try_for_each(|change| set(editor, &[*change])),
-    }
+    Ok(changes)
+}
+
+// Writes the document through a stage, as `redline` writes, so that both can be compared.
+fn write_staged<K: Sink>(editor: &Editor, out: &mut K) -> Result<(), Failed> {
+    let mut staged = Staged::new(out);
+    editor.write(&mut staged)?;
+    staged.finish()
 }
 
 /// Why a package was not written.
