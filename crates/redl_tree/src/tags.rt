@@ -1,20 +1,20 @@
 //! Start tags, as they stand in the input.
 
-ghost use Rattle.std.specs.Prelude.{◌≡◌, ◌++◌, codes, IfSome};
-ghost use Rattle.redl_tree.specs.Model.Cuts.{IsCut};
+ghost use Rattle.std.specs.Prelude.{◌≡◌, ◌++◌, ◌&&◌, bytes_eq, codes, take, drop, IfSome};
+ghost use Rattle.redl_tree.specs.Model.Cuts.{IsCut, is_live as is_live_number};
 ghost use Rattle.redl_tree.specs.Model.Starts.{start_in, local_in};
 ghost use Rattle.redl_tree.specs.Model.Text.{prefix_text, name_text};
+ghost use Rattle.redl_tree.specs.Roles.Names.{is_w};
+ghost use Rattle.redl_tree.specs.Roles.Words.{name_of};
 
 use crate::kinds::{Kind, Space};
+use crate::word::{Word, number_in};
 use std::marker::Model;
 
-/// Which local name an element has: the one in its start tag, or `t` or `instrText`, since its deleted text is live again.
-#[derive(Clone, Copy)]
-pub(crate) enum Local {
-    Own,
-    Text,
-    Instruction,
-}
+// The number of a tag whose local name is `t`, and of one whose name is `instrText`, since its deleted text is live again.
+const TEXT: u8 = 254;
+
+const INSTRUCTION: u8 = 255;
 
 /// The start tag of an element, with the element's namespace, its kind and the number of its revision.
 ///
@@ -30,7 +30,8 @@ pub struct Tag<'a> {
     rev: u32,
     kind: Kind,
     space: Space,
-    local: Local,
+    // The number of the word that the local name is, 0 where it is none, or that of a name that is live again.
+    word: u8,
 }
 
 impl<'a> Model for Tag<'a> {
@@ -58,6 +59,32 @@ fn local_read(text: &[u8], prefix: u32, name: u32) -> &[u8]
     &name[prefix as usize + 1..]
 }
 
+// The name in it, with its prefix and colon.
+#[inline(always)]
+fn name_read(text: &[u8], prefix: u32, name: u32) -> &[u8]
+    requires { IsCut text.now prefix name }
+    ensures { result.now ≡ name_text (take prefix text.now) (local_in text.now prefix name) }
+{
+    &text[..name as usize]
+}
+
+// All of it: the name and the tail.
+#[inline(always)]
+fn text_read(text: &[u8], prefix: u32, name: u32) -> &[u8]
+    requires { IsCut text.now prefix name }
+    ensures { result.now ≡ name_text (take prefix text.now) (local_in text.now prefix name) ++ drop name text.now }
+{
+    text
+}
+
+// Whether the number is that of a name that is live again.
+#[inline(always)]
+fn is_live(word: u8) -> bool
+    ensures { result ≡ is_live_number word }
+{
+    word == TEXT || word == INSTRUCTION
+}
+
 impl<'a> Tag<'a> {
     /// The start tag with this text, which is all between `<` and `>` or `/>`, of an element that is in no revision. The
     /// prefix has `prefix` bytes, 0 where there is none, and the name has `name` bytes with its prefix and colon.
@@ -72,7 +99,7 @@ impl<'a> Tag<'a> {
             rev: 0,
             kind: Kind::Plain,
             space,
-            local: Local::Own,
+            word: number_in(space, local_read(text, prefix, name)),
         }
     }
 
@@ -87,7 +114,7 @@ impl<'a> Tag<'a> {
             rev: self.rev,
             kind: self.kind,
             space: self.space,
-            local: self.local,
+            word: self.word,
         }
     }
 
@@ -103,10 +130,10 @@ impl<'a> Tag<'a> {
     pub fn local(&self) -> &'a [u8]
         ensures { result.now ≡ self.now.local }
     {
-        match self.local {
-            Local::Own => local_read(self.text, self.prefix, self.name),
-            Local::Text => b"t",
-            Local::Instruction => b"instrText",
+        match self.word {
+            TEXT => b"t",
+            INSTRUCTION => b"instrText",
+            _ => local_read(self.text, self.prefix, self.name),
         }
     }
 
@@ -123,6 +150,14 @@ impl<'a> Tag<'a> {
         ensures { result ≡ self.now.space }
     {
         self.space
+    }
+
+    /// Whether the local name is this one, in the namespace of WordprocessingML.
+    #[inline(always)]
+    pub fn is_word(&self, word: Word) -> bool
+        ensures { result ≡ (is_w self.now.space && bytes_eq self.now.local (name_of word)) }
+    {
+        self.word == word.number()
     }
 
     /// The kind of the element in its revision.
@@ -151,14 +186,14 @@ impl<'a> Tag<'a> {
     pub(crate) fn name_text(&mut self)
         ensures { self.new ≡ record self.old { local = codes "t" } }
     {
-        self.local = Local::Text;
+        self.word = TEXT;
     }
 
     /// Gives the element the local name `instrText`.
     pub(crate) fn name_instruction(&mut self)
         ensures { self.new ≡ record self.old { local = codes "instrText" } }
     {
-        self.local = Local::Instruction;
+        self.word = INSTRUCTION;
     }
 
     /// The prefix and its colon, or nothing where there is no prefix.
@@ -172,22 +207,24 @@ impl<'a> Tag<'a> {
     }
 
     /// The name as it stands in the input, if the element has that name still.
+    #[tactic(auto, using(crate::proofs::WordLaws::own_name))]
     pub(crate) fn name_read(&self) -> Option<&'a [u8]>
         ensures { IfSome result (λ name. name.now ≡ name_text self.now.prefix self.now.local) }
     {
-        match self.local {
-            Local::Own => Some(&self.text[..self.name as usize]),
-            _ => None,
+        if is_live(self.word) {
+            return None;
         }
+        Some(name_read(self.text, self.prefix, self.name))
     }
 
     /// All between `<` and `>` or `/>` as it stands in the input, if the element has its name from there still.
+    #[tactic(auto, using(crate::proofs::WordLaws::own_name))]
     pub(crate) fn text_read(&self) -> Option<&'a [u8]>
         ensures { IfSome result (λ text. text.now ≡ name_text self.now.prefix self.now.local ++ self.now.tail) }
     {
-        match self.local {
-            Local::Own => Some(self.text),
-            _ => None,
+        if is_live(self.word) {
+            return None;
         }
+        Some(text_read(self.text, self.prefix, self.name))
     }
 }
