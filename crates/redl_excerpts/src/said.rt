@@ -9,7 +9,7 @@ ghost use Rattle.redl_excerpts.specs.Said.{all_plain_from, element_said, holds_t
 
 use crate::ear::Ear;
 use redl_shown::{Piece, next_shown, start};
-use redl_tree::{Elem, Node, is_named, is_quiet};
+use redl_tree::{Elem, Node, Word, is_named, is_quiet, is_word};
 use std::alloc::AllocError;
 
 /// Tells what nodes say, in a line or not. `Err` means out of memory.
@@ -123,14 +123,17 @@ pub(crate) fn tell_start<E: Ear>(elem: &Elem, ear: &mut E) -> Result<(), AllocEr
 fn is_break(elem: &Elem) -> bool
     ensures { result ≡ is_break (tag_of elem.now) }
 {
-    is_named(elem, b"tab") || is_named(elem, b"br") || is_named(elem, b"cr") || is_named(elem, b"p")
+    is_named(elem, b"tab")
+        || is_named(elem, b"br")
+        || is_named(elem, b"cr")
+        || is_word(elem, Word::P)
 }
 
 /// Whether the bytes that an element holds are text.
 pub(crate) fn holds_text(elem: &Elem) -> bool
     ensures { result ≡ holds_text (tag_of elem.now) }
 {
-    is_named(elem, b"t") || is_named(elem, b"delText")
+    is_named(elem, b"t") || is_word(elem, Word::DelText)
 }
 
 /// Whether an element says nothing, in a line or not.
@@ -144,5 +147,5 @@ pub(crate) fn is_silent(elem: &Elem, in_line: bool) -> bool
 pub(crate) fn is_paragraph(elem: &Elem) -> bool
     ensures { result ≡ is "p" (tag_of elem.now) }
 {
-    is_named(elem, b"p")
+    is_word(elem, Word::P)
 }

@@ -4,7 +4,7 @@ ghost use Rattle.std.specs.Prelude.{◌≡◌, ◌+◌, ◌^◌, ◌<◌};
 ghost use Rattle.redl_tree.specs.Model.View.{tag_of};
 ghost use Rattle.redl_index.specs.Inside.Sights.{next_end, ends_after};
 
-use redl_tree::{Elem, is_named};
+use redl_tree::{Elem, Word, is_word};
 
 /// How far a walk of a story is: the position of the next tag, and the positions at which the paragraphs end that start from
 /// there on, in the order of their start tags.
@@ -33,7 +33,7 @@ impl<'a> Walk<'a> {
         ensures ends { self.new.ends.now ≡ ends_after (tag_of elem.now) self.old.ends.now }
     {
         self.at += 1;
-        if !is_named(elem, b"p") {
+        if !is_word(elem, Word::P) {
             return other;
         }
         match self.ends {

@@ -15,16 +15,16 @@ ghost use Rattle.redl_tree.specs.Roles.Names.{is};
 
 use crate::slots::{Container, Slot, Tally};
 use redl_tables::{Line, fate_of, has_cut_member, is_cut, is_member};
-use redl_tree::{Elem, Fate, Say, is_named};
+use redl_tree::{Elem, Fate, Say, Word, is_word};
 
 /// Whether a row or a cell with this element and these slots is cut by a member of its own.
 fn is_cut_now(elem: &Elem, slots: &[Slot], says: &[Say]) -> bool
     ensures { result ≡ cut_at says.now (tag_of elem.now) (original (slots_of (states_of slots.now))) }
 {
-    if is_named(elem, b"tc") {
+    if is_word(elem, Word::Tc) {
         return are_cut(slots, Line::Cell, says);
     }
-    if is_named(elem, b"tr") {
+    if is_word(elem, Word::Tr) {
         return are_cut(slots, Line::Row, says);
     }
     false
@@ -62,9 +62,9 @@ fn is_props(elem: &Elem, line: Line) -> bool
     ensures { result ≡ is (name_of line) (tag_of elem.now) }
 {
     match line {
-        Line::Mark => is_named(elem, b"rPr"),
-        Line::Row => is_named(elem, b"trPr"),
-        Line::Cell => is_named(elem, b"tcPr"),
+        Line::Mark => is_word(elem, Word::RPr),
+        Line::Row => is_word(elem, Word::TrPr),
+        Line::Cell => is_word(elem, Word::TcPr),
     }
 }
 

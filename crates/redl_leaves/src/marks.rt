@@ -5,7 +5,7 @@ ghost use Rattle.redl_leaves.specs.Inside.Marks.{item_marks, item_marks_run, ite
 ghost use Rattle.redl_tree.specs.Leaves.Slots.{has_mark};
 ghost use Rattle.redl_tree.specs.Model.View.{nodes_of, item_of};
 
-use redl_tree::{Kind, Node, is_named};
+use redl_tree::{Kind, Node, Word, is_word};
 
 /// Whether a paragraph with these kids has a member in its mark.
 pub(crate) fn is_marked(kids: &[Node]) -> bool
@@ -23,7 +23,7 @@ fn marks_para(kid: &Node) -> bool
     ensures { result ≡ item_marks_para (item_of kid.now) }
 {
     match kid {
-        Node::Elem(elem) => is_named(elem, b"pPr") && marks_in_props(elem.kids()),
+        Node::Elem(elem) => is_word(elem, Word::PPr) && marks_in_props(elem.kids()),
         Node::Bytes(_) => false,
     }
 }
@@ -43,7 +43,7 @@ fn marks_run(kid: &Node) -> bool
     ensures { result ≡ item_marks_run (item_of kid.now) }
 {
     match kid {
-        Node::Elem(elem) => is_named(elem, b"rPr") && marks_in_run(elem.kids()),
+        Node::Elem(elem) => is_word(elem, Word::RPr) && marks_in_run(elem.kids()),
         Node::Bytes(_) => false,
     }
 }

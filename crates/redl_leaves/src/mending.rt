@@ -9,7 +9,7 @@ ghost use Rattle.redl_tree.specs.Model.View.{tag_of};
 
 use crate::slots::{Container, Slot, Tally};
 use crate::spot::Spot;
-use redl_tree::{Elem, is_named};
+use redl_tree::{Elem, Word, is_word};
 
 /// How many living rows or cells a slot adds to the container round it, before and after a change.
 #[derive(Clone, Copy)]
@@ -114,11 +114,11 @@ fn goes(elem: &Elem, cut: bool, owned: u32, living: u32, spot: Spot) -> bool
     ensures { result ≡ goes_at_counts spot (tag_of elem.now) cut owned living }
 {
     let spent = owned != 0 && living == 0;
-    if is_named(elem, b"tc") {
+    if is_word(elem, Word::Tc) {
         return cut;
     }
-    if is_named(elem, b"tr") {
+    if is_word(elem, Word::Tr) {
         return cut || spent;
     }
-    (is_named(elem, b"tbl") || spot.is_shell(elem)) && spent
+    (is_word(elem, Word::Tbl) || spot.is_shell(elem)) && spent
 }

@@ -18,7 +18,7 @@ use crate::marks::is_marked;
 use crate::slots::{Container, Leaf, Slot, Tally};
 use crate::spot::Spot;
 use redl_resolve::Next;
-use redl_tree::{Elem, Node, is_named, is_thick};
+use redl_tree::{Elem, Node, Word, is_thick, is_word};
 use std::alloc::{AllocError, Global};
 use std::mem;
 
@@ -313,7 +313,7 @@ fn split_elem<'a>(
         split.add_container(alloc, container, spot.among_blocks())?;
         return Ok(());
     }
-    if is_named(&elem, b"p") && spot.among_blocks() {
+    if is_word(&elem, Word::P) && spot.among_blocks() {
         split.add_para(alloc, elem, spot.among_blocks())?;
         return Ok(());
     }

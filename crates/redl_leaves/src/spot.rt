@@ -10,7 +10,7 @@ ghost use Rattle.redl_tree.specs.Roles.Places.{is_quiet as is_quiet_by};
 ghost use Rattle.redl_tree.specs.Leaves.Containers.{is_control};
 
 use redl_tables::{is_cell_list, is_row_list, is_shell};
-use redl_tree::{Elem, Place, Reach, is_named, is_quiet, is_wrapper};
+use redl_tree::{Elem, Place, Reach, Word, is_quiet, is_word, is_wrapper};
 
 /// Which story's root some nodes stand in directly. At most one is true.
 #[derive(Clone, Copy)]
@@ -41,10 +41,10 @@ impl Spot {
             quiet: is_quiet(root),
             place: place_in(Place::nowhere(), root, false),
             root: Root {
-                document: is_named(root, b"document"),
-                footnotes: is_named(root, b"footnotes"),
-                endnotes: is_named(root, b"endnotes"),
-                comments: is_named(root, b"comments"),
+                document: is_word(root, Word::Document),
+                footnotes: is_word(root, Word::Footnotes),
+                endnotes: is_word(root, Word::Endnotes),
+                comments: is_word(root, Word::Comments),
             },
         }
     }
@@ -77,11 +77,11 @@ impl Spot {
         ensures { result ≡ opens_at self (tag_of elem.now) }
     {
         opens_in_root(self.root, elem)
-            || (self.among_blocks() && (is_named(elem, b"tbl") || is_wrapper(elem)))
-            || (is_row_list(self.place) && is_named(elem, b"tr"))
-            || (is_cell_list(self.place) && is_named(elem, b"tc"))
+            || (self.among_blocks() && (is_word(elem, Word::Tbl) || is_wrapper(elem)))
+            || (is_row_list(self.place) && is_word(elem, Word::Tr))
+            || (is_cell_list(self.place) && is_word(elem, Word::Tc))
             || self.is_shell(elem)
-            || (self.is_in_control() && is_named(elem, b"sdtContent"))
+            || (self.is_in_control() && is_word(elem, Word::SdtContent))
     }
 
     pub(crate) fn is_shell(self, elem: &Elem) -> bool
@@ -100,15 +100,15 @@ impl Spot {
     pub(crate) fn is_own(self, elem: &Elem) -> bool
         ensures { result ≡ is_own_at self (tag_of elem.now) }
     {
-        (is_row_list(self.place) && is_named(elem, b"tr"))
-            || (is_cell_list(self.place) && is_named(elem, b"tc"))
+        (is_row_list(self.place) && is_word(elem, Word::Tr))
+            || (is_cell_list(self.place) && is_word(elem, Word::Tc))
     }
 
     /// Whether the own rows or cells in an element are those of the table or row round it.
     pub(crate) fn is_between(self, elem: &Elem) -> bool
         ensures { result ≡ is_between_at self (tag_of elem.now) }
     {
-        self.is_shell(elem) || (self.is_in_control() && is_named(elem, b"sdtContent"))
+        self.is_shell(elem) || (self.is_in_control() && is_word(elem, Word::SdtContent))
     }
 }
 
@@ -131,8 +131,8 @@ fn place_in(place: Place, elem: &Elem, quiet: bool) -> Place
 fn opens_in_root(root: Root, elem: &Elem) -> bool
     ensures { result ≡ opens_below root (tag_of elem.now) }
 {
-    (root.document && is_named(elem, b"body"))
-        || (root.footnotes && is_named(elem, b"footnote"))
-        || (root.endnotes && is_named(elem, b"endnote"))
-        || (root.comments && is_named(elem, b"comment"))
+    (root.document && is_word(elem, Word::Body))
+        || (root.footnotes && is_word(elem, Word::Footnote))
+        || (root.endnotes && is_word(elem, Word::Endnote))
+        || (root.comments && is_word(elem, Word::Comment))
 }

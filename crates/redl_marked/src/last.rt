@@ -13,7 +13,7 @@ ghost use Rattle.redl_marked.specs.Inside.Walks.{marked, item_marked, inside, st
 use crate::signs::sign_end;
 use crate::summary::{Summary, inside};
 use redl_shown::{Piece, next_shown, start};
-use redl_tree::{Elem, Kind, Node, is_named};
+use redl_tree::{Elem, Kind, Node, Word, is_named, is_word};
 
 /// The last byte of the marked text of nodes with this summary of their ancestors. `None` exactly where they show nothing.
 #[cycle(last)]
@@ -71,7 +71,7 @@ fn last_of_open_end(elem: &Elem, above: Summary) -> Option<u8>
 {
     if above.quiet {
         None
-    } else if is_named(elem, b"p") {
+    } else if is_word(elem, Word::P) {
         Some(b'\n')
     } else {
         None

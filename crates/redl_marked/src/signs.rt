@@ -9,7 +9,7 @@ ghost use Rattle.redl_marked.specs.Inside.Walks.{item_mark, item_run, item_para}
 use itoa::Buffer;
 use redl_index::RevKind;
 use redl_io::{Failed, Sink, put_piece, put_pieces};
-use redl_tree::{Elem, Kind, Node, Prop, Trace, is_named};
+use redl_tree::{Elem, Kind, Node, Prop, Trace, Word, is_word};
 
 /// Puts the sign at the start tag of an element: before content, or the whole sign of a row, a cell or a change.
 pub(crate) fn put_start_sign<K: Sink>(elem: &Elem, out: &mut K) -> Result<(), Failed>
@@ -108,7 +108,7 @@ fn put_in_para<K: Sink>(kid: &Node, out: &mut K) -> Result<(), Failed>
     ensures { Puts K.told K.faults K.settled K.lenders out.old out.new (item_para (item_of kid.now)) result }
 {
     match kid {
-        Node::Elem(elem) if is_named(elem, b"pPr") => put_run_signs(elem.kids(), out),
+        Node::Elem(elem) if is_word(elem, Word::PPr) => put_run_signs(elem.kids(), out),
         _ => Ok(()),
     }
 }
@@ -126,7 +126,7 @@ fn put_in_run<K: Sink>(node: &Node, out: &mut K) -> Result<(), Failed>
     ensures { Puts K.told K.faults K.settled K.lenders out.old out.new (item_run (item_of node.now)) result }
 {
     match node {
-        Node::Elem(elem) if is_named(elem, b"rPr") => put_mark_signs(elem.kids(), out),
+        Node::Elem(elem) if is_word(elem, Word::RPr) => put_mark_signs(elem.kids(), out),
         _ => Ok(()),
     }
 }

@@ -5,7 +5,7 @@ ghost use Rattle.redl_tree.specs.Model.View.{tag_of};
 ghost use Rattle.redl_tree.specs.Roles.Names.{is_any};
 ghost use Rattle.redl_marked.specs.Inside.Walks.{summary_of, inside};
 
-use redl_tree::{Elem, is_named, is_quiet};
+use redl_tree::{Elem, Word, is_named, is_quiet, is_word};
 
 /// A summary of the ancestors of some nodes in their story.
 #[derive(Clone, Copy)]
@@ -42,5 +42,5 @@ pub(crate) fn inside(elem: &Elem, above: Summary) -> Summary
 fn is_text(elem: &Elem) -> bool
     ensures { result ≡ is_any ("t" ∷ "delText" ∷ []) (tag_of elem.now) }
 {
-    is_named(elem, b"t") || is_named(elem, b"delText")
+    is_named(elem, b"t") || is_word(elem, Word::DelText)
 }

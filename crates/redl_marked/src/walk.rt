@@ -11,7 +11,7 @@ use crate::signs::{put_end_sign, put_para_signs, put_start_sign};
 use crate::summary::{Summary, inside};
 use redl_io::{Failed, Sink, put_piece};
 use redl_shown::put_shown;
-use redl_tree::{Elem, Node, is_named};
+use redl_tree::{Elem, Node, Word, is_named, is_word};
 use redl_views::put_start;
 
 /// Puts the marked text of nodes with this summary of their ancestors.
@@ -100,7 +100,7 @@ fn put_end_text<K: Sink>(elem: &Elem, above: Summary, out: &mut K) -> Result<(),
 fn put_open_end<K: Sink>(elem: &Elem, out: &mut K) -> Result<(), Failed>
     ensures { Puts K.told K.faults K.settled K.lenders out.old out.new (open_end (tag_of elem.now) (kids_of elem.now)) result }
 {
-    if !is_named(elem, b"p") {
+    if !is_word(elem, Word::P) {
         return Ok(());
     }
     put_para_signs(elem.kids(), out)?;

@@ -13,7 +13,7 @@ use crate::finder::Finder;
 use crate::trail::{Below, Trail};
 use redl_moves::{Marker, MarkerKind};
 use redl_stamp::attribute;
-use redl_tree::{Elem, is_named};
+use redl_tree::{Elem, Word, is_word};
 use redl_visit::{Ancestors, visit_kids};
 use std::alloc::{AllocError, Global};
 
@@ -110,13 +110,13 @@ fn marker(
 fn kind_of(elem: &Elem) -> Option<MarkerKind>
     ensures { option_map edge_of result ≡ edge_of_tag (tag_of elem.now) }
 {
-    if is_named(elem, b"moveFromRangeStart") {
+    if is_word(elem, Word::MoveFromRangeStart) {
         Some(MarkerKind::FromStart)
-    } else if is_named(elem, b"moveFromRangeEnd") {
+    } else if is_word(elem, Word::MoveFromRangeEnd) {
         Some(MarkerKind::FromEnd)
-    } else if is_named(elem, b"moveToRangeStart") {
+    } else if is_word(elem, Word::MoveToRangeStart) {
         Some(MarkerKind::ToStart)
-    } else if is_named(elem, b"moveToRangeEnd") {
+    } else if is_word(elem, Word::MoveToRangeEnd) {
         Some(MarkerKind::ToEnd)
     } else {
         None

@@ -7,15 +7,15 @@ ghost use Rattle.redl_tree.specs.Roles.Places.{row_trace_of as row_trace_of_tag,
 ghost use Rattle.redl_tree.specs.Model.View.{nodes_of, item_of, tag_of, kids_of};
 ghost use Rattle.redl_markers.specs.Trails.{is_revised_by, makes_revised};
 
-use redl_tree::{Elem, Node, cell_trace_of, is_named, row_trace_of, trace_of};
+use redl_tree::{Elem, Node, Word, cell_trace_of, is_word, row_trace_of, trace_of};
 
 /// Whether an open element is a content revision, a row with a row revision, or a cell with a cell revision.
 pub(crate) fn is_revised(elem: &Elem) -> bool
     ensures { result ≡ is_revised_by (tag_of elem.now) (kids_of elem.now) }
 {
     trace_of(elem).is_some()
-        || (is_named(elem, b"tr") && is_row_revision(elem.kids()))
-        || (is_named(elem, b"tc") && is_cell_revision(elem.kids()))
+        || (is_word(elem, Word::Tr) && is_row_revision(elem.kids()))
+        || (is_word(elem, Word::Tc) && is_cell_revision(elem.kids()))
 }
 
 /// Whether a row with these kids is a revision itself.
@@ -75,7 +75,7 @@ fn makes_row_revision(node: &Node) -> bool
     ensures { result ≡ makes_revised "trPr" (λ tag. is_some (row_trace_of_tag tag)) (item_of node.now) }
 {
     match node {
-        Node::Elem(elem) => is_named(elem, b"trPr") && has_row_trace(elem.kids()),
+        Node::Elem(elem) => is_word(elem, Word::TrPr) && has_row_trace(elem.kids()),
         Node::Bytes(_) => false,
     }
 }
@@ -85,7 +85,7 @@ fn makes_cell_revision(node: &Node) -> bool
     ensures { result ≡ makes_revised "tcPr" (λ tag. is_some (cell_trace_of_tag tag)) (item_of node.now) }
 {
     match node {
-        Node::Elem(elem) => is_named(elem, b"tcPr") && has_cell_trace(elem.kids()),
+        Node::Elem(elem) => is_word(elem, Word::TcPr) && has_cell_trace(elem.kids()),
         Node::Bytes(_) => false,
     }
 }

@@ -7,7 +7,7 @@ ghost use Rattle.redl_tree.specs.Model.View.{tag_of, kids_of};
 ghost use Rattle.redl_markers.specs.Trails.{trail_of, inside_trail, trail_below, below_root, is_loose_at, is_own_at, leaves_grid_at};
 
 use crate::revised::is_revised;
-use redl_tree::{Elem, Lot, Place, Reach, is_named};
+use redl_tree::{Elem, Lot, Place, Reach, Word, is_word};
 use redl_visit::Ancestors;
 
 /// What a marker has to know of its ancestors in its story, beside their summary.
@@ -92,8 +92,8 @@ fn is_own(here: Place, elem: &Elem) -> bool
     ensures { result ≡ is_own_at here (tag_of elem.now) }
 {
     match (here.lot, here.reach) {
-        (Lot::Rows, Reach::Direct) => is_named(elem, b"tr"),
-        (Lot::Cells, Reach::Direct) => is_named(elem, b"tc"),
+        (Lot::Rows, Reach::Direct) => is_word(elem, Word::Tr),
+        (Lot::Cells, Reach::Direct) => is_word(elem, Word::Tc),
         _ => false,
     }
 }

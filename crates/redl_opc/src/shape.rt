@@ -9,7 +9,7 @@ ghost use Rattle.redl_opc.specs.Shape.{is_data, is_part, story_of, is_document, 
 
 use crate::elements::only_element;
 use redl_stamp::has_attribute;
-use redl_tree::{Elem, Node, is_named, is_named_pkg, is_story_root};
+use redl_tree::{Elem, Node, Word, is_named_pkg, is_story_root, is_word};
 
 fn is_data(elem: &Elem) -> bool
     ensures { result ≡ is_data (element_of elem.now) }
@@ -49,7 +49,7 @@ fn is_document(part: &Elem) -> bool
     ensures { result ≡ is_document (element_of part.now) }
 {
     match story_of(part) {
-        Some(root) => is_named(root, b"document"),
+        Some(root) => is_word(root, Word::Document),
         None => false,
     }
 }

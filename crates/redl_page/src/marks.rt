@@ -10,7 +10,7 @@ ghost use Rattle.redl_page.specs.Pieces.{pieces_text};
 use crate::sign::put_member;
 use redl_index::Index;
 use redl_io::{Failed, Sink};
-use redl_tree::{Elem, Kind, Node, is_named};
+use redl_tree::{Elem, Kind, Node, Word, is_word};
 
 /// Where nodes are in a paragraph: its kids, those in its properties, or those in the run properties of these.
 #[derive(Clone, Copy, Debug, PartialEq, Eq)]
@@ -61,13 +61,13 @@ fn put_elem_marks<K: Sink>(
     ensures { Puts K.told K.faults K.settled K.lenders out.old out.new (pieces_text (element_marks index.now depth (tag_of elem.now) (kids_of elem.now))) result }
 {
     match depth {
-        Depth::Kids if is_named(elem, b"pPr") => put_marks(
+        Depth::Kids if is_word(elem, Word::PPr) => put_marks(
             index,
             Depth::Properties,
             elem.kids(),
             out,
         ),
-        Depth::Properties if is_named(elem, b"rPr") => put_marks(
+        Depth::Properties if is_word(elem, Word::RPr) => put_marks(
             index,
             Depth::RunProperties,
             elem.kids(),

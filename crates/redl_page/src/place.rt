@@ -3,7 +3,7 @@
 ghost use Rattle.std.specs.Prelude.{◌≡◌};
 ghost use Rattle.redl_tree.specs.Model.View.{tag_of};
 
-use redl_tree::{Elem, is_named, is_quiet};
+use redl_tree::{Elem, Word, is_named, is_quiet, is_word};
 
 /// What is round the nodes of a list.
 #[derive(Clone, Copy)]
@@ -33,7 +33,7 @@ impl Place {
     {
         Place {
             loud: self.loud && !is_quiet(elem),
-            shows: self.loud && (is_named(elem, b"t") || is_named(elem, b"delText")),
+            shows: self.loud && (is_named(elem, b"t") || is_word(elem, Word::DelText)),
         }
     }
 }

@@ -6,7 +6,7 @@ ghost use Rattle.redl_page.specs.Shapes.{closing, has_property, holds_blocks, in
 
 use crate::values::has_property;
 use redl_stamp::has_attribute;
-use redl_tree::{Elem, Node, Space, is_named};
+use redl_tree::{Elem, Node, Space, Word, is_named, is_word};
 
 /// What an element is shown as that is in no revision.
 #[derive(Clone, Copy, Debug, PartialEq, Eq)]
@@ -49,22 +49,22 @@ impl Shape {
     fn named(elem: &Elem) -> Shape
         ensures { result ≡ shape_named (tag_of elem.now) (kids_of elem.now) }
     {
-        if is_named(elem, b"p") {
+        if is_word(elem, Word::P) {
             return Shape::of_paragraph(elem);
         }
-        if is_named(elem, b"r") {
+        if is_word(elem, Word::R) {
             return Shape::of_run(elem);
         }
-        if is_named(elem, b"tbl") {
+        if is_word(elem, Word::Tbl) {
             return Shape::Table;
         }
-        if is_named(elem, b"tr") {
+        if is_word(elem, Word::Tr) {
             return Shape::Row;
         }
-        if is_named(elem, b"tc") {
+        if is_word(elem, Word::Tc) {
             return Shape::Cell;
         }
-        if is_named(elem, b"txbxContent") {
+        if is_word(elem, Word::TxbxContent) {
             return Shape::TextBox;
         }
         if is_other_form(elem) {
@@ -178,7 +178,7 @@ fn is_note(elem: &Elem) -> bool
 {
     is_named(elem, b"footnoteReference")
         || is_named(elem, b"endnoteReference")
-        || ((is_named(elem, b"footnote") || is_named(elem, b"endnote"))
+        || ((is_word(elem, Word::Footnote) || is_word(elem, Word::Endnote))
             && !has_attribute(elem.tail(), b"type"))
 }
 
@@ -193,7 +193,7 @@ fn is_other_form(elem: &Elem) -> bool
 fn is_block(elem: &Elem) -> bool
     ensures { result ≡ is_block (tag_of elem.now) }
 {
-    is_named(elem, b"p") || is_named(elem, b"tbl") || is_other_form(elem)
+    is_word(elem, Word::P) || is_word(elem, Word::Tbl) || is_other_form(elem)
 }
 
 /// Whether there is such an element at some depth.

@@ -10,7 +10,7 @@ use crate::escape::put_escaped;
 use itoa::Buffer;
 use redl_index::Index;
 use redl_io::{Failed, Sink, put_piece, put_pieces};
-use redl_tree::{Elem, Kind, Prop, Trace, is_named};
+use redl_tree::{Elem, Kind, Prop, Trace, Word, is_word};
 
 /// Puts the element of a member of this kind. `Failed` means that the sink failed.
 pub(crate) fn put_member<K: Sink>(
@@ -28,7 +28,7 @@ pub(crate) fn put_member<K: Sink>(
 pub(crate) fn put_edge<K: Sink>(index: &Index, elem: &Elem, out: &mut K) -> Result<(), Failed>
     ensures { Puts K.told K.faults K.settled K.lenders out.old out.new (pieces_text (edge index.now (tag_of elem.now))) result }
 {
-    if is_named(elem, b"moveFromRangeStart") {
+    if is_word(elem, Word::MoveFromRangeStart) {
         return put_link(
             index,
             b"<a id=\"from-",
@@ -38,7 +38,7 @@ pub(crate) fn put_edge<K: Sink>(index: &Index, elem: &Elem, out: &mut K) -> Resu
             out,
         );
     }
-    if is_named(elem, b"moveToRangeStart") {
+    if is_word(elem, Word::MoveToRangeStart) {
         return put_link(
             index,
             b"<a id=\"to-",

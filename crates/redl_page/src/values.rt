@@ -13,7 +13,7 @@ ghost use Rattle.redl_page.specs.Shapes.{has_property, is_off, item_has_property
 use crate::shown::put_shown;
 use redl_io::{Failed, Sink, put_piece};
 use redl_markup::{Attribute, next_attribute};
-use redl_tree::{Elem, Node, is_named};
+use redl_tree::{Elem, Node, Word, is_named, is_word};
 
 /// The value of the first attribute of a tag's tail with this local name, as it is written. It takes no memory.
 pub(crate) fn written_value<'a>(tail: &'a [u8], local: &[u8]) -> Option<&'a [u8]>
@@ -52,7 +52,7 @@ fn node_has_property(node: &Node, name: &[u8]) -> bool
     ensures { result ≡ item_has_property name.now (item_of node.now) }
 {
     match node {
-        Node::Elem(elem) => is_named(elem, b"rPr") && are_switched_on(elem.kids(), name),
+        Node::Elem(elem) => is_word(elem, Word::RPr) && are_switched_on(elem.kids(), name),
         Node::Bytes(_) => false,
     }
 }
@@ -115,7 +115,7 @@ fn node_style<'a>(node: &'a Node) -> Option<&'a [u8]>
     ensures { Gives (λ style. style.now) result (item_style (item_of node.now)) }
 {
     match node {
-        Node::Elem(elem) if is_named(elem, b"pPr") => style_in(elem.kids()),
+        Node::Elem(elem) if is_word(elem, Word::PPr) => style_in(elem.kids()),
         _ => None,
     }
 }

@@ -8,7 +8,7 @@ ghost use Rattle.redl_tree.specs.Roles.Names.{is};
 ghost use Rattle.redl_tree.specs.Model.Nodes.{◌⊕◌};
 ghost use Rattle.redl_tree.specs.Model.View.{nodes_of, item_of, tag_of, kids_of};
 
-use redl_tree::{Elem, Node, is_named};
+use redl_tree::{Elem, Node, Word, is_word};
 use std::alloc::{AllocError, Global};
 
 // Whether a node is the properties of a paragraph.
@@ -16,7 +16,7 @@ fn is_props(node: &Node) -> bool
     ensures { result ≡ item_is (is "pPr") (item_of node.now) }
 {
     match node {
-        Node::Elem(elem) => is_named(elem, b"pPr"),
+        Node::Elem(elem) => is_word(elem, Word::PPr),
         Node::Bytes(_) => false,
     }
 }
@@ -131,7 +131,7 @@ fn is_held(node: &Node) -> bool
     ensures { result ≡ item_is (λ tag. not (is "pPr" tag)) (item_of node.now) }
 {
     match node {
-        Node::Elem(elem) => !is_named(elem, b"pPr"),
+        Node::Elem(elem) => !is_word(elem, Word::PPr),
         Node::Bytes(_) => false,
     }
 }

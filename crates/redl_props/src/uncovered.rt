@@ -5,7 +5,7 @@ ghost use Rattle.redl_tree.specs.Model.Kids.{only, without, item_is};
 ghost use Rattle.redl_tree.specs.Decisions.Restored.{outlasts as outlasts_tag};
 ghost use Rattle.redl_tree.specs.Model.View.{nodes_of, item_of, tag_of};
 
-use redl_tree::{Elem, Node, Prop, copy_node, is_named};
+use redl_tree::{Elem, Node, Prop, Word, copy_node, is_word};
 use std::alloc::{AllocError, Global};
 
 /// The kids of run properties without the revisions of a paragraph's mark (ECMA-376 Part 1, 17.13.5).
@@ -60,17 +60,19 @@ fn outlasts(elem: &Elem, what: Prop) -> bool
 {
     match what {
         Prop::Run => {
-            is_named(elem, b"ins")
-                || is_named(elem, b"del")
-                || is_named(elem, b"moveFrom")
-                || is_named(elem, b"moveTo")
+            is_word(elem, Word::Ins)
+                || is_word(elem, Word::Del)
+                || is_word(elem, Word::MoveFrom)
+                || is_word(elem, Word::MoveTo)
         }
-        Prop::Para => is_named(elem, b"rPr") || is_named(elem, b"sectPr"),
-        Prop::Sect => is_named(elem, b"headerReference") || is_named(elem, b"footerReference"),
+        Prop::Para => is_word(elem, Word::RPr) || is_word(elem, Word::SectPr),
+        Prop::Sect => is_word(elem, Word::HeaderReference) || is_word(elem, Word::FooterReference),
         Prop::Table | Prop::Except => false,
-        Prop::Row => is_named(elem, b"ins") || is_named(elem, b"del"),
+        Prop::Row => is_word(elem, Word::Ins) || is_word(elem, Word::Del),
         Prop::Cell => {
-            is_named(elem, b"cellIns") || is_named(elem, b"cellDel") || is_named(elem, b"cellMerge")
+            is_word(elem, Word::CellIns)
+                || is_word(elem, Word::CellDel)
+                || is_word(elem, Word::CellMerge)
         }
     }
 }

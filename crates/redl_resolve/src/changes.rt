@@ -12,7 +12,7 @@ use crate::rounds::Round;
 use crate::steps::Steps;
 use redl_props::{restore, without_marks};
 use redl_tables::fate_of;
-use redl_tree::{Elem, Fate, Kind, Node, Prop, Say, copy_nodes, is_named};
+use redl_tree::{Elem, Fate, Kind, Node, Prop, Say, Word, copy_nodes, is_word};
 use std::alloc::{AllocError, Global};
 use std::sync::ledger::Ledger;
 
@@ -112,13 +112,13 @@ fn is_former(elem: &Elem, prop: Prop) -> bool
     ensures { result ≡ named (props_name prop) (tag_of elem.now) }
 {
     match prop {
-        Prop::Run => is_named(elem, b"rPr"),
-        Prop::Para => is_named(elem, b"pPr"),
-        Prop::Sect => is_named(elem, b"sectPr"),
-        Prop::Table => is_named(elem, b"tblPr"),
-        Prop::Except => is_named(elem, b"tblPrEx"),
-        Prop::Row => is_named(elem, b"trPr"),
-        Prop::Cell => is_named(elem, b"tcPr"),
+        Prop::Run => is_word(elem, Word::RPr),
+        Prop::Para => is_word(elem, Word::PPr),
+        Prop::Sect => is_word(elem, Word::SectPr),
+        Prop::Table => is_word(elem, Word::TblPr),
+        Prop::Except => is_word(elem, Word::TblPrEx),
+        Prop::Row => is_word(elem, Word::TrPr),
+        Prop::Cell => is_word(elem, Word::TcPr),
     }
 }
 
@@ -156,7 +156,7 @@ pub(crate) fn after_change<'a>(
 fn present<'a>(elem: &Elem, kids: Vec<Node<'a>>, round: Round) -> Vec<Node<'a>>
     ensures { nodes_of result.items ≡ present_in round (tag_of elem.now) (nodes_of kids.entry.items) }
 {
-    if is_named(elem, b"rPr") && !round.para_props {
+    if is_word(elem, Word::RPr) && !round.para_props {
         return without_marks(kids);
     }
     kids

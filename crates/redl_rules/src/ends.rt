@@ -8,7 +8,7 @@ ghost use Rattle.redl_tree.specs.Decisions.Tables.{has_own};
 ghost use Rattle.redl_tree.specs.Model.View.{nodes_of, item_of, tag_of, kids_of};
 ghost use Rattle.redl_rules.specs.Inside.Ends.{item_end, item_has_own, element_has_own};
 
-use redl_tree::{Elem, Node, Reach, is_named, is_thick, is_wrapper};
+use redl_tree::{Elem, Node, Reach, Word, is_thick, is_word, is_wrapper};
 
 /// Whether the last block of these ends in a paragraph, if there is a block. Of the contents of a control one that ends so
 /// is enough.
@@ -39,7 +39,7 @@ fn end_of_elem(elem: &Elem, reach: Reach) -> Option<bool>
 {
     match reach {
         Reach::Direct => {
-            if is_named(elem, b"p") {
+            if is_word(elem, Word::P) {
                 Some(true)
             } else if is_wrapper(elem) {
                 Some(is_so_end(end_of_nodes(elem.kids(), reach.into(elem))))
@@ -50,7 +50,7 @@ fn end_of_elem(elem: &Elem, reach: Reach) -> Option<bool>
             }
         }
         Reach::Control => {
-            if is_named(elem, b"sdtContent") {
+            if is_word(elem, Word::SdtContent) {
                 end_of_nodes(elem.kids(), Reach::Direct)
             } else {
                 None
@@ -131,7 +131,7 @@ fn is_cell_here(elem: &Elem, reach: Reach) -> bool
     ensures { result ≡ (is_direct reach && is "tc" (tag_of elem.now)) }
 {
     match reach {
-        Reach::Direct => is_named(elem, b"tc"),
+        Reach::Direct => is_word(elem, Word::Tc),
         _ => false,
     }
 }

@@ -2,6 +2,7 @@
 
 ghost use Rattle.std.specs.Prelude.{◌≡◌};
 ghost use Rattle.redl_tree.specs.Roles.Names.{named};
+ghost use Rattle.redl_tree.specs.Roles.Words.{name_of};
 ghost use Rattle.redl_tree.specs.Model.Kids.{some_element};
 ghost use Rattle.redl_tree.specs.Roles.Kinds.{is_change};
 ghost use Rattle.redl_tree.specs.Roles.Lists.{is_thick as is_thick_tag};
@@ -10,15 +11,15 @@ ghost use Rattle.redl_tree.specs.Rules.Tests.{at_most_one, only_first, only_last
 ghost use Rattle.redl_tree.specs.Model.View.{nodes_of};
 ghost use Rattle.redl_tree.specs.Roles.Arounds.{role_in};
 
-use redl_tree::{Around, Node, is_named, is_thick};
+use redl_tree::{Around, Node, Word, is_thick, is_word};
 
 /// Whether some element has this name.
-pub fn has_named(nodes: &[Node], name: &[u8]) -> bool
-    ensures { result ≡ some_element (named name.now) (nodes_of nodes.now) }
+pub fn has_word(nodes: &[Node], word: Word) -> bool
+    ensures { result ≡ some_element (named (name_of word)) (nodes_of nodes.now) }
 {
     for node in nodes {
         if let Node::Elem(elem) = node {
-            if is_named(elem, name) {
+            if is_word(elem, word) {
                 return true;
             }
         }
@@ -41,13 +42,13 @@ pub fn has_thick(nodes: &[Node]) -> bool
 }
 
 /// Whether at most one element has this name.
-pub fn is_once(nodes: &[Node], name: &[u8]) -> bool
-    ensures { result ≡ at_most_one (named name.now) (nodes_of nodes.now) }
+pub fn is_once(nodes: &[Node], word: Word) -> bool
+    ensures { result ≡ at_most_one (named (name_of word)) (nodes_of nodes.now) }
 {
     let mut seen = false;
     for node in nodes {
         if let Node::Elem(elem) = node {
-            if is_named(elem, name) {
+            if is_word(elem, word) {
                 if seen {
                     return false;
                 }
@@ -59,20 +60,20 @@ pub fn is_once(nodes: &[Node], name: &[u8]) -> bool
 }
 
 /// Whether no element with this name comes after another element.
-pub fn is_only_first(nodes: &[Node], name: &[u8]) -> bool
-    ensures { result ≡ only_first (named name.now) (nodes_of nodes.now) }
+pub fn is_only_first(nodes: &[Node], word: Word) -> bool
+    ensures { result ≡ only_first (named (name_of word)) (nodes_of nodes.now) }
 {
     for i in 0..nodes.len() {
         if let Node::Elem(_) = &nodes[i] {
-            return !has_named(&nodes[i + 1..], name);
+            return !has_word(&nodes[i + 1..], word);
         }
     }
     true
 }
 
 /// Whether no element comes after one with this name.
-pub fn is_only_last(nodes: &[Node], name: &[u8]) -> bool
-    ensures { result ≡ only_last (named name.now) (nodes_of nodes.now) }
+pub fn is_only_last(nodes: &[Node], word: Word) -> bool
+    ensures { result ≡ only_last (named (name_of word)) (nodes_of nodes.now) }
 {
     let mut ended = false;
     for node in nodes {
@@ -80,7 +81,7 @@ pub fn is_only_last(nodes: &[Node], name: &[u8]) -> bool
             if ended {
                 return false;
             }
-            ended = is_named(elem, name);
+            ended = is_word(elem, word);
         }
     }
     true

@@ -9,7 +9,7 @@ ghost use Rattle.redl_visit.specs.Summaries.{ancestors_inside};
 ghost use Rattle.redl_visit.specs.Visits.{inner_of};
 ghost use Rattle.redl_rules.specs.Rounds.{round_of, round_inside, round_below};
 
-use redl_tree::{Elem, Kind, Place, is_named, trace_of};
+use redl_tree::{Elem, Kind, Place, Word, is_word, trace_of};
 use redl_visit::Ancestors;
 
 /// What the ancestors of an element are to the rules, in its story, beside their summary.
@@ -67,7 +67,7 @@ impl Round {
     fn is_below_content(self, elem: &Elem, in_content: bool) -> bool
         ensures { result ≡ (not (is "txbxContent" (tag_of elem.now)) && (in_content || self.below_content)) }
     {
-        (self.below_content || in_content) && !is_named(elem, b"txbxContent")
+        (self.below_content || in_content) && !is_word(elem, Word::TxbxContent)
     }
 
     fn is_among_blocks(self, inner: Place, in_content: bool) -> bool

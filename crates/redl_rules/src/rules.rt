@@ -6,6 +6,7 @@ ghost use Rattle.redl_tree.specs.Model.Kids.{some_element};
 ghost use Rattle.redl_tree.specs.Roles.Kinds.{is_content};
 ghost use Rattle.redl_tree.specs.Roles.Lists.{is_thick};
 ghost use Rattle.redl_tree.specs.Roles.Places.{props_name as props_name_of};
+ghost use Rattle.redl_tree.specs.Roles.Words.{name_of};
 ghost use Rattle.redl_tree.specs.Rules.Tests.{implies, once, each_once, only_first, only_last};
 ghost use Rattle.redl_tree.specs.Rules.Sound.{is_banned as is_banned_tag, is_banned_below_change as is_banned_below_change_tag, former_declares, change_declares as change_declares_by};
 ghost use Rattle.redl_tree.specs.Model.View.{tag_of, kids_of, nodes_of};
@@ -17,7 +18,8 @@ use crate::ends::{end_of_nodes, has_own_cell, is_so_end};
 use crate::kids::{changes_are_last, has_thick, is_once, is_only_first, is_only_last};
 use crate::round::Round;
 use redl_tree::{
-    Around, Elem, Kind, Node, Parent, Prop, Reach, has_elements, is_named, is_range_edge, prop_of,
+    Around, Elem, Kind, Node, Parent, Prop, Reach, Word, has_elements, is_range_edge, is_word,
+    prop_of,
 };
 
 /// A cell ends in a paragraph (rule 1). `inner` is round the kids.
@@ -77,22 +79,22 @@ fn is_content_among_blocks(kind: Kind, round: Round) -> bool
 fn is_banned(elem: &Elem) -> bool
     ensures { result ≡ is_banned_tag (tag_of elem.now) }
 {
-    is_named(elem, b"p")
-        || is_named(elem, b"tbl")
-        || is_named(elem, b"tr")
-        || is_named(elem, b"tc")
-        || is_named(elem, b"pPr")
-        || is_named(elem, b"tblPr")
-        || is_named(elem, b"tblPrEx")
-        || is_named(elem, b"trPr")
-        || is_named(elem, b"tcPr")
-        || is_named(elem, b"sectPr")
+    is_word(elem, Word::P)
+        || is_word(elem, Word::Tbl)
+        || is_word(elem, Word::Tr)
+        || is_word(elem, Word::Tc)
+        || is_word(elem, Word::PPr)
+        || is_word(elem, Word::TblPr)
+        || is_word(elem, Word::TblPrEx)
+        || is_word(elem, Word::TrPr)
+        || is_word(elem, Word::TcPr)
+        || is_word(elem, Word::SectPr)
 }
 
 fn is_run_props_or_control(elem: &Elem) -> bool
     ensures { result ≡ is_any ("rPr" ∷ "sdtContent" ∷ []) (tag_of elem.now) }
 {
-    is_named(elem, b"rPr") || is_named(elem, b"sdtContent")
+    is_word(elem, Word::RPr) || is_word(elem, Word::SdtContent)
 }
 
 /// A change is the last kid (rule 4). `inner` is round the kids.
@@ -108,7 +110,7 @@ pub fn keeps_5(elem: &Elem, inner: Around) -> bool
 {
     let kids = elem.kids();
     match inner.parent() {
-        Parent::ParaProps => is_once(kids, b"rPr"),
+        Parent::ParaProps => is_once(kids, Word::RPr),
         Parent::MarkProps => mark_is_once(kids),
         Parent::RowProps => row_is_once(kids),
         Parent::CellProps => cell_is_once(kids),
@@ -119,22 +121,22 @@ pub fn keeps_5(elem: &Elem, inner: Around) -> bool
 fn mark_is_once(kids: &[Node]) -> bool
     ensures { result ≡ each_once ("ins" ∷ "del" ∷ "moveFrom" ∷ "moveTo" ∷ []) (nodes_of kids.now) }
 {
-    is_once(kids, b"ins")
-        && is_once(kids, b"del")
-        && is_once(kids, b"moveFrom")
-        && is_once(kids, b"moveTo")
+    is_once(kids, Word::Ins)
+        && is_once(kids, Word::Del)
+        && is_once(kids, Word::MoveFrom)
+        && is_once(kids, Word::MoveTo)
 }
 
 fn row_is_once(kids: &[Node]) -> bool
     ensures { result ≡ each_once ("ins" ∷ "del" ∷ []) (nodes_of kids.now) }
 {
-    is_once(kids, b"ins") && is_once(kids, b"del")
+    is_once(kids, Word::Ins) && is_once(kids, Word::Del)
 }
 
 fn cell_is_once(kids: &[Node]) -> bool
     ensures { result ≡ each_once ("cellIns" ∷ "cellDel" ∷ []) (nodes_of kids.now) }
 {
-    is_once(kids, b"cellIns") && is_once(kids, b"cellDel")
+    is_once(kids, Word::CellIns) && is_once(kids, Word::CellDel)
 }
 
 /// Properties stand once and in their place, and a control has one content (rule 6). `inner` is round the kids.
@@ -148,10 +150,10 @@ fn has_props_in_place(kids: &[Node], parent: Parent) -> bool
     ensures { result ≡ props_in_place parent (nodes_of kids.now) }
 {
     match parent {
-        Parent::Para => is_only_first(kids, b"pPr"),
-        Parent::Row => is_once(kids, b"trPr"),
-        Parent::Cell => is_once(kids, b"tcPr"),
-        Parent::Body => is_only_last(kids, b"sectPr"),
+        Parent::Para => is_only_first(kids, Word::PPr),
+        Parent::Row => is_once(kids, Word::TrPr),
+        Parent::Cell => is_once(kids, Word::TcPr),
+        Parent::Body => is_only_last(kids, Word::SectPr),
         _ => true,
     }
 }
@@ -159,7 +161,7 @@ fn has_props_in_place(kids: &[Node], parent: Parent) -> bool
 fn keeps_control(elem: &Elem, here: Around) -> bool
     ensures { result ≡ implies (is "sdt" (tag_of elem.now) && not here.quiet) (once "sdtContent" (kids_of elem.now)) }
 {
-    here.is_quiet() || !is_named(elem, b"sdt") || is_once(elem.kids(), b"sdtContent")
+    here.is_quiet() || !is_word(elem, Word::Sdt) || is_once(elem.kids(), Word::SdtContent)
 }
 
 /// A marker of a move holds no element (rule 7).
@@ -183,11 +185,11 @@ fn is_banned_below_change(elem: &Elem) -> bool
     ensures { result ≡ is_banned_below_change_tag (tag_of elem.now) }
 {
     prop_of(elem).is_some()
-        || is_named(elem, b"p")
-        || is_named(elem, b"tbl")
-        || is_named(elem, b"tr")
-        || is_named(elem, b"tc")
-        || is_named(elem, b"txbxContent")
+        || is_word(elem, Word::P)
+        || is_word(elem, Word::Tbl)
+        || is_word(elem, Word::Tr)
+        || is_word(elem, Word::Tc)
+        || is_word(elem, Word::TxbxContent)
 }
 
 /// What a decision can take the tags of declares no namespace (rule 9). `kind` is the element's role, and `inner` is round
@@ -219,33 +221,33 @@ fn change_declares(kind: Kind, kids: &[Node]) -> bool
     ensures { result ≡ change_declares_by declares kind (nodes_of kids.now) }
 {
     match kind {
-        Kind::Change(prop) => former_declares_names(props_name(prop), kids),
+        Kind::Change(prop) => former_declares_names(props_word(prop), kids),
         _ => false,
     }
 }
 
 /// The name of the properties that a change is of.
-fn props_name(prop: Prop) -> &'static [u8]
-    ensures { result.now ≡ props_name_of prop }
+fn props_word(prop: Prop) -> Word
+    ensures { name_of result ≡ props_name_of prop }
 {
     match prop {
-        Prop::Run => b"rPr",
-        Prop::Para => b"pPr",
-        Prop::Sect => b"sectPr",
-        Prop::Table => b"tblPr",
-        Prop::Except => b"tblPrEx",
-        Prop::Row => b"trPr",
-        Prop::Cell => b"tcPr",
+        Prop::Run => Word::RPr,
+        Prop::Para => Word::PPr,
+        Prop::Sect => Word::SectPr,
+        Prop::Table => Word::TblPr,
+        Prop::Except => Word::TblPrEx,
+        Prop::Row => Word::TrPr,
+        Prop::Cell => Word::TcPr,
     }
 }
 
 /// Whether the first element with this name declares a namespace.
-fn former_declares_names(name: &[u8], kids: &[Node]) -> bool
-    ensures { result ≡ former_declares declares name.now (nodes_of kids.now) }
+fn former_declares_names(word: Word, kids: &[Node]) -> bool
+    ensures { result ≡ former_declares declares (name_of word) (nodes_of kids.now) }
 {
     for node in kids {
         if let Node::Elem(elem) = node {
-            if is_named(elem, name) {
+            if is_word(elem, word) {
                 return declares_names(elem.tail());
             }
         }

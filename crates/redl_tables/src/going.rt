@@ -10,7 +10,7 @@ ghost use Rattle.redl_tree.specs.Model.View.{nodes_of, tag_of, kids_of};
 ghost use Rattle.redl_tree.specs.declared.lists.Reach.TheVariants.{Direct};
 
 use crate::owned::{Unit, found, goes_itself};
-use redl_tree::{Elem, Node, Reach, Say, is_named};
+use redl_tree::{Elem, Node, Reach, Say, Word, is_word};
 
 /// Whether a table, a row, a cell or a shell goes (ECMA-376 Part 1, 17.4, 17.13.5).
 ///
@@ -30,11 +30,11 @@ pub fn goes(elem: &Elem, in_row: bool, says: &[Say]) -> bool
         → has_own (unit_name (shell_unit in_row)) (into Direct (tag_of elem.now)) (kids_of elem.now) ≡ true
         → list_all (unit_goes (shell_unit in_row) says.now) (own (unit_name (shell_unit in_row)) (into Direct (tag_of elem.now)) (kids_of elem.now)) ≡ false }
 {
-    if is_named(elem, b"tc") {
+    if is_word(elem, Word::Tc) {
         goes_itself(elem.kids(), Unit::Cell, says)
-    } else if is_named(elem, b"tr") {
+    } else if is_word(elem, Word::Tr) {
         goes_itself(elem.kids(), Unit::Row, says)
-    } else if is_named(elem, b"tbl") {
+    } else if is_word(elem, Word::Tbl) {
         all_go(elem.kids(), Unit::Row, Reach::Direct, says)
     } else if in_row {
         all_go(elem.kids(), Unit::Cell, Reach::Direct.into(elem), says)

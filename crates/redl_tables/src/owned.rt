@@ -8,7 +8,7 @@ ghost use Rattle.redl_tree.specs.Decisions.Tables.{own, row_goes as row_goes_by}
 ghost use Rattle.redl_tree.specs.Model.View.{nodes_of, item_of, tag_of, kids_of};
 
 use crate::cuts::{Line, is_cut};
-use redl_tree::{Elem, Node, Reach, Say, is_named};
+use redl_tree::{Elem, Node, Reach, Say, Word, is_word};
 
 /// What a table or a row owns: rows or cells.
 #[derive(Clone, Copy, Debug, PartialEq, Eq)]
@@ -124,8 +124,8 @@ fn is_unit(elem: &Elem, unit: Unit) -> bool
     ensures { result ≡ is (unit_name unit) (tag_of elem.now) }
 {
     match unit {
-        Unit::Row => is_named(elem, b"tr"),
-        Unit::Cell => is_named(elem, b"tc"),
+        Unit::Row => is_word(elem, Word::Tr),
+        Unit::Cell => is_word(elem, Word::Tc),
     }
 }
 

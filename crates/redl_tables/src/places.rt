@@ -8,7 +8,7 @@ ghost use Rattle.redl_tree.specs.Roles.Kinds.{is_leave};
 
 use crate::going::goes;
 use crate::says::fate_of;
-use redl_tree::{Elem, Fate, Lot, Place, Reach, Say, is_named, is_wrapper};
+use redl_tree::{Elem, Fate, Lot, Place, Reach, Say, Word, is_word, is_wrapper};
 
 /// Whether a place is a list of rows.
 pub fn is_row_list(place: Place) -> bool
@@ -35,9 +35,9 @@ pub fn is_shell(elem: &Elem, place: Place) -> bool
 pub fn may_go(elem: &Elem, place: Place) -> bool
     ensures { result ≡ may_go_by place (tag_of elem.now) }
 {
-    is_named(elem, b"tc")
-        || is_named(elem, b"tr")
-        || is_named(elem, b"tbl")
+    is_word(elem, Word::Tc)
+        || is_word(elem, Word::Tr)
+        || is_word(elem, Word::Tbl)
         || is_shell(elem, place)
 }
 
@@ -53,5 +53,5 @@ pub fn is_block_para(elem: &Elem, place: Place, says: &[Say]) -> bool
     ensures is { result ≡ is_block_para_by says.now place (tag_of elem.now) }
     ensures left { result ≡ true → is_leave (fate_by says.now (tag_of elem.now)) ≡ true }
 {
-    is_named(elem, b"p") && place.is_block_list() && fate_of(says, elem) == Fate::Leave
+    is_word(elem, Word::P) && place.is_block_list() && fate_of(says, elem) == Fate::Leave
 }

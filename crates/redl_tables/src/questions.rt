@@ -8,7 +8,7 @@ ghost use Rattle.redl_tree.specs.Roles.Names.{is};
 ghost use Rattle.redl_tree.specs.Model.View.{tag_of, kids_of};
 
 use crate::owned::{Finding, Unit, found_at, is_own};
-use redl_tree::{Elem, Reach, Say, is_named};
+use redl_tree::{Elem, Reach, Say, Word, is_word};
 
 /// What the nearest table or row has to know of a list below it: whether its own rows or cells go that are in the list, and
 /// how it reaches the list.
@@ -33,12 +33,12 @@ impl Question {
     pub fn inside(self, elem: &Elem) -> Question
         ensures { result ≡ asked_inside (tag_of elem.now) self }
     {
-        if is_named(elem, b"tbl") {
+        if is_word(elem, Word::Tbl) {
             Question {
                 unit: Unit::Row,
                 reach: Reach::Direct,
             }
-        } else if is_named(elem, b"tr") {
+        } else if is_word(elem, Word::Tr) {
             Question {
                 unit: Unit::Cell,
                 reach: Reach::Direct,
@@ -56,7 +56,7 @@ impl Question {
     pub fn is_answered_by(self, elem: &Elem) -> bool
         ensures { result ≡ ((is_direct self.reach && is (unit_name self.unit) (tag_of elem.now)) || (is "tbl" (tag_of elem.now) || is "tr" (tag_of elem.now))) }
     {
-        is_own(elem, self.unit, self.reach) || is_named(elem, b"tbl") || is_named(elem, b"tr")
+        is_own(elem, self.unit, self.reach) || is_word(elem, Word::Tbl) || is_word(elem, Word::Tr)
     }
 
     /// The answer of an element in a list of which this is asked. It looks at its kids.

@@ -17,7 +17,7 @@ use crate::summary::in_root;
 use crate::walk::view_nodes;
 use redl_io::{Failed, Sink};
 use redl_opc::Package;
-use redl_tree::{Elem, Say, is_named};
+use redl_tree::{Elem, Say, Word, is_word};
 
 /// Puts the plain text of the package under a say for each revision: the text, tabs and line breaks of its main story, and a
 /// newline at the end of each paragraph that the pass leaves. `says[v - 1]` belongs to revision v.
@@ -53,7 +53,7 @@ fn view_part<K: Sink>(pkg: &Package, part: u32, says: &[Say], out: &mut K) -> Re
 fn view_story<K: Sink>(root: &Elem, says: &[Say], out: &mut K) -> Result<(), Failed>
     ensures { Puts K.told K.faults K.settled K.lenders out.old out.new (story_walk says.now (story_view (element_of root.now))) result }
 {
-    if is_named(root, b"document") {
+    if is_word(root, Word::Document) {
         view_nodes(root.kids(), says, in_root(says, root), out)?;
     }
     Ok(())

@@ -18,7 +18,7 @@ use crate::summary::{Summary, inside, is_cut_para};
 use redl_io::{Failed, Sink, put_piece};
 use redl_shown::put_shown;
 use redl_tables::{fate_of, goes_at};
-use redl_tree::{Elem, Fate, Node, Say, is_named, is_quiet, is_thick};
+use redl_tree::{Elem, Fate, Node, Say, Word, is_named, is_quiet, is_thick, is_word};
 
 /// What the walk of a node tells the list: whether it gives an element, and what the next paragraph takes up.
 #[derive(Clone, Copy)]
@@ -180,7 +180,7 @@ fn one_gives(elem: &Elem, says: &[Say], above: Summary, full: bool) -> bool
     ensures { result ≡ one_gives_by says.now above (tag_of elem.now) (kids_of elem.now) full }
 {
     match fate_of(says, elem) {
-        Fate::Leave => !is_named(elem, b"pPr") && !goes_at(elem, above.ancestors.place, says),
+        Fate::Leave => !is_word(elem, Word::PPr) && !goes_at(elem, above.ancestors.place, says),
         Fate::Free => elem.kind().is_content() && full,
         _ => false,
     }
@@ -267,7 +267,7 @@ pub fn put_start<K: Sink>(elem: &Elem, out: &mut K) -> Result<(), Failed>
 fn put_end<K: Sink>(elem: &Elem, loses: bool, out: &mut K) -> Result<(), Failed>
     ensures { Puts K.told K.faults K.settled K.lenders out.old out.new (if loses then [] else end_shown_by (tag_of elem.now)) result }
 {
-    if !loses && is_named(elem, b"p") {
+    if !loses && is_word(elem, Word::P) {
         return put_piece(b"\n", out);
     }
     Ok(())

@@ -5,16 +5,16 @@ use Rattle.redl_page.specs.Signs.{sign_text}
 use Rattle.redl_page.proofs.PieceLaws.{puts_is, edge-from, edge-to}
 use Rattle.redl_page.proofs.sign.put_edge.Goals as goal
 
-pub returns-then-is_named : goal.returns-then-is_named
-returns-then-is_named g c =
+pub returns-then-is_word : goal.returns-then-is_word
+returns-then-is_word g c =
     puts_is (
-    edge-from c.args.index.now (tag_of c.args.elem.now) (sym c.is_named.ensures ∙ c.if-is_named.true)
+    edge-from c.args.index.now (tag_of c.args.elem.now) (sym c.is_word.ensures ∙ c.if-is_word.true)
     ∙ ap (λ n. codes "<a id=\"from-" ++ (decimal n ++ (codes "\" href=\"#to-" ++ (decimal n ++ sign_text c.args.index.now (codes "\" data-revision=\"") n (codes "\">moved away</a>"))))) (sym c.rev.ensures)
     ) c.put_link.ensures
 
-pub returns-then-is_named-2 : goal.returns-then-is_named-2
-returns-then-is_named-2 g c =
+pub returns-then-is_word-2 : goal.returns-then-is_word-2
+returns-then-is_word-2 g c =
     puts_is (
-    edge-to c.args.index.now (tag_of c.args.elem.now) (sym c.is_named.ensures ∙ c.if-is_named.false) (sym (c.is_named-2).ensures ∙ (c.if-is_named-2).true)
-    ∙ ap (λ n. codes "<a id=\"to-" ++ (decimal n ++ (codes "\" href=\"#from-" ++ (decimal n ++ sign_text c.args.index.now (codes "\" data-revision=\"") n (codes "\">moved here</a>"))))) (sym (c.rev-then-is_named-2).ensures)
-    ) (c.put_link-then-is_named-2).ensures
+    edge-to c.args.index.now (tag_of c.args.elem.now) (sym c.is_word.ensures ∙ c.if-is_word.false) (sym (c.is_word-2).ensures ∙ (c.if-is_word-2).true)
+    ∙ ap (λ n. codes "<a id=\"to-" ++ (decimal n ++ (codes "\" href=\"#from-" ++ (decimal n ++ sign_text c.args.index.now (codes "\" data-revision=\"") n (codes "\">moved here</a>"))))) (sym (c.rev-then-is_word-2).ensures)
+    ) (c.put_link-then-is_word-2).ensures

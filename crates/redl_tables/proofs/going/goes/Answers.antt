@@ -7,16 +7,16 @@ use Rattle.redl_tree.specs.Model.View.{nodes_of, tag_of, kids_of}
 use Rattle.redl_tree.specs.declared.lists.Reach.TheVariants.{Direct}
 use Rattle.redl_tables.proofs.going.goes.Goals as goal
 
-pub returns-then-is_named-2-clause-row : goal.returns-then-is_named-2-clause-row
-returns-then-is_named-2-clause-row c =
+pub returns-then-is_word-2-clause-row : goal.returns-then-is_word-2-clause-row
+returns-then-is_word-2-clause-row c =
     let says = c.args.says.now in
-    let gone = c.goes_itself-then-is_named-2.ensures ∙ ap (row_goes says) c.kids-then-is_named-2.ensures.kids in
+    let gone = c.goes_itself-then-is_word-2.ensures ∙ ap (row_goes says) c.kids-then-is_word-2.ensures.kids in
     λ stays is_row full. row-keeps says (kids_of c.args.elem.now) full (sym gone ∙ stays)
 
-pub returns-then-is_named-3-clause-table : goal.returns-then-is_named-3-clause-table
-returns-then-is_named-3-clause-table c =
+pub returns-then-is_word-3-clause-table : goal.returns-then-is_word-3-clause-table
+returns-then-is_word-3-clause-table c =
     let says = c.args.says.now in
-    let gone = c.all_go.ensures ∙ ap (λ kids. all_of_some (row_goes says) (own "tr" Direct kids)) c.kids-then-is_named-3.ensures.kids in
+    let gone = c.all_go.ensures ∙ ap (λ kids. all_of_some (row_goes says) (own "tr" Direct kids)) c.kids-then-is_word-3.ensures.kids in
     λ stays is_table full. table-keeps says (kids_of c.args.elem.now) full (sym gone ∙ stays)
 
 pub returns-then-in_row-clause-shell : goal.returns-then-in_row-clause-shell
