@@ -23,5 +23,5 @@ pub use admitted::Admitted;
 pub use document::{Document, DocumentId, LazyDigest};
 pub use fetch::{fetch_file, fetch_package, name_of};
 pub use journals::{add_entries, join_journals, read_first};
-pub use package::{Counted, Numbered, count_package, number_package, pass_nodes, read_package};
+pub use package::{pass_nodes, read_package};
 pub use sessions::{open, open_package, sit, start};

@@ -1,36 +1,35 @@
-//! The package of a text: its parts with their numbers, or why it is refused, and what a pass leaves of it.
+//! The package of a text, or why it is refused, and what a pass leaves of it.
 
-ghost use Rattle.std.specs.Prelude.{◌≡◌, ◌<◌, None, IfOk, length};
+ghost use Rattle.std.specs.Prelude.{◌≡◌, ◌<◌, None, IfOk};
 ghost use Rattle.redl_inputs.specs.Packages.{tree_in, shaped, sound, package_in};
 ghost use Rattle.redl_inputs.specs.Reading.{Reads};
 ghost use Rattle.redl_inputs.specs.Views.{result_view};
-ghost use Rattle.redl_index.specs.Numbers.{numbered_package, package_revisions};
-ghost use Rattle.redl_index.specs.Revisions.{revisions_of};
 ghost use Rattle.redl_tree.specs.Model.Tree.{IsTree};
 ghost use Rattle.redl_rules.specs.Attributes.{broken_rule};
 ghost use Rattle.redl_tree.specs.Decisions.Packages.{pass_package};
 ghost use Rattle.redl_tree.specs.Model.View.{nodes_of};
 ghost use Rattle.redl_tree.specs.Revisions.Labels.{unlabelled};
 
-use redl_index::{Index, number};
+use redl_index::Surveyed;
 use redl_lines::Failure;
 use redl_opc::Package;
 use redl_resolve::{Steps, into_passed};
-use redl_rules::check;
+use redl_rules::RuleError;
 use redl_tree::{Node, Say};
 use std::alloc::{AllocError, Global};
 use std::marker::Brand;
 use std::sync::ledger::{Blank, Ledger};
 
 /// The package with this text. No element of it has a label yet.
-pub fn read_package<'a, 'b>(alloc: Global, bytes: &'b [u8]) -> Result<Package<'b>, Failure<'a>>
+pub fn read_package<'a, 'b>(alloc: Global, bytes: &'b [u8]) -> Result<Surveyed<'b>, Failure<'a>>
     ensures read { Reads (result_view (λ made. made) result) (λ reader. package_in reader bytes.now) }
     ensures sound { IfOk result (λ made. broken_rule made ≡ None) }
     ensures unlabelled { IfOk result (λ made. unlabelled made ≡ made) }
 {
     let nodes = read_nodes(alloc, bytes)?;
-    let package = shape(alloc, nodes)?;
-    check_rules(alloc, &package)?;
+    let shaped = shape(alloc, nodes)?;
+    let package = Surveyed::of(alloc, shaped)?;
+    check_rules(&package)?;
     Ok(package)
 }
 
@@ -53,46 +52,14 @@ fn shape<'a, 'b>(alloc: Global, nodes: Vec<Node<'b>>) -> Result<Package<'b>, Fai
 }
 
 // Whether the package keeps the rules of structure.
-fn check_rules<'a>(alloc: Global, package: &Package) -> Result<(), Failure<'a>>
+fn check_rules<'a>(package: &Surveyed) -> Result<(), Failure<'a>>
     ensures read { Reads (result_view (λ _. «package».now) result) (λ _. sound «package».now) }
     ensures sound { IfOk result (λ _. broken_rule «package».now ≡ None) }
 {
-    Ok(check(alloc, package)?)
-}
-
-/// A package with the kinds and numbers of its revisions, and the revisions.
-#[derive(Drop)]
-pub struct Numbered<'b> {
-    pub package: Package<'b>,
-    pub index: Index,
-}
-
-/// A package with the kinds and numbers of its revisions, and how many these are.
-#[derive(Drop)]
-pub struct Counted<'b> {
-    pub package: Package<'b>,
-    pub count: u32,
-}
-
-/// The package with its numbers.
-pub fn number_package(alloc: Global, pkg: Package) -> Result<Numbered, AllocError>
-    ensures numbered { IfOk result (λ made. made.«package» ≡ numbered_package pkg.entry) }
-    ensures index { IfOk result (λ made. made.index ≡ revisions_of pkg.entry) }
-    ensures count { IfOk result (λ made. length made.index ≡ package_revisions pkg.entry) }
-{
-    let mut package = pkg;
-    let index = Index::build(alloc, &mut package)?;
-    Ok(Numbered { package, index })
-}
-
-/// The package with its numbers, where its revisions are only counted.
-pub fn count_package(alloc: Global, pkg: Package) -> Result<Counted, AllocError>
-    ensures numbered { IfOk result (λ made. made.«package» ≡ numbered_package pkg.entry) }
-    ensures count { IfOk result (λ made. made.count ≡ package_revisions pkg.entry) }
-{
-    let mut package = pkg;
-    let count = number(alloc, &mut package)?;
-    Ok(Counted { package, count })
+    match package.broken_rule() {
+        Some(rule) => Err(RuleError::Broken(rule).into()),
+        None => Ok(()),
+    }
 }
 
 /// What is left of a numbered package. Its own nodes go while it is made.

@@ -13,10 +13,10 @@ use crate::admitted::Admitted;
 use crate::document::{Document, LazyDigest};
 use crate::idle::idle_locks;
 use crate::journals::{admit_journals, admit_within};
-use crate::package::{number_package, read_package};
+use crate::package::read_package;
+use redl_index::Surveyed;
 use redl_io::{Shelf, Text};
 use redl_lines::{Failure, RefusedEntries, Remarks};
-use redl_opc::Package;
 use redl_select::Lock;
 use redl_session::{Locks, Session};
 use std::alloc::{AllocError, Global};
@@ -41,7 +41,7 @@ pub fn open<'a, 'b, F: Shelf>(
 /// locks.
 pub fn open_package<'a, 'b, F: Shelf>(
     alloc: Global,
-    package: Package<'b>,
+    package: Surveyed<'b>,
     locks: &[Lock],
     journals: &'a [Text],
     bytes: &'b [u8],
@@ -66,7 +66,7 @@ pub fn open_package<'a, 'b, F: Shelf>(
 /// bytes together, and without locks. Also how many bytes may still come of other journals.
 pub fn sit<'a, 'b, F: Shelf>(
     alloc: Global,
-    package: Package<'b>,
+    package: Surveyed<'b>,
     limit: usize,
     journals: &'a [Text],
     bytes: &'b [u8],
@@ -89,14 +89,14 @@ pub fn sit<'a, 'b, F: Shelf>(
 /// A session over this package, which has this text, before any entry.
 pub fn start<'b>(
     alloc: Global,
-    pkg: Package<'b>,
+    pkg: Surveyed<'b>,
     locks: &[Lock],
     bytes: &'b [u8],
 ) -> Result<Admitted<'b>, AllocError>
     requires { broken_rule pkg ≡ None }
     ensures { IfOk result (λ started. admission_view started ≡ no_admission bytes.now pkg.entry locks.now) }
 {
-    let numbered = number_package(alloc, pkg)?;
+    let numbered = pkg.into_numbered(alloc)?;
     let count = numbered.index.count();
     let idle = idle_locks(alloc, &numbered.index, locks)?;
     let locks = Locks::new(copy_locks(alloc, locks)?);
