@@ -7,16 +7,16 @@
 
 mod attributes;
 mod ends;
+mod keeper;
 mod kept;
 mod kids;
 mod laws;
 mod round;
 mod rules;
 mod soundness;
-mod walk;
 
+pub use keeper::Keeper;
 pub use kept::Kept;
 pub use laws::numbering_keeps_rules;
 pub use round::Round;
 pub use soundness::{RuleError, check};
-pub use walk::Keeper;

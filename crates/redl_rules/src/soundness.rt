@@ -1,15 +1,19 @@
 //! The least rule that a package breaks.
 
-ghost use Rattle.std.specs.Prelude.{◌≡◌};
+ghost use Rattle.std.specs.Prelude.{◌≡◌, []};
 ghost use Rattle.redl_tree.specs.Decisions.Packages.{stories};
 ghost use Rattle.redl_rules.specs.Attributes.{broken_rule as broken_rule_of};
 ghost use Rattle.redl_rules.specs.Answers.{answer_of};
-ghost use Rattle.redl_rules.specs.Keeping.{kept_among};
+ghost use Rattle.redl_tree.specs.Model.View.{tag_of, kids_of};
+ghost use Rattle.redl_rules.specs.Keeping.{element_kept, kept_among};
 
+use crate::keeper::Keeper;
 use crate::kept::Kept;
-use crate::walk::kept_by_story;
 use redl_opc::Package;
+use redl_tree::Elem;
+use redl_visit::{Ancestors, visit_kids};
 use std::alloc::Global;
+use std::convert::Infallible;
 use thiserror::Error;
 
 /// Why a package can't be decided.
@@ -53,4 +57,16 @@ fn kept_by_stories(pkg: &Package) -> Kept
         }
     }
     kept
+}
+
+/// Which rules hold in the story with this root.
+fn kept_by_story(root: &Elem) -> Kept
+    ensures { result ≡ element_kept [] (tag_of root.now) (kids_of root.now) }
+{
+    let inner = Ancestors::none().inside(root);
+    let (mut keeper, round) = Keeper::<Infallible>::at_root(root);
+    match visit_kids(root, &inner, &round, &mut keeper) {
+        Ok(()) => keeper.kept,
+        Err(never) => match never {},
+    }
 }

@@ -1,11 +1,11 @@
-//! The rules that hold in a story, by one visit of its elements.
+//! The visitor that tells which rules hold in a story.
 
 ghost use Rattle.std.specs.Prelude.{◌≡◌, ◌∷◌, []};
 ghost use Rattle.redl_tree.specs.Model.View.{tag_of, kids_of};
 ghost use Rattle.redl_tree.specs.Roles.Arounds.{inside_of};
 ghost use Rattle.redl_visit.specs.Summaries.{ancestors_inside};
 ghost use Rattle.redl_visit.specs.Visits.{inner_of};
-ghost use Rattle.redl_rules.specs.Keeping.{kept_here as kept_of, element_kept};
+ghost use Rattle.redl_rules.specs.Keeping.{kept_here as kept_of};
 ghost use Rattle.redl_rules.specs.Rounds.{round_of};
 ghost use Rattle.redl_rules.specs.Visiting.{kept_by_round};
 
@@ -15,21 +15,8 @@ use crate::rules::{
     keeps_1, keeps_2, keeps_3, keeps_4, keeps_5, keeps_6, keeps_7, keeps_8, keeps_9,
 };
 use redl_tree::{Around, Elem, Kind};
-use redl_visit::{Ancestors, Visitor, visit_kids};
-use std::convert::Infallible;
+use redl_visit::{Ancestors, Visitor};
 use std::marker::PhantomData;
-
-/// Which rules hold in the story with this root.
-pub fn kept_by_story(root: &Elem) -> Kept
-    ensures { result ≡ element_kept [] (tag_of root.now) (kids_of root.now) }
-{
-    let inner = Ancestors::none().inside(root);
-    let (mut keeper, round) = Keeper::<Infallible>::at_root(root);
-    match visit_kids(root, &inner, &round, &mut keeper) {
-        Ok(()) => keeper.kept,
-        Err(never) => match never {},
-    }
-}
 
 /// Tells which rules hold of all elements so far. It never stops, and so goes beside any visitor that stops with an `X`.
 #[derive(Drop)]

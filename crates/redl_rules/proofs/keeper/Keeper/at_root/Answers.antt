@@ -5,7 +5,7 @@ use Rattle.redl_visit.specs.declared.ancestors.Ancestors.{Ancestors}
 use Rattle.redl_rules.specs.Rounds.{round_of}
 use Rattle.redl_rules.specs.Visiting.{kept_by_round}
 use Rattle.redl_rules.proofs.KeeperLaws.{here-kept}
-use Rattle.redl_rules.proofs.walk.Keeper.at_root.Goals as goal
+use Rattle.redl_rules.proofs.keeper.Keeper.at_root.Goals as goal
 
 pub returns-clause-kept : goal.returns-clause-kept
 returns-clause-kept g c =

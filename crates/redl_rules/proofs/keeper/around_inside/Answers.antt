@@ -3,7 +3,7 @@ use Rattle.redl_tree.specs.Model.View.{tag_of, kids_of}
 use Rattle.redl_visit.specs.declared.ancestors.Ancestors.{Ancestors}
 use Rattle.redl_visit.specs.Summaries.{ancestors_inside}
 use Rattle.redl_visit.proofs.VisitLaws.{some_inner}
-use Rattle.redl_rules.proofs.walk.around_inside.Goals as goal
+use Rattle.redl_rules.proofs.keeper.around_inside.Goals as goal
 
 pub returns-in-Some : goal.returns-in-Some
 returns-in-Some c =

@@ -4,7 +4,7 @@ use Rattle.redl_visit.specs.Summaries.{ancestors_inside}
 use Rattle.redl_visit.proofs.VisitLaws.{needs-nothing}
 use Rattle.redl_rules.specs.Visiting.{keeper_rule}
 use Rattle.redl_rules.proofs.KeeperLaws.{story-kept}
-use Rattle.redl_rules.proofs.walk.kept_by_story.Goals as goal
+use Rattle.redl_rules.proofs.soundness.kept_by_story.Goals as goal
 
 pub visit_kids-requires : goal.visit_kids-requires
 visit_kids-requires c =
