@@ -1,4 +1,4 @@
--- Worked rows of the nine rules, with the attributes that they ask of a tag.
+-- Worked rows of the rules, with the attributes that they ask of a tag.
 use Prim.Native.String.{String}
 use Rattle.std.proofs.Common.{◌≡◌, ℕ, [], ◌∷◌, true, false, Option, None, Some, codes, map, refl}
 use Rattle.redl_tree.specs.Model.Nodes.{Nodes, no_nodes, ◌⊕◌}

@@ -1,4 +1,4 @@
--- What the rules ask of a tag's attributes, by the tag's tail, and the nine rules with this (Namespaces in XML 1.0; the
+-- What the rules ask of a tag's attributes, by the tag's tail, and the rules with this (Namespaces in XML 1.0; the
 -- rules are our own).
 use Rattle.std.specs.Prelude.{ℕ, List, [], Bool, ◌&&◌, ◌||◌, bytes_eq, codes, is_some, Option}
 use Rattle.std.specs.List.{list_any}
@@ -23,7 +23,7 @@ is_declaration attribute =
 abbrev pub declares : List ℕ → Bool
 declares tail = list_any is_declaration (attributes_of tail)
 
--- the nine rules in their order
+-- the rules in their order
 abbrev pub rules : List Test
 rules = tests has_id declares
 

@@ -13,7 +13,7 @@ use Rattle.redl_rules.specs.Rounds.{round_below}
 use Rattle.redl_rules.specs.Keeping.{in_both}
 use Rattle.redl_rules.specs.Inside.Rules.{ends_well, has_cells, by_round_3, by_round_4, marks_once, by_round_6, by_round_7, by_round_8, by_round_9}
 
--- the rules that hold of an element with this role by itself; `here` is round it, and `inner` is round its kids
+-- the rules that hold of an element with this role by itself; `here` and `round` sum up its ancestors, and `inner` those of its kids
 abbrev pub kept_by_round : Around → Around → Round → Kind → Tag → Nodes → Kept
 kept_by_round here inner round kind tag kids = record {
   rules =

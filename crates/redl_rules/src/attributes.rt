@@ -25,7 +25,7 @@ pub fn declares_names(tail: &[u8]) -> bool
     has_x(tail) && has_declaration(tail)
 }
 
-/// Whether there is an `x` in a tail. Most have none, and so no `xmlns`: their attributes aren't read.
+// Whether there is an `x` in a tail. Most have none, and so no `xmlns`: their attributes aren't read.
 fn has_x(tail: &[u8]) -> bool
     ensures { result ≡ not (list_all (is_other 120) tail.now) }
 {
@@ -45,7 +45,7 @@ fn has_declaration(tail: &[u8]) -> bool
     false
 }
 
-/// Whether an attribute is named `xmlns`, or has this prefix.
+// Whether an attribute is named `xmlns`, or has this prefix.
 fn is_declaration(attribute: &Attribute<'_>) -> bool
     ensures { result ≡ is_declaration (attribute_view attribute.now) }
 {

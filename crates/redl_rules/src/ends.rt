@@ -60,7 +60,7 @@ fn end_of_elem(elem: &Elem, reach: Reach) -> Option<bool>
     }
 }
 
-/// The end of two lists, one after the other.
+// The end of two lists, one after the other.
 fn end_of_two(reach: Reach, before: Option<bool>, last: Option<bool>) -> Option<bool>
     ensures { result ≡ end_of_two_of reach before last }
 {
@@ -70,7 +70,7 @@ fn end_of_two(reach: Reach, before: Option<bool>, last: Option<bool>) -> Option<
     }
 }
 
-/// What the last of two says, or else the one before.
+// What the last of two says, or else the one before.
 fn later_end(before: Option<bool>, last: Option<bool>) -> Option<bool>
     ensures { result ≡ or_before before last }
 {

@@ -18,9 +18,10 @@ use redl_tree::{Around, Elem, Kind};
 use redl_visit::{Ancestors, Visitor};
 use std::marker::PhantomData;
 
-/// Tells which rules hold of all elements so far. It never stops, and so goes beside any visitor that stops with an `X`.
+/// Tells which rules hold of the elements of a story. It never stops, and so goes beside any visitor that stops with an `X`.
 #[derive(Drop)]
 pub struct Keeper<X> {
+    /// The rules that hold of all elements so far.
     pub kept: Kept,
     error: PhantomData<X>,
 }
@@ -86,7 +87,7 @@ impl<'a, X> Visitor<Elem<'a>, Ancestors> for Keeper<X> {
     }
 }
 
-/// What is round the kids of an element, whether or not an element is among them.
+// The `Around` of the kids of an element, whether or not an element is among them.
 #[inline(always)]
 fn around_inside(elem: &Elem, here: &Ancestors, inner: Option<Ancestors>) -> Around
     requires { inner ≡ inner_of ancestors_inside (tag_of elem.now) (kids_of elem.now) here.now }
@@ -98,7 +99,8 @@ fn around_inside(elem: &Elem, here: &Ancestors, inner: Option<Ancestors>) -> Aro
     }
 }
 
-/// Which rules hold of an element with this role by itself. `here` is round it, and `inner` is round its kids.
+// Which rules hold of an element by itself. `kind` is its role, `here` and `round` sum up its ancestors, and `inner` those of its
+// kids.
 fn kept_here(elem: &Elem, kind: Kind, here: Around, inner: Around, round: Round) -> Kept
     ensures { result ≡ kept_by_round here inner round kind (tag_of elem.now) (kids_of elem.now) }
 {

@@ -3,7 +3,7 @@
 ghost use Rattle.std.specs.Prelude.{◌≡◌, ◌<◌, IfSome, length, not, position};
 ghost use Rattle.redl_rules.specs.Keeping.{all_kept, in_both, least_broken};
 
-/// Which of the nine rules hold, in their order.
+/// Which of the rules hold, in their order.
 #[derive(Clone, Copy)]
 pub struct Kept {
     pub rules: [bool; 9],
@@ -37,7 +37,7 @@ impl Kept {
     }
 }
 
-/// The place of the first answer that is `false`.
+// The place of the first answer that is `false`.
 fn first_false(answers: &[bool]) -> Option<usize>
     ensures value { result ≡ position not answers.now }
     ensures within { IfSome result (λ place. place < length answers.now) }

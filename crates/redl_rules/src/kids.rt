@@ -87,7 +87,7 @@ pub fn is_only_last(nodes: &[Node], word: Word) -> bool
     true
 }
 
-/// Whether no element comes after a change of properties. `around` is what is round these nodes.
+/// Whether no element comes after a change of properties. `around` sums up their ancestors.
 pub fn changes_are_last(nodes: &[Node], around: Around) -> bool
     ensures { result ≡ by_round_4 around (nodes_of nodes.now) }
 {
@@ -95,7 +95,7 @@ pub fn changes_are_last(nodes: &[Node], around: Around) -> bool
     !around.is_quiet() || changes_end_properties(nodes, around)
 }
 
-/// The same, by the role of each element.
+// The same, by the role of each element.
 fn changes_end_properties(nodes: &[Node], around: Around) -> bool
     ensures { result ≡ only_last (λ kid. is_change (role_in around kid)) (nodes_of nodes.now) }
 {

@@ -1,4 +1,4 @@
-//! The nine rules of structure that a package must keep, for its revisions to be decided: a package goes in, and the least
+//! The rules of structure that a package must keep, for its revisions to be decided: a package goes in, and the least
 //! rule that it breaks comes out. Read `check` first, then the rules in `rules.rt` beside `Sound` of `redl_tree`.
 //! A package that keeps them all is sound: whatever is decided, what the decision leaves is a document.
 //! `Keeper` tells the same of a story in a visit that others may share. Which elements are revisions is told by `Around` of

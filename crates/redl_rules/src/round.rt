@@ -26,7 +26,7 @@ pub struct Round {
 }
 
 impl Round {
-    /// What is round a story's root: nothing.
+    /// Of a story's root, which has no ancestors.
     pub fn top() -> Round
         ensures { result ≡ round_of [] }
     {

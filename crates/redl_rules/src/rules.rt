@@ -1,4 +1,4 @@
-//! The nine rules, of one element by itself.
+//! The rules, of one element by itself. `kind` is its role, `here` sums up its ancestors, and `inner` those of its kids.
 
 ghost use Rattle.std.specs.Prelude.{◌≡◌, ◌∷◌, ◌&&◌, not, []};
 ghost use Rattle.redl_tree.specs.Roles.Names.{is, is_any};
@@ -22,7 +22,7 @@ use redl_tree::{
     prop_of,
 };
 
-/// A cell ends in a paragraph (rule 1). `inner` is round the kids.
+/// A cell ends in a paragraph (rule 1).
 pub fn keeps_1(elem: &Elem, inner: Around) -> bool
     ensures { result ≡ ends_well inner.parent (kids_of elem.now) }
 {
@@ -32,7 +32,7 @@ pub fn keeps_1(elem: &Elem, inner: Around) -> bool
     }
 }
 
-/// A row has a cell (rule 2). `inner` is round the kids.
+/// A row has a cell (rule 2).
 pub fn keeps_2(elem: &Elem, inner: Around) -> bool
     ensures { result ≡ has_cells inner.parent (kids_of elem.now) }
 {
@@ -42,7 +42,7 @@ pub fn keeps_2(elem: &Elem, inner: Around) -> bool
     }
 }
 
-/// A content revision holds no block (rule 3). `kind` is the element's role.
+/// A content revision holds no block (rule 3).
 pub fn keeps_3(elem: &Elem, kind: Kind, here: Around, round: Round) -> bool
     ensures { result ≡ by_round_3 here round kind (tag_of elem.now) (kids_of elem.now) }
 {
@@ -51,18 +51,21 @@ pub fn keeps_3(elem: &Elem, kind: Kind, here: Around, round: Round) -> bool
         && is_thin_among_blocks(elem, kind, round)
 }
 
+// No content revision holds a block at any depth, text boxes aside.
 fn is_no_block_below(elem: &Elem, here: Around, round: Round) -> bool
     ensures { result ≡ implies (is_banned_tag (tag_of elem.now) && not here.quiet) (not round.below_content) }
 {
     !round.below_content || here.is_quiet() || !is_banned(elem)
 }
 
+// No content revision has run properties or the content of a control as a kid.
 fn is_no_props_in(elem: &Elem, here: Around, round: Round) -> bool
     ensures { result ≡ implies (open_in ("rPr" ∷ "sdtContent" ∷ []) here (tag_of elem.now)) (not round.in_content) }
 {
     !round.in_content || here.is_quiet() || !is_run_props_or_control(elem)
 }
 
+// A content revision among blocks has no block as a kid.
 fn is_thin_among_blocks(elem: &Elem, kind: Kind, round: Round) -> bool
     ensures { result ≡ implies (is_content kind && round.among_blocks)
         (not (some_element is_thick (kids_of elem.now))) }
@@ -76,6 +79,7 @@ fn is_content_among_blocks(kind: Kind, round: Round) -> bool
     round.among_blocks && kind.is_content()
 }
 
+// What no content revision holds, at any depth.
 fn is_banned(elem: &Elem) -> bool
     ensures { result ≡ is_banned_tag (tag_of elem.now) }
 {
@@ -97,14 +101,14 @@ fn is_run_props_or_control(elem: &Elem) -> bool
     is_word(elem, Word::RPr) || is_word(elem, Word::SdtContent)
 }
 
-/// A change is the last kid (rule 4). `inner` is round the kids.
+/// A change is the last kid (rule 4).
 pub fn keeps_4(elem: &Elem, inner: Around) -> bool
     ensures { result ≡ by_round_4 inner (kids_of elem.now) }
 {
     changes_are_last(elem.kids(), inner)
 }
 
-/// Marks stand once (rule 5). `inner` is round the kids.
+/// Marks stand once (rule 5).
 pub fn keeps_5(elem: &Elem, inner: Around) -> bool
     ensures { result ≡ marks_once inner.parent (kids_of elem.now) }
 {
@@ -139,7 +143,7 @@ fn cell_is_once(kids: &[Node]) -> bool
     is_once(kids, Word::CellIns) && is_once(kids, Word::CellDel)
 }
 
-/// Properties stand once and in their place, and a control has one content (rule 6). `inner` is round the kids.
+/// Properties stand once and in their place, and a control has one content (rule 6).
 pub fn keeps_6(elem: &Elem, inner: Around, here: Around) -> bool
     ensures { result ≡ by_round_6 inner here (tag_of elem.now) (kids_of elem.now) }
 {
@@ -181,6 +185,7 @@ pub fn keeps_8(elem: &Elem, round: Round) -> bool
     !round.below_change || !is_banned_below_change(elem)
 }
 
+// What no change holds, at any depth.
 fn is_banned_below_change(elem: &Elem) -> bool
     ensures { result ≡ is_banned_below_change_tag (tag_of elem.now) }
 {
@@ -192,21 +197,21 @@ fn is_banned_below_change(elem: &Elem) -> bool
         || is_word(elem, Word::TxbxContent)
 }
 
-/// What a decision can take the tags of declares no namespace (rule 9). `kind` is the element's role, and `inner` is round
-/// the kids.
+/// What a decision can take the tags of declares no namespace (rule 9).
 pub fn keeps_9(elem: &Elem, kind: Kind, inner: Around) -> bool
     ensures { result ≡ by_round_9 inner.parent kind (tag_of elem.now) (kids_of elem.now) }
 {
     keeps_own_tag(elem, kind, inner.parent()) && !change_declares(kind, elem.kids())
 }
 
+// Where a decision may remove the own tags of the element, these declare no namespace.
 fn keeps_own_tag(elem: &Elem, kind: Kind, parent: Parent) -> bool
     ensures { result ≡ implies (loses_tags_of parent kind) (not (declares (tag_of elem.now).tail)) }
 {
     !loses_tags(kind, parent) || !declares_names(elem.tail())
 }
 
-/// Whether a decision may remove the tags of an element of this role, which is `parent` to its kids, and keep the kids.
+// Whether a decision may remove the tags of an element of this role, which is `parent` to its kids, and keep the kids.
 fn loses_tags(kind: Kind, parent: Parent) -> bool
     ensures { result ≡ loses_tags_of parent kind }
 {
@@ -216,7 +221,7 @@ fn loses_tags(kind: Kind, parent: Parent) -> bool
     }
 }
 
-/// Whether the former properties in a change declare a namespace.
+// Whether the former properties in a change declare a namespace.
 fn change_declares(kind: Kind, kids: &[Node]) -> bool
     ensures { result ≡ change_declares_by declares kind (nodes_of kids.now) }
 {
@@ -226,7 +231,7 @@ fn change_declares(kind: Kind, kids: &[Node]) -> bool
     }
 }
 
-/// The name of the properties that a change is of.
+// The name of the properties that a change is of.
 fn props_word(prop: Prop) -> Word
     ensures { name_of result ≡ props_name_of prop }
 {
@@ -241,7 +246,7 @@ fn props_word(prop: Prop) -> Word
     }
 }
 
-/// Whether the first element with this name declares a namespace.
+// Whether the first element with this name declares a namespace.
 fn former_declares_names(word: Word, kids: &[Node]) -> bool
     ensures { result ≡ former_declares declares (name_of word) (nodes_of kids.now) }
 {

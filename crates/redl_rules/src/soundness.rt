@@ -27,7 +27,7 @@ pub enum RuleError {
     NoMemory,
 }
 
-/// Checks that all stories of a package keep the nine rules.
+/// Checks that all stories of a package keep the rules.
 ///
 /// `Broken` exactly where they don't, with the least number from 1 to 9 of a rule that is broken. The check takes no memory,
 /// and so never answers `NoMemory`. It goes once through the package, and one level deeper for each level of elements.
@@ -46,7 +46,7 @@ fn broken_rule(pkg: &Package) -> Option<u8>
     kept_by_stories(pkg).least_broken()
 }
 
-/// Which rules hold in all stories.
+// Which rules hold in all stories.
 fn kept_by_stories(pkg: &Package) -> Kept
     ensures { result ≡ kept_among (stories pkg.now) }
 {
@@ -59,7 +59,7 @@ fn kept_by_stories(pkg: &Package) -> Kept
     kept
 }
 
-/// Which rules hold in the story with this root.
+// Which rules hold in the story with this root.
 fn kept_by_story(root: &Elem) -> Kept
     ensures { result ≡ element_kept [] (tag_of root.now) (kids_of root.now) }
 {
