@@ -1,7 +1,7 @@
 pub mod StoryLaws
 pub mod TallyLaws
 pub mod IndexLaws
-pub mod ContextLaws
+pub mod KindLaws
 pub mod SightLaws
 pub mod SeekerLaws
 pub mod LabelLaws

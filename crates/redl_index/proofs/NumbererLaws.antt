@@ -20,7 +20,7 @@ use Rattle.redl_markers.proofs.RiseLaws.{between-rises, story-between}
 use Rattle.redl_markers.proofs.StoryLaws.{tags-count}
 use Rattle.redl_visit.specs.Labelling.{visit_of, needs_of, with_label, relabelled}
 use Rattle.redl_visit.specs.Visits.{VisitRule, visited, Needs}
-use Rattle.redl_index.specs.Inside.Contexts.{para_end}
+use Rattle.redl_index.specs.Inside.Sights.{para_end}
 use Rattle.redl_index.specs.Inside.Numberings.{NumbersView, number_given, given, IsNumbering}
 use Rattle.redl_index.specs.Inside.Numberers.{NumbererState, sight_of_next, numberer_rule, numberer_needs}
 use Rattle.redl_index.specs.Known.{Marked, known_in, parts_by}

@@ -21,8 +21,7 @@ use Rattle.redl_index.specs.Mentions.{Sight, sight_by, sight_in}
 use Rattle.redl_index.specs.Revisions.{numbered, story_revisions}
 use Rattle.redl_index.specs.declared.revision.Revision.{Revision}
 use Rattle.redl_index.specs.declared.story.Sight.{Sight as OwnSight}
-use Rattle.redl_index.specs.Inside.Contexts.{para_end}
-use Rattle.redl_index.specs.Inside.Sights.{next_end}
+use Rattle.redl_index.specs.Inside.Sights.{para_end, next_end}
 use Rattle.redl_index.specs.Inside.Tallies.{Tally, noted, noted_all}
 use Rattle.redl_index.specs.Inside.Seeking.{Seeking, seeking_in, seeker_rule, seeker_needs}
 use Rattle.redl_index.proofs.SightLaws.{sight-here, apart-at, end-inside, ends-inside, around-inside, para_end-root}

@@ -2,7 +2,6 @@
 pub mod Numberings
 pub mod Stories
 pub mod Tallies
-pub mod Contexts
 pub mod Sights
 pub mod Seeking
 pub mod Numberers

@@ -9,11 +9,11 @@ ghost use Rattle.redl_index.specs.Known.{known_of, known_in, parts_by};
 ghost use Rattle.redl_index.specs.Revisions.{numbered, story_revisions, revisions_of};
 ghost use Rattle.redl_index.specs.Inside.Seeking.{seeking_of, seeking_in};
 
-use crate::context::Walk;
 use crate::found::Found;
 use crate::index::Index;
 use crate::known::Known;
 use crate::story::{Sight, Story};
+use crate::walk::Walk;
 use redl_opc::Package;
 use redl_tree::{Around, Elem};
 use redl_visit::{Visitor, visit_kids};

@@ -11,10 +11,10 @@ ghost use Rattle.redl_stamp.specs.Attribute.{attribute_value};
 ghost use Rattle.redl_index.specs.Known.{known_of, known_in, parts_by};
 ghost use Rattle.redl_index.specs.Numbers.{numbered_package, package_revisions};
 
-use crate::context::Walk;
 use crate::known::Known;
 use crate::numbers::Numbers;
 use crate::story::Sight;
+use crate::walk::Walk;
 use redl_moves::Moves;
 use redl_opc::Package;
 use redl_tree::{Around, Elem, StoryChange};

@@ -7,7 +7,6 @@
 //! What a decision does is left to the crates above.
 #![tactic(auto)]
 
-mod context;
 mod find;
 mod found;
 mod index;
@@ -20,6 +19,7 @@ mod numbers;
 mod revision;
 mod story;
 mod survey;
+mod walk;
 
 pub use index::Index;
 pub use kind_names::one_kind_for_a_name;

@@ -5,9 +5,8 @@ use Rattle.redl_tree.specs.Roles.Arounds.{role_in}
 use Rattle.redl_tree.specs.Revisions.Moves.{Marking}
 use Rattle.redl_tree.specs.declared.around.Around.{Around}
 use Rattle.redl_visit.specs.Labelling.{LabelRule, LabelNeeds}
-use Rattle.redl_index.specs.Inside.Contexts.{IsApartAs}
 use Rattle.redl_index.specs.Inside.Numberings.{NumbersView, numbers_view, number_given, given}
-use Rattle.redl_index.specs.Inside.Sights.{sight_at, next_end, ends_after}
+use Rattle.redl_index.specs.Inside.Sights.{IsApartAs, sight_at, next_end, ends_after}
 use Rattle.redl_index.specs.declared.label.Numberer.{Numberer}
 use Rattle.redl_index.specs.declared.story.Sight.{Sight}
 

@@ -7,8 +7,7 @@ use Rattle.redl_tree.specs.declared.around.Around.{Around}
 use Rattle.redl_visit.specs.Visits.{VisitRule, VisitNeeds}
 use Rattle.redl_index.specs.Known.{Marked}
 use Rattle.redl_index.specs.Mentions.{sight_by}
-use Rattle.redl_index.specs.Inside.Contexts.{IsApartAs}
-use Rattle.redl_index.specs.Inside.Sights.{sight_at, next_end, ends_after}
+use Rattle.redl_index.specs.Inside.Sights.{IsApartAs, sight_at, next_end, ends_after}
 use Rattle.redl_index.specs.Inside.Stories.{tails_in}
 use Rattle.redl_index.specs.Inside.Tallies.{Tally, tally_of, noted}
 use Rattle.redl_index.specs.declared.revision.Revision.{Revision}

@@ -1,6 +1,6 @@
 use Rattle.std.proofs.Common.{sym, subst}
 use Rattle.redl_tree.specs.Model.View.{tag_of}
-use Rattle.redl_index.proofs.ContextLaws.{IsNamed, named-role_in}
+use Rattle.redl_index.proofs.KindLaws.{IsNamed, named-role_in}
 use Rattle.redl_index.proofs.story.Sight.of.Goals as goal
 
 pub returns-clause-named : goal.returns-clause-named
