@@ -1,138 +1,105 @@
 //! What no clause of `redl_paras` says: that calls succeed with ample memory, and that the text is the one that a document
 //! has.
 //!
-//! A chain is written as words. `p` and a digit begin a paragraph, with the digit as its tail, and `c` before them says that
-//! it is cut; its kids follow, a letter each. A capital letter is a `pPr` with that tail, a point is a node of bytes, and
-//! every other letter an element with that name. A word of one letter is a node between paragraphs. The wanted texts follow
-//! from ECMA-376 Part 1, 17.13.5 and 17.3.1.26: a paragraph whose mark goes is joined with the next one, of which the
-//! properties stay.
-use redl_io::MemSink;
+//! Chains and wanted texts are outlines. A paragraph and its properties have a number, and `cut` says that the paragraph is
+//! cut. The wanted texts follow from ECMA-376 Part 1, 17.13.5 and 17.3.1.26: a paragraph whose mark goes is joined with the
+//! next one, of which the properties stay.
+use redl_outline::{Outline, nodes_text, outline_text};
 use redl_paras::{Next, Piece, group};
-use redl_tree::{Elem, Node, Space, Tag, write_nodes};
+use redl_tree::{Elem, Node, is_named};
 use std::alloc::{AllocError, Global};
 use std::test::Fail;
 
-// A start tag with this text, whose name has `name` bytes.
-fn tag(text: &[u8], name: u32) -> Option<Tag<'_>> {
-    if name as usize > text.len() {
-        return None;
-    }
-    Some(Tag::new(text, 0, name, Space::W))
+const OWN: &[(&str, &str)] = &[
+    ("1", " w:id='1'"),
+    ("2", " w:id='2'"),
+    ("3", " w:id='3'"),
+    ("cut", " w:cut='yes'"),
+];
+
+fn is_cut(elem: &Elem) -> bool {
+    elem.tail().ends_with(b" w:cut='yes'")
 }
 
-// The properties of a paragraph with this letter as their tail.
-fn props(letter: &[u8]) -> Option<Tag<'static>> {
-    match letter {
-        b"A" => tag(b"pPrA", 3),
-        b"B" => tag(b"pPrB", 3),
-        b"C" => tag(b"pPrC", 3),
-        _ => None,
-    }
-}
-
-fn node(letter: &[u8]) -> Option<Node<'_>> {
-    match letter {
-        b"." => Some(Node::Bytes(letter)),
-        [b'A'..=b'Z'] => Some(Node::Elem(Elem::empty(props(letter)?))),
-        _ => Some(Node::Elem(Elem::empty(tag(letter, 1)?))),
-    }
-}
-
-fn nodes(alloc: Global, letters: &[u8]) -> Result<Vec<Node<'_>>, AllocError> {
-    let mut nodes = Vec::new(alloc);
-    for letter in letters.chunks(1) {
-        if let Some(node) = node(letter) {
-            nodes.push(node)?;
+// The piece with this node.
+fn piece(node: Node<'_>) -> Piece<'_> {
+    match node {
+        Node::Elem(elem) => {
+            if is_named(&elem, b"p") {
+                let cut = is_cut(&elem);
+                return Piece::Para { elem, cut };
+            }
+            Piece::Thin(Node::Elem(elem))
         }
+        Node::Bytes(text) => Piece::Thin(Node::Bytes(text)),
     }
-    Ok(nodes)
 }
 
-// A paragraph with these letters, which is closed by `/>` where they are none.
-fn paragraph<'a>(alloc: Global, tag: Tag<'a>, letters: &'a [u8]) -> Result<Elem<'a>, AllocError> {
-    if letters.is_empty() {
-        return Ok(Elem::empty(tag));
-    }
-    Ok(Elem::with_kids(tag, nodes(alloc, letters)?))
-}
-
-// Adds the piece with this word.
-fn add<'a>(alloc: Global, chain: &mut Vec<Piece<'a>>, word: &'a [u8]) -> Result<(), AllocError> {
-    let (word, cut) = match word {
-        [b'c', rest @ ..] if rest.len() > 1 => (rest, true),
-        _ => (word, false),
-    };
-    if word.len() < 2 {
-        return add_thin(chain, word);
-    }
-    let (start, letters) = word.split_at(2);
-    if let Some(tag) = tag(start, 1) {
-        let elem = paragraph(alloc, tag, letters)?;
-        chain.push(Piece::Para { elem, cut })?;
-    }
-    Ok(())
-}
-
-// Adds the node with this letter.
-fn add_thin<'a>(chain: &mut Vec<Piece<'a>>, letter: &'a [u8]) -> Result<(), AllocError> {
-    if let Some(node) = node(letter) {
-        chain.push(Piece::Thin(node))?;
-    }
-    Ok(())
-}
-
-fn chain(alloc: Global, words: &str) -> Result<Vec<Piece<'_>>, AllocError> {
+fn chain(alloc: Global, outline: &Outline) -> Result<Vec<Piece<'_>>, AllocError> {
     let mut chain = Vec::new(alloc);
-    for word in words.split_ascii_whitespace() {
-        add(alloc, &mut chain, word.as_bytes())?;
+    for node in outline.nodes(alloc)? {
+        chain.push(piece(node))?;
     }
     Ok(chain)
 }
 
-// What the pieces with these words give together, as text.
-fn grouped(alloc: Global, words: &str, next: Next) -> Result<MemSink, AllocError> {
-    let nodes = group(alloc, chain(alloc, words)?, next)?;
-    let mut out = MemSink::new(alloc, 100, Vec::new(alloc))?;
-    match write_nodes(&nodes, &mut out) {
-        Ok(()) => Ok(out),
-        Err(_) => Err(AllocError),
-    }
+// What the pieces of this outline give together, as text.
+fn grouped(alloc: Global, words: &str, next: Next) -> Result<String, AllocError> {
+    let outline = Outline::read(alloc, words, OWN)?;
+    let nodes = group(alloc, chain(alloc, &outline)?, next)?;
+    nodes_text(alloc, &nodes)
 }
 
 #[test]
 fn a_cut_paragraph_is_joined_with_the_next_one(rt: HostRuntime) -> Result<(), Fail> {
     for (words, next, want) in [
         ("", Next::Other, ""),
-        ("p1", Next::End, "<p1/>"),
-        ("p1Aa", Next::Other, "<p1><pPrA/><a/></p>"),
+        ("p/1", Next::End, "p/1"),
+        ("p/1 .pPr/1 .a", Next::Other, "p/1 .pPr/1 .a"),
         // the last properties, and what is between
-        ("cp1Aa k p2Bb", Next::End, "<p2><pPrB/><a/><k/><b/></p>"),
-        ("cp1a p2bB", Next::End, "<p2><pPrB/><a/><b/></p>"),
         (
-            "cp1Aa. cp2Bb p3Cc",
+            "p/1/cut .pPr/1 .a k p/2 .pPr/2 .b",
             Next::End,
-            "<p3><pPrC/><a/>.<b/><c/></p>",
+            "p/2 .pPr/2 .a .k .b",
+        ),
+        ("p/1/cut .a p/2 .b .pPr/2", Next::End, "p/2 .pPr/2 .a .b"),
+        (
+            "p/1/cut .pPr/1 .a .(x) p/2/cut .pPr/2 .b p/3 .pPr/3 .c",
+            Next::End,
+            "p/3 .pPr/3 .a .(x) .b .c",
         ),
         // properties between go, and what was closed by `/>` gets an end tag
-        ("cp1 A p2", Next::End, "<p2></p>"),
+        ("p/1/cut pPr/1 p/2", Next::End, "p/2 .()"),
         (
-            "p1a k cp2b p3c m",
+            "p/1 .a k p/2/cut .b p/3 .c m",
             Next::End,
-            "<p1><a/></p><k/><p3><b/><c/></p><m/>",
+            "p/1 .a k p/3 .b .c m",
         ),
         // a cut last paragraph, at the end of a cell and before a table
-        ("cp1A.", Next::End, "<p1><pPrA/>.</p>"),
-        ("cp1A. k", Next::Other, ".<k/>"),
-        ("cp1Aa k", Next::Other, "<p1><pPrA/><a/></p><k/>"),
-        ("p1 cp2", Next::Other, "<p1/>"),
+        ("p/1/cut .pPr/1 .(x)", Next::End, "p/1/cut .pPr/1 .(x)"),
+        ("p/1/cut .pPr/1 .(x) k", Next::Other, "(x) k"),
+        ("p/1/cut .pPr/1 .a k", Next::Other, "p/1/cut .pPr/1 .a k"),
+        ("p/1 p/2/cut", Next::Other, "p/1"),
         // several of them
-        ("cp1A. cp2B.", Next::Other, ".."),
-        ("cp1A. k cp2B.", Next::Other, "<p2><pPrB/>.<k/>.</p>"),
-        ("cp1A. cp2B.", Next::End, "<p2><pPrB/>..</p>"),
+        (
+            "p/1/cut .pPr/1 .(x) p/2/cut .pPr/2 .(y)",
+            Next::Other,
+            "(x) (y)",
+        ),
+        (
+            "p/1/cut .pPr/1 .(x) k p/2/cut .pPr/2 .(y)",
+            Next::Other,
+            "p/2/cut .pPr/2 .(x) .k .(y)",
+        ),
+        (
+            "p/1/cut .pPr/1 .(x) p/2/cut .pPr/2 .(y)",
+            Next::End,
+            "p/2/cut .pPr/2 .(x) .(y)",
+        ),
     ] {
-        let out = grouped(rt.alloc(), words, next)?;
-        let got = out.bytes();
-        assert!(rt; got == want.as_bytes(), "{words} before {next:?}: {got:?}");
+        let got = grouped(rt.alloc(), words, next)?;
+        let want = outline_text(rt.alloc(), want, OWN)?;
+        assert!(rt; got == want, "{words} before {next:?}: {got}");
     }
     Ok(())
 }

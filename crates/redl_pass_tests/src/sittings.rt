@@ -8,6 +8,7 @@ use redl_io::MemSink;
 use redl_join::Book;
 use redl_journal::{Entry, read};
 use redl_opc::Package;
+use redl_outline::{document, outline_text, package, part};
 use redl_sittings::{joined, map_back};
 use redl_tree::Say;
 use std::alloc::{AllocError, Global};
@@ -20,20 +21,15 @@ const HEAD: &[u8] =
 const RANKED: &[u8] =
     b"redline-journal 2\ndocument 0000000000000000000000000000000000000000000000000000000000000000\nrevisions 3\n";
 
-// The text of a package with a part for each body.
+// The text of a package with a document for each outline of a body.
 fn package_text(alloc: Global, bodies: &[&str]) -> Result<String, AllocError> {
-    let mut text = String::from_str(
-        alloc,
-        "<pkg:package xmlns:pkg='http://schemas.microsoft.com/office/2006/xmlPackage' xmlns:w='http://schemas.openxmlformats.org/wordprocessingml/2006/main'>",
-    )?;
+    let mut parts = String::new(alloc);
     for body in bodies {
-        let part = format!(in alloc;
-            "<pkg:part pkg:name='/a' pkg:contentType='x/y'><pkg:xmlData><w:document><w:body>{body}</w:body></w:document></pkg:xmlData></pkg:part>"
-        )?;
-        text.push_str(part.as_str())?;
+        let body = outline_text(alloc, body, &[])?;
+        let document = document(alloc, body.as_str())?;
+        parts.push_str(part(alloc, "/a", document.as_str())?.as_str())?;
     }
-    text.push_str("</pkg:package>")?;
-    Ok(text)
+    package(alloc, parts.as_str())
 }
 
 // The first numbers of the second package's revisions, where the first one was decided by these says.
@@ -52,32 +48,27 @@ fn first_numbers(
     Ok(map_back(alloc, &first, says, &second, index.count())?)
 }
 
-const INSERTED: &str = "<w:p><w:ins><w:r><w:t>a</w:t></w:r></w:ins></w:p>";
+const INSERTED: &str = "p .ins ..r ...t ....(a)";
 
-const LIVE: &str = "<w:p><w:r><w:t>a</w:t></w:r></w:p>";
+const LIVE: &str = "p .r ..t ...(a)";
 
-const DELETED: &str = "<w:p><w:del><w:r><w:delText>b</w:delText></w:r></w:del></w:p>";
+const DELETED: &str = "p .del ..r ...delText ....(b)";
 
 // Documents of one part: the first body, its says, the body that is left, and the first numbers.
 const SITTINGS: [(&str, &[Say], &str, &[u32]); 3] = [
     (
-        "<w:p><w:ins><w:r><w:t>a</w:t></w:r></w:ins></w:p><w:p><w:del><w:r><w:delText>b</w:delText></w:r></w:del></w:p>",
+        "p .ins ..r ...t ....(a) p .del ..r ...delText ....(b)",
         &[Say::Accept, Say::Keep],
-        "<w:p><w:r><w:t>a</w:t></w:r></w:p><w:p><w:del><w:r><w:delText>b</w:delText></w:r></w:del></w:p>",
+        "p .r ..t ...(a) p .del ..r ...delText ....(b)",
         &[2],
     ),
     (
-        "<w:p><w:pPr><w:rPr><w:del/></w:rPr></w:pPr><w:ins><w:r><w:t>a</w:t></w:r></w:ins></w:p><w:p><w:pPr><w:pPrChange><w:pPr/></w:pPrChange></w:pPr></w:p>",
+        "p .pPr ..rPr ...del .ins ..r ...t ....(a) p .pPr ..pPrChange ...pPr",
         &[Say::Accept, Say::Keep, Say::Keep],
-        "<w:p><w:pPr><w:pPrChange><w:pPr/></w:pPrChange></w:pPr><w:ins><w:r><w:t>a</w:t></w:r></w:ins></w:p>",
+        "p .pPr ..pPrChange ...pPr .ins ..r ...t ....(a)",
         &[3, 2],
     ),
-    (
-        "<w:p><w:ins><w:r><w:t>a</w:t></w:r></w:ins></w:p>",
-        &[Say::Reject],
-        "<w:p></w:p>",
-        &[],
-    ),
+    ("p .ins ..r ...t ....(a)", &[Say::Reject], "p .()", &[]),
 ];
 
 #[test]
