@@ -1,9 +1,10 @@
-//! Tables of whole packages: their labels and their revisions, where there is ample memory.
+//! Tables of whole packages, whose parts are outlines: their labels and their revisions, where there is ample memory.
 
 ghost use Rattle.std.specs.Prelude.{◌≡◌};
 
+use crate::documents::{WORDS, read_package};
 use redl_index::{Index, RevKind};
-use redl_opc::Package;
+use redl_outline::{outline_text, package, part};
 use redl_tree::{Kind, Node, Prop, Trace};
 use std::alloc::{AllocError, Global};
 use std::test::Fail;
@@ -20,25 +21,15 @@ const MARK: Kind = Kind::Mark(Trace::From);
 
 const EDGE: Kind = Kind::Marker;
 
-/// The text of the package with these parts.
-fn package_text(alloc: Global, parts: &[&str]) -> Result<String, AllocError> {
-    let mut text = String::new(alloc);
-    text.push_str(
-        "<pkg:package xmlns:pkg='http://schemas.microsoft.com/office/2006/xmlPackage' xmlns:w='http://schemas.openxmlformats.org/wordprocessingml/2006/main' xmlns:m='http://schemas.openxmlformats.org/officeDocument/2006/math' xmlns:o='urn:o'>",
-    )?;
-    for part in parts {
-        let part = format!(in alloc;
-            "\n<pkg:part pkg:name='/a' pkg:contentType='x/y'><pkg:xmlData>{part}</pkg:xmlData></pkg:part>"
-        )?;
-        text.push_str(part.as_str())?;
+/// The text of the package with a part for each of these outlines.
+fn package_text(alloc: Global, outlines: &[&str]) -> Result<String, AllocError> {
+    let mut parts = String::new(alloc);
+    for words in outlines {
+        let data = outline_text(alloc, words, WORDS)?;
+        parts.push('\n')?;
+        parts.push_str(part(alloc, "/a", data.as_str())?.as_str())?;
     }
-    text.push_str("</pkg:package>")?;
-    Ok(text)
-}
-
-/// The package with this text.
-fn package(alloc: Global, text: &str) -> Result<Package<'_>, Fail> {
-    Ok(Package::make(alloc, redl_xml::read(alloc, text.as_bytes())?)?)
+    package(alloc, parts.as_str())
 }
 
 /// Adds the kinds and numbers of the members, in the order of their start tags.
@@ -64,7 +55,7 @@ fn add_label(node: &Node, labels: &mut Vec<(Kind, u32)>) -> Result<(), Fail> {
 /// The kinds and numbers of the elements of a package that are in a revision.
 fn labelled(alloc: Global, parts: &[&str]) -> Result<Vec<(Kind, u32)>, Fail> {
     let text = package_text(alloc, parts)?;
-    let mut made = package(alloc, text.as_str())?;
+    let mut made = read_package(alloc, text.as_bytes())?;
     let _index = Index::build(alloc, &mut made)?;
     let mut labels = Vec::new(alloc);
     add_labels(made.nodes(), &mut labels)?;
@@ -73,23 +64,17 @@ fn labelled(alloc: Global, parts: &[&str]) -> Result<Vec<(Kind, u32)>, Fail> {
 
 const MEMBERS: [([&str; 2], &[(Kind, u32)]); 4] = [
     (
-        [
-            "<w:document><w:p><o:ins/><m:del/><w:inserted/></w:p></w:document>",
-            "<w:styles><w:ins/></w:styles>",
-        ],
+        ["document .p ..o-ins ..m-del ..inserted", "styles .ins"],
         &[],
     ),
     (
-        [
-            "<w:document><w:p><w:ins><w:del/></w:ins><w:del/></w:p></w:document>",
-            "<w:hdr><w:ins/></w:hdr>",
-        ],
+        ["document .p ..ins ...del ..del", "hdr .ins"],
         &[(INS, 1), (DEL, 2), (DEL, 3), (INS, 4)],
     ),
     (
         [
-            "<w:document><w:tbl><w:tr><w:trPr><w:ins/></w:trPr><w:tc><w:tcPr><w:cellDel/></w:tcPr></w:tc></w:tr></w:tbl></w:document>",
-            "<w:ftr><w:tbl><w:tblPr><w:tblPrChange/></w:tblPr><w:tr><w:tblPrEx><w:tblPrExChange/></w:tblPrEx><w:trPr><w:trPrChange/></w:trPr></w:tr></w:tbl></w:ftr>",
+            "document .tbl ..tr ...trPr ....ins ...tc ....tcPr .....cellDel",
+            "ftr .tbl ..tblPr ...tblPrChange ..tr ...tblPrEx ....tblPrExChange ...trPr ....trPrChange",
         ],
         &[
             (Kind::Row(Trace::Ins), 1),
@@ -101,8 +86,8 @@ const MEMBERS: [([&str; 2], &[(Kind, u32)]); 4] = [
     ),
     (
         [
-            "<w:document><w:body><w:p><w:pPr><w:pPrChange/></w:pPr><w:r><w:rPr><w:rPrChange/></w:rPr></w:r></w:p><w:sectPr><w:sectPrChange/></w:sectPr></w:body></w:document>",
-            "<w:footnotes><w:sdt><w:sdtPr><w:ins/><w:p><w:pPr><w:rPr><w:ins/></w:rPr></w:pPr></w:p><w:rPr><w:ins/><w:rPrChange/></w:rPr></w:sdtPr></w:sdt></w:footnotes>",
+            "document .body ..p ...pPr ....pPrChange ...r ....rPr .....rPrChange ..sectPr ...sectPrChange",
+            "footnotes .sdt ..sdtPr ...ins ...p ....pPr .....rPr ......ins ...rPr ....ins ....rPrChange",
         ],
         &[
             (Kind::Change(Prop::Para), 1),
@@ -126,9 +111,9 @@ const MOVES: [([&str; 3], &[(Kind, u32)]); 4] = [
     // over two paragraphs, with the mark of the first
     (
         [
-            "<w:document><w:p><w:pPr><w:rPr><w:moveFrom/></w:rPr></w:pPr><w:moveFromRangeStart w:id='1' w:name='m'/><w:moveFrom/></w:p><w:p><w:moveFrom/><w:moveFromRangeEnd w:id='1'/></w:p><w:p><w:moveToRangeStart w:id='2' w:name='m'/><w:moveTo/><w:moveToRangeEnd w:id='2'/></w:p></w:document>",
-            "<w:styles/>",
-            "<w:hdr><w:ins/></w:hdr>",
+            "document .p ..pPr ...rPr ....moveFrom ..fs/1/a ..moveFrom .p ..moveFrom ..fe/1 .p ..ts/2/a ..moveTo ..te/2",
+            "styles",
+            "hdr .ins",
         ],
         &[
             (MARK, 1),
@@ -145,9 +130,9 @@ const MOVES: [([&str; 3], &[(Kind, u32)]); 4] = [
     // the range ends in the paragraph of the mark
     (
         [
-            "<w:document><w:p><w:pPr><w:rPr><w:moveFrom/></w:rPr></w:pPr><w:moveFromRangeStart w:id='1' w:name='m'/><w:moveFrom/><w:moveFromRangeEnd w:id='1'/></w:p><w:p><w:moveToRangeStart w:id='2' w:name='m'/><w:moveTo/><w:moveToRangeEnd w:id='2'/></w:p></w:document>",
-            "<w:styles/>",
-            "<w:hdr/>",
+            "document .p ..pPr ...rPr ....moveFrom ..fs/1/a ..moveFrom ..fe/1 .p ..ts/2/a ..moveTo ..te/2",
+            "styles",
+            "hdr",
         ],
         &[
             (MARK, 1),
@@ -162,9 +147,9 @@ const MOVES: [([&str; 3], &[(Kind, u32)]); 4] = [
     // over rows, the target first, and a move in another story with the same name and ids, without members
     (
         [
-            "<w:document><w:moveToRangeStart w:id='2' w:name='m'/><w:tbl><w:tr><w:tc><w:p><w:moveTo/></w:p></w:tc></w:tr></w:tbl><w:moveToRangeEnd w:id='2'/><w:ins/><w:moveFromRangeStart w:id='1' w:name='m'/><w:tbl><w:tr><w:tc><w:p><w:moveFrom/></w:p></w:tc></w:tr><w:tr><w:tc><w:p><w:moveFrom/></w:p></w:tc></w:tr></w:tbl><w:moveFromRangeEnd w:id='1'/></w:document>",
-            "<w:footnotes><w:moveFromRangeStart w:id='1' w:name='m'/><w:moveFromRangeEnd w:id='1'/><w:moveToRangeStart w:id='2' w:name='m'/><w:moveToRangeEnd w:id='2'/></w:footnotes>",
-            "<w:hdr><w:moveTo/></w:hdr>",
+            "document .ts/2/a .tbl ..tr ...tc ....p .....moveTo .te/2 .ins .fs/1/a .tbl ..tr ...tc ....p .....moveFrom ..tr ...tc ....p .....moveFrom .fe/1",
+            "footnotes .fs/1/a .fe/1 .ts/2/a .te/2",
+            "hdr .moveTo",
         ],
         &[
             (EDGE, 1),
@@ -185,9 +170,9 @@ const MOVES: [([&str; 3], &[(Kind, u32)]); 4] = [
     // a name with two source starts
     (
         [
-            "<w:document><w:p><w:moveFromRangeStart w:id='1' w:name='m'/><w:moveFrom/><w:moveFromRangeEnd w:id='1'/><w:moveFromRangeStart w:id='3' w:name='m'/><w:moveToRangeStart w:id='2' w:name='m'/><w:moveTo/><w:moveToRangeEnd w:id='2'/></w:p></w:document>",
-            "<w:styles/>",
-            "<w:hdr/>",
+            "document .p ..fs/1/a ..moveFrom ..fe/1 ..fs/3/a ..ts/2/a ..moveTo ..te/2",
+            "styles",
+            "hdr",
         ],
         &[(FROM, 1), (TO, 2)],
     ),
@@ -217,11 +202,11 @@ fn told(index: &Index, number: u32) -> Option<Told<'_>> {
 }
 
 const TOLD_PARTS: [&str; 5] = [
-    "<w:styles><w:ins w:id='1' w:author='Ann' w:date='1970-01-02T00:00:01Z'/></w:styles>",
-    "<w:document><w:body><w:p><w:pPr><w:rPr><w:ins w:id='1' w:author='Ann' w:date='1970-01-02T00:00:01Z'/></w:rPr></w:pPr><w:del w:date='2024-05-06T07:08:09+02:00' w:author='Q &amp; &#x41;'/></w:p></w:body></w:document>",
-    "<w:hdr><w:tbl><w:tr><w:trPr><w:del w:author='B' w:date='1969-12-31T23:59:59'/></w:trPr><w:tc><w:tcPr><w:cellIns w:author='' w:date='2024-02-30T00:00:00Z'/></w:tcPr></w:tc></w:tr></w:tbl></w:hdr>",
-    "<w:footnotes><w:moveToRangeStart w:id='2' w:name='m' w:author='Cid' w:date='2024-05-06T07:08:09Z'/><w:p><w:moveTo w:date='2024-05-06T07:08:09+02:00' w:author='Q &amp; &#x41;'/></w:p><w:moveToRangeEnd w:id='2'/><w:moveFromRangeStart w:id='1' w:name='m' w:author='Ann' w:date='1970-01-02T00:00:01Z'/><w:p><w:moveFrom/></w:p><w:p><w:moveFrom/></w:p><w:moveFromRangeEnd w:id='1'/></w:footnotes>",
-    "<w:endnotes><w:moveFromRangeStart w:id='1' w:name='m' w:author='Ann'/><w:moveFromRangeEnd w:id='1'/><w:moveToRangeStart w:id='2' w:name='m' w:author='Cid' w:date='2024-05-06T07:08:09Z'/><w:moveToRangeEnd w:id='2'/></w:endnotes>",
+    "styles .ins/1/author=Ann/date=1970-01-02T00:00:01Z",
+    "document .body ..p ...pPr ....rPr .....ins/1/author=Ann/date=1970-01-02T00:00:01Z ...del/date=2024-05-06T07:08:09+02:00/QA",
+    "hdr .tbl ..tr ...trPr ....del/author=B/date=1969-12-31T23:59:59 ...tc ....tcPr .....cellIns/author=/date=2024-02-30T00:00:00Z",
+    "footnotes .ts/2/a/author=Cid/date=2024-05-06T07:08:09Z .p ..moveTo/date=2024-05-06T07:08:09+02:00/QA .te/2 .fs/1/a/author=Ann/date=1970-01-02T00:00:01Z .p ..moveFrom .p ..moveFrom .fe/1",
+    "endnotes .fs/1/a/author=Ann .fe/1 .ts/2/a/author=Cid/date=2024-05-06T07:08:09Z .te/2",
 ];
 
 const TOLD: [(u32, Option<Told>); 8] = [
@@ -251,7 +236,7 @@ const TOLD: [(u32, Option<Told>); 8] = [
 fn revisions_are_told(rt: HostRuntime) -> Result<(), Fail> {
     let alloc = rt.alloc();
     let text = package_text(alloc, &TOLD_PARTS)?;
-    let mut made = package(alloc, text.as_str())?;
+    let mut made = read_package(alloc, text.as_bytes())?;
     let index = Index::build(alloc, &mut made)?;
     for (number, want) in TOLD {
         let got = told(&index, number);

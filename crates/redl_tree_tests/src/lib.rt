@@ -3,11 +3,15 @@
 #![tactic(auto)]
 
 #[cfg(test)]
+mod documents;
+#[cfg(test)]
 mod index;
 #[cfg(test)]
 mod markers;
 #[cfg(test)]
 mod opc;
+#[cfg(test)]
+mod outline;
 #[cfg(test)]
 mod rules;
 #[cfg(test)]

@@ -4,18 +4,17 @@
 ghost use Rattle.std.specs.Prelude.{◌^◌, ◌<◌, length, IfOk};
 ghost use Rattle.redl_moves.specs.Marks.{markings, RisesFrom};
 
-mod outlines;
-
-use crate::markers::outlines::outline;
+use crate::documents::WORDS;
 use redl_markers::{StoryMarkers, find_markers};
 use redl_moves::{Half, Marker, Moves, Start, pair};
+use redl_outline::outline_text;
 use redl_tree::{Node, count_nodes};
 use std::alloc::{AllocError, Global};
 use std::test::Fail;
 
 /// The text of the story with an outline, whose root isn't in the outline.
 fn story(alloc: Global, words: &str) -> Result<String, AllocError> {
-    let body = outline(alloc, words)?;
+    let body = outline_text(alloc, words, WORDS)?;
     format!(in alloc;
         "<w:document xmlns:w='http://schemas.openxmlformats.org/wordprocessingml/2006/main'>{body}</w:document>"
     )
@@ -57,53 +56,53 @@ fn counts(alloc: Global, words: &str) -> Result<(usize, usize, usize), Fail> {
 /// Outlines, each with its counts of markers, of loose ones and of paired moves.
 const ROWS: [(&str, (usize, usize, usize)); 30] = [
     ("", (0, 0, 0)),
-    ("fs/1a fe/1 ts/2a te/2", (4, 0, 1)),
-    ("ts/2a te/2 p .fs/1a p .fe/1", (4, 0, 1)),
-    ("fs/1a fe/1 ts/1a te/1", (4, 0, 1)),
-    ("fs/1a fe/1 fs/3b fe/3 ts/2a te/2", (6, 0, 1)),
-    ("fs/1a fe/1 fs/3a fe/3 ts/2a te/2", (6, 0, 0)),
-    ("fs/1a fe/1 ts/2a te/2 ts/3a te/3", (6, 0, 0)),
-    ("fs/1a fe/1 ts/2b te/2", (4, 0, 0)),
-    ("fs/1a fe/1 fs/1b ts/2a te/2", (5, 0, 0)),
-    ("fs/1a fe/1 fs/1 ts/2a te/2", (5, 0, 0)),
-    ("fs/1a fe/1 fs/a ts/2a te/2", (4, 0, 1)),
-    ("fs/1a fe/3 ts/2a te/2", (4, 0, 0)),
-    ("fs/1a fe/1 fe/1 ts/2a te/2", (5, 0, 0)),
-    ("fs/1a fe/1 fe/3 ts/2a te/2", (5, 0, 1)),
-    ("fe/1 fs/1a ts/2a te/2", (4, 0, 0)),
+    ("fs/1/a fe/1 ts/2/a te/2", (4, 0, 1)),
+    ("ts/2/a te/2 p .fs/1/a p .fe/1", (4, 0, 1)),
+    ("fs/1/a fe/1 ts/1/a te/1", (4, 0, 1)),
+    ("fs/1/a fe/1 fs/3/b fe/3 ts/2/a te/2", (6, 0, 1)),
+    ("fs/1/a fe/1 fs/3/a fe/3 ts/2/a te/2", (6, 0, 0)),
+    ("fs/1/a fe/1 ts/2/a te/2 ts/3/a te/3", (6, 0, 0)),
+    ("fs/1/a fe/1 ts/2/b te/2", (4, 0, 0)),
+    ("fs/1/a fe/1 fs/1/b ts/2/a te/2", (5, 0, 0)),
+    ("fs/1/a fe/1 fs/1 ts/2/a te/2", (5, 0, 0)),
+    ("fs/1/a fe/1 fs/a ts/2/a te/2", (4, 0, 1)),
+    ("fs/1/a fe/3 ts/2/a te/2", (4, 0, 0)),
+    ("fs/1/a fe/1 fe/1 ts/2/a te/2", (5, 0, 0)),
+    ("fs/1/a fe/1 fe/3 ts/2/a te/2", (5, 0, 1)),
+    ("fe/1 fs/1/a ts/2/a te/2", (4, 0, 0)),
     ("fs/1 fe/1 ts/2 te/2", (4, 0, 0)),
-    ("fs/1- fe/1 ts/2- te/2", (4, 0, 1)),
-    ("p .pPr ..fs/1a fe/1 ts/2a te/2", (3, 0, 0)),
-    ("ins .fs/1a fe/1 ts/2a te/2", (4, 1, 0)),
-    ("tbl .tr ..tc ...fs/1a fe/1 ts/2a te/2", (4, 0, 1)),
+    ("fs/1/empty fe/1 ts/2/empty te/2", (4, 0, 1)),
+    ("p .pPr ..fs/1/a fe/1 ts/2/a te/2", (3, 0, 0)),
+    ("ins .fs/1/a fe/1 ts/2/a te/2", (4, 1, 0)),
+    ("tbl .tr ..tc ...fs/1/a fe/1 ts/2/a te/2", (4, 0, 1)),
     (
-        "tbl .tr ..trPr ...ins ..tc ...fs/1a fe/1 ts/2a te/2",
+        "tbl .tr ..trPr ...ins ..tc ...fs/1/a fe/1 ts/2/a te/2",
         (4, 1, 0),
     ),
     (
-        "tbl .tr ..trPr ...trPrChange ..tc ...fs/1a fe/1 ts/2a te/2",
+        "tbl .tr ..trPr ...trPrChange ..tc ...fs/1/a fe/1 ts/2/a te/2",
         (4, 0, 1),
     ),
     (
-        "tbl .tr ..tc ...tcPr ....cellIns ...fs/1a fe/1 ts/2a te/2",
+        "tbl .tr ..tc ...tcPr ....cellIns ...fs/1/a fe/1 ts/2/a te/2",
         (4, 1, 0),
     ),
     (
-        "tbl .tr ..tc ...tcPr ....cellDel ..tc ...fs/1a fe/1 ts/2a te/2",
+        "tbl .tr ..tc ...tcPr ....cellDel ..tc ...fs/1/a fe/1 ts/2/a te/2",
         (4, 0, 1),
     ),
-    ("tbl .tr ..fs/1a fe/1 ts/2a te/2", (4, 1, 0)),
-    ("tbl .fs/1a fe/1 ts/2a te/2", (4, 1, 0)),
-    ("tbl .x ..tr ...tc ....fs/1a fe/1 ts/2a te/2", (4, 1, 0)),
+    ("tbl .tr ..fs/1/a fe/1 ts/2/a te/2", (4, 1, 0)),
+    ("tbl .fs/1/a fe/1 ts/2/a te/2", (4, 1, 0)),
+    ("tbl .x ..tr ...tc ....fs/1/a fe/1 ts/2/a te/2", (4, 1, 0)),
     (
-        "tbl .tr ..sdt ...sdtContent ....tc .....fs/1a fe/1 ts/2a te/2",
+        "tbl .tr ..sdt ...sdtContent ....tc .....fs/1/a fe/1 ts/2/a te/2",
         (4, 0, 1),
     ),
     (
-        "tbl .tr ..sdt ...sdtContent ....fs/1a fe/1 ts/2a te/2",
+        "tbl .tr ..sdt ...sdtContent ....fs/1/a fe/1 ts/2/a te/2",
         (4, 1, 0),
     ),
-    ("fs/1a ins .fe/1 tbl .ts/2a p .te/2", (4, 2, 0)),
+    ("fs/1/a ins .fe/1 tbl .ts/2/a p .te/2", (4, 2, 0)),
 ];
 
 #[test]
@@ -128,7 +127,7 @@ fn starts(alloc: Global, words: &str, at: u64) -> Result<(Option<Start>, Option<
 fn moves_answer(rt: HostRuntime) -> Result<(), Fail> {
     let outer = Some(Start { at: 1, place: 0 });
     let inner = Some(Start { at: 3, place: 1 });
-    let words = "fs/1a fs/3b p fe/3 p fe/1 ts/2a te/2 ts/4b te/4";
+    let words = "fs/1/a fs/3/b p fe/3 p fe/1 ts/2/a te/2 ts/4/b te/4";
     for (at, want) in [
         (0, (None, None)),
         (2, (outer, None)),

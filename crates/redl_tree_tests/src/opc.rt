@@ -1,5 +1,6 @@
 //! Tables of packages: whether the shape is the one meant, the order of causes, and that calls succeed with ample memory.
 
+use crate::documents::read_package;
 use redl_opc::{OpcError, Package};
 use redl_tree::{Kind, Node, Trace};
 use std::alloc::{AllocError, Global};
@@ -86,7 +87,7 @@ const NAMED: &str =
 #[test]
 fn parts_have_names_and_stories(rt: HostRuntime) -> Result<(), Fail> {
     let text = text_of(rt.alloc(), "pkg:package", NAMED)?;
-    let made = Package::make(rt.alloc(), redl_xml::read(rt.alloc(), &text)?)?;
+    let made = read_package(rt.alloc(), &text)?;
     let sizes = (made.nodes().len(), made.parts());
     let named = first_is(&made, b"/a&b", b"document");
     assert!(rt; sizes == (2, 1) && named, "{sizes:?} {named}");
@@ -143,7 +144,7 @@ fn element_is_labelled(
     want: &[(usize, u32)],
 ) -> Result<bool, Fail> {
     let text = text_of(alloc, "pkg:package", STORIES)?;
-    let mut made = Package::make(alloc, redl_xml::read(alloc, &text)?)?;
+    let mut made = read_package(alloc, &text)?;
     made.label(part, path, LABELLED, 7);
     Ok(labelled(alloc, made.nodes())?.as_slice() == want)
 }

@@ -1,106 +1,38 @@
 //! A check of whole packages answers the rule that each of them breaks: tables of bodies that break a rule, and of near ones
-//! that break none.
+//! that break none, as outlines.
 
-use redl_opc::Package;
+use crate::documents::read_package;
+use redl_outline::{outline_text, package, part};
 use redl_rules::{RuleError, check};
 use std::alloc::{AllocError, Global};
 use std::test::Fail;
 
-// A package with one document, up to the body of that, then up to what a further part holds, and then all that is left.
-const FRONT: &str =
-    "<pkg:package xmlns:pkg='http://schemas.microsoft.com/office/2006/xmlPackage' xmlns:w='http://schemas.openxmlformats.org/wordprocessingml/2006/main' xmlns:o='o' xmlns:q='q'><pkg:part pkg:name='/a' pkg:contentType='x/y'><pkg:xmlData><w:document xmlns:v='v'><w:body>";
+// Attributes of outlines.
+const OWN: &[(&str, &str)] = &[
+    ("id", " w:id='1'"),
+    ("name", " w:name='m' xmlns:id='u'"),
+    ("declared", " xmlns:q='u'"),
+    ("default", "\n xmlns = \"u\""),
+    ("space", " xml:space='preserve' q:xmlns='u'"),
+];
 
-const MIDDLE: &str =
-    "</w:body></w:document></pkg:xmlData></pkg:part><pkg:part pkg:name='/b' pkg:contentType='x/y'><pkg:xmlData>";
-
-const BACK: &str = "</pkg:xmlData></pkg:part></pkg:package>";
-
-fn push_text(text: &mut Vec<u8>, more: &str) -> Result<(), AllocError> {
-    text.extend_from_slice(more.as_bytes())?;
-    Ok(())
-}
-
-/// The attributes that a word stands for.
-fn tail_of(word: &str) -> &'static str {
-    match word {
-        "id" => " w:id='1'",
-        "name" => " w:name='m' xmlns:id='u'",
-        "declared" => " xmlns:q='u'",
-        "default" => "\n xmlns = \"u\"",
-        "space" => " xml:space='preserve' q:xmlns='u'",
-        _ => "",
-    }
-}
-
-/// The name and the attributes in a word of an outline.
-fn parts_of(word: &str) -> (&str, &'static str) {
-    match word.split_once('/') {
-        Some((name, attributes)) => (name, tail_of(attributes)),
-        None => (word, ""),
-    }
-}
-
-/// A name in its namespace: that of WordprocessingML, or another one where it begins with `o-`.
-fn push_name(text: &mut Vec<u8>, name: &str) -> Result<(), AllocError> {
-    let (prefix, local) = match name.strip_prefix("o-") {
-        Some(local) => ("o:", local),
-        None => ("w:", name),
-    };
-    push_text(text, prefix)?;
-    push_text(text, local)
-}
-
-fn push_start(text: &mut Vec<u8>, word: &str) -> Result<(), AllocError> {
-    let (name, tail) = parts_of(word);
-    push_text(text, "<")?;
-    push_name(text, name)?;
-    push_text(text, tail)?;
-    push_text(text, ">")
-}
-
-fn push_end(text: &mut Vec<u8>, word: &str) -> Result<(), AllocError> {
-    let (name, _) = parts_of(word);
-    push_text(text, "</")?;
-    push_name(text, name)?;
-    push_text(text, ">")
-}
-
-/// Closes elements until only so many are open.
-fn close_to(depth: usize, open: &mut Vec<&str>, text: &mut Vec<u8>) -> Result<(), AllocError> {
-    for _ in depth..open.len() {
-        if let Some(word) = open.pop() {
-            push_end(text, word)?;
-        }
-    }
-    Ok(())
-}
-
-/// Adds the text of an outline: words in the order of start tags, each with a dot for each element that it stands in.
-fn push_outline(alloc: Global, words: &str, text: &mut Vec<u8>) -> Result<(), AllocError> {
-    let mut open = Vec::new(alloc);
-    for word in words.split_whitespace() {
-        let name = word.trim_start_matches('.');
-        close_to(word.len().saturating_sub(name.len()), &mut open, text)?;
-        push_start(text, name)?;
-        open.push(name)?;
-    }
-    close_to(0, &mut open, text)
-}
-
-/// A package with a document that has this body, and a further part with these data.
-fn package(alloc: Global, body: &str, further: &str) -> Result<Vec<u8>, AllocError> {
-    let mut text = Vec::from_slice(alloc, FRONT.as_bytes())?;
-    push_outline(alloc, body, &mut text)?;
-    push_text(&mut text, MIDDLE)?;
-    push_outline(alloc, further, &mut text)?;
-    push_text(&mut text, BACK)?;
-    Ok(text)
+/// A package with a document that has this body, and a further part with these data, both as outlines.
+fn package_text(alloc: Global, body: &str, further: &str) -> Result<String, AllocError> {
+    let body = outline_text(alloc, body, OWN)?;
+    let further = outline_text(alloc, further, OWN)?;
+    let document = format!(in alloc;
+        "<w:document xmlns:v='v'><w:body>{body}</w:body></w:document>"
+    )?;
+    let first = part(alloc, "/a", document.as_str())?;
+    let second = part(alloc, "/b", further.as_str())?;
+    let parts = format!(in alloc; "{first}{second}")?;
+    package(alloc, parts.as_str())
 }
 
 /// What a check of that package answers.
 fn answer(alloc: Global, body: &str, further: &str) -> Result<Result<(), RuleError>, Fail> {
-    let text = package(alloc, body, further)?;
-    let pkg = Package::make(alloc, redl_xml::read(alloc, &text)?)?;
+    let text = package_text(alloc, body, further)?;
+    let pkg = read_package(alloc, text.as_bytes())?;
     Ok(check(alloc, &pkg))
 }
 

@@ -1,6 +1,6 @@
 //! Tables of what no clause of `redl_xml` says: that its definitions of nesting, scopes and whole texts are those of
 //! XML 1.0 and Namespaces in XML 1.0, that names of namespaces are those of the standards, and that reading succeeds with
-//! ample memory. Tags, items and references have their tables in `redl_markup_tests`.
+//! ample memory. Tags, items and references have their tables in `redl_text_tests`.
 use redl_tree::{Elem, Node, Space};
 use redl_xml::{XmlError, read};
 use std::alloc::{AllocError, Global};

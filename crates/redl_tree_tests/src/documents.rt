@@ -1,0 +1,26 @@
+//! What the documents of several modules are made of.
+
+use redl_opc::Package;
+use std::alloc::Global;
+use std::test::Fail;
+
+/// Words of outlines with moves: markers, their ids and names, and an author.
+pub(crate) const WORDS: &[(&str, &str)] = &[
+    ("fs", "moveFromRangeStart"),
+    ("fe", "moveFromRangeEnd"),
+    ("ts", "moveToRangeStart"),
+    ("te", "moveToRangeEnd"),
+    ("1", " w:id='1'"),
+    ("2", " w:id='2'"),
+    ("3", " w:id='3'"),
+    ("4", " w:id='4'"),
+    ("a", " w:name='a'"),
+    ("b", " w:name='b'"),
+    ("empty", " w:name=''"),
+    ("QA", " w:author='Q &amp; &#x41;'"),
+];
+
+/// The package with this text.
+pub(crate) fn read_package<'t>(alloc: Global, text: &'t [u8]) -> Result<Package<'t>, Fail> {
+    Ok(Package::make(alloc, redl_xml::read(alloc, text)?)?)
+}
