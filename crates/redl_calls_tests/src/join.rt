@@ -1,55 +1,10 @@
 //! Books by hand: their verdicts, their text whatever the order of the journals, and what a removal leaves.
-ghost use Rattle.std.specs.Prelude.{All, IfOk};
-ghost use Rattle.redl_journal.specs.Journals.{IsAllowed};
-
+use crate::inputs::{book_of, entries_of};
 use redl_io::{MemSink, Text};
 use redl_join::{Book, Verdict};
-use redl_journal::{Entry, Word, read};
+use redl_journal::{Entry, Word};
 use std::alloc::{AllocError, Global};
 use std::test::Fail;
-
-const HEAD: &[u8] =
-    b"redline-journal 1\ndocument e3b0c44298fc1c149afbf4c8996fb92427ae41e4649b934ca495991b7852b855\nrevisions 3\n";
-
-// The same of version 2, whose entries have ranks.
-const RANKED: &[u8] =
-    b"redline-journal 2\ndocument e3b0c44298fc1c149afbf4c8996fb92427ae41e4649b934ca495991b7852b855\nrevisions 3\n";
-
-// The entries of a journal with these lines, which have ranks if all of them have.
-fn entries_of(alloc: Global, lines: &[u8]) -> Result<Vec<Entry>, Fail>
-    ensures { IfOk result (λ entries. All IsAllowed entries.items) }
-{
-    let head = if has_ranks(lines) { RANKED } else { HEAD };
-    let mut text = Vec::from_slice(alloc, head)?;
-    text.extend_from_slice(lines)?;
-    let journal = read(alloc, &text)?;
-    Ok(journal.entries)
-}
-
-// Whether the first line has four tabs.
-fn has_ranks(lines: &[u8]) -> bool {
-    let mut tabs = 0_u32;
-    for byte in lines {
-        if *byte == b'\n' {
-            break;
-        }
-        if *byte == b'\t' {
-            tabs = tabs.saturating_add(1);
-        }
-    }
-    tabs == 4
-}
-
-// The book of the entries of journals with these lines.
-fn book_of(alloc: Global, journals: &[&[u8]]) -> Result<Book, Fail> {
-    let mut book = Book::new(alloc);
-    for lines in journals {
-        for entry in entries_of(alloc, lines)? {
-            book.add(entry)?;
-        }
-    }
-    Ok(book)
-}
 
 fn verdict_of(alloc: Global, lines: &[u8]) -> Result<Verdict, Fail> {
     let book = book_of(alloc, &[lines])?;

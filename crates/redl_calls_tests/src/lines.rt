@@ -1,8 +1,9 @@
 //! Tests of what no clause says: each end with its exit status and its lines, by hand.
 
+use crate::inputs::entries_of;
 use redl_index::RevKind;
 use redl_io::{MemSink, Text};
-use redl_journal::{Entry, read};
+use redl_journal::Entry;
 use redl_lines::{Cause, End, Failure, Limit, PackageFault, RefusedEntries, Remarks, tell};
 use redl_select::Lock;
 use redl_session::{AdmitError, Bar, Refusal};
@@ -138,22 +139,11 @@ fn what_the_outside_forces_has_its_status_and_line(rt: HostRuntime) -> Result<()
     Ok(())
 }
 
-const HEAD: &[u8] =
-    b"redline-journal 2\ndocument e3b0c44298fc1c149afbf4c8996fb92427ae41e4649b934ca495991b7852b855\nrevisions 3\n";
-
-// The text of a journal with these lines.
-fn journal(alloc: Global, lines: &str) -> Result<Vec<u8>, AllocError> {
-    let mut text = Vec::from_slice(alloc, HEAD)?;
-    text.extend_from_slice(lines.as_bytes())?;
-    Ok(text)
-}
-
 // The entries with these lines, which a package refused that has the revisions 1 to 3: a lock holds the first by its author, the
 // second by its kind, and the third by its span.
 fn refused(alloc: Global, lines: &str) -> Result<RefusedEntries, Fail> {
-    let text = journal(alloc, lines)?;
     let mut refused = RefusedEntries::new(alloc);
-    for entry in read(alloc, &text)?.entries {
+    for entry in entries_of(alloc, lines.as_bytes())? {
         let why = why(&entry);
         refused.add(Refusal { entry, why })?;
     }

@@ -2,29 +2,18 @@
 
 ghost use Rattle.std.specs.Prelude.{◌≡◌, All, [], false};
 
-mod packages;
+mod part_names;
 
-use crate::listing::packages::{are_named, are_utf8, index_of};
+use crate::inputs::{index_of, package_text};
+use crate::listing::part_names::{are_named, are_utf8};
 use redl_io::Text;
 use redl_join::Verdict;
 use redl_listing::{JsonFormat, RowFormat, TabFormat, TextFormat, add_format, list};
 use std::alloc::{AllocError, Global};
 use std::test::Fail;
 
-const FRONT: &str =
-    "<?xml version=\"1.0\" encoding=\"UTF-8\"?><pkg:package xmlns:pkg=\"http://schemas.microsoft.com/office/2006/xmlPackage\"><pkg:part pkg:name=\"/word/document.xml\" pkg:contentType=\"application/vnd.openxmlformats-officedocument.wordprocessingml.document.main+xml\"><pkg:xmlData><w:document xmlns:w=\"http://schemas.openxmlformats.org/wordprocessingml/2006/main\"><w:body>";
-
-const BACK: &str = "</w:body></w:document></pkg:xmlData></pkg:part></pkg:package>";
-
 const INSERTED: &str =
     "<w:p><w:ins w:id=\"1\" w:author=\"Ann\" w:date=\"2024-05-06T07:08:09Z\"><w:r><w:t>a</w:t></w:r></w:ins></w:p>";
-
-fn package_text(alloc: Global, body: &str) -> Result<Vec<u8>, AllocError> {
-    let mut text = Vec::from_slice(alloc, FRONT.as_bytes())?;
-    text.extend_from_slice(body.as_bytes())?;
-    text.extend_from_slice(BACK.as_bytes())?;
-    Ok(text)
-}
 
 fn names(alloc: Global) -> Result<Vec<Text>, AllocError> {
     let mut names = Vec::new(alloc);
@@ -41,7 +30,8 @@ fn listed(
 ) -> Result<Vec<u8>, Fail>
     requires { All (λ format. (is_closed format ≡ false) × (rows_so_far format ≡ [])) formats.old.items }
 {
-    let index = index_of(alloc, &package_text(alloc, body)?)?;
+    let text = package_text(alloc, "/word/document.xml", body)?;
+    let index = index_of(alloc, text.as_bytes())?;
     let names = names(alloc)?;
     let verdicts = vec![in alloc; Verdict::Undecided; index.count() as usize]?;
     if !are_utf8(&names) || !are_named(&index, &names) {

@@ -2,6 +2,7 @@
 ghost use Rattle.std.specs.Prelude.{◌≡◌, All, IfOk};
 ghost use Rattle.redl_journal.specs.Journals.{IsAllowed};
 
+use crate::inputs::{entries_of, package_text};
 use redl_editor::Editor;
 use redl_index::Index;
 use redl_io::{MemSink, Text};
@@ -17,16 +18,12 @@ use redl_tree::write_nodes;
 use std::alloc::{AllocError, Global};
 use std::test::Fail;
 
-const HEAD: &[u8] =
-    b"redline-journal 1\ndocument e3b0c44298fc1c149afbf4c8996fb92427ae41e4649b934ca495991b7852b855\nrevisions 2\n";
-
 // An insertion by Ann in the first of two paragraphs, and a deletion by Bob in the second one.
-const PACKAGE: &[u8] =
-    b"<pkg:package xmlns:pkg='http://schemas.microsoft.com/office/2006/xmlPackage'><pkg:part pkg:name='/d' pkg:contentType='x'><pkg:xmlData><w:document xmlns:w='http://schemas.openxmlformats.org/wordprocessingml/2006/main'><w:body><w:p><w:ins w:id='1' w:author='Ann'><w:r><w:t>a</w:t></w:r></w:ins></w:p><w:p><w:del w:id='2' w:author='Bob'><w:r><w:delText>b</w:delText></w:r></w:del></w:p></w:body></w:document></pkg:xmlData></pkg:part></pkg:package>";
+const BODY: &str =
+    "<w:p><w:ins w:id='1' w:author='Ann'><w:r><w:t>a</w:t></w:r></w:ins></w:p><w:p><w:del w:id='2' w:author='Bob'><w:r><w:delText>b</w:delText></w:r></w:del></w:p>";
 
 // The same with the insertion accepted and the deletion rejected.
-const DECIDED: &[u8] =
-    b"<pkg:package xmlns:pkg='http://schemas.microsoft.com/office/2006/xmlPackage'><pkg:part pkg:name='/d' pkg:contentType='x'><pkg:xmlData><w:document xmlns:w='http://schemas.openxmlformats.org/wordprocessingml/2006/main'><w:body><w:p><w:r><w:t>a</w:t></w:r></w:p><w:p><w:r><w:t>b</w:t></w:r></w:p></w:body></w:document></pkg:xmlData></pkg:part></pkg:package>";
+const DECIDED: &str = "<w:p><w:r><w:t>a</w:t></w:r></w:p><w:p><w:r><w:t>b</w:t></w:r></w:p>";
 
 // The first paragraph as it was, with its insertion accepted, and with it rejected.
 const FIRST: &[u8] = b"<w:p><w:ins w:id='1' w:author='Ann'><w:r><w:t>a</w:t></w:r></w:ins></w:p>";
@@ -34,16 +31,6 @@ const FIRST: &[u8] = b"<w:p><w:ins w:id='1' w:author='Ann'><w:r><w:t>a</w:t></w:
 const FREED: &[u8] = b"<w:p><w:r><w:t>a</w:t></w:r></w:p>";
 
 const CUT: &[u8] = b"<w:p></w:p>";
-
-// The entries of a journal with these lines.
-fn entries_of(alloc: Global, lines: &[u8]) -> Result<Vec<Entry>, Fail>
-    ensures { IfOk result (λ entries. All IsAllowed entries.items) }
-{
-    let mut text = Vec::from_slice(alloc, HEAD)?;
-    text.extend_from_slice(lines)?;
-    let journal = redl_journal::read(alloc, &text)?;
-    Ok(journal.entries)
-}
 
 // A session over the package with this text, under these locks.
 fn session_over<'t>(alloc: Global, text: &'t [u8], locks: Locks) -> Result<LiveSession<'t>, Fail> {
@@ -53,11 +40,11 @@ fn session_over<'t>(alloc: Global, text: &'t [u8], locks: Locks) -> Result<LiveS
     Ok(LiveSession::start(alloc, pkg, index, locks)?)
 }
 
-// A session over the package of two revisions with a lock on this author.
-fn session_of(alloc: Global, author: &[u8]) -> Result<LiveSession<'static>, Fail> {
+// A session over the package with this text, with a lock on this author.
+fn session_of<'t>(alloc: Global, text: &'t [u8], author: &[u8]) -> Result<LiveSession<'t>, Fail> {
     let mut locks = Vec::new(alloc);
     locks.push(Lock::Author(Text::copy_of(alloc, author)?))?;
-    session_over(alloc, PACKAGE, Locks::new(locks))
+    session_over(alloc, text, Locks::new(locks))
 }
 
 // What becomes of an entry.
@@ -92,62 +79,82 @@ fn first_is(alloc: Global, editor: &Editor, text: &[u8]) -> Result<bool, AllocEr
     Ok(out.bytes() == text)
 }
 
+// What becomes of an entry, the verdict on revision 1 and the number of entries then, and how the first paragraph looks.
+type Step<'t> = (Result<Taken, AdmitError>, Verdict, u64, &'t [u8]);
+
+// Whether this comes of the only entry of these lines.
+fn is_taken(
+    alloc: Global,
+    session: &mut LiveSession,
+    lines: &[u8],
+    want: Step<'_>,
+) -> Result<bool, Fail> {
+    let (answer, verdict, entries, first) = want;
+    let found = answer_to(alloc, session, lines)?;
+    let same = found == answer && session.verdict(1) == verdict && session.book().len() == entries;
+    Ok(same && first_is(alloc, session.editor(), first)?)
+}
+
+const UNKNOWN: Result<Taken, AdmitError> = Err(AdmitError::Unknown);
+
+const LOCKED: Result<Taken, AdmitError> = Err(AdmitError::Locked(Bar::Author));
+
+// Entries that come one after another, with what comes of each.
+const STEPS: [(&[u8], Step); 6] = [
+    (
+        b"1\t1\taccept\tAnn\n",
+        (Ok(Taken::New), Verdict::Accept, 1, FREED),
+    ),
+    (
+        b"1\t1\taccept\tAnn\n",
+        (Ok(Taken::Repeat), Verdict::Accept, 1, FREED),
+    ),
+    (
+        b"1\t1\treject\tBob\n",
+        (Ok(Taken::New), Verdict::Disputed, 2, FIRST),
+    ),
+    (
+        b"2\t1\twithdraw\tAnn\n",
+        (Ok(Taken::New), Verdict::Reject, 3, CUT),
+    ),
+    (b"1\t3\taccept\tAnn\n", (UNKNOWN, Verdict::Reject, 3, CUT)),
+    (b"1\t2\taccept\tAnn\n", (LOCKED, Verdict::Reject, 3, CUT)),
+];
+
+// The number of the first step that comes to something else, or that of all.
+fn steps_taken(alloc: Global) -> Result<usize, Fail> {
+    let text = package_text(alloc, "/d", BODY)?;
+    let mut session = session_of(alloc, text.as_bytes(), b"Bob")?;
+    let mut taken = 0_usize;
+    for (lines, want) in STEPS {
+        if !is_taken(alloc, &mut session, lines, want)? {
+            return Ok(taken);
+        }
+        taken = taken.saturating_add(1);
+    }
+    Ok(taken)
+}
+
 #[test]
 fn the_document_follows_each_entry(rt: HostRuntime) -> Result<(), Fail> {
-    let mut session = session_of(rt.alloc(), b"Bob")?;
-    for (lines, want, verdict, first) in [
-        (
-            b"1\t1\taccept\tAnn\n".as_slice(),
-            Ok(Taken::New),
-            Verdict::Accept,
-            FREED,
-        ),
-        (
-            b"1\t1\taccept\tAnn\n",
-            Ok(Taken::Repeat),
-            Verdict::Accept,
-            FREED,
-        ),
-        (
-            b"1\t1\treject\tBob\n",
-            Ok(Taken::New),
-            Verdict::Disputed,
-            FIRST,
-        ),
-        (
-            b"2\t1\twithdraw\tAnn\n",
-            Ok(Taken::New),
-            Verdict::Reject,
-            CUT,
-        ),
-        (
-            b"1\t3\taccept\tAnn\n",
-            Err(AdmitError::Unknown),
-            Verdict::Reject,
-            CUT,
-        ),
-        (
-            b"1\t2\taccept\tAnn\n",
-            Err(AdmitError::Locked(Bar::Author)),
-            Verdict::Reject,
-            CUT,
-        ),
-    ] {
-        let found = answer_to(rt.alloc(), &mut session, lines)?;
-        assert!(rt; found == want, "{found:?}");
-        assert!(rt; session.verdict(1) == verdict, "{want:?}");
-        assert!(rt; first_is(rt.alloc(), session.editor(), first)?, "{want:?}");
-    }
-    assert_eq!(rt; session.book().len(), 3);
+    let taken = steps_taken(rt.alloc())?;
+    assert!(rt; taken == STEPS.len(), "{taken}");
     Ok(())
+}
+
+// How many leaves a story has, and whether there is one past the last.
+fn leaves_of(editor: &Editor, story: usize) -> (usize, bool) {
+    let leaves = editor.leaves(story);
+    (leaves, editor.leaf(story, leaves).is_some())
 }
 
 #[test]
 fn there_is_no_leaf_past_the_last(rt: HostRuntime) -> Result<(), Fail> {
-    let session = session_of(rt.alloc(), b"Cy")?;
+    let text = package_text(rt.alloc(), "/d", BODY)?;
+    let session = session_of(rt.alloc(), text.as_bytes(), b"Cy")?;
     for (story, leaves) in [(0, 2), (1, 0)] {
-        assert!(rt; session.editor().leaves(story) == leaves, "{story}");
-        assert!(rt; session.editor().leaf(story, leaves).is_none(), "{story}");
+        let got = leaves_of(session.editor(), story);
+        assert!(rt; got == (leaves, false), "{story}: {got:?}");
     }
     Ok(())
 }
@@ -159,29 +166,47 @@ fn writes(alloc: Global, session: &LiveSession, text: &[u8]) -> Result<bool, Fai
     Ok(out.bytes() == text)
 }
 
-// How many of these entries are refused, the verdicts, and whether this is what is written then.
+// How many of these entries are refused, the verdicts, and whether the package with this body is written then.
 fn decided(
     alloc: Global,
     author: &[u8],
     lines: &[u8],
-    text: &[u8],
+    body: &str,
 ) -> Result<(usize, Vec<Verdict>, bool), Fail> {
-    let mut session = session_of(alloc, author)?;
+    let text = package_text(alloc, "/d", BODY)?;
+    let mut session = session_of(alloc, text.as_bytes(), author)?;
     let refused = session.admit_many(entries_of(alloc, lines)?)?;
-    let written = writes(alloc, &session, text)?;
+    let left = package_text(alloc, "/d", body)?;
+    let written = writes(alloc, &session, left.as_bytes())?;
     Ok((refused.len(), session.verdicts()?, written))
 }
 
-// Whether this is what is written when the entries come one by one.
-fn decided_each(alloc: Global, author: &[u8], lines: &[u8], text: &[u8]) -> Result<bool, Fail> {
-    let mut session = session_of(alloc, author)?;
+// Whether it is written when the entries come one by one.
+fn decided_each(alloc: Global, author: &[u8], lines: &[u8], body: &str) -> Result<bool, Fail> {
+    let text = package_text(alloc, "/d", BODY)?;
+    let mut session = session_of(alloc, text.as_bytes(), author)?;
     admit_each(&mut session, entries_of(alloc, lines)?)?;
-    writes(alloc, &session, text)
+    let left = package_text(alloc, "/d", body)?;
+    writes(alloc, &session, left.as_bytes())
+}
+
+// Whether so many of these entries are refused, with these verdicts, and the package with this body is written both ways.
+fn is_decided(
+    alloc: Global,
+    entries: (&[u8], &[u8]),
+    refused: usize,
+    verdicts: &[Verdict],
+    body: &str,
+) -> Result<bool, Fail> {
+    let (author, lines) = entries;
+    let found = decided(alloc, author, lines, body)?;
+    let same = found.0 == refused && found.1.as_slice() == verdicts && found.2;
+    Ok(same && decided_each(alloc, author, lines, body)?)
 }
 
 #[test]
 fn what_is_written_is_decided_by_all_entries(rt: HostRuntime) -> Result<(), Fail> {
-    for (author, lines, refused, verdicts, text) in [
+    for (author, lines, refused, verdicts, body) in [
         (
             b"Cy".as_slice(),
             b"1\t1\taccept\tAnn\n1\t2\treject\tAnn\n1\t9\taccept\tAnn\n".as_slice(),
@@ -194,14 +219,11 @@ fn what_is_written_is_decided_by_all_entries(rt: HostRuntime) -> Result<(), Fail
             b"1\t1\taccept\tAnn\n1\t2\treject\tAnn\n1\t2\taccept\tBob\n",
             1,
             [Verdict::Undecided, Verdict::Disputed],
-            PACKAGE,
+            BODY,
         ),
     ] {
-        let found = decided(rt.alloc(), author, lines, text)?;
-        let same = found.0 == refused && found.1.as_slice() == verdicts.as_slice() && found.2;
-        assert!(rt; same, "{found:?}");
-        let each = decided_each(rt.alloc(), author, lines, text)?;
-        assert!(rt; each, "{refused}");
+        let same = is_decided(rt.alloc(), (author, lines), refused, &verdicts, body)?;
+        assert!(rt; same, "{author:?}");
     }
     Ok(())
 }

@@ -1,33 +1,28 @@
 //! Pages of small packages, some of whose texts try to be markup.
 
+use crate::inputs::{book_of, journal_text};
 use redl_index::Index;
 use redl_io::MemSink;
 use redl_join::Book;
 use redl_journal::read;
 use redl_opc::Package;
+use redl_outline::{package, part};
 use redl_page::{Shown, Skin, put_document, write_page};
 use std::alloc::{AllocError, Global};
 use std::test::Fail;
 
 /// The text of the package with these parts, each with its name.
-fn package_text(alloc: Global, parts: &[(&str, &str)]) -> Result<String, AllocError> {
-    let mut text = String::from_str(
-        alloc,
-        "<pkg:package xmlns:pkg='http://schemas.microsoft.com/office/2006/xmlPackage' xmlns:w='http://schemas.openxmlformats.org/wordprocessingml/2006/main' xmlns:mc='urn:mc'>",
-    )?;
-    for (name, part) in parts {
-        let part = format!(in alloc;
-            "<pkg:part pkg:name='{name}' pkg:contentType='x/y'><pkg:xmlData>{part}</pkg:xmlData></pkg:part>"
-        )?;
-        text.push_str(part.as_str())?;
+fn package_of(alloc: Global, parts: &[(&str, &str)]) -> Result<String, AllocError> {
+    let mut all = String::new(alloc);
+    for (name, data) in parts {
+        all.push_str(part(alloc, name, data)?.as_str())?;
     }
-    text.push_str("</pkg:package>")?;
-    Ok(text)
+    package(alloc, all.as_str())
 }
 
 /// The stories of a package with these parts, as they stand in its page.
 fn document_of(alloc: Global, parts: &[(&str, &str)]) -> Result<MemSink, Fail> {
-    let text = package_text(alloc, parts)?;
+    let text = package_of(alloc, parts)?;
     let mut package = Package::make(alloc, redl_xml::read(alloc, text.as_bytes())?)?;
     let index = Index::build(alloc, &mut package)?;
     let mut out = MemSink::new(alloc, 4096, Vec::new(alloc))?;
@@ -116,25 +111,14 @@ fn documents_are_written(rt: HostRuntime) -> Result<(), Fail> {
     Ok(())
 }
 
-const JOURNAL: &[u8] =
-    b"redline-journal 1\ndocument e3b0c44298fc1c149afbf4c8996fb92427ae41e4649b934ca495991b7852b855\nrevisions 1\n2\t1\taccept\tAnn & Co\n7\t1\treject\tBob\n";
+const LINES: &[u8] = b"2\t1\taccept\tAnn & Co\n7\t1\treject\tBob\n";
 
 const WHOLE: &str =
     "<!DOCTYPE html>\n<html lang=\"en\">\n<head>\n<meta charset=\"utf-8\">\n<meta http-equiv=\"Content-Security-Policy\" content=\"default-src 'none'\">\n<meta name=\"viewport\" content=\"width=device-width, initial-scale=1\">\n<title>Redline: changes to decide</title>\n<style>p{}</style>\n</head>\n<body data-document=\"e3b0c44298fc1c149afbf4c8996fb92427ae41e4649b934ca495991b7852b855\" data-revisions=\"1\">\n<main lang=\"\">\n<section>\n<p><ins class=\"text\" data-revision=\"1\" data-author=\"Eve\">x</ins></p>\n</section>\n</main>\n<aside aria-label=\"Changes\">\n<ol>\n<li id=\"revision-1\" data-kind=\"ins\" data-author=\"Eve\" data-date=\"2024-05-06T07:08:00Z\" data-verdict=\"disputed\" data-locked=\"yes\"><p data-word=\"accept\" data-rank=\"0\">Ann &amp; Co</p><p data-word=\"reject\" data-rank=\"0\">Bob</p></li>\n</ol>\n<ul>\n<li data-sequence=\"2\">Ann &amp; Co</li>\n<li data-sequence=\"7\">Bob</li>\n</ul>\n</aside>\n<script>1 < 2</script>\n</body>\n</html>\n";
 
-/// The book of the journal above.
-fn book_of(alloc: Global) -> Result<Book, Fail> {
-    let journal = read(alloc, JOURNAL)?;
-    let mut book = Book::new(alloc);
-    for entry in journal.entries {
-        book.add(entry)?;
-    }
-    Ok(book)
-}
-
 /// The page of the package with this document, whose one revision is locked, under this book.
 fn page_of(alloc: Global, book: &Book, digest: &[u8; 32]) -> Result<MemSink, Fail> {
-    let text = package_text(
+    let text = package_of(
         alloc,
         &[(
             "/a",
@@ -177,8 +161,9 @@ fn put_page(
 
 #[test]
 fn a_whole_page_is_written(rt: HostRuntime) -> Result<(), Fail> {
-    let book = book_of(rt.alloc())?;
-    let journal = read(rt.alloc(), JOURNAL)?;
+    let book = book_of(rt.alloc(), &[LINES])?;
+    let text = journal_text(rt.alloc(), LINES)?;
+    let journal = read(rt.alloc(), &text)?;
     let got = page_of(rt.alloc(), &book, &journal.digest)?;
     assert!(rt; got.bytes() == WHOLE.as_bytes(), "{:?}", got.bytes());
     Ok(())

@@ -2,9 +2,7 @@
 
 ghost use Rattle.std.specs.Prelude.{◌≡◌, [], false};
 
-mod sources;
-
-use crate::report::sources::{book_of, index_of};
+use crate::inputs::{book_of, index_of, package_text};
 use redl_report::{
     JsonReport, ReportFormat, TableReport, TextReport, add_report_format, lines, lines_by_kind,
     report,
@@ -13,9 +11,9 @@ use std::alloc::Global;
 use std::test::Fail;
 
 const THREE: &str =
-    "<w:ins w:id=\"1\" w:author=\"Ann\"><w:r><w:t>a</w:t></w:r></w:ins><w:ins w:id=\"2\" w:author=\"Bob\"><w:r><w:t>b</w:t></w:r></w:ins><w:del w:id=\"3\" w:author=\"Ann\"><w:r><w:delText>c</w:delText></w:r></w:del>";
+    "<w:p><w:ins w:id=\"1\" w:author=\"Ann\"><w:r><w:t>a</w:t></w:r></w:ins><w:ins w:id=\"2\" w:author=\"Bob\"><w:r><w:t>b</w:t></w:r></w:ins><w:del w:id=\"3\" w:author=\"Ann\"><w:r><w:delText>c</w:delText></w:r></w:del></w:p>";
 
-const ONE: &str = "<w:ins w:id=\"1\" w:author=\"Ann\"><w:r><w:t>a</w:t></w:r></w:ins>";
+const ONE: &str = "<w:p><w:ins w:id=\"1\" w:author=\"Ann\"><w:r><w:t>a</w:t></w:r></w:ins></w:p>";
 
 const DEE: &str = "1\t1\taccept\tDee\n1\t2\treject\tDee\n";
 
@@ -26,14 +24,15 @@ fn reported(
     alloc: Global,
     format: Box<dyn ReportFormat>,
     name: &str,
-    paragraph: &str,
+    body: &str,
     first: &str,
     second: &str,
 ) -> Result<Vec<u8>, Fail>
     requires { (is_ended format ≡ false) × (lines_so_far format ≡ []) }
 {
-    let index = index_of(alloc, paragraph)?;
-    let book = book_of(alloc, first, second)?;
+    let text = package_text(alloc, "/word/document.xml", body)?;
+    let index = index_of(alloc, text.as_bytes())?;
+    let book = book_of(alloc, &[first.as_bytes(), second.as_bytes()])?;
     let mut formats = Vec::new(alloc);
     add_report_format(&mut formats, format)?;
     let lines = lines(alloc, &index, &book)?;
@@ -52,8 +51,9 @@ fn reported_by_kind(
 ) -> Result<Vec<u8>, Fail>
     requires { (is_ended format ≡ false) × (lines_so_far format ≡ []) }
 {
-    let index = index_of(alloc, THREE)?;
-    let book = book_of(alloc, DEE, EVE)?;
+    let text = package_text(alloc, "/word/document.xml", THREE)?;
+    let index = index_of(alloc, text.as_bytes())?;
+    let book = book_of(alloc, &[DEE.as_bytes(), EVE.as_bytes()])?;
     let mut formats = Vec::new(alloc);
     add_report_format(&mut formats, format)?;
     let lines = lines_by_kind(alloc, &index, &book)?;

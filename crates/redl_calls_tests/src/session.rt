@@ -1,7 +1,8 @@
 //! Sessions over a package of two revisions: which entries are new, repeated and refused, and what is left of the package.
-ghost use Rattle.std.specs.Prelude.{◌≡◌, All, IfOk};
+ghost use Rattle.std.specs.Prelude.{◌≡◌};
 ghost use Rattle.redl_journal.specs.Journals.{IsAllowed};
 
+use crate::inputs::{entries_of, package_text};
 use redl_index::{Index, RevKind};
 use redl_io::{MemSink, Text};
 use redl_join::Verdict;
@@ -14,26 +15,13 @@ use redl_tree::{Say, Trace, write_nodes};
 use std::alloc::{AllocError, Global};
 use std::test::Fail;
 
-const HEAD: &[u8] =
-    b"redline-journal 1\ndocument e3b0c44298fc1c149afbf4c8996fb92427ae41e4649b934ca495991b7852b855\nrevisions 2\n";
-
 // An insertion by Ann, and one by Cy & Co, which is of the second 1714979289.
-const PACKAGE: &[u8] =
-    b"<pkg:package xmlns:pkg='http://schemas.microsoft.com/office/2006/xmlPackage'><pkg:part pkg:name='/d' pkg:contentType='x'><pkg:xmlData><w:document xmlns:w='http://schemas.openxmlformats.org/wordprocessingml/2006/main'><w:body><w:p><w:ins w:id='1' w:author='Ann'><w:r><w:t>a</w:t></w:r></w:ins><w:ins w:id='2' w:author='Cy &amp; Co' w:date='2024-05-06T07:08:09Z'><w:r><w:t>g</w:t></w:r></w:ins></w:p></w:body></w:document></pkg:xmlData></pkg:part></pkg:package>";
+const BODY: &str =
+    "<w:p><w:ins w:id='1' w:author='Ann'><w:r><w:t>a</w:t></w:r></w:ins><w:ins w:id='2' w:author='Cy &amp; Co' w:date='2024-05-06T07:08:09Z'><w:r><w:t>g</w:t></w:r></w:ins></w:p>";
 
 // The same with the first one accepted.
-const ACCEPTED: &[u8] =
-    b"<pkg:package xmlns:pkg='http://schemas.microsoft.com/office/2006/xmlPackage'><pkg:part pkg:name='/d' pkg:contentType='x'><pkg:xmlData><w:document xmlns:w='http://schemas.openxmlformats.org/wordprocessingml/2006/main'><w:body><w:p><w:r><w:t>a</w:t></w:r><w:ins w:id='2' w:author='Cy &amp; Co' w:date='2024-05-06T07:08:09Z'><w:r><w:t>g</w:t></w:r></w:ins></w:p></w:body></w:document></pkg:xmlData></pkg:part></pkg:package>";
-
-// The entries of a journal with these lines.
-fn entries_of(alloc: Global, lines: &[u8]) -> Result<Vec<Entry>, Fail>
-    ensures { IfOk result (λ entries. All IsAllowed entries.items) }
-{
-    let mut text = Vec::from_slice(alloc, HEAD)?;
-    text.extend_from_slice(lines)?;
-    let journal = redl_journal::read(alloc, &text)?;
-    Ok(journal.entries)
-}
+const ACCEPTED: &str =
+    "<w:p><w:r><w:t>a</w:t></w:r><w:ins w:id='2' w:author='Cy &amp; Co' w:date='2024-05-06T07:08:09Z'><w:r><w:t>g</w:t></w:r></w:ins></w:p>";
 
 // The lock that a word names: on insertions, on the second of Cy & Co's one, on the second before, or else on an author.
 fn lock_of(alloc: Global, word: &[u8]) -> Result<Lock, AllocError> {
@@ -58,10 +46,10 @@ fn locks_of(alloc: Global, words: &[&[u8]]) -> Result<Locks, AllocError> {
     Ok(Locks::new(locks))
 }
 
-// A session over the package with these locks.
-fn session_of(alloc: Global, words: &[&[u8]]) -> Result<Session<'static>, Fail> {
+// A session over the package with this text, with these locks.
+fn session_of<'t>(alloc: Global, text: &'t [u8], words: &[&[u8]]) -> Result<Session<'t>, Fail> {
     let locks = locks_of(alloc, words)?;
-    let mut pkg = Package::make(alloc, redl_xml::read(alloc, PACKAGE)?)?;
+    let mut pkg = Package::make(alloc, redl_xml::read(alloc, text)?)?;
     check(alloc, &pkg)?;
     let index = Index::build(alloc, &mut pkg)?;
     Ok(Session::start(alloc, pkg, index, locks)?)
@@ -83,7 +71,8 @@ fn last_answer(
     words: &[&[u8]],
     lines: &[u8],
 ) -> Result<(Result<Taken, AdmitError>, Verdict), Fail> {
-    let mut session = session_of(alloc, words)?;
+    let text = package_text(alloc, "/d", BODY)?;
+    let mut session = session_of(alloc, text.as_bytes(), words)?;
     let mut last = Ok(Taken::New);
     for entry in entries_of(alloc, lines)? {
         last = answer(&mut session, entry);
@@ -166,7 +155,8 @@ fn decided(
     author: &[u8],
     lines: &[u8],
 ) -> Result<(usize, Vec<Verdict>, bool), Fail> {
-    let mut session = session_of(alloc, &[author])?;
+    let text = package_text(alloc, "/d", BODY)?;
+    let mut session = session_of(alloc, text.as_bytes(), &[author])?;
     let refused = session.admit_many(entries_of(alloc, lines)?)?;
     let verdicts = session.verdicts()?;
     let kept = session.says() == [Say::Accept, Say::Keep].as_slice();
@@ -189,14 +179,16 @@ fn the_says_are_those_of_the_verdicts(rt: HostRuntime) -> Result<(), Fail> {
     Ok(())
 }
 
-// Whether this is what a session writes, and the text of the nodes that it leaves.
-fn leaves(alloc: Global, lines: &[u8], text: &[u8]) -> Result<(bool, bool), Fail> {
-    let mut session = session_of(alloc, &[b"Cy & Co"])?;
+// Whether this is what a session writes, and the text of the nodes that it leaves, both of the package with this body.
+fn leaves(alloc: Global, lines: &[u8], body: &str) -> Result<(bool, bool), Fail> {
+    let text = package_text(alloc, "/d", BODY)?;
+    let left = package_text(alloc, "/d", body)?;
+    let mut session = session_of(alloc, text.as_bytes(), &[b"Cy & Co"])?;
     let _refused = session.admit_many(entries_of(alloc, lines)?)?;
     let mut out = MemSink::new(alloc, 2_000, Vec::new(alloc))?;
     session.write(&mut out)?;
-    let written = out.bytes() == text;
-    Ok((written, has_text(alloc, session, text)?))
+    let written = out.bytes() == left.as_bytes();
+    Ok((written, has_text(alloc, session, left.as_bytes())?))
 }
 
 fn has_text(alloc: Global, session: Session, text: &[u8]) -> Result<bool, Fail> {
@@ -207,12 +199,12 @@ fn has_text(alloc: Global, session: Session, text: &[u8]) -> Result<bool, Fail> 
 
 #[test]
 fn the_package_is_left_under_the_says(rt: HostRuntime) -> Result<(), Fail> {
-    for (lines, text) in [
-        (b"".as_slice(), PACKAGE),
+    for (lines, body) in [
+        (b"".as_slice(), BODY),
         (b"1\t1\taccept\tAnn\n1\t2\taccept\tAnn\n", ACCEPTED),
-        (b"1\t1\taccept\tAnn\n1\t1\treject\tAnn\n", PACKAGE),
+        (b"1\t1\taccept\tAnn\n1\t1\treject\tAnn\n", BODY),
     ] {
-        let left = leaves(rt.alloc(), lines, text)?;
+        let left = leaves(rt.alloc(), lines, body)?;
         assert!(rt; left == (true, true), "{left:?}");
     }
     Ok(())

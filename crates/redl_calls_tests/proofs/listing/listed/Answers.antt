@@ -3,4 +3,4 @@ use Rattle.std.specs.Str.{IsUtf8}
 use Rattle.redl_calls_tests.proofs.listing.listed.Goals as goal
 
 pub list-requires-clause-names : goal.list-requires-clause-names
-list-requires-clause-names g c = subst (All IsUtf8) (c.deref-2.ensures.value ∙ sym c.deref-3.ensures.value) (c.if-not-are_utf8.ensures (search rules))
+list-requires-clause-names g c = subst (All IsUtf8) (c.deref.ensures.value ∙ sym c.deref-2.ensures.value) (c.if-not-are_utf8.ensures (search rules))

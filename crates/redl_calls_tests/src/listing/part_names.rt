@@ -1,20 +1,11 @@
-//! Small packages with one part.
+//! What a listing asks of the names of parts.
 
 ghost use Rattle.std.specs.Prelude.{◌<◌, All, IsTrue, length};
 ghost use Rattle.std.specs.Str.{IsUtf8};
 
 use redl_index::Index;
 use redl_io::Text;
-use redl_opc::Package;
-use std::alloc::Global;
 use std::str::from_utf8;
-use std::test::Fail;
-
-/// The revisions of the package with this text.
-pub(crate) fn index_of(alloc: Global, text: &[u8]) -> Result<Index, Fail> {
-    let mut pkg = Package::make(alloc, redl_xml::read(alloc, text)?)?;
-    Ok(Index::build(alloc, &mut pkg)?)
-}
 
 /// Whether each name is UTF-8.
 pub(crate) fn are_utf8(names: &[Text]) -> bool
