@@ -15,7 +15,7 @@ use Rattle.redl_opc.specs.Shape.{elements_in, parts_of, package_of, story_of}
 use Rattle.redl_opc.proofs.LabelLaws.{plain, elements-unlabelled, package_of-unlabelled, story_of-plain}
 use Rattle.redl_stamp.specs.Attribute.{attribute_value}
 use Rattle.redl_moves.specs.Starts.{start_in}
-use Rattle.redl_markers.specs.Found.{markers_of, marker_tail, marker_tails}
+use Rattle.redl_index.specs.Markers.Found.{markers_of, marker_tail, marker_tails}
 use Rattle.redl_index.specs.Mentions.{Sight, sight_by, sight_in, mentions}
 use Rattle.redl_index.specs.Numbers.{package_revisions, numbered_package}
 use Rattle.redl_index.specs.Revisions.{firsts, revision_of, story_revisions, revisions_in, revisions_from, numbered, revisions_of}

@@ -1,3 +1,5 @@
+pub mod EveryLaws
+pub mod MarkerLaws
 pub mod StoryLaws
 pub mod TallyLaws
 pub mod IndexLaws

@@ -12,12 +12,13 @@ use Rattle.redl_tree.specs.Roles.Arounds.{around_of, inside_of}
 use Rattle.redl_tree.specs.declared.around.Around.{Around}
 use Rattle.redl_stamp.specs.Attribute.{attribute_value}
 use Rattle.redl_moves.specs.Starts.{start_in}
-use Rattle.redl_markers.specs.Ends.{one_end, ends_from}
-use Rattle.redl_markers.specs.Found.{markers_of}
-use Rattle.redl_markers.specs.Free.{Every, IsFree}
-use Rattle.redl_markers.proofs.FreeLaws.{every-left, every-right, story-free}
-use Rattle.redl_markers.proofs.RiseLaws.{between-rises, story-between}
-use Rattle.redl_markers.proofs.StoryLaws.{tags-count}
+use Rattle.redl_index.specs.Markers.Ends.{one_end, ends_from}
+use Rattle.redl_index.specs.Markers.Found.{markers_of}
+use Rattle.redl_index.specs.Inside.Markers.Free.{Every, IsFree}
+use Rattle.redl_index.proofs.EveryLaws.{every-left, every-right}
+use Rattle.redl_index.proofs.MarkerLaws.Free.{story-free}
+use Rattle.redl_index.proofs.MarkerLaws.Rising.{between-rises, story-between}
+use Rattle.redl_index.proofs.MarkerLaws.Counts.{tags-count}
 use Rattle.redl_visit.specs.Labelling.{visit_of, needs_of, with_label, relabelled}
 use Rattle.redl_visit.specs.Visits.{VisitRule, visited, Needs}
 use Rattle.redl_index.specs.Inside.Sights.{para_end}

@@ -1,21 +1,18 @@
 -- Where revisions stand, and that their numbers count from 1.
-use Rattle.std.proofs.Common.{◌≡◌, ◌∙◌, refl, ap, sym, ℕ, zero, suc, ◌+◌, List, [], ◌∷◌, ◌++◌, All, map, slice_get, Option, Some, None, IsSome, option_map, option_and_then, arith, subst}
+use Rattle.std.proofs.Common.{◌≡◌, ◌∙◌, refl, ap, sym, ℕ, zero, suc, ◌+◌, List, [], ◌∷◌, All, map, slice_get, Option, Some, None, IsSome, option_map, option_and_then, arith, subst}
 use Rattle.std.proofs.lemmas.Option.{slice_get_within}
 use Rattle.redl_tree.specs.Model.Nodes.{Nodes}
 use Rattle.redl_opc.specs.Elements.{Element}
 use Rattle.redl_opc.specs.Parts.{name_in, part_name, story}
 use Rattle.redl_opc.specs.Shape.{parts_of, story_of}
-use Rattle.redl_markers.specs.Free.{Every}
+use Rattle.redl_index.specs.Inside.Markers.Free.{Every}
 use Rattle.redl_index.specs.Mentions.{Mention, mentions}
 use Rattle.redl_index.specs.Revisions.{revision_of, story_revisions, revisions_in, revisions_from, numbered, revisions_of, AreNumbered, IsInStory, firsts}
 use Rattle.redl_index.specs.declared.revision.Revision.{Revision}
+use Rattle.redl_index.proofs.EveryLaws.{every-append}
 use Rattle.redl_index.proofs.IndexLaws.{AreNumberedFrom}
 
 -- ---- of each revision, whatever its number
-
-every-append : (P : (ℕ → Revision) → Type 0) (xs ys : List (ℕ → Revision)) → Every P xs → Every P ys → Every P (xs ++ ys)
-every-append P [] ys here later = later
-every-append P (x ∷ xs) ys here later = (here.0, every-append P xs ys here.1 later)
 
 -- what holds of the revisions of each story holds of those of parts
 every-from : (P : (ℕ → Revision) → Type 0) (nodes : Nodes)

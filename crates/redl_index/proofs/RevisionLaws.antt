@@ -14,9 +14,9 @@ use Rattle.redl_tree.specs.declared.kinds.Kind.{Kind}
 use Rattle.redl_tree.specs.declared.kinds.Kind.TheVariants.{Content, Mark, Row, Cell, Change, Plain, Marker}
 use Rattle.redl_stamp.specs.Attribute.{attribute_value}
 use Rattle.redl_moves.specs.Starts.{start_in}
-use Rattle.redl_markers.specs.Found.{markers_of, marker_tails}
-use Rattle.redl_markers.specs.Free.{Every}
-use Rattle.redl_markers.proofs.StoryLaws.{seen-count}
+use Rattle.redl_index.specs.Markers.Found.{markers_of, marker_tails}
+use Rattle.redl_index.specs.Inside.Markers.Free.{Every}
+use Rattle.redl_index.proofs.MarkerLaws.Counts.{seen-count}
 use Rattle.redl_opc.specs.Elements.{Element}
 use Rattle.redl_opc.specs.Parts.{story}
 use Rattle.redl_opc.specs.Shape.{parts_of, story_of, refusal}

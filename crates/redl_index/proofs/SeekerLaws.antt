@@ -11,11 +11,12 @@ use Rattle.redl_tree.specs.Roles.Arounds.{around_of, inside_of}
 use Rattle.redl_tree.specs.Revisions.Moves.{Marking}
 use Rattle.redl_tree.specs.declared.around.Around.{Around}
 use Rattle.redl_visit.specs.Visits.{visited, visited_element, Needs}
-use Rattle.redl_markers.specs.Ends.{one_end, ends_from}
-use Rattle.redl_markers.specs.Free.{Every, IsFree}
-use Rattle.redl_markers.proofs.FreeLaws.{every-left, every-right, story-free}
-use Rattle.redl_markers.proofs.StoryLaws.{seen-count, tags-count}
-use Rattle.redl_markers.proofs.TailLaws.{utf8-tails}
+use Rattle.redl_index.specs.Markers.Ends.{one_end, ends_from}
+use Rattle.redl_index.specs.Inside.Markers.Free.{Every, IsFree}
+use Rattle.redl_index.proofs.EveryLaws.{every-left, every-right}
+use Rattle.redl_index.proofs.MarkerLaws.Free.{story-free}
+use Rattle.redl_index.proofs.MarkerLaws.Counts.{seen-count, tags-count}
+use Rattle.redl_index.proofs.MarkerLaws.Tails.{utf8-tails}
 use Rattle.redl_index.specs.Known.{Marked, known_in, parts_by}
 use Rattle.redl_index.specs.Mentions.{Sight, sight_by, sight_in}
 use Rattle.redl_index.specs.Revisions.{numbered, story_revisions}

@@ -14,8 +14,8 @@ use Rattle.redl_tree.proofs.AroundLaws.{around_of-∷, role-in}
 use Rattle.redl_stamp.specs.Attribute.{attribute_value}
 use Rattle.redl_moves.specs.Starts.{start_in}
 use Rattle.redl_moves.specs.declared.start.Start.{Start}
-use Rattle.redl_markers.specs.Ends.{one_end}
-use Rattle.redl_markers.specs.Free.{IsFree}
+use Rattle.redl_index.specs.Markers.Ends.{one_end}
+use Rattle.redl_index.specs.Inside.Markers.Free.{IsFree}
 use Rattle.redl_index.specs.Inside.Sights.{para_end, IsApartAs, is_marker_by, marker_start, member_start, sight_at, next_end, ends_after, move_by}
 use Rattle.redl_index.specs.declared.story.Sight.{Sight}
 use Rattle.redl_tree.specs.Roles.Places.{is_open, within, role, placed, first_role, change_at, in_mark_props, in_row_props, in_cell_props, in_props, trace_of, row_trace_of, cell_trace_of, prop_of}
@@ -23,7 +23,7 @@ use Rattle.redl_tree.specs.declared.kinds.Trace.{Trace}
 use Rattle.redl_tree.specs.declared.kinds.Prop.{Prop}
 use Rattle.redl_tree.proofs.NameLaws.{and-left, and-right, is-other, is_any-apart}
 use Rattle.redl_moves.specs.Standing.{IsApart}
-use Rattle.redl_markers.proofs.FreeLaws.{content-apart, mark-apart}
+use Rattle.redl_index.proofs.MarkerLaws.Free.{content-apart, mark-apart}
 
 -- ---- a mark is at the end of the nearest paragraph
 

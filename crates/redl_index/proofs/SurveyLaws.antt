@@ -6,10 +6,10 @@ use Rattle.redl_visit.specs.Summaries.{ancestors_of, ancestors_inside}
 use Rattle.redl_visit.specs.Visits.{visited}
 use Rattle.redl_visit.specs.Pairs.{both_rule}
 use Rattle.redl_visit.proofs.PairLaws.{both-visited}
-use Rattle.redl_markers.specs.declared.trail.Below.{Below}
-use Rattle.redl_markers.specs.Trails.{below_root}
-use Rattle.redl_markers.specs.Finding.{Finding, nothing_found, all_found, finder_rule}
-use Rattle.redl_markers.proofs.FinderLaws.{story-found}
+use Rattle.redl_index.specs.declared.markers.trail.Below.{Below}
+use Rattle.redl_index.specs.Inside.Markers.Trails.{below_root}
+use Rattle.redl_index.specs.Inside.Markers.Finding.{Finding, nothing_found, all_found, finder_rule}
+use Rattle.redl_index.proofs.MarkerLaws.Finder.{story-found}
 use Rattle.redl_rules.specs.declared.kept.Kept.{Kept}
 use Rattle.redl_rules.specs.declared.round.Round.{Round}
 use Rattle.redl_rules.specs.Rounds.{round_of}

@@ -13,10 +13,11 @@ use Rattle.redl_tree.proofs.NumberLaws.{unlabelled-story}
 use Rattle.redl_tree.proofs.StoryLaws.{Agree, changed_in-agree}
 use Rattle.redl_opc.specs.Labels.{SetsLabels}
 use Rattle.redl_stamp.specs.Attribute.{attribute_value}
-use Rattle.redl_markers.specs.Free.{Every}
+use Rattle.redl_index.specs.Inside.Markers.Free.{Every}
 use Rattle.redl_index.specs.Known.{Marked, known_in}
 use Rattle.redl_index.specs.Numbers.{numbered_package}
 use Rattle.redl_index.specs.Unlabelled.{Left, left_rule, IsNext}
+use Rattle.redl_index.proofs.EveryLaws.{every-append}
 use Rattle.redl_index.proofs.LabelLaws.{GoesOn, numbering-goes}
 
 -- ---- the rule is that of the definition
@@ -47,10 +48,6 @@ abbrev pub size : List Parts → ℕ
 size [] = 0
 size (story ∷ xs) = (1 + count story.kids) + size xs
 
-every-both : (xs ys : List Parts) → Every HasRoot xs → Every HasRoot ys → Every HasRoot (xs ++ ys)
-every-both [] ys here later = later
-every-both (x ∷ xs) ys here later = (here.0, every-both xs ys here.1 later)
-
 size-append : (xs ys : List Parts) → size (xs ++ ys) ≡ size xs + size ys
 size-append [] ys = omega arith
 size-append (x ∷ xs) ys = omega (arith, size-append xs ys)
@@ -59,7 +56,7 @@ roots-in : (ancestors : List Tag) (nodes : Nodes) → Every HasRoot (stories_in 
 roots-in ancestors no_nodes = tt
 roots-in ancestors (bytes b rest) = roots-in ancestors rest
 roots-in ancestors (element tag kids rest) =
-    every-both (if is_root ancestors tag then record { tag = tag; kids = kids } ∷ [] else stories_in (tag ∷ ancestors) kids) (stories_in ancestors rest)
+    every-append HasRoot (if is_root ancestors tag then record { tag = tag; kids = kids } ∷ [] else stories_in (tag ∷ ancestors) kids) (stories_in ancestors rest)
     (by (is_root ancestors tag) refl (roots-in (tag ∷ ancestors) kids)) (roots-in ancestors rest)
   where
     by : (b : Bool) → is_root ancestors tag ≡ b → Every HasRoot (stories_in (tag ∷ ancestors) kids)

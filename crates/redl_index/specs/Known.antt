@@ -8,9 +8,9 @@ use Rattle.redl_tree.specs.Model.Nodes.{Tag, Nodes}
 use Rattle.redl_tree.specs.Model.View.{Parts}
 use Rattle.redl_tree.specs.Revisions.Moves.{Marking}
 use Rattle.redl_moves.specs.Marks.{markings}
-use Rattle.redl_markers.specs.declared.markers.StoryMarkers.{StoryMarkers}
-use Rattle.redl_markers.specs.Ends.{ends_from}
-use Rattle.redl_markers.specs.Found.{markers_of, marker_tails}
+use Rattle.redl_index.specs.declared.markers.StoryMarkers.{StoryMarkers}
+use Rattle.redl_index.specs.Markers.Ends.{ends_from}
+use Rattle.redl_index.specs.Markers.Found.{markers_of, marker_tails}
 use Rattle.redl_index.specs.declared.known.Known.{Known}
 
 -- a story by its markers, their attributes, the ends of its paragraphs, and the numbers of its moves by places among the markers

@@ -3,6 +3,7 @@ pub mod Kinds
 pub mod KindNames
 pub mod Mentions
 pub mod Revisions
+pub mod Markers
 pub mod Known
 pub mod Unlabelled
 pub mod Inside

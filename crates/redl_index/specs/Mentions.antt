@@ -9,7 +9,7 @@ use Rattle.redl_tree.specs.declared.kinds.Kind.{Kind}
 use Rattle.redl_stamp.specs.Attribute.{attribute_value}
 use Rattle.redl_moves.specs.Starts.{start_in}
 use Rattle.redl_moves.specs.declared.start.Start.{Start}
-use Rattle.redl_markers.specs.Found.{markers_of, marker_tails}
+use Rattle.redl_index.specs.Markers.Found.{markers_of, marker_tails}
 use Rattle.redl_index.specs.Kinds.{kind_of, is_marker_kind}
 use Rattle.redl_index.specs.declared.revision.RevKind.{RevKind}
 use Rattle.redl_index.specs.declared.revision.RevKind.TheVariants.{Move}

@@ -8,8 +8,8 @@ ghost use Rattle.redl_opc.specs.Shape.{refusal};
 ghost use Rattle.redl_moves.specs.Marks.{markings, RisesFrom};
 ghost use Rattle.redl_index.specs.Known.{known_of, known_by, known_in, parts_by};
 
+use crate::markers::{StoryMarkers, find_markers};
 use crate::numbers::Numbers;
-use redl_markers::{StoryMarkers, find_markers};
 use redl_moves::Moves;
 use redl_opc::Package;
 use redl_tree::Elem;

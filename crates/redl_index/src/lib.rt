@@ -3,6 +3,7 @@
 //! Read `Index::build` first. It goes over a package as it was read, pairs the moves of each story, gives each element that is
 //! in a revision its kind and number, and answers the list of the revisions. `number` does the same and only counts them.
 //! `Surveyed` is a package between the look at its stories, which tells the rule of structure that it breaks, and its numbers.
+//! `find_markers` lists the markers of moves in one story, which `redl_moves` pairs, and where its paragraphs end.
 //! A number is what a reviewer's decision names, so the crates above speak of revisions by number alone.
 //! What a decision does is left to the crates above.
 #![tactic(auto)]
@@ -14,6 +15,7 @@ mod kind_names;
 mod known;
 mod label;
 mod laws;
+mod markers;
 mod numbering;
 mod numbers;
 mod revision;
@@ -24,6 +26,7 @@ mod walk;
 pub use index::Index;
 pub use kind_names::one_kind_for_a_name;
 pub use laws::{each_revision_has_a_part, numbering_keeps_revisions, revisions_are_numbered};
+pub use markers::{StoryMarkers, find_markers};
 pub use numbering::number;
 pub use revision::{RevKind, Revision};
 pub use survey::{Counted, Numbered, Surveyed};

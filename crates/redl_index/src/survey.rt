@@ -15,7 +15,7 @@ ghost use Rattle.redl_index.specs.Revisions.{IsInStory, revisions_of};
 use crate::index::Index;
 use crate::known::Known;
 use crate::label::label_stories;
-use redl_markers::{Below, Finder};
+use crate::markers::{Below, Finder};
 use redl_opc::Package;
 use redl_rules::{Keeper, Kept};
 use redl_tree::Elem;

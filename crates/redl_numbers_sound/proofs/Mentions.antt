@@ -9,8 +9,8 @@ use Rattle.redl_tree.specs.declared.kinds.Kind.{Kind}
 use Rattle.redl_tree.specs.declared.kinds.Kind.TheVariants.{Content, Mark, Row, Cell, Change, Plain, Marker}
 use Rattle.redl_stamp.specs.Attribute.{attribute_value}
 use Rattle.redl_moves.specs.Starts.{start_in}
-use Rattle.redl_markers.specs.Found.{marker_tail}
-use Rattle.redl_markers.proofs.RiseLaws.{marker-at}
+use Rattle.redl_index.specs.Markers.Found.{marker_tail}
+use Rattle.redl_index.proofs.MarkerLaws.Rising.{marker-at}
 use Rattle.redl_index.specs.Kinds.{kind_of}
 use Rattle.redl_index.specs.Mentions.{Mention, mention_by}
 use Rattle.redl_index.specs.declared.revision.RevKind.TheVariants.{Move}

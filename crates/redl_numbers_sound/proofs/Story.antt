@@ -9,8 +9,8 @@ use Rattle.redl_tree.specs.declared.kinds.Kind.TheVariants.{Plain}
 use Rattle.redl_stamp.specs.Attribute.{attribute_value}
 use Rattle.redl_stamp.specs.Stamp.{author_of, seconds_of}
 use Rattle.redl_moves.specs.Marks.{RisesFrom}
-use Rattle.redl_markers.specs.Found.{markers_of, marker_tails}
-use Rattle.redl_markers.proofs.RiseLaws.{between-rises, story-between}
+use Rattle.redl_index.specs.Markers.Found.{markers_of, marker_tails}
+use Rattle.redl_index.proofs.MarkerLaws.Rising.{between-rises, story-between}
 use Rattle.redl_index.specs.Kinds.{kind_of}
 use Rattle.redl_index.specs.Mentions.{Mention, mentions}
 use Rattle.redl_index.specs.Revisions.{firsts, revision_of, story_revisions, numbered}

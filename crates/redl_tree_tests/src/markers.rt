@@ -5,7 +5,7 @@ ghost use Rattle.std.specs.Prelude.{◌^◌, ◌<◌, length, IfOk};
 ghost use Rattle.redl_moves.specs.Marks.{markings, RisesFrom};
 
 use crate::documents::WORDS;
-use redl_markers::{StoryMarkers, find_markers};
+use redl_index::{StoryMarkers, find_markers};
 use redl_moves::{Half, Marker, Moves, Start, pair};
 use redl_outline::outline_text;
 use redl_tree::{Node, count_nodes};

@@ -4,8 +4,8 @@ use Rattle.redl_visit.specs.Summaries.{ancestors_inside}
 use Rattle.redl_visit.specs.Visits.{no_needs}
 use Rattle.redl_visit.proofs.VisitLaws.{needs-nothing}
 use Rattle.redl_visit.proofs.PairLaws.{both-needs}
-use Rattle.redl_markers.specs.Finding.{Finding, finding_of, all_found, finder_rule, finder_needs}
-use Rattle.redl_markers.proofs.FinderLaws.{story-needs, story-few, story-rises}
+use Rattle.redl_index.specs.Inside.Markers.Finding.{Finding, finding_of, all_found, finder_rule, finder_needs}
+use Rattle.redl_index.proofs.MarkerLaws.Finder.{story-needs, story-few, story-rises}
 use Rattle.redl_rules.specs.Visiting.{keeper_rule}
 use Rattle.redl_index.proofs.SurveyLaws.{known_from, rules-told, markers-told}
 use Rattle.redl_index.proofs.survey.survey_story.Goals as goal

@@ -1,0 +1,88 @@
+-- What one element adds to what is found, and what it is to those in it.
+use Rattle.std.proofs.Common.{◌≡◌, ◌∙◌, refl, ap, sym, ℕ, List, [], ◌∷◌, ◌++◌, Bool, true, false, Option, Some, None, length, option_to_list, set, append_assoc, ◌&&◌, ◌||◌, if◌then◌else◌}
+use Rattle.std.specs.List.{cons_option}
+use Rattle.redl_tree.specs.Model.Nodes.{Tag, Nodes, no_nodes, bytes, element, Item, bytes_item, element_item, in_front, ◌⊕◌}
+use Prim.Native.String.{String}
+use Rattle.redl_tree.specs.Roles.Names.{is}
+use Rattle.redl_tree.specs.Model.Kids.{some_element, kids_of_all}
+use Rattle.redl_tree.specs.Model.Seen.{Spot, spot, tags_of}
+use Rattle.redl_visit.specs.Summaries.{ancestors_of}
+use Rattle.redl_index.specs.Markers.Ends.{one_end}
+use Rattle.redl_index.specs.Inside.Markers.Trails.{trail_of, makes_revised, is_revised_by, leaves_grid_at, inside_trail}
+use Rattle.redl_index.specs.declared.markers.trail.Trail.{Trail}
+
+-- ---- the end of a paragraph is noted anew
+
+set_after : (before later : List ℕ) (was at : ℕ) → set ((before ++ was ∷ []) ++ later) (length before) at ≡ (before ++ at ∷ []) ++ later
+set_after [] later was at = refl
+set_after (x ∷ before) later was at = ap (λ xs. x ∷ xs) (set_after before later was at)
+
+pub mended : (tag : Tag) (before later : List ℕ) (was at : ℕ) →
+    (if is "p" tag then set ((before ++ one_end tag was) ++ later) (length before) at else (before ++ one_end tag was) ++ later)
+    ≡ before ++ (one_end tag at ++ later)
+mended tag before later was at = by (is "p" tag)
+  where
+    by : (b : Bool) →
+        (if b then set ((before ++ (if b then was ∷ [] else [])) ++ later) (length before) at else (before ++ (if b then was ∷ [] else [])) ++ later)
+        ≡ before ++ ((if b then at ∷ [] else []) ++ later)
+    by true = set_after before later was at ∙ append_assoc before (at ∷ []) later
+    by false = append_assoc before [] later
+
+-- ---- what an element adds
+
+pub element-more : {X : Type 0} (had : List X) (own : Option X) (below : List X) →
+    (had ++ option_to_list own) ++ below ≡ had ++ cons_option own below
+element-more had None below = append_assoc had [] below
+element-more had (Some x) below = append_assoc had (x ∷ []) below
+
+-- ---- trails
+
+or-turned : (a b : Bool) → (a || b) ≡ (b || a)
+or-turned true true = refl
+or-turned true false = refl
+or-turned false true = refl
+or-turned false false = refl
+
+-- the trail of the kids of an element
+pub trail-inside : (at : ℕ) (tag : Tag) (kids : Nodes) (ancestors : List Spot) →
+    inside_trail tag kids (ancestors_of (tags_of ancestors)) (trail_of ancestors) ≡ trail_of (spot at tag kids ∷ ancestors)
+trail-inside at tag kids ancestors =
+    let here = trail_of ancestors in
+    let Told : Bool → Bool → Trail = λ revised astray. record { revised = revised; astray = astray } in
+    let leaves = leaves_grid_at (ancestors_of (tags_of ancestors)).place tag in
+    ap (λ revised. Told revised (here.astray || leaves)) (or-turned here.revised (is_revised_by tag kids))
+    ∙ ap (Told (is_revised_by tag kids || here.revised)) (or-turned here.astray leaves)
+
+-- ---- rows and cells that are revisions themselves
+
+pub some_element-⊕ : (test : Tag → Bool) (xs ys : Nodes) → some_element test (xs ⊕ ys) ≡ (some_element test xs || some_element test ys)
+some_element-⊕ test no_nodes ys = refl
+some_element-⊕ test (bytes b rest) ys = some_element-⊕ test rest ys
+some_element-⊕ test (element tag kids rest) ys = by (test tag) (some_element-⊕ test rest ys)
+  where
+    by : (b : Bool) → some_element test (rest ⊕ ys) ≡ (some_element test rest || some_element test ys) →
+        (b || some_element test (rest ⊕ ys)) ≡ ((b || some_element test rest) || some_element test ys)
+    by true ih = refl
+    by false ih = ih
+
+-- some element among the kids of those with this name
+pub named_kids : (test : Tag → Bool) (name : String) (tag : Tag) (kids rest : Nodes) →
+    some_element test (kids_of_all name (element tag kids rest)) ≡ (is name tag && some_element test kids || some_element test (kids_of_all name rest))
+named_kids test name tag kids rest = by (is name tag)
+  where
+    by : (b : Bool) → some_element test (if b then kids ⊕ kids_of_all name rest else kids_of_all name rest)
+        ≡ (b && some_element test kids || some_element test (kids_of_all name rest))
+    by true = some_element-⊕ test kids (kids_of_all name rest)
+    by false = refl
+
+pub named_kids-in_front : (test : Tag → Bool) (name : String) (x : Item) (rest : Nodes) →
+    some_element test (kids_of_all name (in_front x rest)) ≡ (makes_revised name test x || some_element test (kids_of_all name rest))
+named_kids-in_front test name (bytes_item b) rest = refl
+named_kids-in_front test name (element_item tag kids) rest = named_kids test name tag kids rest
+
+-- the first of the nodes that are left makes a revision, or not
+pub revised-here : (test : Tag → Bool) (name : String) (x : Item) (rest left : Nodes) (whole b : Bool) → left ≡ in_front x rest → b ≡ makes_revised name test x →
+    some_element test (kids_of_all name left) ≡ whole → (b || some_element test (kids_of_all name rest)) ≡ whole
+revised-here test name x rest left whole b splits is had =
+    ap (λ c. c || some_element test (kids_of_all name rest)) is ∙ sym (named_kids-in_front test name x rest)
+    ∙ ap (λ ns. some_element test (kids_of_all name ns)) (sym splits) ∙ had
