@@ -1,16 +1,16 @@
 -- The first of three bytes by blocks.
-use Rattle.std.proofs.Common.{◌≡◌, ℕ, zero, suc, ◌≤◌, ◌<◌, ◌%◌, ◌^◌, Bool, true, false, cond, eqb, List, [], ◌∷◌, ◌++◌, length, map, take, drop, replicate, refl, sym, ap, ◌∙◌, ◌+◌, length-append, arith}
-use Rattle.std.specs.Prelude.{not, ◌||◌}
+use Rattle.std.proofs.Common.{◌≡◌, ℕ, suc, ◌≤◌, ◌<◌, ◌%◌, ◌^◌, Bool, true, false, cond, eqb, List, [], ◌∷◌, ◌++◌, length, map, take, drop, replicate, refl, sym, ap, ◌∙◌, ◌+◌, length-append, arith}
+use Rattle.std.specs.Prelude.{not}
 use Rattle.std.specs.List.{prefix_len}
 use Rattle.std.specs.Int.Count.{count_trailing_zeros}
 use Rattle.std.specs.Simd.Lanes.{mask_l, zip2, top}
 use Rattle.std.proofs.lemmas.Simd.{zip2_splat, mask_l-mod, first_set_mask_l}
 use Rattle.std.proofs.lemmas.Bool.{eqb-true}
 use Rattle.std.proofs.lemmas.List.{length-map, take-append-drop}
-use Rattle.redl_reading.specs.Lists.{front, after, before, is_none_of}
+use Rattle.redl_reading.specs.Lists.{front, after, before}
 use Rattle.redl_reading.proofs.Runs.{front-after}
 use Rattle.redl_reading.proofs.Words.{before-append}
-use Rattle.redl_markup.proofs.Blocks.{lane, Lanes, lanes_either}
+use Rattle.redl_markup.proofs.Blocks.{lane, Lanes}
 
 -- ---- a block
 

@@ -1,5 +1,5 @@
 -- Text without `<`, `&` and `]` is a run, so before a tag it is a whole stretch in an element.
-use Rattle.std.proofs.Common.{◌≡◌, ◌≢◌, ℕ, Bool, true, false, eqb, List, [], ◌∷◌, ◌++◌, Option, Some, refl, sym, ap, ◌∙◌}
+use Rattle.std.proofs.Common.{◌≡◌, ◌≢◌, ℕ, Bool, true, false, eqb, List, [], ◌∷◌, ◌++◌, Some, refl, sym, ap, ◌∙◌}
 use Rattle.std.specs.Prelude.{◌||◌, ◌&&◌, not, codes}
 use Rattle.std.specs.List.{list_all}
 use Rattle.std.proofs.lemmas.Bool.{and_parts, and_from}
@@ -8,8 +8,8 @@ use Rattle.redl_reading.specs.Lists.{front, after, begins, lacks, is_filled, is_
 use Rattle.redl_reading.proofs.Runs.{front-after, front_passes}
 use Rattle.redl_markup.specs.declared.place.Place.TheVariants.{InElement}
 use Rattle.redl_markup.specs.References.{is_there, reference_at, has_references}
-use Rattle.redl_markup.specs.Stretches.{no_head, IsRun, IsStretch, ends_stretch, items_then, head_then}
-use Rattle.redl_markup.specs.Pieces.{Piece, stretch}
+use Rattle.redl_markup.specs.Stretches.{no_head, IsRun, IsStretch, ends_stretch}
+use Rattle.redl_markup.specs.Pieces.{stretch}
 use Rattle.redl_markup.specs.ScanStretches.{stretch_at}
 use Rattle.redl_markup.proofs.Attributes.{is_filled-some}
 use Rattle.redl_markup.proofs.Stretches.{stretch_again}

@@ -1,11 +1,11 @@
 -- A value whose bytes need no test of their own.
-use Rattle.std.proofs.Common.{◌≡◌, ℕ, Bool, true, false, eqb, List, [], ◌∷◌, ◌++◌, Option, Some, None, refl, sym, ap, subst, ◌∙◌, inl, inr, cond}
+use Rattle.std.proofs.Common.{◌≡◌, ℕ, Bool, true, false, eqb, List, [], ◌∷◌, ◌++◌, Option, Some, None, refl, sym, ap, ◌∙◌, cond}
 use Rattle.std.specs.Prelude.{◌&&◌, ◌||◌, not, codes}
 use Rattle.std.specs.List.{list_all}
-use Rattle.std.proofs.lemmas.Bool.{eqb-true, not-true, and_parts, and_from, cases_Bool}
+use Rattle.std.proofs.lemmas.Bool.{and_parts, and_from}
 use Rattle.redl_reading.specs.Lists.{behind, front, after, is_other, is_none_of, field_at}
 use Rattle.redl_reading.specs.Steps.{◌>>=◌}
-use Rattle.redl_reading.proofs.Runs.{stops, front-after, front_passes, after_stops}
+use Rattle.redl_reading.proofs.Runs.{front-after, front_passes}
 use Rattle.redl_reading.proofs.Words.{behind_takes}
 use Rattle.redl_reading.proofs.Fields.{field_again}
 use Rattle.redl_markup.specs.Characters.{is_space}
