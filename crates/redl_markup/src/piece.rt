@@ -78,6 +78,13 @@ impl<'a> StartTag<'a> {
     {
         &self.attributes
     }
+
+    /// The list of those names, for the next tag.
+    pub fn into_attributes(self) -> Vec<Name<'a>>
+        ensures { map name_view result.items ≡ names_in self.entry.tail }
+    {
+        self.attributes
+    }
 }
 
 /// A tag, or a stretch without one.

@@ -8,6 +8,7 @@ ghost use Rattle.redl_markup.specs.PieceViews.{piece_view};
 
 use crate::error::MarkupError;
 use crate::item::begins_item;
+use crate::name::Name;
 use crate::piece::Piece;
 use crate::place::Place;
 use crate::stretch::stretch;
@@ -17,14 +18,19 @@ use std::alloc::Global;
 
 #[tactic(auto, unfolding(crate::specs::ScanPieces::piece_at))]
 #[inline(always)]
-fn read_piece(alloc: Global, bytes: &[u8], place: Place) -> Result<(Piece<'_>, &[u8]), MarkupError>
-    ensures { Finds (λ x. (piece_view x.0, x.1.now)) result (piece_at place bytes.now) }
+fn read_piece<'a>(
+    alloc: Global,
+    list: &mut Vec<Name<'a>>,
+    bytes: &'a [u8],
+    place: Place,
+) -> Result<(Piece<'a>, &'a [u8]), MarkupError>
+    ensures { Finds (λ x. (piece_view x.0, x.1.now)) result (piece_at place bytes.entry.now) }
 {
     if let Some(rest) = skip(bytes, b"</") {
         return end_tag(rest).ok_or(MarkupError::Unreadable);
     }
     match skip(bytes, b"<") {
-        Some(rest) if !begins_item(bytes) => start_tag(alloc, rest),
+        Some(rest) if !begins_item(bytes) => start_tag(alloc, list, rest),
         _ => match stretch(bytes, place) {
             Some((stretch, rest)) => Ok((Piece::Stretch(stretch), rest)),
             None => Err(MarkupError::Unreadable),
@@ -34,18 +40,22 @@ fn read_piece(alloc: Global, bytes: &[u8], place: Place) -> Result<(Piece<'_>, &
 
 /// The piece with which the bytes begin at this place, and the bytes after it. A stretch is as long as it can be.
 ///
+/// A start tag takes the list for the names of its attributes, whatever is in it, and leaves a new one. A caller that gives
+/// the tag's list back takes memory once for all tags.
+///
 /// `Unreadable` exactly if the bytes begin with no piece, as when they are empty. `NoMemory` means out of memory.
 #[inline(always)]
-pub fn next_piece(
+pub fn next_piece<'a>(
     alloc: Global,
-    bytes: &[u8],
+    list: &mut Vec<Name<'a>>,
+    bytes: &'a [u8],
     place: Place,
-) -> Result<(Piece<'_>, &[u8]), MarkupError>
-    ensures found { IfOk result (λ x. Stands place bytes.now (piece_view x.0) x.1.now) }
-    ensures unreadable { IsErrOf result MarkupError.Unreadable → HasNoPiece place bytes.now }
+) -> Result<(Piece<'a>, &'a [u8]), MarkupError>
+    ensures found { IfOk result (λ x. Stands place bytes.entry.now (piece_view x.0) x.1.now) }
+    ensures unreadable { IsErrOf result MarkupError.Unreadable → HasNoPiece place bytes.entry.now }
 
     // The same as a function on lists, for callers that read one piece after the other.
-    ensures read { Finds (λ x. (piece_view x.0, x.1.now)) result (piece_at place bytes.now) }
+    ensures read { Finds (λ x. (piece_view x.0, x.1.now)) result (piece_at place bytes.entry.now) }
 {
-    read_piece(alloc, bytes, place)
+    read_piece(alloc, list, bytes, place)
 }

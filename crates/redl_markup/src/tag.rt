@@ -18,6 +18,7 @@ use crate::space::spaces;
 use crate::word::name;
 use redl_reading::{before, skip};
 use std::alloc::Global;
+use std::mem;
 
 #[tactic(auto, unfolding(crate::specs::ScanTags::ends_tag))]
 #[inline(always)]
@@ -29,10 +30,14 @@ fn is_at_end(bytes: &[u8]) -> bool
 
 /// The names of a tag's attributes, and the bytes after the attributes and their white space.
 #[inline(always)]
-fn attributes(alloc: Global, bytes: &[u8]) -> Result<(Vec<Name<'_>>, &[u8]), MarkupError>
-    ensures { Finds (λ x. (map name_view x.0.items, x.1.now)) result (attributes_at bytes.now) }
+fn attributes<'a>(
+    list: Vec<Name<'a>>,
+    bytes: &'a [u8],
+) -> Result<(Vec<Name<'a>>, &'a [u8]), MarkupError>
+    ensures { Finds (λ x. (map name_view x.0.items, x.1.now)) result (attributes_at bytes.entry.now) }
 {
-    let mut names = Vec::new(alloc);
+    let mut names = list;
+    names.clear();
     let mut rest = bytes;
     loop {
         let (gap, more) = spaces(rest);
@@ -50,11 +55,15 @@ fn attributes(alloc: Global, bytes: &[u8]) -> Result<(Vec<Name<'_>>, &[u8]), Mar
 /// The names of the attributes of a tail, and the bytes after the tail.
 #[tactic(auto, unfolding(crate::specs::ScanTags::tail_at))]
 #[inline(always)]
-fn tail(alloc: Global, bytes: &[u8]) -> Result<(Vec<Name<'_>>, &[u8]), MarkupError>
-    ensures read { Finds (λ x. (before bytes.now x.1.now, x.1.now)) result (tail_at bytes.now) }
-    ensures names { IfOk result (λ x. map name_view x.0.items ≡ names_in (before bytes.now x.1.now)) }
+fn tail<'a>(
+    alloc: Global,
+    list: Vec<Name<'a>>,
+    bytes: &'a [u8],
+) -> Result<(Vec<Name<'a>>, &'a [u8]), MarkupError>
+    ensures read { Finds (λ x. (before bytes.entry.now x.1.now, x.1.now)) result (tail_at bytes.entry.now) }
+    ensures names { IfOk result (λ x. map name_view x.0.items ≡ names_in (before bytes.entry.now x.1.now)) }
 {
-    let (names, rest) = attributes(alloc, bytes)?;
+    let (names, rest) = attributes(list, bytes)?;
     if no_two_alike(alloc, &names)? {
         Ok((names, rest))
     } else {
@@ -62,16 +71,21 @@ fn tail(alloc: Global, bytes: &[u8]) -> Result<(Vec<Name<'_>>, &[u8]), MarkupErr
     }
 }
 
-/// A start tag or an empty element's tag, given the bytes after its `<`.
+/// A start tag or an empty element's tag, given the bytes after its `<`. It takes the list for its names.
 #[tactic(auto, unfolding(crate::specs::ScanTags::tag_at))]
 #[inline(always)]
-pub(crate) fn start_tag(alloc: Global, bytes: &[u8]) -> Result<(Piece<'_>, &[u8]), MarkupError>
-    ensures { Finds (λ x. (piece_view x.0, x.1.now)) result (tag_at bytes.now) }
+pub(crate) fn start_tag<'a>(
+    alloc: Global,
+    list: &mut Vec<Name<'a>>,
+    bytes: &'a [u8],
+) -> Result<(Piece<'a>, &'a [u8]), MarkupError>
+    ensures { Finds (λ x. (piece_view x.0, x.1.now)) result (tag_at bytes.entry.now) }
 {
     let Some((name, rest)) = name(bytes) else {
         return Err(MarkupError::Unreadable);
     };
-    let (attributes, end) = tail(alloc, rest)?;
+    let list = mem::replace(list, Vec::new(alloc));
+    let (attributes, end) = tail(alloc, list, rest)?;
     let tag = StartTag::new(name, before(rest, end), before(bytes, end), attributes);
     if let Some(rest) = skip(end, b">") {
         return Ok((Piece::Start(tag), rest));

@@ -13,7 +13,7 @@ fn shown(bytes: &[u8]) -> &str {
 
 // The first piece: its kind, its prefix and local name, and its tail, white space or text.
 fn first_piece(alloc: Global, text: &[u8], place: Place) -> (&'static str, &[u8], &[u8], &[u8]) {
-    match next_piece(alloc, text, place) {
+    match next_piece(alloc, &mut Vec::new(alloc), text, place) {
         Ok((Piece::Start(tag), _)) => ("start", tag.name().prefix, tag.name().local, tag.tail()),
         Ok((Piece::Empty(tag), _)) => ("empty", tag.name().prefix, tag.name().local, tag.tail()),
         Ok((Piece::End(name, space), _)) => ("end", name.prefix, name.local, space),
@@ -99,7 +99,8 @@ fn tags_have_a_name_and_a_tail(rt: HostRuntime) {
 
 // The text of the start tag at the front, how many attributes it has, and the name of the last one.
 fn start_tag(alloc: Global, text: &[u8]) -> Option<(&[u8], usize, Name<'_>)> {
-    let Ok((Piece::Start(tag), _)) = next_piece(alloc, text, Place::InElement) else {
+    let Ok((Piece::Start(tag), _)) = next_piece(alloc, &mut Vec::new(alloc), text, Place::InElement)
+    else {
         return None;
     };
     let names = tag.attributes();

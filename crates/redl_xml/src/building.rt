@@ -123,15 +123,28 @@ impl<'a> Building<'a> {
         Ok(())
     }
 
-    /// Adds a piece. `Unreadable` if it is not allowed there.
+    /// Adds a piece, and gives the list of its names back for the next one. `Unreadable` if it is not allowed there.
     #[inline(always)]
-    pub(crate) fn place(&mut self, alloc: Global, piece: Piece<'a>) -> Result<(), MarkupError>
+    pub(crate) fn place(
+        &mut self,
+        alloc: Global,
+        list: &mut Vec<Name<'a>>,
+        piece: Piece<'a>,
+    ) -> Result<(), MarkupError>
         ensures ok { OnOk result (placed (piece_view piece.entry) (building_view self.old) ≡ Some (building_view self.new)) }
         ensures unreadable { IsErrOf result MarkupError.Unreadable → placed (piece_view piece.entry) (building_view self.old) ≡ None }
     {
         match piece {
-            Piece::Start(tag) => self.start(alloc, &tag),
-            Piece::Empty(tag) => self.empty(alloc, &tag),
+            Piece::Start(tag) => {
+                self.start(alloc, &tag)?;
+                *list = tag.into_attributes();
+                Ok(())
+            }
+            Piece::Empty(tag) => {
+                self.empty(alloc, &tag)?;
+                *list = tag.into_attributes();
+                Ok(())
+            }
             Piece::Stretch(bytes) => self.stretch(bytes),
             Piece::End(name, space) => self.end(alloc, name, space),
         }

@@ -32,7 +32,7 @@ struct Document<'a> {
 fn stretch(alloc: Global, bytes: &[u8], place: Place) -> Result<(&[u8], &[u8]), MarkupError>
     ensures { Finds (λ x. (x.0.now, x.1.now)) result (Some (stretch_in place bytes.now)) }
 {
-    match next_piece(alloc, bytes, place) {
+    match next_piece(alloc, &mut Vec::new(alloc), bytes, place) {
         Ok((Piece::Stretch(stretch), rest)) => Ok((stretch, rest)),
         Err(MarkupError::NoMemory) => Err(MarkupError::NoMemory),
         _ => Ok((b"", bytes)),

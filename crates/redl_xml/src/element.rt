@@ -38,10 +38,11 @@ pub(crate) fn read_element(
         nodes: 0,
     };
     let mut rest = bytes;
+    let mut list = Vec::new(alloc);
     loop {
-        let (piece, behind) = next_piece(alloc, rest, Place::InElement)?;
+        let (piece, behind) = next_piece(alloc, &mut list, rest, Place::InElement)?;
         sizes.add_piece(limits.nodes, &piece, building.open.len() + 1);
-        building.place(alloc, piece)?;
+        building.place(alloc, &mut list, piece)?;
         building.keep_within(limits, sizes);
         rest = behind;
         if building.open.is_empty() {

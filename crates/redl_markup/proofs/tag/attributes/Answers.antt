@@ -5,7 +5,7 @@ use Rattle.redl_markup.proofs.Attributes.{first_behind, first_shorter, loop_begi
 use Rattle.redl_markup.proofs.tag.attributes.Goals as goal
 
 pub loop-gap-init : goal.loop-gap-init
-loop-gap-init c = rw c.new-names.ensures.items (loop_begins c.args.bytes.now)
+loop-gap-init c = rw c.clear.ensures.items (loop_begins c.args.bytes.now)
 
 pub returns-then-is_at_end : goal.returns-then-is_at_end
 returns-then-is_at_end c =

@@ -22,25 +22,25 @@ turned limits p b made b' sizes sizes' len e is adds alike kept =
     let P : ℕ → Type 0 = λ n. Adds limits.nodes p (n + 1) sizes sizes' in
     record { made = building_view made; is = is; adds = subst P (e ∙ sym (length-open b.open.items b.before.items)) adds; alike = alike; kept = kept }
 
-pub loop-building-init : goal.loop-building-init
-loop-building-init c = rw c.new-building.ensures (reading_begins c.args.limits c.args.bytes.now _ refl refl)
+pub loop-list-init : goal.loop-list-init
+loop-list-init c = rw c.new-building.ensures (reading_begins c.args.limits c.args.bytes.now _ refl refl)
 
 pub returns-in_err-piece-clause-sizes : goal.returns-in_err-piece-clause-sizes
 returns-in_err-piece-clause-sizes c =
-    let l = c.loop-building in
+    let l = c.loop-list in
     let p = err_from_is_err_and c.from_residual.result c.from_residual.ensures.1 in
     rw (p.1, p.2) (reading_fails c.args.limits l.rest.now (building_view l.building) l.sizes c.args.bytes.now c.in_err-piece.field-0.0 l.invariant c.in_err-piece.ensures.read)
 
 pub returns-in_err-place-clause-sizes : goal.returns-in_err-place-clause-sizes
 returns-in_err-place-clause-sizes c =
-    let l = c.loop-building in
+    let l = c.loop-list in
     let p = err_from_is_err_and c.from_residual-in_err-place.result c.from_residual-in_err-place.ensures.1 in
     rw (p.1, p.2) (reading_refuses c.args.limits l.rest.now (piece_view c.in_ok-piece.piece, c.in_ok-piece.behind.now) (building_view l.building) l.sizes c.args.bytes.now c.in_err-place.field-0.0 l.invariant c.in_ok-piece.ensures.read
     (λ e. c.in_err-place.ensures.unreadable (ap (λ (x : MarkupError). Err x) e)))
 
 pub returns-then-is_empty-clause-sizes : goal.returns-then-is_empty-clause-sizes
 returns-then-is_empty-clause-sizes c =
-    let l = c.loop-building in
+    let l = c.loop-list in
     let b = c.keep_within.new.self in
     let len : c.len.result ≡ length l.building.open.items = omega (arith, c.len.ensures, l.building.open.ok.0) in
     let turn = turned c.args.limits (piece_view c.in_ok-piece.piece) l.building c.place.new.self b l.sizes c.add_piece.new.self c.len.result len c.in_ok-place.ensures.ok (record { deepest = c.add_piece.ensures.deepest; nodes = c.add_piece.ensures.nodes }) c.keep_within.ensures.rest c.keep_within.ensures.kept in
@@ -49,19 +49,19 @@ returns-then-is_empty-clause-sizes c =
 
 pub returns-then-is_empty-clause-nodes : goal.returns-then-is_empty-clause-nodes
 returns-then-is_empty-clause-nodes c =
-    let l = c.loop-building in
+    let l = c.loop-list in
     let b = c.keep_within.new.self in
     let len : c.len.result ≡ length l.building.open.items = omega (arith, c.len.ensures, l.building.open.ok.0) in
     let turn = turned c.args.limits (piece_view c.in_ok-piece.piece) l.building c.place.new.self b l.sizes c.add_piece.new.self c.len.result len c.in_ok-place.ensures.ok (record { deepest = c.add_piece.ensures.deepest; nodes = c.add_piece.ensures.nodes }) c.keep_within.ensures.rest c.keep_within.ensures.kept in
     let none : length (building_view b).open_elements ≡ 0 = grind (arith, c.is_empty.ensures, c.if-is_empty.true, b.open.ok.0, length-open b.open.items b.before.items) in
     (reading_ends c.args.limits l.rest.now (piece_view c.in_ok-piece.piece, c.in_ok-piece.behind.now) (building_view l.building) (building_view b) l.sizes c.add_piece.new.self c.args.bytes.now l.invariant c.in_ok-piece.ensures.read turn none).1
 
-pub loop-building-smaller : goal.loop-building-smaller
-loop-building-smaller c = piece_shorter InElement c.loop-building.rest.now (piece_view c.in_ok-piece.piece, c.in_ok-piece.behind.now) c.in_ok-piece.ensures.read
+pub loop-list-smaller : goal.loop-list-smaller
+loop-list-smaller c = piece_shorter InElement c.loop-list.rest.now (piece_view c.in_ok-piece.piece, c.in_ok-piece.behind.now) c.in_ok-piece.ensures.read
 
-pub loop-building-preserved : goal.loop-building-preserved
-loop-building-preserved c =
-    let l = c.loop-building in
+pub loop-list-preserved : goal.loop-list-preserved
+loop-list-preserved c =
+    let l = c.loop-list in
     let b = c.keep_within.new.self in
     let len : c.len.result ≡ length l.building.open.items = omega (arith, c.len.ensures, l.building.open.ok.0) in
     let turn = turned c.args.limits (piece_view c.in_ok-piece.piece) l.building c.place.new.self b l.sizes c.add_piece.new.self c.len.result len c.in_ok-place.ensures.ok (record { deepest = c.add_piece.ensures.deepest; nodes = c.add_piece.ensures.nodes }) c.keep_within.ensures.rest c.keep_within.ensures.kept in
