@@ -1,6 +1,6 @@
 //! `check P`.
 
-ghost use Rattle.std.specs.Prelude.{◌≡◌, IfOk};
+ghost use Rattle.std.specs.Prelude.{◌≡◌};
 ghost use Rattle.redl_app.specs.Commands.Check.{checked, sound_text};
 ghost use Rattle.redl_inputs.specs.Reading.{Reads};
 ghost use Rattle.redl_app.specs.Views.{writing_view};
@@ -9,22 +9,22 @@ ghost use Rattle.redl_app.specs.Writing.{only_bytes};
 ghost use Rattle.redl_index.specs.Numbers.{package_revisions};
 
 use crate::output::{Output, Writing};
-use redl_inputs::{count_package, read_package};
+use redl_index::Surveyed;
+use redl_inputs::read_package;
 use redl_lines::Failure;
-use redl_opc::Package;
-use std::alloc::{AllocError, Global};
+use std::alloc::Global;
 
 /// That the package with this text is sound, and how many revisions it has.
 pub(crate) fn check<'a, 'b>(alloc: Global, bytes: &'b [u8]) -> Result<Writing<'b>, Failure<'a>>
     ensures { Reads (result_view writing_view result) (λ reader. checked reader bytes.now) }
 {
     let package = read_package(alloc, bytes)?;
-    Ok(count_revisions(alloc, package)?)
+    Ok(count_revisions(alloc, package))
 }
 
-fn count_revisions(alloc: Global, pkg: Package) -> Result<Writing, AllocError>
-    ensures { IfOk result (λ writing. writing_view writing ≡ only_bytes (sound_text (package_revisions pkg.entry))) }
+fn count_revisions(alloc: Global, pkg: Surveyed) -> Writing
+    ensures { writing_view result ≡ only_bytes (sound_text (package_revisions pkg.entry)) }
 {
-    let counted = count_package(alloc, pkg)?;
-    Ok(Writing::only(alloc, Output::Count(counted.count)))
+    let counted = pkg.into_counted();
+    Writing::only(alloc, Output::Count(counted.count))
 }

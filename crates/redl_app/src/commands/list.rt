@@ -46,7 +46,7 @@ pub(crate) fn list<'a, 'b, F: Shelf>(
         (without_named format_name name.now formats.old.items) formats.old.items formats.new.items }
 {
     let package = read_package(alloc, bytes)?;
-    let names = part_names(alloc, &package)?;
+    let names = part_names(alloc, package.package())?;
     let admitted = open_package(alloc, package, locks, journals, bytes, shelf)?;
     list_revisions(alloc, name, only, &names, admitted, formats)
 }

@@ -24,14 +24,13 @@ ghost use Rattle.redl_tree.specs.Model.View.{nodes_of};
 
 use crate::collected::Collected;
 use crate::output::{Output, Writing};
+use redl_index::{Counted, Surveyed};
 use redl_inputs::{
-    Admitted, Counted, DocumentId, JOURNALS_LIMIT, count_package, fetch_package, pass_nodes,
-    read_package, sit,
+    Admitted, DocumentId, JOURNALS_LIMIT, fetch_package, pass_nodes, read_package, sit,
 };
 use redl_io::{Shelf, Text};
 use redl_join::Book;
 use redl_lines::{Cause, Failure, RefusedEntries, Remarks};
-use redl_opc::Package;
 use redl_session::book_says;
 use redl_sittings::{add_second, decided, first_numbers, numbers_by_part};
 use redl_tree::{Node, write_nodes};
@@ -185,7 +184,7 @@ fn take_second<'a, F: Shelf>(
 }
 
 // The second package, which has this text.
-fn read_second<'a, 'b>(alloc: Global, whole: &'b [u8]) -> Result<Package<'b>, Failure<'a>>
+fn read_second<'a, 'b>(alloc: Global, whole: &'b [u8]) -> Result<Surveyed<'b>, Failure<'a>>
     ensures read { Reads (result_view (λ made. made) result) (λ reader. of_second (package_in reader whole.now)) }
     ensures sound { IfOk result (λ made. broken_rule made ≡ None) }
 {
@@ -294,10 +293,10 @@ fn text_under<'a>(alloc: Global, book: &Book, bytes: &[u8]) -> Result<Vec<u8>, F
     Ok(pass_text(alloc, package, book, bytes.len())?)
 }
 
-fn pass_text(alloc: Global, pkg: Package, book: &Book, room: usize) -> Result<Vec<u8>, AllocError>
+fn pass_text(alloc: Global, pkg: Surveyed, book: &Book, room: usize) -> Result<Vec<u8>, AllocError>
     ensures { IfOk result (λ bytes. bytes.items ≡ passed_text (says_of book.now (package_revisions pkg.entry)) pkg.entry) }
 {
-    let Counted { package, count } = count_package(alloc, pkg)?;
+    let Counted { package, count } = pkg.into_counted();
     let says = book_says(alloc, book, count)?;
     let nodes = pass_nodes(alloc, package, &says)?;
     text_of(alloc, &nodes, room)

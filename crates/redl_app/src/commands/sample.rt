@@ -15,10 +15,10 @@ ghost use Rattle.redl_tree.specs.Revisions.Labels.{unlabelled};
 
 use crate::collected::Collected;
 use crate::output::{Output, Writing};
-use redl_inputs::{number_package, read_package};
+use redl_index::Surveyed;
+use redl_inputs::read_package;
 use redl_lines::{Cause, Failure, Limit};
 use redl_live_session::{LiveSession, admit_each};
-use redl_opc::Package;
 use redl_sample::{SAMPLE_LIMIT, Summary, Tally, sample_journal, sample_package};
 use redl_session::Locks;
 use sha2::{Digest, Sha256};
@@ -40,7 +40,7 @@ pub(crate) fn sample<'a, 'b>(alloc: Global, number: u32) -> Result<Writing<'b>, 
 }
 
 // The summary of the sample, which is this package. Its text does not matter.
-fn summarize<'b>(alloc: Global, number: u32, pkg: Package) -> Result<Writing<'b>, AllocError>
+fn summarize<'b>(alloc: Global, number: u32, pkg: Surveyed) -> Result<Writing<'b>, AllocError>
     requires number { number ≤ SAMPLE_LIMIT }
     requires sound { broken_rule pkg ≡ None }
     requires unlabelled { unlabelled pkg ≡ pkg }
@@ -53,12 +53,12 @@ fn summarize<'b>(alloc: Global, number: u32, pkg: Package) -> Result<Writing<'b>
 }
 
 // A session over the package, before any entry.
-fn begin(alloc: Global, pkg: Package) -> Result<LiveSession, AllocError>
+fn begin(alloc: Global, pkg: Surveyed) -> Result<LiveSession, AllocError>
     requires sound { broken_rule pkg ≡ None }
     requires unlabelled { unlabelled pkg ≡ pkg }
     ensures { IfOk result (λ session. session ≡ record { nodes = numbered_package pkg.entry; revisions = revisions_of pkg.entry; locks = []; book = [] }) }
 {
-    let numbered = number_package(alloc, pkg)?;
+    let numbered = pkg.into_numbered(alloc)?;
     let no_locks = Locks::new(Vec::new(alloc));
     LiveSession::start(alloc, numbered.package, numbered.index, no_locks)
 }

@@ -8,9 +8,9 @@ ghost use Rattle.redl_inputs.specs.Views.{result_view};
 ghost use Rattle.redl_app.specs.Writing.{only_bytes};
 
 use crate::output::{Output, Writing};
-use redl_inputs::{count_package, pass_nodes, read_package};
+use redl_index::Surveyed;
+use redl_inputs::{pass_nodes, read_package};
 use redl_lines::Failure;
-use redl_opc::Package;
 use redl_tree::Say;
 use std::alloc::{AllocError, Global};
 
@@ -32,10 +32,10 @@ fn say_of(accept: bool) -> Say
     if accept { Say::Accept } else { Say::Reject }
 }
 
-fn settle_package(alloc: Global, say: Say, pkg: Package) -> Result<Writing, AllocError>
+fn settle_package(alloc: Global, say: Say, pkg: Surveyed) -> Result<Writing, AllocError>
     ensures { IfOk result (λ writing. writing_view writing ≡ only_bytes (passed_text (same_says say pkg.entry) pkg.entry)) }
 {
-    let counted = count_package(alloc, pkg)?;
+    let counted = pkg.into_counted();
     let says = vec![in alloc; say; counted.count as usize]?;
     let nodes = pass_nodes(alloc, counted.package, &says)?;
     Ok(Writing::only(alloc, Output::Package(nodes)))

@@ -13,7 +13,8 @@ ghost use Rattle.redl_io.specs.Sink.{CountsPut, GrowsByFront, Puts};
 ghost use Rattle.redl_lines.specs.Ends.{end_view};
 ghost use Rattle.redl_views.specs.Walks.{walk_text};
 
-use redl_inputs::{Counted, count_package, read_package};
+use redl_index::{Counted, Surveyed};
+use redl_inputs::read_package;
 use redl_io::{Failed, Sink, Staged};
 use redl_lines::{End, Failure, Remarks};
 use redl_marked::put_marked;
@@ -49,10 +50,10 @@ fn show_text<'a, 'b>(alloc: Global, view: View, bytes: &'b [u8]) -> Result<Shown
 }
 
 // The numbered package, as it is shown in a view.
-fn show_package(alloc: Global, view: View, pkg: Package) -> Result<Shown, AllocError>
+fn show_package(alloc: Global, view: View, pkg: Surveyed) -> Result<Shown, AllocError>
     ensures { IfOk result (λ shown. shown_text shown ≡ text_in view pkg.entry) }
 {
-    let counted = count_package(alloc, pkg)?;
+    let counted = pkg.into_counted();
     match view {
         View::Original => show_plain(alloc, counted, Say::Reject),
         View::Final => show_plain(alloc, counted, Say::Accept),

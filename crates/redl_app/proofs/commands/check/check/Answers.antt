@@ -14,4 +14,4 @@ returns-in_err-package c =
 pub returns : goal.returns
 returns c =
     takes_ok (λ nodes. Ok (only_bytes (sound_text (package_revisions nodes)))) c.in_ok-package.ensures.read
-    (ap Ok (sym c.in_ok-count_revisions.ensures))
+    (ap Ok (sym c.count_revisions.ensures))

@@ -1,9 +1,9 @@
-use Rattle.std.proofs.Common.{◌∙◌, sym, subst, All, IsUtf8}
+use Rattle.std.proofs.Common.{◌∙◌, ap, sym, subst, All, IsUtf8}
 use Rattle.std.proofs.lemmas.Result.{err_from_is_err_and}
 use Rattle.redl_app.proofs.PartNameLaws.{session_names, revisions_named}
 use Rattle.redl_inputs.proofs.ReadLaws.{fails_alone, reads_stops, reads_then_takes, takes_stops_reads, takes_then_reads}
 use Rattle.redl_inputs.specs.Admission.{opened_over}
-use Rattle.redl_app.specs.Commands.List.{listing_named}
+use Rattle.redl_app.specs.Commands.List.{listing_named, part_names}
 use Rattle.redl_app.specs.Formats.{formats_by}
 use Rattle.redl_words.specs.Views.{onlys_view}
 use Rattle.redl_app.proofs.commands.list.list.Goals as goal
@@ -38,11 +38,11 @@ returns-clause-read g c =
 
 pub list_revisions-requires-clause-names : goal.list_revisions-requires-clause-names
 list_revisions-requires-clause-names g c =
-    session_names c.in_ok-package.«package» c.in_ok-admitted.admitted.session.nodes c.deref.result.now (c.deref.ensures.value ∙ c.in_ok-names.ensures.names) c.in_ok-admitted.ensures.nodes
+    session_names c.in_ok-package.«package» c.in_ok-admitted.admitted.session.nodes c.deref.result.now (c.deref.ensures.value ∙ c.in_ok-names.ensures.names ∙ ap part_names c.package-2.ensures) c.in_ok-admitted.ensures.nodes
 
 pub list_revisions-requires-clause-parts : goal.list_revisions-requires-clause-parts
 list_revisions-requires-clause-parts g c =
-    revisions_named c.in_ok-package.«package» c.deref.result.now c.in_ok-admitted.admitted.session.revisions (c.deref.ensures.value ∙ c.in_ok-names.ensures.names) c.in_ok-admitted.ensures.revisions
+    revisions_named c.in_ok-package.«package» c.deref.result.now c.in_ok-admitted.admitted.session.revisions (c.deref.ensures.value ∙ c.in_ok-names.ensures.names ∙ ap part_names c.package-2.ensures) c.in_ok-admitted.ensures.revisions
 
 pub list_revisions-requires-clause-utf8 : goal.list_revisions-requires-clause-utf8
 list_revisions-requires-clause-utf8 g c = subst (All IsUtf8) (sym c.deref.ensures.value) c.in_ok-names.ensures.utf8

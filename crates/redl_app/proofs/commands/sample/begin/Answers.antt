@@ -9,7 +9,7 @@ use Rattle.redl_app.proofs.commands.sample.begin.Goals as goal
 
 pub start-requires : goal.start-requires
 start-requires c =
-    let is = c.in_ok-numbered.ensures.numbered in
+    let is = c.in_ok-numbered.ensures.nodes in
     record {
       numbered = rw is (numbered-indexed attribute_value c.args.pkg);
       index = c.in_ok-numbered.ensures.index ∙ sym (revisions-numbered c.args.pkg) ∙ ap revisions_of (sym is);

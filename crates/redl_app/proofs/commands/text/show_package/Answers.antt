@@ -8,13 +8,13 @@ use Rattle.redl_app.proofs.commands.text.show_package.Goals as goal
 pub returns-in-Original : goal.returns-in-Original
 returns-in-Original c =
     rw c.in-Original.is
-    (rw (plain_text_of Reject c.args.pkg c.in_ok-counted.counted.«package» c.in_ok-counted.counted.count c.in_ok-counted.ensures.numbered c.in_ok-counted.ensures.count) at c.show_plain.ensures)
+    (rw (plain_text_of Reject c.args.pkg c.into_counted-counted.result.«package» c.into_counted-counted.result.count c.into_counted-counted.ensures.nodes c.into_counted-counted.ensures.count) at c.show_plain.ensures)
 
 pub returns-in-Final : goal.returns-in-Final
 returns-in-Final c =
     rw c.in-Final.is
-    (rw (plain_text_of Accept c.args.pkg c.in_ok-counted.counted.«package» c.in_ok-counted.counted.count c.in_ok-counted.ensures.numbered c.in_ok-counted.ensures.count) at c.show_plain-in-Final.ensures)
+    (rw (plain_text_of Accept c.args.pkg c.into_counted-counted.result.«package» c.into_counted-counted.result.count c.into_counted-counted.ensures.nodes c.into_counted-counted.ensures.count) at c.show_plain-in-Final.ensures)
 
 pub returns-in-Marked : goal.returns-in-Marked
 returns-in-Marked c =
-    ap marked_text c.in_ok-counted.ensures.numbered ∙ ap (λ view. text_in view c.args.pkg) (sym c.in-Marked.is)
+    ap marked_text c.into_counted-counted.ensures.nodes ∙ ap (λ view. text_in view c.args.pkg) (sym c.in-Marked.is)
