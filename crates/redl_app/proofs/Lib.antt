@@ -8,7 +8,7 @@ pub mod PlanLaws
 pub mod FormatLaws
 pub mod PartNameLaws
 pub mod LeftLaws
-mod SittingLaws
+pub mod SittingLaws
 mod ResumeLaws
 pub mod AnyOrderLaws
 mod SittingOrderLaws

@@ -1,13 +1,13 @@
 -- What a call comes to for which memory ran out before anything was done.
 use Rattle.std.proofs.Common.{inl, inr, ℕ, List, [], Option, refl}
+use Rattle.redl_app.proofs.SittingLaws.{differ_exactly}
 use Rattle.redl_app.specs.Answers.{IsWritten}
 use Rattle.redl_app.specs.Brought.{Brought}
-use Rattle.redl_app.specs.Sittings.{DifferExactly, Resumes}
+use Rattle.redl_app.specs.Sittings.{Resumes}
 use Rattle.redl_app.specs.Files.{files_of}
 use Rattle.redl_app.specs.Plans.{plan}
 use Rattle.redl_inputs.proofs.AskLaws.{ask_more-nothing}
 use Rattle.redl_inputs.proofs.ReaderLaws.{reads_command}
-use Rattle.redl_inputs.specs.Readers.{Reader}
 use Rattle.redl_io.specs.Shelf.{Files}
 use Rattle.redl_lines.specs.Ends.{Tells}
 use Rattle.redl_lines.specs.Lines.{no_memory_line}
@@ -19,21 +19,19 @@ is_not_written : IsWritten status.NoMemory → ⊥
 is_not_written (inl is) = absurd (cc is)
 is_not_written (inr is) = absurd (cc is)
 
-resumes_nothing : (held : Option Files) (words : List (List ℕ)) (brought : Brought)
-    → ((reader : Reader) (words : List (List ℕ)) (files : Files) (brought : Brought) → DifferExactly reader words files brought) → Resumes status.NoMemory held words brought
-resumes_nothing held words brought exactly p q firsts journals is files reader reads may = (
+resumes_nothing : (held : Option Files) (words : List (List ℕ)) (brought : Brought) → Resumes status.NoMemory held words brought
+resumes_nothing held words brought p q firsts journals is files reader reads may = (
   λ written. absurd (is_not_written written),
   λ e. absurd (cc e),
-  (exactly reader words files brought p q firsts journals (reads_command reader words (resume p q firsts journals) reads is)).1,
+  (differ_exactly reader words files brought p q firsts journals (reads_command reader words (resume p q firsts journals) reads is)).1,
 )
 
 -- Nothing was taken and nothing went out but the line.
 pub answers_without_memory : {F O E : Type 0} (held : F → Option Files) (misses : F → ℕ) (noted : F → Option (List (List ℕ))) (shelf : F) (told : O → Option (List ℕ)) (faults : O → ℕ) (out : O)
     (lines_told : E → Option (List ℕ)) (line_faults : E → ℕ) (err err_new : E) (words : List (List ℕ)) (brought : Brought)
-    → ((reader : Reader) (words : List (List ℕ)) (files : Files) (brought : Brought) → DifferExactly reader words files brought)
     → Tells lines_told line_faults err err_new no_memory_line
     → Answers held misses noted shelf shelf told faults out out lines_told line_faults err err_new words brought status.NoMemory
-answers_without_memory held misses noted shelf told faults out lines_told line_faults err err_new words brought exactly tells = record {
+answers_without_memory held misses noted shelf told faults out lines_told line_faults err err_new words brought tells = record {
   status = λ files reader reads may. tt;
   usage = λ none. inr refl;
   read = λ e. absurd (cc e);
@@ -45,7 +43,7 @@ answers_without_memory held misses noted shelf told faults out lines_told line_f
   same_files = refl;
   bytes = λ files reader reads may. refl;
   left = λ written. absurd (is_not_written written);
-  resumes = resumes_nothing (held shelf) words brought exactly;
+  resumes = resumes_nothing (held shelf) words brought;
   untouched = λ not_done not_refused not_failed. refl;
   lines = λ files reader reads may. (no_memory_line, refl, tells);
 }

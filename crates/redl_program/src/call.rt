@@ -4,7 +4,7 @@ ghost use Rattle.std.specs.Prelude.{◌≡◌, IfOk, OnErr, All, IsUtf8};
 ghost use Rattle.redl_program.specs.Answers.{Answers};
 ghost use Rattle.redl_program.specs.Formats.{program_brings};
 
-use redl_app::{Status, WordsError, refuse_words, run, sittings_differ};
+use redl_app::{Status, WordsError, refuse_words, run};
 use redl_io::{Shelf, Sink, Text};
 use redl_listing::{FullFormat, JsonFormat, TabFormat, TextFormat, WordsFormat, add_format};
 use redl_page::Skin;
@@ -27,11 +27,7 @@ pub fn run_words<F: Shelf, O: Sink, E: Sink>(
 {
     match run_with_formats(alloc, words, shelf, out, err, skin) {
         Ok(status) => status,
-        Err(_) => {
-            // A law, for what the answer says of two sittings.
-            sittings_differ();
-            refuse_words(WordsError::NoMemory, err)
-        }
+        Err(_) => refuse_words(WordsError::NoMemory, err),
     }
 }
 

@@ -4,5 +4,5 @@ use Rattle.redl_program.proofs.call.run_words.Goals as goal
 pub returns-in-Err : goal.returns-in-Err
 returns-in-Err g c = record {
   answers = rw (c.in-Err.ensures.same_shelf, c.in-Err.ensures.same_out, c.refuse_words.ensures.status)
-      (answers_without_memory _ _ _ _ _ _ _ _ _ _ _ _ _ c.sittings_differ.ensures (rw c.in-Err.ensures.same_err at c.refuse_words.ensures.lines));
+      (answers_without_memory _ _ _ _ _ _ _ _ _ _ _ _ _ (rw c.in-Err.ensures.same_err at c.refuse_words.ensures.lines));
 }
