@@ -7,13 +7,13 @@ use std::test::Fail;
 
 // A shelf that notes the caps. `P` is its package, and any other name its journal.
 #[derive(Drop)]
-struct NotingShelf {
+struct CapNotingShelf {
     package: Vec<u8>,
     journal: Vec<u8>,
     caps: Vec<usize>,
 }
 
-impl Shelf for NotingShelf {
+impl Shelf for CapNotingShelf {
     ghost use Rattle.std.specs.Prelude.{None};
 
     ghost told = { λ _. None };
@@ -58,10 +58,10 @@ impl Sink for NotingSink {
     }
 }
 
-fn noting_shelf(alloc: Global, body: &str) -> Result<NotingShelf, AllocError> {
+fn noting_shelf(alloc: Global, body: &str) -> Result<CapNotingShelf, AllocError> {
     let package = package(alloc, body)?;
     let digest = digest_of(alloc, &package)?;
-    Ok(NotingShelf {
+    Ok(CapNotingShelf {
         journal: journal(alloc, &digest, "1", "1\t1\taccept\tAnn\n")?,
         package,
         caps: Vec::new(alloc),
@@ -77,7 +77,7 @@ fn noting_sink(alloc: Global) -> NotingSink {
 fn call(
     alloc: Global,
     line: &str,
-    shelf: &mut NotingShelf,
+    shelf: &mut CapNotingShelf,
     out: &mut NotingSink,
 ) -> Result<Status, AllocError> {
     let words = words_of(alloc, line)?;
