@@ -12,10 +12,11 @@ use std::collections::BTreeSet;
 /// Up to this many names are compared pairwise, without making a set.
 const FEW: usize = 8;
 
+/// Whether two names are written alike. Names of one tag mostly differ in the local parts.
 fn are_alike(a: Name<'_>, b: Name<'_>) -> bool
     ensures { result ≡ name_eq (name_view a.entry) (name_view b.entry) }
 {
-    a.prefix == b.prefix && a.local == b.local
+    a.local == b.local && a.prefix == b.prefix
 }
 
 /// Whether a name is written differently from all the others.
