@@ -18,18 +18,18 @@ pub fn has_id(tail: &[u8]) -> bool
 }
 
 /// Whether a tag declares a namespace.
-#[tactic(auto, using(crate::proofs::DeclarationLaws::no_declaration))]
+#[tactic(auto, using(crate::proofs::DeclarationLaws::without_x, crate::proofs::DeclarationLaws::without_n))]
 pub fn declares_names(tail: &[u8]) -> bool
     ensures { result ≡ declares tail.now }
 {
-    has_x(tail) && has_declaration(tail)
+    // Most tails lack one of these, and so `xmlns`: their attributes aren't read. `w14:textId` has an `x` and no `n`.
+    has_byte(tail, b'x') && has_byte(tail, b'n') && has_declaration(tail)
 }
 
-// Whether there is an `x` in a tail. Most have none, and so no `xmlns`: their attributes aren't read.
-fn has_x(tail: &[u8]) -> bool
-    ensures { result ≡ not (list_all (is_other 120) tail.now) }
+fn has_byte(tail: &[u8], byte: u8) -> bool
+    ensures { result ≡ not (list_all (is_other byte) tail.now) }
 {
-    tail.find_byte(b'x').is_some()
+    tail.find_byte(byte).is_some()
 }
 
 fn has_declaration(tail: &[u8]) -> bool
