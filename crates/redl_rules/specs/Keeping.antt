@@ -1,6 +1,6 @@
 -- Which rules hold, of an element, of nodes, and of stories.
 use Rattle.std.specs.Prelude.{ℕ, List, [], ◌∷◌, Bool, true, ◌&&◌, not, map, Option}
-use Rattle.std.specs.List.{position_from}
+use Rattle.std.specs.List.{list_all, position_from}
 use Rattle.redl_tree.specs.Model.Nodes.{Tag, Nodes}
 use Rattle.redl_tree.specs.Model.View.{Parts}
 use Rattle.redl_tree.specs.Rules.Tests.{Test, everywhere}
@@ -40,6 +40,10 @@ element_kept ancestors tag kids = in_both (kept_here ancestors tag kids) (kept_i
 -- the same of stories
 abbrev pub kept_among : List Parts → Kept
 kept_among stories = kept_by (λ test. holds test stories)
+
+-- all rules hold
+abbrev pub all_hold : Kept → Bool
+all_hold kept = list_all (λ b. b) kept.rules
 
 -- the least rule that doesn't hold, where they count from 1
 abbrev pub least_broken : Kept → Option ℕ

@@ -5,7 +5,7 @@ ghost use Rattle.redl_tree.specs.Model.View.{tag_of, kids_of};
 ghost use Rattle.redl_tree.specs.Roles.Arounds.{inside_of};
 ghost use Rattle.redl_visit.specs.Summaries.{ancestors_inside};
 ghost use Rattle.redl_visit.specs.Visits.{inner_of};
-ghost use Rattle.redl_rules.specs.Keeping.{kept_here as kept_of};
+ghost use Rattle.redl_rules.specs.Keeping.{kept_here as kept_of, all_hold};
 ghost use Rattle.redl_rules.specs.Rounds.{round_of};
 ghost use Rattle.redl_rules.specs.Visiting.{kept_by_round};
 
@@ -75,9 +75,11 @@ impl<'a, X> Visitor<Elem<'a>, Ancestors> for Keeper<X> {
     ) -> Result<Round, X> {
         let kind = here.around.role(elem);
         let around = around_inside(elem, here, *inner);
-        self.kept = self
-            .kept
-            .and(kept_here(elem, kind, here.around, around, *own));
+        if !keeps_all(elem, kind, here.around, around, *own) {
+            self.kept = self
+                .kept
+                .and(kept_here(elem, kind, here.around, around, *own));
+        }
         Ok(own.below(elem, kind, here, *inner))
     }
 
@@ -97,6 +99,21 @@ fn around_inside(elem: &Elem, here: &Ancestors, inner: Option<Ancestors>) -> Aro
         Some(inner) => inner.around,
         None => here.around.inside(elem),
     }
+}
+
+// Whether all rules hold of an element by itself, as they mostly do: then no answers are put together.
+fn keeps_all(elem: &Elem, kind: Kind, here: Around, inner: Around, round: Round) -> bool
+    ensures { result ≡ all_hold (kept_by_round here inner round kind (tag_of elem.now) (kids_of elem.now)) }
+{
+    keeps_1(elem, inner)
+        && keeps_2(elem, inner)
+        && keeps_3(elem, kind, here, round)
+        && keeps_4(elem, inner)
+        && keeps_5(elem, inner)
+        && keeps_6(elem, inner, here)
+        && keeps_7(elem, here)
+        && keeps_8(elem, round)
+        && keeps_9(elem, kind, inner)
 }
 
 // Which rules hold of an element by itself. `kind` is its role, `here` and `round` sum up its ancestors, and `inner` those of its

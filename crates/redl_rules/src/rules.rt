@@ -23,6 +23,7 @@ use redl_tree::{
 };
 
 /// A cell ends in a paragraph (rule 1).
+#[inline(always)]
 pub fn keeps_1(elem: &Elem, inner: Around) -> bool
     ensures { result ≡ ends_well inner.parent (kids_of elem.now) }
 {
@@ -33,6 +34,7 @@ pub fn keeps_1(elem: &Elem, inner: Around) -> bool
 }
 
 /// A row has a cell (rule 2).
+#[inline(always)]
 pub fn keeps_2(elem: &Elem, inner: Around) -> bool
     ensures { result ≡ has_cells inner.parent (kids_of elem.now) }
 {
@@ -43,6 +45,7 @@ pub fn keeps_2(elem: &Elem, inner: Around) -> bool
 }
 
 /// A content revision holds no block (rule 3).
+#[inline(always)]
 pub fn keeps_3(elem: &Elem, kind: Kind, here: Around, round: Round) -> bool
     ensures { result ≡ by_round_3 here round kind (tag_of elem.now) (kids_of elem.now) }
 {
@@ -102,6 +105,7 @@ fn is_run_props_or_control(elem: &Elem) -> bool
 }
 
 /// A change is the last kid (rule 4).
+#[inline(always)]
 pub fn keeps_4(elem: &Elem, inner: Around) -> bool
     ensures { result ≡ by_round_4 inner (kids_of elem.now) }
 {
@@ -109,6 +113,7 @@ pub fn keeps_4(elem: &Elem, inner: Around) -> bool
 }
 
 /// Marks stand once (rule 5).
+#[inline(always)]
 pub fn keeps_5(elem: &Elem, inner: Around) -> bool
     ensures { result ≡ marks_once inner.parent (kids_of elem.now) }
 {
@@ -144,6 +149,7 @@ fn cell_is_once(kids: &[Node]) -> bool
 }
 
 /// Properties stand once and in their place, and a control has one content (rule 6).
+#[inline(always)]
 pub fn keeps_6(elem: &Elem, inner: Around, here: Around) -> bool
     ensures { result ≡ by_round_6 inner here (tag_of elem.now) (kids_of elem.now) }
 {
@@ -169,6 +175,7 @@ fn keeps_control(elem: &Elem, here: Around) -> bool
 }
 
 /// A marker of a move holds no element (rule 7).
+#[inline(always)]
 pub fn keeps_7(elem: &Elem, here: Around) -> bool
     ensures { result ≡ by_round_7 here (tag_of elem.now) (kids_of elem.now) }
 {
@@ -179,6 +186,7 @@ pub fn keeps_7(elem: &Elem, here: Around) -> bool
 }
 
 /// Former properties hold no change element and no block (rule 8).
+#[inline(always)]
 pub fn keeps_8(elem: &Elem, round: Round) -> bool
     ensures { result ≡ by_round_8 round (tag_of elem.now) }
 {
@@ -198,6 +206,7 @@ fn is_banned_below_change(elem: &Elem) -> bool
 }
 
 /// What a decision can take the tags of declares no namespace (rule 9).
+#[inline(always)]
 pub fn keeps_9(elem: &Elem, kind: Kind, inner: Around) -> bool
     ensures { result ≡ by_round_9 inner.parent kind (tag_of elem.now) (kids_of elem.now) }
 {
