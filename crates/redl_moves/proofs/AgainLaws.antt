@@ -4,7 +4,8 @@ use Rattle.std.specs.List.{cons_option}
 use Rattle.std.specs.Prelude.{not}
 use Rattle.std.proofs.lemmas.Slice.Eq.{bytes_eq-Decides}
 use Rattle.redl_tree.specs.Revisions.Moves.{Edge, from_start, from_end, to_start, to_end, Marking, Range, Pair, same_edge, has_name, only_one, with_name, with_id, range_from, range_with_id, range_with_name, pair_with_name, pair_of, pairs, is_open_at, later, latest, pair_at}
-use Rattle.redl_tree.proofs.NameLaws.{bytes-same, and-left, and-right}
+use Rattle.redl_tree.proofs.NameLaws.{and-left, and-right}
+use Rattle.redl_tree.proofs.SameBytes.{same_bytes}
 use Rattle.redl_moves.specs.Marks.{RisesFrom}
 use Rattle.redl_moves.specs.Opens.{start_of, or_this, find_last}
 use Rattle.redl_moves.specs.Standing.{side_of, pair_begun, pair_open}
@@ -240,7 +241,7 @@ module _ (marks : List Marking) where
     where
       by : (o : Option (List ℕ)) → has_name name o ≡ true → option_and_then (pair_with_name marks) o ≡ Some pair
       by None h = absurd (true≢false (sym h))
-      by (Some other) h = ap (pair_with_name marks) (bytes-same other name h) ∙ e
+      by (Some other) h = ap (pair_with_name marks) (same_bytes other name h) ∙ e
 
   pub start-again : (half : Half) (name : List ℕ) (pair : Pair) → pair_with_name marks name ≡ Some pair →
       In (side_of half pair).start marks × (pair_begun (start_of half) marks (side_of half pair).start ≡ Some pair)

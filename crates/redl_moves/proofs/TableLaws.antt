@@ -1,7 +1,7 @@
 -- Tables of places by keys.
 use Rattle.std.proofs.Common.{◌≡◌, ◌∙◌, refl, ap, sym, cond, ℕ, ◌+◌, List, [], ◌∷◌, Bool, true, false, ◌&&◌, Option, Some, None, bytes_eq, length, drop, ◌≤◌, suc, zero, arith, if◌then◌else◌}
 use Rattle.std.specs.Map.{update}
-use Rattle.redl_tree.proofs.NameLaws.{bytes-same}
+use Rattle.redl_tree.proofs.SameBytes.{same_bytes}
 use Rattle.redl_tree.specs.Revisions.Moves.{Edge, Marking, only_one, same_edge, has_name}
 use Rattle.redl_moves.specs.Keys.{has_key, key_of}
 use Rattle.redl_moves.specs.Places.{places_from}
@@ -54,7 +54,7 @@ pub noted-updated : (seat : List ℕ → Option (Option ℕ)) (key other : List 
 noted-updated seat key other place only is = by (bytes_eq key other) refl
   where
     by : (b : Bool) → bytes_eq key other ≡ b → cond b (Some only) (seat other) ≡ (if b then noted place (seat other) else seat other)
-    by true e = is ∙ ap (λ k. noted place (seat k)) (bytes-same key other e)
+    by true e = is ∙ ap (λ k. noted place (seat k)) (same_bytes key other e)
     by false e = refl
 
 pub drop-past : {X : Type 0} (n : ℕ) (xs : List X) → length xs ≤ n → drop n xs ≡ []

@@ -5,7 +5,8 @@ use Rattle.redl_tree.specs.Model.Nodes.{Tag, Nodes, no_nodes, bytes, element}
 use Rattle.redl_tree.specs.Model.View.{Parts}
 use Rattle.redl_tree.specs.Decisions.Packages.{is_pkg, named_pkg, level_below, level_of, is_data_level, is_story_root, is_root, stories_in, stories}
 use Rattle.redl_tree.specs.declared.level.Level.TheVariants.{Package, Part, Data, Below}
-use Rattle.redl_tree.proofs.NameLaws.{and-left, and-right, and-false, bytes-same}
+use Rattle.redl_tree.proofs.NameLaws.{and-left, and-right, and-false}
+use Rattle.redl_tree.proofs.SameBytes.{same_bytes}
 use Rattle.redl_opc.specs.Elements.{Element, elements_of, only, only_element}
 use Rattle.redl_opc.specs.Shape.{has_attribute, is_data, is_data_alone, is_part, root_in, story_root, story_of, is_document, package_in, package_of, elements_in, parts_of, refusal_of, refusal}
 use Rattle.redl_opc.specs.declared.error.OpcError.TheVariants.{PartShape, NoDocument}
@@ -73,7 +74,7 @@ in_data_alone ancestors (root ∷ other ∷ more) h one = absurd (true≢false (
 is-no_binary : (tag : Tag) → named_pkg (codes "xmlData") tag ≡ true → named_pkg (codes "binaryData") tag ≡ false
 is-no_binary tag h =
     ap (λ local. is_pkg tag.space && bytes_eq local (codes "binaryData"))
-    (bytes-same tag.local (codes "xmlData") (and-right (is_pkg tag.space) (bytes_eq tag.local (codes "xmlData")) h))
+    (same_bytes tag.local (codes "xmlData") (and-right (is_pkg tag.space) (bytes_eq tag.local (codes "xmlData")) h))
     ∙ and-false (is_pkg tag.space)
 
 -- the data of a part

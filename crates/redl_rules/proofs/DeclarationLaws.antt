@@ -6,7 +6,7 @@ use Rattle.redl_markup.specs.Names.{Name}
 use Rattle.redl_reading.specs.Lists.{is_other}
 use Rattle.redl_markup.specs.Attributes.{attributes_of}
 use Rattle.std.proofs.lemmas.Bool.{and_parts, false_from_ne_true}
-use Rattle.redl_tree.proofs.NameLaws.{bytes-same}
+use Rattle.redl_tree.proofs.SameBytes.{same_bytes}
 use Rattle.redl_markup.proofs.Listing.{name_passes, names_pass}
 use Rattle.redl_rules.specs.Attributes.{is_declaration, declares}
 
@@ -15,7 +15,7 @@ module _ (byte : ℕ) (is_in : list_all (is_other byte) (codes "xmlns") ≡ fals
   is_not_xmlns : (word : List ℕ) → list_all (is_other byte) word ≡ true → bytes_eq word (codes "xmlns") ≡ false
   is_not_xmlns word h =
       false_from_ne_true (bytes_eq word (codes "xmlns"))
-      (λ same. true≢false (sym h ∙ ap (list_all (is_other byte)) (bytes-same word (codes "xmlns") same) ∙ is_in))
+      (λ same. true≢false (sym h ∙ ap (list_all (is_other byte)) (same_bytes word (codes "xmlns") same) ∙ is_in))
 
   is_no_declaration : (attribute : Name × List ℕ) → name_passes (is_other byte) attribute.0 ≡ true → is_declaration attribute ≡ false
   is_no_declaration attribute h =

@@ -1,13 +1,13 @@
 -- Laws of names: an element with one name has no other, and is no element of mathematics.
 use Prim.Native.String.{String}
-use Rattle.std.proofs.Common.{◌≡◌, ◌∙◌, refl, sym, ap, List, [], ◌∷◌, ℕ, Bool, true, false, true≢false, ◌&&◌, ◌||◌, not, codes, bytes_eq}
-use Rattle.std.proofs.lemmas.Slice.Eq.{bytes_eq-Decides}
+use Rattle.std.proofs.Common.{◌≡◌, ◌∙◌, refl, sym, ap, List, [], ◌∷◌, Bool, true, false, true≢false, ◌&&◌, ◌||◌, not, codes, bytes_eq}
 use Rattle.redl_tree.specs.Model.Nodes.{Tag}
 use Rattle.redl_tree.specs.Roles.Names.{is, is_any, is_w, is_m, is_math}
 use Rattle.redl_tree.specs.Roles.Places.{is_quiet}
 use Rattle.redl_tree.specs.Decisions.Fates.{live_name}
 use Rattle.redl_tree.specs.declared.kinds.Space.{Space}
 use Rattle.redl_tree.specs.declared.kinds.Space.TheVariants.{W, M, Pkg, Other}
+use Rattle.redl_tree.proofs.SameBytes.{same_bytes}
 
 pub and-left : (a b : Bool) → (a && b) ≡ true → a ≡ true
 and-left false b h = h
@@ -37,15 +37,12 @@ pub or-true : (a : Bool) → (a || true) ≡ true
 or-true false = refl
 or-true true = refl
 
-pub bytes-same : (xs ys : List ℕ) → bytes_eq xs ys ≡ true → xs ≡ ys
-bytes-same xs ys e = (bytes_eq-Decides xs ys).0 e
-
 -- an element with one name has no other
 pub is-other : (name other : String) (tag : Tag) → is name tag ≡ true → bytes_eq (codes name) (codes other) ≡ false →
     is other tag ≡ false
 is-other name other tag h e =
     ap (λ bs. is_w tag.space && bytes_eq bs (codes other))
-    (bytes-same tag.local (codes name) (and-right (is_w tag.space) (bytes_eq tag.local (codes name)) h))
+    (same_bytes tag.local (codes name) (and-right (is_w tag.space) (bytes_eq tag.local (codes name)) h))
     ∙ ap (λ b. is_w tag.space && b) e
     ∙ and-false (is_w tag.space)
 
@@ -140,7 +137,7 @@ all_among (name ∷ names) others = among name others && all_among names others
 
 is-same : (name other : String) (tag : Tag) → is name tag ≡ true → bytes_eq (codes name) (codes other) ≡ true → is other tag ≡ true
 is-same name other tag h e =
-    ap (λ bs. is_w tag.space && bytes_eq tag.local bs) (sym (bytes-same (codes name) (codes other) e)) ∙ h
+    ap (λ bs. is_w tag.space && bytes_eq tag.local bs) (sym (same_bytes (codes name) (codes other) e)) ∙ h
 
 is_any-one : (name : String) (others : List String) (tag : Tag) → is name tag ≡ true → among name others ≡ true →
     is_any others tag ≡ true

@@ -9,7 +9,8 @@ use Rattle.redl_tree.specs.declared.kinds.Space.TheVariants.{W, M, Pkg, Other}
 use Rattle.redl_tree.specs.declared.word.Word.{Word}
 use Rattle.redl_tree.specs.declared.word.Word.TheVariants.{P, R, Tr, Tc, Tbl, Ins, Del, Sdt, Hdr, Ftr, PPr, RPr, Body, TrPr, TcPr, TblPr, SdtPr, TblGrid, SectPr, TblPrEx, MoveFrom, MoveTo, CustomXml, SdtContent, SdtEndPr, TxbxContent, AltChunk, Comment, Comments, Footnote, Footnotes, Endnote, Endnotes, Document, CellIns, CellDel, CellMerge, DelText, DelInstrText, HeaderReference, FooterReference, RPrChange, PPrChange, SectPrChange, TblPrChange, TblPrExChange, TrPrChange, TcPrChange, MoveFromRangeStart, MoveFromRangeEnd, MoveToRangeStart, MoveToRangeEnd}
 use Rattle.redl_tree.specs.Model.Cuts.{name_now, is_live}
-use Rattle.redl_tree.proofs.NameLaws.{bytes-same, and-false}
+use Rattle.redl_tree.proofs.NameLaws.{and-false}
+use Rattle.redl_tree.proofs.SameBytes.{same_bytes}
 
 -- no other of these has the number of this one
 abbrev pub is_only : Word → List Word → Bool
@@ -119,7 +120,7 @@ another word (other ∷ others) local only some apart =
       clash : (t : Bool) → (not t || bytes_eq (name_of other) (name_of word)) ≡ true → bytes_eq local (name_of other) ≡ true → t ≡ false
       clash false h same = refl
       clash true h same =
-          absurd (true≢false (sym (ap (λ x. bytes_eq x (name_of word)) (bytes-same local (name_of other) same) ∙ h) ∙ apart))
+          absurd (true≢false (sym (ap (λ x. bytes_eq x (name_of word)) (same_bytes local (name_of other) same) ∙ h) ∙ apart))
 
       by_case : (b : Bool) → bytes_eq local (name_of other) ≡ b → (not (number other == number word) || bytes_eq (name_of other) (name_of word)) ≡ true
           → (number_among others local == number word) ≡ false → ((if b then number other else number_among others local) == number word) ≡ false
@@ -129,7 +130,7 @@ another word (other ∷ others) local only some apart =
 same_number : (word : Word) (local : List ℕ) → bytes_eq local (name_of word) ≡ (number_among words local == number word)
 same_number word local = by_case (bytes_eq local (name_of word)) refl (apart word) where
   by_case : (b : Bool) → bytes_eq local (name_of word) ≡ b → IsApart word → b ≡ (number_among words local == number word)
-  by_case true same is = sym (ap (λ x. number_among words x == number word) (bytes-same local (name_of word) same) ∙ is.found)
+  by_case true same is = sym (ap (λ x. number_among words x == number word) (same_bytes local (name_of word) same) ∙ is.found)
   by_case false differs is = sym (another word words local is.only is.some differs)
 
 -- an element of W has a name that is asked for exactly if it has the name's number
@@ -180,7 +181,7 @@ elsewhere (word ∷ those) name away =
       by_case : (b : Bool) → bytes_eq name (name_of word) ≡ b → (place name == place (name_of word)) ≡ false → number_among those name ≡ 0
           → (if b then number word else number_among those name) ≡ 0
       by_case true same differs later =
-          absurd (true≢false (sym (same_as_itself (place (name_of word))) ∙ ap (λ x. place x == place (name_of word)) (sym (bytes-same name (name_of word) same)) ∙ differs))
+          absurd (true≢false (sym (same_as_itself (place (name_of word))) ∙ ap (λ x. place x == place (name_of word)) (sym (same_bytes name (name_of word) same)) ∙ differs))
       by_case false other differs later = later
 
 found_by_place : (those : List Word) (name : List ℕ) → are_apart those ≡ true → number_by_place those (place name) name ≡ number_among those name
@@ -195,7 +196,7 @@ found_by_place (word ∷ those) name apart =
       by_case true false here differs away later =
           sym (elsewhere those name (subst (λ at. is_away at those ≡ true) (sym (eqb-true (place name) (place (name_of word)) here)) away))
       by_case false true there same away later =
-          absurd (true≢false (sym (same_as_itself (place (name_of word))) ∙ ap (λ x. place x == place (name_of word)) (sym (bytes-same name (name_of word) same)) ∙ there))
+          absurd (true≢false (sym (same_as_itself (place (name_of word))) ∙ ap (λ x. place x == place (name_of word)) (sym (same_bytes name (name_of word) same)) ∙ there))
       by_case false false there differs away later = later
 
 pub by_place : (name : List ℕ) → number_by_place words (place name) name ≡ number_among words name

@@ -21,8 +21,8 @@ use Rattle.redl_xml.specs.Inside.Elements.{declared_in, Frame, State, plain_tag,
 use Rattle.redl_xml.proofs.Scoping.{MayEnter, entered_again, left_again}
 use Rattle.redl_xml.proofs.Buildings.{state}
 use Rattle.redl_xml.proofs.Loops.{size, shrinks, step_goes, step_ends}
-use Rattle.redl_xml.proofs.TreeTexts.{close_then, tree_then}
-use Rattle.redl_xml.proofs.Words.{bytes_same}
+use Rattle.redl_tree.proofs.TreeTexts.{close_then, tree_then}
+use Rattle.redl_tree.proofs.SameBytes.{bytes_same}
 
 -- the turns from a point give this, in some number
 record Gets (p : Point) (u : Nodes) (rest : List ℕ) : Type 0 where
@@ -71,18 +71,18 @@ tag_is scope tag close h e =
     let space : Space = space_of (scope_in tag.tail scope) tag.prefix in
     ap (λ (s : Space). tag_with tag s tag.kind tag.rev tag.close) h.space ∙ ap (λ (k : Kind). tag_with tag space k tag.rev tag.close) h.kind ∙ ap (λ (r : ℕ). tag_with tag space Plain r tag.close) h.rev ∙ ap (tag_with tag space Plain 0) e
 
-abbrev opens : Tag → Scope → Nodes → Frame
+abbrev pub opens : Tag → Scope → Nodes → Frame
 opens tag scope before = record { name = name_of tag; tail = tag.tail; declared = declared_in tag.tail; space = space_of (scope_in tag.tail scope) tag.prefix; before = before }
 
-start_placed : (scope : Scope) (tag : Tag) (fs : List Frame) (before : Nodes) → IsTag scope tag → placed (start_tag (name_of tag) tag.tail) (state fs before scope) ≡ Some (state (opens tag scope before ∷ fs) no_nodes (scope_in tag.tail scope))
+pub start_placed : (scope : Scope) (tag : Tag) (fs : List Frame) (before : Nodes) → IsTag scope tag → placed (start_tag (name_of tag) tag.tail) (state fs before scope) ≡ Some (state (opens tag scope before ∷ fs) no_nodes (scope_in tag.tail scope))
 start_placed scope tag fs before h = rw (entered_again scope (name_of tag) tag.tail (may_enter scope tag h)) refl
 
-empty_placed : (scope : Scope) (tag : Tag) (kids : Nodes) (fs : List Frame) (before : Nodes) → IsTag scope tag → tag.close ≡ Empty → kids ≡ no_nodes → placed (empty_tag (name_of tag) tag.tail) (state fs before scope) ≡ Some (state fs (before ⊕ element tag kids no_nodes) scope)
+pub empty_placed : (scope : Scope) (tag : Tag) (kids : Nodes) (fs : List Frame) (before : Nodes) → IsTag scope tag → tag.close ≡ Empty → kids ≡ no_nodes → placed (empty_tag (name_of tag) tag.tail) (state fs before scope) ≡ Some (state fs (before ⊕ element tag kids no_nodes) scope)
 empty_placed scope tag kids fs before h e none =
     let same : element tag kids no_nodes ≡ element (tag_in scope tag Empty) no_nodes no_nodes = ap (λ (t : Tag). element t kids no_nodes) (tag_is scope tag Empty h e) ∙ ap (λ (x : Nodes). element (tag_in scope tag Empty) x no_nodes) none in
     rw (entered_again scope (name_of tag) tag.tail (may_enter scope tag h)) (ap (λ (x : Nodes). Some (state fs (before ⊕ x) scope)) (sym same))
 
-end_placed : (scope : Scope) (tag : Tag) (kids : Nodes) (space : List ℕ) (fs : List Frame) (before : Nodes) → IsTag scope tag → tag.close ≡ End space → placed (end_tag (name_of tag) space) (state (opens tag scope before ∷ fs) kids (scope_in tag.tail scope)) ≡ Some (state fs (before ⊕ element tag kids no_nodes) scope)
+pub end_placed : (scope : Scope) (tag : Tag) (kids : Nodes) (space : List ℕ) (fs : List Frame) (before : Nodes) → IsTag scope tag → tag.close ≡ End space → placed (end_tag (name_of tag) space) (state (opens tag scope before ∷ fs) kids (scope_in tag.tail scope)) ≡ Some (state fs (before ⊕ element tag kids no_nodes) scope)
 end_placed scope tag kids space fs before h e =
     let same : element tag kids no_nodes ≡ element (tag_in scope tag (End space)) kids no_nodes = ap (λ (t : Tag). element t kids no_nodes) (tag_is scope tag (End space) h e) in
     rw (name_same (name_of tag)) (ap (λ (x : Nodes). Some (state fs (before ⊕ x) (drop (declared_in tag.tail) (scope_in tag.tail scope)))) (sym same) ∙ ap (λ (sc : Scope). Some (state fs (before ⊕ element tag kids no_nodes) sc)) (left_again tag.tail scope))

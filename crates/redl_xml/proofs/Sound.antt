@@ -23,27 +23,18 @@ use Rattle.redl_xml.specs.Shapes.{begins_with_bytes}
 use Rattle.redl_xml.specs.Scopes.{Scope}
 use Rattle.redl_xml.specs.Readings.{IsTag, ClosesBy, AreLegal}
 use Rattle.redl_xml.specs.Inside.Elements.{entered, declared_in, Frame, State, plain_tag, one_element, added, opened, closed, stretched, placed, finished_by, finished, nothing_yet, element_step, element_at}
+use Rattle.redl_tree.specs.Model.Laid.{last_is_bytes, ends_with_bytes}
 use Rattle.redl_xml.proofs.Scoping.{MayEnter, inside, entered_takes, left_entered}
 use Rattle.redl_xml.proofs.Buildings.{state}
 use Rattle.redl_xml.proofs.Loops.{step_goes, step_ends, step_fails, step_refuses}
-use Rattle.redl_xml.proofs.TreeTexts.{tree_then, tree_then-⊕}
-use Rattle.redl_xml.proofs.Words.{same_bytes}
+use Rattle.redl_tree.proofs.TreeTexts.{tree_then, tree_then-⊕}
+use Rattle.redl_tree.proofs.SameBytes.{same_name}
 
 none_some : {A : Type 0} (x : A) → None ≡ Some x → ⊥
 none_some x e = cc
 
 not_both : (b : Bool) → b ≡ true → b ≡ false → ⊥
 not_both b p q = cc
-
--- ---- names
-
-abbrev name_by : List ℕ → List ℕ → Name
-name_by prefix local = record { prefix = prefix; local = local }
-
-pub same_name : (m n : Name) → name_eq m n ≡ true → m ≡ n
-same_name m n e =
-    let both = and_parts _ _ e in
-    ap (λ (x : List ℕ). name_by x m.local) (same_bytes m.prefix n.prefix both.0) ∙ ap (name_by n.prefix) (same_bytes m.local n.local both.1)
 
 -- ---- the text so far
 
@@ -86,14 +77,6 @@ placed_text (stretch b) s s' rest e =
 placed_text (end_tag name space) s s' rest e = closed_text s.open_elements s.kids s.scope name space s' rest e
 
 -- ---- what was built so far is legal
-
-abbrev pub last_is_bytes : Bool → Nodes → Bool
-last_is_bytes t no_nodes = t
-last_is_bytes t (bytes b rest) = last_is_bytes true rest
-last_is_bytes t (element tag kids rest) = last_is_bytes false rest
-
-abbrev pub ends_with_bytes : Nodes → Bool
-ends_with_bytes x = last_is_bytes false x
 
 legal-⊕ : (scope : Scope) (x y : Nodes) → AreLegal scope x → AreLegal scope y → (ends_with_bytes x ≡ true → begins_with_bytes y ≡ false) → AreLegal scope (x ⊕ y)
 legal-⊕ scope no_nodes y hx hy apart = hy
