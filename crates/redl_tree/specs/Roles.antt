@@ -5,3 +5,4 @@ pub mod Places
 pub mod Arounds
 pub mod Lists
 pub mod Kinds
+pub mod Idle

@@ -1,6 +1,7 @@
 //! The names that are asked for, each with a number.
 
 ghost use Rattle.std.specs.Prelude.{◌≡◌, bytes_eq, if◌then◌else◌};
+ghost use Rattle.redl_tree.specs.Roles.Idle.{is_idle_name as is_idle};
 ghost use Rattle.redl_tree.specs.Roles.Words.{number, place, number_by_place, number_among, number_in as number_in_space, words};
 
 use crate::kinds::Space;
@@ -162,4 +163,13 @@ pub(crate) fn number_in(space: Space, name: &[u8]) -> u8
         Space::W => number_of(name),
         _ => 0,
     }
+}
+
+/// Whether an element of WordprocessingML with this local name is idle, if it is in no revision and all in it is idle. `in_run`:
+/// its parent is a run.
+pub fn is_idle_name(name: &[u8], in_run: bool) -> bool
+    ensures { result ≡ is_idle in_run name.now }
+{
+    let number = number_in(Space::W, name);
+    number == 0 || number == Word::R.number() || (number == Word::RPr.number() && in_run)
 }

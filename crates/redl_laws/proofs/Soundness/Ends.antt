@@ -21,6 +21,7 @@ use Rattle.redl_tree.specs.declared.lists.Lot.TheVariants.{Blocks}
 use Rattle.redl_tree.specs.declared.kinds.Space.TheVariants.{W}
 use Rattle.redl_tree.specs.declared.kinds.Say.{Say}
 use Rattle.redl_tree.proofs.PassLaws.{each, pass-each, next-thick}
+use Rattle.redl_tree.proofs.EndLaws.{two_none}
 use Rattle.redl_tree.proofs.Named.{by_name, by_names, by_trace}
 use Rattle.redl_tree.proofs.Fits.{Fits, OpenKind, plain, content, marker, open_fits, open_∷, true_false}
 use Rattle.redl_laws.proofs.Soundness.AlikeTags.{Like, like_thick, like_any, own_renamed, like_into}
@@ -36,10 +37,6 @@ before_assoc : (x y z : Option Bool) → or_before x (or_before y z) ≡ or_befo
 before_assoc x y (Some z) = refl
 before_assoc x y None = refl
 
-before_none : (x : Option Bool) → or_before None x ≡ x
-before_none None = refl
-before_none (Some x) = refl
-
 two_assoc : (reach : Reach) (x y z : Option Bool) → end_of_two reach x (end_of_two reach y z) ≡ end_of_two reach (end_of_two reach x y) z
 two_assoc Direct x y z = before_assoc x y z
 two_assoc Beyond x y z = before_assoc x y z
@@ -50,11 +47,6 @@ two_assoc Control (Some false) (Some false) z = before_assoc (Some false) (Some 
 two_assoc Control None (Some false) z = before_assoc None (Some false) z
 two_assoc Control (Some false) None z = before_assoc (Some false) None z
 two_assoc Control None None z = before_assoc None None z
-
-two_none : (reach : Reach) (x : Option Bool) → end_of_two reach None x ≡ x
-two_none Direct x = before_none x
-two_none Beyond x = before_none x
-two_none Control x = before_none x
 
 two_last : (reach : Reach) (x : Option Bool) → end_of_two reach x None ≡ x
 two_last Direct x = refl
