@@ -3,5 +3,9 @@ pub mod Tags
 pub mod Lists
 pub mod Pass
 pub mod Groups
+pub mod Roles
+pub mod Rules
+pub mod Labels
+pub mod Stories
 pub mod Texts
 mod Rows
