@@ -1,16 +1,21 @@
 -- Laws of packages whose stories are changed by a rule, one after the other.
 use Rattle.std.proofs.Common.{◌≡◌, List, [], ◌∷◌, ◌++◌, map, Bool, true, false, refl, sym, ap, ◌∙◌, if◌then◌else◌}
-use Rattle.redl_tree.specs.Model.Nodes.{Tag, Nodes, no_nodes, bytes, element, Item, bytes_item, element_item, in_front, ◌⊕◌}
+use Rattle.redl_tree.specs.Model.Nodes.{Tag, Nodes, no_nodes, bytes, element, Item, bytes_item, element_item, idle_item, in_front, ◌⊕◌}
+use Rattle.redl_tree.specs.Model.IdleTexts.{idle_nodes}
 use Rattle.redl_tree.specs.Model.View.{Parts}
 use Rattle.redl_tree.specs.Revisions.Labels.{unlabelled_tag, unlabelled}
 use Rattle.redl_tree.specs.Decisions.Packages.{is_root, stories_in, element_stories, StoryRule, left_after, changed_stories, changed_in}
 use Rattle.redl_tree.specs.Decisions.StoryWalk.{changed_item, item_stories}
+use Rattle.redl_tree.proofs.Laws.{⊕-no_nodes}
+use Rattle.redl_tree.proofs.Idle.Stories.{stories_past, changed_past}
+use Rattle.redl_tree.proofs.Idle.Items.{nodes_are_idle}
 
 -- ---- a node at a time
 
 pub stories_in-in_front : (ancestors : List Tag) (x : Item) (ys : Nodes) → stories_in ancestors (in_front x ys) ≡ item_stories ancestors x ++ stories_in ancestors ys
 stories_in-in_front ancestors (bytes_item b) ys = refl
 stories_in-in_front ancestors (element_item tag kids) ys = refl
+stories_in-in_front ancestors (idle_item t) ys = stories_past ancestors false (idle_nodes t) ys (nodes_are_idle t)
 
 module _ {S : Type 0} (rule : StoryRule S) where
   pub left_after-append : (given : S) (xs ys : List Parts) → left_after rule given (xs ++ ys) ≡ left_after rule (left_after rule given xs) ys
@@ -22,6 +27,9 @@ module _ {S : Type 0} (rule : StoryRule S) where
       ≡ in_front (changed_item rule given ancestors x) no_nodes ⊕ changed_in rule (left_after rule given (item_stories ancestors x)) ancestors ys
   changed_in-in_front given ancestors (bytes_item b) ys = refl
   changed_in-in_front given ancestors (element_item tag kids) ys = refl
+  changed_in-in_front given ancestors (idle_item t) ys =
+      changed_past rule given ancestors false (idle_nodes t) ys (nodes_are_idle t)
+      ∙ ap (λ (ns : Nodes). ns ⊕ changed_in rule given ancestors ys) (sym (⊕-no_nodes (idle_nodes t)))
 
   -- ---- the stories of a changed package
 

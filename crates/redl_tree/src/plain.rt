@@ -1,13 +1,10 @@
 //! Neighbouring idle elements, kept as the text that they are.
 
-ghost use Rattle.std.specs.Prelude.{◌≡◌, ◌<◌, true};
-ghost use Rattle.redl_tree.specs.declared.kinds.Space.TheVariants.{W};
+ghost use Rattle.std.specs.Prelude.{◌≡◌, ◌<◌, ◌^◌, true, length};
 ghost use Rattle.redl_tree.specs.Model.Text.{text};
 ghost use Rattle.redl_tree.specs.Model.Count.{count};
 ghost use Rattle.redl_tree.specs.Model.Elements.{elements};
-ghost use Rattle.redl_tree.specs.Model.Kids.{has_element};
-ghost use Rattle.redl_tree.specs.Model.Folds.{nodes_in, Reads};
-ghost use Rattle.redl_tree.specs.Roles.Idle.{is_idle};
+ghost use Rattle.redl_tree.specs.Model.IdleTexts.{is_idle_text, idle_nodes};
 
 use std::marker::Model;
 
@@ -20,67 +17,51 @@ pub struct Plain<'a> {
 }
 
 impl<'a> Model for Plain<'a> {
-    ghost use Rattle.std.specs.Prelude.{◌≡◌, ◌<◌, ℕ, true, List};
-    ghost use Rattle.redl_tree.specs.declared.kinds.Space.TheVariants.{W};
+    ghost use Rattle.std.specs.Prelude.{◌≡◌, ◌<◌, ◌^◌, ℕ, true, List, length};
     ghost use Rattle.redl_tree.specs.Model.Count.{count};
     ghost use Rattle.redl_tree.specs.Model.Elements.{elements};
-    ghost use Rattle.redl_tree.specs.Model.Folds.{nodes_in, Reads};
-    ghost use Rattle.redl_tree.specs.Roles.Idle.{is_idle};
+    ghost use Rattle.redl_tree.specs.Model.IdleTexts.{is_idle_text, idle_nodes};
 
     ghost Value = { List ℕ };
 
     ghost view = { λ plain. plain.text.now };
 
-    ghost invariant = { λ plain. Reads W plain.text.now × (is_idle (nodes_in W plain.text.now) ≡ true) × (count (nodes_in W plain.text.now) ≡ plain.nodes) × (elements (nodes_in W plain.text.now) ≡ plain.elems) × (0 < plain.elems) };
+    ghost invariant = { λ plain. (is_idle_text plain.text.now ≡ true) × (count (idle_nodes plain.text.now) ≡ plain.nodes) × (elements (idle_nodes plain.text.now) ≡ plain.elems) × (length plain.text.now < 2 ^ 32) };
 }
 
 impl<'a> Plain<'a> {
-    /// The elements that this text is, of which there is one at least.
+    /// The elements that this text is, of which there is one at least, with the numbers of their nodes and elements at every depth.
     pub fn new(text: &'a [u8], nodes: u32, elems: u32) -> Plain<'a>
-        requires reads { Reads W text.now }
-        requires idle { is_idle (nodes_in W text.now) ≡ true }
-        requires nodes { count (nodes_in W text.now) ≡ nodes }
-        requires elems { elements (nodes_in W text.now) ≡ elems }
-        requires some { 0 < elems }
+        requires idle { is_idle_text text.now ≡ true }
+        requires nodes { count (idle_nodes text.now) ≡ nodes }
+        requires elems { elements (idle_nodes text.now) ≡ elems }
+        requires short { length text.now < 2 ^ 32 }
         ensures { result ≡ text.entry.now }
     {
         Plain { text, nodes, elems }
     }
 
     /// Their text.
-    #[tactic(auto, using(crate::proofs::FoldLaws::text_of_nodes_in))]
+    #[tactic(auto, using(crate::proofs::Idle::Items::text_of_idle))]
     pub fn text(&self) -> &'a [u8]
         ensures text { result.now ≡ self.now }
-        ensures nodes { text (nodes_in W self.now) ≡ result.now }
+        ensures nodes { text (idle_nodes self.now) ≡ result.now }
     {
         self.text
     }
 
     /// The number of nodes, at every depth.
     pub fn nodes(&self) -> u32
-        ensures { result ≡ count (nodes_in W self.now) }
+        ensures { result ≡ count (idle_nodes self.now) }
     {
         self.nodes
     }
 
     /// The number of elements, at every depth.
     pub fn elems(&self) -> u32
-        ensures { result ≡ elements (nodes_in W self.now) }
+        ensures { result ≡ elements (idle_nodes self.now) }
     {
         self.elems
-    }
-
-    /// No walk over a story finds anything in them, but that they are elements.
-    ///
-    /// A function knows the invariant only where it uses a field, so an arm of a walk elsewhere calls this, which does
-    /// nothing.
-    #[inline(always)]
-    pub fn idle(&self)
-        ensures read { Reads W self.now }
-        ensures idle { is_idle (nodes_in W self.now) ≡ true }
-        ensures element { has_element (nodes_in W self.now) ≡ true }
-    {
-        let _ = &self.text;
     }
 
     /// The same elements once more.

@@ -32,10 +32,11 @@ pub trait StoryChange<S> {
 
     ghost steps: { S → ℕ };
 
-    /// Is called once for each node that is not below the root of a story.
-    fn meet(&self, state: &mut S)
+    /// Is called once for each node that is not below the root of a story, with the number of nodes that it counts as: as many as
+    /// were kept as one text, else 1.
+    fn meet(&self, state: &mut S, nodes: u32)
         ensures given { Self.given self.now state.new ≡ Self.given self.now state.old }
-        ensures steps { Self.is_counted ≡ true → Self.steps state.new ≡ Self.steps state.old + 1 };
+        ensures steps { Self.is_counted ≡ true → Self.steps state.new ≡ Self.steps state.old + nodes };
 
     /// Changes the kids of the root of a story.
     fn change(&self, root: &mut Elem, state: &mut S) -> Result<(), Self::Error>
@@ -106,10 +107,19 @@ fn change_node<S, C: StoryChange<S>>(
     ensures entered { C.is_counted ≡ true → C.steps state.new ≤ C.steps state.old + item_count (item_of node.old) }
     ensures made { OnOk result (C.is_counted ≡ true → C.steps state.old + item_count (item_of node.new) ≤ C.steps state.new) }
 {
-    change.meet(state);
     match node {
-        Node::Elem(elem) => change_elem(elem, level, change, state),
-        Node::Bytes(_) => Ok(()),
+        Node::Elem(elem) => {
+            change.meet(state, 1);
+            change_elem(elem, level, change, state)
+        }
+        Node::Bytes(_) => {
+            change.meet(state, 1);
+            Ok(())
+        }
+        Node::Plain(plain) => {
+            change.meet(state, plain.nodes());
+            Ok(())
+        }
     }
 }
 

@@ -1,13 +1,16 @@
 -- What is asked of a list of nodes is answered by those after the idle ones in front.
 use Prim.Native.String.{String}
-use Rattle.std.proofs.Common.{◌≡◌, ◌≢◌, ◌∙◌, refl, sym, ap, ℕ, List, [], ◌∷◌, ◌++◌, Bool, true, false, true≢false, ◌&&◌, ◌||◌, not, Option, None, codes, if◌then◌else◌}
-use Rattle.std.proofs.lemmas.Bool.{and_parts, or_from, not-true}
+use Rattle.std.proofs.Common.{◌≡◌, ◌≢◌, ◌∙◌, refl, sym, ap, ℕ, List, [], ◌∷◌, ◌++◌, Bool, true, false, true≢false, ◌&&◌, ◌||◌, not, Option, None, codes, bytes_eq, if◌then◌else◌}
+use Rattle.std.proofs.lemmas.Bool.{and_parts, or_from, not-true, eqb-true}
 use Rattle.redl_tree.specs.Model.Nodes.{Tag, Nodes, no_nodes, bytes, element, ◌⊕◌}
 use Rattle.redl_tree.specs.Model.Elements.{elements}
 use Rattle.redl_tree.specs.Model.Kids.{some_element, has_element, only, without, kids_of_all}
-use Rattle.redl_tree.specs.Roles.Names.{is, is_any, is_w, is_m}
+use Rattle.redl_tree.specs.Roles.Names.{named, is, is_any, is_w, is_m}
 use Rattle.redl_tree.specs.Roles.Lists.{into, is_direct, is_thick}
-use Rattle.redl_tree.specs.Roles.Idle.{is_idle_name, is_idle_in}
+use Rattle.redl_tree.specs.Roles.Idle.{is_idle_number, is_idle_name, is_idle_in}
+use Rattle.redl_tree.specs.Roles.Words.{name_of, number, number_in}
+use Rattle.redl_tree.specs.declared.word.Word.{Word}
+use Rattle.redl_tree.specs.declared.kinds.Space.TheVariants.{W}
 use Rattle.redl_tree.specs.Decisions.Tables.{own, has_own}
 use Rattle.redl_tree.specs.Rules.Tests.{at_most_one, only_first, only_last}
 use Rattle.redl_tree.specs.Rules.CellEnds.{end_of_one, end_of_two, end_of}
@@ -15,6 +18,8 @@ use Rattle.redl_tree.specs.Leaves.Settings.{has_member}
 use Rattle.redl_tree.specs.declared.lists.Reach.{Reach}
 use Rattle.redl_tree.specs.declared.lists.Reach.TheVariants.{Direct, Control, Beyond}
 use Rattle.redl_tree.proofs.NameLaws.{and-false}
+use Rattle.redl_tree.proofs.SameBytes.{same_bytes}
+use Rattle.redl_tree.proofs.WordLaws.{apart}
 use Rattle.redl_tree.proofs.EndLaws.{two_none}
 use Rattle.redl_tree.proofs.Idle.Tags.{Idle, idle_parts, has-not}
 
@@ -25,6 +30,15 @@ NoneIs in_run test = (tag : Tag) → Idle in_run tag → test tag ≡ false
 
 pub name_none : (name : String) (in_run : Bool) → is_idle_name in_run (codes name) ≡ false → NoneIs in_run (is name)
 name_none name in_run e tag i = has-not name in_run tag i e
+
+-- the same by the number of a word
+pub word_none : (word : Word) (in_run : Bool) → is_idle_number in_run (number word) ≡ false → NoneIs in_run (named (name_of word))
+word_none word in_run e tag i = ap (λ b. is_w tag.space && b) (by_case (bytes_eq tag.local (name_of word)) refl) ∙ and-false (is_w tag.space) where
+  by_case : (b : Bool) → bytes_eq tag.local (name_of word) ≡ b → b ≡ false
+  by_case true same =
+      absurd (true≢false (sym i.name ∙ ap (is_idle_name in_run) (same_bytes tag.local (name_of word) same)
+      ∙ ap (is_idle_number in_run) (eqb-true (number_in W (name_of word)) (number word) (apart word).found) ∙ e))
+  by_case false other = refl
 
 -- none of these names is one that an idle element may have
 abbrev pub are_asked : Bool → List String → Bool

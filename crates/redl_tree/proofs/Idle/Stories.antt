@@ -41,3 +41,18 @@ changed_idle rule given ancestors in_run (element tag kids rest) h =
     ap (λ b. element tag (if b then rule.kids given tag kids else changed_in rule given (tag ∷ ancestors) kids) (changed_in rule later ancestors rest)) (no_root ancestors in_run tag p.own)
     ∙ ap (λ (k : Nodes). element tag k (changed_in rule later ancestors rest)) (changed_idle rule given (tag ∷ ancestors) (is "r" tag) kids p.below)
     ∙ ap (element tag kids) (changed_idle rule later ancestors in_run rest p.later)
+
+pub changed_past : {S : Type 0} (rule : StoryRule S) (given : S) (ancestors : List Tag) (in_run : Bool) (x y : Nodes) → is_idle_in in_run x ≡ true → changed_in rule given ancestors (x ⊕ y) ≡ x ⊕ changed_in rule given ancestors y
+changed_past rule given ancestors in_run no_nodes y h = refl
+changed_past rule given ancestors in_run (bytes b rest) y h = ap (bytes b) (changed_past rule given ancestors in_run rest y h)
+changed_past rule given ancestors in_run (element tag kids rest) y h =
+    let p = idle_parts in_run tag kids rest h in
+    let left = left_after rule given (element_stories ancestors tag kids) in
+    let same : left ≡ given =
+    ap (λ b. left_after rule given (if b then record { tag = tag; kids = kids } ∷ [] else stories_in (tag ∷ ancestors) kids)) (no_root ancestors in_run tag p.own)
+    ∙ ap (left_after rule given) (stories_idle (tag ∷ ancestors) (is "r" tag) kids p.below)
+    in
+    ap (λ b. element tag (if b then rule.kids given tag kids else changed_in rule given (tag ∷ ancestors) kids) (changed_in rule left ancestors (rest ⊕ y))) (no_root ancestors in_run tag p.own)
+    ∙ ap (λ (k : Nodes). element tag k (changed_in rule left ancestors (rest ⊕ y))) (changed_idle rule given (tag ∷ ancestors) (is "r" tag) kids p.below)
+    ∙ ap (λ now. element tag kids (changed_in rule now ancestors (rest ⊕ y))) same
+    ∙ ap (element tag kids) (changed_past rule given ancestors in_run rest y p.later)

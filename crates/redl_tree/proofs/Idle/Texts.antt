@@ -6,12 +6,12 @@ use Rattle.redl_tree.specs.Model.Nodes.{Tag, Nodes, no_nodes, bytes, element, �
 use Rattle.redl_tree.specs.Roles.Names.{is}
 use Rattle.redl_tree.specs.Roles.Idle.{is_idle_tag, is_idle_in, AllTags}
 
-pub idle_nodes : (in_run : Bool) (nodes : Nodes) → AllTags (λ inside tag. is_idle_tag inside tag ≡ true) in_run nodes → is_idle_in in_run nodes ≡ true
-idle_nodes in_run no_nodes h = refl
-idle_nodes in_run (bytes b rest) h = idle_nodes in_run rest h
-idle_nodes in_run (element tag kids rest) h =
+pub each_is_idle : (in_run : Bool) (nodes : Nodes) → AllTags (λ inside tag. is_idle_tag inside tag ≡ true) in_run nodes → is_idle_in in_run nodes ≡ true
+each_is_idle in_run no_nodes h = refl
+each_is_idle in_run (bytes b rest) h = each_is_idle in_run rest h
+each_is_idle in_run (element tag kids rest) h =
     and_from (is_idle_tag in_run tag) (is_idle_in (is "r" tag) kids && is_idle_in in_run rest) h.0
-    (and_from (is_idle_in (is "r" tag) kids) (is_idle_in in_run rest) (idle_nodes (is "r" tag) kids h.1) (idle_nodes in_run rest h.2))
+    (and_from (is_idle_in (is "r" tag) kids) (is_idle_in in_run rest) (each_is_idle (is "r" tag) kids h.1) (each_is_idle in_run rest h.2))
 
 -- ---- what holds of each tag
 

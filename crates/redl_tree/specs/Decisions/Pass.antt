@@ -2,7 +2,8 @@
 -- It goes once over the original, whose members have their kinds and revisions on them. `ancestors` is the list of the
 -- tags of a node's ancestors in the original, the nearest first.
 use Rattle.std.specs.Prelude.{List, [], ◌∷◌, Bool, true, false, ◌&&◌, if◌then◌else◌}
-use Rattle.redl_tree.specs.Model.Nodes.{Tag, Nodes, no_nodes, bytes, element, Item, bytes_item, element_item}
+use Rattle.redl_tree.specs.Model.Nodes.{Tag, Nodes, no_nodes, bytes, element, Item, bytes_item, element_item, idle_item}
+use Rattle.redl_tree.specs.Model.IdleTexts.{idle_nodes}
 use Rattle.redl_tree.specs.Roles.Names.{is}
 use Rattle.redl_tree.specs.Roles.Lists.{in_blocks, is_thick}
 use Rattle.redl_tree.specs.Decisions.Fates.{fate_of, renamed}
@@ -59,4 +60,5 @@ pass says ancestors nodes = grouped false (pieces says ancestors nodes)
 -- the pass of one node by itself
 abbrev pub item_pass : List Say → List Tag → Item → Nodes
 item_pass says ancestors (bytes_item b) = bytes b no_nodes
+item_pass says ancestors (idle_item t) = idle_nodes t
 item_pass says ancestors (element_item tag kids) = element_pass says ancestors tag kids (pass says (tag ∷ ancestors) kids)

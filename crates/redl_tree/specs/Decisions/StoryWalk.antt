@@ -1,6 +1,6 @@
 -- Changed stories a node at a time, as code goes over the nodes of a package. `ancestors` is the list of the tags of the ancestors.
 use Rattle.std.specs.Prelude.{List, [], ◌∷◌, if◌then◌else◌}
-use Rattle.redl_tree.specs.Model.Nodes.{Tag, Nodes, Item, bytes_item, element_item}
+use Rattle.redl_tree.specs.Model.Nodes.{Tag, Nodes, Item, bytes_item, element_item, idle_item}
 use Rattle.redl_tree.specs.Model.View.{Parts}
 use Rattle.redl_tree.specs.Decisions.Packages.{is_root, element_stories, StoryRule, changed_in}
 
@@ -13,9 +13,11 @@ changed_kids rule given ancestors tag kids =
 -- one node
 abbrev pub changed_item : {S : Type 0} → StoryRule S → S → List Tag → Item → Item
 changed_item rule given ancestors (bytes_item b) = bytes_item b
+changed_item rule given ancestors (idle_item t) = idle_item t
 changed_item rule given ancestors (element_item tag kids) = element_item tag (changed_kids rule given ancestors tag kids)
 
 -- the stories in one node
 abbrev pub item_stories : List Tag → Item → List Parts
 item_stories ancestors (bytes_item b) = []
+item_stories ancestors (idle_item t) = []
 item_stories ancestors (element_item tag kids) = element_stories ancestors tag kids

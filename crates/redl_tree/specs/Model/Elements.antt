@@ -1,6 +1,6 @@
 -- How many elements there are.
 use Rattle.std.specs.Prelude.{ℕ, ◌+◌}
-use Rattle.redl_tree.specs.Model.Nodes.{Nodes, no_nodes, bytes, element}
+use Rattle.redl_tree.specs.Model.Lists.{Nodes, no_nodes, bytes, element}
 
 -- the number of elements at every depth
 abbrev pub elements : Nodes → ℕ

@@ -1,7 +1,8 @@
 -- Words on the elements of one list of nodes, none of which looks below the kids that it names.
 use Prim.Native.String.{String}
 use Rattle.std.specs.Prelude.{Bool, true, false, ◌||◌, if◌then◌else◌}
-use Rattle.redl_tree.specs.Model.Nodes.{Tag, Nodes, no_nodes, bytes, element, Item, bytes_item, element_item, ◌⊕◌}
+use Rattle.redl_tree.specs.Model.IdleTexts.{idle_nodes}
+use Rattle.redl_tree.specs.Model.Nodes.{Tag, Nodes, no_nodes, bytes, element, Item, bytes_item, element_item, idle_item, ◌⊕◌}
 use Rattle.redl_tree.specs.Roles.Names.{is}
 
 -- some element among these has such a tag
@@ -33,7 +34,8 @@ kids_of_all name (bytes b rest) = kids_of_all name rest
 kids_of_all name (element tag kids rest) =
     if is name tag then kids ⊕ kids_of_all name rest else kids_of_all name rest
 
--- the node is an element with such a tag
+-- the node is an element with such a tag, or one of those that are kept as a text is
 abbrev pub item_is : (Tag → Bool) → Item → Bool
 item_is test (bytes_item b) = false
 item_is test (element_item tag kids) = test tag
+item_is test (idle_item t) = some_element test (idle_nodes t)

@@ -2,7 +2,7 @@
 use Rattle.std.specs.Prelude.{List, [], map, Option, Some, None, ℕ}
 use denote.Ref.{Bor}
 use Rattle.redl_tree.specs.Model.Starts.{Start}
-use Rattle.redl_tree.specs.Model.Nodes.{Close, Empty, End, Tag, Nodes, no_nodes, Item, bytes_item, element_item, from_items}
+use Rattle.redl_tree.specs.Model.Nodes.{Close, Empty, End, Tag, Nodes, no_nodes, Item, bytes_item, element_item, idle_item, from_items}
 use Rattle.redl_tree.specs.declared.node.Body.{Body, fold-Body}
 use Rattle.redl_tree.specs.declared.node.Body.TheOpen.{Body-F, Node-F, Elem-F, Spaced-F}
 use Rattle.redl_tree.specs.declared.node.Node.{Node, fold-Node}
@@ -40,6 +40,7 @@ body_step (Body-F.Spaced spaced) = spaced.value
 abbrev pub node_step : Node-F Held Item Parts Held → Item
 node_step (Node-F.Elem e) = element_item e.tag e.kids
 node_step (Node-F.Bytes b) = bytes_item b.now
+node_step (Node-F.Plain text) = idle_item text
 
 abbrev pub elem_step : Elem-F Held Item Parts Held → Parts
 elem_step e = record { tag = tagged e.tag e.body.close; kids = e.body.kids }

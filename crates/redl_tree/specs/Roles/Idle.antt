@@ -1,7 +1,7 @@
 -- Idle elements: no walk over a story finds anything in them (our own rule). They are elements of W in no revision, and no
 -- definition asks for their names, but for a run and its properties.
 use Rattle.std.specs.Prelude.{ℕ, Bool, true, false, ◌&&◌, ◌||◌, ◌==◌, List}
-use Rattle.redl_tree.specs.Model.Nodes.{Tag, Nodes, no_nodes, bytes, element}
+use Rattle.redl_tree.specs.Model.Lists.{Tag, Nodes, no_nodes, bytes, element}
 use Rattle.redl_tree.specs.Roles.Names.{is, is_w}
 use Rattle.redl_tree.specs.Roles.Words.{number, number_in}
 use Rattle.redl_tree.specs.declared.kinds.Kind.{Kind}

@@ -2,7 +2,7 @@
 use Prim.Native.String.{String}
 use Rattle.std.specs.Prelude.{ℕ, List, [], Bool, true, false, ◌&&◌, codes, bytes_eq}
 use Rattle.std.specs.List.{list_any}
-use Rattle.redl_tree.specs.Model.Nodes.{Tag, Empty}
+use Rattle.redl_tree.specs.Model.Lists.{Tag, Empty}
 use Rattle.redl_tree.specs.declared.kinds.Space.{Space}
 use Rattle.redl_tree.specs.declared.kinds.Space.TheVariants.{W, M}
 use Rattle.redl_tree.specs.declared.kinds.Kind.TheVariants.{Plain}
