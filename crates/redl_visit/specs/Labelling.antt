@@ -1,5 +1,7 @@
 -- A visit of nodes that gives each element a label.
-use Rattle.redl_tree.specs.Model.Nodes.{Tag, Nodes, no_nodes, bytes, element, Item, bytes_item, element_item}
+use Rattle.std.specs.Prelude.{◌≡◌, Bool, true}
+use Rattle.redl_tree.specs.Model.Nodes.{Tag, Nodes, no_nodes, bytes, element, Item, bytes_item, element_item, idle_item}
+use Rattle.redl_tree.specs.Roles.Idle.{is_idle_tag}
 use Rattle.redl_visit.specs.declared.labels.Label.{Label}
 use Rattle.redl_visit.specs.Visits.{VisitRule, VisitNeeds, visited_element}
 
@@ -26,6 +28,10 @@ needs_of needs = record { Enter = needs.Enter; Leave = λ here below tag kids s.
 abbrev pub with_label : Label → Tag → Tag
 with_label label tag = record tag { kind = label.kind; rev = label.rev }
 
+-- it leaves idle elements as they are, which are in no revision
+abbrev pub LeavesIdle : {H O S : Type 0} → LabelRule H O S → Type 0
+LeavesIdle {H} {O} {S} rule = (here : H) (own : O) (in_run : Bool) (tag : Tag) (kids : Nodes) (s : S) → is_idle_tag in_run tag ≡ true → with_label (rule.label here own tag kids s) tag ≡ tag
+
 -- these nodes with their labels
 abbrev pub relabelled : {H O S : Type 0} → (Tag → H → H) → LabelRule H O S → H → O → Nodes → S → Nodes
 relabelled inside rule here own no_nodes s = no_nodes
@@ -42,5 +48,6 @@ relabelled_kids inside rule here own tag kids s =
 
 abbrev pub relabelled_item : {H O S : Type 0} → (Tag → H → H) → LabelRule H O S → H → O → Item → S → Item
 relabelled_item inside rule here own (bytes_item b) s = bytes_item b
+relabelled_item inside rule here own (idle_item t) s = idle_item t
 relabelled_item inside rule here own (element_item tag kids) s =
     element_item (with_label (rule.label here own tag kids s) tag) (relabelled_kids inside rule here own tag kids s)

@@ -1,5 +1,5 @@
 -- Where a visitor stops, and what is so then.
-use Rattle.redl_tree.specs.Model.Nodes.{Tag, Nodes, no_nodes, bytes, element, Item, bytes_item, element_item}
+use Rattle.redl_tree.specs.Model.Nodes.{Tag, Nodes, no_nodes, bytes, element, Item, bytes_item, element_item, idle_item}
 use Rattle.redl_visit.specs.Visits.{VisitRule, visited, visited_element}
 
 -- What is so where a visitor stops with an error before an element, or after its kids: of its state before that call, and after it.
@@ -25,13 +25,14 @@ StopsIn inside rule stops here own (element tag kids rest) s t x =
     (visited inside rule (inside tag here) (rule.below here own tag kids s) kids (rule.enter here own tag kids s)) t x)
     (StopsIn inside rule stops here own rest (visited_element inside rule here own tag kids s) t x)
 
--- at an element or below it, and at a node
+-- at an element or below it, and at a node; it does not stop in idle elements
 abbrev pub StopsElement : {H O S X : Type 0} → (Tag → H → H) → VisitRule H O S → VisitStops H O S X → H → O → Tag → Nodes → S → S → X → Type 0
 StopsElement inside rule stops here own tag kids s t x = StopsIn inside rule stops here own (element tag kids no_nodes) s t x
 
 abbrev pub StopsItem : {H O S X : Type 0} → (Tag → H → H) → VisitRule H O S → VisitStops H O S X → H → O → Item → S → S → X → Type 0
 StopsItem inside rule stops here own (bytes_item b) s t x = ⊥
 StopsItem inside rule stops here own (element_item tag kids) s t x = StopsElement inside rule stops here own tag kids s t x
+StopsItem inside rule stops here own (idle_item text) s t x = ⊥
 
 -- nothing is said of a visitor that stopped
 abbrev pub any_stops : {H O S X : Type 0} → VisitStops H O S X

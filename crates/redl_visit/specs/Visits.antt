@@ -1,7 +1,8 @@
 -- A visit of nodes: a visitor looks at each element before its kids and after them, and its state goes on.
 use Rattle.std.specs.Prelude.{Option, Some, None, if◌then◌else◌}
 use Rattle.redl_tree.specs.Model.Kids.{has_element}
-use Rattle.redl_tree.specs.Model.Nodes.{Tag, Nodes, no_nodes, bytes, element, Item, bytes_item, element_item}
+use Rattle.redl_tree.specs.Model.Nodes.{Tag, Nodes, no_nodes, bytes, element, Item, bytes_item, element_item, idle_item}
+use Rattle.redl_tree.specs.Model.IdleTexts.{idle_nodes}
 
 -- How a visitor goes on at an element: what it hands down to the kids, its state before them, and its state after them. `H` sums up the
 -- ancestors of the element, `O` is what it hands down beside that, and `S` is its state. `leave` is given what was handed down to the kids.
@@ -32,6 +33,7 @@ visited_element inside rule here own tag kids s =
 abbrev pub visited_item : {H O S : Type 0} → (Tag → H → H) → VisitRule H O S → H → O → Item → S → S
 visited_item inside rule here own (bytes_item b) s = s
 visited_item inside rule here own (element_item tag kids) s = visited_element inside rule here own tag kids s
+visited_item inside rule here own (idle_item t) s = visited inside rule here own (idle_nodes t) s
 
 -- What a visitor needs before an element, and after its kids.
 pub record VisitNeeds (H O S : Type 0) : Type 1 where
@@ -67,3 +69,4 @@ NeedsElement inside rule needs here own tag kids s =
 abbrev pub NeedsItem : {H O S : Type 0} → (Tag → H → H) → VisitRule H O S → VisitNeeds H O S → H → O → Item → S → Type 0
 NeedsItem inside rule needs here own (bytes_item b) s = Unit {0}
 NeedsItem inside rule needs here own (element_item tag kids) s = NeedsElement inside rule needs here own tag kids s
+NeedsItem inside rule needs here own (idle_item t) s = Needs inside rule needs here own (idle_nodes t) s

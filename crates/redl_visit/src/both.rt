@@ -47,4 +47,11 @@ impl<E: Element, H: Summary<E>, A: Visitor<E, H>, B: Visitor<E, H, Error = A::Er
         self.first.leave(elem, here, &below.0)?;
         self.second.leave(elem, here, &below.1)
     }
+
+    #[inline(always)]
+    #[tactic(auto, using(crate::proofs::PairLaws::visited_both, crate::proofs::PairLaws::needs_first, crate::proofs::PairLaws::needs_second))]
+    fn pass(&mut self, plain: &E::Plain, here: &H, own: &(A::Own, B::Own)) {
+        self.first.pass(plain, here, &own.0);
+        self.second.pass(plain, here, &own.1);
+    }
 }

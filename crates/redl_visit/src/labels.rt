@@ -2,12 +2,13 @@
 
 ghost use Rattle.std.specs.Prelude.{◌≡◌};
 ghost use Rattle.redl_tree.specs.Model.View.{nodes_of, item_of, tag_of, kids_of, held_of, spaced_of};
+ghost use Rattle.redl_tree.specs.Model.IdleTexts.{idle_nodes};
 ghost use Rattle.redl_tree.specs.Roles.Arounds.{inside_of};
 ghost use Rattle.redl_visit.specs.Visits.{inner_of, visited, visited_element, visited_item, Needs, NeedsElement, NeedsItem};
-ghost use Rattle.redl_visit.specs.Labelling.{LabelRule, LabelNeeds, visit_of, needs_of, with_label, relabelled, relabelled_kids, relabelled_item};
+ghost use Rattle.redl_visit.specs.Labelling.{LabelRule, LabelNeeds, LeavesIdle, visit_of, needs_of, with_label, relabelled, relabelled_kids, relabelled_item};
 
 use crate::ancestors::Summary;
-use redl_tree::{Around, Body, Elem, Kind, Node, Spaced};
+use redl_tree::{Around, Body, Elem, Kind, Node, Plain, Spaced};
 
 /// The kind of an element and the number of its revision.
 #[derive(Clone, Copy, Debug, PartialEq, Eq)]
@@ -33,6 +34,9 @@ pub trait Labeller {
 
     ghost needs: { LabelNeeds Around Self.Own Self.State };
 
+    // Idle elements get the label of an element that is in no revision.
+    ghost leaves: { LeavesIdle Self.rule };
+
     /// Looks at an element before its kids, and gives what is handed down to them and the element's label. It is called once for
     /// each element.
     ///
@@ -55,6 +59,11 @@ pub trait Labeller {
     fn leave(&mut self)
         requires needs { (Self.needs).Leave (Self.state self.old) }
         ensures state { Self.state self.new ≡ (Self.rule).leave (Self.state self.old) };
+
+    /// Passes over idle elements among the kids of an element, and over all below them.
+    fn pass(&mut self, plain: &Plain, here: Around, own: Self::Own)
+        requires needs { Needs inside_of (visit_of Self.rule) (needs_of Self.needs) here own (idle_nodes plain.now) (Self.state self.old) }
+        ensures state { Self.state self.new ≡ visited inside_of (visit_of Self.rule) here own (idle_nodes plain.now) (Self.state self.old) };
 }
 
 /// Sets the labels of all elements below this one. `inner` sums up the ancestors of its kids, and `below` is handed down to them.
@@ -116,6 +125,7 @@ fn label_node<L: Labeller>(node: &mut Node, here: Around, own: L::Own, labeller:
     match node {
         Node::Elem(elem) => label_elem(elem, here, own, labeller),
         Node::Bytes(_) => {}
+        Node::Plain(plain) => labeller.pass(plain, here, own),
     }
 }
 

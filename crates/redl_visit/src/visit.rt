@@ -1,6 +1,8 @@
 //! What looks at the elements of a story, and the walk that shows them to it.
 
 ghost use Rattle.std.specs.Prelude.{◌≡◌, IfOk, IfErr, OnOk};
+ghost use Rattle.redl_tree.specs.Model.IdleTexts.{idle_nodes};
+ghost use Rattle.redl_visit.specs.Elements.{NoElement};
 ghost use Rattle.redl_visit.specs.Visits.{inner_of, VisitRule, VisitNeeds, visited, visited_element, visited_item, Needs, NeedsElement, NeedsItem};
 ghost use Rattle.redl_visit.specs.Stops.{VisitStops, StopsIn, StopsElement, StopsItem};
 
@@ -50,6 +52,11 @@ pub trait Visitor<E: Element, H: Summary<E>> {
         requires needs { (Self.needs).Leave here.now below.now (E.tag elem.now) (E.kids elem.now) (Self.state self.old) }
         ensures state { OnOk result (Self.state self.new ≡ (Self.rule).leave here.now below.now (E.tag elem.now) (E.kids elem.now) (Self.state self.old)) }
         ensures stops { IfErr result (λ error. (Self.stops).Leave here.now below.now (E.tag elem.now) (E.kids elem.now) (Self.state self.old) (Self.state self.new) error) };
+
+    /// Passes over idle elements among the kids of an element, and over all below them.
+    fn pass(&mut self, plain: &E::Plain, here: &H, own: &Self::Own)
+        requires needs { Needs H.inside Self.rule Self.needs here.now own.now (idle_nodes (E.text plain.now)) (Self.state self.old) }
+        ensures state { Self.state self.new ≡ visited H.inside Self.rule here.now own.now (idle_nodes (E.text plain.now)) (Self.state self.old) };
 }
 
 /// Shows a visitor all elements below this one. `inner` sums up the ancestors of its kids, and `below` is handed down to them.
@@ -86,7 +93,28 @@ fn visit_node<E: Element, H: Summary<E>, V: Visitor<E, H>>(
 {
     match E::element(node) {
         Some(elem) => visit_elem(elem, here, own, visitor),
-        None => Ok(()),
+        None => {
+            pass_node(node, here, own, visitor);
+            Ok(())
+        }
+    }
+}
+
+/// Lets a visitor pass over the idle elements that a node is, if it is their text.
+#[inline(always)]
+#[tactic(auto, using(crate::proofs::VisitLaws::no_item))]
+fn pass_node<E: Element, H: Summary<E>, V: Visitor<E, H>>(
+    node: &E::Node,
+    here: &H,
+    own: &V::Own,
+    visitor: &mut V,
+)
+    requires none { NoElement (E.item node.now) }
+    requires needs { NeedsItem H.inside V.rule V.needs here.now own.now (E.item node.now) (V.state visitor.old) }
+    ensures state { V.state visitor.new ≡ visited_item H.inside V.rule here.now own.now (E.item node.now) (V.state visitor.old) }
+{
+    if let Some(plain) = E::plain(node) {
+        visitor.pass(plain, here, own);
     }
 }
 

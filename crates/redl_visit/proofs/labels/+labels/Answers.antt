@@ -1,10 +1,12 @@
-use Rattle.std.proofs.Common.{◌+◌, ◌<◌, ◌≤◌, length, take, drop, sym, ap, subst, ◌∙◌, arith}
+use Rattle.std.proofs.Common.{◌≡◌, get_or, ◌+◌, ◌<◌, ◌≤◌, length, take, drop, sym, ap, subst, ◌∙◌, arith}
 use Rattle.std.proofs.lemmas.List.{take_more_set, drop-set-lt, take_all, length-set, get_or-set_other}
 use Rattle.redl_tree.specs.Model.Nodes.{no_nodes, in_front, ◌⊕◌}
 use Rattle.redl_tree.specs.Roles.Arounds.{inside_of}
 use Rattle.redl_tree.specs.Model.View.{nodes_of, item_of, tag_of, kids_of}
 use Rattle.redl_tree.proofs.Laws.{nodes_here, nodes_end, nodes_of-push, ⊕-no_nodes, built_more}
-use Rattle.redl_visit.specs.Visits.{visited, visited_item, Needs}
+use denote.Param.Weighed.{at_most}
+use Rattle.redl_tree.specs.declared.node.Body.TheViews.{size-Node}
+use Rattle.redl_visit.specs.Visits.{visited, visited_item, Needs, NeedsItem}
 use Rattle.redl_visit.specs.Labelling.{visit_of, needs_of, relabelled, relabelled_item}
 use Rattle.redl_visit.proofs.VisitLaws.{visited-in_front, needs-in_front, none_inner}
 use Rattle.redl_visit.proofs.LabelLaws.{relabelled-in_front, none_relabelled}
@@ -19,6 +21,23 @@ pub label_inner-returns-in-None-clause-state : goal.label_inner-returns-in-None-
 label_inner-returns-in-None-clause-state g t c =
     sym (none_inner inside_of (visit_of g.L.Labeller.rule) (tag_of c.args.elem.now) (kids_of c.args.elem.now) c.args.here c.args.below (g.L.Labeller.state c.args.labeller.now)
     (sym c.in-None.is ∙ c.requires.inner))
+
+pub label_nodes-label_node-requires : goal.label_nodes-label_node-requires
+label_nodes-label_node-requires g t c κs within =
+    let v = visit_of g.L.Labeller.rule in
+    let n = needs_of g.L.Labeller.needs in
+    let h = c.args.here in
+    let o = c.args.own in
+    let items = c.loop-i.nodes in
+    let i = c.loop-i.i in
+    let x = c.index-nodes-i.result in
+    let s = g.L.Labeller.state c.loop-i.labeller in
+    let inside : i < length items = omega (arith, c.loop-i.invariant.unvisited.0) in
+    let same : get_or items i x ≡ get_or c.args.nodes.now i x = c.loop-i.invariant.unvisited.1 i x (omega arith) in
+    let below = at_most size-Node c.args.nodes.now i x (omega (arith, inside, c.loop-i.invariant.unvisited.0)) in
+    let here = nodes_here items i x inside c.index-nodes-i.is in
+    let needs = (needs-in_front inside_of v h o n (item_of x) (nodes_of (drop (i + 1) items)) s (subst (λ ns. Needs inside_of v n h o ns s) here c.loop-i.invariant.needs)).0 in
+    (omega (arith, c.decreases, ap size-Node same, below), (within.0, (within.1, subst (λ z. NeedsItem inside_of v n h o (item_of z) s) c.index-nodes-i.is needs)))
 
 pub label_nodes-loop-i-preserved : goal.label_nodes-loop-i-preserved
 label_nodes-loop-i-preserved g t c =
@@ -51,7 +70,7 @@ label_nodes-loop-i-preserved g t c =
       nodes =
           built_more _ _ _
           (ap nodes_of front ∙ nodes_of-push _ _ ∙ ap (λ y. nodes_of (take i items) ⊕ in_front y no_nodes) made)
-          (ap (λ ns. relabelled inside_of rule h o ns s) here ∙ relabelled-in_front inside_of rule h o (item_of x) (nodes_of more) s
+          (ap (λ ns. relabelled inside_of rule h o ns s) here ∙ relabelled-in_front inside_of rule h o g.L.Labeller.leaves (item_of x) (nodes_of more) s
           ∙ ap (λ z. placed ⊕ relabelled inside_of rule h o (nodes_of more) z) (sym state_is)
           ∙ ap (λ xs. placed ⊕ relabelled inside_of rule h o (nodes_of xs) new) (sym back)) c.loop-i.invariant.nodes;
       state =
