@@ -17,3 +17,4 @@ pub mod Blocks
 pub mod Numbers
 pub mod Plain
 pub mod NearBlocks
+pub mod BareLaws

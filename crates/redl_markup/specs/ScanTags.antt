@@ -1,5 +1,5 @@
 -- Reading attributes and tags from the left.
-use Rattle.std.specs.Prelude.{ℕ, suc, Bool, false, ◌==◌, ◌&&◌, ◌||◌, List, [], ◌∷◌, ◌++◌, length, Option, Some, None, if◌then◌else◌, codes}
+use Rattle.std.specs.Prelude.{ℕ, suc, Bool, false, ◌==◌, ◌&&◌, ◌||◌, List, [], ◌∷◌, ◌++◌, length, Option, Some, None, option_map, if◌then◌else◌, codes}
 use Rattle.std.specs.List.{list_all}
 use Rattle.redl_markup.specs.Characters.{is_space}
 use Rattle.redl_reading.specs.Lists.{behind, front, after, before, is_filled, is_other, field_at}
@@ -81,6 +81,10 @@ tail_step s =
 
 unfoldable pub attributes_at : List ℕ → Option Tail
 attributes_at bs = turns tail_step (suc (length bs)) ([], bs)
+
+-- what follows them and their white space
+abbrev pub attributes_end : List ℕ → Option (List ℕ)
+attributes_end bs = option_map (λ end. end.1) (attributes_at bs)
 
 unfoldable pub tail_at : List ℕ → Option (List ℕ × List ℕ)
 tail_at bs = do

@@ -5,6 +5,7 @@
 #![tactic(auto)]
 
 mod attribute;
+mod bare;
 mod character;
 mod declaration;
 mod decode;
@@ -24,6 +25,7 @@ mod tag;
 mod word;
 
 pub use attribute::{Attribute, next_attribute};
+pub use bare::{BarePiece, BareTag, known_piece};
 pub use character::is_text;
 pub use decode::{decode_value, is_literal};
 pub use error::MarkupError;

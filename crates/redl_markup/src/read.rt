@@ -27,7 +27,10 @@ fn read_piece<'a>(
     ensures { Finds (λ x. (piece_view x.0, x.1.now)) result (piece_at place bytes.entry.now) }
 {
     if let Some(rest) = skip(bytes, b"</") {
-        return end_tag(rest).ok_or(MarkupError::Unreadable);
+        return match end_tag(rest) {
+            Some((name, space, rest)) => Ok((Piece::End(name, space), rest)),
+            None => Err(MarkupError::Unreadable),
+        };
     }
     match skip(bytes, b"<") {
         Some(rest) if !begins_item(bytes) => start_tag(alloc, list, rest),

@@ -8,6 +8,7 @@ ghost use Rattle.redl_reading.specs.Steps.{Gives};
 ghost use Rattle.redl_markup.specs.ScanTags.{ends_tag, attributes_at, tail_at, tag_at, end_tag_at};
 ghost use Rattle.redl_markup.specs.Views.{name_view};
 ghost use Rattle.redl_markup.specs.PieceViews.{piece_view};
+ghost use Rattle.redl_markup.specs.Pieces.{end_tag as an_end_tag};
 
 use crate::attribute::attribute_behind;
 use crate::distinct::no_two_alike;
@@ -22,7 +23,7 @@ use std::mem;
 
 #[tactic(auto, unfolding(crate::specs::ScanTags::ends_tag))]
 #[inline(always)]
-fn is_at_end(bytes: &[u8]) -> bool
+pub(crate) fn is_at_end(bytes: &[u8]) -> bool
     ensures { result ≡ ends_tag bytes.now }
 {
     matches!(bytes, [b'>' | b'/', ..])
@@ -96,14 +97,14 @@ pub(crate) fn start_tag<'a>(
     }
 }
 
-/// An end tag, given the bytes after its `</`.
+/// The name of an end tag, the white space after the name, and the bytes after the tag, given those after its `</`.
 #[tactic(auto, unfolding(crate::specs::ScanTags::end_tag_at))]
 #[inline(always)]
-pub(crate) fn end_tag(bytes: &[u8]) -> Option<(Piece<'_>, &[u8])>
-    ensures { Gives (λ x. (piece_view x.0, x.1.now)) result (end_tag_at bytes.now) }
+pub(crate) fn end_tag(bytes: &[u8]) -> Option<(Name<'_>, &[u8], &[u8])>
+    ensures { Gives (λ x. (an_end_tag (name_view x.0) x.1.now, x.2.now)) result (end_tag_at bytes.now) }
 {
     let (name, rest) = name(bytes)?;
     let (space, end) = spaces(rest);
     let rest = skip(end, b">")?;
-    Some((Piece::End(name, space), rest))
+    Some((name, space, rest))
 }
