@@ -218,7 +218,7 @@ no_more space u = record { turns_taken = 1; gets = rw (level_ends space (level [
 abbrev tag_by : List ℕ → List ℕ → Space → List ℕ → Close → Kind → ℕ → Tag
 tag_by prefix local space tail close kind rev = record { prefix = prefix; local = local; space = space; tail = tail; close = close; kind = kind; rev = rev }
 
-tag_is : (space : Space) (tag : Tag) (close : Close) → IsLaidTag space tag → tag.close ≡ close → tag ≡ plain_tag (name_of tag) space tag.tail close
+pub tag_is : (space : Space) (tag : Tag) (close : Close) → IsLaidTag space tag → tag.close ≡ close → tag ≡ plain_tag (name_of tag) space tag.tail close
 tag_is space tag close h e =
     ap (λ (x : Space). tag_by tag.prefix tag.local x tag.tail tag.close tag.kind tag.rev) h.of_space
     ∙ ap (λ (x : Close). tag_by tag.prefix tag.local space tag.tail x tag.kind tag.rev) e

@@ -4,8 +4,11 @@ ghost use Rattle.std.specs.Prelude.{◌≡◌, ◌<◌, ◌^◌, true, length};
 ghost use Rattle.redl_tree.specs.Model.Text.{text};
 ghost use Rattle.redl_tree.specs.Model.Count.{count};
 ghost use Rattle.redl_tree.specs.Model.Elements.{elements};
+ghost use Rattle.redl_tree.specs.Model.Folds.{nodes_in};
 ghost use Rattle.redl_tree.specs.Model.IdleTexts.{is_idle_text, idle_nodes};
+ghost use Rattle.redl_tree.specs.declared.kinds.Space.TheVariants.{W};
 
+use crate::laid::Laid;
 use std::marker::Model;
 
 /// Idle elements of one list, with the bytes between them, as they stand in the input.
@@ -62,6 +65,14 @@ impl<'a> Plain<'a> {
         ensures { result ≡ elements (idle_nodes self.now) }
     {
         self.elems
+    }
+
+    /// The same nodes, to be read from the front.
+    #[tactic(auto, using(crate::proofs::Idle::Items::idle_reads, crate::proofs::Idle::Items::laid_nodes))]
+    pub fn laid(&self) -> Laid<'a>
+        ensures { nodes_in W result ≡ idle_nodes self.now }
+    {
+        Laid::new(self.text)
     }
 
     /// The same elements once more.

@@ -1,5 +1,5 @@
 -- The nodes that a list keeps as text are idle, whatever the text.
-use Rattle.std.proofs.Common.{◌≡◌, ◌≢◌, ◌∙◌, ℕ, zero, suc, refl, sym, ap, subst, List, [], Bool, true, false, true≢false, ◌&&◌, ◌==◌, not, codes, if◌then◌else◌, arith}
+use Rattle.std.proofs.Common.{◌≡◌, ◌≢◌, ◌∙◌, ℕ, zero, suc, refl, sym, ap, List, Bool, true, false, true≢false, ◌&&◌, ◌==◌, not, codes, if◌then◌else◌}
 use Rattle.std.proofs.lemmas.Bool.{and_parts, and_from, eqb-true}
 use Rattle.redl_tree.specs.Model.Nodes.{Tag, Nodes, no_nodes, element, ◌⊕◌}
 use Rattle.redl_tree.specs.Model.Elements.{elements}
@@ -50,7 +50,10 @@ is_reading : (t : List ℕ) → is_idle_text t ≡ true → idle_nodes t ≡ nod
 unfolding idle_nodes
 is_reading t h = ap (λ b. if b then nodes_in W t else element (of_w (codes "r")) no_nodes no_nodes) h
 
-idle_reads : (t : List ℕ) → is_idle_text t ≡ true → Reads W t
+pub laid_nodes : (t : List ℕ) → is_idle_text t ≡ true → nodes_in W t ≡ idle_nodes t
+laid_nodes t h = sym (is_reading t h)
+
+pub idle_reads : (t : List ℕ) → is_idle_text t ≡ true → Reads W t
 idle_reads t h = (and_parts (is_there (nodes_at W t)) (is_idle (nodes_in W t) && not (elements (nodes_in W t) == 0)) h).0
 
 pub text_of_idle : (t : List ℕ) → is_idle_text t ≡ true → text (idle_nodes t) ≡ t

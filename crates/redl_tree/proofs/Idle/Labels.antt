@@ -9,7 +9,6 @@ use Rattle.redl_tree.specs.Model.Seen.{tags, Spot, spot, Seen, seen_one, seen_fr
 use Rattle.redl_tree.specs.Roles.Names.{is}
 use Rattle.redl_tree.specs.Roles.Places.{is_open}
 use Rattle.redl_tree.specs.Roles.Idle.{is_idle_in}
-use Rattle.redl_tree.specs.Rules.Sound.{is_marker}
 use Rattle.redl_tree.specs.Revisions.Moves.{Edge, Marking, Pair, is_of_pair}
 use Rattle.redl_tree.specs.Revisions.Markers.{Value, marking, marker_of, move_of_marker, move_of, own_role, whole_role}
 use Rattle.redl_tree.specs.Revisions.Numbers.{Membership, in_none, membership, Numbering, number_for, counted, revision_of, numbering_after, labelled_tag, labelled}

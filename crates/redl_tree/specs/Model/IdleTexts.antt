@@ -1,5 +1,5 @@
 -- The nodes of a text of idle elements.
-use Rattle.std.specs.Prelude.{ℕ, Bool, ◌&&◌, ◌==◌, not, List, [], codes, if◌then◌else◌}
+use Rattle.std.specs.Prelude.{ℕ, Bool, ◌&&◌, ◌==◌, not, List, codes, if◌then◌else◌}
 use Rattle.redl_tree.specs.Model.Lists.{Nodes, no_nodes, element}
 use Rattle.redl_tree.specs.Model.Elements.{elements}
 use Rattle.redl_tree.specs.Model.Folds.{nodes_at, nodes_in}

@@ -5,7 +5,7 @@ use Rattle.redl_tree.specs.Model.Cuts.{IsCut}
 use Rattle.redl_tree.specs.declared.kinds.Space.{Space}
 use Rattle.redl_tree.proofs.Cuts.{text_is_cut, start_of_text}
 use Rattle.redl_markup.specs.Names.{Name, name_text}
-use Rattle.redl_xml.specs.Inside.Elements.{plain_start}
+use Rattle.redl_tree.specs.Model.Folds.{plain_start}
 use Rattle.redl_tree.proofs.TreeTexts.{same_name_text}
 
 pub is_cut : (name : Name) (tail text : List ℕ) → text ≡ name_text name ++ tail → IsCut text (length name.prefix) (length (name_text name))
