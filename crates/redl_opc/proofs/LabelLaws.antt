@@ -1,5 +1,5 @@
 -- Labels are not part of the shape of a package.
-use Rattle.std.proofs.Common.{◌≡◌, ◌+◌, ◌&&◌, ◌||◌, ℕ, arith, zero, suc, List, [], ◌∷◌, map, Option, Some, None, Bool, true, false, cond, is_some, option_map, refl, sym, ap, ◌∙◌, codes, subst}
+use Rattle.std.proofs.Common.{◌≡◌, ◌+◌, ◌&&◌, ◌||◌, ℕ, arith, suc, List, [], ◌∷◌, map, Option, Some, None, Bool, true, false, cond, is_some, option_map, refl, sym, ap, ◌∙◌, codes, subst}
 use Rattle.std.specs.List.{list_all, list_any}
 use Rattle.redl_tree.specs.Model.Nodes.{Nodes, no_nodes, bytes, element}
 use Rattle.redl_tree.specs.Model.Count.{count}
@@ -13,7 +13,7 @@ use Rattle.redl_tree.specs.Decisions.Packages.{named_pkg, is_story_root, StoryRu
 use Rattle.redl_opc.specs.Shape.{has_attribute, is_data, is_data_alone, is_part, root_in, story_root, story_of, is_document_root, is_document, package_in, package_of, parts_refusal, refusal_of, refusal}
 use Rattle.redl_tree.specs.Model.Tree.{HasUtf8Tails}
 use Rattle.redl_opc.specs.Parts.{name_in, places_from, places_in, places_of, IsKept}
-use Rattle.redl_opc.specs.Labels.{changed_at, labelled, SetsLabels}
+use Rattle.redl_opc.specs.Labels.{SetsLabels}
 
 -- an element without its labels
 abbrev pub plain : Element → Element
@@ -129,22 +129,6 @@ tails-labelled (element tag kids rest) tails = (tails.0, tails-labelled kids tai
 
 -- ---- nodes that differ only in labels
 
-changed_at-unlabelled : (place : ℕ) (change : Element → Element) → ((e : Element) → plain (change e) ≡ plain e) → (ns : Nodes)
-    → unlabelled (changed_at place change ns) ≡ unlabelled ns
-changed_at-unlabelled place change h no_nodes = refl
-changed_at-unlabelled zero change h (bytes b rest) = refl
-changed_at-unlabelled (suc place) change h (bytes b rest) = ap (bytes b) (changed_at-unlabelled place change h rest)
-changed_at-unlabelled zero change h (element tag kids rest) =
-    ap (λ e. element e.tag e.kids (unlabelled rest)) (h (record { tag = tag; kids = kids }))
-changed_at-unlabelled (suc place) change h (element tag kids rest) =
-    ap (element (record tag { kind = Kind.Plain; rev = 0 }) (unlabelled kids)) (changed_at-unlabelled place change h rest)
-
-labelled-plain : (kind : Kind) (rev : ℕ) (path : List ℕ) (e : Element) → plain (labelled kind rev path e) ≡ plain e
-labelled-plain kind rev [] e = refl
-labelled-plain kind rev (place ∷ path) e =
-    ap (λ kids. record { tag = record e.tag { kind = Kind.Plain; rev = 0 }; kids = kids })
-    (changed_at-unlabelled place (labelled kind rev path) (labelled-plain kind rev path) e.kids)
-
 -- labels are not part of the text
 pub text-labelled : (old new : Nodes) → unlabelled new ≡ unlabelled old → text new ≡ text old
 text-labelled old new same = sym (text-unlabelled new) ∙ ap text same ∙ text-unlabelled old
@@ -158,9 +142,6 @@ kept-labelled old new listed same kept =
       tails = tails-labelled new (subst HasUtf8Tails (sym same) (tails-unlabelled old kept.tails));
       few = rw (← count-unlabelled new, same, count-unlabelled old) kept.few;
     }
-
-pub labels_alone : (kind : Kind) (rev place : ℕ) (path : List ℕ) (ns : Nodes) → unlabelled (changed_at place (labelled kind rev path) ns) ≡ unlabelled ns
-labels_alone kind rev place path ns = changed_at-unlabelled place (labelled kind rev path) (labelled-plain kind rev path) ns
 
 -- ---- a rule that sets labels alone
 

@@ -1,6 +1,6 @@
 pub mod PartLaws
 pub mod LabelLaws
-pub mod PlaceLaws
+pub mod UnnamedLaws
 pub mod StoryLaws
 pub mod NumberLaws
 pub mod WalkLaws

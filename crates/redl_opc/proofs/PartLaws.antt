@@ -1,17 +1,20 @@
 -- Laws of the parts of a package.
-use Rattle.std.proofs.Common.{Bor, ◌≡◌, ◌≤◌, ◌<◌, ◌+◌, ℕ, zero, suc, List, [], ◌∷◌, ◌++◌, length, Option, Some, None, Bool, true, false, refl, sym, ap, ◌∙◌, arith, append_assoc, slice_get, option_map, option_and_then, length-append, cond, codes, get_or, drop, add-one, subst, IfSome}
-use Rattle.redl_tree.specs.Model.Nodes.{Nodes, no_nodes, bytes, element, Item, bytes_item, element_item, in_front, items_of}
+use Rattle.std.proofs.Common.{Bor, ◌≡◌, ◌≤◌, ◌<◌, ◌+◌, ℕ, zero, suc, List, [], ◌∷◌, ◌++◌, length, Option, Some, None, Bool, true, false, refl, sym, ap, ◌∙◌, arith, append_assoc, slice_get, option_map, option_and_then, length-append, cond, codes, not, if◌then◌else◌, get_or, drop, add-one, subst, IfSome}
+use Rattle.redl_tree.specs.Model.Nodes.{Nodes, no_nodes, bytes, element, Item, bytes_item, element_item, idle_item, in_front, items_of, ◌⊕◌}
+use Rattle.redl_tree.specs.Model.IdleTexts.{idle_nodes}
 use Rattle.redl_tree.specs.Model.Count.{count}
 use Rattle.redl_tree.specs.Model.View.{item_of, nodes_of, tag_of, kids_of}
 use Rattle.redl_tree.specs.declared.node.Node.{Node}
 use Rattle.redl_tree.specs.declared.node.Node as node
 use Rattle.redl_tree.specs.declared.node.Elem.{Elem}
 use Rattle.redl_tree.proofs.Laws.{item_of-Elem, item_of-Bytes, nodes_here}
+use Rattle.std.specs.List.{list_all, list_any}
 use Rattle.std.specs.Str.{IsUtf8}
 use Rattle.redl_reading.specs.Steps.{◌>>=◌, Gives}
 use Rattle.redl_opc.specs.Elements.{Element, element_in, elements_of, only, only_element}
 use Rattle.redl_tree.specs.Decisions.Packages.{named_pkg}
-use Rattle.redl_opc.specs.Shape.{package_in, package_of, parts_of, elements_in, story_of}
+use Rattle.redl_opc.specs.Shape.{is_part, is_document, package_in, package_of, parts_of, elements_in, story_of, refusal_of, refusal}
+use Rattle.redl_opc.specs.declared.error.OpcError.TheVariants.{PartShape, NoDocument}
 use Rattle.redl_opc.specs.Parts.{name_in, part_name, story, places_from, places_in, places_of}
 use Rattle.redl_tree.specs.Model.Tree.{HasUtf8Tails}
 
@@ -123,6 +126,14 @@ name-places_in (Some root) k = name-places_from 0 root.kids k
 pub name-places_of : (ns : Nodes) (k : ℕ) → part_name ns k ≡ option_map (λ place. place.1) (slice_get (places_of ns) k)
 name-places_of ns k = name-places_in (package_of ns) k
 
+-- the root of a package has no elements but parts
+pub all_parts : (ns : Nodes) (root : Element) → refusal ns ≡ None → package_of ns ≡ Some root → list_all is_part (elements_of root.kids) ≡ true
+all_parts ns root shape is = by (list_all is_part (elements_of root.kids)) refl (sym (ap refusal_of is) ∙ shape) where
+  by : (b : Bool) → list_all is_part (elements_of root.kids) ≡ b
+      → (if not b then Some PartShape else if not (list_any is_document (elements_of root.kids)) then Some NoDocument else None) ≡ None → b ≡ true
+  by true e h = refl
+  by false e h = absurd cc
+
 -- ---- one node among the kids of the root
 
 pub tails-element : (nodes : List Node) (i : ℕ) (x : Node) (e : Elem) → i < length nodes → x ≡ get_or nodes i x → x ≡ node.Elem e
@@ -133,9 +144,15 @@ tails-element nodes i x e within is elem tails =
     let all = subst HasUtf8Tails here tails in
     all.0
 
+tails-behind : (x rest : Nodes) → HasUtf8Tails (x ⊕ rest) → HasUtf8Tails rest
+tails-behind no_nodes rest tails = tails
+tails-behind (bytes b more) rest tails = tails-behind more rest tails
+tails-behind (element tag kids more) rest tails = tails-behind more rest tails.2
+
 tails-item : (x : Item) (rest : Nodes) → HasUtf8Tails (in_front x rest) → HasUtf8Tails rest
 tails-item (bytes_item b) rest tails = tails
 tails-item (element_item tag kids) rest tails = tails.2
+tails-item (idle_item t) rest tails = tails-behind (idle_nodes t) rest tails
 
 pub tails-more : (nodes : List Node) (i : ℕ) (x : Node) → i < length nodes → x ≡ get_or nodes i x
     → HasUtf8Tails (nodes_of (drop i nodes)) → HasUtf8Tails (nodes_of (drop (i + 1) nodes))

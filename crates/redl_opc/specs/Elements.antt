@@ -1,6 +1,6 @@
 -- The elements among the nodes of a list.
 use Rattle.std.specs.Prelude.{List, [], ◌∷◌, Option, Some, None}
-use Rattle.redl_tree.specs.Model.Nodes.{Tag, Nodes, no_nodes, bytes, element, Item, bytes_item, element_item}
+use Rattle.redl_tree.specs.Model.Nodes.{Tag, Nodes, no_nodes, bytes, element, Item, bytes_item, element_item, idle_item}
 use Rattle.redl_tree.specs.Model.View.{tag_of, kids_of}
 use Rattle.redl_tree.specs.declared.node.Elem.{Elem}
 
@@ -15,6 +15,7 @@ abbrev pub element_in : Option Item → Option Element
 element_in None = None
 element_in (Some (bytes_item b)) = None
 element_in (Some (element_item tag kids)) = Some (record { tag = tag; kids = kids })
+element_in (Some (idle_item t)) = None
 
 -- the elements of a list of nodes, without those inside them
 abbrev pub elements_of : Nodes → List Element

@@ -12,16 +12,15 @@ ghost use Rattle.redl_opc.specs.Elements.{element_of};
 ghost use Rattle.redl_opc.specs.Shape.{refusal, IsCause, parts_of};
 ghost use Rattle.redl_opc.specs.Parts.{part_name, story, places_of};
 ghost use Rattle.redl_opc.specs.Inside.PartView.{part_view};
-ghost use Rattle.redl_opc.specs.Labels.{way_to_story, labelled_package, SetsLabels};
+ghost use Rattle.redl_opc.specs.Labels.{SetsLabels};
 ghost use Rattle.redl_tree.specs.Model.Tree.{HasUtf8Tails, IsTree};
 
-use crate::elements::{element_at, only_element};
+use crate::elements::element_at;
 use crate::error::OpcError;
-use crate::label::{first_place, label_at};
 use crate::listing::list_parts;
 use crate::part::Part;
 use crate::shape::{are_parts, have_document, package_of, story_of};
-use redl_tree::{Elem, Kind, Node, StoryChange, change_stories};
+use redl_tree::{Elem, Node, StoryChange, change_stories};
 use std::alloc::Global;
 use std::convert::Infallible;
 use std::marker::Model;
@@ -144,34 +143,6 @@ impl<'a> Package<'a> {
         let root = package_of(&self.nodes)?;
         let part = element_at(root.kids(), part.place)?;
         story_of(part)
-    }
-
-    /// The places on the way from the package's root to the root of a story.
-    fn way_to_story(&self, part: u32) -> Option<[usize; 3]>
-        ensures { Gives (λ way. way) result (way_to_story self.now part) }
-    {
-        let part = part_at(&self.parts, part)?;
-        let place = part.place;
-        let root = package_of(&self.nodes)?;
-        let part = element_at(root.kids(), place)?;
-        let held = only_element(part.kids())?;
-        story_of(part)?;
-        Some([place, first_place(part.kids()), first_place(held.kids())])
-    }
-
-    /// Labels one element of a story: sets its kind and the number of its revision. All else is unchanged.
-    ///
-    /// The path leads down from the root of the story: the empty path names the root, and each item is a place among kids.
-    /// If there is no such story or element, nothing is labelled. Each item of the path takes one more level of calls.
-    pub fn label(&mut self, part: u32, path: &[u32], kind: Kind, rev: u32)
-        ensures nodes { self.new ≡ labelled_package kind rev part path.now self.old }
-        ensures text { text self.new ≡ text self.old }
-    {
-        let Some(way) = self.way_to_story(part) else {
-            return;
-        };
-        let place = first_place(&self.nodes);
-        label_at(&mut self.nodes, place, &way, path, kind, rev);
     }
 
     /// Changes the labels in the stories, in their order, by a change that sets labels alone. All else is unchanged.

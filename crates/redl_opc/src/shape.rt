@@ -3,19 +3,28 @@
 ghost use Rattle.std.specs.Prelude.{◌≡◌};
 ghost use Rattle.std.specs.List.{list_all, list_any};
 ghost use Rattle.redl_reading.specs.Steps.{Gives};
-ghost use Rattle.redl_tree.specs.Model.View.{nodes_of};
-ghost use Rattle.redl_opc.specs.Elements.{element_of, elements_of};
-ghost use Rattle.redl_opc.specs.Shape.{is_data, is_part, story_of, is_document, package_of};
+ghost use Rattle.redl_tree.specs.Model.View.{nodes_of, kids_of};
+ghost use Rattle.redl_opc.specs.Elements.{element_of, elements_of, only_element};
+ghost use Rattle.redl_opc.specs.Shape.{is_data, is_data_alone, is_part, story_of, is_document, package_of};
 
-use crate::elements::only_element;
+use crate::elements::{has_one, only_element};
 use redl_stamp::has_attribute;
 use redl_tree::{Elem, Node, Word, is_named_pkg, is_story_root, is_word};
 
 fn is_data(elem: &Elem) -> bool
     ensures { result ≡ is_data (element_of elem.now) }
 {
-    is_named_pkg(elem, b"binaryData")
-        || is_named_pkg(elem, b"xmlData") && only_element(elem.kids()).is_some()
+    is_named_pkg(elem, b"binaryData") || is_named_pkg(elem, b"xmlData") && has_one(elem.kids())
+}
+
+// Whether the only element in an element is data.
+fn holds_data(elem: &Elem) -> bool
+    ensures { result ≡ is_data_alone (only_element (kids_of elem.now)) }
+{
+    match only_element(elem.kids()) {
+        Some(data) => is_data(data),
+        None => false,
+    }
 }
 
 /// Whether an element is a part, with a name, a content type and one element of data.
@@ -26,7 +35,7 @@ fn is_part(elem: &Elem) -> bool
     is_named_pkg(elem, b"part")
         && has_attribute(tail, b"name")
         && has_attribute(tail, b"contentType")
-        && only_element(elem.kids()).is_some_and(|data| is_data(data))
+        && holds_data(elem)
 }
 
 /// The root of a part's data, where that is one element and the root of a story: `None` says that the part is no story.
@@ -71,10 +80,14 @@ pub(crate) fn are_parts(nodes: &[Node]) -> bool
     ensures { result ≡ list_all is_part (elements_of (nodes_of nodes.now)) }
 {
     for node in nodes {
-        if let Node::Elem(part) = node {
-            if !is_part(part) {
-                return false;
+        match node {
+            Node::Elem(part) => {
+                if !is_part(part) {
+                    return false;
+                }
             }
+            Node::Plain(_) => return false,
+            Node::Bytes(_) => {}
         }
     }
     true
@@ -85,10 +98,14 @@ pub(crate) fn have_document(nodes: &[Node]) -> bool
     ensures { result ≡ list_any is_document (elements_of (nodes_of nodes.now)) }
 {
     for node in nodes {
-        if let Node::Elem(part) = node {
-            if is_document(part) {
-                return true;
+        match node {
+            Node::Elem(part) => {
+                if is_document(part) {
+                    return true;
+                }
             }
+            Node::Plain(_) => {}
+            Node::Bytes(_) => {}
         }
     }
     false

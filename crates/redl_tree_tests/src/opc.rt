@@ -2,7 +2,6 @@
 
 use crate::documents::read_package;
 use redl_opc::{OpcError, Package};
-use redl_tree::{Kind, Node, Trace};
 use std::alloc::{AllocError, Global};
 use std::test::Fail;
 
@@ -91,76 +90,5 @@ fn parts_have_names_and_stories(rt: HostRuntime) -> Result<(), Fail> {
     let sizes = (made.nodes().len(), made.parts());
     let named = first_is(&made, b"/a&b", b"document");
     assert!(rt; sizes == (2, 1) && named, "{sizes:?} {named}");
-    Ok(())
-}
-
-const LABELLED: Kind = Kind::Row(Trace::Ins);
-
-// Adds the places of the labelled elements in the order of all start tags, which count from 0, with their numbers.
-#[cycle(labelled)]
-fn add_labelled(
-    nodes: &[Node],
-    place: &mut usize,
-    labelled: &mut Vec<(usize, u32)>,
-) -> Result<(), AllocError> {
-    for node in nodes {
-        add_labelled_in(node, place, labelled)?;
-    }
-    Ok(())
-}
-
-#[cycle(labelled)]
-fn add_labelled_in(
-    node: &Node,
-    place: &mut usize,
-    labelled: &mut Vec<(usize, u32)>,
-) -> Result<(), AllocError> {
-    let Node::Elem(elem) = node else {
-        return Ok(());
-    };
-    if elem.kind() == LABELLED {
-        labelled.push((*place, elem.rev()))?;
-    }
-    *place = place.saturating_add(1);
-    add_labelled(elem.kids(), place, labelled)
-}
-
-fn labelled(alloc: Global, nodes: &[Node]) -> Result<Vec<(usize, u32)>, AllocError> {
-    let mut labelled = Vec::new(alloc);
-    let mut place = 0;
-    add_labelled(nodes, &mut place, &mut labelled)?;
-    Ok(labelled)
-}
-
-// Two stories, of which the second one's end tags have white space.
-const STORIES: &str =
-    "<pkg:part pkg:name='/a' pkg:contentType='x/y'><pkg:xmlData><w:document>\n<w:p>\n<w:r/></w:p></w:document></pkg:xmlData></pkg:part><pkg:part pkg:name='/b' pkg:contentType='x/y'><pkg:xmlData ><w:hdr>\n<w:p>\n<w:r/></w:p ></w:hdr ></pkg:xmlData ></pkg:part >";
-
-// Whether exactly these elements are labelled, with these numbers, once one element of a story is labelled.
-fn element_is_labelled(
-    alloc: Global,
-    part: u32,
-    path: &[u32],
-    want: &[(usize, u32)],
-) -> Result<bool, Fail> {
-    let text = text_of(alloc, "pkg:package", STORIES)?;
-    let mut made = read_package(alloc, &text)?;
-    made.label(part, path, LABELLED, 7);
-    Ok(labelled(alloc, made.nodes())?.as_slice() == want)
-}
-
-#[test]
-fn one_element_of_a_story_is_labelled(rt: HostRuntime) -> Result<(), Fail> {
-    for (part, path, want) in [
-        (0, [].as_slice(), [(3, 7)].as_slice()),
-        (1, [1, 1].as_slice(), [(10, 7)].as_slice()),
-        (0, [0].as_slice(), [].as_slice()),
-        (2, [].as_slice(), [].as_slice()),
-    ] {
-        assert!(rt;
-            element_is_labelled(rt.alloc(), part, path, want)?,
-            "{part} {path:?}"
-        );
-    }
     Ok(())
 }
