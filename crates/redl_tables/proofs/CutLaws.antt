@@ -4,12 +4,15 @@ use Rattle.std.proofs.Common.{◌≡◌, List, [], ◌∷◌, ◌++◌, Bool, tr
 use Rattle.std.proofs.Math.Bool.{or_assoc}
 use Rattle.std.specs.List.{list_all}
 use Rattle.redl_tree.proofs.Laws.{⊕_assoc}
-use Rattle.redl_tree.specs.Model.Nodes.{Nodes, no_nodes, bytes, element, Item, bytes_item, element_item, in_front, ◌⊕◌}
+use Rattle.redl_tree.proofs.Idle.Items.{nodes_are_idle}
+use Rattle.redl_tree.proofs.Idle.Lists.{NoneIs, name_none, some_past, kids_of_all_past, own_past}
+use Rattle.redl_tree.specs.Model.Nodes.{Nodes, no_nodes, bytes, element, Item, bytes_item, element_item, idle_item, in_front, ◌⊕◌}
+use Rattle.redl_tree.specs.Model.IdleTexts.{idle_nodes}
 use Rattle.redl_tree.specs.Roles.Names.{is}
 use Rattle.redl_tree.specs.Model.Kids.{kids_of_all}
 use Rattle.redl_tree.specs.Roles.Lists.{into, is_direct}
 use Rattle.redl_tree.specs.Decisions.Fates.{fate_of}
-use Rattle.redl_tree.specs.Roles.Kinds.{is_cut, is_mark}
+use Rattle.redl_tree.specs.Roles.Kinds.{is_cut, is_mark, is_row, is_cell}
 use Rattle.redl_tree.specs.Decisions.Tables.{own, has_cut, para_is_cut, all_of_some, cells_go, cell_is_cut}
 use Rattle.redl_tree.specs.declared.kinds.Say.{Say}
 use Rattle.redl_tree.specs.declared.kinds.Kind.{Kind}
@@ -17,7 +20,9 @@ use Rattle.redl_tree.specs.declared.lists.Reach.{Reach}
 use Rattle.redl_tree.specs.declared.lists.Reach.TheVariants.{Beyond}
 use Rattle.redl_tables.specs.Lines.{test_of, name_of, item_cuts, item_cuts_below, item_cuts_para, unit_name, unit_goes, and_then, found_of, is_gone, is_living, item_found}
 use Rattle.redl_tables.specs.declared.cuts.Line.{Line}
+use Rattle.redl_tables.specs.declared.cuts.Line.TheVariants.{Mark, Row, Cell}
 use Rattle.redl_tables.specs.declared.owned.Unit.{Unit as Own}
+use Rattle.redl_tables.specs.declared.owned.Unit.TheVariants as unit
 use Rattle.redl_tables.specs.declared.owned.Finding.{Finding}
 use Rattle.redl_tables.specs.declared.owned.Finding.TheVariants.{Nothing, Gone, Living}
 
@@ -38,10 +43,26 @@ kids_of_all-⊕ name (element tag kids rest) ys = at (is name tag) (kids_of_all-
     at true ih = ap (λ n. kids ⊕ n) ih ∙ sym (⊕_assoc kids (kids_of_all name rest) (kids_of_all name ys))
     at false ih = ih
 
+-- idle elements are no members, hold none, and are no rows or cells
+no_member : (line : Line) (says : List Say) → NoneIs false (λ tag. test_of line tag.kind && is_cut (fate_of says tag))
+no_member Mark says tag i = ap (λ k. is_mark k && is_cut (fate_of says tag)) i.kind
+no_member Row says tag i = ap (λ k. is_row k && is_cut (fate_of says tag)) i.kind
+no_member Cell says tag i = ap (λ k. is_cell k && is_cut (fate_of says tag)) i.kind
+
+no_holder : (line : Line) → NoneIs false (is (name_of line))
+no_holder Mark = name_none "rPr" false refl
+no_holder Row = name_none "trPr" false refl
+no_holder Cell = name_none "tcPr" false refl
+
+no_unit : (what : Own) (in_run : Bool) → NoneIs in_run (is (unit_name what))
+no_unit unit.Row in_run = name_none "tr" in_run refl
+no_unit unit.Cell in_run = name_none "tc" in_run refl
+
 pub cuts-in_front : (line : Line) (says : List Say) (x : Item) (ys : Nodes)
     → has_cut (test_of line) says (in_front x ys) ≡ (item_cuts line says x || has_cut (test_of line) says ys)
 cuts-in_front line says (bytes_item b) ys = refl
 cuts-in_front line says (element_item tag kids) ys = refl
+cuts-in_front line says (idle_item t) ys = some_past false _ (no_member line says) (idle_nodes t) ys (nodes_are_idle t)
 
 -- the kids of all elements with a name, with a test of nodes that goes through
 below : (test : Kind → Bool) (says : List Say) (b : Bool) (kids more : Nodes)
@@ -52,10 +73,14 @@ below test says false kids more = refl
 pub below-in_front : (line : Line) (says : List Say) (x : Item) (ys : Nodes)
     → has_cut (test_of line) says (kids_of_all (name_of line) (in_front x ys)) ≡ (item_cuts_below line says x || has_cut (test_of line) says (kids_of_all (name_of line) ys))
 below-in_front line says (bytes_item b) ys = refl
+below-in_front line says (idle_item t) ys =
+    ap (has_cut (test_of line) says) (kids_of_all_past false (name_of line) (no_holder line) (idle_nodes t) ys (nodes_are_idle t))
 below-in_front line says (element_item tag kids) ys = below (test_of line) says (is (name_of line) tag) kids (kids_of_all (name_of line) ys)
 
 pub para-in_front : (says : List Say) (x : Item) (ys : Nodes) → para_is_cut says (in_front x ys) ≡ (item_cuts_para says x || para_is_cut says ys)
 para-in_front says (bytes_item b) ys = refl
+para-in_front says (idle_item t) ys =
+    ap (λ (ns : Nodes). has_cut is_mark says (kids_of_all "rPr" ns)) (kids_of_all_past false "pPr" (name_none "pPr" false refl) (idle_nodes t) ys (nodes_are_idle t))
 para-in_front says (element_item tag kids) ys = at (is "pPr" tag)
   where
     more : Nodes
@@ -94,6 +119,8 @@ pub found-in_front : (what : Own) (says : List Say) (reach : Reach) (x : Item) (
     → found_of (unit_goes what says) (own (unit_name what) reach (in_front x ys))
     ≡ and_then (item_found what says reach x) (found_of (unit_goes what says) (own (unit_name what) reach ys))
 found-in_front what says reach (bytes_item b) ys = refl
+found-in_front what says reach (idle_item t) ys =
+    ap (found_of (unit_goes what says)) (own_past (unit_name what) (no_unit what) false reach (idle_nodes t) ys (nodes_are_idle t))
 found-in_front what says reach (element_item tag kids) ys = at (is_direct reach && is (unit_name what) tag)
   where
     test : Nodes → Bool

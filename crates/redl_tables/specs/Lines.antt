@@ -1,7 +1,7 @@
 -- What cuts a paragraph, a row or a cell, and what of the own rows or cells goes, a node at a time.
 use Prim.Native.String.{String}
 use Rattle.std.specs.Prelude.{List, [], ◌∷◌, Bool, true, false, ◌&&◌, if◌then◌else◌}
-use Rattle.redl_tree.specs.Model.Nodes.{Tag, Nodes, Item, bytes_item, element_item}
+use Rattle.redl_tree.specs.Model.Nodes.{Tag, Nodes, Item, bytes_item, element_item, idle_item}
 use Rattle.redl_tree.specs.Roles.Names.{is}
 use Rattle.redl_tree.specs.Model.Kids.{kids_of_all}
 use Rattle.redl_tree.specs.Roles.Lists.{into, is_direct}
@@ -32,16 +32,19 @@ name_of Cell = "tcPr"
 -- the node is such a member, and cut
 abbrev pub item_cuts : Line → List Say → Item → Bool
 item_cuts line says (bytes_item b) = false
+item_cuts line says (idle_item t) = false
 item_cuts line says (element_item tag kids) = test_of line tag.kind && is_cut (fate_of says tag)
 
 -- the node is properties that hold such a member
 abbrev pub item_cuts_below : Line → List Say → Item → Bool
 item_cuts_below line says (bytes_item b) = false
+item_cuts_below line says (idle_item t) = false
 item_cuts_below line says (element_item tag kids) = is (name_of line) tag && has_cut (test_of line) says kids
 
 -- the node is a paragraph's properties, with such a member in those of its mark
 abbrev pub item_cuts_para : List Say → Item → Bool
 item_cuts_para says (bytes_item b) = false
+item_cuts_para says (idle_item t) = false
 item_cuts_para says (element_item tag kids) = is "pPr" tag && has_cut is_mark says (kids_of_all "rPr" kids)
 
 -- ---- own rows and cells
@@ -90,4 +93,5 @@ elem_found what says reach tag kids =
 
 abbrev pub item_found : Own → List Say → Reach → Item → Finding
 item_found what says reach (bytes_item b) = Nothing
+item_found what says reach (idle_item t) = Nothing
 item_found what says reach (element_item tag kids) = elem_found what says reach tag kids

@@ -74,7 +74,7 @@ fn found_in(node: &Node, unit: Unit, reach: Reach, says: &[Say]) -> Finding
 {
     match node {
         Node::Elem(elem) => found_at(elem, unit, reach, says),
-        Node::Bytes(_) => Finding::Nothing,
+        Node::Bytes(_) | Node::Plain(_) => Finding::Nothing,
     }
 }
 
