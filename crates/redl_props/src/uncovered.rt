@@ -51,6 +51,7 @@ fn node_outlasts(node: &Node, what: Prop) -> bool
     match node {
         Node::Elem(elem) => outlasts(elem, what),
         Node::Bytes(_) => false,
+        Node::Plain(_) => false,
     }
 }
 

@@ -5,6 +5,7 @@ use Rattle.redl_tree.specs.Decisions.Restored.{outlasts as outlasts_tag}
 use Rattle.redl_tree.specs.Model.View.{nodes_of, item_of}
 use Rattle.redl_tree.proofs.Laws.{⊕-no_nodes, in_front-⊕, built_more, nodes_here, nodes_end, nodes_of-push}
 use Rattle.redl_tree.proofs.KeptLaws.{without_kept, without_left}
+use Rattle.redl_props.proofs.OutlastLaws.{none_outlasts}
 use Rattle.redl_props.proofs.uncovered.copied.Goals.{then-not-node_outlasts+in_ok-copy_node+in_ok-push, else-not-node_outlasts}
 use Rattle.redl_props.proofs.uncovered.copied.Goals as goal
 
@@ -18,9 +19,9 @@ loop-node-preserved c =
     elim c.if-not-node_outlasts.branch [
       | then-not-node_outlasts+in_ok-copy_node+in_ok-push w ↦ built_more built (in_front x no_nodes) _
           (ap (λ v. nodes_of v.items) w.copied-is ∙ ap nodes_of w.in_ok-push.ensures.items ∙ nodes_of-push _ _ ∙ ap (λ y. built ⊕ in_front y no_nodes) w.in_ok-copy_node.ensures)
-          (here ∙ without_kept test x _ (sym w.if-not-node_outlasts.ensures) ∙ sym (in_front-⊕ x no_nodes _)) c.loop-node.invariant
+          (here ∙ without_kept test (none_outlasts c.args.what) x _ (sym w.if-not-node_outlasts.ensures) ∙ sym (in_front-⊕ x no_nodes _)) c.loop-node.invariant
       | else-not-node_outlasts w ↦
-          ap (λ v. nodes_of v.items ⊕ rest) w.copied-is ∙ ap (λ ns. built ⊕ ns) (sym (here ∙ without_left test x _ (sym w.if-not-node_outlasts.ensures))) ∙ c.loop-node.invariant
+          ap (λ v. nodes_of v.items ⊕ rest) w.copied-is ∙ ap (λ ns. built ⊕ ns) (sym (here ∙ without_left test (none_outlasts c.args.what) x _ (sym w.if-not-node_outlasts.ensures))) ∙ c.loop-node.invariant
     ]
 
 pub returns : goal.returns

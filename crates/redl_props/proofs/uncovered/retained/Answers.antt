@@ -4,9 +4,10 @@ use Rattle.redl_tree.specs.Model.Kids.{item_is}
 use Rattle.redl_tree.specs.Decisions.Restored.{outlasts as outlasts_tag}
 use Rattle.redl_tree.specs.Model.View.{nodes_of, item_of}
 use Rattle.redl_tree.proofs.KeptLaws.{filter_only}
+use Rattle.redl_props.proofs.OutlastLaws.{none_outlasts}
 use Rattle.redl_props.proofs.uncovered.retained.Goals as goal
 
 pub returns : goal.returns
 returns c =
     ap nodes_of (filter_same _ (λ x. item_is (outlasts_tag c.args.what) (item_of x)) _ (λ x b f' k. search rules) _ _ c.retain.ensures.filtered)
-    ∙ filter_only (outlasts_tag c.args.what) c.args.current.items
+    ∙ filter_only (outlasts_tag c.args.what) (none_outlasts c.args.what) c.args.current.items

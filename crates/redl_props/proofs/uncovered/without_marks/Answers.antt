@@ -5,9 +5,10 @@ use Rattle.redl_tree.specs.Decisions.Restored.{outlasts as outlasts_tag}
 use Rattle.redl_tree.specs.Model.View.{nodes_of, item_of}
 use Rattle.redl_tree.specs.declared.kinds.Prop.TheVariants.{Run}
 use Rattle.redl_tree.proofs.KeptLaws.{filter_without}
+use Rattle.redl_props.proofs.OutlastLaws.{none_outlasts}
 use Rattle.redl_props.proofs.uncovered.without_marks.Goals as goal
 
 pub returns : goal.returns
 returns c =
     ap nodes_of (filter_same _ (λ x. not (item_is (outlasts_tag Run) (item_of x))) _ (λ x b f' k. search rules) _ _ c.retain.ensures.filtered)
-    ∙ filter_without (outlasts_tag Run) c.args.kids.items
+    ∙ filter_without (outlasts_tag Run) (none_outlasts Run) c.args.kids.items
