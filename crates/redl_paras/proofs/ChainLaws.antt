@@ -3,18 +3,14 @@ use Rattle.std.proofs.Common.{◌≡◌, ◌≤◌, Bool, true, false, List, [],
 use Rattle.redl_tree.proofs.Laws.{in_front-⊕}
 use Rattle.redl_tree.proofs.PassLaws.{without-⊕}
 use Rattle.redl_tree.specs.Decisions.Groups.{paragraph_next, has_thick, joins, given, held_by, grouped_from}
-use Rattle.redl_tree.specs.Model.Kids.{without, has_element, some_element, item_is}
-use Rattle.redl_tree.specs.Model.Nodes.{Tag, Nodes, no_nodes, bytes, element, Item, bytes_item, element_item, in_front, ◌⊕◌}
+use Rattle.redl_tree.specs.Model.Kids.{without, has_element, some_element}
+use Rattle.redl_tree.specs.Model.Nodes.{Tag, Nodes, no_nodes, bytes, element, Item, in_front, ◌⊕◌}
 use Rattle.redl_paras.specs.Pieces.{piece_of, pieces_of, is_cut, paras_of}
 use Rattle.redl_paras.specs.declared.piece.Piece.{Piece}
 use Rattle.redl_paras.specs.declared.piece.Piece.TheVariants.{Para, Thin}
 
 pub without-in_front : (test : Tag → Bool) (x : Item) (xs : Nodes) → without test (in_front x xs) ≡ without test (in_front x no_nodes) ⊕ without test xs
 without-in_front test x xs = ap (without test) (sym (in_front-⊕ x no_nodes xs)) ∙ without-⊕ test (in_front x no_nodes) xs
-
-pub some-in_front : (test : Tag → Bool) (x : Item) (xs : Nodes) → some_element test (in_front x xs) ≡ item_is test x || some_element test xs
-some-in_front test (bytes_item b) xs = refl
-some-in_front test (element_item tag kids) xs = refl
 
 pub some_besides : (test : Tag → Bool) (xs : Nodes) → has_element (without test xs) ≡ some_element (λ tag. not (test tag)) xs
 some_besides test no_nodes = refl

@@ -1,2 +1,3 @@
 pub mod ChainLaws
 pub mod EndLaws
+pub mod PropsLaws

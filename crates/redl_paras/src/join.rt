@@ -18,6 +18,7 @@ fn is_props(node: &Node) -> bool
     match node {
         Node::Elem(elem) => is_word(elem, Word::PPr),
         Node::Bytes(_) => false,
+        Node::Plain(_) => false,
     }
 }
 
@@ -133,6 +134,7 @@ fn is_held(node: &Node) -> bool
     match node {
         Node::Elem(elem) => !is_word(elem, Word::PPr),
         Node::Bytes(_) => false,
+        Node::Plain(_) => true,
     }
 }
 

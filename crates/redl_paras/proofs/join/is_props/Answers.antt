@@ -1,0 +1,11 @@
+use Rattle.std.proofs.Common.{sym, ap, ◌∙◌}
+use Rattle.redl_paras.proofs.PropsLaws.{idle_is_no_props}
+use Rattle.redl_tree.proofs.Laws.{item_of-Plain}
+use Rattle.redl_tree.specs.Model.Kids.{item_is}
+use Rattle.redl_tree.specs.Roles.Names.{is}
+use Rattle.redl_tree.specs.Model.View.{item_of}
+use Rattle.redl_paras.proofs.join.is_props.Goals as goal
+
+pub returns-in-Plain : goal.returns-in-Plain
+returns-in-Plain c =
+    sym (ap (λ x. item_is (is "pPr") (item_of x)) c.in-Plain.is ∙ ap (item_is (is "pPr")) (item_of-Plain _) ∙ idle_is_no_props _)
