@@ -1,4 +1,5 @@
 pub mod ChainLaws
+pub mod IdleLaws
 pub mod PassLaws
 pub mod KeepsLaws
 mod PackageRows

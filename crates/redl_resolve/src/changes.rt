@@ -50,7 +50,7 @@ fn rejected_node<'a>(
 {
     match node {
         Node::Elem(elem) => rejected_elem(alloc, elem, says),
-        Node::Bytes(_) => Ok(None),
+        Node::Bytes(_) | Node::Plain(_) => Ok(None),
     }
 }
 
@@ -103,7 +103,7 @@ fn copy_if_former<'a>(
             }
             Ok(None)
         }
-        Node::Bytes(_) => Ok(None),
+        Node::Bytes(_) | Node::Plain(_) => Ok(None),
     }
 }
 

@@ -31,7 +31,7 @@ fn stays(node: &Node, says: &[Say], round: Round) -> bool
 {
     match node {
         Node::Elem(elem) => elem_stays(elem, says, round),
-        Node::Bytes(_) => true,
+        Node::Bytes(_) | Node::Plain(_) => true,
     }
 }
 

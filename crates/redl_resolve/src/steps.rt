@@ -41,7 +41,14 @@ impl<L: Ledger> Steps<L> {
     pub fn tick(&mut self)
         ensures { self.new ≡ self.old + 1 }
     {
-        self.book.add(&mut self.share, 1);
+        self.tick_by(1);
+    }
+
+    /// Counts so many steps.
+    pub(crate) fn tick_by(&mut self, steps: u32)
+        ensures { self.new ≡ self.old + steps }
+    {
+        self.book.add(&mut self.share, steps as u64);
     }
 
     /// Counts one step for each of these nodes, at every depth.
@@ -58,10 +65,13 @@ impl<L: Ledger> Steps<L> {
     fn tick_node(&mut self, node: &Node)
         ensures { self.new ≡ self.old + item_count (item_of node.now) }
     {
-        self.tick();
         match node {
-            Node::Elem(elem) => self.tick_each(elem.kids()),
-            Node::Bytes(_) => {}
+            Node::Elem(elem) => {
+                self.tick();
+                self.tick_each(elem.kids());
+            }
+            Node::Bytes(_) => self.tick(),
+            Node::Plain(plain) => self.tick_by(plain.nodes()),
         }
     }
 }

@@ -89,8 +89,8 @@ impl<L: Ledger> StoryChange<Steps<L>> for Passing<'_> {
 
     ghost steps = { λ steps. steps };
 
-    fn meet(&self, steps: &mut Steps<L>) {
-        steps.tick();
+    fn meet(&self, steps: &mut Steps<L>, nodes: u32) {
+        steps.tick_by(nodes);
     }
 
     fn change(&self, root: &mut Elem, steps: &mut Steps<L>) -> Result<(), AllocError> {

@@ -3,7 +3,7 @@ use Rattle.std.specs.Prelude.{ℕ, List, Option, Some, None, Vec, ◌&&◌, not,
 use Rattle.std.specs.Global.{Global}
 use Rattle.redl_tree.specs.Decisions.Fates.{fate_of}
 use Rattle.redl_tree.specs.Roles.Kinds.{is_restore}
-use Rattle.redl_tree.specs.Model.Nodes.{Tag, Nodes, Item, bytes_item, element_item}
+use Rattle.redl_tree.specs.Model.Nodes.{Tag, Nodes, Item, bytes_item, element_item, idle_item}
 use Rattle.redl_tree.specs.Decisions.Restored.{Rejected, rejected_as, restored, outlasts}
 use Rattle.redl_tree.specs.Roles.Names.{is, named}
 use Rattle.redl_tree.specs.Model.Kids.{without}
@@ -24,6 +24,7 @@ elem_rejected says tag kids = rejected_as (is_restore (fate_of says tag)) tag.ki
 
 abbrev pub item_rejected : List Say → Item → Option Rejected
 item_rejected says (bytes_item b) = None
+item_rejected says (idle_item t) = None
 item_rejected says (element_item tag kids) = elem_rejected says tag kids
 
 -- copies of former kids, where there are some
@@ -34,6 +35,7 @@ copies_of (Some copies) = Some (nodes_of copies.items)
 -- the former kids that a node by itself holds
 abbrev pub item_former : List ℕ → Item → Option Nodes
 item_former name (bytes_item b) = None
+item_former name (idle_item t) = None
 item_former name (element_item tag kids) = if named name tag then Some kids else None
 
 -- the same as `after_change`, given a summary of the ancestors
