@@ -29,7 +29,7 @@ fn end_of_node(node: &Node, reach: Reach) -> Option<bool>
 {
     match node {
         Node::Elem(elem) => end_of_elem(elem, reach),
-        Node::Bytes(_) => None,
+        Node::Bytes(_) | Node::Plain(_) => None,
     }
 }
 
@@ -109,7 +109,7 @@ fn holds_cell(node: &Node, reach: Reach) -> bool
 {
     match node {
         Node::Elem(elem) => elem_holds_cell(elem, reach),
-        Node::Bytes(_) => false,
+        Node::Bytes(_) | Node::Plain(_) => false,
     }
 }
 

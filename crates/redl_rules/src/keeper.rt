@@ -14,7 +14,7 @@ use crate::round::Round;
 use crate::rules::{
     keeps_1, keeps_2, keeps_3, keeps_4, keeps_5, keeps_6, keeps_7, keeps_8, keeps_9,
 };
-use redl_tree::{Around, Elem, Kind};
+use redl_tree::{Around, Elem, Kind, Plain};
 use redl_visit::{Ancestors, Visitor};
 use std::marker::PhantomData;
 
@@ -87,6 +87,11 @@ impl<'a, X> Visitor<Elem<'a>, Ancestors> for Keeper<X> {
     fn leave(&mut self, _elem: &Elem<'a>, _here: &Ancestors, _below: &Round) -> Result<(), X> {
         Ok(())
     }
+
+    // All rules hold of idle elements.
+    #[inline(always)]
+    #[tactic(auto, using(crate::proofs::PassLaws::passed))]
+    fn pass(&mut self, _plain: &Plain<'a>, _here: &Ancestors, _own: &Round) {}
 }
 
 // The `Around` of the kids of an element, whether or not an element is among them.

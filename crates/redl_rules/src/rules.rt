@@ -1,12 +1,13 @@
 //! The rules, of one element by itself. `kind` is its role, `here` sums up its ancestors, and `inner` those of its kids.
 
-ghost use Rattle.std.specs.Prelude.{◌≡◌, ◌∷◌, ◌&&◌, not, []};
+ghost use Rattle.std.specs.Prelude.{◌≡◌, ◌∷◌, ◌&&◌, not, [], false};
 ghost use Rattle.redl_tree.specs.Roles.Names.{is, is_any};
 ghost use Rattle.redl_tree.specs.Model.Kids.{some_element};
 ghost use Rattle.redl_tree.specs.Roles.Kinds.{is_content};
 ghost use Rattle.redl_tree.specs.Roles.Lists.{is_thick};
 ghost use Rattle.redl_tree.specs.Roles.Places.{props_name as props_name_of};
-ghost use Rattle.redl_tree.specs.Roles.Words.{name_of};
+ghost use Rattle.redl_tree.specs.Roles.Idle.{is_idle_number};
+ghost use Rattle.redl_tree.specs.Roles.Words.{name_of, number};
 ghost use Rattle.redl_tree.specs.Rules.Tests.{implies, once, each_once, only_first, only_last};
 ghost use Rattle.redl_tree.specs.Rules.Sound.{is_banned as is_banned_tag, is_banned_below_change as is_banned_below_change_tag, former_declares, change_declares as change_declares_by};
 ghost use Rattle.redl_tree.specs.Model.View.{tag_of, kids_of, nodes_of};
@@ -242,7 +243,8 @@ fn change_declares(kind: Kind, kids: &[Node]) -> bool
 
 // The name of the properties that a change is of.
 fn props_word(prop: Prop) -> Word
-    ensures { name_of result ≡ props_name_of prop }
+    ensures name { name_of result ≡ props_name_of prop }
+    ensures asked { is_idle_number false (number result) ≡ false }
 {
     match prop {
         Prop::Run => Word::RPr,
@@ -257,13 +259,18 @@ fn props_word(prop: Prop) -> Word
 
 // Whether the first element with this name declares a namespace.
 fn former_declares_names(word: Word, kids: &[Node]) -> bool
+    requires asked { is_idle_number false (number word) ≡ false }
     ensures { result ≡ former_declares declares (name_of word) (nodes_of kids.now) }
 {
     for node in kids {
-        if let Node::Elem(elem) = node {
-            if is_word(elem, word) {
-                return declares_names(elem.tail());
+        match node {
+            Node::Elem(elem) => {
+                if is_word(elem, word) {
+                    return declares_names(elem.tail());
+                }
             }
+            Node::Bytes(_) => {}
+            Node::Plain(_) => {}
         }
     }
     false
