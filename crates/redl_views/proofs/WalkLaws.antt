@@ -2,12 +2,12 @@
 use Rattle.std.proofs.Common.{◌≡◌, ℕ, ◌-◌, arith, length, take, drop, List, [], ◌∷◌, ◌++◌, Bool, true, false, ◌&&◌, ◌||◌, not, Option, Some, None, option_map, refl, sym, ap, ◌∙◌, true≢false, codes, if◌then◌else◌}
 use Rattle.std.proofs.lemmas.Bool.{and_parts}
 use Rattle.std.proofs.lemmas.List.{take_all, length-drop}
-use Rattle.redl_tree.specs.Model.Nodes.{Tag, Nodes, no_nodes, bytes, element, Item, bytes_item, element_item, in_front}
+use Rattle.redl_tree.specs.Model.Nodes.{Tag, Nodes, no_nodes, bytes, element, Item, bytes_item, element_item, idle_item, in_front}
 use Rattle.redl_tree.specs.Model.Kids.{some_element}
 use Rattle.redl_tree.specs.Roles.Names.{is}
 use Rattle.redl_tree.specs.Roles.Places.{is_quiet, is_open}
 use Rattle.redl_tree.specs.Roles.Kinds.{is_content, is_free, is_leave}
-use Rattle.redl_tree.specs.Roles.Lists.{place, inside, is_block_list, is_thick}
+use Rattle.redl_tree.specs.Roles.Lists.{inside, is_block_list, is_thick}
 use Rattle.redl_tree.specs.Decisions.Fates.{fate_of, live_name, is_revived}
 use Rattle.redl_tree.specs.Decisions.Tables.{goes_at, para_is_cut}
 use Rattle.redl_tree.specs.Decisions.Pass.{is_block_para as block_para}
@@ -27,7 +27,8 @@ use Rattle.redl_shown.specs.Shown.{shown}
 use Rattle.redl_views.specs.Ends.{by_fate_of, gives_one, gives_element, paragraph_follows, has_taken}
 use Rattle.redl_views.specs.Ends as ends
 use Rattle.redl_views.specs.Views.{is_freed, in_shown, element_view, view_in}
-use Rattle.redl_views.specs.Walks.{summary_of, inside_of, is_cut_para, or_next, next_of, is_paragraph, is_lost, one_gives, gives, taken_after, loses_end, is_walked, elem_view, view, item_view, item_gives, item_taken}
+use Rattle.redl_views.specs.Walks.{summary_of, inside_of, is_cut_para, or_next, next_of, is_paragraph, is_lost, one_gives, gives, taken_after, loses_end, is_walked, elem_view, view, item_next, item_view, item_gives, item_taken}
+use Rattle.redl_views.proofs.IdleLaws.{view_idle, gives_idle, next_idle}
 use Rattle.redl_views.proofs.ViewLaws.{alike, freed_content, content_loud, p_thick}
 
 or_none : (b : Bool) → (b || false) ≡ b
@@ -270,10 +271,17 @@ pub view-in_front : (says : List Say) (above : Summary) (taken : Option Bool) (x
     view says above taken (in_front x rest) ≡ item_view says above taken x rest ++ view says above (item_taken says above taken x rest) rest
 view-in_front says above taken (bytes_item b) rest = refl
 view-in_front says above taken (element_item tag kids) rest = refl
+view-in_front says above taken (idle_item t) rest = view_idle says above taken t rest
 
 pub gives-in_front : (says : List Say) (above : Summary) (x : Item) (rest : Nodes) → gives says above (in_front x rest) ≡ (item_gives says above x || gives says above rest)
 gives-in_front says above (bytes_item b) rest = refl
 gives-in_front says above (element_item tag kids) rest = refl
+gives-in_front says above (idle_item t) rest = gives_idle says above t rest
+
+pub next-in_front : (says : List Say) (above : Summary) (x : Item) (rest : Nodes) → next_of says above (in_front x rest) ≡ or_next (item_next says above x) (next_of says above rest)
+next-in_front says above (bytes_item b) rest = refl
+next-in_front says above (element_item tag kids) rest = refl
+next-in_front says above (idle_item t) rest = next_idle says above t rest
 
 or_assoc : (a b c : Bool) → ((a || b) || c) ≡ (a || (b || c))
 or_assoc true b c = refl

@@ -1,4 +1,5 @@
 pub mod PlainText
+pub mod Idle
 pub mod Ends
 pub mod Views
 pub mod Walks

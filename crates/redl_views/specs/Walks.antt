@@ -2,7 +2,8 @@
 use Rattle.std.specs.Prelude.{ℕ, List, [], ◌∷◌, ◌++◌, Bool, true, false, ◌&&◌, ◌||◌, not, Option, Some, None, if◌then◌else◌}
 use Rattle.std.specs.List.{flat_map}
 use Rattle.std.specs.Option.{option_map}
-use Rattle.redl_tree.specs.Model.Nodes.{Tag, Nodes, no_nodes, bytes, element, Item, bytes_item, element_item}
+use Rattle.redl_tree.specs.Model.Nodes.{Tag, Nodes, no_nodes, bytes, element, Item, bytes_item, element_item, idle_item}
+use Rattle.redl_tree.specs.Model.IdleTexts.{idle_nodes}
 use Rattle.redl_tree.specs.Model.View.{Parts}
 use Rattle.redl_tree.specs.Roles.Names.{is}
 use Rattle.redl_tree.specs.Roles.Places.{is_quiet}
@@ -19,6 +20,7 @@ use Rattle.redl_views.specs.PlainText.{start_shown, end_shown}
 use Rattle.redl_shown.specs.Shown.{shown}
 use Rattle.redl_views.specs.Ends.{by_fate_of, has_taken}
 use Rattle.redl_views.specs.Views.{is_freed, in_shown}
+use Rattle.redl_views.specs.Idle.{idle_shown}
 use Rattle.redl_views.specs.declared.summary.Summary.{Summary}
 use Rattle.redl_views.specs.declared.next.Next.{Next}
 use Rattle.redl_views.specs.declared.next.Next.TheVariants.{Nothing, Paragraph, Other}
@@ -52,6 +54,7 @@ elem_next says above tag = if is_block_para says above.ancestors.place tag then 
 abbrev pub item_next : List Say → Summary → Item → Next
 item_next says above (bytes_item b) = Nothing
 item_next says above (element_item tag kids) = elem_next says above tag
+item_next says above (idle_item t) = Nothing
 
 -- the first one of these, or else the other
 abbrev pub or_next : Next → Next → Next
@@ -125,17 +128,20 @@ item_view says above taken (bytes_item b) rest = if above.shown then shown b els
 item_view says above taken (element_item tag kids) rest =
     elem_view says above tag kids (view says (inside_of says tag above) None kids)
     (loses_end says above taken tag kids rest (gives says (inside_of says tag above) kids))
+item_view says above taken (idle_item t) rest = idle_shown above.shown (idle_nodes t)
 
 -- whether it gives an element
 abbrev pub item_gives : List Say → Summary → Item → Bool
 item_gives says above (bytes_item b) = false
 item_gives says above (element_item tag kids) = one_gives says above tag kids (gives says (inside_of says tag above) kids)
+item_gives says above (idle_item t) = true
 
 -- what the next paragraph takes up after it
 abbrev pub item_taken : List Say → Summary → Option Bool → Item → Nodes → Option Bool
 item_taken says above taken (bytes_item b) rest = taken
 item_taken says above taken (element_item tag kids) rest =
     taken_after says above taken tag kids rest (gives says (inside_of says tag above) kids)
+item_taken says above taken (idle_item t) rest = option_map (λ b. b || true) taken
 
 -- a story, where it is the main one
 abbrev pub story_walk : List Say → Parts → List ℕ

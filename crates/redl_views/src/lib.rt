@@ -4,6 +4,7 @@
 //! the original: it makes no tree and takes no memory. How a program shows a text is left to its reader.
 #![tactic(auto)]
 
+mod idle;
 mod next;
 mod package;
 mod summary;

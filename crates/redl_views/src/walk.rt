@@ -8,17 +8,20 @@ ghost use Rattle.std.specs.Option.{option_map};
 ghost use Rattle.redl_views.specs.Ends.{has_taken as has_taken_by};
 ghost use Rattle.redl_views.specs.Views.{is_freed as is_freed_by};
 ghost use Rattle.redl_io.specs.Sink.{Puts};
+ghost use Rattle.redl_tree.specs.Model.IdleTexts.{idle_nodes};
 ghost use Rattle.redl_tree.specs.Model.View.{nodes_of, item_of, tag_of, kids_of};
+ghost use Rattle.redl_views.specs.Idle.{idle_shown};
 ghost use Rattle.redl_views.specs.PlainText.{start_shown as start_shown_by, end_shown as end_shown_by};
 ghost use Rattle.redl_shown.specs.Shown.{shown};
 ghost use Rattle.redl_views.specs.Walks.{view, gives, item_view, item_gives, item_taken, elem_view, inside_of, one_gives as one_gives_by, taken_after as taken_after_by, loses_end as loses_end_by, is_lost as is_lost_by, is_walked as is_walked_by};
 
+use crate::idle::put_idle;
 use crate::next::{Next, next_of};
 use crate::summary::{Summary, inside, is_cut_para};
 use redl_io::{Failed, Sink, put_piece};
 use redl_shown::put_shown;
 use redl_tables::{fate_of, goes_at};
-use redl_tree::{Elem, Fate, Node, Say, Word, is_named, is_quiet, is_thick, is_word};
+use redl_tree::{Elem, Fate, Node, Plain, Say, Word, is_named, is_quiet, is_thick, is_word};
 
 /// What the walk of a node tells the list: whether it gives an element, and what the next paragraph takes up.
 #[derive(Clone, Copy)]
@@ -72,7 +75,25 @@ fn view_node<K: Sink>(
     match node {
         Node::Elem(elem) => view_elem(elem, rest, says, above, taken, out),
         Node::Bytes(text) => view_bytes(text, above, taken, out),
+        Node::Plain(plain) => view_plain(plain, above, taken, out),
     }
+}
+
+fn view_plain<K: Sink>(
+    plain: &Plain<'_>,
+    above: Summary,
+    taken: Option<bool>,
+    out: &mut K,
+) -> Result<Step, Failed>
+    ensures puts { Puts K.told K.faults K.settled K.lenders out.old out.new (idle_shown above.shown (idle_nodes plain.now)) result }
+    ensures gives { IfOk result (λ step. step.gives ≡ true) }
+    ensures taken { IfOk result (λ step. step.taken ≡ option_map (λ b. b || true) taken) }
+{
+    put_idle(plain, above.shown, out)?;
+    Ok(Step {
+        gives: true,
+        taken: or_taken(taken, true),
+    })
 }
 
 fn view_bytes<K: Sink>(
