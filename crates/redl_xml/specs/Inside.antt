@@ -3,3 +3,4 @@ pub mod Buildings
 pub mod Documents
 pub mod Sizes
 pub mod Elements
+pub mod Passing

@@ -156,7 +156,7 @@ fn are_known<'a>(scopes: &Spaces<'a>, tail: &'a [u8]) -> bool
 /// The space of an element, if its prefix may be used.
 #[inline(always)]
 #[tactic(auto, unfolding(crate::specs::Scopes::is_known, crate::specs::Inside::Elements::known))]
-fn element_space<'a>(scopes: &mut Spaces<'a>, name: Name<'a>) -> Option<Space>
+pub(crate) fn element_space<'a>(scopes: &mut Spaces<'a>, name: Name<'a>) -> Option<Space>
     ensures space { Gives (λ space. (space, scopes.old)) result (known (name_view name.entry) [] scopes.old) }
     ensures same { scopes.new ≡ scopes.old }
 {
@@ -185,7 +185,7 @@ fn known_space<'a>(scopes: &mut Spaces<'a>, name: Name<'a>, tail: &'a [u8]) -> O
 
 /// Whether no attribute with one of these names is a declaration, and the prefix of each may be used.
 #[inline(always)]
-fn are_plain<'a>(scopes: &Spaces<'a>, own: &'a [u8], names: &[Name<'a>]) -> bool
+pub(crate) fn are_plain<'a>(scopes: &Spaces<'a>, own: &'a [u8], names: &[Name<'a>]) -> bool
     requires { is_element_prefix scopes.now own.now ≡ true }
     ensures { result ≡ list_all (is_plain_name scopes.now) (map name_view names.now) }
 {

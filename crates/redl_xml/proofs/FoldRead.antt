@@ -1,0 +1,56 @@
+-- The loop that reads an element, over a text that was passed over: its nodes are added, and its sizes.
+use Rattle.std.proofs.Common.{◌≡◌, ◌≢◌, ◌≤◌, ◌+◌, ℕ, max, List, [], ◌∷◌, ◌++◌, length, refl, ap, subst, ◌∙◌, arith}
+use Rattle.redl_tree.specs.Model.Nodes.{Nodes, ◌⊕◌}
+use Rattle.redl_tree.specs.Model.Count.{count}
+use Rattle.redl_tree.specs.declared.kinds.Space.{Space}
+use Rattle.redl_xml.specs.declared.sizes.Limits.{Limits}
+use Rattle.redl_xml.specs.declared.sizes.Sizes.{Sizes}
+use Rattle.redl_xml.specs.Shapes.{depth_of}
+use Rattle.redl_xml.specs.Scopes.{Scope}
+use Rattle.redl_xml.specs.Inside.Elements.{Frame, State, added}
+use Rattle.redl_xml.specs.Inside.Sizes.{capped}
+use Rattle.redl_tree.specs.Model.Folds.{nodes_in, Reads}
+use Rattle.redl_tree.specs.Model.Laid.{Fits}
+use Rattle.redl_xml.specs.Inside.Passing.{ArePlainIn}
+use Rattle.redl_xml.proofs.Bare.{open_alike}
+use Rattle.redl_xml.proofs.Buildings.{state}
+use Rattle.redl_xml.proofs.Loops.{Loop}
+use Rattle.redl_xml.proofs.Measures.{Measures, depth-⊕, count-⊕}
+use Rattle.redl_xml.proofs.Progress.{IsRead}
+use Rattle.redl_xml.proofs.FoldTurns.{loop_passes}
+
+-- the sizes with these nodes in the innermost element
+pub record AddsNodes (limit : ℕ) (u : Nodes) (depth : ℕ) (old new : Sizes) : Type 0 where
+  pub deepest : new.deepest ≡ max old.deepest (depth + depth_of u)
+  pub nodes : new.nodes ≡ capped limit (old.nodes + count u)
+
+measures_nodes : (limit : ℕ) (u : Nodes) (s : State) (old new : Sizes) → Measures limit s old → AddsNodes limit u (length s.open_elements) old new → Measures limit (added s u) new
+measures_nodes limit u s old new m a = record {
+  deepest = omega (arith, a.deepest, m.deepest, depth-⊕ s.kids u);
+  nodes = omega (arith, a.nodes, m.nodes, count-⊕ s.kids u);
+}
+
+passes_in : (bs : List ℕ) (s : State) (space : Space) (t rest : List ℕ) → (length s.open_elements ≢ 0) → Reads space t → ArePlainIn s.scope space (nodes_in space t) → Fits (nodes_in space t) rest → Loop (t ++ rest, s) bs → Loop (rest, added s (nodes_in space t)) bs
+passes_in bs s space t rest some r h fits g = by_frames s.open_elements some g where
+  by_frames : (fs : List Frame) → (length fs ≢ 0) → Loop (t ++ rest, state fs s.kids s.scope) bs → Loop (rest, state fs (s.kids ⊕ nodes_in space t) s.scope) bs
+  by_frames [] some g = absurd (some refl)
+  by_frames (f ∷ fs) some g = loop_passes bs s.scope space t rest f fs s.kids r h fits g
+
+pub reading_passes : (limits : Limits) (space : Space) (t rest : List ℕ) (s : State) (old new : Sizes) (bs : List ℕ) → IsRead limits (t ++ rest) s old bs → (length s.open_elements ≢ 0) → Reads space t → ArePlainIn s.scope space (nodes_in space t) → Fits (nodes_in space t) rest
+    → AddsNodes limits.nodes (nodes_in space t) (length s.open_elements) old new → IsRead limits rest (added s (nodes_in space t)) new bs
+reading_passes limits space t rest s old new bs g some r h fits a =
+    let u = nodes_in space t in
+    let open_same = open_alike s g.whole g.alike in
+    let scope_same : s.scope ≡ g.whole.scope = ap (λ (x : State). x.scope) g.alike in
+    let P : Scope → Type 0 = λ sc. ArePlainIn sc space u in
+    let Q : ℕ → Type 0 = λ n. AddsNodes limits.nodes u n old new in
+    record {
+      whole = added g.whole u;
+      reads = passes_in bs g.whole space t rest (λ e. some (open_same ∙ e)) r (subst P scope_same h) fits g.reads;
+      measures = measures_nodes limits.nodes u g.whole old new g.measures (subst Q open_same a);
+      alike = g.alike;
+      kept = λ deep few.
+          let shallow : old.deepest ≤ limits.depth = omega (arith, deep, a.deepest) in
+          let fewer : old.nodes ≤ limits.nodes = omega (arith, few, a.nodes, g.measures.nodes) in
+          ap (λ (x : State). added x u) (g.kept shallow fewer);
+    }

@@ -1,0 +1,99 @@
+-- Passing over a text of one space: what is known of what was passed over, with the names of the open elements alone.
+use Rattle.std.specs.Prelude.{◌≡◌, ℕ, Bool, true, false, ◌&&◌, codes, bytes_eq, List, [], ◌∷◌, ◌++◌, map, reverse, Option, Some, None, if◌then◌else◌}
+use Rattle.std.specs.List.{list_all}
+use Rattle.redl_tree.specs.Model.Nodes.{Tag, Nodes, no_nodes, bytes, element, Close}
+use Rattle.redl_tree.specs.Model.Count.{count}
+use Rattle.redl_tree.specs.Model.Elements.{elements}
+use Rattle.redl_tree.specs.declared.kinds.Space.{Space}
+use Rattle.redl_markup.specs.Names.{Name, name_eq}
+use Rattle.redl_markup.specs.declared.name.Name as code
+use Rattle.redl_markup.specs.Views.{name_view}
+use Rattle.redl_markup.specs.Attributes.{names_in}
+use Rattle.redl_markup.specs.Pieces.{Piece, start_tag, empty_tag, end_tag, stretch}
+use Rattle.redl_xml.specs.Shapes.{depth_of}
+use Rattle.redl_xml.specs.Scopes.{Scope, space_of, is_element_prefix, is_plain_name}
+use Rattle.redl_tree.specs.Model.Laid.{Fits}
+use Rattle.redl_tree.specs.Model.Folds.{plain_tag, nodes_at, nodes_in}
+use Rattle.redl_tree.specs.Roles.Names.{is_w}
+use Rattle.redl_tree.specs.Roles.Idle.{is_idle_tag, AllTags}
+use Rattle.redl_tree.specs.declared.kinds.Space.TheVariants.{W}
+
+-- something holds of an element with this start tag, however it is closed
+abbrev pub HoldsOf : (Bool → Tag → Type 0) → Bool → Space → Name → List ℕ → Type 0
+HoldsOf T in_run space name tail = (close : Close) → T in_run (plain_tag name space tail close)
+
+abbrev pub HoldsIn : (Bool → Tag → Type 0) → Bool → Space → Piece → Type 0
+HoldsIn T in_run space (start_tag name tail) = HoldsOf T in_run space name tail
+HoldsIn T in_run space (empty_tag name tail) = HoldsOf T in_run space name tail
+HoldsIn T in_run space (end_tag name white) = Unit {0}
+HoldsIn T in_run space (stretch b) = Unit {0}
+
+-- In this scope the tag has this space, and it declares nothing.
+pub record IsPlainIn (scope : Scope) (space : Space) (tag : Tag) : Type 0 where
+  pub prefix : is_element_prefix scope tag.prefix ≡ true
+  pub bound : space_of scope tag.prefix ≡ space
+  pub names : list_all (is_plain_name scope) (names_in tag.tail) ≡ true
+
+-- so do the tags of all these elements
+abbrev pub ArePlainIn : Scope → Space → Nodes → Type 0
+ArePlainIn scope space no_nodes = Unit {0}
+ArePlainIn scope space (bytes b rest) = ArePlainIn scope space rest
+ArePlainIn scope space (element tag kids rest) = IsPlainIn scope space tag × ArePlainIn scope space kids × ArePlainIn scope space rest
+
+-- It does so, and the element is idle.
+pub record IsIdleIn (scope : Scope) (in_run : Bool) (tag : Tag) : Type 0 where
+  pub plain : IsPlainIn scope W tag
+  pub idle : is_idle_tag in_run tag ≡ true
+
+-- the nodes that begin with a piece
+abbrev pub piece_count : Piece → ℕ
+piece_count (start_tag name tail) = 1
+piece_count (empty_tag name tail) = 1
+piece_count (stretch b) = 1
+piece_count (end_tag name white) = 0
+
+-- the elements that begin with a piece
+abbrev pub piece_elements : Piece → ℕ
+piece_elements (start_tag name tail) = 1
+piece_elements (empty_tag name tail) = 1
+piece_elements (stretch b) = 0
+piece_elements (end_tag name white) = 0
+
+-- the innermost of these open elements is a run
+abbrev pub is_run_open : Space → List Name → Bool
+is_run_open space [] = false
+is_run_open space (name ∷ names) = is_w space && bytes_eq name.local (codes "r")
+
+abbrev pub shut_name : List Name → Name → Option (List Name)
+shut_name [] name = None
+shut_name (n ∷ ns) name = if name_eq n name then Some ns else None
+
+-- one more piece, of the names of the open elements alone
+abbrev pub put_name : Piece → List Name → Option (List Name)
+put_name (start_tag name tail) ns = Some (name ∷ ns)
+put_name (empty_tag name tail) ns = Some ns
+put_name (stretch b) ns = Some ns
+put_name (end_tag name white) ns = shut_name ns name
+
+-- names with the innermost last, as the code has them
+abbrev pub names_view : List code.Name → List Name
+names_view ns = map name_view (reverse ns)
+
+-- What was passed over is a text of nodes with these tags, of this many nodes and elements and this deep, and its last stretch
+-- is as long as it can be.
+pub record IsPassed (T : Bool → Tag → Type 0) (space : Space) (bs rest : List ℕ) (nodes elems deepest : ℕ) : Type 0 where
+  pub front : List ℕ
+  pub made : Nodes
+  pub whole : bs ≡ front ++ rest
+  pub reads : nodes_at space front ≡ Some made
+  pub all_tags : AllTags T false made
+  pub fits : Fits made rest
+  pub counted : count made ≡ nodes
+  pub among : elements made ≡ elems
+  pub deep : depth_of made ≡ deepest
+
+-- The bytes begin with this text of idle elements, which are of W in this scope, and declare nothing; the rest follows it.
+pub record IsIdleText (scope : Scope) (bs t rest : List ℕ) : Type 0 where
+  pub whole : bs ≡ t ++ rest
+  pub all_plain : ArePlainIn scope W (nodes_in W t)
+  pub fits : Fits (nodes_in W t) rest
