@@ -1,17 +1,18 @@
 -- The loop that reads an element, over a text that was passed over: its nodes are added, and its sizes.
-use Rattle.std.proofs.Common.{◌≡◌, ◌≢◌, ◌≤◌, ◌+◌, ℕ, max, List, [], ◌∷◌, ◌++◌, length, refl, ap, subst, ◌∙◌, arith}
+use Rattle.std.proofs.Common.{◌≡◌, ◌≢◌, ◌≤◌, ◌+◌, ℕ, max, List, [], ◌∷◌, ◌++◌, length, refl, sym, ap, subst, ◌∙◌, arith}
 use Rattle.redl_tree.specs.Model.Nodes.{Nodes, ◌⊕◌}
 use Rattle.redl_tree.specs.Model.Count.{count}
 use Rattle.redl_tree.specs.declared.kinds.Space.{Space}
+use Rattle.redl_tree.specs.declared.kinds.Space.TheVariants.{W}
 use Rattle.redl_xml.specs.declared.sizes.Limits.{Limits}
 use Rattle.redl_xml.specs.declared.sizes.Sizes.{Sizes}
 use Rattle.redl_xml.specs.Shapes.{depth_of}
 use Rattle.redl_xml.specs.Scopes.{Scope}
-use Rattle.redl_xml.specs.Inside.Elements.{Frame, State, added}
+use Rattle.redl_xml.specs.Inside.Elements.{Frame, State, added, without_nodes}
 use Rattle.redl_xml.specs.Inside.Sizes.{capped}
 use Rattle.redl_tree.specs.Model.Folds.{nodes_in, Reads}
 use Rattle.redl_tree.specs.Model.Laid.{Fits}
-use Rattle.redl_xml.specs.Inside.Passing.{ArePlainIn}
+use Rattle.redl_xml.specs.Inside.Passing.{ArePlainIn, AddsText}
 use Rattle.redl_xml.proofs.Bare.{open_alike}
 use Rattle.redl_xml.proofs.Buildings.{state}
 use Rattle.redl_xml.proofs.Loops.{Loop}
@@ -54,3 +55,26 @@ reading_passes limits space t rest s old new bs g some r h fits a =
           let fewer : old.nodes ≤ limits.nodes = omega (arith, few, a.nodes, g.measures.nodes) in
           ap (λ (x : State). added x u) (g.kept shallow fewer);
     }
+
+-- the same, given what passing over tells
+pub reading_adds : (limits : Limits) (bs rest behind : List ℕ) (s s' : State) (nodes deepest depth : ℕ) (old new : Sizes) → IsRead limits rest s old bs → AddsText s s' rest behind nodes deepest → depth ≡ length s.open_elements → new.deepest ≡ max old.deepest (depth + deepest) → new.nodes ≡ capped limits.nodes (old.nodes + nodes)
+    → IsRead limits behind s' new bs
+reading_adds limits bs rest behind s s' nodes deepest depth old new g a d deep many =
+    let P : List ℕ → Type 0 = λ t. IsRead limits t s old bs in
+    let Q : State → Type 0 = λ x. IsRead limits behind x new bs in
+    let u = nodes_in W a.text in
+    let adds : AddsNodes limits.nodes u (length s.open_elements) old new = record {
+      deepest = deep ∙ ap (λ (n : ℕ). max old.deepest (n + deepest)) d ∙ ap (λ (n : ℕ). max old.deepest (length s.open_elements + n)) (sym a.is.deep);
+      nodes = many ∙ ap (λ (n : ℕ). capped limits.nodes (old.nodes + n)) (sym a.is.counted);
+    } in
+    subst Q (sym a.added) (reading_passes limits W a.text behind s old new bs (subst P a.is.whole g) a.below a.is.reads a.is.all_plain a.is.fits adds)
+
+-- what is read stays so where the code keeps less of it past the limits
+pub reading_keeps : (limits : Limits) (rest : List ℕ) (s s' : State) (sizes : Sizes) (bs : List ℕ) → IsRead limits rest s sizes bs → without_nodes s' ≡ without_nodes s → (sizes.deepest ≤ limits.depth → sizes.nodes ≤ limits.nodes → s' ≡ s) → IsRead limits rest s' sizes bs
+reading_keeps limits rest s s' sizes bs g alike kept = record {
+  whole = g.whole;
+  reads = g.reads;
+  measures = g.measures;
+  alike = alike ∙ g.alike;
+  kept = λ deep few. kept deep few ∙ g.kept deep few;
+}

@@ -1,7 +1,7 @@
 -- What was passed over, as the slice that it is: its nodes are idle, and of this number.
-use Rattle.std.proofs.Common.{◌≡◌, ◌≢◌, ◌-◌, ℕ, Bool, true, false, List, ◌++◌, take, length, Option, Some, sym, ap, subst, ◌∙◌, arith, length-append}
+use Rattle.std.proofs.Common.{◌≡◌, ◌≢◌, ◌≤◌, ◌<◌, ◌-◌, refl, [], ◌∷◌, ℕ, Bool, true, false, List, ◌++◌, take, length, Some, sym, ap, subst, ◌∙◌, arith, length-append}
 use Rattle.std.proofs.Math.Seq.{take-append_seam}
-use Rattle.redl_tree.specs.Model.Nodes.{Tag, Nodes, no_nodes, bytes, element}
+use Rattle.redl_tree.specs.Model.Nodes.{Nodes, no_nodes, bytes, element}
 use Rattle.redl_tree.specs.Model.Count.{count}
 use Rattle.redl_tree.specs.Model.Folds.{nodes_in, Reads}
 use Rattle.redl_tree.specs.Roles.Idle.{is_idle, AllTags}
@@ -12,6 +12,7 @@ use Rattle.redl_tree.specs.declared.kinds.Space.TheVariants.{W}
 use Rattle.redl_tree.specs.Roles.Names.{is}
 use Rattle.redl_tree.proofs.Idle.Texts.{each_is_idle, all_mapped}
 use Rattle.redl_tree.proofs.Idle.Items.{idle_text}
+use Rattle.redl_tree.proofs.FrontLaws.{nothing_in}
 use Rattle.redl_markup.specs.References.{is_there}
 use Rattle.redl_reading.specs.Steps.{or_same}
 use Rattle.redl_xml.specs.Shapes.{depth_of}
@@ -34,7 +35,9 @@ pub record IsIdlePart (scope : Scope) (bs t rest : List ℕ) (nodes elems deepes
   pub counted : count (nodes_in W t) ≡ nodes
   pub among : elements (nodes_in W t) ≡ elems
   pub deep : depth_of (nodes_in W t) ≡ deepest
-  pub is_text : IsIdleText scope bs t rest
+  pub whole : bs ≡ t ++ rest
+  pub all_plain : ArePlainIn scope W (nodes_in W t)
+  pub fits : Fits (nodes_in W t) rest
 
 part_of : (scope : Scope) (bs rest : List ℕ) (nodes elems deepest : ℕ) (g : IsPassed (IsIdleIn scope) W bs rest nodes elems deepest) → IsIdlePart scope bs g.front rest nodes elems deepest
 part_of scope bs rest nodes elems deepest g =
@@ -48,7 +51,9 @@ part_of scope bs rest nodes elems deepest g =
       counted = ap count (sym made) ∙ g.counted;
       among = ap elements (sym made) ∙ g.among;
       deep = ap depth_of (sym made) ∙ g.deep;
-      is_text = record { whole = g.whole; all_plain = plain_in scope false (nodes_in W g.front) all; fits = subst Q made g.fits };
+      whole = g.whole;
+      all_plain = plain_in scope false (nodes_in W g.front) all;
+      fits = subst Q made g.fits;
     }
 
 front_is : (bs front rest : List ℕ) → bs ≡ front ++ rest → take (length bs - length rest) bs ≡ front
@@ -72,6 +77,35 @@ plain_part scope bs rest nodes elems deepest g some =
     let part = slice_is scope bs rest nodes elems deepest g in
     let text = idle_text (take (length bs - length rest) bs) part.reads part.idle (λ none. some (sym part.among ∙ none)) in
     record { idle = text.is; counted = ap count text.nodes ∙ part.counted; among = ap elements text.nodes ∙ part.among }
+
+-- nodes go no deeper than they are many
+depth_few : (u : Nodes) → depth_of u ≤ count u
+depth_few no_nodes = omega arith
+depth_few (bytes b rest) = omega (arith, depth_few rest)
+depth_few (element tag kids rest) = omega (arith, depth_few kids, depth_few rest)
+
+-- a text with an element has some bytes
+some_bytes : (t : List ℕ) → (elements (nodes_in W t) ≢ 0) → 0 < length t
+some_bytes [] some = absurd (some (ap elements (nothing_in [] refl)))
+some_bytes (b ∷ bs) some = omega arith
+
+pub idle_text_there : (scope : Scope) (bs rest : List ℕ) (nodes elems deepest : ℕ) → IsPassed (IsIdleIn scope) W bs rest nodes elems deepest → elems ≢ 0 → nodes < 4294967296 → IsIdleText scope bs (take (length bs - length rest) bs) rest nodes deepest
+idle_text_there scope bs rest nodes elems deepest g some small =
+    let t : List ℕ = take (length bs - length rest) bs in
+    let part = slice_is scope bs rest nodes elems deepest g in
+    let there : elements (nodes_in W t) ≢ 0 = λ none. some (sym part.among ∙ none) in
+    let text = idle_text t part.reads part.idle there in
+    record {
+      whole = part.whole;
+      reads = part.reads;
+      kept = text.nodes;
+      all_plain = part.all_plain;
+      fits = part.fits;
+      counted = part.counted;
+      deep = part.deep;
+      shallow = omega (arith, small, part.counted, part.deep, depth_few (nodes_in W t));
+      shorter = omega (arith, ap length part.whole, length-append t rest, some_bytes t there);
+    }
 
 -- what the calls of a turn tell
 pub idle_turn : (scope now : Scope) (in_run : Bool) (rest behind : List ℕ) (ns ns' : List code.Name) (p : Piece) → now ≡ scope → in_run ≡ is_run_open W (names_view ns) → piece_at InElement rest ≡ Some (p, behind) → put_name p (names_view ns) ≡ Some (names_view ns') → HoldsIn (IsIdleIn now) in_run W p

@@ -1,6 +1,6 @@
 //! The open elements, and the nodes in them so far.
 
-ghost use Rattle.std.specs.Prelude.{◌≡◌, ◌≤◌, OnOk, IsErrOf, Some, None};
+ghost use Rattle.std.specs.Prelude.{◌≡◌, ◌≤◌, OnOk, IfOk, IfSome, IsNone, IsErrOf, Some, None};
 ghost use Rattle.redl_tree.specs.Model.Nodes.{no_nodes, in_front, ◌⊕◌};
 ghost use Rattle.redl_tree.specs.Model.View.{item_of, nodes_of};
 ghost use Rattle.redl_markup.specs.Views.{name_view};
@@ -8,7 +8,9 @@ ghost use Rattle.redl_markup.specs.PieceViews.{piece_view};
 ghost use Rattle.redl_markup.specs.Pieces.{start_tag, empty_tag, end_tag, stretch};
 ghost use Rattle.redl_xml.specs.Inside.Elements.{placed, nothing_yet, without_nodes};
 ghost use Rattle.redl_xml.specs.Inside.Buildings.{frame_view, building_view};
+ghost use Rattle.redl_xml.specs.Inside.Passing.{AddsText};
 
+use crate::idle::{Idle, skip_plain};
 use crate::namespaces::enter;
 use crate::open_element::OpenElement;
 use crate::sizes::{Limits, Sizes};
@@ -18,6 +20,9 @@ use redl_markup::{MarkupError, Name, Piece, StartTag};
 use redl_tree::{Elem, Node};
 use std::alloc::{AllocError, Global};
 use std::mem;
+
+// A package, a part, its data, and the root in that.
+const UPPER_LEVELS: usize = 4;
 
 /// The open elements with the nodes before each of them, the innermost last, the nodes so far in that one, and the
 /// declarations in its scope. Where nodes were dropped, the outer elements have no list of those before them.
@@ -148,6 +153,29 @@ impl<'a> Building<'a> {
             Piece::Stretch(bytes) => self.stretch(bytes),
             Piece::End(name, space) => self.end(alloc, name, space),
         }
+    }
+
+    /// Passes over the node with which the bytes begin, where no walk finds anything in it, and adds it as its text. `None` says
+    /// nothing of the bytes. Where a try failed, none begins before the place where that one ended.
+    ///
+    /// The upper levels of a package are kept as elements, since they are looked at by their places.
+    pub(crate) fn pass_over(
+        &mut self,
+        alloc: Global,
+        tried: &mut usize,
+        bytes: &'a [u8],
+    ) -> Result<Option<Idle<'a>>, AllocError>
+        ensures passed { IfOk result (λ o. IfSome o (λ idle. AddsText (building_view self.old) (building_view self.new) bytes.entry.now idle.rest.now idle.nodes idle.deepest)) }
+        ensures none { IfOk result (λ o. IsNone o → building_view self.new ≡ building_view self.old) }
+    {
+        if self.open.len() < UPPER_LEVELS || bytes.len() > *tried {
+            return Ok(None);
+        }
+        let Some((plain, idle)) = skip_plain(alloc, &mut self.scopes, tried, bytes)? else {
+            return Ok(None);
+        };
+        push_node(&mut self.kids, Node::Plain(plain))?;
+        Ok(Some(idle))
     }
 
     /// Drops the nodes so far if the sizes are past a limit.

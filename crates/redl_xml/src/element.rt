@@ -39,7 +39,14 @@ pub(crate) fn read_element(
     };
     let mut rest = bytes;
     let mut list = Vec::new(alloc);
+    let mut tried = bytes.len();
     loop {
+        if let Some(idle) = building.pass_over(alloc, &mut tried, rest)? {
+            sizes.add_nodes(limits.nodes, idle.nodes, building.open.len(), idle.deepest);
+            building.keep_within(limits, sizes);
+            rest = idle.rest;
+            continue;
+        }
         let (piece, behind) = next_piece(alloc, &mut list, rest, Place::InElement)?;
         sizes.add_piece(limits.nodes, &piece, building.open.len() + 1);
         building.place(alloc, &mut list, piece)?;

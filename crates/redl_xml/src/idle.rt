@@ -120,13 +120,14 @@ fn give_back<'a>(list: &mut Vec<Name<'a>>, piece: Piece<'a>) {
     }
 }
 
-/// Passes over the node with which the bytes begin, if all elements in it are idle. `None` says nothing of the bytes, and
-/// `Err` means out of memory.
+/// Passes over the node with which the bytes begin, if all elements in it are idle. `None` says nothing of the bytes, but
+/// `tried` is then how many are left where it gave up. `Err` means out of memory.
 pub(crate) fn skip_idle<'a>(
     alloc: Global,
     scopes: &mut Spaces<'a>,
+    tried: &mut usize,
     bytes: &'a [u8],
-) -> Result<Option<Idle<'a>>, MarkupError>
+) -> Result<Option<Idle<'a>>, AllocError>
     ensures passed { IfOk result (λ o. IfSome o (λ idle. IsPassed (IsIdleIn scopes.old) W bytes.entry.now idle.rest.now idle.nodes idle.elems idle.deepest)) }
     ensures same { scopes.new ≡ scopes.old }
 {
@@ -139,14 +140,19 @@ pub(crate) fn skip_idle<'a>(
     loop {
         let (piece, behind) = match next_piece(alloc, &mut list, rest, Place::InElement) {
             Ok(found) => found,
-            Err(MarkupError::NoMemory) => return Err(MarkupError::NoMemory),
-            Err(MarkupError::Unreadable) => return Ok(None),
+            Err(MarkupError::NoMemory) => return Err(AllocError),
+            Err(MarkupError::Unreadable) => {
+                *tried = rest.len();
+                return Ok(None);
+            }
         };
         if !may_pass(scopes, is_run_open(&names), &piece) {
+            *tried = rest.len();
             return Ok(None);
         }
         deepest = deepest_of_piece(&piece, names.len() + 1, deepest);
         if !take_name(&mut names, &piece)? {
+            *tried = rest.len();
             return Ok(None);
         }
         nodes += nodes_of_piece(&piece);
@@ -164,16 +170,17 @@ pub(crate) fn skip_idle<'a>(
     }
 }
 
-/// The same as what a list of nodes keeps of it, and the bytes after it. `None` also where it holds no element, or is too long.
+/// The same as what a list of nodes keeps of it. `None` also where it holds no element, or is too long.
 pub(crate) fn skip_plain<'a>(
     alloc: Global,
     scopes: &mut Spaces<'a>,
+    tried: &mut usize,
     bytes: &'a [u8],
-) -> Result<Option<(Plain<'a>, &'a [u8])>, MarkupError>
-    ensures text { IfOk result (λ o. IfSome o (λ x. IsIdleText scopes.old bytes.entry.now x.0 x.1.now)) }
+) -> Result<Option<(Plain<'a>, Idle<'a>)>, AllocError>
+    ensures text { IfOk result (λ o. IfSome o (λ x. IsIdleText scopes.old bytes.entry.now x.0 x.1.rest.now x.1.nodes x.1.deepest)) }
     ensures same { scopes.new ≡ scopes.old }
 {
-    let Some(idle) = skip_idle(alloc, scopes, bytes)? else {
+    let Some(idle) = skip_idle(alloc, scopes, tried, bytes)? else {
         return Ok(None);
     };
     let Ok(nodes) = u32::try_from(idle.nodes) else {
@@ -189,5 +196,5 @@ pub(crate) fn skip_plain<'a>(
     if u32::try_from(text.len()).is_err() {
         return Ok(None);
     }
-    Ok(Some((Plain::new(text, nodes, elems), idle.rest)))
+    Ok(Some((Plain::new(text, nodes, elems), idle)))
 }

@@ -1,8 +1,8 @@
 //! How deep an element goes and how many nodes it has, so far.
 
-ghost use Rattle.std.specs.Prelude.{◌≡◌, ◌≤◌, ◌↔◌, max, true};
+ghost use Rattle.std.specs.Prelude.{◌≡◌, ◌≤◌, ◌<◌, ◌+◌, ◌^◌, ◌↔◌, max, true};
 ghost use Rattle.redl_markup.specs.PieceViews.{piece_view};
-ghost use Rattle.redl_xml.specs.Inside.Sizes.{one_more, deepest_with, nodes_with};
+ghost use Rattle.redl_xml.specs.Inside.Sizes.{capped, one_more, deepest_with, nodes_with};
 
 use redl_markup::Piece;
 
@@ -47,6 +47,19 @@ impl Sizes {
     {
         self.deepest = self.deepest.max(depth);
         self.nodes = one_more(limit, self.nodes);
+    }
+
+    /// Adds nodes in an element at this depth. The deepest element among them is so deep there.
+    pub(crate) fn add_nodes(&mut self, limit: u32, nodes: usize, depth: usize, deepest: usize)
+        requires { depth + deepest < 2 ^ 64 }
+        ensures deepest { self.new.deepest ≡ max self.old.deepest (depth + deepest) }
+        ensures nodes { self.new.nodes ≡ capped limit (self.old.nodes + nodes) }
+    {
+        self.deepest = self.deepest.max(depth + deepest);
+        self.nodes = self
+            .nodes
+            .saturating_add(nodes as u64)
+            .min(u64::from(limit) + 1);
     }
 
     /// Adds a piece. An element that begins with it is at this depth.

@@ -1,5 +1,5 @@
 -- Passing over a text of one space: what is known of what was passed over, with the names of the open elements alone.
-use Rattle.std.specs.Prelude.{◌≡◌, ℕ, Bool, true, false, ◌&&◌, codes, bytes_eq, List, [], ◌∷◌, ◌++◌, map, reverse, Option, Some, None, if◌then◌else◌}
+use Rattle.std.specs.Prelude.{◌≡◌, ◌≢◌, ◌<◌, length, ℕ, Bool, true, false, ◌&&◌, codes, bytes_eq, List, [], ◌∷◌, ◌++◌, map, reverse, Option, Some, None, if◌then◌else◌}
 use Rattle.std.specs.List.{list_all}
 use Rattle.redl_tree.specs.Model.Nodes.{Tag, Nodes, no_nodes, bytes, element, Close}
 use Rattle.redl_tree.specs.Model.Count.{count}
@@ -13,7 +13,9 @@ use Rattle.redl_markup.specs.Pieces.{Piece, start_tag, empty_tag, end_tag, stret
 use Rattle.redl_xml.specs.Shapes.{depth_of}
 use Rattle.redl_xml.specs.Scopes.{Scope, space_of, is_element_prefix, is_plain_name}
 use Rattle.redl_tree.specs.Model.Laid.{Fits}
-use Rattle.redl_tree.specs.Model.Folds.{plain_tag, nodes_at, nodes_in}
+use Rattle.redl_tree.specs.Model.IdleTexts.{idle_nodes}
+use Rattle.redl_tree.specs.Model.Folds.{plain_tag, nodes_at, nodes_in, Reads}
+use Rattle.redl_xml.specs.Inside.Elements.{State, added}
 use Rattle.redl_tree.specs.Roles.Names.{is_w}
 use Rattle.redl_tree.specs.Roles.Idle.{is_idle_tag, AllTags}
 use Rattle.redl_tree.specs.declared.kinds.Space.TheVariants.{W}
@@ -92,8 +94,22 @@ pub record IsPassed (T : Bool → Tag → Type 0) (space : Space) (bs rest : Lis
   pub among : elements made ≡ elems
   pub deep : depth_of made ≡ deepest
 
--- The bytes begin with this text of idle elements, which are of W in this scope, and declare nothing; the rest follows it.
-pub record IsIdleText (scope : Scope) (bs t rest : List ℕ) : Type 0 where
+-- The bytes begin with this text of idle elements, which are of W in this scope, and declare nothing; the rest follows it. It has so
+-- many nodes, and is so deep.
+pub record IsIdleText (scope : Scope) (bs t rest : List ℕ) (nodes deepest : ℕ) : Type 0 where
   pub whole : bs ≡ t ++ rest
+  pub reads : Reads W t
+  pub kept : idle_nodes t ≡ nodes_in W t
   pub all_plain : ArePlainIn scope W (nodes_in W t)
   pub fits : Fits (nodes_in W t) rest
+  pub counted : count (nodes_in W t) ≡ nodes
+  pub deep : depth_of (nodes_in W t) ≡ deepest
+  pub shallow : deepest < 4294967296
+  pub shorter : length rest < length bs
+
+-- Such a text was passed over in an open element, and its nodes were added to what was read.
+pub record AddsText (s s' : State) (bs rest : List ℕ) (nodes deepest : ℕ) : Type 0 where
+  pub text : List ℕ
+  pub is : IsIdleText s.scope bs text rest nodes deepest
+  pub below : length s.open_elements ≢ 0
+  pub added : s' ≡ added s (nodes_in W text)

@@ -1,7 +1,7 @@
-use Rattle.std.proofs.Common.{◌≡◌, ◌≢◌, arith}
+use Rattle.std.proofs.Common.{◌≢◌, arith}
 use Rattle.redl_tree.specs.declared.kinds.Space.TheVariants.{W}
 use Rattle.redl_xml.specs.Inside.Passing.{IsIdleIn, IsPassed}
-use Rattle.redl_xml.proofs.IdleParts.{slice_is, plain_part}
+use Rattle.redl_xml.proofs.IdleParts.{plain_part, idle_text_there}
 use Rattle.redl_xml.proofs.idle.skip_plain.Goals as goal
 
 pub new-requires-clause-idle : goal.new-requires-clause-idle
@@ -29,4 +29,5 @@ pub returns-clause-text : goal.returns-clause-text
 returns-clause-text c =
     let idle = c.in-Some.idle in
     let passed : IsPassed (IsIdleIn c.args.scopes.now) W c.args.bytes.now idle.rest.now idle.nodes idle.elems idle.deepest = rw c.in-Some.is at c.in_ok-idle.ensures.passed in
-    rw c.new.ensures (slice_is c.args.scopes.now c.args.bytes.now idle.rest.now idle.nodes idle.elems idle.deepest passed).is_text
+    let some : idle.elems ≢ 0 = grind arith in
+    rw c.new.ensures (idle_text_there c.args.scopes.now c.args.bytes.now idle.rest.now idle.nodes idle.elems idle.deepest passed some (omega (arith, c.in-Ok.ensures)))
