@@ -1,7 +1,9 @@
 -- The loop that passes over a text of one space: what holds after each piece, and what is known where no element is open.
-use Rattle.std.proofs.Common.{◌≡◌, ◌≢◌, ◌≤◌, ◌+◌, ℕ, Bool, max, List, [], ◌∷◌, ◌++◌, length, reverse, map, suc, Option, Some, None, slice_get, ◌-◌, refl, sym, ap, subst, ◌∙◌, arith}
+use Rattle.std.proofs.Common.{◌≡◌, ◌≢◌, ◌≤◌, ◌+◌, ℕ, Bool, true, false, max, List, [], ◌∷◌, ◌++◌, length, reverse, map, suc, Option, Some, None, slice_get, ◌-◌, refl, sym, ap, subst, ◌∙◌, arith}
 use Rattle.std.proofs.lemmas.List.{length-map, length-reverse, reverse-append}
 use Rattle.redl_markup.specs.Views.{name_view}
+use Rattle.std.specs.Prelude.{◌==◌, IfSome, if◌then◌else◌}
+use Rattle.std.proofs.lemmas.Bool.{eqb-true}
 use Rattle.std.proofs.lemmas.Option.{same_Some, cond_some}
 use Rattle.redl_tree.specs.Model.Nodes.{Tag, Nodes, no_nodes, bytes, element, ◌⊕◌}
 use Rattle.redl_tree.specs.Model.Nodes.{Empty, End}
@@ -310,3 +312,10 @@ run_by_last space [] last e = ap (run_of space) e
 run_by_last space (n ∷ ns) last e =
     let same : length ns ≡ length (n ∷ ns) - 1 = omega arith in
     sym (run_view space (reverse (n ∷ ns)) ∙ ap (run_of space) (first_reversed n ns ∙ ap (slice_get (n ∷ ns)) same ∙ sym e))
+
+-- what holds of this one where there is none, and of the one before
+pub last_holds : {A : Type 0} (P : A → Type 0) (n : ℕ) (this : A) (before : Option A) → (n ≡ 0 → P this) → IfSome before P → IfSome (if n == 0 then Some this else before) P
+last_holds {A} P n this before here earlier = by (n == 0) refl where
+  by : (b : Bool) → (n == 0) ≡ b → IfSome (if b then Some this else before) P
+  by true e = here (eqb-true n 0 e)
+  by false e = earlier

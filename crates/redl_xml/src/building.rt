@@ -46,6 +46,12 @@ pub(crate) fn push_node<'a>(nodes: &mut Vec<Node<'a>>, node: Node<'a>) -> Result
     Ok(())
 }
 
+/// Whether the bytes begin as those of an element do.
+#[inline(always)]
+fn begins_element(bytes: &[u8]) -> bool {
+    bytes.starts_with(b"<") && !bytes.starts_with(b"</")
+}
+
 #[inline(always)]
 fn name_of<'a>(opened: &OpenElement<'a>) -> Name<'a>
     ensures { name_view result ≡ (frame_view opened.now no_nodes).name }
@@ -155,8 +161,8 @@ impl<'a> Building<'a> {
         }
     }
 
-    /// Passes over the node with which the bytes begin, where no walk finds anything in it, and adds it as its text. `None` says
-    /// nothing of the bytes. Where a try failed, none begins before the place where that one ended.
+    /// Passes over the nodes with which the bytes begin, as long as no walk finds anything in them, and adds them as one text.
+    /// `None` says nothing of the bytes. Where a try failed, none begins before the place where that one ended.
     ///
     /// The upper levels of a package are kept as elements, since they are looked at by their places.
     pub(crate) fn pass_over(
@@ -168,7 +174,7 @@ impl<'a> Building<'a> {
         ensures passed { IfOk result (λ o. IfSome o (λ idle. AddsText (building_view self.old) (building_view self.new) bytes.entry.now idle.rest.now idle.nodes idle.deepest)) }
         ensures none { IfOk result (λ o. IsNone o → building_view self.new ≡ building_view self.old) }
     {
-        if self.open.len() < UPPER_LEVELS || bytes.len() > *tried {
+        if self.open.len() < UPPER_LEVELS || bytes.len() > *tried || !begins_element(bytes) {
             return Ok(None);
         }
         let Some((plain, idle)) = skip_plain(alloc, &mut self.scopes, tried, bytes)? else {

@@ -1,6 +1,8 @@
 //! Elements that are passed over as they stand.
 
-ghost use Rattle.std.specs.Prelude.{◌≡◌, true, false, IfOk, IfSome, Some};
+ghost use Rattle.std.specs.Prelude.{◌≡◌, ◌==◌, length, true, false, IfOk, IfSome, Some, if◌then◌else◌};
+ghost use Rattle.redl_markup.specs.declared.place.Place.TheVariants.{InElement};
+ghost use Rattle.redl_markup.specs.ScanPieces.{piece_at};
 ghost use Rattle.redl_tree.specs.declared.kinds.Space.TheVariants.{W};
 ghost use Rattle.redl_tree.specs.Model.Folds.{nodes_in};
 ghost use Rattle.redl_markup.specs.PieceViews.{piece_view};
@@ -120,7 +122,29 @@ fn give_back<'a>(list: &mut Vec<Name<'a>>, piece: Piece<'a>) {
     }
 }
 
-/// Passes over the node with which the bytes begin, if all elements in it are idle. `None` says nothing of the bytes, but
+/// The piece with which the bytes begin, if there is one, and the bytes after it. `Err` means out of memory.
+fn some_piece<'a>(
+    alloc: Global,
+    list: &mut Vec<Name<'a>>,
+    bytes: &'a [u8],
+) -> Result<Option<(Piece<'a>, &'a [u8])>, AllocError>
+    ensures { IfOk result (λ o. IfSome o (λ x. piece_at InElement bytes.entry.now ≡ Some (piece_view x.0, x.1.now))) }
+{
+    match next_piece(alloc, list, bytes, Place::InElement) {
+        Ok(found) => Ok(Some(found)),
+        Err(MarkupError::NoMemory) => Err(AllocError),
+        Err(MarkupError::Unreadable) => Ok(None),
+    }
+}
+
+/// What was passed over when no element was open last: all, if none is now, else what was so before.
+fn last_whole<'a>(names: &[Name<'_>], all: Idle<'a>, before: Option<Idle<'a>>) -> Option<Idle<'a>>
+    ensures { result ≡ (if length names.now == 0 then Some all.entry else before.entry) }
+{
+    if names.is_empty() { Some(all) } else { before }
+}
+
+/// Passes over the nodes with which the bytes begin, as long as all elements in them are idle. `None` says nothing of the bytes.
 /// `tried` is then how many are left where it gave up. `Err` means out of memory.
 pub(crate) fn skip_idle<'a>(
     alloc: Global,
@@ -132,40 +156,33 @@ pub(crate) fn skip_idle<'a>(
     ensures same { scopes.new ≡ scopes.old }
 {
     let mut names: Vec<Name<'a>> = Vec::new(alloc);
-    let mut nodes: usize = 0;
-    let mut elems: usize = 0;
-    let mut deepest: usize = 0;
-    let mut rest = bytes;
     let mut list: Vec<Name<'a>> = Vec::new(alloc);
+    let mut now = Idle {
+        rest: bytes,
+        nodes: 0,
+        elems: 0,
+        deepest: 0,
+    };
+    let mut whole: Option<Idle<'a>> = None;
     loop {
-        let (piece, behind) = match next_piece(alloc, &mut list, rest, Place::InElement) {
-            Ok(found) => found,
-            Err(MarkupError::NoMemory) => return Err(AllocError),
-            Err(MarkupError::Unreadable) => {
-                *tried = rest.len();
-                return Ok(None);
-            }
+        *tried = now.rest.len();
+        let Some((piece, behind)) = some_piece(alloc, &mut list, now.rest)? else {
+            return Ok(whole);
         };
         if !may_pass(scopes, is_run_open(&names), &piece) {
-            *tried = rest.len();
-            return Ok(None);
+            return Ok(whole);
         }
-        deepest = deepest_of_piece(&piece, names.len() + 1, deepest);
+        let depth = names.len() + 1;
         if !take_name(&mut names, &piece)? {
-            *tried = rest.len();
-            return Ok(None);
+            return Ok(whole);
         }
-        nodes += nodes_of_piece(&piece);
-        elems += elems_of_piece(&piece);
-        rest = behind;
-        if names.is_empty() {
-            return Ok(Some(Idle {
-                rest,
-                nodes,
-                elems,
-                deepest,
-            }));
-        }
+        now = Idle {
+            rest: behind,
+            nodes: now.nodes + nodes_of_piece(&piece),
+            elems: now.elems + elems_of_piece(&piece),
+            deepest: deepest_of_piece(&piece, depth, now.deepest),
+        };
+        whole = last_whole(&names, now, whole);
         give_back(&mut list, piece);
     }
 }
