@@ -1,10 +1,12 @@
 pub mod EveryLaws
+pub mod PassLaws
 pub mod MarkerLaws
 pub mod StoryLaws
 pub mod TallyLaws
 pub mod IndexLaws
 pub mod KindLaws
 pub mod SightLaws
+pub mod IdleLaws
 pub mod SeekerLaws
 pub mod LabelLaws
 pub mod NumberingLaws

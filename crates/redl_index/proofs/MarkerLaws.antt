@@ -6,3 +6,4 @@ pub mod Counts
 pub mod Free
 pub mod Tails
 pub mod Finder
+pub mod Passing

@@ -6,3 +6,4 @@ pub mod Tallies
 pub mod Sights
 pub mod Seeking
 pub mod Numberers
+pub mod IdleSights

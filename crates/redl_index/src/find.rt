@@ -15,7 +15,7 @@ use crate::known::Known;
 use crate::story::{Sight, Story};
 use crate::walk::Walk;
 use redl_opc::Package;
-use redl_tree::{Around, Elem};
+use redl_tree::{Around, Elem, Plain};
 use redl_visit::{Visitor, visit_kids};
 use std::alloc::{AllocError, Global};
 
@@ -119,5 +119,10 @@ impl<'e, 's, 'a> Visitor<Elem<'e>, Around> for Seeker<'s, 'a> {
     fn leave(&mut self, _elem: &Elem<'e>, _here: &Around, _below: &u64) -> Result<(), AllocError> {
         self.walk.leave();
         Ok(())
+    }
+
+    #[inline(always)]
+    fn pass(&mut self, plain: &Plain<'e>, _here: &Around, _para_end: &u64) {
+        self.walk.pass(plain.elems());
     }
 }

@@ -17,7 +17,7 @@ use crate::story::Sight;
 use crate::walk::Walk;
 use redl_moves::Moves;
 use redl_opc::Package;
-use redl_tree::{Around, Elem, StoryChange};
+use redl_tree::{Around, Elem, Plain, StoryChange};
 use redl_visit::{Label, Labeller, label_kids};
 use std::convert::Infallible;
 use std::mem;
@@ -70,7 +70,7 @@ impl StoryChange<Unlabelled<'_>> for Labelling {
 
     ghost steps = { λ _. 0 };
 
-    fn meet(&self, _left: &mut Unlabelled<'_>) {}
+    fn meet(&self, _left: &mut Unlabelled<'_>, _nodes: u32) {}
 
     fn change(&self, root: &mut Elem, left: &mut Unlabelled<'_>) -> Result<(), Infallible> {
         let place = left.place;
@@ -114,6 +114,7 @@ impl<'s> Labeller for Numberer<'s> {
     type Own = u64;
 
     ghost use Rattle.redl_index.specs.Inside.Numberers.{NumbererState, numberer_state, numberer_rule, numberer_needs};
+    ghost use Rattle.redl_index.specs.Inside.IdleSights.{leaves-idle};
 
     ghost State = { NumbererState };
 
@@ -122,6 +123,8 @@ impl<'s> Labeller for Numberer<'s> {
     ghost rule = { numberer_rule };
 
     ghost needs = { numberer_needs };
+
+    ghost leaves = { leaves-idle };
 
     #[inline(always)]
     fn enter(
@@ -146,5 +149,10 @@ impl<'s> Labeller for Numberer<'s> {
     #[inline(always)]
     fn leave(&mut self) {
         self.walk.leave();
+    }
+
+    #[inline(always)]
+    fn pass(&mut self, plain: &Plain, _here: Around, _para_end: u64) {
+        self.walk.pass(plain.elems());
     }
 }

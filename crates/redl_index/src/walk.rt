@@ -55,4 +55,23 @@ impl<'a> Walk<'a> {
     {
         self.at += 1;
     }
+
+    /// Goes behind this many elements, none of which is a paragraph.
+    #[inline(always)]
+    pub(crate) fn pass(&mut self, elems: u32)
+        requires fits { self.old.at + (elems + elems) < 2 ^ 64 }
+        ensures at { self.new.at ≡ self.old.at + (elems + elems) }
+        ensures ends { self.new.ends.now ≡ self.old.ends.now }
+    {
+        self.at = behind(self.at, elems);
+    }
+}
+
+/// The position of the next tag behind this many elements, each of which has two.
+#[inline(always)]
+pub(crate) fn behind(at: u64, elems: u32) -> u64
+    requires fits { at + (elems + elems) < 2 ^ 64 }
+    ensures { result ≡ at + (elems + elems) }
+{
+    at + 2 * u64::from(elems)
 }

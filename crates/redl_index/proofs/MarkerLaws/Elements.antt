@@ -1,11 +1,15 @@
 -- What one element adds to what is found, and what it is to those in it.
 use Rattle.std.proofs.Common.{◌≡◌, ◌∙◌, refl, ap, sym, ℕ, List, [], ◌∷◌, ◌++◌, Bool, true, false, Option, Some, None, length, option_to_list, set, append_assoc, ◌&&◌, ◌||◌, if◌then◌else◌}
 use Rattle.std.specs.List.{cons_option}
-use Rattle.redl_tree.specs.Model.Nodes.{Tag, Nodes, no_nodes, bytes, element, Item, bytes_item, element_item, in_front, ◌⊕◌}
+use Rattle.redl_tree.specs.Model.Nodes.{Tag, Nodes, element, Item, bytes_item, element_item, idle_item, in_front, ◌⊕◌}
+use Rattle.redl_tree.specs.Model.IdleTexts.{idle_nodes}
 use Prim.Native.String.{String}
 use Rattle.redl_tree.specs.Roles.Names.{is}
 use Rattle.redl_tree.specs.Model.Kids.{some_element, kids_of_all}
 use Rattle.redl_tree.specs.Model.Seen.{Spot, spot, tags_of}
+use Rattle.redl_tree.proofs.Idle.Items.{nodes_are_idle}
+use Rattle.redl_tree.proofs.Idle.Lists.{NoneIs, kids_of_all_past}
+use Rattle.redl_tree.proofs.KeptLaws.{some-⊕}
 use Rattle.redl_visit.specs.Summaries.{ancestors_of}
 use Rattle.redl_index.specs.Markers.Ends.{one_end}
 use Rattle.redl_index.specs.Inside.Markers.Trails.{trail_of, makes_revised, is_revised_by, leaves_grid_at, inside_trail}
@@ -55,16 +59,6 @@ trail-inside at tag kids ancestors =
 
 -- ---- rows and cells that are revisions themselves
 
-pub some_element-⊕ : (test : Tag → Bool) (xs ys : Nodes) → some_element test (xs ⊕ ys) ≡ (some_element test xs || some_element test ys)
-some_element-⊕ test no_nodes ys = refl
-some_element-⊕ test (bytes b rest) ys = some_element-⊕ test rest ys
-some_element-⊕ test (element tag kids rest) ys = by (test tag) (some_element-⊕ test rest ys)
-  where
-    by : (b : Bool) → some_element test (rest ⊕ ys) ≡ (some_element test rest || some_element test ys) →
-        (b || some_element test (rest ⊕ ys)) ≡ ((b || some_element test rest) || some_element test ys)
-    by true ih = refl
-    by false ih = ih
-
 -- some element among the kids of those with this name
 pub named_kids : (test : Tag → Bool) (name : String) (tag : Tag) (kids rest : Nodes) →
     some_element test (kids_of_all name (element tag kids rest)) ≡ (is name tag && some_element test kids || some_element test (kids_of_all name rest))
@@ -72,17 +66,18 @@ named_kids test name tag kids rest = by (is name tag)
   where
     by : (b : Bool) → some_element test (if b then kids ⊕ kids_of_all name rest else kids_of_all name rest)
         ≡ (b && some_element test kids || some_element test (kids_of_all name rest))
-    by true = some_element-⊕ test kids (kids_of_all name rest)
+    by true = some-⊕ test kids (kids_of_all name rest)
     by false = refl
 
-pub named_kids-in_front : (test : Tag → Bool) (name : String) (x : Item) (rest : Nodes) →
+pub named_kids-in_front : (test : Tag → Bool) (name : String) → NoneIs false (is name) → (x : Item) (rest : Nodes) →
     some_element test (kids_of_all name (in_front x rest)) ≡ (makes_revised name test x || some_element test (kids_of_all name rest))
-named_kids-in_front test name (bytes_item b) rest = refl
-named_kids-in_front test name (element_item tag kids) rest = named_kids test name tag kids rest
+named_kids-in_front test name none (bytes_item b) rest = refl
+named_kids-in_front test name none (element_item tag kids) rest = named_kids test name tag kids rest
+named_kids-in_front test name none (idle_item t) rest = ap (some_element test) (kids_of_all_past false name none (idle_nodes t) rest (nodes_are_idle t))
 
 -- the first of the nodes that are left makes a revision, or not
-pub revised-here : (test : Tag → Bool) (name : String) (x : Item) (rest left : Nodes) (whole b : Bool) → left ≡ in_front x rest → b ≡ makes_revised name test x →
+pub revised-here : (test : Tag → Bool) (name : String) → NoneIs false (is name) → (x : Item) (rest left : Nodes) (whole b : Bool) → left ≡ in_front x rest → b ≡ makes_revised name test x →
     some_element test (kids_of_all name left) ≡ whole → (b || some_element test (kids_of_all name rest)) ≡ whole
-revised-here test name x rest left whole b splits is had =
-    ap (λ c. c || some_element test (kids_of_all name rest)) is ∙ sym (named_kids-in_front test name x rest)
+revised-here test name none x rest left whole b splits is had =
+    ap (λ c. c || some_element test (kids_of_all name rest)) is ∙ sym (named_kids-in_front test name none x rest)
     ∙ ap (λ ns. some_element test (kids_of_all name ns)) (sym splits) ∙ had

@@ -27,13 +27,13 @@ use Rattle.redl_index.proofs.MarkerLaws.Elements.{mended, element-more, trail-in
 
 -- ---- what is found among nodes
 
-abbrev finding : List Marking → List (List ℕ) → List ℕ → ℕ → Finding
+abbrev pub finding : List Marking → List (List ℕ) → List ℕ → ℕ → Finding
 finding marks tails ends at = record { marks = marks; tails = tails; ends = ends; at = at }
 
 abbrev handed : Trail → ℕ → Below
 handed trail place = record { trail = trail; place = place }
 
-same : (m n : List Marking) (t u : List (List ℕ)) (e f : List ℕ) (a b : ℕ) → m ≡ n → t ≡ u → e ≡ f → a ≡ b →
+pub same : (m n : List Marking) (t u : List (List ℕ)) (e f : List ℕ) (a b : ℕ) → m ≡ n → t ≡ u → e ≡ f → a ≡ b →
     finding m t e a ≡ finding n u f b
 same m n t u e f a b p q r w = rw (p, q, r, w) refl
 

@@ -6,7 +6,8 @@ ghost use Rattle.redl_index.specs.Inside.Markers.Finding.{finding_of, nothing_fo
 use crate::markers::StoryMarkers;
 use crate::markers::ends::{mend_end, note_end};
 use crate::markers::trail::Below;
-use redl_tree::Elem;
+use crate::walk::behind;
+use redl_tree::{Elem, Plain};
 use redl_visit::{Ancestors, Visitor};
 use std::alloc::{AllocError, Global};
 
@@ -86,5 +87,10 @@ impl<'a> Visitor<Elem<'a>, Ancestors> for Finder<'a> {
         mend_end(&mut self.found.ends, elem, below.place, self.at);
         self.at += 1;
         Ok(())
+    }
+
+    #[inline(always)]
+    fn pass(&mut self, plain: &Plain<'a>, _here: &Ancestors, _own: &Below) {
+        self.at = behind(self.at, plain.elems());
     }
 }

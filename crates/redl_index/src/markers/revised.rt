@@ -1,7 +1,7 @@
 //! Elements that are revisions themselves: content revisions, rows and cells (ECMA-376 Part 1, 17.13.5).
 
 ghost use Rattle.std.specs.Prelude.{◌≡◌, is_some};
-ghost use Rattle.redl_tree.specs.Model.Kids.{some_element};
+ghost use Rattle.redl_tree.specs.Model.Kids.{some_element, item_is};
 ghost use Rattle.redl_tree.specs.Revisions.Markers.{is_row_revision as row_revision, is_cell_revision as cell_revision};
 ghost use Rattle.redl_tree.specs.Roles.Places.{row_trace_of as row_trace_of_tag, cell_trace_of as cell_trace_of_tag};
 ghost use Rattle.redl_tree.specs.Model.View.{nodes_of, item_of, tag_of, kids_of};
@@ -35,10 +35,8 @@ fn has_row_trace(nodes: &[Node]) -> bool
     ensures { result ≡ some_element (λ tag. is_some (row_trace_of_tag tag)) (nodes_of nodes.now) }
 {
     for node in nodes {
-        if let Node::Elem(elem) = node {
-            if row_trace_of(elem).is_some() {
-                return true;
-            }
+        if marks_row(node) {
+            return true;
         }
     }
     false
@@ -61,10 +59,8 @@ fn has_cell_trace(nodes: &[Node]) -> bool
     ensures { result ≡ some_element (λ tag. is_some (cell_trace_of_tag tag)) (nodes_of nodes.now) }
 {
     for node in nodes {
-        if let Node::Elem(elem) = node {
-            if cell_trace_of(elem).is_some() {
-                return true;
-            }
+        if marks_cell(node) {
+            return true;
         }
     }
     false
@@ -76,7 +72,7 @@ fn makes_row_revision(node: &Node) -> bool
 {
     match node {
         Node::Elem(elem) => is_word(elem, Word::TrPr) && has_row_trace(elem.kids()),
-        Node::Bytes(_) => false,
+        Node::Bytes(_) | Node::Plain(_) => false,
     }
 }
 
@@ -86,6 +82,30 @@ fn makes_cell_revision(node: &Node) -> bool
 {
     match node {
         Node::Elem(elem) => is_word(elem, Word::TcPr) && has_cell_trace(elem.kids()),
+        Node::Bytes(_) | Node::Plain(_) => false,
+    }
+}
+
+/// Whether a node marks its row as inserted or deleted.
+#[inline(always)]
+fn marks_row(node: &Node) -> bool
+    ensures { result ≡ item_is (λ tag. is_some (row_trace_of_tag tag)) (item_of node.now) }
+{
+    match node {
+        Node::Elem(elem) => row_trace_of(elem).is_some(),
         Node::Bytes(_) => false,
+        Node::Plain(_) => false,
+    }
+}
+
+/// Whether a node marks its cell as inserted or deleted.
+#[inline(always)]
+fn marks_cell(node: &Node) -> bool
+    ensures { result ≡ item_is (λ tag. is_some (cell_trace_of_tag tag)) (item_of node.now) }
+{
+    match node {
+        Node::Elem(elem) => cell_trace_of(elem).is_some(),
+        Node::Bytes(_) => false,
+        Node::Plain(_) => false,
     }
 }

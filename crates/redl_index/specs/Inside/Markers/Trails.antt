@@ -2,7 +2,7 @@
 use Rattle.std.specs.Prelude.{List, [], Bool, false, ◌&&◌, ◌||◌, not, is_some, if◌then◌else◌}
 use Rattle.std.specs.List.{list_any}
 use Prim.Native.String.{String}
-use Rattle.redl_tree.specs.Model.Nodes.{Tag, Nodes, Item, bytes_item, element_item}
+use Rattle.redl_tree.specs.Model.Nodes.{Tag, Nodes, Item, bytes_item, element_item, idle_item}
 use Rattle.redl_tree.specs.Model.Kids.{some_element, has_element}
 use Rattle.redl_tree.specs.Roles.Names.{is}
 use Rattle.redl_tree.specs.Roles.Places.{trace_of}
@@ -25,6 +25,7 @@ trail_of ancestors = record {
 -- the node is an element with this name, and some kid of it passes
 abbrev pub makes_revised : String → (Tag → Bool) → Item → Bool
 makes_revised name test (bytes_item b) = false
+makes_revised name test (idle_item t) = false
 makes_revised name test (element_item tag kids) = is name tag && some_element test kids
 
 -- an element with these kids is a revision itself

@@ -1,10 +1,11 @@
-use Rattle.std.proofs.Common.{◌∙◌, ◌+◌, ◌||◌, ap, sym, arith, drop, is_some, Bool}
+use Rattle.std.proofs.Common.{◌∙◌, ◌+◌, ◌||◌, refl, ap, sym, arith, drop, is_some, Bool, false}
 use Rattle.redl_tree.specs.Model.Nodes.{Tag}
 use Rattle.redl_tree.specs.Model.Kids.{some_element, kids_of_all}
 use Rattle.redl_tree.specs.Revisions.Markers.{is_row_revision}
 use Rattle.redl_tree.specs.Roles.Places.{row_trace_of}
 use Rattle.redl_tree.specs.Model.View.{nodes_of, item_of}
 use Rattle.redl_tree.proofs.Laws.{nodes_here}
+use Rattle.redl_tree.proofs.Idle.Lists.{name_none}
 use Rattle.redl_index.proofs.MarkerLaws.Elements.{revised-here}
 use Rattle.redl_index.proofs.markers.revised.is_row_revision.Goals as goal
 
@@ -16,7 +17,7 @@ returns-then-makes_row_revision c =
     let rest = nodes_of (drop (i + 1) kids) in
     let test : Tag → Bool = λ tag. is_some (row_trace_of tag) in
     ap (λ b. b || some_element test (kids_of_all "trPr" rest)) (sym c.if-makes_row_revision.true)
-    ∙ revised-here test "trPr" (item_of x) rest (nodes_of (drop i kids)) (is_row_revision (nodes_of kids)) c.makes_row_revision.result
+    ∙ revised-here test "trPr" (name_none "trPr" false refl) (item_of x) rest (nodes_of (drop i kids)) (is_row_revision (nodes_of kids)) c.makes_row_revision.result
     (nodes_here kids i x (omega (arith, c.loop-node-test.true)) c.node-item.is) c.makes_row_revision.ensures c.loop-node.invariant
 
 pub loop-node-preserved : goal.loop-node-preserved
@@ -27,5 +28,5 @@ loop-node-preserved c =
     let rest = nodes_of (drop (i + 1) kids) in
     let test : Tag → Bool = λ tag. is_some (row_trace_of tag) in
     ap (λ b. b || some_element test (kids_of_all "trPr" rest)) (sym c.if-makes_row_revision.false)
-    ∙ revised-here test "trPr" (item_of x) rest (nodes_of (drop i kids)) (is_row_revision (nodes_of kids)) c.makes_row_revision.result
+    ∙ revised-here test "trPr" (name_none "trPr" false refl) (item_of x) rest (nodes_of (drop i kids)) (is_row_revision (nodes_of kids)) c.makes_row_revision.result
     (nodes_here kids i x (omega (arith, c.loop-node-test.true)) c.node-item.is) c.makes_row_revision.ensures c.loop-node.invariant
