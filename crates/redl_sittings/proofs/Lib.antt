@@ -1,4 +1,5 @@
 pub mod FillLaws
 pub mod BesideLaws
 pub mod BookLaws
+pub mod IdleNumbers
 mod Rows

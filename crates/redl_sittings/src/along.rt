@@ -1,6 +1,6 @@
 //! The revisions of elements, one after the other.
 
-ghost use Rattle.std.specs.Prelude.{◌≡◌, ◌++◌, ◌∷◌, OnOk};
+ghost use Rattle.std.specs.Prelude.{◌≡◌, ◌++◌, ◌∷◌, replicate, OnOk};
 ghost use Rattle.redl_tree.specs.Model.View.{nodes_of, tag_of, kids_of};
 ghost use Rattle.redl_sittings.specs.SecondNumbers.{numbers_along};
 
@@ -14,9 +14,21 @@ pub(crate) fn add_numbers(numbers: &mut Vec<u32>, nodes: &[Node]) -> Result<(), 
     ensures { OnOk result (numbers.new.items ≡ numbers.old.items ++ numbers_along (nodes_of nodes.now)) }
 {
     for node in nodes {
-        if let Node::Elem(elem) = node {
-            add_element(numbers, elem)?;
+        match node {
+            Node::Elem(elem) => add_element(numbers, elem)?,
+            Node::Plain(plain) => add_none(numbers, plain.elems())?,
+            Node::Bytes(_) => {}
         }
+    }
+    Ok(())
+}
+
+// Adds 0 for each of so many elements.
+fn add_none(numbers: &mut Vec<u32>, count: u32) -> Result<(), AllocError>
+    ensures { OnOk result (numbers.new.items ≡ numbers.old.items ++ replicate count 0) }
+{
+    for _ in 0..count {
+        numbers.push(0)?;
     }
     Ok(())
 }

@@ -1,6 +1,7 @@
 //! The revisions of the elements of each story, part by part.
 
-ghost use Rattle.std.specs.Prelude.{◌≡◌, IfOk, map};
+ghost use Rattle.std.specs.Prelude.{◌≡◌, ◌++◌, [], IfOk, OnOk, map};
+ghost use Rattle.redl_tree.specs.Model.IdleTexts.{idle_nodes};
 ghost use Rattle.redl_tree.specs.Model.View.{nodes_of};
 ghost use Rattle.redl_opc.specs.Elements.{element_of, elements_of};
 ghost use Rattle.redl_opc.specs.Shape.{story_of};
@@ -8,7 +9,7 @@ ghost use Rattle.redl_sittings.specs.SecondNumbers.{numbers_below, part_numbers}
 
 use crate::along::add_numbers;
 use redl_opc::{package_of, story_of};
-use redl_tree::{Elem, Node};
+use redl_tree::{Elem, First, Node, Plain};
 use std::alloc::{AllocError, Global};
 
 /// The revision of each element below the root of each story, in the order of their start tags, and 0 for one that is in none.
@@ -28,11 +29,29 @@ fn numbers_of_each(alloc: Global, nodes: &[Node]) -> Result<Vec<Vec<u32>>, Alloc
 {
     let mut numbers = Vec::new(alloc);
     for node in nodes {
-        if let Node::Elem(part) = node {
-            numbers.push(numbers_of(alloc, part)?)?;
+        match node {
+            Node::Elem(part) => numbers.push(numbers_of(alloc, part)?)?,
+            Node::Plain(plain) => add_empty(alloc, &mut numbers, plain)?,
+            Node::Bytes(_) => {}
         }
     }
     Ok(numbers)
+}
+
+// Adds an empty list for each element of a text, which are no stories.
+fn add_empty(alloc: Global, numbers: &mut Vec<Vec<u32>>, plain: &Plain) -> Result<(), AllocError>
+    ensures { OnOk result (map (λ part. part.items) numbers.new.items
+        ≡ map (λ part. part.items) numbers.old.items ++ map (λ part. []) (elements_of (idle_nodes plain.now))) }
+{
+    let mut left = plain.laid();
+    while let Some((first, rest)) = left.first() {
+        match first {
+            First::Elem(_) => numbers.push(Vec::new(alloc))?,
+            First::Bytes(_) => {}
+        }
+        left = rest;
+    }
+    Ok(())
 }
 
 // The same of one part.
