@@ -1,5 +1,6 @@
 mod MarkLaws
 pub mod ViewLaws
+mod OpenLaws
 mod SplitLaws
 pub mod TextLaws
 pub mod LendLaws

@@ -2,7 +2,8 @@
 use Prim.Native.String.{String}
 use Rattle.std.proofs.Common.{◌≡◌, ◌<◌, ◌+◌, ℕ, List, length, get_or, drop, Bool, true, false, refl, sym, ap, ◌∙◌, ◌&&◌, ◌||◌, if◌then◌else◌}
 use Rattle.std.proofs.Math.Bool.{or_assoc}
-use Rattle.redl_tree.specs.Model.Nodes.{Tag, Nodes, no_nodes, bytes, element, Item, bytes_item, element_item, in_front, ◌⊕◌}
+use Rattle.redl_tree.specs.Model.Nodes.{Tag, Nodes, no_nodes, bytes, element, Item, bytes_item, element_item, idle_item, in_front, ◌⊕◌}
+use Rattle.redl_tree.specs.Model.IdleTexts.{idle_nodes}
 use Rattle.redl_tree.specs.Model.Kids.{some_element, kids_of_all}
 use Rattle.redl_tree.specs.Model.View.{nodes_of, item_of}
 use Rattle.redl_tree.specs.Roles.Names.{is}
@@ -10,6 +11,8 @@ use Rattle.redl_tree.specs.Roles.Kinds.{is_mark}
 use Rattle.redl_tree.specs.Leaves.Slots.{has_mark}
 use Rattle.redl_tree.specs.declared.node.Node.{Node}
 use Rattle.redl_tree.proofs.Laws.{⊕_assoc, nodes_here}
+use Rattle.redl_tree.proofs.Idle.Items.{nodes_are_idle}
+use Rattle.redl_tree.proofs.Idle.Lists.{NoneIs, name_none, some_past, kids_of_all_past}
 use Rattle.redl_leaves.specs.Inside.Marks.{marks_run, marks_para, item_marks, item_marks_run, item_marks_para}
 
 some-⊕ : (test : Tag → Bool) (xs ys : Nodes) → some_element test (xs ⊕ ys) ≡ (some_element test xs || some_element test ys)
@@ -28,12 +31,17 @@ kids-⊕ name (element tag kids rest) ys = at (is name tag) (kids-⊕ name rest 
     at true ih = ap (λ n. kids ⊕ n) ih ∙ sym (⊕_assoc kids (kids_of_all name rest) (kids_of_all name ys))
     at false ih = ih
 
+no_mark : NoneIs false (λ tag. is_mark tag.kind)
+no_mark tag i = ap is_mark i.kind
+
 pub run-in_front : (x : Item) (ys : Nodes) → marks_run (in_front x ys) ≡ (item_marks x || marks_run ys)
 run-in_front (bytes_item b) ys = refl
+run-in_front (idle_item t) ys = some_past false (λ tag. is_mark tag.kind) no_mark (idle_nodes t) ys (nodes_are_idle t)
 run-in_front (element_item tag kids) ys = refl
 
 pub para-in_front : (x : Item) (ys : Nodes) → marks_para (in_front x ys) ≡ (item_marks_run x || marks_para ys)
 para-in_front (bytes_item b) ys = refl
+para-in_front (idle_item t) ys = ap marks_run (kids_of_all_past false "rPr" (name_none "rPr" false refl) (idle_nodes t) ys (nodes_are_idle t))
 para-in_front (element_item tag kids) ys = at (is "rPr" tag)
   where
     at : (b : Bool) → marks_run (if b then kids ⊕ kids_of_all "rPr" ys else kids_of_all "rPr" ys) ≡ ((b && marks_run kids) || marks_para ys)
@@ -42,6 +50,7 @@ para-in_front (element_item tag kids) ys = at (is "rPr" tag)
 
 pub mark-in_front : (x : Item) (ys : Nodes) → has_mark (in_front x ys) ≡ (item_marks_para x || has_mark ys)
 mark-in_front (bytes_item b) ys = refl
+mark-in_front (idle_item t) ys = ap marks_para (kids_of_all_past false "pPr" (name_none "pPr" false refl) (idle_nodes t) ys (nodes_are_idle t))
 mark-in_front (element_item tag kids) ys = at (is "pPr" tag)
   where
     at : (b : Bool) → marks_para (if b then kids ⊕ kids_of_all "pPr" ys else kids_of_all "pPr" ys) ≡ ((b && marks_para kids) || has_mark ys)

@@ -4,3 +4,4 @@ pub mod Marks
 pub mod Texts
 pub mod Mends
 pub mod Splits
+pub mod Opens

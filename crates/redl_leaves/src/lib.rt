@@ -9,6 +9,7 @@ mod finding;
 mod lending;
 mod marks;
 mod mending;
+mod open;
 mod putting;
 mod setting;
 mod slots;

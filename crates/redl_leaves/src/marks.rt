@@ -24,7 +24,7 @@ fn marks_para(kid: &Node) -> bool
 {
     match kid {
         Node::Elem(elem) => is_word(elem, Word::PPr) && marks_in_props(elem.kids()),
-        Node::Bytes(_) => false,
+        Node::Bytes(_) | Node::Plain(_) => false,
     }
 }
 
@@ -44,7 +44,7 @@ fn marks_run(kid: &Node) -> bool
 {
     match kid {
         Node::Elem(elem) => is_word(elem, Word::RPr) && marks_in_run(elem.kids()),
-        Node::Bytes(_) => false,
+        Node::Bytes(_) | Node::Plain(_) => false,
     }
 }
 
@@ -64,6 +64,6 @@ fn is_mark(kid: &Node) -> bool
 {
     match kid {
         Node::Elem(elem) => matches!(elem.kind(), Kind::Mark(_)),
-        Node::Bytes(_) => false,
+        Node::Bytes(_) | Node::Plain(_) => false,
     }
 }

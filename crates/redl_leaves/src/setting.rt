@@ -43,6 +43,7 @@ fn is_decided_in(node: &Node, says: &[Say]) -> bool
     match node {
         Node::Elem(elem) => is_decided_rev(says, elem.rev()) || has_decided(elem.kids(), says),
         Node::Bytes(_) => false,
+        Node::Plain(_) => false,
     }
 }
 

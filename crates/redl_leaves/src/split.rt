@@ -1,24 +1,27 @@
 //! How a story is split into leaves and containers, from the left.
 
-ghost use Rattle.std.specs.Prelude.{◌≡◌, ◌≤◌, ◌<◌, ◌^◌, ◌∷◌, [], List, Option, None, Some, IfOk, OnOk, false};
+ghost use Rattle.std.specs.Prelude.{◌≡◌, ◌≤◌, ◌<◌, ◌^◌, ◌++◌, ◌∷◌, [], List, Option, None, Some, IfOk, OnOk, false};
 ghost use Rattle.redl_paras.specs.Pieces.{is_other};
-ghost use Rattle.redl_leaves.specs.Inside.Splits.{AddsLeaf, AddsLone, AddsView, AddsSibling, ended, chain_of, whole_of, whole, item_sibling, share_at, owned_at};
+ghost use Rattle.redl_leaves.specs.Inside.Splits.{AddsLeaf, AddsLone, AddsView, AddsSibling, AddsSiblings, ended, chain_of, whole_of, whole, thin_siblings, item_siblings, share_at, owned_at};
 ghost use Rattle.redl_leaves.specs.Spots.{spot_of};
 ghost use Rattle.redl_leaves.specs.View.{SlotView, container_view, view_of, container_of, states_of};
 ghost use Rattle.redl_tree.specs.Leaves.Containers.{opens};
 ghost use Rattle.redl_tree.specs.Leaves.Living.{owned};
-ghost use Rattle.redl_tree.specs.Leaves.Slots.{Sibling, has_mark, para_sibling, thin_sibling, thick_sibling, open_sibling, sibling, slots_in};
+ghost use Rattle.redl_tree.specs.Leaves.Slots.{Sibling, has_mark, para_sibling, thick_sibling, open_sibling, sibling, slots_in};
 ghost use Rattle.redl_tree.specs.Leaves.States.{States, joined_states, fresh_states, fresh_tally};
 ghost use Rattle.redl_tree.specs.Model.Count.{count, item_count};
+ghost use Rattle.redl_tree.specs.Model.Folds.{nodes_in};
 ghost use Rattle.redl_tree.specs.Model.Nodes.{Tag, Nodes, no_nodes, element};
 ghost use Rattle.redl_tree.specs.Model.View.{nodes_of, item_of, tag_of, kids_of};
 ghost use Rattle.redl_tree.specs.Roles.Lists.{is_block_list};
+ghost use Rattle.redl_tree.specs.declared.kinds.Space.TheVariants.{W};
 
 use crate::marks::is_marked;
+use crate::open::open_first;
 use crate::slots::{Container, Leaf, Slot, Tally};
 use crate::spot::Spot;
 use redl_resolve::Next;
-use redl_tree::{Elem, Node, Word, is_thick, is_word};
+use redl_tree::{Elem, Laid, Node, Word, is_thick, is_word};
 use std::alloc::{AllocError, Global};
 use std::mem;
 
@@ -71,6 +74,40 @@ fn one<'a>(alloc: Global, node: Node<'a>) -> Result<Vec<Node<'a>>, AllocError>
     Ok(nodes)
 }
 
+// Adds each node of this text as a leaf by itself.
+fn push_kept<'a>(
+    alloc: Global,
+    slots: &mut Vec<Slot<'a>>,
+    laid: Laid<'a>,
+    among_blocks: bool,
+) -> Result<(), AllocError>
+    ensures { OnOk result (AddsLone among_blocks (nodes_in W laid.entry) slots.old.items slots.new.items) }
+{
+    let mut left = laid;
+    while let Some((first, rest)) = left.first() {
+        let node = open_first(alloc, first)?;
+        push_one(alloc, slots, node, among_blocks)?;
+        left = rest;
+    }
+    Ok(())
+}
+
+// Adds a node as a leaf by itself. Of elements that are kept as their text, each node is one.
+fn push_lone<'a>(
+    alloc: Global,
+    slots: &mut Vec<Slot<'a>>,
+    node: Node<'a>,
+    among_blocks: bool,
+) -> Result<(), AllocError>
+    ensures { OnOk result (AddsLone among_blocks (nodes_of (node.entry ∷ [])) slots.old.items slots.new.items) }
+{
+    match node {
+        Node::Elem(elem) => push_one(alloc, slots, Node::Elem(elem), among_blocks),
+        Node::Bytes(text) => push_one(alloc, slots, Node::Bytes(text), among_blocks),
+        Node::Plain(plain) => push_kept(alloc, slots, plain.laid(), among_blocks),
+    }
+}
+
 // Adds each of these nodes as a leaf by itself.
 fn push_each<'a>(
     alloc: Global,
@@ -81,7 +118,7 @@ fn push_each<'a>(
     ensures { OnOk result (AddsLone among_blocks (nodes_of nodes.entry.items) slots.old.items slots.new.items) }
 {
     for node in nodes {
-        push_one(alloc, slots, node, among_blocks)?;
+        push_lone(alloc, slots, node, among_blocks)?;
     }
     Ok(())
 }
@@ -104,18 +141,18 @@ impl<'a> Splitting<'a> {
         }
     }
 
-    // Adds a thin node.
+    // Adds a thin node, or idle ones that are kept as their text.
     fn add_thin(
         &mut self,
         alloc: Global,
         node: Node<'a>,
         among_blocks: bool,
     ) -> Result<(), AllocError>
-        ensures { OnOk result (AddsSibling among_blocks self.old self.new (thin_sibling (nodes_of (node.entry ∷ [])))) }
+        ensures { OnOk result (AddsSiblings among_blocks self.old self.new (thin_siblings (nodes_of (node.entry ∷ [])))) }
     {
         match &self.chain {
             None => {
-                push_one(alloc, &mut self.slots, node, among_blocks)?;
+                push_lone(alloc, &mut self.slots, node, among_blocks)?;
                 Ok(())
             }
             Some(_) => {
@@ -285,12 +322,16 @@ fn split_node<'a>(
     split: &mut Splitting<'a>,
 ) -> Result<(), AllocError>
     ensures { OnOk result ((parent : Tag) → (above : List Tag) → spot ≡ spot_of (parent ∷ above) → item_count (item_of node.entry) < 2 ^ 32 → (later : List Sibling)
-        → whole (is_block_list spot.place) (parent ∷ above) split.new later ≡ whole (is_block_list spot.place) (parent ∷ above) split.old (item_sibling opens (parent ∷ above) (item_of node.entry) ∷ later)) }
+        → whole (is_block_list spot.place) (parent ∷ above) split.new later ≡ whole (is_block_list spot.place) (parent ∷ above) split.old (item_siblings opens (parent ∷ above) (item_of node.entry) ++ later)) }
 {
     match node {
         Node::Elem(elem) => split_elem(alloc, elem, spot, split),
         Node::Bytes(text) => {
             split.add_thin(alloc, Node::Bytes(text), spot.among_blocks())?;
+            Ok(())
+        }
+        Node::Plain(plain) => {
+            split.add_thin(alloc, Node::Plain(plain), spot.among_blocks())?;
             Ok(())
         }
     }

@@ -1,7 +1,8 @@
 -- What is split of a list so far, together with the siblings that are left.
-use Rattle.std.specs.Prelude.{◌≡◌, ℕ, ◌+◌, List, ◌∷◌, Bool, false, Option, None, Some, Vec, if◌then◌else◌}
+use Rattle.std.specs.Prelude.{◌≡◌, ℕ, ◌+◌, List, [], ◌∷◌, ◌++◌, Bool, false, Option, None, Some, Vec, if◌then◌else◌}
 use Rattle.std.specs.Global.{Global}
-use Rattle.redl_tree.specs.Model.Nodes.{Tag, Nodes, no_nodes, bytes, element, Item, bytes_item, element_item}
+use Rattle.redl_tree.specs.Model.Nodes.{Tag, Nodes, no_nodes, bytes, element, Item, bytes_item, element_item, idle_item}
+use Rattle.redl_tree.specs.Model.IdleTexts.{idle_nodes}
 use Rattle.redl_tree.specs.Model.View.{nodes_of}
 use Rattle.redl_tree.specs.Leaves.Slots.{Sibling, thin_sibling, leaf_of, sibling, slots_in}
 use Rattle.redl_tree.specs.Leaves.States.{States, no_states, leaf_state, container_state, joined_states, fresh_states}
@@ -56,10 +57,22 @@ abbrev pub AddsSibling : Bool → Splitting → Splitting → Sibling → Type 0
 AddsSibling among_blocks old new sibling =
     (ancestors : List Tag) (later : List Sibling) → whole among_blocks ancestors new later ≡ whole among_blocks ancestors old (sibling ∷ later)
 
--- what one node is to its siblings
-abbrev pub item_sibling : (List Tag → Tag → Bool) → List Tag → Item → Sibling
-item_sibling opens ancestors (bytes_item b) = thin_sibling (bytes b no_nodes)
-item_sibling opens ancestors (element_item tag kids) = sibling opens ancestors tag kids (slots_in opens (tag ∷ ancestors) kids)
+-- The same of some siblings.
+abbrev pub AddsSiblings : Bool → Splitting → Splitting → List Sibling → Type 0
+AddsSiblings among_blocks old new more =
+    (ancestors : List Tag) (later : List Sibling) → whole among_blocks ancestors new later ≡ whole among_blocks ancestors old (more ++ later)
+
+-- each of these nodes as a thin sibling
+abbrev pub thin_siblings : Nodes → List Sibling
+thin_siblings no_nodes = []
+thin_siblings (bytes b rest) = thin_sibling (bytes b no_nodes) ∷ thin_siblings rest
+thin_siblings (element tag kids rest) = thin_sibling (element tag kids no_nodes) ∷ thin_siblings rest
+
+-- what one node is to its siblings; idle elements that are kept as their text are siblings each by itself
+abbrev pub item_siblings : (List Tag → Tag → Bool) → List Tag → Item → List Sibling
+item_siblings opens ancestors (bytes_item b) = thin_sibling (bytes b no_nodes) ∷ []
+item_siblings opens ancestors (element_item tag kids) = sibling opens ancestors tag kids (slots_in opens (tag ∷ ancestors) kids) ∷ []
+item_siblings opens ancestors (idle_item t) = thin_siblings (idle_nodes t)
 
 -- ---- own rows and cells
 

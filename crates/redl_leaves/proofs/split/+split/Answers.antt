@@ -1,4 +1,4 @@
-use Rattle.std.proofs.Common.{◌≡◌, ◌<◌, ◌^◌, ◌∷◌, [], true, ◌&&◌, sym, ap, ◌∙◌, arith, if◌then◌else◌}
+use Rattle.std.proofs.Common.{◌≡◌, ◌<◌, ◌+◌, ◌^◌, ◌∷◌, ◌++◌, [], true, ◌&&◌, sym, ap, ◌∙◌, arith, if◌then◌else◌}
 use Rattle.std.proofs.lemmas.List.{nil_from_length}
 use Rattle.std.specs.Vec.Iter.{into_iter_items}
 use Rattle.redl_tree.specs.Leaves.Containers.{opens}
@@ -6,12 +6,13 @@ use Rattle.redl_tree.specs.Leaves.Living.{owned}
 use Rattle.redl_tree.specs.Leaves.Slots.{has_mark, para_sibling, thin_sibling, thick_sibling, open_sibling, siblings, slots_in}
 use Rattle.redl_tree.specs.Leaves.States.{no_states, joined_states, fresh_states, fresh_tally}
 use Rattle.redl_laws.proofs.Leaves.Joined.{joined-none}
-use Rattle.redl_tree.specs.Model.Count.{count}
+use Rattle.redl_tree.proofs.Laws.{count-in_front}
+use Rattle.redl_tree.specs.Model.Count.{count, item_count}
 use Rattle.redl_tree.specs.Model.Nodes.{no_nodes, element}
-use Rattle.redl_tree.specs.Model.View.{nodes_of, tag_of, kids_of}
+use Rattle.redl_tree.specs.Model.View.{nodes_of, item_of, tag_of, kids_of}
 use Rattle.redl_tree.specs.Roles.Lists.{in_blocks, is_block_list, is_thick}
 use Rattle.redl_tree.specs.Roles.Names.{is}
-use Rattle.redl_leaves.proofs.SplitLaws.{opens-at, list-given, fresh-owned_at, owned-within}
+use Rattle.redl_leaves.proofs.SplitLaws.{opens-at, list-given, siblings-in_front, idle-thin, fresh-owned_at, owned-within}
 use Rattle.redl_leaves.proofs.ViewLaws.{container_of-made}
 use Rattle.redl_leaves.specs.Inside.Splits.{chain_of, whole, owned_at}
 use Rattle.redl_leaves.specs.Spots.{spot_of, opens_at}
@@ -65,3 +66,30 @@ split_kids-returns t c = λ parent above spot_is few.
     ∙ ap (joined_states (states_of split.slots.items)) (list-given ancestors among (chain_of split.chain) (nodes_of split.tail.items))
     ∙ ap (λ xs. whole among ancestors split (siblings opens ancestors (nodes_of xs))) (sym none)
     ∙ c.loop-node.invariant.becomes parent above spot_is few
+
+pub split_kids-loop-node-preserved : goal.split_kids-loop-node-preserved
+split_kids-loop-node-preserved t c =
+    let among = is_block_list c.args.spot.place in
+    let old = c.loop-node.split in
+    let node = c.in-Some.node in
+    let left = into_iter_items c.next.new.self in
+    let more = nodes_of left in
+    let here : into_iter_items c.loop-node.node-iterator ≡ node ∷ left = c.in-Some.ensures.steps.0 in
+    let counted : count (nodes_of (into_iter_items c.loop-node.node-iterator)) ≡ item_count (item_of node) + count more =
+    ap (λ xs. count (nodes_of xs)) here ∙ count-in_front (item_of node) more in
+    record {
+      few = omega (arith, counted, c.loop-node.invariant.few);
+      becomes = λ parent above spot_is few.
+          let ancestors = parent ∷ above in
+          c.in_ok-split_node.ensures parent above spot_is (omega (arith, counted, c.loop-node.invariant.few, few)) (siblings opens ancestors more)
+          ∙ ap (whole among ancestors old) (sym (siblings-in_front ancestors (item_of node) more))
+          ∙ ap (λ xs. whole among ancestors old (siblings opens ancestors (nodes_of xs))) (sym here)
+          ∙ c.loop-node.invariant.becomes parent above spot_is few;
+    }
+
+pub split_node-returns-in_ok-add_thin-in-Plain : goal.split_node-returns-in_ok-add_thin-in-Plain
+split_node-returns-in_ok-add_thin-in-Plain t c = λ parent above spot_is few later.
+    let ancestors = parent ∷ above in
+    let added = c.in_ok-add_thin-in-Plain.ensures ancestors later in
+    (rw c.among_blocks-in-Plain.ensures at added)
+    ∙ ap (λ ss. whole (is_block_list c.args.spot.place) ancestors c.args.split.now (ss ++ later)) (idle-thin ancestors c.args.node c.in-Plain.plain c.in-Plain.is)

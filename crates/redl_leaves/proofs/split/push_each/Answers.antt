@@ -14,7 +14,7 @@ loop-node-preserved c = λ rest.
     let more = nodes_of (into_iter_items c.next.new.self) in
     let here : into_iter_items c.loop-node.node-iterator ≡ node ∷ into_iter_items c.next.new.self = c.in-Some.ensures.steps.0 in
     let before = states_of c.loop-node.slots.items in
-    c.in_ok-push_one.ensures (lone_states c.args.among_blocks more rest)
+    c.in_ok-push_lone.ensures (lone_states c.args.among_blocks more rest)
     ∙ ap (joined_states before) (sym (lone-in_front c.args.among_blocks (item_of node) more rest))
     ∙ ap (λ xs. joined_states before (lone_states c.args.among_blocks (nodes_of xs) rest)) (sym here)
     ∙ c.loop-node.invariant rest
