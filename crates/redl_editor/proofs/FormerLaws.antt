@@ -9,7 +9,7 @@ use Rattle.redl_tree.proofs.NameLaws.{or-left, or-right}
 use Rattle.redl_tree.specs.Decisions.Fates.{say_of}
 use Rattle.redl_tree.specs.Leaves.Settings.{Setting, set_say, set_each, is_among, same_say, SameBut}
 use Rattle.redl_tree.specs.declared.kinds.Say.{Say}
-use Rattle.redl_tree.specs.declared.kinds.Say.TheVariants.{Keep, Accept, Reject}
+use Rattle.redl_tree.specs.declared.kinds.Say.TheVariants.{Keep}
 use Rattle.redl_editor.specs.Changes.{setting_of, is_changed, former_of, differ}
 use Rattle.redl_editor.specs.Holdings.{is_touched}
 use Rattle.redl_editor.specs.declared.changing.Change.{Change}

@@ -122,6 +122,7 @@ fn note_node(node: &Node, leaf: u32, held: &mut Vec<Held>) -> Result<(), AllocEr
     match node {
         Node::Elem(elem) => note_elem(elem, leaf, held),
         Node::Bytes(_) => Ok(()),
+        Node::Plain(_) => Ok(()),
     }
 }
 

@@ -60,6 +60,7 @@ fn take_node<'a>(
     match node {
         Node::Elem(elem) => take_elem(alloc, elem, level, stories),
         Node::Bytes(_) => Ok(()),
+        Node::Plain(_) => Ok(()),
     }
 }
 

@@ -70,6 +70,10 @@ fn write_node<K: Sink>(
             put_piece(text, out)?;
             Ok(first)
         }
+        Node::Plain(plain) => {
+            put_piece(plain.text(), out)?;
+            Ok(first)
+        }
     }
 }
 
