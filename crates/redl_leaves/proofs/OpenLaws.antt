@@ -1,12 +1,10 @@
 -- Idle nodes are thin siblings, each by itself, and what is read of their text is closed as its tags say.
 use Rattle.std.proofs.Common.{◌≡◌, ◌∙◌, ℕ, List, [], ◌∷◌, ◌++◌, Bool, false, true, ◌&&◌, ◌||◌, if◌then◌else◌, refl, ap, subst}
 use Rattle.std.proofs.lemmas.Bool.{or_from}
-use Rattle.redl_reading.specs.Steps.{or_same}
-use Rattle.redl_markup.specs.References.{is_there}
 use Rattle.redl_tree.specs.Leaves.Containers.{opens, opens_outer, is_control}
 use Rattle.redl_tree.specs.Leaves.Slots.{Slots, Sibling, thin_sibling, thick_sibling, para_sibling, open_sibling, has_mark, sibling, siblings, slots_in}
 use Rattle.redl_tree.specs.Model.Firsts.{first_item}
-use Rattle.redl_tree.specs.Model.Folds.{nodes_at, nodes_in}
+use Rattle.redl_tree.specs.Model.Folds.{nodes_in}
 use Rattle.redl_tree.specs.Model.Laid.{ClosesBy, AreLaid}
 use Rattle.redl_tree.specs.Model.Nodes.{Tag, Nodes, no_nodes, bytes, element, in_front, ◌⊕◌}
 use Rattle.redl_tree.specs.Model.View.{close_of}
@@ -16,7 +14,7 @@ use Rattle.redl_tree.specs.Roles.Lists.{place, in_blocks, in_rows, in_cells, is_
 use Rattle.redl_tree.specs.declared.kinds.Space.TheVariants.{W}
 use Rattle.redl_tree.specs.declared.laid.First.{First}
 use Rattle.redl_tree.specs.declared.laid.First.TheVariants.{Bytes, Elem}
-use Rattle.redl_tree.proofs.FoldLaws.{nodes_are_laid}
+use Rattle.redl_tree.proofs.FoldLaws.{always_laid}
 use Rattle.redl_tree.proofs.NameLaws.{and-false}
 use Rattle.redl_tree.proofs.Idle.Tags.{Idle, idle_parts, has-not}
 use Rattle.redl_tree.proofs.Idle.Lists.{names_none, thick_none}
@@ -77,15 +75,8 @@ thin_past ancestors (element tag kids rest) y h =
 
 -- ---- the first node of a text
 
--- what a text is read as is laid out; where it can't be read, that is nothing
-always_laid : (t : List ℕ) → AreLaid W (nodes_in W t)
-always_laid t = by (nodes_at W t) refl where
-  by : (o : Option Nodes) → nodes_at W t ≡ o → AreLaid W (nodes_in W t)
-  by None e = subst (AreLaid W) (sym (ap (λ o. or_same o no_nodes) e)) tt
-  by (Some ns) e = nodes_are_laid W t (ap is_there e)
-
 pub closed_first : (t : List ℕ) (x : First) (rest : Nodes) → nodes_in W t ≡ in_front (first_item x) rest → IsClosed x
 closed_first t (Bytes b) rest is = tt
 closed_first t (Elem elem) rest is = λ none.
-    let laid : AreLaid W (in_front (first_item (Elem elem)) rest) = subst (AreLaid W) is (always_laid t) in
+    let laid : AreLaid W (in_front (first_item (Elem elem)) rest) = subst (AreLaid W) is (always_laid W t) in
     subst (λ close. ClosesBy close (nodes_in W elem.kids)) (ap close_of none) laid.1

@@ -313,6 +313,13 @@ text_of_nodes_in space t h = text_of_nodes space t (nodes_in space t) (nodes_are
 pub nodes_are_laid : (space : Space) (t : List ℕ) → Reads space t → AreLaid space (nodes_in space t)
 nodes_are_laid space t h = (nodes_sound space t (nodes_in space t) (nodes_are space t h)).laid
 
+-- where a text can't be read, it is read as no nodes
+pub always_laid : (space : Space) (t : List ℕ) → AreLaid space (nodes_in space t)
+always_laid space t = by (nodes_at space t) refl where
+  by : (o : Option Nodes) → nodes_at space t ≡ o → AreLaid space (nodes_in space t)
+  by None e = subst (AreLaid space) (sym (ap (λ o. or_same o no_nodes) e)) tt
+  by (Some ns) e = nodes_are_laid space t (ap is_there e)
+
 pub nodes_in_both : (space : Space) (a b : List ℕ) → Reads space a → Reads space b → Fits (nodes_in space a) b → Reads space (a ++ b) × (nodes_in space (a ++ b) ≡ nodes_in space a ⊕ nodes_in space b)
 nodes_in_both space a b ha hb fits =
     let e = nodes_of_both space a b (nodes_in space a) (nodes_in space b) (nodes_are space a ha) (nodes_are space b hb) fits in

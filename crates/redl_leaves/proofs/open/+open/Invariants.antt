@@ -18,7 +18,7 @@ abbrev pub decreases-open_nodes-loop-first : goal.decreases-open_nodes-loop-firs
 decreases-open_nodes-loop-first l = length l.left
 
 -- three calls go one level down in a text that gets shorter
-below : First → ℕ
+abbrev pub below : First → ℕ
 below (Bytes b) = 0
 below (Elem elem) = 3 * length elem.kids + 4
 
