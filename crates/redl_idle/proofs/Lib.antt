@@ -1,2 +1,3 @@
 pub mod AheadLaws
+pub mod TakeLaws
 pub mod ShowLaws

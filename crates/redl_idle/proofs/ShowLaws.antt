@@ -1,27 +1,25 @@
 -- The loop that shows the nodes with which a text begins, one after the other.
-use Rattle.std.proofs.Common.{◌≡◌, ℕ, true, false, List, [], ◌++◌, Option, Some, Result, Ok, Err, refl, sym, ap, subst, ◌∙◌}
+use Rattle.std.proofs.Common.{◌≡◌, ℕ, true, false, List, [], ◌++◌, Some, Result, Ok, Err, refl, sym, ap, subst, ◌∙◌}
 use Rattle.std.specs.Prelude.{IsErrAnd}
-use Rattle.std.specs.Borrow.{GName}
-use Rattle.redl_io.specs.Sink.{Puts}
-use Rattle.redl_io.specs.declared.sink.Failed.{Failed}
-use Rattle.redl_io.proofs.Puts.{PutsSoFar, so_far_begins, so_far_goes_on, so_far_stops, so_far_ends}
 use Rattle.redl_markup.specs.declared.place.Place.TheVariants.{InElement}
 use Rattle.redl_markup.specs.Pieces.{Piece}
 use Rattle.redl_markup.specs.ScanPieces.{piece_at}
 use Rattle.redl_tree.specs.Model.Nodes.{Nodes}
 use Rattle.redl_idle.specs.Shows.{ShowRule, shows, element_shows}
+use Rattle.redl_idle.specs.Takes.{Taking, Takes}
 use Rattle.redl_idle.specs.Ahead.{Begins, IsNode, node_shows, after_node, behind, is_end_tag}
 use Rattle.redl_idle.proofs.AheadLaws.{EndsHere, first, at_end}
+use Rattle.redl_idle.proofs.TakeLaws.{TakesSoFar, so_far_begins, so_far_goes_on, so_far_stops, so_far_ends}
 
-module _ {K Below : Type 0} (told : K → Option (List ℕ)) (faults settled : K → ℕ) (lenders : K → List GName) (rule : ShowRule Below) (below : Below) where
+module _ {K E Below : Type 0} (taking : Taking K E) (rule : ShowRule Below) (below : Below) where
   -- The nodes with which this text begins are those that are left to be shown.
   pub record IsLeft (old new : K) (t left : List ℕ) (begin : Begins t) : Type 0 where
     pub begins : Begins left
     pub same : begins.ending ≡ begin.ending
-    pub puts : PutsSoFar told faults settled lenders old new (shows rule below begin.nodes) (shows rule below begins.nodes)
+    pub puts : TakesSoFar taking old new (shows rule below begin.nodes) (shows rule below begins.nodes)
 
-  pub all_left : (sink : K) (t : List ℕ) (begin : Begins t) → IsLeft sink sink t t begin
-  all_left sink t begin = record { begins = begin; same = refl; puts = so_far_begins sink (shows rule below begin.nodes) }
+  pub all_left : (taker : K) (t : List ℕ) (begin : Begins t) → IsLeft taker taker t t begin
+  all_left taker t begin = record { begins = begin; same = refl; puts = so_far_begins taking taker (shows rule below begin.nodes) }
 
   -- ---- one node more, of which this is the first piece
 
@@ -31,7 +29,7 @@ module _ {K Below : Type 0} (told : K → Option (List ℕ)) (faults settled : K
 
   pub one_more : {T : Type 0} (old mid new : K) (t left : List ℕ) (begin : Begins t) → IsLeft old mid t left begin → (piece : Piece) (rest : List ℕ)
       → piece_at InElement left ≡ Some (piece, rest) → is_end_tag piece ≡ false → (after : List ℕ) (x : T)
-      → ((node : IsNode piece rest) → Puts told faults settled lenders mid new (node_shows rule below piece rest node) (Ok x))
+      → ((node : IsNode piece rest) → Takes taking mid new (node_shows rule below piece rest node) (Ok x))
       → ((node : IsNode piece rest) → after ≡ after_node piece rest node) → IsLeft old new t after begin
   one_more old mid new t left begin l piece rest read goes after x puts is =
       let f = (first rule below left l.begins (piece, rest) read).goes_on goes in
@@ -39,28 +37,28 @@ module _ {K Below : Type 0} (told : K → Option (List ℕ)) (faults settled : K
       subst P (sym (is f.node)) (record {
         begins = f.later;
         same = f.same ∙ l.same;
-        puts = so_far_goes_on (node_shows rule below piece rest f.node) (shows rule below f.later.nodes) f.splits l.puts (puts f.node);
+        puts = so_far_goes_on taking (node_shows rule below piece rest f.node) (shows rule below f.later.nodes) f.splits l.puts (puts f.node);
       })
 
   pub node_stops : {T U : Type 0} (old mid new : K) (t left : List ℕ) (begin : Begins t) → IsLeft old mid t left begin → (piece : Piece) (rest : List ℕ)
-      → piece_at InElement left ≡ Some (piece, rest) → is_end_tag piece ≡ false → (failed : Failed) (r : Result U Failed) → IsErrAnd r (λ f. f ≡ failed)
-      → ((node : IsNode piece rest) → Puts {T = T} told faults settled lenders mid new (node_shows rule below piece rest node) (Err failed))
-      → Puts told faults settled lenders old new (shows rule below begin.nodes) r
+      → piece_at InElement left ≡ Some (piece, rest) → is_end_tag piece ≡ false → (failed : E) (r : Result U E) → IsErrAnd r (λ f. f ≡ failed)
+      → ((node : IsNode piece rest) → Takes {T = T} taking mid new (node_shows rule below piece rest node) (Err failed))
+      → Takes taking old new (shows rule below begin.nodes) r
   node_stops old mid new t left begin l piece rest read goes failed r err puts =
       let f = (first rule below left l.begins (piece, rest) read).goes_on goes in
-      so_far_stops (node_shows rule below piece rest f.node) (shows rule below f.later.nodes) f.splits err l.puts (puts f.node)
+      so_far_stops taking (node_shows rule below piece rest f.node) (shows rule below f.later.nodes) f.splits err l.puts (puts f.node)
 
   -- ---- no node more
 
   -- all was shown, and this follows the end
   pub record AllShown {T : Type 0} (old new : K) (t rest : List ℕ) (begin : Begins t) (x : T) : Type 0 where
-    pub puts : Puts told faults settled lenders old new (shows rule below begin.nodes) (Ok x)
+    pub puts : Takes taking old new (shows rule below begin.nodes) (Ok x)
     pub left : rest ≡ behind begin.ending
 
   shown_by : {T : Type 0} (old new : K) (t left rest : List ℕ) (begin : Begins t) (x : T) (l : IsLeft old new t left begin)
       → EndsHere l.begins.nodes l.begins.ending rest → AllShown old new t rest begin x
   shown_by old new t left rest begin x l e = record {
-    puts = so_far_ends (ap (shows rule below) e.none) l.puts;
+    puts = so_far_ends taking (ap (shows rule below) e.none) l.puts;
     left = e.left ∙ ap behind l.same;
   }
 
@@ -80,8 +78,8 @@ module _ {K Below : Type 0} (told : K → Option (List ℕ)) (faults settled : K
   element-inside local tail kids inside e = ap (λ (i : Below). rule.start below local tail kids ++ (shows rule i kids ++ rule.end i)) (sym e)
 
   -- the same by the name and the tail of its tag
-  pub by_tag : {T : Type 0} (old new : K) (local own tail rest : List ℕ) (kids : Nodes) (r : Result T Failed) → local ≡ own → tail ≡ rest
-      → Puts told faults settled lenders old new (element_shows rule below local tail kids) r → Puts told faults settled lenders old new (element_shows rule below own rest kids) r
+  pub by_tag : {T : Type 0} (old new : K) (local own tail rest : List ℕ) (kids : Nodes) (r : Result T E) → local ≡ own → tail ≡ rest
+      → Takes taking old new (element_shows rule below local tail kids) r → Takes taking old new (element_shows rule below own rest kids) r
   by_tag old new local own tail rest kids r l t puts =
-      subst (λ n. Puts told faults settled lenders old new (element_shows rule below n rest kids) r) l
-      (subst (λ s. Puts told faults settled lenders old new (element_shows rule below local s kids) r) t puts)
+      subst (λ n. Takes taking old new (element_shows rule below n rest kids) r) l
+      (subst (λ s. Takes taking old new (element_shows rule below local s kids) r) t puts)

@@ -1,2 +1,4 @@
 pub mod Shows
+pub mod Takes
+pub mod Takings
 pub mod Ahead

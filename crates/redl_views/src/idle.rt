@@ -35,9 +35,14 @@ impl Below {
 }
 
 impl<K: Sink> Shows<K> for Below {
+    ghost use Rattle.redl_idle.specs.Takings.{by_puts};
     ghost use Rattle.redl_views.specs.Idle.{idle_rule};
 
+    type Error = Failed;
+
     ghost rule = { idle_rule };
+
+    ghost taking = { by_puts K.told K.faults K.settled K.lenders };
 
     fn put_bytes(&self, bytes: &[u8], out: &mut K) -> Result<(), Failed> {
         if self.shown {

@@ -18,5 +18,5 @@ decreases-show_nodes-loop-left g l = length l.left
 abbrev pub invariant-show_nodes-loop-left : goal.invariant-show_nodes-loop-left
 invariant-show_nodes-loop-left g l = record {
   short : length l.left ≤ length l.text;
-  begins : (begin : Begins l.text) → IsLeft g.K.Sink.told g.K.Sink.faults g.K.Sink.settled g.K.Sink.lenders g.S.Shows.rule l.below l.initial.out l.out l.text l.left begin;
+  begins : (begin : Begins l.text) → IsLeft g.S.Shows.taking g.S.Shows.rule l.below l.initial.out l.out l.text l.left begin;
 }

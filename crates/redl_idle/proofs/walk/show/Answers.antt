@@ -1,5 +1,5 @@
 use Rattle.std.proofs.Common.{sym, [], append-nil}
-use Rattle.redl_io.proofs.Puts.{puts_fails, puts_as}
+use Rattle.redl_idle.proofs.TakeLaws.{takes_fails, takes_as}
 use Rattle.redl_idle.proofs.AheadLaws.{idle_begins}
 use Rattle.redl_idle.proofs.walk.show.Goals as goal
 
@@ -8,7 +8,7 @@ show_nodes-requires g c = idle_begins c.args.plain.now c.text.result.now c.text.
 
 pub returns-in_err-show_nodes : goal.returns-in_err-show_nodes
 returns-in_err-show_nodes g c =
-    puts_fails [] (sym (append-nil _)) c.from_residual.ensures.1 (c.in_err-show_nodes.ensures.puts (idle_begins c.args.plain.now c.text.result.now c.text.ensures.nodes))
+    takes_fails g.S.Shows.taking [] (sym (append-nil _)) c.from_residual.ensures.1 (c.in_err-show_nodes.ensures.puts (idle_begins c.args.plain.now c.text.result.now c.text.ensures.nodes))
 
 pub returns : goal.returns
-returns g c = puts_as (c.in_ok-show_nodes.ensures.puts (idle_begins c.args.plain.now c.text.result.now c.text.ensures.nodes))
+returns g c = takes_as g.S.Shows.taking (c.in_ok-show_nodes.ensures.puts (idle_begins c.args.plain.now c.text.result.now c.text.ensures.nodes))
