@@ -1,3 +1,4 @@
 pub mod AheadLaws
 pub mod TakeLaws
 pub mod ShowLaws
+pub mod RoleLaws

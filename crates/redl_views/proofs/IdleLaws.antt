@@ -3,28 +3,26 @@ use Rattle.std.proofs.Common.{◌≡◌, ◌∙◌, refl, sym, ap, ℕ, List, []
 use Rattle.redl_tree.specs.Model.Nodes.{Tag, Nodes, no_nodes, bytes, element, ◌⊕◌}
 use Rattle.redl_tree.specs.Model.Kids.{has_element}
 use Rattle.redl_tree.specs.Model.IdleTexts.{idle_nodes}
-use Rattle.redl_tree.specs.Roles.Names.{is, is_any, is_math, is_w, is_m, of_w}
+use Rattle.redl_tree.specs.Roles.Names.{is, of_w}
 use Rattle.redl_tree.specs.Roles.Places.{is_quiet}
 use Rattle.redl_tree.specs.Roles.Lists.{is_thick, is_block_list}
 use Rattle.redl_tree.specs.Roles.Kinds.{is_content, is_free, is_leave}
 use Rattle.redl_tree.specs.Roles.Idle.{is_idle_in}
 use Rattle.redl_tree.specs.Decisions.Fates.{fate, say_of, fate_of}
 use Rattle.redl_tree.specs.Decisions.Tables.{goes, para_is_cut}
-use Rattle.redl_tree.specs.declared.kinds.Space.{Space}
-use Rattle.redl_tree.specs.declared.kinds.Space.TheVariants.{W, M, Pkg}
-use Rattle.redl_tree.specs.declared.kinds.Space.TheVariants as space
 use Rattle.redl_tree.specs.declared.kinds.Say.{Say}
 use Rattle.redl_tree.specs.declared.lists.Place.{Place}
 use Rattle.redl_tree.proofs.Laws.{⊕-no_nodes}
 use Rattle.redl_tree.proofs.NameLaws.{and-false}
 use Rattle.redl_tree.proofs.Named.{by_name}
 use Rattle.redl_tree.proofs.Idle.Tags.{Idle, idle_parts, has-not}
-use Rattle.redl_tree.proofs.Idle.Lists.{names_none, thick_none}
+use Rattle.redl_tree.proofs.Idle.Lists.{thick_none}
 use Rattle.redl_tree.proofs.Idle.Items.{nodes_are_idle, element_among}
 use Rattle.redl_tables.specs.Places.{is_block_para, is_cell_list, may_go, goes_at}
 use Rattle.redl_tables.specs.Ancestors.{revives}
 use Rattle.redl_shown.specs.Shown.{shown}
 use Rattle.redl_idle.specs.Shows.{shows}
+use Rattle.redl_idle.proofs.RoleLaws.{name_same, quiet_same}
 use Rattle.redl_views.specs.declared.idle.Below.{Below}
 use Rattle.redl_views.specs.declared.next.Next.TheVariants.{Nothing, Paragraph, Other}
 use Rattle.redl_views.specs.declared.summary.Summary.{Summary}
@@ -36,32 +34,9 @@ use Rattle.redl_views.specs.Walks.{is_text, inside_of, elem_next, is_paragraph, 
 -- ---- one element
 
 -- it shows at its start tag what any element with its local name shows
-start_same : (in_run : Bool) (tag : Tag) → Idle in_run tag → start_shown tag ≡ start_shown (of_w tag.local)
+pub start_same : (in_run : Bool) (tag : Tag) → Idle in_run tag → start_shown tag ≡ start_shown (of_w tag.local)
 start_same in_run tag i =
     ap (λ w. if (w && bytes_eq tag.local (codes "tab")) then 9 ∷ [] else if ((w && bytes_eq tag.local (codes "br")) || ((w && bytes_eq tag.local (codes "cr")) || false)) then 10 ∷ [] else []) i.space
-
-name_same : (in_run : Bool) (tag : Tag) → Idle in_run tag → (name : List ℕ) → (is_w tag.space && bytes_eq tag.local name) ≡ bytes_eq tag.local name
-name_same in_run tag i name = ap (λ w. w && bytes_eq tag.local name) i.space
-
-no_math : (s : Space) → is_w s ≡ true → is_m s ≡ false
-no_math W h = refl
-no_math M h = absurd cc
-no_math Pkg h = refl
-no_math space.Other h = refl
-
--- it holds properties only as an `rPr`
-quiet_same : (in_run : Bool) (tag : Tag) → Idle in_run tag → is_quiet tag ≡ is "rPr" (of_w tag.local)
-quiet_same in_run tag i =
-    let others = is_any ("sectPr" ∷ "tblPr" ∷ "tblPrEx" ∷ "trPr" ∷ "tcPr" ∷ "sdtPr" ∷ "sdtEndPr" ∷ "tblGrid" ∷ []) tag in
-    ap (λ a. (a || (is "rPr" tag || others)) || is_math "ctrlPr" tag) (has-not "pPr" in_run tag i refl)
-    ∙ ap (λ r. (is "rPr" tag || r) || is_math "ctrlPr" tag) (names_none ("sectPr" ∷ "tblPr" ∷ "tblPrEx" ∷ "trPr" ∷ "tcPr" ∷ "sdtPr" ∷ "sdtEndPr" ∷ "tblGrid" ∷ []) in_run refl tag i)
-    ∙ ap (λ m. (is "rPr" tag || false) || (m && bytes_eq tag.local (codes "ctrlPr"))) (no_math tag.space i.space)
-    ∙ ap (λ w. ((w && bytes_eq tag.local (codes "rPr")) || false) || false) i.space
-    ∙ or_none (bytes_eq tag.local (codes "rPr"))
-  where
-    or_none : (b : Bool) → ((b || false) || false) ≡ b
-    or_none true = refl
-    or_none false = refl
 
 stays : (says : List Say) (above : Summary) (in_run : Bool) (tag : Tag) (kids : Nodes) → Idle in_run tag → goes_at says above.ancestors.place tag kids ≡ false
 stays says above in_run tag kids i = ap (λ m. m && goes says (is_cell_list above.ancestors.place) tag kids) (none above.ancestors.place) where
