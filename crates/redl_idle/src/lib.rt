@@ -8,4 +8,4 @@
 
 mod walk;
 
-pub use walk::{Shows, show};
+pub use walk::{Shows, show, show_ahead};

@@ -48,7 +48,15 @@ pub trait Shows<K>: Copy {
 pub fn show<K, S: Shows<K>>(plain: &Plain<'_>, below: &S, out: &mut K) -> Result<(), S::Error>
     ensures { Takes S.taking out.old out.new (shows S.rule below.now (idle_nodes plain.now)) result }
 {
-    show_nodes(plain.text(), below, out)?;
+    show_ahead(plain.text(), below, out)
+}
+
+/// Puts what the nodes show with which a text begins. It takes no memory.
+pub fn show_ahead<K, S: Shows<K>>(text: &[u8], below: &S, out: &mut K) -> Result<(), S::Error>
+    requires { Begins text.now }
+    ensures { (begin : Begins text.now) → Takes S.taking out.old out.new (shows S.rule below.now begin.nodes) result }
+{
+    show_nodes(text, below, out)?;
     Ok(())
 }
 
