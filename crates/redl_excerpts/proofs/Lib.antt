@@ -1,6 +1,7 @@
 pub mod PhraseLaws
 pub mod EvenLaws
 pub mod SaidLaws
+pub mod IdleLaws
 pub mod TellLaws
 pub mod MemberLaws
 mod Rows

@@ -1,7 +1,7 @@
 -- Excerpts that are told of nodes, one after another.
 use Rattle.std.proofs.Common.{◌≡◌, ℕ, Bool, true, false, List, [], ◌++◌, refl, sym, ap, ◌∙◌, append_assoc}
 use Rattle.std.proofs.lemmas.List.{append-nil}
-use Rattle.redl_tree.specs.Model.Nodes.{Tag, Nodes, Item, bytes_item, element_item, in_front}
+use Rattle.redl_tree.specs.Model.Nodes.{Tag, Nodes, Item, bytes_item, element_item, idle_item, in_front}
 use Rattle.redl_tree.proofs.NameLaws.{or-true}
 use Rattle.redl_tree.specs.Roles.Names.{is}
 use Rattle.redl_tree.specs.Roles.Places.{is_quiet}
@@ -10,6 +10,7 @@ use Rattle.redl_excerpts.specs.Excerpts.{TellsEach}
 use Rattle.redl_excerpts.specs.Lines.{along, line_of}
 use Rattle.redl_excerpts.specs.Mentions.{Mention, Where, in_element, in_paragraph, inside, item_mentions, mentions, past}
 use Rattle.redl_excerpts.specs.Said.{element_said, holds_text, item_said, said, start_said}
+use Rattle.redl_excerpts.proofs.IdleLaws.{mentions_idle}
 use Rattle.redl_excerpts.proofs.TellLaws.{tells-as, tells-nothing, tells-then}
 
 -- the excerpts are told of a first part of the mentions, and these are left
@@ -41,10 +42,7 @@ pub mentions-in_front : (moved : Bool) (v : ℕ) (here : Where) (item : Item) (r
     → mentions moved v here (in_front item rest) ≡ item_mentions moved v here item ++ mentions moved v (past here (item_said true here.in_text item)) rest
 mentions-in_front moved v here (bytes_item b) rest = refl
 mentions-in_front moved v here (element_item tag kids) rest = refl
-
-pub said-in_front : (in_line in_text : Bool) (item : Item) (rest : Nodes) → said in_line in_text (in_front item rest) ≡ item_said in_line in_text item ++ said in_line in_text rest
-said-in_front in_line in_text (bytes_item b) rest = refl
-said-in_front in_line in_text (element_item tag kids) rest = refl
+mentions-in_front moved v here (idle_item t) rest = mentions_idle moved v here t rest
 
 -- ---- an element
 

@@ -4,7 +4,7 @@
 use Rattle.std.specs.Prelude.{ℕ, ◌==◌, ◌&&◌, Bool, true, false, List, [], ◌∷◌, ◌++◌, codes, Option, if◌then◌else◌}
 use Rattle.redl_shown.specs.Shown.{shown}
 use Rattle.redl_stamp.specs.Attribute.{attribute_value}
-use Rattle.redl_tree.specs.Model.Nodes.{Tag, Nodes, no_nodes, bytes, element, Item, bytes_item, element_item}
+use Rattle.redl_tree.specs.Model.Nodes.{Tag, Nodes, no_nodes, bytes, element, Item, bytes_item, element_item, idle_item}
 use Rattle.redl_tree.specs.Roles.Names.{is}
 use Rattle.redl_tree.specs.Roles.Places.{is_quiet}
 use Rattle.redl_tree.specs.declared.kinds.Kind.{Kind}
@@ -104,10 +104,11 @@ mentions moved v here (element tag kids rest) =
     (member_told moved v here tag kids ++ mentions moved v (inside here tag kids) kids)
     ++ mentions moved v (past here (element_said true tag kids)) rest
 
--- the same of an element, and of one node
+-- the same of an element, and of one node; no idle element is a member
 abbrev pub element_mentions : Bool → ℕ → Where → Tag → Nodes → List Mention
 element_mentions moved v here tag kids = member_told moved v here tag kids ++ mentions moved v (inside here tag kids) kids
 
 abbrev pub item_mentions : Bool → ℕ → Where → Item → List Mention
 item_mentions moved v here (bytes_item b) = []
 item_mentions moved v here (element_item tag kids) = element_mentions moved v here tag kids
+item_mentions moved v here (idle_item t) = []

@@ -2,7 +2,8 @@
 -- 17.3.3 for the elements of a run).
 use Rattle.std.specs.Prelude.{ℕ, List, [], ◌∷◌, ◌++◌, Bool, ◌&&◌, ◌||◌, if◌then◌else◌}
 use Rattle.redl_shown.specs.Shown.{is_plain, shown}
-use Rattle.redl_tree.specs.Model.Nodes.{Tag, Nodes, no_nodes, bytes, element, Item, bytes_item, element_item}
+use Rattle.redl_tree.specs.Model.IdleTexts.{idle_nodes}
+use Rattle.redl_tree.specs.Model.Nodes.{Tag, Nodes, no_nodes, bytes, element, Item, bytes_item, element_item, idle_item}
 use Rattle.redl_tree.specs.Roles.Names.{is, is_any}
 use Rattle.redl_tree.specs.Roles.Places.{is_quiet}
 
@@ -44,3 +45,4 @@ element_said in_line tag kids = if is_silent in_line tag then [] else start_said
 abbrev pub item_said : Bool → Bool → Item → List ℕ
 item_said in_line in_text (bytes_item b) = if in_text then shown b else []
 item_said in_line in_text (element_item tag kids) = element_said in_line tag kids
+item_said in_line in_text (idle_item t) = said in_line in_text (idle_nodes t)

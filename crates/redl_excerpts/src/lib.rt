@@ -7,6 +7,7 @@
 
 mod ear;
 mod excerpt;
+mod idle;
 mod line;
 mod members;
 mod package;

@@ -1,6 +1,7 @@
 //! The walk over the nodes of a story: each member tells the excerpt of its revision.
 
 ghost use Rattle.std.specs.Prelude.{◌≡◌, ◌<◌, IfOk, OnOk, false, true};
+ghost use Rattle.redl_tree.specs.Model.IdleTexts.{idle_nodes};
 ghost use Rattle.redl_tree.specs.Model.View.{nodes_of, item_of, tag_of, kids_of};
 ghost use Rattle.redl_excerpts.specs.Excerpts.{TellsEach, is_moved, told_all};
 ghost use Rattle.redl_excerpts.specs.Lines.{along, line_of};
@@ -9,10 +10,11 @@ ghost use Rattle.redl_excerpts.specs.Said.{element_said, item_said, said, start_
 ghost use Rattle.redl_excerpts.specs.Inside.Views.{where_of};
 
 use crate::excerpt::Excerpt;
+use crate::idle::tell_plain;
 use crate::line::{Line, Place};
 use crate::said::{holds_text, is_paragraph, tell_bytes, tell_nodes, tell_start};
 use redl_index::{RevKind, Revision};
-use redl_tree::{Elem, Kind, Node, Trace, is_quiet};
+use redl_tree::{Elem, Kind, Node, Plain, Trace, is_quiet};
 use std::alloc::{AllocError, Global};
 
 /// For how many bytes a line takes room at first.
@@ -66,6 +68,10 @@ fn tell_member_node(
             let behind = past_bytes(text, here.in_text, place)?;
             Ok(behind)
         }
+        Node::Plain(plain) => {
+            let behind = past_plain(plain, here.in_text, place)?;
+            Ok(behind)
+        }
     }
 }
 
@@ -74,6 +80,14 @@ fn past_bytes(text: &[u8], in_text: bool, place: Place) -> Result<Place, AllocEr
 {
     let mut behind = place;
     tell_bytes(text, in_text, &mut behind)?;
+    Ok(behind)
+}
+
+fn past_plain(plain: &Plain<'_>, in_text: bool, place: Place) -> Result<Place, AllocError>
+    ensures { IfOk result (λ behind. behind ≡ along place (said true in_text (idle_nodes plain.now))) }
+{
+    let mut behind = place;
+    tell_plain(plain, in_text, &mut behind)?;
     Ok(behind)
 }
 

@@ -8,6 +8,7 @@ ghost use Rattle.redl_tree.specs.Model.View.{nodes_of, item_of, tag_of, kids_of}
 ghost use Rattle.redl_excerpts.specs.Said.{all_plain_from, element_said, holds_text, is_break, is_silent, item_said, said, start_said};
 
 use crate::ear::Ear;
+use crate::idle::tell_plain;
 use redl_shown::{Piece, next_shown, start};
 use redl_tree::{Elem, Node, Word, is_named, is_quiet, is_word};
 use std::alloc::AllocError;
@@ -43,6 +44,7 @@ fn tell_node<E: Ear>(
     match node {
         Node::Elem(elem) => tell_elem(elem, in_line, ear),
         Node::Bytes(text) => tell_bytes(text, in_text, ear),
+        Node::Plain(plain) => tell_plain(plain, in_text, ear),
     }
 }
 

@@ -8,7 +8,8 @@ use Rattle.redl_excerpts.specs.Lines.{along}
 use Rattle.redl_excerpts.specs.Mentions.{item_mentions, mentions}
 use Rattle.redl_excerpts.specs.Said.{item_said, said}
 use Rattle.redl_excerpts.specs.Inside.Views.{where_of}
-use Rattle.redl_excerpts.proofs.MemberLaws.{mentions-in_front, said-in_front, tells-begins, tells-goes_on}
+use Rattle.redl_excerpts.proofs.MemberLaws.{mentions-in_front, tells-begins, tells-goes_on}
+use Rattle.redl_excerpts.proofs.SaidLaws.{said-in_front}
 use Rattle.redl_excerpts.proofs.members.+members.Goals as goal
 
 pub tell_members-loop-node-init : goal.tell_members-loop-node-init

@@ -13,5 +13,5 @@ loop-step-preserved g c =
     let step = c.in-Some.step in
     let ear = c.loop-step.ear in
     ap (λ e. g.E.Ear.heard e (shown_from step.here step.rest.now)) c.in_ok-tell_piece.ensures
-    ∙ g.met.E.Ear.heard_more ear (piece_text step.piece) (shown_from step.here step.rest.now)
+    ∙ g.E.Ear.heard_more ear (piece_text step.piece) (shown_from step.here step.rest.now)
     ∙ ap (g.E.Ear.heard ear) (sym c.in-Some.ensures.shown) ∙ c.loop-step.invariant
