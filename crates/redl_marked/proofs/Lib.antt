@@ -1,4 +1,5 @@
 mod Rows
+pub mod IdleLaws
 pub mod WalkLaws
 pub mod LastLaws
 pub mod StoryLaws

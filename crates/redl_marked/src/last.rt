@@ -10,6 +10,7 @@ ghost use Rattle.redl_marked.specs.Signs.{start_sign, end_sign};
 ghost use Rattle.redl_marked.specs.MarkedText.{open_start, open_end};
 ghost use Rattle.redl_marked.specs.Inside.Walks.{marked, item_marked, inside, start_of, end_of, last_of};
 
+use crate::idle::last_of_idle;
 use crate::signs::sign_end;
 use crate::summary::{Summary, inside};
 use redl_shown::{Piece, next_shown, start};
@@ -37,6 +38,7 @@ fn last_of_node(node: &Node, above: Summary) -> Option<u8>
         Node::Elem(elem) => last_of_elem(elem, above),
         Node::Bytes(text) if above.text => last_shown(text),
         Node::Bytes(_) => None,
+        Node::Plain(plain) => last_of_idle(plain, above),
     }
 }
 
@@ -113,8 +115,8 @@ fn last_of_start_sign(kind: Kind) -> Option<u8>
     }
 }
 
-// The last byte that bytes of a node show.
-fn last_shown(bytes: &[u8]) -> Option<u8>
+/// The last byte that bytes of a node show.
+pub(crate) fn last_shown(bytes: &[u8]) -> Option<u8>
     ensures { result ≡ last_of (shown bytes.now) }
 {
     let mut here = start();

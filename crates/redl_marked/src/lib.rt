@@ -6,6 +6,7 @@
 //! Which revisions there are, and what is decided on them, is left to the crates below and above.
 #![tactic(auto)]
 
+mod idle;
 mod last;
 mod laws;
 mod package;

@@ -145,7 +145,7 @@ fn put_mark_sign<K: Sink>(node: &Node, out: &mut K) -> Result<(), Failed>
 {
     match node {
         Node::Elem(elem) => put_sign_of_mark(elem, out),
-        Node::Bytes(_) => Ok(()),
+        Node::Bytes(_) | Node::Plain(_) => Ok(()),
     }
 }
 

@@ -7,6 +7,7 @@ ghost use Rattle.redl_shown.specs.Shown.{shown};
 ghost use Rattle.redl_marked.specs.MarkedText.{open_start, open_end};
 ghost use Rattle.redl_marked.specs.Inside.Walks.{marked, item_marked, inside, start_of, end_of};
 
+use crate::idle::put_idle;
 use crate::signs::{put_end_sign, put_para_signs, put_start_sign};
 use crate::summary::{Summary, inside};
 use redl_io::{Failed, Sink, put_piece};
@@ -32,10 +33,12 @@ fn put_node<K: Sink>(node: &Node, above: Summary, out: &mut K) -> Result<(), Fai
     match node {
         Node::Elem(elem) => put_elem(elem, above, out),
         Node::Bytes(text) => put_bytes(text, above, out),
+        Node::Plain(plain) => put_idle(plain, above, out),
     }
 }
 
-fn put_bytes<K: Sink>(text: &[u8], above: Summary, out: &mut K) -> Result<(), Failed>
+/// Puts the marked text of bytes.
+pub(crate) fn put_bytes<K: Sink>(text: &[u8], above: Summary, out: &mut K) -> Result<(), Failed>
     ensures { Puts K.told K.faults K.settled K.lenders out.old out.new (if above.text then shown text.now else []) result }
 {
     if above.text {

@@ -80,8 +80,8 @@ pub(crate) fn put_idle<K: Sink>(plain: &Plain<'_>, shown: bool, out: &mut K) -> 
     show(plain, &below, out)
 }
 
-// Puts what an idle element with this local name shows at its start tag: a tab or a line break.
-fn put_idle_start<K: Sink>(local: &[u8], out: &mut K) -> Result<(), Failed>
+/// Puts what an idle element with this local name shows at its start tag: a tab or a line break.
+pub fn put_idle_start<K: Sink>(local: &[u8], out: &mut K) -> Result<(), Failed>
     ensures { Puts K.told K.faults K.settled K.lenders out.old out.new (start_shown (of_w local.now)) result }
 {
     if local == b"tab".as_slice() {

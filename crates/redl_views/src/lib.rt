@@ -10,5 +10,6 @@ mod package;
 mod summary;
 mod walk;
 
+pub use idle::put_idle_start;
 pub use package::view;
 pub use walk::put_start;

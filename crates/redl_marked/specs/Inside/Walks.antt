@@ -1,7 +1,8 @@
 -- The marked text as code takes it: it carries a summary of the ancestors in place of their list.
 use Rattle.std.specs.Prelude.{ℕ, List, [], ◌∷◌, ◌++◌, ◌&&◌, ◌||◌, not, Option, Some, None, if◌then◌else◌}
 use Rattle.std.specs.List.{list_any, last_or}
-use Rattle.redl_tree.specs.Model.Nodes.{Tag, Nodes, no_nodes, bytes, element, Item, bytes_item, element_item}
+use Rattle.redl_tree.specs.Model.Nodes.{Tag, Nodes, no_nodes, bytes, element, Item, bytes_item, element_item, idle_item}
+use Rattle.redl_tree.specs.Model.IdleTexts.{idle_nodes}
 use Rattle.redl_tree.specs.Roles.Names.{is, is_any}
 use Rattle.redl_tree.specs.Roles.Places.{is_quiet}
 use Rattle.redl_opc.specs.Elements.{Element}
@@ -40,19 +41,23 @@ marked above (element tag kids rest) =
 abbrev pub item_marked : Summary → Item → List ℕ
 item_marked above (bytes_item b) = if above.text then shown b else []
 item_marked above (element_item tag kids) = start_of above tag ++ (marked (inside tag above) kids ++ end_of above tag kids)
+item_marked above (idle_item t) = marked above (idle_nodes t)
 
 -- the signs of a mark that one node has: as a member, as an `rPr`, and as a `pPr`
 abbrev pub item_mark : Item → List ℕ
 item_mark (bytes_item b) = []
 item_mark (element_item tag kids) = mark_sign tag.kind tag.rev
+item_mark (idle_item t) = []
 
 abbrev pub item_run : Item → List ℕ
 item_run (bytes_item b) = []
 item_run (element_item tag kids) = if is "rPr" tag then mark_signs kids else []
+item_run (idle_item t) = []
 
 abbrev pub item_para : Item → List ℕ
 item_para (bytes_item b) = []
 item_para (element_item tag kids) = if is "pPr" tag then run_signs kids else []
+item_para (idle_item t) = []
 
 -- the last byte of a text
 abbrev pub last_of : List ℕ → Option ℕ
