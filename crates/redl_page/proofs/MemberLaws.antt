@@ -31,7 +31,8 @@ use Rattle.redl_page.specs.Pieces.{own, opens_number, has_element}
 use Rattle.redl_page.proofs.NumberLaws.{or_left, or_cases, and_both, has-left, has-right}
 use Rattle.redl_page.specs.Shapes.{shape_of, holds_blocks}
 use Rattle.redl_page.specs.Signs.{before, member, is_member, has_member}
-use Rattle.redl_page.specs.Document.{marks_in, element_marks, bytes_pieces, start_as, end_as, inside, element_pieces, nodes_pieces, in_story, section_head, section, section_in, sections, is_first_after}
+use Rattle.redl_page.specs.Document.{marks_in, bytes_pieces, start_as, end_as, inside, element_pieces, nodes_pieces, in_story, section_head, section, section_in, sections, is_first_after}
+use Rattle.redl_page.specs.Inside.Items.{element_marks}
 
 -- ---- the element of a member
 

@@ -7,8 +7,10 @@ use Rattle.std.specs.Borrow.{GName}
 use Rattle.std.proofs.lemmas.List.Concat.{flat_map-append}
 use Rattle.redl_io.specs.Sink.{Puts}
 use Rattle.redl_io.specs.declared.sink.Failed.{Failed}
-use Rattle.redl_tree.specs.Model.Nodes.{Tag, Nodes, Item, bytes_item, element_item, in_front}
+use Rattle.redl_tree.specs.Model.IdleTexts.{idle_nodes}
+use Rattle.redl_tree.specs.Model.Nodes.{Tag, Nodes, Item, bytes_item, element_item, idle_item, in_front}
 use Rattle.redl_tree.specs.Roles.Names.{is}
+use Rattle.redl_tree.proofs.Idle.Items.{nodes_are_idle}
 use Rattle.redl_opc.specs.Elements.{Element}
 use Rattle.redl_opc.specs.Parts.{name_in, story}
 use Rattle.redl_opc.specs.Shape.{parts_of, story_of}
@@ -19,10 +21,12 @@ use Rattle.redl_page.specs.declared.marks.Depth.TheVariants.{Kids, Properties, R
 use Rattle.redl_page.specs.declared.place.Place.{Place}
 use Rattle.redl_page.specs.Escaping.{escaped}
 use Rattle.redl_page.specs.Pieces.{Piece, piece_text, pieces_text}
-use Rattle.redl_page.specs.Shapes.{closing, has_property, holds_blocks, is_paragraph, item_has_property, item_holds, item_style, item_style_in, item_switches, shape_of, style_in, style_of, switched_on}
+use Rattle.redl_page.specs.Shapes.{closing, has_property, holds_blocks, is_paragraph, shape_of, style_in, style_of, switched_on}
 use Rattle.redl_page.specs.declared.shape.Shape.{Shape}
 use Rattle.redl_page.specs.Signs.{author_at, sign, sign_text, edge}
-use Rattle.redl_page.specs.Document.{in_story, section_head, section, shape_end, start_as, end_as, element_pieces, marks_in, item_marks, nodes_pieces, item_pieces, section_in, sections, section_at, name_at, is_first_after}
+use Rattle.redl_page.specs.Document.{in_story, section_head, section, shape_end, start_as, end_as, element_pieces, marks_in, nodes_pieces, section_in, sections, section_at, name_at, is_first_after}
+use Rattle.redl_page.specs.Inside.Items.{item_has_property, item_holds, item_marks, item_pieces, item_style, item_style_in, item_switches}
+use Rattle.redl_page.proofs.PastLaws.{has_property_past, holds_past, marks_past, pieces-⊕, style_in-⊕, style_of_past, switched_on-⊕}
 
 -- a text by another name
 pub puts_is : {K T : Type 0} {told : K → Option (List ℕ)} {faults settled : K → ℕ} {lenders : K → List GName} {old new : K} {text other : List ℕ} {r : Result T Failed}
@@ -63,6 +67,7 @@ marks_in-front revisions depth (bytes_item b) rest = refl
 marks_in-front revisions Kids (element_item tag kids) rest = refl
 marks_in-front revisions Properties (element_item tag kids) rest = refl
 marks_in-front revisions RunProperties (element_item tag kids) rest = refl
+marks_in-front revisions depth (idle_item t) rest = marks_past revisions depth (idle_nodes t) rest (nodes_are_idle t)
 
 pub marks_text : (revisions : List Revision) (depth : Depth) (nodes : Nodes) (x : Item) (rest : Nodes) → nodes ≡ in_front x rest →
     pieces_text (marks_in revisions depth nodes) ≡ pieces_text (item_marks revisions depth x) ++ pieces_text (marks_in revisions depth rest)
@@ -74,6 +79,7 @@ nodes_pieces-front : (shown : List ℕ → List ℕ) (revisions : List Revision)
     nodes_pieces shown revisions place (in_front x rest) ≡ item_pieces shown revisions place x ++ nodes_pieces shown revisions place rest
 nodes_pieces-front shown revisions place (bytes_item b) rest = refl
 nodes_pieces-front shown revisions place (element_item tag kids) rest = refl
+nodes_pieces-front shown revisions place (idle_item t) rest = pieces-⊕ shown revisions place (idle_nodes t) rest
 
 pub nodes_text : (shown : List ℕ → List ℕ) (revisions : List Revision) (place : Place) (nodes : Nodes) (x : Item) (rest : Nodes) → nodes ≡ in_front x rest →
     pieces_text (nodes_pieces shown revisions place nodes) ≡ pieces_text (item_pieces shown revisions place x) ++ pieces_text (nodes_pieces shown revisions place rest)
@@ -95,6 +101,7 @@ element_text-by revisions place tag kids inner shape e =
 holds_blocks-front : (x : Item) (rest : Nodes) → holds_blocks (in_front x rest) ≡ (item_holds x || holds_blocks rest)
 holds_blocks-front (bytes_item b) rest = refl
 holds_blocks-front (element_item tag kids) rest = refl
+holds_blocks-front (idle_item t) rest = holds_past (idle_nodes t) rest (nodes_are_idle t)
 
 -- whether the nodes hold a block, where the first one is or holds none, and where it does
 pub holds-later : (nodes : Nodes) (x : Item) (rest : Nodes) → nodes ≡ in_front x rest → item_holds x ≡ false → holds_blocks rest ≡ holds_blocks nodes
@@ -108,26 +115,23 @@ holds-here nodes x rest e h = ap holds_blocks e ∙ holds_blocks-front x rest �
 switched_on-front : (name : List ℕ) (x : Item) (rest : Nodes) → switched_on name (in_front x rest) ≡ (item_switches name x || switched_on name rest)
 switched_on-front name (bytes_item b) rest = refl
 switched_on-front name (element_item tag kids) rest = refl
+switched_on-front name (idle_item t) rest = switched_on-⊕ name (idle_nodes t) rest
 
-pub switched_on-later : (name : List ℕ) (nodes : Nodes) (x : Item) (rest : Nodes) → nodes ≡ in_front x rest → item_switches name x ≡ false → switched_on name rest ≡ switched_on name nodes
-switched_on-later name nodes x rest e h = sym (ap (switched_on name) e ∙ switched_on-front name x rest ∙ ap (λ b. b || switched_on name rest) h)
-
-pub switched_on-here : (name : List ℕ) (nodes : Nodes) (x : Item) (rest : Nodes) → nodes ≡ in_front x rest → item_switches name x ≡ true → switched_on name nodes ≡ true
-switched_on-here name nodes x rest e h = ap (switched_on name) e ∙ switched_on-front name x rest ∙ ap (λ b. b || switched_on name rest) h
+pub switched_on-next : (name : List ℕ) (nodes : Nodes) (x : Item) (rest : Nodes) → nodes ≡ in_front x rest → switched_on name nodes ≡ (item_switches name x || switched_on name rest)
+switched_on-next name nodes x rest e = ap (switched_on name) e ∙ switched_on-front name x rest
 
 has_property-front : (name : List ℕ) (x : Item) (rest : Nodes) → has_property name (in_front x rest) ≡ (item_has_property name x || has_property name rest)
 has_property-front name (bytes_item b) rest = refl
 has_property-front name (element_item tag kids) rest = refl
+has_property-front name (idle_item t) rest = has_property_past name (idle_nodes t) rest (nodes_are_idle t)
 
-pub has_property-later : (name : List ℕ) (nodes : Nodes) (x : Item) (rest : Nodes) → nodes ≡ in_front x rest → item_has_property name x ≡ false → has_property name rest ≡ has_property name nodes
-has_property-later name nodes x rest e h = sym (ap (has_property name) e ∙ has_property-front name x rest ∙ ap (λ b. b || has_property name rest) h)
-
-pub has_property-here : (name : List ℕ) (nodes : Nodes) (x : Item) (rest : Nodes) → nodes ≡ in_front x rest → item_has_property name x ≡ true → has_property name nodes ≡ true
-has_property-here name nodes x rest e h = ap (has_property name) e ∙ has_property-front name x rest ∙ ap (λ b. b || has_property name rest) h
+pub has_property-next : (name : List ℕ) (nodes : Nodes) (x : Item) (rest : Nodes) → nodes ≡ in_front x rest → has_property name nodes ≡ (item_has_property name x || has_property name rest)
+has_property-next name nodes x rest e = ap (has_property name) e ∙ has_property-front name x rest
 
 style_in-front : (x : Item) (rest : Nodes) → style_in (in_front x rest) ≡ option_or (item_style_in x) (style_in rest)
 style_in-front (bytes_item b) rest = refl
 style_in-front (element_item tag kids) rest = refl
+style_in-front (idle_item t) rest = style_in-⊕ (idle_nodes t) rest
 
 pub style_in-later : (nodes : Nodes) (x : Item) (rest : Nodes) → nodes ≡ in_front x rest → item_style_in x ≡ None → style_in rest ≡ style_in nodes
 style_in-later nodes x rest e h = sym (ap style_in e ∙ style_in-front x rest ∙ ap (λ o. option_or o (style_in rest)) h)
@@ -138,6 +142,7 @@ style_in-here nodes x rest style e h = ap style_in e ∙ style_in-front x rest �
 style_of-front : (x : Item) (rest : Nodes) → style_of (in_front x rest) ≡ option_or (item_style x) (style_of rest)
 style_of-front (bytes_item b) rest = refl
 style_of-front (element_item tag kids) rest = refl
+style_of-front (idle_item t) rest = style_of_past (idle_nodes t) rest (nodes_are_idle t)
 
 pub style_of-later : (nodes : Nodes) (x : Item) (rest : Nodes) → nodes ≡ in_front x rest → item_style x ≡ None → style_of rest ≡ style_of nodes
 style_of-later nodes x rest e h = sym (ap style_of e ∙ style_of-front x rest ∙ ap (λ o. option_or o (style_of rest)) h)

@@ -1,6 +1,6 @@
 -- The document of the page: its stories in the order of the parts, with an element for each member of a revision.
 use Rattle.std.specs.Prelude.{ℕ, List, [], ◌∷◌, ◌++◌, Bool, true, false, ◌&&◌, ◌||◌, not, Option, Some, None, unwrap_or, if◌then◌else◌}
-use Rattle.redl_tree.specs.Model.Nodes.{Tag, Nodes, no_nodes, bytes, element, Item, bytes_item, element_item}
+use Rattle.redl_tree.specs.Model.Nodes.{Tag, Nodes, no_nodes, bytes, element}
 use Rattle.redl_tree.specs.Roles.Names.{is}
 use Rattle.redl_tree.specs.Roles.Places.{is_quiet}
 use Rattle.redl_tree.specs.Roles.Kinds.{is_mark}
@@ -31,16 +31,6 @@ marks_in revisions Properties (element tag kids rest) =
     (if is "rPr" tag then marks_in revisions RunProperties kids else []) ++ marks_in revisions Properties rest
 marks_in revisions RunProperties (element tag kids rest) =
     (if is_mark tag.kind then member revisions tag.kind tag.rev else []) ++ marks_in revisions RunProperties rest
-
--- the same of one element, and of one node
-abbrev pub element_marks : List Revision → Depth → Tag → Nodes → List Piece
-element_marks revisions Kids tag kids = if is "pPr" tag then marks_in revisions Properties kids else []
-element_marks revisions Properties tag kids = if is "rPr" tag then marks_in revisions RunProperties kids else []
-element_marks revisions RunProperties tag kids = if is_mark tag.kind then member revisions tag.kind tag.rev else []
-
-abbrev pub item_marks : List Revision → Depth → Item → List Piece
-item_marks revisions depth (bytes_item b) = []
-item_marks revisions depth (element_item tag kids) = element_marks revisions depth tag kids
 
 -- ---- one element
 
@@ -90,12 +80,6 @@ nodes_pieces shown revisions place no_nodes = []
 nodes_pieces shown revisions place (bytes b rest) = bytes_pieces shown place b ++ nodes_pieces shown revisions place rest
 nodes_pieces shown revisions place (element tag kids rest) =
     element_pieces revisions place tag kids (nodes_pieces shown revisions (inside tag place) kids) ++ nodes_pieces shown revisions place rest
-
--- the same of one node
-abbrev pub item_pieces : (List ℕ → List ℕ) → List Revision → Place → Item → List Piece
-item_pieces shown revisions place (bytes_item b) = bytes_pieces shown place b
-item_pieces shown revisions place (element_item tag kids) =
-    element_pieces revisions place tag kids (nodes_pieces shown revisions (inside tag place) kids)
 
 -- ---- stories
 

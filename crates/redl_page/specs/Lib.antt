@@ -6,3 +6,4 @@ pub mod Document
 pub mod Changes
 pub mod Page
 pub mod PageViews
+pub mod Inside

@@ -3,7 +3,7 @@
 use Prim.Native.String.{String}
 use Rattle.std.specs.Prelude.{ℕ, Bool, true, false, ◌&&◌, ◌||◌, not, List, [], ◌∷◌, Option, Some, None, bytes_eq, codes, is_some, if◌then◌else◌}
 use Rattle.std.specs.Option.{option_or}
-use Rattle.redl_tree.specs.Model.Nodes.{Tag, Nodes, no_nodes, bytes, element, Item, bytes_item, element_item}
+use Rattle.redl_tree.specs.Model.Nodes.{Tag, Nodes, no_nodes, bytes, element}
 use Rattle.redl_tree.specs.Roles.Names.{is, named}
 use Rattle.redl_tree.specs.declared.kinds.Space.{Space}
 use Rattle.redl_tree.specs.declared.kinds.Space.TheVariants.{Other}
@@ -31,11 +31,6 @@ holds_blocks no_nodes = false
 holds_blocks (bytes b rest) = holds_blocks rest
 holds_blocks (element tag kids rest) = is_block tag || holds_blocks kids || holds_blocks rest
 
--- what one node is or holds
-abbrev pub item_holds : Item → Bool
-item_holds (bytes_item b) = false
-item_holds (element_item tag kids) = is_block tag || holds_blocks kids
-
 -- ---- bold and italic runs
 
 -- the value switches a property off (ECMA-376 Part 1, 17.17.4)
@@ -59,15 +54,6 @@ has_property name no_nodes = false
 has_property name (bytes b rest) = has_property name rest
 has_property name (element tag kids rest) = (is "rPr" tag && switched_on name kids) || has_property name rest
 
--- what one node does or has
-abbrev pub item_switches : List ℕ → Item → Bool
-item_switches name (bytes_item b) = false
-item_switches name (element_item tag kids) = switches name tag
-
-abbrev pub item_has_property : List ℕ → Item → Bool
-item_has_property name (bytes_item b) = false
-item_has_property name (element_item tag kids) = is "rPr" tag && switched_on name kids
-
 -- a run that is bold or not, and italic or not (17.3.2.1 and 17.3.2.16)
 abbrev pub run_shape : Bool → Bool → Shape
 run_shape false false = Nothing
@@ -77,23 +63,28 @@ run_shape true true = BoldItalic
 
 -- ---- notes
 
+-- a reference to a note
+abbrev pub is_reference : Tag → Bool
+is_reference tag = is "footnoteReference" tag || is "endnoteReference" tag
+
 -- a reference to a note, or a note that is no separator (17.11)
 abbrev pub is_note : Tag → Bool
-is_note tag =
-    is "footnoteReference" tag || is "endnoteReference" tag
-    || ((is "footnote" tag || is "endnote" tag) && not (is_some (attribute_value tag.tail (codes "type"))))
+is_note tag = is_reference tag || ((is "footnote" tag || is "endnote" tag) && not (is_some (attribute_value tag.tail (codes "type"))))
 
 -- ---- shapes
 
--- what an element is shown as by its name, where it is no block
-abbrev pub inline_named : Tag → Shape
-inline_named tag =
+-- what an element is shown as by its name, where it is no block, and is a note or none
+abbrev pub inline_shape : Bool → Tag → Shape
+inline_shape note tag =
     if is "tab" tag then Tab
     else if is "br" tag || is "cr" tag then Break
     else if is "noBreakHyphen" tag then Hyphen
     else if is "drawing" tag || is "pict" tag || is "object" tag then Picture
-    else if is_note tag then Note
+    else if note then Note
     else Nothing
+
+abbrev pub inline_named : Tag → Shape
+inline_named tag = inline_shape (is_note tag) tag
 
 -- what an element is shown as by its name
 abbrev pub shape_named : Tag → Nodes → Shape
@@ -168,15 +159,6 @@ abbrev pub style_of : Nodes → Option (List ℕ)
 style_of no_nodes = None
 style_of (bytes b rest) = style_of rest
 style_of (element tag kids rest) = option_or (if is "pPr" tag then style_in kids else None) (style_of rest)
-
--- what one node names
-abbrev pub item_style_in : Item → Option (List ℕ)
-item_style_in (bytes_item b) = None
-item_style_in (element_item tag kids) = if is "pStyle" tag then written_value tag.tail (codes "val") else None
-
-abbrev pub item_style : Item → Option (List ℕ)
-item_style (bytes_item b) = None
-item_style (element_item tag kids) = if is "pPr" tag then style_in kids else None
 
 -- the end of the start tag of a paragraph with this style, as it is written, if it has one
 abbrev pub style_pieces : Option (List ℕ) → List Piece

@@ -7,7 +7,9 @@
 #![tactic(auto)]
 
 mod changes;
+mod emphasis;
 mod escape;
+mod idle;
 mod laws;
 mod marks;
 mod nodes;

@@ -4,8 +4,9 @@ ghost use Rattle.std.specs.Prelude.{◌≡◌};
 ghost use Rattle.redl_io.specs.Sink.{Puts};
 ghost use Rattle.redl_tree.specs.Model.View.{nodes_of, item_of, tag_of, kids_of};
 ghost use Rattle.redl_tree.specs.Roles.Kinds.{is_mark};
-ghost use Rattle.redl_page.specs.Document.{element_marks, item_marks, marks_in};
+ghost use Rattle.redl_page.specs.Document.{marks_in};
 ghost use Rattle.redl_page.specs.Pieces.{pieces_text};
+ghost use Rattle.redl_page.specs.Inside.Items.{element_marks, item_marks};
 
 use crate::sign::put_member;
 use redl_index::Index;
@@ -48,6 +49,7 @@ fn put_node_marks<K: Sink>(
     match node {
         Node::Elem(elem) => put_elem_marks(index, depth, elem, out),
         Node::Bytes(_) => Ok(()),
+        Node::Plain(_) => Ok(()),
     }
 }
 

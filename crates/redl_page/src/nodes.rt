@@ -4,15 +4,17 @@ ghost use Rattle.std.specs.Prelude.{◌≡◌, if◌then◌else◌, [], codes};
 ghost use Rattle.redl_io.specs.Sink.{Puts};
 ghost use Rattle.redl_tree.specs.Model.View.{nodes_of, item_of, tag_of, kids_of};
 ghost use Rattle.redl_shown.specs.Shown.{shown};
-ghost use Rattle.redl_page.specs.Document.{bytes_pieces, element_pieces, end_as, inside, item_pieces, marks_in, nodes_pieces, shape_end, shape_start, start_as};
+ghost use Rattle.redl_page.specs.Document.{element_pieces, end_as, inside, marks_in, nodes_pieces, shape_end, shape_start, start_as};
 ghost use Rattle.redl_page.specs.Pieces.{pieces_text};
 ghost use Rattle.redl_page.specs.Shapes.{behind_opening, is_paragraph};
 ghost use Rattle.redl_page.specs.declared.marks.Depth.TheVariants.{Kids};
+ghost use Rattle.redl_page.specs.Inside.Items.{item_pieces};
 
+use crate::idle::put_idle;
 use crate::marks::{Depth, put_marks};
 use crate::place::Place;
 use crate::shape::Shape;
-use crate::shown::put_shown;
+use crate::shown::put_bytes;
 use crate::sign::{content_end, put_edge, put_member};
 use crate::values::{put_note, put_style, style_of, written_value};
 use redl_index::Index;
@@ -42,6 +44,7 @@ fn put_node<K: Sink>(index: &Index, place: Place, node: &Node, out: &mut K) -> R
     match node {
         Node::Elem(elem) => put_elem(index, place, elem, out),
         Node::Bytes(bytes) => put_bytes(place, bytes, out),
+        Node::Plain(plain) => put_idle(place, plain, out),
     }
 }
 
@@ -54,15 +57,6 @@ fn put_elem<K: Sink>(index: &Index, place: Place, elem: &Elem, out: &mut K) -> R
     put_start(index, shape, elem, out)?;
     put_nodes(index, place.inside(elem), elem.kids(), out)?;
     put_end(index, shape, elem, out)
-}
-
-fn put_bytes<K: Sink>(place: Place, bytes: &[u8], out: &mut K) -> Result<(), Failed>
-    ensures { Puts K.told K.faults K.settled K.lenders out.old out.new (pieces_text (bytes_pieces shown place bytes.now)) result }
-{
-    if place.shows {
-        return put_shown(bytes, out);
-    }
-    Ok(())
 }
 
 // Puts what comes before the kids of an element.

@@ -16,6 +16,7 @@ pub(crate) struct Place {
 
 impl Place {
     ghost use Rattle.redl_page.specs.Document.{in_story, inside};
+    ghost use Rattle.redl_page.specs.Inside.Idle.{idle_place};
 
     /// The place of the kids of a story's root.
     pub(crate) fn in_story() -> Place
@@ -34,6 +35,16 @@ impl Place {
         Place {
             loud: self.loud && !is_quiet(elem),
             shows: self.loud && (is_named(elem, b"t") || is_word(elem, Word::DelText)),
+        }
+    }
+
+    /// The place of the kids of an idle element with this local name that has this place.
+    pub(crate) fn inside_idle(self, local: &[u8]) -> Place
+        ensures { result ≡ idle_place self local.now }
+    {
+        Place {
+            loud: self.loud && local != b"rPr".as_slice(),
+            shows: self.loud && local == b"t".as_slice(),
         }
     }
 }

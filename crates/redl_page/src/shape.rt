@@ -1,10 +1,14 @@
 //! How elements are shown that are in no revision.
 
-ghost use Rattle.std.specs.Prelude.{◌≡◌, codes, if◌then◌else◌};
+ghost use Rattle.std.specs.Prelude.{◌≡◌, ◌||◌, codes, if◌then◌else◌};
 ghost use Rattle.redl_tree.specs.Model.View.{nodes_of, item_of, tag_of, kids_of};
-ghost use Rattle.redl_page.specs.Shapes.{closing, has_property, holds_blocks, inline_named, is_block, is_note, is_other_form, is_paragraph, item_holds, opening, run_shape, shape_named, shape_of};
+ghost use Rattle.redl_tree.specs.Roles.Names.{is, of_w};
+ghost use Rattle.redl_idle.specs.Ahead.{Begins};
+ghost use Rattle.redl_page.specs.Inside.Idle.{idle_shape};
+ghost use Rattle.redl_page.specs.Shapes.{closing, has_property, holds_blocks, inline_named, inline_shape, is_block, is_note, is_other_form, is_paragraph, is_reference, opening, run_shape, shape_named, shape_of};
+ghost use Rattle.redl_page.specs.Inside.Items.{item_holds};
 
-use crate::values::has_property;
+use crate::emphasis::Emphasis;
 use redl_stamp::has_attribute;
 use redl_tree::{Elem, Node, Space, Word, is_named, is_word};
 
@@ -85,9 +89,14 @@ impl Shape {
     fn of_run(elem: &Elem) -> Shape
         ensures { result ≡ run_shape (has_property (codes "b") (kids_of elem.now)) (has_property (codes "i") (kids_of elem.now)) }
     {
-        let bold = has_property(elem.kids(), b"b");
-        let italic = has_property(elem.kids(), b"i");
-        match (bold, italic) {
+        Shape::set(Emphasis::of_run(elem.kids()))
+    }
+
+    // The shape of a run that is set so.
+    fn set(emphasis: Emphasis) -> Shape
+        ensures { result ≡ run_shape emphasis.bold emphasis.italic }
+    {
+        match (emphasis.bold, emphasis.italic) {
             (false, false) => Shape::Nothing,
             (true, false) => Shape::Bold,
             (false, true) => Shape::Italic,
@@ -98,22 +107,47 @@ impl Shape {
     fn inline(elem: &Elem) -> Shape
         ensures { result ≡ inline_named (tag_of elem.now) }
     {
-        if is_named(elem, b"tab") {
+        if elem.space() != Space::W {
+            return Shape::Nothing;
+        }
+        Shape::inline_by(elem.local(), is_note(elem))
+    }
+
+    // The shape of an element of W with this local name, which is a note or none.
+    fn inline_by(local: &[u8], is_note: bool) -> Shape
+        ensures { result ≡ inline_shape is_note (of_w local.now) }
+    {
+        if local == b"tab".as_slice() {
             return Shape::Tab;
         }
-        if is_named(elem, b"br") || is_named(elem, b"cr") {
+        if local == b"br".as_slice() || local == b"cr".as_slice() {
             return Shape::Break;
         }
-        if is_named(elem, b"noBreakHyphen") {
+        if local == b"noBreakHyphen".as_slice() {
             return Shape::Hyphen;
         }
-        if is_named(elem, b"drawing") || is_named(elem, b"pict") || is_named(elem, b"object") {
+        if is_picture(local) {
             return Shape::Picture;
         }
-        if is_note(elem) {
+        if is_note {
             return Shape::Note;
         }
         Shape::Nothing
+    }
+
+    /// The shape of an idle element with this local name, with whose kids a text begins, where no ancestor holds properties or one
+    /// does.
+    pub(crate) fn of_idle(local: &[u8], ahead: &[u8], loud: bool) -> Shape
+        requires { Begins ahead.now }
+        ensures { (kids : Begins ahead.now) → result ≡ idle_shape loud local.now kids.nodes }
+    {
+        if !loud {
+            return Shape::Nothing;
+        }
+        if local == b"r".as_slice() {
+            return Shape::set(Emphasis::of_run_ahead(ahead));
+        }
+        Shape::inline_by(local, is_reference(local))
     }
 
     /// Whether it is that of a paragraph.
@@ -172,6 +206,20 @@ impl Shape {
     }
 }
 
+// Whether an element of W with this local name is a picture.
+fn is_picture(local: &[u8]) -> bool
+    ensures { result ≡ (is "drawing" (of_w local.now) || is "pict" (of_w local.now) || is "object" (of_w local.now)) }
+{
+    local == b"drawing".as_slice() || local == b"pict".as_slice() || local == b"object".as_slice()
+}
+
+// Whether an element of W with this local name is a reference to a note.
+fn is_reference(local: &[u8]) -> bool
+    ensures { result ≡ is_reference (of_w local.now) }
+{
+    local == b"footnoteReference".as_slice() || local == b"endnoteReference".as_slice()
+}
+
 // Whether an element is a reference to a note, or a note that is no separator.
 fn is_note(elem: &Elem) -> bool
     ensures { result ≡ is_note (tag_of elem.now) }
@@ -216,5 +264,6 @@ fn node_holds(node: &Node) -> bool
     match node {
         Node::Elem(elem) => is_block(elem) || holds_blocks(elem.kids()),
         Node::Bytes(_) => false,
+        Node::Plain(_) => false,
     }
 }

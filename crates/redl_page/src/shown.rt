@@ -4,13 +4,26 @@ ghost use Rattle.std.specs.Prelude.{◌≡◌, IfOk, false};
 ghost use Rattle.redl_io.specs.Sink.{Puts};
 ghost use Rattle.redl_shown.specs.Pieces.{piece_text};
 ghost use Rattle.redl_shown.specs.Shown.{shown};
+ghost use Rattle.redl_page.specs.Document.{bytes_pieces};
 ghost use Rattle.redl_page.specs.Escaping.{escaped, escaped_so_far, waits_after};
+ghost use Rattle.redl_page.specs.Pieces.{pieces_text};
 
 use crate::escape::{put_part, put_waiting};
+use crate::place::Place;
 use redl_io::{Failed, Sink};
 use redl_shown::{Piece, next_shown, start};
 
-/// Puts what the bytes of a node show. It takes no memory.
+/// Puts what the bytes of a node show that has this place. It takes no memory.
+pub(crate) fn put_bytes<K: Sink>(place: Place, bytes: &[u8], out: &mut K) -> Result<(), Failed>
+    ensures { Puts K.told K.faults K.settled K.lenders out.old out.new (pieces_text (bytes_pieces shown place bytes.now)) result }
+{
+    if place.shows {
+        return put_shown(bytes, out);
+    }
+    Ok(())
+}
+
+/// Puts what bytes show. It takes no memory.
 pub(crate) fn put_shown<K: Sink>(bytes: &[u8], out: &mut K) -> Result<(), Failed>
     ensures { Puts K.told K.faults K.settled K.lenders out.old out.new (escaped (shown bytes.now)) result }
 {

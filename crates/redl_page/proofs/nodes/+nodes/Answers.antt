@@ -2,10 +2,12 @@ use Rattle.std.proofs.Common.{arith, ap, sym, ◌∙◌, drop, ◌+◌, ◌++◌
 use Rattle.redl_io.proofs.Puts.{puts_then, puts_fails, so_far_begins, so_far_goes_on, so_far_stops, so_far_ends}
 use Rattle.redl_shown.specs.Shown.{shown}
 use Rattle.redl_tree.specs.Model.View.{nodes_of, item_of, tag_of, kids_of}
-use Rattle.redl_tree.proofs.Laws.{nodes_here, nodes_end}
-use Rattle.redl_page.specs.Document.{nodes_pieces, item_pieces, end_as, inside}
+use Rattle.redl_tree.proofs.Laws.{item_of-Plain, nodes_here, nodes_end}
+use Rattle.redl_page.specs.Document.{nodes_pieces, end_as, inside}
 use Rattle.redl_page.specs.Pieces.{pieces_text}
-use Rattle.redl_page.proofs.PieceLaws.{nodes_text, element_text-by}
+use Rattle.redl_page.specs.Inside.Items.{item_pieces}
+use Rattle.redl_page.proofs.IdleLaws.{page_idle}
+use Rattle.redl_page.proofs.PieceLaws.{nodes_text, element_text-by, puts_is}
 use Rattle.redl_page.proofs.nodes.+nodes.Goals as goal
 
 pub put_nodes-loop-node-init : goal.put_nodes-loop-node-init
@@ -34,6 +36,11 @@ put_nodes-loop-node-preserved g t c =
 pub put_nodes-returns : goal.put_nodes-returns
 put_nodes-returns g t c =
     so_far_ends (ap (λ n. pieces_text (nodes_pieces shown c.args.index.now c.args.place n)) (nodes_end c.args.nodes.now c.loop-node.node-index (omega arith))) c.loop-node.invariant
+
+pub put_node-returns-in-Plain : goal.put_node-returns-in-Plain
+put_node-returns-in-Plain g t c =
+    puts_is (ap (λ x. pieces_text (item_pieces shown c.args.index.now c.args.place x)) (ap item_of c.in-Plain.is ∙ item_of-Plain c.in-Plain.plain)
+    ∙ page_idle c.args.index.now c.args.place c.in-Plain.plain) c.put_idle.ensures
 
 pub put_elem-returns-in_err-put_start : goal.put_elem-returns-in_err-put_start
 put_elem-returns-in_err-put_start g t c =
