@@ -77,6 +77,12 @@ names_listed bs x e =
     let listed = ap attributes_of cut ∙ lists_all t.attributes t.space t.each t.is_space in
     t.names ∙ names_of t.attributes ∙ sym (ap (map (λ (a : Name × List ℕ). a.0)) listed)
 
+-- Nothing has none.
+pub names_of_none : (rest : List ℕ) → names_in (before rest rest) ≡ []
+names_of_none rest =
+    let none : before rest rest ≡ [] = before-append [] rest in
+    ap names_in none ∙ ap (map (λ (a : Name × List ℕ). a.0)) (lists_all [] [] tt refl)
+
 -- ---- the bytes of names
 
 parts_pass : (p : ℕ → Bool) (xs ys : List ℕ) → list_all p (xs ++ ys) ≡ true → (list_all p xs ≡ true) × (list_all p ys ≡ true)

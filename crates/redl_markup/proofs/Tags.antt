@@ -52,6 +52,14 @@ tail_again tail rest h end =
     let read : turns tail_step (suc (length (tail ++ rest))) ([], tail ++ rest) ≡ Some (map (λ a. a.name) h.attributes, rest) = ap (λ (z : List ℕ). turns tail_step (suc (length (tail ++ rest))) ([], z)) whole ∙ tail_again_turns h.attributes (suc (length (tail ++ rest))) [] h.space rest long h.each h.is_space end in
     rw (read, h.distinct, before-append tail rest) refl
 
+-- a tag that ends behind its name has no attributes
+no_attributes : IsTail []
+unfolding are_distinct
+no_attributes = record { attributes = []; space = []; each = tt; is_space = refl; distinct = refl; whole = refl }
+
+pub tail_of_none : (rest : List ℕ) → ends_tag rest ≡ true → tail_at rest ≡ Some (before rest rest, rest)
+tail_of_none rest end = tail_again [] rest no_attributes end ∙ ap (λ (z : List ℕ). Some (z, rest)) (sym (before-append [] rest))
+
 end_ends_name : (rest : List ℕ) → ends_tag rest ≡ true → ends_name rest ≡ true
 unfolding ends_tag is_delimiter is_space
 end_ends_name [] h = refl

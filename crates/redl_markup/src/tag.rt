@@ -64,6 +64,12 @@ fn tail<'a>(
     ensures read { Finds (λ x. (before bytes.entry.now x.1.now, x.1.now)) result (tail_at bytes.entry.now) }
     ensures names { IfOk result (λ x. map name_view x.0.items ≡ names_in (before bytes.entry.now x.1.now)) }
 {
+    if is_at_end(bytes) {
+        // Many tags have no attributes.
+        let mut names = list;
+        names.clear();
+        return Ok((names, bytes));
+    }
     let (names, rest) = attributes(list, bytes)?;
     if no_two_alike(alloc, &names)? {
         Ok((names, rest))

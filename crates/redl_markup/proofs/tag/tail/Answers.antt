@@ -1,7 +1,14 @@
-use Rattle.std.proofs.Common.{map}
+use Rattle.std.proofs.Common.{map, ◌∙◌, ap, sym}
 use Rattle.redl_markup.specs.Views.{name_view}
-use Rattle.redl_markup.proofs.Listing.{names_listed}
+use Rattle.redl_markup.proofs.Listing.{names_listed, names_of_none}
+use Rattle.redl_markup.proofs.Tags.{tail_of_none}
 use Rattle.redl_markup.proofs.tag.tail.Goals as goal
+
+pub returns-then-is_at_end-clause-read : goal.returns-then-is_at_end-clause-read
+returns-then-is_at_end-clause-read c = tail_of_none c.args.bytes.now (sym c.is_at_end.ensures ∙ c.if-is_at_end.true)
+
+pub returns-then-is_at_end-clause-names : goal.returns-then-is_at_end-clause-names
+returns-then-is_at_end-clause-names c = ap (map name_view) c.clear.ensures.items ∙ sym (names_of_none c.args.bytes.now)
 
 pub returns-then-branch-clause-names : goal.returns-then-branch-clause-names
 returns-then-branch-clause-names c =
