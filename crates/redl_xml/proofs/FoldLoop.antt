@@ -20,8 +20,9 @@ use Rattle.redl_markup.proofs.Pieces.{piece_takes, piece_shorter}
 use Rattle.redl_xml.specs.Inside.Elements.{one_element}
 use Rattle.redl_tree.specs.Model.Folds.{Open, Level, level, shut, put, nodes_at}
 use Rattle.redl_tree.specs.Roles.Idle.{AllTags}
-use Rattle.redl_xml.specs.Inside.Passing.{HoldsOf, HoldsIn, piece_count, piece_elements, is_run_open, shut_name, put_name, names_view, IsPassed}
+use Rattle.redl_xml.specs.Inside.Passing.{HoldsOf, HoldsIn, piece_count, piece_elements, is_run_open, shut_name, put_name, names_view, rest_behind, IsPassed}
 use Rattle.redl_xml.specs.Shapes.{depth_of}
+use Rattle.redl_xml.specs.declared.idle.Idle.{Idle}
 use Rattle.redl_xml.specs.Inside.Sizes.{deepest_with}
 use Rattle.redl_xml.proofs.Measures.{count-⊕, depth-⊕}
 use Rattle.redl_tree.proofs.TreeTexts.{tree-then}
@@ -319,3 +320,7 @@ last_holds {A} P n this before here earlier = by (n == 0) refl where
   by : (b : Bool) → (n == 0) ≡ b → IfSome (if b then Some this else before) P
   by true e = here (eqb-true n 0 e)
   by false e = earlier
+
+-- where this one is, the bytes behind it are those behind
+pub last_rest : (bs : List ℕ) (n : ℕ) (this : Idle) (before : Option Idle) → n ≡ 0 → rest_behind bs (if n == 0 then Some this else before) ≡ this.rest.now
+last_rest bs n this before e = rw e refl

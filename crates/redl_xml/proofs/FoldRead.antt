@@ -1,5 +1,5 @@
 -- The loop that reads an element, over a text that was passed over: its nodes are added, and its sizes.
-use Rattle.std.proofs.Common.{◌≡◌, ◌≢◌, ◌≤◌, ◌+◌, ℕ, max, List, [], ◌∷◌, ◌++◌, length, refl, sym, ap, subst, ◌∙◌, arith}
+use Rattle.std.proofs.Common.{◌≡◌, ◌≢◌, ◌≤◌, ◌+◌, ℕ, max, List, [], ◌∷◌, ◌++◌, length, refl, sym, ap, subst, ◌∙◌, arith, inl, inr}
 use Rattle.redl_tree.specs.Model.Nodes.{Nodes, ◌⊕◌}
 use Rattle.redl_tree.specs.Model.Count.{count}
 use Rattle.redl_tree.specs.declared.kinds.Space.{Space}
@@ -12,7 +12,7 @@ use Rattle.redl_xml.specs.Inside.Elements.{Frame, State, added, without_nodes}
 use Rattle.redl_xml.specs.Inside.Sizes.{capped}
 use Rattle.redl_tree.specs.Model.Folds.{nodes_in, Reads}
 use Rattle.redl_tree.specs.Model.Laid.{Fits}
-use Rattle.redl_xml.specs.Inside.Passing.{ArePlainIn, AddsText}
+use Rattle.redl_xml.specs.Inside.Passing.{ArePlainIn, AddsText, GoesAhead}
 use Rattle.redl_xml.proofs.Bare.{open_alike}
 use Rattle.redl_xml.proofs.Buildings.{state}
 use Rattle.redl_xml.proofs.Loops.{Loop}
@@ -78,3 +78,14 @@ reading_keeps limits rest s s' sizes bs g alike kept = record {
   alike = alike ∙ g.alike;
   kept = λ deep few. kept deep few ∙ g.kept deep few;
 }
+
+-- what passing over and counting tell together
+pub reading_ahead : (limits : Limits) (bs rest behind : List ℕ) (s s' : State) (old new : Sizes) → IsRead limits rest s old bs → GoesAhead limits s s' old new rest behind → IsRead limits behind s' new bs
+reading_ahead limits bs rest behind s s' old new g (inl a) =
+    reading_keeps limits behind a.made s' new bs (reading_adds limits bs rest behind s a.made a.nodes a.deepest (length s.open_elements) old new g a.adds refl a.deep a.many) a.alike a.kept
+reading_ahead limits bs rest behind s s' old new g (inr e) = rw (e.0, e.1, e.2) g
+
+-- no bytes come ahead
+pub ahead_shorter : (limits : Limits) (rest behind : List ℕ) (s s' : State) (old new : Sizes) → GoesAhead limits s s' old new rest behind → length behind ≤ length rest
+ahead_shorter limits rest behind s s' old new (inl a) = omega (arith, a.adds.is.shorter)
+ahead_shorter limits rest behind s s' old new (inr e) = omega (arith, ap length e.2)

@@ -21,7 +21,7 @@ use Rattle.redl_markup.specs.declared.name.Name as code
 use Rattle.redl_markup.specs.declared.place.Place.TheVariants.{InElement}
 use Rattle.redl_markup.specs.Pieces.{Piece}
 use Rattle.redl_markup.specs.ScanPieces.{piece_at}
-use Rattle.redl_xml.specs.Inside.Passing.{HoldsIn, ArePlainIn, IsIdleIn, IsPassed, IsIdleText, is_run_open, put_name, names_view}
+use Rattle.redl_xml.specs.Inside.Passing.{HoldsIn, ArePlainIn, IsIdleIn, IsPassed, IsIdleText, PassesPiece, is_run_open, names_view}
 use Rattle.redl_xml.proofs.FoldLoop.{IsTurn}
 
 plain_in : (scope : Scope) (in_run : Bool) (nodes : Nodes) → AllTags (IsIdleIn scope) in_run nodes → ArePlainIn scope W nodes
@@ -108,9 +108,7 @@ idle_text_there scope bs rest nodes elems deepest g some small =
     }
 
 -- what the calls of a turn tell
-pub idle_turn : (scope now : Scope) (in_run : Bool) (rest behind : List ℕ) (ns ns' : List code.Name) (p : Piece) → now ≡ scope → in_run ≡ is_run_open W (names_view ns) → piece_at InElement rest ≡ Some (p, behind) → put_name p (names_view ns) ≡ Some (names_view ns') → HoldsIn (IsIdleIn now) in_run W p
-    → IsTurn (IsIdleIn scope) W rest behind ns ns' p
-idle_turn scope now in_run rest behind ns ns' p same known read taken holds =
-    let Q : Scope → Type 0 = λ s. HoldsIn (IsIdleIn s) in_run W p in
-    let R : Bool → Type 0 = λ b. HoldsIn (IsIdleIn scope) b W p in
-    record { read = read; taken = taken; holds = subst R known (subst Q same holds) }
+pub idle_turn : (scope now : Scope) (rest behind : List ℕ) (ns ns' : List code.Name) (p : Piece) → now ≡ scope → piece_at InElement rest ≡ Some (p, behind) → PassesPiece now ns ns' p → IsTurn (IsIdleIn scope) W rest behind ns ns' p
+idle_turn scope now rest behind ns ns' p same read passes =
+    let Q : Scope → Type 0 = λ s. HoldsIn (IsIdleIn s) (is_run_open W (names_view ns)) W p in
+    record { read = read; taken = passes.taken; holds = subst Q same passes.holds }

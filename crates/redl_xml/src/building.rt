@@ -4,13 +4,15 @@ ghost use Rattle.std.specs.Prelude.{◌≡◌, ◌≤◌, OnOk, IfOk, IfSome, Is
 ghost use Rattle.redl_tree.specs.Model.Nodes.{no_nodes, in_front, ◌⊕◌};
 ghost use Rattle.redl_tree.specs.Model.View.{item_of, nodes_of};
 ghost use Rattle.redl_markup.specs.Views.{name_view};
+ghost use Rattle.redl_markup.specs.declared.place.Place.TheVariants.{InElement};
+ghost use Rattle.redl_markup.specs.ScanPieces.{piece_at};
 ghost use Rattle.redl_markup.specs.PieceViews.{piece_view};
 ghost use Rattle.redl_markup.specs.Pieces.{start_tag, empty_tag, end_tag, stretch};
 ghost use Rattle.redl_xml.specs.Inside.Elements.{placed, nothing_yet, without_nodes};
 ghost use Rattle.redl_xml.specs.Inside.Buildings.{frame_view, building_view};
-ghost use Rattle.redl_xml.specs.Inside.Passing.{AddsText};
+ghost use Rattle.redl_xml.specs.Inside.Passing.{AddsText, rest_behind};
 
-use crate::idle::{Idle, skip_plain};
+use crate::idle::{Passed, Tried, Tries, skip_plain};
 use crate::namespaces::enter;
 use crate::open_element::OpenElement;
 use crate::sizes::{Limits, Sizes};
@@ -161,27 +163,35 @@ impl<'a> Building<'a> {
         }
     }
 
-    /// Passes over the nodes with which the bytes begin, as long as no walk finds anything in them, and adds them as one text.
-    /// `None` says nothing of the bytes. Where a try failed, none begins before the place where that one ended.
+    /// Passes over the nodes with which the bytes begin, as long as no walk finds anything in them, and adds them as one text. Where
+    /// a try ended, none begins before that place: nothing is said where none is passed over.
     ///
     /// The upper levels of a package are kept as elements, since they are looked at by their places.
     pub(crate) fn pass_over(
         &mut self,
         alloc: Global,
-        tried: &mut usize,
+        tries: &mut Tries<'a>,
         bytes: &'a [u8],
-    ) -> Result<Option<Idle<'a>>, AllocError>
-        ensures passed { IfOk result (λ o. IfSome o (λ idle. AddsText (building_view self.old) (building_view self.new) bytes.entry.now idle.rest.now idle.nodes idle.deepest)) }
-        ensures none { IfOk result (λ o. IsNone o → building_view self.new ≡ building_view self.old) }
+    ) -> Result<Tried<'a>, AllocError>
+        ensures passed { IfOk result (λ tried. IfSome tried.idle (λ idle. AddsText (building_view self.old) (building_view self.new) bytes.entry.now idle.rest.now idle.nodes idle.deepest)) }
+        ensures none { IfOk result (λ tried. IsNone tried.idle → building_view self.new ≡ building_view self.old) }
+        ensures next { IfOk result (λ tried. IfSome tried.next (λ x. piece_at InElement (rest_behind bytes.entry.now tried.idle) ≡ Some (piece_view x.0, x.1.now))) }
     {
-        if self.open.len() < UPPER_LEVELS || bytes.len() > *tried || !begins_element(bytes) {
-            return Ok(None);
+        if self.open.len() < UPPER_LEVELS || bytes.len() >= tries.left || !begins_element(bytes) {
+            return Ok(Tried {
+                idle: None,
+                next: None,
+            });
         }
-        let Some((plain, idle)) = skip_plain(alloc, &mut self.scopes, tried, bytes)? else {
-            return Ok(None);
+        let Passed { text, next } = skip_plain(alloc, &mut self.scopes, tries, bytes)?;
+        let Some((plain, idle)) = text else {
+            return Ok(Tried { idle: None, next });
         };
         push_node(&mut self.kids, Node::Plain(plain))?;
-        Ok(Some(idle))
+        Ok(Tried {
+            idle: Some(idle),
+            next,
+        })
     }
 
     /// Drops the nodes so far if the sizes are past a limit.

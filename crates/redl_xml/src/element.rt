@@ -1,16 +1,22 @@
 //! One element, read to its end.
 
-ghost use Rattle.std.specs.Prelude.{◌≡◌, ◌≤◌, IfOk, Some};
+ghost use Rattle.std.specs.Prelude.{◌≡◌, ◌≤◌, IfOk, IfSome, Some};
 ghost use Rattle.redl_tree.specs.Model.View.{nodes_of};
 ghost use Rattle.redl_markup.specs.Reading.{Finds};
+ghost use Rattle.redl_markup.specs.declared.place.Place.TheVariants.{InElement};
+ghost use Rattle.redl_markup.specs.ScanPieces.{piece_at};
+ghost use Rattle.redl_markup.specs.PieceViews.{piece_view};
+ghost use Rattle.redl_xml.specs.Inside.Buildings.{building_view};
+ghost use Rattle.redl_xml.specs.Inside.Passing.{GoesAhead};
 ghost use Rattle.redl_xml.specs.Inside.Elements.{element_at};
 ghost use Rattle.redl_xml.specs.Inside.Sizes.{element_sizes};
 
 use crate::building::Building;
+use crate::idle::Tries;
 use crate::sizes::{Limits, Sizes};
-use redl_markup::{MarkupError, Place, next_piece};
+use redl_markup::{MarkupError, Name, Piece, Place, next_piece};
 use redl_tree::Node;
-use std::alloc::Global;
+use std::alloc::{AllocError, Global};
 
 /// An element that was read, and the bytes after it. Past a limit there are no nodes.
 #[derive(Drop)]
@@ -18,6 +24,56 @@ pub(crate) struct Element<'a> {
     pub(crate) nodes: Vec<Node<'a>>,
     pub(crate) sizes: Sizes,
     pub(crate) rest: &'a [u8],
+}
+
+/// The bytes ahead, and the piece with which they begin with the bytes after it, if that was read.
+#[derive(Drop)]
+struct Ahead<'a> {
+    rest: &'a [u8],
+    next: Option<(Piece<'a>, &'a [u8])>,
+}
+
+/// Passes over nodes in which no walk finds anything, if the bytes begin with some, and counts them.
+fn pass_over<'a>(
+    alloc: Global,
+    limits: Limits,
+    building: &mut Building<'a>,
+    sizes: &mut Sizes,
+    tries: &mut Tries<'a>,
+    bytes: &'a [u8],
+) -> Result<Ahead<'a>, AllocError>
+    ensures ahead { IfOk result (λ ahead. GoesAhead limits (building_view building.old) (building_view building.new) sizes.old sizes.new bytes.entry.now ahead.rest.now) }
+    ensures next { IfOk result (λ ahead. IfSome ahead.next (λ x. piece_at InElement ahead.rest.now ≡ Some (piece_view x.0, x.1.now))) }
+{
+    let tried = building.pass_over(alloc, tries, bytes)?;
+    let Some(idle) = tried.idle else {
+        return Ok(Ahead {
+            rest: bytes,
+            next: tried.next,
+        });
+    };
+    sizes.add_nodes(limits.nodes, idle.nodes, building.open.len(), idle.deepest);
+    building.keep_within(limits, *sizes);
+    Ok(Ahead {
+        rest: idle.rest,
+        next: tried.next,
+    })
+}
+
+/// The piece ahead, and the bytes after it.
+#[inline(always)]
+fn piece_ahead<'a>(
+    alloc: Global,
+    list: &mut Vec<Name<'a>>,
+    ahead: Ahead<'a>,
+) -> Result<(Piece<'a>, &'a [u8]), MarkupError>
+    requires { IfSome ahead.next (λ x. piece_at InElement ahead.rest.now ≡ Some (piece_view x.0, x.1.now)) }
+    ensures { Finds (λ x. (piece_view x.0, x.1.now)) result (piece_at InElement ahead.entry.rest.now) }
+{
+    match ahead.next {
+        Some(found) => Ok(found),
+        None => next_piece(alloc, list, ahead.rest, Place::InElement),
+    }
 }
 
 /// The element with which the bytes begin.
@@ -38,18 +94,12 @@ pub(crate) fn read_element(
         nodes: 0,
     };
     let mut rest = bytes;
-    let mut list = Vec::new(alloc);
-    let mut tried = bytes.len();
+    let mut tries = Tries::new(alloc, bytes);
     loop {
-        if let Some(idle) = building.pass_over(alloc, &mut tried, rest)? {
-            sizes.add_nodes(limits.nodes, idle.nodes, building.open.len(), idle.deepest);
-            building.keep_within(limits, sizes);
-            rest = idle.rest;
-            continue;
-        }
-        let (piece, behind) = next_piece(alloc, &mut list, rest, Place::InElement)?;
+        let ahead = pass_over(alloc, limits, &mut building, &mut sizes, &mut tries, rest)?;
+        let (piece, behind) = piece_ahead(alloc, &mut tries.list, ahead)?;
         sizes.add_piece(limits.nodes, &piece, building.open.len() + 1);
-        building.place(alloc, &mut list, piece)?;
+        building.place(alloc, &mut tries.list, piece)?;
         building.keep_within(limits, sizes);
         rest = behind;
         if building.open.is_empty() {

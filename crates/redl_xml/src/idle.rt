@@ -1,13 +1,14 @@
 //! Elements that are passed over as they stand.
 
-ghost use Rattle.std.specs.Prelude.{◌≡◌, ◌==◌, length, true, false, IfOk, IfSome, Some, if◌then◌else◌};
+ghost use Rattle.std.specs.Prelude.{◌≡◌, ◌==◌, length, true, false, option_map, IfOk, IfSome, Some, if◌then◌else◌};
 ghost use Rattle.redl_markup.specs.declared.place.Place.TheVariants.{InElement};
 ghost use Rattle.redl_markup.specs.ScanPieces.{piece_at};
 ghost use Rattle.redl_tree.specs.declared.kinds.Space.TheVariants.{W};
 ghost use Rattle.redl_tree.specs.Model.Folds.{nodes_in};
 ghost use Rattle.redl_markup.specs.PieceViews.{piece_view};
 ghost use Rattle.redl_xml.specs.Inside.Sizes.{deepest_with};
-ghost use Rattle.redl_xml.specs.Inside.Passing.{HoldsOf, HoldsIn, IsPlainIn, IsIdleIn, IsPassed, IsIdleText, piece_count, piece_elements, is_run_open, put_name, names_view};
+ghost use Rattle.redl_xml.specs.Scopes.{Scope};
+ghost use Rattle.redl_xml.specs.Inside.Passing.{HoldsOf, HoldsIn, IsPlainIn, IsIdleIn, IsPassed, IsIdleText, PassesPiece, piece_count, piece_elements, is_run_open, put_name, names_view, rest_behind};
 
 use crate::namespaces::{are_plain, element_space};
 use crate::spaces::Spaces;
@@ -22,6 +23,41 @@ pub(crate) struct Idle<'a> {
     pub(crate) nodes: usize,
     pub(crate) elems: usize,
     pub(crate) deepest: usize,
+}
+
+/// Where a try to pass over nodes ended: what was passed over, if anything was, and the piece behind that with the bytes after the
+/// piece, if it was read.
+#[derive(Drop)]
+pub(crate) struct Tried<'a> {
+    pub(crate) idle: Option<Idle<'a>>,
+    pub(crate) next: Option<(Piece<'a>, &'a [u8])>,
+}
+
+/// The same, with what a list of nodes keeps of what was passed over.
+#[derive(Drop)]
+pub(crate) struct Passed<'a> {
+    pub(crate) text: Option<(Plain<'a>, Idle<'a>)>,
+    pub(crate) next: Option<(Piece<'a>, &'a [u8])>,
+}
+
+/// What one try leaves for the next one: how many bytes were left where it ended, and its lists, of the names of the open elements
+/// and of those of a tag's attributes.
+#[derive(Drop)]
+pub(crate) struct Tries<'a> {
+    pub(crate) left: usize,
+    names: Vec<Name<'a>>,
+    pub(crate) list: Vec<Name<'a>>,
+}
+
+impl<'a> Tries<'a> {
+    /// Where none was before these bytes.
+    pub(crate) fn new(alloc: Global, bytes: &'a [u8]) -> Tries<'a> {
+        Tries {
+            left: bytes.len(),
+            names: Vec::new(alloc),
+            list: Vec::new(alloc),
+        }
+    }
 }
 
 /// Whether a tag has this space and declares nothing.
@@ -85,6 +121,21 @@ fn take_name<'a>(names: &mut Vec<Name<'a>>, piece: &Piece<'a>) -> Result<bool, A
     }
 }
 
+/// Takes a piece to the open elements, if it may be passed over there.
+fn pass_piece<'a>(
+    scopes: &mut Spaces<'a>,
+    names: &mut Vec<Name<'a>>,
+    piece: &Piece<'a>,
+) -> Result<bool, AllocError>
+    ensures passed { IfOk result (λ passed. passed ≡ true → PassesPiece scopes.old names.old.items names.new.items (piece_view piece.now)) }
+    ensures same { scopes.new ≡ scopes.old }
+{
+    if !may_pass(scopes, is_run_open(names), piece) {
+        return Ok(false);
+    }
+    take_name(names, piece)
+}
+
 fn nodes_of_piece(piece: &Piece<'_>) -> usize
     ensures { result ≡ piece_count (piece_view piece.now) }
 {
@@ -144,19 +195,58 @@ fn last_whole<'a>(names: &[Name<'_>], all: Idle<'a>, before: Option<Idle<'a>>) -
     if names.is_empty() { Some(all) } else { before }
 }
 
-/// Passes over the nodes with which the bytes begin, as long as all elements in them are idle. `None` says nothing of the bytes.
-/// `tried` is then how many are left where it gave up. `Err` means out of memory.
+/// What a list of nodes keeps of what was passed over. `None` where it holds no element, or is too long.
+fn plain_of<'a>(idle: Idle<'a>, bytes: &'a [u8]) -> Option<Plain<'a>>
+    requires { (scope : Scope) × IsPassed (IsIdleIn scope) W bytes.now idle.rest.now idle.nodes idle.elems idle.deepest }
+    ensures { (scope : Scope) → IsPassed (IsIdleIn scope) W bytes.entry.now idle.entry.rest.now idle.entry.nodes idle.entry.elems idle.entry.deepest → IfSome result (λ plain. IsIdleText scope bytes.entry.now plain idle.entry.rest.now idle.entry.nodes idle.entry.deepest) }
+{
+    let Ok(nodes) = u32::try_from(idle.nodes) else {
+        return None;
+    };
+    let Ok(elems) = u32::try_from(idle.elems) else {
+        return None;
+    };
+    let text = &bytes[..bytes.len() - idle.rest.len()];
+    if elems == 0 || u32::try_from(text.len()).is_err() {
+        return None;
+    }
+    Some(Plain::new(text, nodes, elems))
+}
+
+/// A try that ended before this piece. At depth 1 no element is open there, so the piece is the next one.
+fn ended<'a>(
+    list: &mut Vec<Name<'a>>,
+    idle: Option<Idle<'a>>,
+    depth: usize,
+    piece: Piece<'a>,
+    behind: &'a [u8],
+) -> Tried<'a>
+    ensures idle { result.idle ≡ idle.entry }
+    ensures next { IfSome result.next (λ x. (depth ≡ 1) × (x ≡ (piece.entry, behind.entry))) }
+{
+    if depth == 1 {
+        return Tried {
+            idle,
+            next: Some((piece, behind)),
+        };
+    }
+    give_back(list, piece);
+    Tried { idle, next: None }
+}
+
+/// Passes over the nodes with which the bytes begin, as long as all elements in them are idle. Nothing is said where it passes over
+/// none. `Err` means out of memory.
 pub(crate) fn skip_idle<'a>(
     alloc: Global,
     scopes: &mut Spaces<'a>,
-    tried: &mut usize,
+    tries: &mut Tries<'a>,
     bytes: &'a [u8],
-) -> Result<Option<Idle<'a>>, AllocError>
-    ensures passed { IfOk result (λ o. IfSome o (λ idle. IsPassed (IsIdleIn scopes.old) W bytes.entry.now idle.rest.now idle.nodes idle.elems idle.deepest)) }
+) -> Result<Tried<'a>, AllocError>
+    ensures passed { IfOk result (λ tried. IfSome tried.idle (λ idle. IsPassed (IsIdleIn scopes.old) W bytes.entry.now idle.rest.now idle.nodes idle.elems idle.deepest)) }
+    ensures next { IfOk result (λ tried. IfSome tried.next (λ x. piece_at InElement (rest_behind bytes.entry.now tried.idle) ≡ Some (piece_view x.0, x.1.now))) }
     ensures same { scopes.new ≡ scopes.old }
 {
-    let mut names: Vec<Name<'a>> = Vec::new(alloc);
-    let mut list: Vec<Name<'a>> = Vec::new(alloc);
+    tries.names.clear();
     let mut now = Idle {
         rest: bytes,
         nodes: 0,
@@ -165,16 +255,16 @@ pub(crate) fn skip_idle<'a>(
     };
     let mut whole: Option<Idle<'a>> = None;
     loop {
-        *tried = now.rest.len();
-        let Some((piece, behind)) = some_piece(alloc, &mut list, now.rest)? else {
-            return Ok(whole);
+        tries.left = now.rest.len();
+        let Some((piece, behind)) = some_piece(alloc, &mut tries.list, now.rest)? else {
+            return Ok(Tried {
+                idle: whole,
+                next: None,
+            });
         };
-        if !may_pass(scopes, is_run_open(&names), &piece) {
-            return Ok(whole);
-        }
-        let depth = names.len() + 1;
-        if !take_name(&mut names, &piece)? {
-            return Ok(whole);
+        let depth = tries.names.len() + 1;
+        if !pass_piece(scopes, &mut tries.names, &piece)? {
+            return Ok(ended(&mut tries.list, whole, depth, piece, behind));
         }
         now = Idle {
             rest: behind,
@@ -182,36 +272,37 @@ pub(crate) fn skip_idle<'a>(
             elems: now.elems + elems_of_piece(&piece),
             deepest: deepest_of_piece(&piece, depth, now.deepest),
         };
-        whole = last_whole(&names, now, whole);
-        give_back(&mut list, piece);
+        whole = last_whole(&tries.names, now, whole);
+        give_back(&mut tries.list, piece);
     }
 }
 
-/// The same as what a list of nodes keeps of it. `None` also where it holds no element, or is too long.
+/// The same with what a list of nodes keeps of it. Nothing is passed over also where that holds no element, or is too long.
 pub(crate) fn skip_plain<'a>(
     alloc: Global,
     scopes: &mut Spaces<'a>,
-    tried: &mut usize,
+    tries: &mut Tries<'a>,
     bytes: &'a [u8],
-) -> Result<Option<(Plain<'a>, Idle<'a>)>, AllocError>
-    ensures text { IfOk result (λ o. IfSome o (λ x. IsIdleText scopes.old bytes.entry.now x.0 x.1.rest.now x.1.nodes x.1.deepest)) }
+) -> Result<Passed<'a>, AllocError>
+    ensures text { IfOk result (λ passed. IfSome passed.text (λ x. IsIdleText scopes.old bytes.entry.now x.0 x.1.rest.now x.1.nodes x.1.deepest)) }
+    ensures next { IfOk result (λ passed. IfSome passed.next (λ x. piece_at InElement (rest_behind bytes.entry.now (option_map (λ x. x.1) passed.text)) ≡ Some (piece_view x.0, x.1.now))) }
     ensures same { scopes.new ≡ scopes.old }
 {
-    let Some(idle) = skip_idle(alloc, scopes, tried, bytes)? else {
-        return Ok(None);
+    let tried = skip_idle(alloc, scopes, tries, bytes)?;
+    let Some(idle) = tried.idle else {
+        return Ok(Passed {
+            text: None,
+            next: tried.next,
+        });
     };
-    let Ok(nodes) = u32::try_from(idle.nodes) else {
-        return Ok(None);
+    let Some(plain) = plain_of(idle, bytes) else {
+        return Ok(Passed {
+            text: None,
+            next: None,
+        });
     };
-    let Ok(elems) = u32::try_from(idle.elems) else {
-        return Ok(None);
-    };
-    if elems == 0 {
-        return Ok(None);
-    }
-    let text = &bytes[..bytes.len() - idle.rest.len()];
-    if u32::try_from(text.len()).is_err() {
-        return Ok(None);
-    }
-    Ok(Some((Plain::new(text, nodes, elems), idle)))
+    Ok(Passed {
+        text: Some((plain, idle)),
+        next: tried.next,
+    })
 }

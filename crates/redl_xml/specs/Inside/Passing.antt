@@ -1,5 +1,5 @@
 -- Passing over a text of one space: what is known of what was passed over, with the names of the open elements alone.
-use Rattle.std.specs.Prelude.{◌≡◌, ◌≢◌, ◌<◌, length, ℕ, Bool, true, false, ◌&&◌, codes, bytes_eq, List, [], ◌∷◌, ◌++◌, map, reverse, Option, Some, None, if◌then◌else◌}
+use Rattle.std.specs.Prelude.{◌≡◌, ◌≢◌, ◌<◌, ◌≤◌, ◌+◌, ◌⊎◌, max, length, ℕ, Bool, true, false, ◌&&◌, codes, bytes_eq, List, [], ◌∷◌, ◌++◌, map, reverse, Option, Some, None, if◌then◌else◌}
 use Rattle.std.specs.List.{list_all}
 use Rattle.redl_tree.specs.Model.Nodes.{Tag, Nodes, no_nodes, bytes, element, Close}
 use Rattle.redl_tree.specs.Model.Count.{count}
@@ -11,11 +11,15 @@ use Rattle.redl_markup.specs.Views.{name_view}
 use Rattle.redl_markup.specs.Attributes.{names_in}
 use Rattle.redl_markup.specs.Pieces.{Piece, start_tag, empty_tag, end_tag, stretch}
 use Rattle.redl_xml.specs.Shapes.{depth_of}
+use Rattle.redl_xml.specs.declared.idle.Idle.{Idle}
+use Rattle.redl_xml.specs.declared.sizes.Limits.{Limits}
+use Rattle.redl_xml.specs.declared.sizes.Sizes.{Sizes}
+use Rattle.redl_xml.specs.Inside.Sizes.{capped}
 use Rattle.redl_xml.specs.Scopes.{Scope, space_of, is_element_prefix, is_plain_name}
 use Rattle.redl_tree.specs.Model.Laid.{Fits}
 use Rattle.redl_tree.specs.Model.IdleTexts.{idle_nodes}
 use Rattle.redl_tree.specs.Model.Folds.{plain_tag, nodes_at, nodes_in, Reads}
-use Rattle.redl_xml.specs.Inside.Elements.{State, added}
+use Rattle.redl_xml.specs.Inside.Elements.{State, added, without_nodes}
 use Rattle.redl_tree.specs.Roles.Names.{is_w}
 use Rattle.redl_tree.specs.Roles.Idle.{is_idle_tag, AllTags}
 use Rattle.redl_tree.specs.declared.kinds.Space.TheVariants.{W}
@@ -81,6 +85,11 @@ put_name (end_tag name white) ns = shut_name ns name
 abbrev pub names_view : List code.Name → List Name
 names_view ns = map name_view (reverse ns)
 
+-- A piece was passed over: it may be, by its tag, and these are the names of the open elements before it and after it.
+pub record PassesPiece (scope : Scope) (before after : List code.Name) (p : Piece) : Type 0 where
+  pub taken : put_name p (names_view before) ≡ Some (names_view after)
+  pub holds : HoldsIn (IsIdleIn scope) (is_run_open W (names_view before)) W p
+
 -- What was passed over is a text of nodes with these tags, of this many nodes and elements and this deep, and its last stretch
 -- is as long as it can be.
 pub record IsPassed (T : Bool → Tag → Type 0) (space : Space) (bs rest : List ℕ) (nodes elems deepest : ℕ) : Type 0 where
@@ -93,6 +102,11 @@ pub record IsPassed (T : Bool → Tag → Type 0) (space : Space) (bs rest : Lis
   pub counted : count made ≡ nodes
   pub among : elements made ≡ elems
   pub deep : depth_of made ≡ deepest
+
+-- the bytes behind what was passed over
+abbrev pub rest_behind : List ℕ → Option Idle → List ℕ
+rest_behind bs None = bs
+rest_behind bs (Some idle) = idle.rest.now
 
 -- The bytes begin with this text of idle elements, which are of W in this scope, and declare nothing; the rest follows it. It has so
 -- many nodes, and is so deep.
@@ -113,3 +127,18 @@ pub record AddsText (s s' : State) (bs rest : List ℕ) (nodes deepest : ℕ) : 
   pub is : IsIdleText s.scope bs text rest nodes deepest
   pub below : length s.open_elements ≢ 0
   pub added : s' ≡ added s (nodes_in W text)
+
+-- Such a text was passed over, its nodes were counted, and are kept within the limits.
+pub record Counts (limits : Limits) (s s' : State) (old new : Sizes) (bs rest : List ℕ) : Type 0 where
+  pub made : State
+  pub nodes : ℕ
+  pub deepest : ℕ
+  pub adds : AddsText s made bs rest nodes deepest
+  pub deep : new.deepest ≡ max old.deepest (length s.open_elements + deepest)
+  pub many : new.nodes ≡ capped limits.nodes (old.nodes + nodes)
+  pub alike : without_nodes s' ≡ without_nodes made
+  pub kept : new.deepest ≤ limits.depth → new.nodes ≤ limits.nodes → s' ≡ made
+
+-- one was, or nothing was passed over
+abbrev pub GoesAhead : Limits → State → State → Sizes → Sizes → List ℕ → List ℕ → Type 0
+GoesAhead limits s s' old new bs rest = Counts limits s s' old new bs rest ⊎ ((s' ≡ s) × (new ≡ old) × (rest ≡ bs))

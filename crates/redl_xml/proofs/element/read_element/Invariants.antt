@@ -3,8 +3,8 @@ use Rattle.redl_xml.specs.Inside.Buildings.{building_view}
 use Rattle.redl_xml.proofs.Progress.{IsRead}
 use Rattle.redl_xml.proofs.element.read_element.Given as goal
 
-abbrev pub invariant-loop-list : goal.invariant-loop-list
-invariant-loop-list l = IsRead l.limits l.rest (building_view l.building) l.sizes l.bytes
+abbrev pub invariant-loop-tries : goal.invariant-loop-tries
+invariant-loop-tries l = IsRead l.limits l.rest (building_view l.building) l.sizes l.bytes
 
-abbrev pub decreases-loop-list : goal.decreases-loop-list
-decreases-loop-list l = length l.rest
+abbrev pub decreases-loop-tries : goal.decreases-loop-tries
+decreases-loop-tries l = length l.rest

@@ -17,7 +17,7 @@ returns-clause-passed c =
     let fs = (building_view old).open_elements in
     let t = c.in-Some.plain in
     let idle = c.in-Some.idle in
-    let text : IsIdleText old.scopes c.args.bytes.now t idle.rest.now idle.nodes idle.deepest = rw c.in-Some.is at c.in_ok-plain.ensures.text in
+    let text : IsIdleText old.scopes c.args.bytes.now t idle.rest.now idle.nodes idle.deepest = rw c.in-Some.is at c.in_ok-text.ensures.text in
     let kids : nodes_of c.push_node.new.nodes.items ≡ nodes_of old.kids.items ⊕ nodes_in W t =
     c.in_ok-push_node.ensures ∙ ap (λ (i : Item). nodes_of old.kids.items ⊕ in_front i no_nodes) (item_of-Plain t)
     ∙ ap (λ (ns : Nodes). nodes_of old.kids.items ⊕ ns) (⊕-no_nodes (idle_nodes t) ∙ text.kept)
@@ -28,5 +28,5 @@ returns-clause-passed c =
       below = λ none. grind (arith, c.len.ensures, c.if-len-lt-UPPER_LEVELS.false, old.open.ok.0, length-open old.open.items old.before.items, none);
       added =
           ap (λ (k : Nodes). state fs k c.skip_plain.new.scopes) kids
-          ∙ ap (λ (s : Scope). state fs (nodes_of old.kids.items ⊕ nodes_in W t) s) c.in_ok-plain.ensures.same;
+          ∙ ap (λ (s : Scope). state fs (nodes_of old.kids.items ⊕ nodes_in W t) s) c.in_ok-text.ensures.same;
     }
