@@ -45,7 +45,7 @@ last_piece p y s s' u h f e some = record {
 
 -- ---- one element
 
-name_same : (n : Name) → name_eq n n ≡ true
+pub name_same : (n : Name) → name_eq n n ≡ true
 name_same n = and_from _ _ (bytes_same n.prefix) (bytes_same n.local)
 
 may_enter : (scope : Scope) (tag : Tag) → IsTag scope tag → MayEnter scope (name_of tag) tag.tail

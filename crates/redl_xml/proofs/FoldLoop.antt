@@ -12,23 +12,24 @@ use Rattle.redl_tree.specs.Model.Count.{count}
 use Rattle.redl_tree.specs.Model.Elements.{elements}
 use Rattle.redl_tree.specs.declared.kinds.Space.{Space}
 use Rattle.redl_markup.specs.declared.place.Place.TheVariants.{InElement}
-use Rattle.redl_markup.specs.Names.{Name, name_eq}
+use Rattle.redl_markup.specs.Names.{Name, name_eq, IsName}
 use Rattle.redl_markup.specs.declared.name.Name as code
 use Rattle.redl_markup.specs.Pieces.{Piece, start_tag, empty_tag, end_tag, stretch}
 use Rattle.redl_markup.specs.ScanPieces.{piece_at}
-use Rattle.redl_markup.proofs.Pieces.{piece_takes, piece_shorter}
+use Rattle.redl_markup.proofs.Pieces.{piece_takes, piece_shorter, piece_again}
 use Rattle.redl_xml.specs.Inside.Elements.{one_element}
 use Rattle.redl_tree.specs.Model.Folds.{Open, Level, level, shut, put, nodes_at}
 use Rattle.redl_tree.specs.Roles.Idle.{AllTags}
-use Rattle.redl_xml.specs.Inside.Passing.{HoldsOf, HoldsIn, piece_count, piece_elements, is_run_open, shut_name, put_name, names_view, rest_behind, IsPassed}
+use Rattle.redl_xml.specs.Inside.Passing.{HoldsOf, HoldsIn, piece_count, piece_elements, is_run_open, shut_name, put_name, names_view, rest_behind, ClosesLast, IsPassed}
 use Rattle.redl_xml.specs.Shapes.{depth_of}
 use Rattle.redl_xml.specs.declared.idle.Idle.{Idle}
 use Rattle.redl_xml.specs.Inside.Sizes.{deepest_with}
+use Rattle.redl_xml.proofs.Complete.{name_same}
 use Rattle.redl_xml.proofs.Measures.{count-⊕, depth-⊕}
 use Rattle.redl_tree.proofs.TreeTexts.{tree-then}
 use Rattle.redl_tree.proofs.Idle.Texts.{tags-⊕}
 use Rattle.redl_tree.proofs.FoldSteps.{none_some}
-use Rattle.redl_tree.proofs.FoldLaws.{level_then, put_text, put_laid, shut_some, IsLaidAt, nodes_again, tree-text}
+use Rattle.redl_tree.proofs.FoldLaws.{level_then, put_text, put_laid, shut_some, AreLaidOpen, IsLaidAt, nodes_again, tree-text}
 
 -- ---- the names of the open elements are all that the code keeps
 
@@ -237,6 +238,27 @@ passing_goes T space bs rest names names' nodes elems deepest x g e p h =
       fewer = omega (arith, g.fewer, (at_most_one x.0).1);
     }
 
+-- the end tag of the innermost open element
+
+abbrev head_or : Name → List Name → Name
+head_or name [] = name
+head_or name (n ∷ ns) = n
+
+first_name : (space : Space) (fs : List Open) (name : Name) (names : List Name) → names_open fs ≡ name ∷ names → AreLaidOpen space fs → IsName name
+first_name space [] name names e laid = absurd cc
+first_name space (f ∷ fs) name names e laid = subst IsName (ap (head_or name) e) laid.0.name
+
+pub passing_closes : (T : Bool → Tag → Type 0) (space : Space) (bs rest : List ℕ) (before after : List code.Name) (nodes elems deepest : ℕ) (behind : List ℕ) → IsPassing T space bs rest (names_view before) nodes elems deepest → ClosesLast before after rest behind → IsPassing T space bs behind (names_view after) nodes elems deepest
+passing_closes T space bs rest before after nodes elems deepest behind g c =
+    let name = c.name in
+    let named = first_name space g.so_far.open_elements name (names_view after) (g.open_names ∙ c.names) g.laid.opens_laid in
+    let read : piece_at InElement rest ≡ Some (end_tag name [], behind) = ap (piece_at InElement) c.whole ∙ piece_again InElement (end_tag name []) behind (named, refl) tt in
+    let shuts : shut_name (names_view before) name ≡ Some (names_view after) = ap (λ (ns : List Name). shut_name ns name) c.names ∙ rw (name_same name) refl in
+    let more = passing_goes T space bs rest (names_view before) (names_view after) nodes elems deepest (end_tag name [], behind) g read shuts tt in
+    let P : ℕ → Type 0 = λ n. IsPassing T space bs behind (names_view after) n (elems + 0) deepest in
+    let Q : ℕ → Type 0 = λ n. IsPassing T space bs behind (names_view after) nodes n deepest in
+    subst Q (omega arith) (subst P (omega arith) more)
+
 passed_at : (T : Bool → Tag → Type 0) (space : Space) (bs rest : List ℕ) (nodes elems deepest : ℕ) (fs : List Open) (kids : Nodes) → names_open fs ≡ [] → level_then (level fs kids) rest ≡ bs → IsLaidAt space (level fs kids) rest → LevelTags T space (level fs kids) → level_count (level fs kids) ≡ nodes → level_elements (level fs kids) ≡ elems → level_depth (level fs kids) ≡ deepest → IsPassed T space bs rest nodes elems deepest
 passed_at T space bs rest nodes elems deepest (f ∷ fs) kids none w l t c m d = absurd cc
 passed_at T space bs rest nodes elems deepest [] kids none w l t c m d = record {
@@ -282,6 +304,10 @@ passing_over T space bs rest names nodes elems deepest g e =
 pub no_names : (ns : List code.Name) → length ns ≡ 0 → names_view ns ≡ []
 no_names [] e = refl
 no_names (n ∷ ns) e = absurd cc
+
+-- without the last name, the innermost open element is closed
+pub last_popped : (old new : List code.Name) (name : code.Name) → old ≡ new ++ name ∷ [] → names_view old ≡ name_view name ∷ names_view new
+last_popped old new name e = ap names_view e ∙ ap (map name_view) (reverse-append new (name ∷ []))
 
 -- the innermost open element is the last name
 

@@ -1,6 +1,6 @@
 //! Elements that are passed over as they stand.
 
-ghost use Rattle.std.specs.Prelude.{◌≡◌, ◌==◌, length, true, false, option_map, IfOk, IfSome, Some, if◌then◌else◌};
+ghost use Rattle.std.specs.Prelude.{◌≡◌, ◌==◌, length, true, false, option_map, IfOk, IfSome, IsNone, Some, if◌then◌else◌};
 ghost use Rattle.redl_markup.specs.declared.place.Place.TheVariants.{InElement};
 ghost use Rattle.redl_markup.specs.ScanPieces.{piece_at};
 ghost use Rattle.redl_tree.specs.declared.kinds.Space.TheVariants.{W};
@@ -8,8 +8,9 @@ ghost use Rattle.redl_tree.specs.Model.Folds.{nodes_in};
 ghost use Rattle.redl_markup.specs.PieceViews.{piece_view};
 ghost use Rattle.redl_xml.specs.Inside.Sizes.{deepest_with};
 ghost use Rattle.redl_xml.specs.Scopes.{Scope};
-ghost use Rattle.redl_xml.specs.Inside.Passing.{HoldsOf, HoldsIn, IsPlainIn, IsIdleIn, IsPassed, IsIdleText, PassesPiece, piece_count, piece_elements, is_run_open, put_name, names_view, rest_behind};
+ghost use Rattle.redl_xml.specs.Inside.Passing.{HoldsOf, HoldsIn, IsPlainIn, IsIdleIn, IsPassed, IsIdleText, PassesPiece, ClosesLast, piece_count, piece_elements, is_run_open, put_name, names_view, rest_behind};
 
+use crate::closing::behind_end;
 use crate::namespaces::{are_plain, element_space};
 use crate::spaces::Spaces;
 use redl_markup::{MarkupError, Name, Piece, Place, StartTag, next_piece};
@@ -91,6 +92,18 @@ fn may_pass<'a>(scopes: &mut Spaces<'a>, in_run: bool, piece: &Piece<'a>) -> boo
         Piece::Stretch(_) => true,
         Piece::End(_, _) => true,
     }
+}
+
+/// Takes the innermost open element's end tag, if the bytes begin with that and there is no white space in it. Gives the bytes behind.
+#[inline(always)]
+fn close_last<'a>(names: &mut Vec<Name<'a>>, bytes: &'a [u8]) -> Option<&'a [u8]>
+    ensures closed { IfSome result (λ rest. ClosesLast names.old.items names.new.items bytes.entry.now rest.now) }
+    ensures none { IsNone result → names.new.items ≡ names.old.items }
+{
+    let name = *names.last()?;
+    let rest = behind_end(bytes, name)?;
+    names.pop();
+    Some(rest)
 }
 
 /// Whether the innermost of these open elements of W is a run.
@@ -255,6 +268,11 @@ pub(crate) fn skip_idle<'a>(
     };
     let mut whole: Option<Idle<'a>> = None;
     loop {
+        if let Some(rest) = close_last(&mut tries.names, now.rest) {
+            now.rest = rest;
+            whole = last_whole(&tries.names, now, whole);
+            continue;
+        }
         tries.left = now.rest.len();
         let Some((piece, behind)) = some_piece(alloc, &mut tries.list, now.rest)? else {
             return Ok(Tried {

@@ -9,7 +9,7 @@ use Rattle.redl_markup.specs.Names.{Name, name_eq}
 use Rattle.redl_markup.specs.declared.name.Name as code
 use Rattle.redl_markup.specs.Views.{name_view}
 use Rattle.redl_markup.specs.Attributes.{names_in}
-use Rattle.redl_markup.specs.Pieces.{Piece, start_tag, empty_tag, end_tag, stretch}
+use Rattle.redl_markup.specs.Pieces.{Piece, start_tag, empty_tag, end_tag, stretch, piece_then}
 use Rattle.redl_xml.specs.Shapes.{depth_of}
 use Rattle.redl_xml.specs.declared.idle.Idle.{Idle}
 use Rattle.redl_xml.specs.declared.sizes.Limits.{Limits}
@@ -89,6 +89,13 @@ names_view ns = map name_view (reverse ns)
 pub record PassesPiece (scope : Scope) (before after : List code.Name) (p : Piece) : Type 0 where
   pub taken : put_name p (names_view before) ≡ Some (names_view after)
   pub holds : HoldsIn (IsIdleIn scope) (is_run_open W (names_view before)) W p
+
+-- The bytes begin with the end tag of the innermost open element, without white space, and these are the names of the open elements
+-- before it and after it.
+pub record ClosesLast (before after : List code.Name) (bs rest : List ℕ) : Type 0 where
+  pub name : Name
+  pub names : names_view before ≡ name ∷ names_view after
+  pub whole : bs ≡ piece_then (end_tag name []) rest
 
 -- What was passed over is a text of nodes with these tags, of this many nodes and elements and this deep, and its last stretch
 -- is as long as it can be.

@@ -1,39 +1,58 @@
-use Rattle.std.proofs.Common.{◌≡◌, ◌+◌, ◌∙◌, refl, length, arith, Some}
+use Rattle.std.proofs.Common.{◌≡◌, ◌+◌, ◌∙◌, refl, sym, subst, length, arith, List, Some}
+use Rattle.redl_markup.specs.declared.name.Name as code
 use Rattle.redl_markup.specs.declared.place.Place.TheVariants.{InElement}
 use Rattle.redl_markup.specs.PieceViews.{piece_view}
 use Rattle.redl_markup.specs.ScanPieces.{piece_at}
 use Rattle.redl_markup.proofs.Pieces.{piece_shorter}
 use Rattle.redl_tree.specs.declared.kinds.Space.TheVariants.{W}
 use Rattle.redl_xml.specs.Inside.Passing.{IsIdleIn, IsPassed, names_view}
-use Rattle.redl_xml.proofs.FoldLoop.{passing_begins, passing_turns, passing_over, no_names, last_holds, last_rest}
+use Rattle.redl_xml.proofs.FoldLoop.{IsPassing, passing_begins, passing_turns, passing_closes, passing_over, no_names, last_holds, last_rest}
 use Rattle.redl_xml.proofs.IdleParts.{idle_turn}
 use Rattle.redl_xml.proofs.idle.skip_idle.Goals as goal
 
-pub loop-piece-init : goal.loop-piece-init
-loop-piece-init c = rw c.clear.ensures.items (record { passing = passing_begins (IsIdleIn c.args.scopes.now) W c.args.bytes.now; same = refl; here = λ none. refl; whole = tt })
+pub loop-rest-init : goal.loop-rest-init
+loop-rest-init c = rw c.clear.ensures.items (record { passing = passing_begins (IsIdleIn c.args.scopes.now) W c.args.bytes.now; same = refl; here = λ none. refl; whole = tt })
 
-pub loop-piece-smaller : goal.loop-piece-smaller
-loop-piece-smaller c =
-    let read : piece_at InElement c.loop-piece.now.rest.now ≡ Some (piece_view c.in-Some.piece, c.in-Some.behind.now) = rw c.in-Some.is at c.in_ok-piece.ensures in
-    piece_shorter InElement c.loop-piece.now.rest.now (piece_view c.in-Some.piece, c.in-Some.behind.now) read
+pub loop-rest-smaller : goal.loop-rest-smaller
+loop-rest-smaller c =
+    let read : piece_at InElement c.loop-rest.now.rest.now ≡ Some (piece_view c.in-Some-2.piece, c.in-Some-2.behind.now) = rw c.in-Some-2.is at c.in_ok-piece.ensures in
+    piece_shorter InElement c.loop-rest.now.rest.now (piece_view c.in-Some-2.piece, c.in-Some-2.behind.now) read
 
-pub loop-piece-preserved : goal.loop-piece-preserved
-loop-piece-preserved c =
-    let l = c.loop-piece in
+pub loop-rest-preserved-in-Some : goal.loop-rest-preserved-in-Some
+loop-rest-preserved-in-Some c =
+    let l = c.loop-rest in
     let was = l.now in
     let all = IsIdleIn c.args.scopes.now in
-    let p = piece_view c.in-Some.piece in
-    let behind = c.in-Some.behind.now in
-    let before = l.tries.names.items in
+    let behind = c.in-Some.rest.now in
+    let after = c.close_last.new.names.items in
+    let closed = passing_closes all W c.args.bytes.now was.rest.now l.tries.names.items after was.nodes was.elems was.deepest behind l.invariant.passing c.in-Some.ensures.closed in
+    record {
+      passing = closed;
+      same = l.invariant.same;
+      here = λ none. rw (c.last_whole-whole.ensures, c.deref.ensures.value) (last_rest c.args.bytes.now (length after) _ l.whole none);
+      whole = rw (c.last_whole-whole.ensures, c.deref.ensures.value) (last_holds (λ idle. IsPassed all W c.args.bytes.now idle.rest.now idle.nodes idle.elems idle.deepest) (length after) _ l.whole
+          (λ none. passing_over all W c.args.bytes.now behind (names_view after) was.nodes was.elems was.deepest closed (no_names after none)) l.invariant.whole);
+    }
+
+pub loop-rest-preserved : goal.loop-rest-preserved
+loop-rest-preserved c =
+    let l = c.loop-rest in
+    let was = l.now in
+    let all = IsIdleIn c.args.scopes.now in
+    let p = piece_view c.in-Some-2.piece in
+    let behind = c.in-Some-2.behind.now in
+    let before = c.close_last.new.names.items in
+    let kept : before ≡ l.tries.names.items = c.close_last.ensures.none (rw c.in_default.is refl) in
+    let P : List code.Name → Type 0 = λ ns. IsPassing all W c.args.bytes.now was.rest.now (names_view ns) was.nodes was.elems was.deepest in
     let after = c.pass_piece.new.names.items in
-    let read : piece_at InElement was.rest.now ≡ Some (p, behind) = rw c.in-Some.is at c.in_ok-piece.ensures in
+    let read : piece_at InElement was.rest.now ≡ Some (p, behind) = rw c.in-Some-2.is at c.in_ok-piece.ensures in
     let turn = idle_turn c.args.scopes.now l.scopes was.rest.now behind before after p l.invariant.same read (c.in_ok-pass_piece.ensures.passed c.if-not-branch.false) in
-    let turned = passing_turns all W c.args.bytes.now was.rest.now behind before after was.nodes c.nodes_of_piece.result was.elems c.elems_of_piece.result was.deepest c.deepest_of_piece.result c.len-depth.result p l.invariant.passing turn c.nodes_of_piece.ensures c.elems_of_piece.ensures (omega (arith, c.len-depth.ensures, l.tries.names.ok.0)) c.deepest_of_piece.ensures in
+    let turned = passing_turns all W c.args.bytes.now was.rest.now behind before after was.nodes c.nodes_of_piece.result was.elems c.elems_of_piece.result was.deepest c.deepest_of_piece.result c.len-depth.result p (subst P (sym kept) l.invariant.passing) turn c.nodes_of_piece.ensures c.elems_of_piece.ensures (omega (arith, c.len-depth.ensures, c.close_last.new.names.ok.0)) c.deepest_of_piece.ensures in
     record {
       passing = turned;
       same = c.pass_piece.ensures.same ∙ l.invariant.same;
-      here = λ none. rw (c.last_whole-whole.ensures, c.deref.ensures.value) (last_rest c.args.bytes.now (length after) _ l.whole none);
-      whole = rw (c.last_whole-whole.ensures, c.deref.ensures.value) (last_holds (λ idle. IsPassed all W c.args.bytes.now idle.rest.now idle.nodes idle.elems idle.deepest) (length after) _ l.whole
+      here = λ none. rw (c.last_whole-whole-in-loop-rest.ensures, c.deref-in-loop-rest.ensures.value) (last_rest c.args.bytes.now (length after) _ l.whole none);
+      whole = rw (c.last_whole-whole-in-loop-rest.ensures, c.deref-in-loop-rest.ensures.value) (last_holds (λ idle. IsPassed all W c.args.bytes.now idle.rest.now idle.nodes idle.elems idle.deepest) (length after) _ l.whole
           (λ none. passing_over all W c.args.bytes.now behind (names_view after) (was.nodes + c.nodes_of_piece.result) (was.elems + c.elems_of_piece.result) c.deepest_of_piece.result turned (no_names after none))
           l.invariant.whole);
     }
