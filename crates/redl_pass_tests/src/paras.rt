@@ -2,8 +2,9 @@
 //! has.
 //!
 //! Chains and wanted texts are outlines. A paragraph and its properties have a number, and `cut` says that the paragraph is
-//! cut. The wanted texts follow from ECMA-376 Part 1, 17.13.5 and 17.3.1.26: a paragraph whose mark goes is joined with the
-//! next one, of which the properties stay.
+//! cut. Each chain is also read as the body of a document. The wanted texts follow from ECMA-376 Part 1, 17.13.5 and
+//! 17.3.1.26: a paragraph whose mark goes is joined with the next one, of which the properties stay.
+use crate::documents::{body_nodes, package_text};
 use redl_outline::{Outline, nodes_text, outline_text};
 use redl_paras::{Next, Piece, group};
 use redl_tree::{Elem, Node, is_named};
@@ -32,74 +33,120 @@ fn piece(node: Node<'_>) -> Piece<'_> {
             Piece::Thin(Node::Elem(elem))
         }
         Node::Bytes(text) => Piece::Thin(Node::Bytes(text)),
+        Node::Plain(plain) => Piece::Thin(Node::Plain(plain)),
     }
 }
 
-fn chain(alloc: Global, outline: &Outline) -> Result<Vec<Piece<'_>>, AllocError> {
+fn chain<'a>(alloc: Global, nodes: Vec<Node<'a>>) -> Result<Vec<Piece<'a>>, AllocError> {
     let mut chain = Vec::new(alloc);
-    for node in outline.nodes(alloc)? {
+    for node in nodes {
         chain.push(piece(node))?;
     }
     Ok(chain)
 }
 
-// What the pieces of this outline give together, as text.
-fn grouped(alloc: Global, words: &str, next: Next) -> Result<String, AllocError> {
-    let outline = Outline::read(alloc, words, OWN)?;
-    let nodes = group(alloc, chain(alloc, &outline)?, next)?;
+// What these nodes give together, as text.
+fn grouped(alloc: Global, nodes: Vec<Node<'_>>, next: Next) -> Result<String, AllocError> {
+    let nodes = group(alloc, chain(alloc, nodes)?, next)?;
     nodes_text(alloc, &nodes)
 }
 
+// The same of the nodes of this outline.
+fn grouped_words(alloc: Global, words: &str, next: Next) -> Result<String, AllocError> {
+    let outline = Outline::read(alloc, words, OWN)?;
+    grouped(alloc, outline.nodes(alloc)?, next)
+}
+
+// The same of the nodes that are read of its text.
+fn grouped_text(alloc: Global, words: &str, next: Next) -> Result<String, Fail> {
+    let text = package_text(alloc, &[words], OWN)?;
+    let nodes = redl_xml::read(alloc, text.as_bytes())?;
+    Ok(grouped(alloc, body_nodes(alloc, nodes), next)?)
+}
+
+// Chains whose last paragraph stays, what follows each, and what it gives.
+const JOINED: &[(&str, Next, &str)] = &[
+    ("", Next::Other, ""),
+    ("p/1", Next::End, "p/1"),
+    ("p/1 .pPr/1 .a", Next::Other, "p/1 .pPr/1 .a"),
+    // the last properties, and what is between
+    (
+        "p/1/cut .pPr/1 .a k p/2 .pPr/2 .b",
+        Next::End,
+        "p/2 .pPr/2 .a .k .b",
+    ),
+    ("p/1/cut .a p/2 .b .pPr/2", Next::End, "p/2 .pPr/2 .a .b"),
+    (
+        "p/1/cut .pPr/1 .a .(x) p/2/cut .pPr/2 .b p/3 .pPr/3 .c",
+        Next::End,
+        "p/3 .pPr/3 .a .(x) .b .c",
+    ),
+    // properties between go, and what was closed by `/>` gets an end tag
+    ("p/1/cut pPr/1 p/2", Next::End, "p/2 .()"),
+    (
+        "p/1 .a k p/2/cut .b p/3 .c m",
+        Next::End,
+        "p/1 .a k p/3 .b .c m",
+    ),
+    // neighbours in paragraphs and between them
+    (
+        "p/1/cut .pPr/1 .a .(x) .b k .d (y) m p/2 .c .(z) .d k",
+        Next::End,
+        "p/2 .a .(x) .b .k ..d .(y) .m .c .(z) .d k",
+    ),
+];
+
+// The same where the last paragraph is cut, at the end of a cell and before something else, as a table.
+const LAST: &[(&str, Next, &str)] = &[
+    ("p/1/cut .pPr/1 .(x)", Next::End, "p/1/cut .pPr/1 .(x)"),
+    ("p/1/cut .pPr/1 .(x) k", Next::Other, "(x) k"),
+    ("p/1/cut .pPr/1 .a k", Next::Other, "p/1/cut .pPr/1 .a k"),
+    ("p/1 p/2/cut", Next::Other, "p/1"),
+    // several of them
+    (
+        "p/1/cut .pPr/1 .(x) p/2/cut .pPr/2 .(y)",
+        Next::Other,
+        "(x) (y)",
+    ),
+    (
+        "p/1/cut .pPr/1 .(x) k p/2/cut .pPr/2 .(y)",
+        Next::Other,
+        "p/2/cut .pPr/2 .(x) .k .(y)",
+    ),
+    (
+        "p/1/cut .pPr/1 .(x) p/2/cut .pPr/2 .(y)",
+        Next::End,
+        "p/2/cut .pPr/2 .(x) .(y)",
+    ),
+    // neighbours in it, and after it
+    ("p/1/cut .pPr/1 .(x) k (y) m", Next::Other, "(x) k (y) m"),
+    (
+        "p/1/cut .pPr/1 .(x) .a .b k m",
+        Next::Other,
+        "p/1/cut .pPr/1 .(x) .a .b k m",
+    ),
+];
+
 #[test]
 fn a_cut_paragraph_is_joined_with_the_next_one(rt: HostRuntime) -> Result<(), Fail> {
-    for (words, next, want) in [
-        ("", Next::Other, ""),
-        ("p/1", Next::End, "p/1"),
-        ("p/1 .pPr/1 .a", Next::Other, "p/1 .pPr/1 .a"),
-        // the last properties, and what is between
-        (
-            "p/1/cut .pPr/1 .a k p/2 .pPr/2 .b",
-            Next::End,
-            "p/2 .pPr/2 .a .k .b",
-        ),
-        ("p/1/cut .a p/2 .b .pPr/2", Next::End, "p/2 .pPr/2 .a .b"),
-        (
-            "p/1/cut .pPr/1 .a .(x) p/2/cut .pPr/2 .b p/3 .pPr/3 .c",
-            Next::End,
-            "p/3 .pPr/3 .a .(x) .b .c",
-        ),
-        // properties between go, and what was closed by `/>` gets an end tag
-        ("p/1/cut pPr/1 p/2", Next::End, "p/2 .()"),
-        (
-            "p/1 .a k p/2/cut .b p/3 .c m",
-            Next::End,
-            "p/1 .a k p/3 .b .c m",
-        ),
-        // a cut last paragraph, at the end of a cell and before a table
-        ("p/1/cut .pPr/1 .(x)", Next::End, "p/1/cut .pPr/1 .(x)"),
-        ("p/1/cut .pPr/1 .(x) k", Next::Other, "(x) k"),
-        ("p/1/cut .pPr/1 .a k", Next::Other, "p/1/cut .pPr/1 .a k"),
-        ("p/1 p/2/cut", Next::Other, "p/1"),
-        // several of them
-        (
-            "p/1/cut .pPr/1 .(x) p/2/cut .pPr/2 .(y)",
-            Next::Other,
-            "(x) (y)",
-        ),
-        (
-            "p/1/cut .pPr/1 .(x) k p/2/cut .pPr/2 .(y)",
-            Next::Other,
-            "p/2/cut .pPr/2 .(x) .k .(y)",
-        ),
-        (
-            "p/1/cut .pPr/1 .(x) p/2/cut .pPr/2 .(y)",
-            Next::End,
-            "p/2/cut .pPr/2 .(x) .(y)",
-        ),
-    ] {
-        let got = grouped(rt.alloc(), words, next)?;
+    for (words, next, want) in JOINED {
         let want = outline_text(rt.alloc(), want, OWN)?;
+        let got = grouped_words(rt.alloc(), words, *next)?;
         assert!(rt; got == want, "{words} before {next:?}: {got}");
+        let got = grouped_text(rt.alloc(), words, *next)?;
+        assert!(rt; got == want, "{words} before {next:?}, read: {got}");
+    }
+    Ok(())
+}
+
+#[test]
+fn a_cut_last_paragraph_goes_where_it_holds_no_element(rt: HostRuntime) -> Result<(), Fail> {
+    for (words, next, want) in LAST {
+        let want = outline_text(rt.alloc(), want, OWN)?;
+        let got = grouped_words(rt.alloc(), words, *next)?;
+        assert!(rt; got == want, "{words} before {next:?}: {got}");
+        let got = grouped_text(rt.alloc(), words, *next)?;
+        assert!(rt; got == want, "{words} before {next:?}, read: {got}");
     }
     Ok(())
 }

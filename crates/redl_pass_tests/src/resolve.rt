@@ -1,7 +1,9 @@
 //! What no clause of `redl_resolve` says: that both calls succeed where memory is ample. One package takes each way
-//! through the pass; it is an outline, and so are the wanted ones. They follow from ECMA-376 Part 1, 17.13.5.
+//! through the pass; it is an outline, and so are the wanted ones. Other outlines are read as the body of a document. What is
+//! wanted follows from ECMA-376 Part 1, 17.13.5.
 ghost use Rattle.std.specs.Prelude.{◌≡◌, ◌<◌};
 
+use crate::documents::{package_text, read_package, says_for};
 use redl_outline::{Outline, nodes_text, outline_text};
 use redl_resolve::{Steps, into_passed, pass};
 use redl_tree::{Node, Say};
@@ -99,6 +101,91 @@ fn a_package_is_resolved(rt: HostRuntime) -> Result<(), Fail> {
         let got = passed_text(alloc, say, is_copied)?;
         let want = outline_text(alloc, want, &[])?;
         assert!(rt; got == want, "{say:?}: {got}");
+    }
+    Ok(())
+}
+
+// The text of the package with this body, read and then passed under the same say for each revision.
+fn passed_body(alloc: Global, body: &str, say: Say) -> Result<String, Fail> {
+    let text = package_text(alloc, &[body], &[])?;
+    let mut package = read_package(alloc, text.as_bytes())?;
+    let says = says_for(alloc, &mut package, say)?;
+    let nodes = passed_copy(alloc, package.nodes(), &says)?;
+    Ok(nodes_text(alloc, &nodes)?)
+}
+
+// Bodies, and what they are accepted and rejected.
+const BODIES: &[(&str, &str, &str)] = &[
+    // a chain of paragraphs, with neighbours in them and between them
+    (
+        "p .pPr ..rPr ...del .r ..t ...(a) .r ..tab bookmarkStart (x) bookmarkEnd p .pPr ..jc .r ..t ...(b)",
+        "p .pPr ..jc .r ..t ...(a) .r ..tab .bookmarkStart .(x) .bookmarkEnd .r ..t ...(b)",
+        "p .pPr ..rPr ...() .r ..t ...(a) .r ..tab bookmarkStart (x) bookmarkEnd p .pPr ..jc .r ..t ...(b)",
+    ),
+    (
+        "p .pPr ..rPr ...b ...ins .proofErr p .proofErr .r",
+        "p .pPr ..rPr ...b .proofErr p .proofErr .r",
+        "p .proofErr .proofErr .r",
+    ),
+    // insertions and deletions of neighbours, beside others
+    (
+        "p .r ..t ...(a) .ins ..bookmarkStart ..r ...rPr ....b ...t ....(b) .r ..t ...(c)",
+        "p .r ..t ...(a) .bookmarkStart .r ..rPr ...b ..t ...(b) .r ..t ...(c)",
+        "p .r ..t ...(a) .r ..t ...(c)",
+    ),
+    (
+        "p .r ..t ...(a) .del ..bookmarkStart ..bookmarkEnd ..r ...sym ...tab ...delText ....(b) ...br .r",
+        "p .r ..t ...(a) .r",
+        "p .r ..t ...(a) .bookmarkStart .bookmarkEnd .r ..sym ..tab ..t ...(b) ..br .r",
+    ),
+    // former properties of a run, of a mark, of a paragraph and of a section
+    (
+        "p .r ..rPr ...b ...u ...rPrChange ....rPr .....i .....color ..t ...(a) .r ..rPr ...b",
+        "p .r ..rPr ...b ...u ..t ...(a) .r ..rPr ...b",
+        "p .r ..rPr ...i ...color ..t ...(a) .r ..rPr ...b",
+    ),
+    (
+        "p .pPr ..rPr ...b ...rPrChange ....rPr .....i .....color",
+        "p .pPr ..rPr ...b",
+        "p .pPr ..rPr ...i ...color",
+    ),
+    (
+        "p .pPr ..jc ..keepNext ..rPr ...b ...i ..pPrChange ...pPr ....ind ....spacing .r",
+        "p .pPr ..jc ..keepNext ..rPr ...b ...i .r",
+        "p .pPr ..ind ..spacing ..rPr ...b ...i .r",
+    ),
+    (
+        "p sectPr .headerReference .pgSz .pgMar .sectPrChange ..sectPr ...pgSz ...cols",
+        "p sectPr .headerReference .pgSz .pgMar",
+        "p sectPr .headerReference .pgSz .cols",
+    ),
+    // rows, cells and tables with neighbours beside them
+    (
+        "tbl .tblPr ..tblW ..tblLook .bookmarkStart .tr ..trPr ...cantSplit ...del ..tc ...p .bookmarkEnd .tr ..tc ...p p",
+        "tbl .tblPr ..tblW ..tblLook .bookmarkStart .bookmarkEnd .tr ..tc ...p p",
+        "tbl .tblPr ..tblW ..tblLook .bookmarkStart .tr ..trPr ...cantSplit ..tc ...p .bookmarkEnd .tr ..tc ...p p",
+    ),
+    (
+        "tbl .tr ..tc ...tcPr ....tcW ....vAlign ....cellDel ...p ..bookmarkStart ..tc ...p ....r p",
+        "tbl .tr ..bookmarkStart ..tc ...p ....r p",
+        "tbl .tr ..tc ...tcPr ....tcW ....vAlign ...p ..bookmarkStart ..tc ...p ....r p",
+    ),
+    (
+        "bookmarkStart tbl .tblPr ..tblW .bookmarkStart .tr ..trPr ...del ..bookmarkEnd ..tc ...p bookmarkEnd p .r",
+        "bookmarkStart bookmarkEnd p .r",
+        "bookmarkStart tbl .tblPr ..tblW .bookmarkStart .tr ..trPr ...() ..bookmarkEnd ..tc ...p bookmarkEnd p .r",
+    ),
+];
+
+#[test]
+fn a_body_that_is_read_is_resolved(rt: HostRuntime) -> Result<(), Fail> {
+    for (body, accepted, rejected) in BODIES {
+        let got = passed_body(rt.alloc(), body, Say::Accept)?;
+        let want = package_text(rt.alloc(), &[accepted], &[])?;
+        assert!(rt; got == want, "{body}, accepted: {got}");
+        let got = passed_body(rt.alloc(), body, Say::Reject)?;
+        let want = package_text(rt.alloc(), &[rejected], &[])?;
+        assert!(rt; got == want, "{body}, rejected: {got}");
     }
     Ok(())
 }

@@ -3,12 +3,11 @@
 ghost use Rattle.std.specs.Prelude.{All, IfOk};
 ghost use Rattle.redl_journal.specs.Journals.{IsAllowed};
 
+use crate::documents::{package_text, read_package};
 use redl_index::Index;
 use redl_io::MemSink;
 use redl_join::Book;
 use redl_journal::{Entry, read};
-use redl_opc::Package;
-use redl_outline::{document, outline_text, package, part};
 use redl_sittings::{joined, map_back};
 use redl_tree::Say;
 use std::alloc::{AllocError, Global};
@@ -21,17 +20,6 @@ const HEAD: &[u8] =
 const RANKED: &[u8] =
     b"redline-journal 2\ndocument 0000000000000000000000000000000000000000000000000000000000000000\nrevisions 3\n";
 
-// The text of a package with a document for each outline of a body.
-fn package_text(alloc: Global, bodies: &[&str]) -> Result<String, AllocError> {
-    let mut parts = String::new(alloc);
-    for body in bodies {
-        let body = outline_text(alloc, body, &[])?;
-        let document = document(alloc, body.as_str())?;
-        parts.push_str(part(alloc, "/a", document.as_str())?.as_str())?;
-    }
-    package(alloc, parts.as_str())
-}
-
 // The first numbers of the second package's revisions, where the first one was decided by these says.
 fn first_numbers(
     alloc: Global,
@@ -39,10 +27,10 @@ fn first_numbers(
     says: &[Say],
     seconds: &[&str],
 ) -> Result<Vec<u32>, Fail> {
-    let first_text = package_text(alloc, firsts)?;
-    let second_text = package_text(alloc, seconds)?;
-    let mut first = Package::make(alloc, redl_xml::read(alloc, first_text.as_bytes())?)?;
-    let mut second = Package::make(alloc, redl_xml::read(alloc, second_text.as_bytes())?)?;
+    let first_text = package_text(alloc, firsts, &[])?;
+    let second_text = package_text(alloc, seconds, &[])?;
+    let mut first = read_package(alloc, first_text.as_bytes())?;
+    let mut second = read_package(alloc, second_text.as_bytes())?;
     let _numbered = Index::build(alloc, &mut first)?;
     let index = Index::build(alloc, &mut second)?;
     Ok(map_back(alloc, &first, says, &second, index.count())?)
@@ -55,7 +43,7 @@ const LIVE: &str = "p .r ..t ...(a)";
 const DELETED: &str = "p .del ..r ...delText ....(b)";
 
 // Documents of one part: the first body, its says, the body that is left, and the first numbers.
-const SITTINGS: [(&str, &[Say], &str, &[u32]); 3] = [
+const SITTINGS: [(&str, &[Say], &str, &[u32]); 5] = [
     (
         "p .ins ..r ...t ....(a) p .del ..r ...delText ....(b)",
         &[Say::Accept, Say::Keep],
@@ -69,6 +57,19 @@ const SITTINGS: [(&str, &[Say], &str, &[u32]); 3] = [
         &[3, 2],
     ),
     ("p .ins ..r ...t ....(a)", &[Say::Reject], "p .()", &[]),
+    // what was inserted among runs is read as one text with them
+    (
+        "p .r ..t ...(x) .ins ..r ...rPr ....b ...t ....(a) .r .bookmarkStart p .r .(y) .r ..tab .del ..r ...delText ....(b)",
+        &[Say::Accept, Say::Keep],
+        "p .r ..t ...(x) .r ..rPr ...b ..t ...(a) .r .bookmarkStart p .r .(y) .r ..tab .del ..r ...delText ....(b)",
+        &[2],
+    ),
+    (
+        "bookmarkStart p .del ..r .r bookmarkEnd tbl .tblPr ..tblW .tr ..trPr ...cantSplit ...ins ..tc ...p ....r ....ins .....r",
+        &[Say::Accept, Say::Keep, Say::Keep],
+        "bookmarkStart p .r bookmarkEnd tbl .tblPr ..tblW .tr ..trPr ...cantSplit ...ins ..tc ...p ....r ....ins .....r",
+        &[2, 3],
+    ),
 ];
 
 #[test]
