@@ -30,7 +30,7 @@ fn document_of(alloc: Global, parts: &[(&str, &str)]) -> Result<MemSink, Fail> {
     Ok(out)
 }
 
-const DOCUMENTS: [(&[(&str, &str)], &str); 7] = [
+const DOCUMENTS: [(&[(&str, &str)], &str); 13] = [
     // texts that try to be script, close a tag, or break out of an attribute
     (
         &[
@@ -95,6 +95,54 @@ const DOCUMENTS: [(&[(&str, &str)], &str); 7] = [
             ),
         ],
         "<section>\n<p data-style=\"a&quot;&gt;b\"><b>x</b><b><i><sup>2</sup></i></b></p>\n</section>\n<section>\n<h2>/b</h2>\n<p></p>\n<sup>2</sup><p></p>\n</section>\n",
+    ),
+    // neighbouring runs, bold and italic
+    (
+        &[(
+            "/a",
+            "<w:document><w:p><w:r><w:rPr><w:b/></w:rPr><w:t>a</w:t></w:r><w:r><w:rPr><w:sz w:val='24'/><w:i/></w:rPr><w:t>b</w:t></w:r> <w:r><w:rPr><w:i/><w:b w:val='on'/></w:rPr><w:t>c</w:t></w:r><w:r><w:rPr><w:b w:val='false'/><w:bCs/></w:rPr><w:t>d</w:t></w:r></w:p></w:document>",
+        )],
+        "<section>\n<p><b>a</b><i>b</i><b><i>c</i></b>d</p>\n</section>\n",
+    ),
+    // bold deleted text beside a run without a change
+    (
+        &[(
+            "/a",
+            "<w:document><w:p><w:del w:author='A'><w:r><w:rPr><w:u/><w:b/></w:rPr><w:delText>x</w:delText><w:tab/></w:r></w:del><w:r><w:t>y</w:t></w:r></w:p></w:document>",
+        )],
+        "<section>\n<p><del class=\"text\" data-revision=\"1\" data-author=\"A\"><b>x\t</b></del>y</p>\n</section>\n",
+    ),
+    // properties of a run with text in them, and such that come after its text
+    (
+        &[(
+            "/a",
+            "<w:document><w:p><w:r><w:rPr><w:t>no</w:t><w:tab/><w:rStyle w:val='b'/></w:rPr><w:t>a</w:t></w:r><w:r><w:t>b</w:t><w:rPr><w:b/></w:rPr></w:r></w:p></w:document>",
+        )],
+        "<section>\n<p>a<b>b</b></p>\n</section>\n",
+    ),
+    // references to notes in runs without a change, one with no id
+    (
+        &[(
+            "/a",
+            "<w:document><w:p><w:r><w:t>a</w:t><w:footnoteReference w:id='2'/></w:r><w:r><w:rPr><w:b/></w:rPr><w:endnoteReference w:id='&lt;'/></w:r><w:r><w:footnoteReference/></w:r></w:p></w:document>",
+        )],
+        "<section>\n<p>a<sup>2</sup><b><sup>&lt;</sup></b><sup></sup></p>\n</section>\n",
+    ),
+    // an italic run in a hyperlink, with CDATA, a tab, breaks, a hyphen that does not break, and a picture
+    (
+        &[(
+            "/a",
+            "<w:document><w:p><w:hyperlink w:id='1'><w:r><w:rPr><w:i/></w:rPr><w:t>a<![CDATA[<]]></w:t><w:tab/><w:br/><w:cr/><w:noBreakHyphen/><w:object/></w:r></w:hyperlink></w:p></w:document>",
+        )],
+        "<section>\n<p><i>a&lt;\t<br><br>&#8209;<span class=\"picture\">picture</span></i></p>\n</section>\n",
+    ),
+    // the style of a paragraph among other properties
+    (
+        &[(
+            "/a",
+            "<w:document><w:p><w:pPr><w:keepNext/><w:pStyle w:id='x'/><w:pStyle w:val='H'/><w:pStyle w:val='I'/></w:pPr></w:p></w:document>",
+        )],
+        "<section>\n<p data-style=\"H\"></p>\n</section>\n",
     ),
 ];
 
