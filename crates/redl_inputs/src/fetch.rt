@@ -6,11 +6,13 @@ ghost use Rattle.redl_inputs.specs.Reading.{ReadsFiles, front_of};
 ghost use Rattle.redl_inputs.specs.Steps.{held, file};
 ghost use Rattle.redl_inputs.specs.Views.{result_view};
 
-use crate::PACKAGE_LIMIT;
 use redl_io::{Shelf, ShelfError, Text};
 use redl_lines::{Cause, Failure, Limit};
 use std::alloc::Global;
 use std::str;
+
+/// The most bytes that a package may have.
+pub const PACKAGE_LIMIT: usize = 134_217_728;
 
 /// The name of a file, as a shelf takes it.
 pub fn name_of(name: &Text) -> &str

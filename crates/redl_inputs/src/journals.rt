@@ -18,6 +18,9 @@ use redl_journal::{Entry, Journal, JournalError, read};
 use redl_lines::{Cause, Failure, Limit};
 use std::alloc::{AllocError, Global};
 
+/// The most bytes that all journals of a call may have together.
+pub const JOURNALS_LIMIT: usize = 67_108_864;
+
 /// What becomes of the entries of the journals of these names, which are of the session's document. All journals together have
 /// at most `limit` bytes.
 pub fn admit_journals<'a, 'b, F: Shelf>(

@@ -13,15 +13,9 @@ mod journals;
 mod package;
 mod sessions;
 
-/// The most bytes that a package may have.
-pub const PACKAGE_LIMIT: usize = 134_217_728;
-
-/// The most bytes that all journals of a call may have together.
-pub const JOURNALS_LIMIT: usize = 67_108_864;
-
 pub use admitted::Admitted;
 pub use document::{Document, DocumentId, LazyDigest};
-pub use fetch::{fetch_file, fetch_package, name_of};
-pub use journals::{add_entries, join_journals, read_first};
+pub use fetch::{PACKAGE_LIMIT, fetch_file, fetch_package, name_of};
+pub use journals::{JOURNALS_LIMIT, add_entries, join_journals, read_first};
 pub use package::{pass_nodes, read_package};
 pub use sessions::{open, open_package, sit, start};

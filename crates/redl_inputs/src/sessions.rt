@@ -8,11 +8,10 @@ ghost use Rattle.redl_index.specs.Numbers.{numbered_package};
 ghost use Rattle.redl_index.specs.Revisions.{revisions_of};
 ghost use Rattle.redl_rules.specs.Attributes.{broken_rule};
 
-use crate::JOURNALS_LIMIT;
 use crate::admitted::Admitted;
 use crate::document::{Document, LazyDigest};
 use crate::idle::idle_locks;
-use crate::journals::{admit_journals, admit_within};
+use crate::journals::{JOURNALS_LIMIT, admit_journals, admit_within};
 use crate::package::read_package;
 use redl_index::Surveyed;
 use redl_io::{Shelf, Text};

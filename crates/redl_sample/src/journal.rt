@@ -6,9 +6,8 @@ ghost use Rattle.redl_journal.specs.Views.{journal_of};
 ghost use Rattle.redl_sample.specs.Journals.{sample_journal as journal_for};
 ghost use Rattle.sha2.specs.Sha256.{sha256};
 
-use crate::SAMPLE_LIMIT;
 use crate::entries::make_entries;
-use crate::make::sample_package;
+use crate::make::{SAMPLE_LIMIT, sample_package};
 use crate::revisions::count_revisions;
 use redl_journal::Journal;
 use sha2::{Digest, Sha256};

@@ -14,9 +14,6 @@ mod summary;
 mod tally;
 
 pub use journal::sample_journal;
-pub use make::sample_package;
+pub use make::{SAMPLE_LIMIT, sample_package};
 pub use summary::Summary;
 pub use tally::Tally;
-
-/// The most paragraphs that a sample may have.
-pub const SAMPLE_LIMIT: u32 = 20_000;

@@ -3,9 +3,11 @@
 ghost use Rattle.std.specs.Prelude.{◌≡◌, ◌≤◌, IfOk};
 ghost use Rattle.redl_sample.specs.Packages.{opening, closing, package_text};
 
-use crate::SAMPLE_LIMIT;
 use crate::block::push_block;
 use std::alloc::{AllocError, Global};
+
+/// The most paragraphs that a sample may have.
+pub const SAMPLE_LIMIT: u32 = 20_000;
 
 // The text before the blocks.
 const OPENING: &[u8] =

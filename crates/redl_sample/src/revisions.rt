@@ -3,7 +3,7 @@
 ghost use Rattle.std.specs.Prelude.{◌≡◌, ◌≤◌};
 ghost use Rattle.redl_sample.specs.Packages.{begun, revisions};
 
-use crate::SAMPLE_LIMIT;
+use crate::make::SAMPLE_LIMIT;
 
 /// The number of revisions of the sample with this number of blocks.
 pub(crate) fn count_revisions(number: u32) -> u32
