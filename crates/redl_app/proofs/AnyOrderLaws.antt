@@ -6,16 +6,16 @@ use Rattle.std.proofs.lemmas.Slice.Eq.{bytes_eq-Decides}
 use Rattle.std.specs.Str.{bytes_eq}
 use Rattle.redl_app.proofs.LeftLaws.{is_made}
 use Rattle.redl_app.specs.AnyOrder.{OrderDoesNotCount, with_journals}
-use Rattle.redl_app.specs.Commands.Decide.{book_written, with_choices}
-use Rattle.redl_app.specs.Commands.Join.{book_text, document_in, joined, union_of}
-use Rattle.redl_app.specs.Commands.Report.{report_named, reported}
-use Rattle.redl_app.specs.Commands.List.{listed, listing_named}
-use Rattle.redl_app.specs.Commands.Page.{page_of}
-use Rattle.redl_app.specs.Commands.Write.{resolved}
+use Rattle.redl_commands.specs.Decide.{book_written, with_choices}
+use Rattle.redl_commands.specs.Join.{book_text, document_in, joined, union_of}
+use Rattle.redl_commands.specs.Report.{report_named, reported}
+use Rattle.redl_commands.specs.List.{listed, listing_named}
+use Rattle.redl_commands.specs.Page.{page_of}
+use Rattle.redl_commands.specs.Write.{resolved}
 use Rattle.redl_app.specs.Brought.{Brought}
 use Rattle.redl_app.specs.Outcome.{carried_out, writing_of}
 use Rattle.redl_app.specs.Plans.{has_asked, plan}
-use Rattle.redl_app.specs.Writing.{Writing, only_bytes, outcome_of}
+use Rattle.redl_commands.specs.Writing.{Writing, only_bytes, outcome_of}
 use Rattle.redl_inputs.proofs.AnyOrder.{HasEntries, IsEntryOf, IsGathered, file_is_held, gathered_is_entry, name_is_gathered, one_list, only_one, opens_same}
 use Rattle.redl_inputs.proofs.JournalLaws.{entries_of_it}
 use Rattle.redl_inputs.proofs.StepLaws.{both_ok, same_ok}

@@ -4,20 +4,21 @@ use Rattle.std.proofs.lemmas.Bool.{and_from}
 use Rattle.std.specs.List.{list_all}
 use Rattle.redl_app.specs.Answers.{IsAnswer, IsWritten, OfOutcome}
 use Rattle.redl_app.specs.Left.{AreSays, IsLeft, Leaves, LeavesSound, decided_package}
-use Rattle.redl_app.proofs.TopLaws.{by_cause}
+use Rattle.redl_lines.proofs.CauseLaws.{by_cause}
 use Rattle.redl_inputs.specs.Admission.{Admission, admission_with, no_admission, opened_over, opened}
-use Rattle.redl_app.specs.Commands.Settle.{passed_text, same_says, settled, settling}
-use Rattle.redl_app.specs.Commands.Write.{resolved, written}
+use Rattle.redl_commands.specs.Settle.{passed_text, same_says, settled, settling}
+use Rattle.redl_commands.specs.Write.{resolved, written}
 use Rattle.redl_app.specs.Brought.{Brought}
 use Rattle.redl_inputs.specs.Journals.{document_of, gathered}
 use Rattle.redl_app.specs.Outcome.{carried_out, outcome, writing_of}
 use Rattle.redl_app.specs.Plans.{Plan, plan}
 use Rattle.redl_inputs.specs.Packages.{package_file, package_in, tree_in, shaped, sound, sound_unless}
+use Rattle.redl_inputs.proofs.PackageLaws.{sound_of}
 use Rattle.redl_inputs.proofs.ReaderLaws.{reads_command}
 use Rattle.redl_inputs.proofs.StepLaws.{both_ok, same_ok, same_some}
 use Rattle.redl_inputs.specs.Readers.{Reader}
 use Rattle.redl_inputs.specs.Steps.{◌>>=◌}
-use Rattle.redl_app.specs.Writing.{Outcome, Writing, only_bytes, outcome_of}
+use Rattle.redl_commands.specs.Writing.{Outcome, Writing, only_bytes, outcome_of}
 use Rattle.redl_words.specs.Commands.{Command, settle, view_text, list, report, page, write, decide, resume, join, check, sample}
 use Rattle.redl_io.specs.Limits.{journal_bytes}
 use Rattle.redl_locks_sound.proofs.Opened.{opened-left}
@@ -69,10 +70,6 @@ none_broken number (test ∷ later) parts is = here (holds test parts) refl (non
         → (if b then first_broken (number + 1) later parts else Some number) ≡ None → list_all (λ other. holds other parts) (test ∷ later) ≡ true
     here true e rest none = and_from (holds test parts) (list_all (λ other. holds other parts) later) e (rest none)
     here false e rest none = absurd (cc none)
-
-pub sound_of : (broken : Option ℕ) (nodes made : Nodes) → sound_unless broken nodes ≡ Ok made → (broken ≡ None) × (made ≡ nodes)
-sound_of None nodes made is = (refl, sym (same_ok is))
-sound_of (Some rule) nodes made is = absurd (cc is)
 
 pub sound_package : (reader : Reader) (whole : List ℕ) (nodes : Nodes) → package_in reader whole ≡ Ok nodes → is_sound rules nodes ≡ true
 sound_package reader whole nodes is =

@@ -4,7 +4,7 @@ use Rattle.std.specs.Option.{option_map}
 use Rattle.redl_app.specs.Files.{if_named}
 use Rattle.redl_app.specs.Brought.{Brought}
 use Rattle.redl_app.specs.Plans.{Making, of_package, of_no_package, package_of, made_by, made_with, IsTextFor}
-use Rattle.redl_app.specs.Writing.{Writing}
+use Rattle.redl_commands.specs.Writing.{Writing}
 use Rattle.redl_inputs.proofs.ReadLaws.{reads_before, reads_then, reads_stops}
 use Rattle.redl_inputs.specs.Packages.{package_file}
 use Rattle.redl_inputs.specs.Readers.{Reader}

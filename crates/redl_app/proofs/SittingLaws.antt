@@ -7,12 +7,12 @@ use Rattle.redl_app.proofs.LeftLaws.{is_made, same_status}
 use Rattle.redl_inputs.proofs.ReaderLaws.{reads_command}
 use Rattle.redl_app.specs.Answers.{IsAnswer, OfOutcome}
 use Rattle.redl_app.specs.Brought.{Brought}
-use Rattle.redl_app.specs.Commands.Join.{book_text}
-use Rattle.redl_app.specs.Commands.Resume.{book_of, first_sitting, left_by, of_second, resumed, resumption, second_failure, second_sitting, sitting_on, text_under}
-use Rattle.redl_app.specs.Commands.Write.{left_text}
+use Rattle.redl_commands.specs.Join.{book_text}
+use Rattle.redl_commands.specs.Resume.{book_of, first_sitting, left_by, of_second, resumed, resumption, second_failure, second_sitting, sitting_on, text_under}
+use Rattle.redl_commands.specs.Write.{left_text}
 use Rattle.redl_app.specs.Outcome.{outcome, writing_of}
 use Rattle.redl_app.specs.Sittings.{Differ, DifferExactly, Resumes, SittingsAgree}
-use Rattle.redl_app.specs.Writing.{Writing, outcome_of}
+use Rattle.redl_commands.specs.Writing.{Writing, outcome_of}
 use Rattle.redl_inputs.proofs.LeftLaws.{and_more, put_in}
 use Rattle.redl_inputs.proofs.StepLaws.{both_ok, same_ok}
 use Rattle.redl_inputs.specs.Admission.{Admission, admission_with, no_admission, sitting_over}

@@ -4,10 +4,10 @@ use Rattle.std.specs.Str.{bytes_eq}
 use Rattle.redl_app.proofs.LeftLaws.{is_made}
 use Rattle.redl_app.specs.AnyOrder.{OrderOfSittings}
 use Rattle.redl_app.specs.Brought.{Brought}
-use Rattle.redl_app.specs.Commands.Resume.{first_sitting, left_by, of_second, resumed, resumption, second_sitting, sitting_on}
-use Rattle.redl_app.specs.Commands.Write.{left_text}
+use Rattle.redl_commands.specs.Resume.{first_sitting, left_by, of_second, resumed, resumption, second_sitting, sitting_on}
+use Rattle.redl_commands.specs.Write.{left_text}
 use Rattle.redl_app.specs.Outcome.{writing_of}
-use Rattle.redl_app.specs.Writing.{Writing, outcome_of}
+use Rattle.redl_commands.specs.Writing.{Writing, outcome_of}
 use Rattle.redl_inputs.proofs.AnyOrder.{sits_same}
 use Rattle.redl_inputs.proofs.StepLaws.{both_ok, same_ok}
 use Rattle.redl_inputs.specs.Admission.{Admission, sitting_over}

@@ -2,16 +2,17 @@
 use Rattle.std.proofs.Common.{◌≡◌, ◌≢◌, ◌⊎◌, inl, inr, ℕ, List, [], ◌∷◌, ◌++◌, Option, Contains, Result, Ok, Err, refl, sym, ap, ◌∙◌, subst, arith}
 use Rattle.std.specs.Io.KnownBytes.{append_known}
 use Rattle.redl_app.specs.Answers.{OfOutcome, IsAnswer, IsWritten, Writes, IsFileOf, AreLines, MayFault}
-use Rattle.redl_app.specs.Finishing.{Ends, Finishes}
+use Rattle.redl_commands.specs.Finishing.{Ends, Finishes}
 use Rattle.redl_app.specs.Brought.{Brought}
 use Rattle.redl_app.specs.Files.{asked_by}
 use Rattle.redl_inputs.specs.Readers.{Reader, IsReader}
 use Rattle.redl_lines.specs.Remarks.{all_refused}
 use Rattle.redl_lines.specs.Ends.{End, end_status, end_lines, written_status, remark_lines}
 use Rattle.redl_app.specs.Outcome.{writing_of}
-use Rattle.redl_app.specs.Writing.{Outcome, Writing, outcome_of}
+use Rattle.redl_commands.specs.Writing.{Outcome, Writing, outcome_of}
 use Rattle.redl_inputs.specs.Reading.{IsMade, IsUnread, MayHold, UnlessUnread}
-use Rattle.redl_lines.specs.Failures.{Failure, Cause, usage, no_format, no_package, no_second, malformed, other_document, other_count, no_sequence, not_written, differ, over, caused, unread, no_memory, failure_status, cause_status}
+use Rattle.redl_lines.specs.Failures.{Failure, Cause, caused, unread, no_memory, failure_status, cause_status}
+use Rattle.redl_lines.proofs.CauseLaws.{by_cause}
 use Rattle.redl_lines.specs.Lines.{failure_line, unwritten_line}
 use Rattle.redl_lines.specs.declared.status.Status.{Status}
 use Rattle.redl_lines.specs.declared.status.Status.TheVariants as status
@@ -19,23 +20,6 @@ use Rattle.redl_io.specs.Faults.{Rose}
 use Rattle.redl_io.specs.Shelf.{Files}
 use Rattle.redl_io.specs.Sink.{GrowsByFront}
 use Rattle.redl_lines.specs.Refused.{RefusedEntries}
-
--- ---- the status of a cause
-
--- what holds of the seven statuses of causes holds of the status of each cause
-pub by_cause : (Holds : Status → Type 0) → Holds status.Usage → Holds status.Package → Holds status.Journal → Holds status.Limit → Holds status.Sequence
-    → Holds status.NotWritten → Holds status.Differ → (cause : Cause) → Holds (cause_status cause)
-by_cause Holds words_ package_ journal limit sequence not_left_ differ_ usage = words_
-by_cause Holds words_ package_ journal limit sequence not_left_ differ_ (no_format name) = words_
-by_cause Holds words_ package_ journal limit sequence not_left_ differ_ (no_package fault) = package_
-by_cause Holds words_ package_ journal limit sequence not_left_ differ_ (no_second fault) = package_
-by_cause Holds words_ package_ journal limit sequence not_left_ differ_ (malformed name) = journal
-by_cause Holds words_ package_ journal limit sequence not_left_ differ_ (other_document name found expected) = journal
-by_cause Holds words_ package_ journal limit sequence not_left_ differ_ (other_count name found expected) = journal
-by_cause Holds words_ package_ journal limit sequence not_left_ differ_ (no_sequence reviewer) = sequence
-by_cause Holds words_ package_ journal limit sequence not_left_ differ_ not_written = not_left_
-by_cause Holds words_ package_ journal limit sequence not_left_ differ_ differ = differ_
-by_cause Holds words_ package_ journal limit sequence not_left_ differ_ (over quantity) = limit
 
 -- ---- the outcome of what was due
 

@@ -3,18 +3,19 @@ use Rattle.std.proofs.Common.{◌≡◌, ◌⊎◌, inl, inr, ℕ, List, [], ◌
 use Rattle.redl_inputs.proofs.AskLaws.{ask_more-nothing, asked_none}
 use Rattle.redl_inputs.proofs.ReadLaws.{always, fails_alone, reads_when}
 use Rattle.redl_inputs.proofs.ReaderLaws.{reads_command, reads_no_command}
-use Rattle.redl_app.proofs.TopLaws.{AreNamed, NamesWhatIsAsked, by_cause, due_by}
+use Rattle.redl_app.proofs.TopLaws.{AreNamed, NamesWhatIsAsked, due_by}
+use Rattle.redl_lines.proofs.CauseLaws.{by_cause}
 use Rattle.redl_app.specs.Answers.{Asks, AsksUpTo}
 use Rattle.redl_app.specs.Files.{asked_by, files_of}
-use Rattle.redl_app.specs.Finishing.{Ends, Finishes, IsWanted, words_failure}
+use Rattle.redl_app.specs.Words.{IsWanted, read_view, named_files, words_failure}
+use Rattle.redl_commands.specs.Finishing.{Ends, Finishes}
 use Rattle.redl_app.specs.Brought.{Brought}
-use Rattle.redl_app.specs.Formats.{LeavesFormats, without_asked}
+use Rattle.redl_commands.specs.Formats.{LeavesFormats, without_asked}
 use Rattle.redl_app.specs.Outcome.{writing_of}
 use Rattle.redl_app.specs.Plans.{Plan, plan}
 use Rattle.redl_inputs.specs.Asking.{EndsAsking}
 use Rattle.redl_inputs.specs.Readers.{Reader, IsReader}
-use Rattle.redl_app.specs.Views.{read_view, named_files}
-use Rattle.redl_app.specs.Writing.{Writing}
+use Rattle.redl_commands.specs.Writing.{Writing}
 use Rattle.redl_io.specs.Shelf.{Files}
 use Rattle.redl_lines.specs.Ends.{End, end_lines, end_status, failed, written_status}
 use Rattle.redl_lines.specs.Failures.{Failure, caused, failure_status, no_memory, unread, usage}

@@ -6,7 +6,7 @@ use Rattle.redl_io.specs.Sink.{GrowsByFront}
 use Rattle.redl_app.specs.Outcome.{outcome}
 use Rattle.redl_inputs.specs.Readers.{Reader, IsReader}
 use Rattle.redl_inputs.specs.Reading.{MayHold}
-use Rattle.redl_app.specs.Writing.{Outcome}
+use Rattle.redl_commands.specs.Writing.{Outcome}
 use Rattle.redl_lines.specs.Ends.{Tells}
 use Rattle.redl_lines.specs.Lines.{no_memory_line, unwritten_line, unread_line}
 use Rattle.redl_app.specs.Files.{asked_by, files_of}

@@ -1,7 +1,7 @@
 -- What a call that decides revisions leaves of a package: exactly the text that survives, in a sound package, and all that is
 -- locked.
 use Rattle.std.specs.Prelude.{◌≡◌, ℕ, List, true, Option, Some, None, Ok, map}
-use Rattle.redl_app.specs.Commands.Settle.{same_says, settling}
+use Rattle.redl_commands.specs.Settle.{same_says, settling}
 use Rattle.redl_inputs.specs.Admission.{Admission, opened}
 use Rattle.redl_session.specs.Sessions.{says as says_of}
 use Rattle.redl_app.specs.Files.{asked_by}

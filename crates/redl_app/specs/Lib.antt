@@ -1,8 +1,4 @@
-pub mod Choices
-pub mod Writing
-pub mod Formats
 pub mod Brought
-pub mod Commands
 pub mod Plans
 pub mod Files
 pub mod Outcome
@@ -10,6 +6,4 @@ pub mod Answers
 pub mod Left
 pub mod Sittings
 pub mod AnyOrder
-pub mod Views
-pub mod Finishing
-pub mod Inside
+pub mod Words

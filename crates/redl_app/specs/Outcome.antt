@@ -3,7 +3,7 @@
 use Rattle.std.specs.Prelude.{ℕ, List, Option, None, Some, Result, Err}
 use Rattle.redl_app.specs.Brought.{Brought}
 use Rattle.redl_app.specs.Plans.{Plan, has_asked, made_by, plan}
-use Rattle.redl_app.specs.Writing.{Writing, Outcome, outcome_of}
+use Rattle.redl_commands.specs.Writing.{Writing, Outcome, outcome_of}
 use Rattle.redl_inputs.specs.Readers.{Reader}
 use Rattle.redl_inputs.specs.Steps.{◌>>=◌}
 use Rattle.redl_io.specs.Shelf.{Files}

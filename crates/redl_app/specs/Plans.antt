@@ -1,19 +1,19 @@
 -- The plan of each command: what it makes and of which package, its journals and locks, its format, and what it decides.
 use Rattle.std.specs.Prelude.{◌++◌, ◌∷◌, ℕ, Bool, List, [], Option, None, Some, Result, Err}
-use Rattle.redl_app.specs.Commands.Check.{checked}
-use Rattle.redl_app.specs.Commands.Decide.{chosen_journal}
-use Rattle.redl_app.specs.Commands.Join.{joined}
-use Rattle.redl_app.specs.Commands.List.{listed}
-use Rattle.redl_app.specs.Commands.Page.{paged}
-use Rattle.redl_app.specs.Commands.Report.{reported}
-use Rattle.redl_app.specs.Commands.Resume.{resumed}
-use Rattle.redl_app.specs.Commands.Sample.{sampled}
-use Rattle.redl_app.specs.Commands.Settle.{settled}
-use Rattle.redl_app.specs.Commands.Text.{viewed}
-use Rattle.redl_app.specs.Commands.Write.{written}
+use Rattle.redl_commands.specs.Check.{checked}
+use Rattle.redl_commands.specs.Decide.{chosen_journal}
+use Rattle.redl_commands.specs.Join.{joined}
+use Rattle.redl_commands.specs.List.{listed}
+use Rattle.redl_commands.specs.Page.{paged}
+use Rattle.redl_commands.specs.Report.{reported}
+use Rattle.redl_commands.specs.Resume.{resumed}
+use Rattle.redl_commands.specs.Sample.{sampled}
+use Rattle.redl_commands.specs.Settle.{settled}
+use Rattle.redl_commands.specs.Text.{viewed}
+use Rattle.redl_commands.specs.Write.{written}
 use Rattle.redl_app.specs.Brought.{Brought}
-use Rattle.redl_app.specs.Formats.{has_format}
-use Rattle.redl_app.specs.Writing.{Writing}
+use Rattle.redl_commands.specs.Formats.{has_format}
+use Rattle.redl_commands.specs.Writing.{Writing}
 use Rattle.redl_inputs.specs.Packages.{package_file}
 use Rattle.redl_inputs.specs.Readers.{Reader}
 use Rattle.redl_inputs.specs.Steps.{◌>>=◌}

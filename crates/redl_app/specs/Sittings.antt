@@ -2,9 +2,9 @@
 use Rattle.std.specs.Prelude.{◌≡◌, ◌≢◌, ◌↔◌, ℕ, List, Option, Some, Ok}
 use Rattle.redl_app.specs.Answers.{IsWritten}
 use Rattle.redl_app.specs.Brought.{Brought}
-use Rattle.redl_app.specs.Commands.Join.{book_text}
-use Rattle.redl_app.specs.Commands.Resume.{book_of, first_sitting, second_sitting, text_under}
-use Rattle.redl_app.specs.Commands.Write.{left_text}
+use Rattle.redl_commands.specs.Join.{book_text}
+use Rattle.redl_commands.specs.Resume.{book_of, first_sitting, second_sitting, text_under}
+use Rattle.redl_commands.specs.Write.{left_text}
 use Rattle.redl_app.specs.Files.{asked_by}
 use Rattle.redl_app.specs.Outcome.{outcome}
 use Rattle.redl_inputs.specs.Admission.{Admission}

@@ -3,46 +3,24 @@
 ghost use Rattle.std.specs.Prelude.{◌≡◌, Ok};
 ghost use Rattle.std.specs.Option.{option_copied};
 ghost use Rattle.redl_app.specs.Brought.{brought_by};
-ghost use Rattle.redl_app.specs.Finishing.{Ends};
-ghost use Rattle.redl_app.specs.Formats.{AreFresh, LeavesFormats, formats_by, has_format, without_asked};
+ghost use Rattle.redl_commands.specs.Finishing.{Ends};
+ghost use Rattle.redl_commands.specs.Formats.{AreFresh, LeavesFormats, formats_by, has_format, without_asked};
 ghost use Rattle.redl_app.specs.Plans.{IsTextFor, made_with, plan};
 ghost use Rattle.redl_lines.specs.Ends.{end_status, end_view};
 ghost use Rattle.redl_words.specs.Commands.{HasUtf8};
 ghost use Rattle.redl_words.specs.Views.{command_of};
 
-use crate::output::put;
-use check::check;
-use decide::decide;
-use join::join;
-use list::list;
-use page::put_page;
-use redl_inputs::name_of;
+use redl_commands::{
+    check_package, decide_package, join_files, list_package, make_sample, put, put_page, put_text,
+    report_package, resume_package, settle_package, write_package,
+};
 use redl_io::{Shelf, Sink};
 use redl_lines::End;
 use redl_listing::RowFormat;
 use redl_page::Skin;
 use redl_report::ReportFormat;
 use redl_words::Command;
-use report::report_package;
-use resume::resume;
-use sample::sample;
-use settle::settle;
 use std::alloc::Global;
-use text::put_text;
-use write::write;
-
-mod check;
-mod decide;
-mod join;
-mod list;
-mod page;
-mod report;
-mod resume;
-mod sample;
-mod settle;
-mod shown;
-mod text;
-mod write;
 
 /// Makes what the command writes and puts it on the output. `text` is its package's, and there is one exactly if the command has
 /// a package. The format that it asks for is there. Each arm puts what it made, which lives no longer than the text.
@@ -71,44 +49,11 @@ pub(crate) fn carry_out<'a, F: Shelf, O: Sink>(
         (without_asked report_name (plan (command_of command.now)).report reports.old.items) reports.old.items reports.new.items }
 {
     match command {
-        Command::Settle { accept, .. } => put(settle(alloc, *accept, text.unwrap()), out),
+        Command::Settle { accept, .. } => put(settle_package(alloc, *accept, text.unwrap()), out),
         Command::Text { view, .. } => put_text(alloc, *view, text.unwrap(), out),
-        Command::List {
-            format,
-            locks,
-            journals,
-            only,
-            ..
-        } => put(
-            list(
-                alloc,
-                name_of(format),
-                only,
-                locks,
-                journals,
-                text.unwrap(),
-                shelf,
-                formats,
-            ),
-            out,
-        ),
-        Command::Report {
-            format,
-            by_kind,
-            locks,
-            journals,
-            ..
-        } => put(
-            report_package(
-                alloc,
-                name_of(format),
-                *by_kind,
-                locks,
-                journals,
-                text.unwrap(),
-                shelf,
-                reports,
-            ),
+        Command::List(command) => put(list_package(alloc, command, text.unwrap(), shelf, formats), out),
+        Command::Report(command) => put(
+            report_package(alloc, command, text.unwrap(), shelf, reports),
             out,
         ),
         Command::Page {
@@ -120,45 +65,11 @@ pub(crate) fn carry_out<'a, F: Shelf, O: Sink>(
             locks,
             journals,
             ..
-        } => put(write(alloc, locks, journals, text.unwrap(), shelf), out),
-        Command::Decide {
-            reviewer,
-            journals,
-            locks,
-            choices,
-            rank,
-            ..
-        } => put(
-            decide(
-                alloc,
-                reviewer,
-                *rank,
-                locks,
-                journals,
-                choices,
-                text.unwrap(),
-                shelf,
-            ),
-            out,
-        ),
-        Command::Resume {
-            second,
-            firsts,
-            journals,
-            ..
-        } => put(
-            resume(
-                alloc,
-                name_of(second),
-                firsts,
-                journals,
-                text.unwrap(),
-                shelf,
-            ),
-            out,
-        ),
-        Command::Join { journals } => put(join(alloc, journals, shelf), out),
-        Command::Check { .. } => put(check(alloc, text.unwrap()), out),
-        Command::Sample { number } => put(sample(alloc, *number), out),
+        } => put(write_package(alloc, locks, journals, text.unwrap(), shelf), out),
+        Command::Decide(command) => put(decide_package(alloc, command, text.unwrap(), shelf), out),
+        Command::Resume(command) => put(resume_package(alloc, command, text.unwrap(), shelf), out),
+        Command::Join { journals } => put(join_files(alloc, journals, shelf), out),
+        Command::Check { .. } => put(check_package(alloc, text.unwrap()), out),
+        Command::Sample { number } => put(make_sample(alloc, *number), out),
     }
 }

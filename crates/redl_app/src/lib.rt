@@ -1,16 +1,13 @@
 //! The top call: from the words of a command line and the files that they name to the bytes, the lines and the status.
 //!
 //! Read `run` first: its clauses say what goes out and which status comes when, by the outcome of a call in
-//! `specs/Outcome.antt`. What each command writes is defined in `specs/Commands`, and made in `commands`.
+//! `specs/Outcome.antt`. What each command writes is defined, and made, in `redl_commands`.
 //! Real files and streams are made by the program above.
 #![tactic(auto)]
 
-mod choices;
-mod collected;
 mod commands;
 mod formats;
 mod laws;
-mod output;
 mod plan;
 mod top;
 mod words;

@@ -17,13 +17,13 @@ pub(crate) fn package(command: &Command) -> Option<&str>
     match command {
         Command::Settle { package, .. }
         | Command::Text { package, .. }
-        | Command::List { package, .. }
-        | Command::Report { package, .. }
         | Command::Page { package, .. }
         | Command::Write { package, .. }
-        | Command::Decide { package, .. }
-        | Command::Resume { package, .. }
         | Command::Check { package } => Some(name_of(package)),
+        Command::List(command) => Some(name_of(&command.package)),
+        Command::Report(command) => Some(name_of(&command.package)),
+        Command::Decide(command) => Some(name_of(&command.package)),
+        Command::Resume(command) => Some(name_of(&command.package)),
         Command::Join { .. } | Command::Sample { .. } => None,
     }
 }
@@ -34,7 +34,7 @@ pub(crate) fn format(command: &Command) -> Option<&str>
     ensures { option_copied result ≡ (plan (command_of command.now)).format }
 {
     match command {
-        Command::List { format, .. } => Some(name_of(format)),
+        Command::List(command) => Some(name_of(&command.format)),
         _ => None,
     }
 }
@@ -45,7 +45,7 @@ pub(crate) fn report(command: &Command) -> Option<&str>
     ensures { option_copied result ≡ (plan (command_of command.now)).report }
 {
     match command {
-        Command::Report { format, .. } => Some(name_of(format)),
+        Command::Report(command) => Some(name_of(&command.format)),
         _ => None,
     }
 }

@@ -4,7 +4,9 @@ ghost use Rattle.std.specs.Prelude.{All, IfOk, IsUtf8};
 use redl_io::Text;
 use redl_journal::Word;
 use redl_select::{Lock, Selection};
-use redl_words::{Command, Only, WordsError, read_words};
+use redl_words::{
+    Command, DecideCommand, ListCommand, Only, ReportCommand, ResumeCommand, WordsError, read_words,
+};
 use std::alloc::{AllocError, Global};
 use std::str::from_utf8;
 use std::test::Fail;
@@ -84,20 +86,15 @@ fn choices_shown(alloc: Global, choices: &[(Word, Selection)]) -> Result<String,
     Ok(all)
 }
 
-fn decide_shown(
-    alloc: Global,
-    names: (&Text, &Text),
-    items: (&[Text], &[Lock], u8),
-    choices: &[(Word, Selection)],
-) -> Result<String, AllocError> {
-    let rank = items.2;
-    let journals = all_shown(alloc, items.0)?;
-    let locks = locks_shown(alloc, items.1)?;
-    let choices = choices_shown(alloc, choices)?;
+fn decide_shown(alloc: Global, command: &DecideCommand) -> Result<String, AllocError> {
+    let journals = all_shown(alloc, &command.journals)?;
+    let locks = locks_shown(alloc, &command.locks)?;
+    let choices = choices_shown(alloc, &command.choices)?;
     format!(in alloc;
-        "decide {} by {} rank {rank} journals {journals} locks {locks} choices {choices}",
-        shown(names.0),
-        shown(names.1)
+        "decide {} by {} rank {} journals {journals} locks {locks} choices {choices}",
+        shown(&command.package),
+        shown(&command.reviewer),
+        command.rank
     )
 }
 
@@ -130,17 +127,24 @@ fn onlys_shown(alloc: Global, onlys: &[Only]) -> Result<String, AllocError> {
     Ok(all)
 }
 
-fn asked_shown(
-    alloc: Global,
-    word: &str,
-    names: (&Text, &Text),
-    locks: &[Lock],
-    journals: &[Text],
-    onlys: &[Only],
-) -> Result<String, AllocError> {
-    let onlys = onlys_shown(alloc, onlys)?;
-    let front = format!(in alloc; "{word} {} as {}{onlys}", shown(names.0), shown(names.1))?;
-    with_texts(alloc, front.as_str(), locks, journals)
+fn list_shown(alloc: Global, command: &ListCommand) -> Result<String, AllocError> {
+    let onlys = onlys_shown(alloc, &command.only)?;
+    let front = format!(in alloc;
+        "list {} as {}{onlys}",
+        shown(&command.package),
+        shown(&command.format)
+    )?;
+    with_texts(alloc, front.as_str(), &command.locks, &command.journals)
+}
+
+fn report_shown(alloc: Global, command: &ReportCommand) -> Result<String, AllocError> {
+    let by_kind = if command.by_kind { " by kind" } else { "" };
+    let front = format!(in alloc;
+        "report{by_kind} {} as {}",
+        shown(&command.package),
+        shown(&command.format)
+    )?;
+    with_texts(alloc, front.as_str(), &command.locks, &command.journals)
 }
 
 fn page_shown(
@@ -168,18 +172,13 @@ fn join_shown(alloc: Global, journals: &[Text]) -> Result<String, AllocError> {
     format!(in alloc; "join {journals}")
 }
 
-fn resume_shown(
-    alloc: Global,
-    packages: (&Text, &Text),
-    firsts: &[Text],
-    journals: &[Text],
-) -> Result<String, AllocError> {
-    let firsts = all_shown(alloc, firsts)?;
-    let journals = all_shown(alloc, journals)?;
+fn resume_shown(alloc: Global, command: &ResumeCommand) -> Result<String, AllocError> {
+    let firsts = all_shown(alloc, &command.firsts)?;
+    let journals = all_shown(alloc, &command.journals)?;
     format!(in alloc;
         "resume {} {} firsts {firsts} journals {journals}",
-        shown(packages.0),
-        shown(packages.1)
+        shown(&command.package),
+        shown(&command.second)
     )
 }
 
@@ -189,27 +188,8 @@ fn command_shown(alloc: Global, command: &Command) -> Result<String, AllocError>
             format!(in alloc; "settle {accept} {}", shown(package))
         }
         Command::Text { package, view } => format!(in alloc; "text {} {view:?}", shown(package)),
-        Command::List {
-            package,
-            format,
-            locks,
-            journals,
-            only,
-        } => asked_shown(alloc, "list", (package, format), locks, journals, only),
-        Command::Report {
-            package,
-            format,
-            by_kind,
-            locks,
-            journals,
-        } => asked_shown(
-            alloc,
-            if *by_kind { "report by kind" } else { "report" },
-            (package, format),
-            locks,
-            journals,
-            &[],
-        ),
+        Command::List(command) => list_shown(alloc, command),
+        Command::Report(command) => report_shown(alloc, command),
         Command::Page {
             package,
             locks,
@@ -220,25 +200,8 @@ fn command_shown(alloc: Global, command: &Command) -> Result<String, AllocError>
             locks,
             journals,
         } => write_shown(alloc, package, locks, journals),
-        Command::Decide {
-            package,
-            reviewer,
-            journals,
-            locks,
-            choices,
-            rank,
-        } => decide_shown(
-            alloc,
-            (package, reviewer),
-            (journals, locks, *rank),
-            choices,
-        ),
-        Command::Resume {
-            package,
-            second,
-            firsts,
-            journals,
-        } => resume_shown(alloc, (package, second), firsts, journals),
+        Command::Decide(command) => decide_shown(alloc, command),
+        Command::Resume(command) => resume_shown(alloc, command),
         Command::Join { journals } => join_shown(alloc, journals),
         Command::Check { package } => format!(in alloc; "check {}", shown(package)),
         Command::Sample { number } => format!(in alloc; "sample {number}"),

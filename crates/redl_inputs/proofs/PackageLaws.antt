@@ -2,7 +2,8 @@
 use Rattle.std.proofs.Common.{◌≡◌, ◌<◌, ◌≤◌, ℕ, List, nat_lt, Option, None, Some, Result, Err, Ok, IsErrAnd, IsErrOf, subst, refl, sym, ap, ◌∙◌}
 use Rattle.std.proofs.lemmas.Bool.{lt-ltb, le-ltb}
 use Rattle.redl_inputs.proofs.FetchLaws.{if_true, if_false}
-use Rattle.redl_inputs.specs.Packages.{limited, tree_in}
+use Rattle.redl_inputs.proofs.StepLaws.{same_ok}
+use Rattle.redl_inputs.specs.Packages.{limited, sound_unless, tree_in}
 use Rattle.redl_inputs.specs.Readers.{Reader, IsReader, IsTreeOf}
 use Rattle.redl_inputs.specs.Reading.{IsMade, Reads, NeverUnread}
 use Rattle.redl_inputs.specs.Views.{result_view}
@@ -102,3 +103,10 @@ tree_fails {X} text error unreadable deep many = record {
   as_due = λ reader is. tree_failed {X = X} reader text error is unreadable deep many;
   never_unread = xml_is_read error;
 }
+
+-- ---- a sound package
+
+-- what passed the rules breaks none, and is the same
+pub sound_of : (broken : Option ℕ) (nodes made : Nodes) → sound_unless broken nodes ≡ Ok made → (broken ≡ None) × (made ≡ nodes)
+sound_of None nodes made is = (refl, sym (same_ok is))
+sound_of (Some rule) nodes made is = absurd (cc is)

@@ -55,7 +55,8 @@ never_is_not (Err no_memory) names told failed never = tt
 never_is_not (Err (unread name)) names told failed never = absurd never
 never_is_not (Err (caused cause)) names told failed never = tt
 
-never_as : (X Y : Type 0) (failure : Failure) → NeverUnread {Y = X} (Err failure) → NeverUnread {Y = Y} (Err failure)
+-- a failure that is of no file is so whatever was to be made
+pub never_as : (X Y : Type 0) (failure : Failure) → NeverUnread {Y = X} (Err failure) → NeverUnread {Y = Y} (Err failure)
 never_as X Y no_memory h = tt
 never_as X Y (unread name) h = h
 never_as X Y (caused cause) h = tt

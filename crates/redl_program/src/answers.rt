@@ -2,7 +2,7 @@
 
 ghost use Rattle.std.specs.Prelude.{◌≡◌, ◌≢◌, ◌⊎◌, IfOk, IfErr, IfSome, All, IsUtf8, None};
 ghost use Rattle.redl_app.specs.Answers.{Writes};
-ghost use Rattle.redl_app.specs.Finishing.{words_failure};
+ghost use Rattle.redl_app.specs.Words.{words_failure};
 ghost use Rattle.redl_io.specs.Faults.{Rose};
 ghost use Rattle.redl_lines.specs.Ends.{Tells};
 ghost use Rattle.redl_lines.specs.Failures.{failure_status};

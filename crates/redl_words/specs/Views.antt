@@ -26,12 +26,12 @@ onlys_view = map only_of
 abbrev pub command_of : code.Command → Command
 command_of (variants.Settle accept p) = settle accept p
 command_of (variants.Text p view) = view_text p view
-command_of (variants.List p name locks journals only) = list p name locks.items journals.items (onlys_view only.items)
+command_of (variants.List c) = list c.package c.format c.locks.items c.journals.items (onlys_view c.only.items)
 command_of (variants.Page p locks journals) = page p locks.items journals.items
-command_of (variants.Report p name by_kind locks journals) = report p name by_kind locks.items journals.items
+command_of (variants.Report c) = report c.package c.format c.by_kind c.locks.items c.journals.items
 command_of (variants.Write p locks journals) = write p locks.items journals.items
-command_of (variants.Decide p reviewer journals locks choices number) = decide p reviewer journals.items locks.items (choices_view choices.items) number
-command_of (variants.Resume p q firsts journals) = resume p q firsts.items journals.items
+command_of (variants.Decide c) = decide c.package c.reviewer c.journals.items c.locks.items (choices_view c.choices.items) c.rank
+command_of (variants.Resume c) = resume c.package c.second c.firsts.items c.journals.items
 command_of (variants.Join journals) = join journals.items
 command_of (variants.Check p) = check p
 command_of (variants.Sample number) = sample number

@@ -13,6 +13,47 @@ pub enum View {
     Marked,
 }
 
+/// A list of the package's revisions in the format of this name, of those alone that each of `only` shows.
+#[derive(Drop)]
+pub struct ListCommand {
+    pub package: Text,
+    pub format: Text,
+    pub locks: Vec<Lock>,
+    pub journals: Vec<Text>,
+    pub only: Vec<Only>,
+}
+
+/// Where each reviewer and each author of the package's revisions stands, in the format of this name, and of an author's revisions
+/// each kind, if this is asked for.
+#[derive(Drop)]
+pub struct ReportCommand {
+    pub package: Text,
+    pub format: Text,
+    pub by_kind: bool,
+    pub locks: Vec<Lock>,
+    pub journals: Vec<Text>,
+}
+
+/// A journal of what the reviewer decides, with this rank, on revisions of the package.
+#[derive(Drop)]
+pub struct DecideCommand {
+    pub package: Text,
+    pub reviewer: Text,
+    pub journals: Vec<Text>,
+    pub locks: Vec<Lock>,
+    pub choices: Vec<(Word, Selection)>,
+    pub rank: u8,
+}
+
+/// One journal for the package, of its own journals and those of the second package.
+#[derive(Drop)]
+pub struct ResumeCommand {
+    pub package: Text,
+    pub second: Text,
+    pub firsts: Vec<Text>,
+    pub journals: Vec<Text>,
+}
+
 /// What the words of a command line ask for. Journals, locks and choices are in the order of the words, with repeats.
 #[derive(Drop)]
 pub enum Command {
@@ -26,51 +67,22 @@ pub enum Command {
         package: Text,
         view: View,
     },
-    /// A list of the package's revisions in the format of this name, of those alone that each of `only` shows.
-    List {
-        package: Text,
-        format: Text,
-        locks: Vec<Lock>,
-        journals: Vec<Text>,
-        only: Vec<Only>,
-    },
+    List(ListCommand),
     /// A page of the package's revisions, on which a reviewer decides in a browser.
     Page {
         package: Text,
         locks: Vec<Lock>,
         journals: Vec<Text>,
     },
-    /// Where each reviewer and each author of the package's revisions stands, in the format of this name, and of an author's
-    /// revisions each kind, if this is asked for.
-    Report {
-        package: Text,
-        format: Text,
-        by_kind: bool,
-        locks: Vec<Lock>,
-        journals: Vec<Text>,
-    },
+    Report(ReportCommand),
     /// The package under the joined verdicts of the journals.
     Write {
         package: Text,
         locks: Vec<Lock>,
         journals: Vec<Text>,
     },
-    /// A journal of what the reviewer decides, with this rank, on revisions of the package.
-    Decide {
-        package: Text,
-        reviewer: Text,
-        journals: Vec<Text>,
-        locks: Vec<Lock>,
-        choices: Vec<(Word, Selection)>,
-        rank: u8,
-    },
-    /// One journal for the package, of its own journals and those of the second package.
-    Resume {
-        package: Text,
-        second: Text,
-        firsts: Vec<Text>,
-        journals: Vec<Text>,
-    },
+    Decide(DecideCommand),
+    Resume(ResumeCommand),
     /// The union of the journals.
     Join {
         journals: Vec<Text>,

@@ -6,7 +6,7 @@ ghost use Rattle.redl_words.specs.Reading.Answers.{Finds};
 ghost use Rattle.redl_words.specs.Reading.Commands.{asked_in, asked_view, check_in, command_in, decide_in, format_or_text, rank_or_0, join_in, list_in, report_in, page_in, resume_in, sample_in, say_in, settle_in, text_in, text_with, view_in, write_in};
 ghost use Rattle.redl_words.specs.Views.{command_of};
 
-use crate::command::{Command, View};
+use crate::command::{Command, DecideCommand, ListCommand, ReportCommand, ResumeCommand, View};
 use crate::error::WordsError;
 use crate::items::read_items;
 use crate::names::{is_file_name, read_names};
@@ -140,13 +140,13 @@ fn read_list(alloc: Global, words: &[Text]) -> Result<Command, WordsError>
     ensures { Finds command_of result (list_in words.now) }
 {
     let asked = read_asked(alloc, Form::List, words)?;
-    Ok(Command::List {
+    Ok(Command::List(ListCommand {
         package: asked.package,
         format: asked.format,
         locks: asked.locks,
         journals: asked.journals,
         only: asked.only,
-    })
+    }))
 }
 
 /// The words after `report`.
@@ -155,13 +155,13 @@ fn read_report(alloc: Global, words: &[Text]) -> Result<Command, WordsError>
     ensures { Finds command_of result (report_in words.now) }
 {
     let asked = read_asked(alloc, Form::Report, words)?;
-    Ok(Command::Report {
+    Ok(Command::Report(ReportCommand {
         package: asked.package,
         format: asked.format,
         by_kind: asked.by_kind,
         locks: asked.locks,
         journals: asked.journals,
-    })
+    }))
 }
 
 /// What is asked of a package: a format of this name, by kind or not, with locks and journals, and which revisions are shown.
@@ -271,14 +271,14 @@ fn read_decide(alloc: Global, words: &[Text]) -> Result<Command, WordsError>
     let package = package.copy(alloc)?;
     let reviewer = reviewer.copy(alloc)?;
     let rank = rank_or_0(items.rank);
-    Ok(Command::Decide {
+    Ok(Command::Decide(DecideCommand {
         package,
         reviewer,
         journals: items.journals,
         locks: items.locks,
         choices: items.choices,
         rank,
-    })
+    }))
 }
 
 /// The rank, or 0 without one.
@@ -302,12 +302,12 @@ fn read_resume(alloc: Global, words: &[Text]) -> Result<Command, WordsError>
     let sittings = read_sittings(alloc, rest)?;
     let package = package.copy(alloc)?;
     let second = second.copy(alloc)?;
-    Ok(Command::Resume {
+    Ok(Command::Resume(ResumeCommand {
         package,
         second,
         firsts: sittings.firsts,
         journals: sittings.seconds,
-    })
+    }))
 }
 
 /// The words after `join`.

@@ -1,0 +1,10 @@
+pub mod ChoiceLaws
+pub mod FormatLaws
+pub mod JoinLaws
+pub mod LockLaws
+pub mod PageLaws
+pub mod PartNameLaws
+pub mod ResumeLaws
+pub mod SampleLaws
+pub mod ShownLaws
+pub mod TextLaws

@@ -1,0 +1,25 @@
+-- `write P` with journals and locks: the package under the joined verdicts.
+use Rattle.std.specs.Prelude.{ℕ, List, Result, Ok}
+use Rattle.redl_inputs.specs.Admission.{Admission, opened}
+use Rattle.redl_inputs.specs.Readers.{Reader}
+use Rattle.redl_inputs.specs.Steps.{◌>>=◌}
+use Rattle.redl_commands.specs.Writing.{Writing}
+use Rattle.redl_io.specs.Shelf.{Files}
+use Rattle.redl_lines.specs.Failures.{Failure}
+use Rattle.redl_select.specs.declared.lock.Lock.{Lock}
+use Rattle.redl_session.specs.Sessions.{State, says}
+use Rattle.redl_tree.specs.Decisions.Packages.{pass_package}
+use Rattle.redl_tree.specs.Model.Text.{text}
+
+-- the text of the session's package under the says of its verdicts
+abbrev pub left_text : State → List ℕ
+left_text state = text (pass_package (says state) state.nodes)
+
+abbrev pub resolved : Admission → Writing
+resolved admission = record { bytes = left_text admission.state; remarks = admission.remarks }
+
+-- what is written of the package with this text
+abbrev pub written : Reader → Files → List Lock → List (List ℕ) → List ℕ → Result Writing Failure
+written reader files locks journals whole = do
+  admission ← opened reader files locks journals whole
+  Ok (resolved admission)
