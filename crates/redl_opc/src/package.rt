@@ -159,7 +159,8 @@ impl<'a> Package<'a> {
         ensures left { C.given change.now state.new ≡ left_after C.rule (C.given change.now state.old) (stories self.old) }
         ensures text { text self.new ≡ text self.old }
     {
-        match change_stories(&mut self.nodes, change, state) {
+        let alloc = *self.nodes.allocator();
+        match change_stories(alloc, &mut self.nodes, change, state) {
             Ok(()) => {}
         }
     }

@@ -59,7 +59,7 @@ pub fn into_passed<'a, L: Ledger>(
     ensures made { IfOk result (λ passed. steps.old + count (nodes_of passed.items) ≤ steps.new) }
 {
     let mut nodes = nodes;
-    change_stories(&mut nodes, &Passing { alloc, says }, steps)?;
+    change_stories(alloc, &mut nodes, &Passing { alloc, says }, steps)?;
     Ok(nodes)
 }
 

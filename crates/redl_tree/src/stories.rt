@@ -6,10 +6,11 @@ ghost use Rattle.redl_tree.specs.Model.Nodes.{Tag, Nodes};
 ghost use Rattle.redl_tree.specs.Decisions.Taken.{TakesAll, TakesAt};
 ghost use Rattle.redl_tree.specs.Decisions.Packages.{level_of, stories, stories_in, element_stories, StoryRule, left_after, changed_stories, changed_in, changed_package};
 ghost use Rattle.redl_tree.specs.Decisions.StoryWalk.{changed_kids, changed_item, item_stories};
-ghost use Rattle.redl_tree.specs.Model.View.{nodes_of, item_of, tag_of, kids_of, held_of, spaced_of};
+ghost use Rattle.redl_tree.specs.Model.View.{nodes_of, item_of, tag_of, kids_of};
 
 use crate::level::Level;
-use crate::node::{Body, Elem, Node, Spaced};
+use crate::node::{Elem, Node};
+use std::alloc::Global;
 
 /// A change of stories, one after the other. What changes from story to story, as the labels that are left, is in an `S`.
 pub trait StoryChange<S> {
@@ -52,8 +53,10 @@ pub trait StoryChange<S> {
 
 /// Changes the stories of a package, in their order, each in its place. All else stays as it is.
 ///
-/// `Err` is that of the first story whose change fails. The stories before it are changed then.
+/// `Err` is that of the first story whose change fails. The stories before it are changed then. It takes no memory of its own:
+/// `alloc` is for the empty lists that stand where kids were taken out.
 pub fn change_stories<S, C: StoryChange<S>>(
+    alloc: Global,
     nodes: &mut [Node],
     change: &C,
     state: &mut S,
@@ -67,12 +70,13 @@ pub fn change_stories<S, C: StoryChange<S>>(
     ensures entered { C.is_counted ≡ true → C.steps state.new ≤ C.steps state.old + count (nodes_of nodes.old) }
     ensures made { OnOk result (C.is_counted ≡ true → C.steps state.old + count (nodes_of nodes.new) ≤ C.steps state.new) }
 {
-    change_among(nodes, Level::Top, change, state)
+    change_among(alloc, nodes, Level::Top, change, state)
 }
 
 // The same for nodes at a level of their package.
 #[cycle(stories)]
 fn change_among<S, C: StoryChange<S>>(
+    alloc: Global,
     nodes: &mut [Node],
     level: Level,
     change: &C,
@@ -87,13 +91,14 @@ fn change_among<S, C: StoryChange<S>>(
     ensures made { OnOk result (C.is_counted ≡ true → C.steps state.old + count (nodes_of nodes.new) ≤ C.steps state.new) }
 {
     for i in 0..nodes.len() {
-        change_node(&mut nodes[i], level, change, state)?;
+        change_node(alloc, &mut nodes[i], level, change, state)?;
     }
     Ok(())
 }
 
 #[cycle(stories)]
 fn change_node<S, C: StoryChange<S>>(
+    alloc: Global,
     node: &mut Node,
     level: Level,
     change: &C,
@@ -110,7 +115,7 @@ fn change_node<S, C: StoryChange<S>>(
     match node {
         Node::Elem(elem) => {
             change.meet(state, 1);
-            change_elem(elem, level, change, state)
+            change_elem(alloc, elem, level, change, state)
         }
         Node::Bytes(_) => {
             change.meet(state, 1);
@@ -126,6 +131,7 @@ fn change_node<S, C: StoryChange<S>>(
 // The step of the element itself was counted by the caller.
 #[cycle(stories)]
 fn change_elem<S, C: StoryChange<S>>(
+    alloc: Global,
     elem: &mut Elem,
     level: Level,
     change: &C,
@@ -143,49 +149,16 @@ fn change_elem<S, C: StoryChange<S>>(
     if level.is_root(elem) {
         return change.change(elem, state);
     }
-    let below = level.below(elem);
-    change_body(&mut elem.body, below, change, state)
-}
-
-#[cycle(stories)]
-fn change_body<S, C: StoryChange<S>>(
-    body: &mut Body,
-    level: Level,
-    change: &C,
-    state: &mut S,
-) -> Result<(), C::Error>
-    requires taken { TakesAt C.rule C.Takes (C.given change.now state.old) level (λ ancestors. stories_in ancestors (held_of body.old).kids) }
-    ensures close { OnOk result ((held_of body.new).close ≡ (held_of body.old).close) }
-    ensures kids { OnOk result ((ancestors : List Tag) → level ≡ level_of ancestors
-        → (held_of body.new).kids ≡ changed_in C.rule (C.given change.now state.old) ancestors (held_of body.old).kids) }
-    ensures left { OnOk result ((ancestors : List Tag) → level ≡ level_of ancestors
-        → C.given change.now state.new ≡ left_after C.rule (C.given change.now state.old) (stories_in ancestors (held_of body.old).kids)) }
-    ensures entered { C.is_counted ≡ true → C.steps state.new ≤ C.steps state.old + count (held_of body.old).kids }
-    ensures made { OnOk result (C.is_counted ≡ true → C.steps state.old + count (held_of body.new).kids ≤ C.steps state.new) }
-{
-    match body {
-        Body::Empty => Ok(()),
-        Body::Kids(kids) => change_among(kids, level, change, state),
-        Body::Spaced(spaced) => change_spaced(spaced, level, change, state),
+    let mut kids = elem.take_kids(alloc);
+    match change_among(alloc, &mut kids, level.below(elem), change, state) {
+        Ok(()) => {
+            elem.return_kids(kids);
+            Ok(())
+        }
+        // Where a change fails there are kids, and so an end tag.
+        Err(error) => {
+            elem.put_kids(kids);
+            Err(error)
+        }
     }
-}
-
-// Apart from `change_body`, since a write through a box in a variant is proved in two steps.
-#[cycle(stories)]
-fn change_spaced<S, C: StoryChange<S>>(
-    spaced: &mut Box<Spaced>,
-    level: Level,
-    change: &C,
-    state: &mut S,
-) -> Result<(), C::Error>
-    requires taken { TakesAt C.rule C.Takes (C.given change.now state.old) level (λ ancestors. stories_in ancestors (spaced_of spaced.old.value).kids) }
-    ensures close { OnOk result ((spaced_of spaced.new.value).close ≡ (spaced_of spaced.old.value).close) }
-    ensures kids { OnOk result ((ancestors : List Tag) → level ≡ level_of ancestors
-        → (spaced_of spaced.new.value).kids ≡ changed_in C.rule (C.given change.now state.old) ancestors (spaced_of spaced.old.value).kids) }
-    ensures left { OnOk result ((ancestors : List Tag) → level ≡ level_of ancestors
-        → C.given change.now state.new ≡ left_after C.rule (C.given change.now state.old) (stories_in ancestors (spaced_of spaced.old.value).kids)) }
-    ensures entered { C.is_counted ≡ true → C.steps state.new ≤ C.steps state.old + count (spaced_of spaced.old.value).kids }
-    ensures made { OnOk result (C.is_counted ≡ true → C.steps state.old + count (spaced_of spaced.new.value).kids ≤ C.steps state.new) }
-{
-    change_among(&mut spaced.kids, level, change, state)
 }

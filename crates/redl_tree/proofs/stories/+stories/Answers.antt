@@ -1,10 +1,11 @@
-use Rattle.std.proofs.Common.{◌≡◌, ◌+◌, ◌<◌, ◌≤◌, List, get_or, length, set, take, drop, sym, ap, subst, ◌∙◌, arith}
-use Rattle.std.proofs.lemmas.List.{take_more_set, drop-set-lt, take_all, length-set, get_or-set_other}
+use Rattle.std.proofs.Common.{◌≡◌, ◌∷◌, ◌+◌, ◌<◌, ◌≤◌, List, get_or, length, set, take, drop, sym, ap, subst, ◌∙◌, arith}
+use Rattle.std.proofs.lemmas.List.{take_at, take_more_set, drop-set-lt, take_all, length-set, get_or-set_other}
 use Rattle.redl_tree.specs.Model.Count.{count, item_count}
 use Rattle.redl_tree.specs.Model.Nodes.{Tag, no_nodes, in_front, ◌⊕◌}
-use Rattle.redl_tree.specs.Decisions.Packages.{level_of, stories_in, left_after, changed_in}
+use Rattle.redl_tree.specs.Decisions.Packages.{level_of, level_below, stories_in, left_after, changed_in}
 use Rattle.redl_tree.specs.Decisions.StoryWalk.{changed_item, item_stories}
-use Rattle.redl_tree.specs.Model.View.{nodes_of, item_of}
+use Rattle.redl_tree.specs.Model.View.{nodes_of, item_of, tag_of, kids_of}
+use Rattle.redl_tree.proofs.Held.{closed_is_bare}
 use denote.Param.Weighed.{at_most}
 use Rattle.redl_tree.specs.declared.node.Body.TheViews.{size-Node}
 use Rattle.redl_tree.proofs.Laws.{nodes_here, nodes_end, nodes_of-push, ⊕-no_nodes, built_more, count-in_front, count-push}
@@ -124,3 +125,15 @@ change_among-returns-clause-made g t c = λ counted.
     let items = c.loop-i.nodes in
     let past : length items ≤ c.loop-i.i = omega (arith, c.loop-i.invariant.unvisited.0) in
     omega (arith, ap (λ xs. count (nodes_of xs)) (take_all c.loop-i.i items past), c.loop-i.invariant.made counted)
+
+-- an element that is closed by `/>` has no kids, and so none when their stories are changed
+pub change_elem-return_kids-requires : goal.change_elem-return_kids-requires
+change_elem-return_kids-requires g t c = λ closed.
+    let elem = c.args.elem.now in
+    let ancestors = tag_of elem ∷ c.requires.taken.ancestors in
+    let as_long : length c.change_among.new.nodes ≡ c.take_kids-kids.result.len = omega (arith, c.change_among.auto.nodes, c.deref_mut.ensures.len) in
+    let bare : kids_of elem ≡ no_nodes = closed_is_bare elem (ap (λ (x : Tag). x.close) (sym c.take_kids-kids.ensures.tag) ∙ closed) in
+    ap nodes_of (take_at c.change_among.new.nodes _ _ as_long)
+    ∙ c.in-Ok.ensures.nodes ancestors (c.below.ensures ∙ ap (level_below c.args.level) c.take_kids-kids.ensures.tag ∙ ap (λ l. level_below l (tag_of elem)) c.requires.taken.is_level)
+    ∙ ap (changed_in g.C.StoryChange.rule (g.C.StoryChange.given c.args.change.now c.args.state.now) ancestors)
+    (ap nodes_of c.deref_mut.ensures.value ∙ c.take_kids-kids.ensures.kids ∙ bare)
