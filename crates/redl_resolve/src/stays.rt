@@ -40,6 +40,7 @@ fn elem_stays(elem: &Elem, says: &[Say], round: Round) -> bool
     ensures stay { (ancestors : List Tag) → round ≡ round_of says.now ancestors → result ≡ elem_stays_by says.now ancestors (tag_of elem.now) (kids_of elem.now) }
 {
     fate_of(says, elem) == Fate::Leave
-        && !may_go(elem, round.ancestors.place)
-        && !(is_block_para(elem, round.ancestors.place, says) && para_is_cut(elem.kids(), says))
+        && !may_go(elem, round.ancestors.site.place)
+        && !(is_block_para(elem, round.ancestors.site.place, says)
+            && para_is_cut(elem.kids(), says))
 }

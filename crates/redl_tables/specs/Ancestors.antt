@@ -1,12 +1,10 @@
 -- What a walk over a story knows of the ancestors of some nodes. `ancestors` is the list of their tags, the nearest first.
-use Rattle.std.specs.Prelude.{List, Bool, ◌&&◌, ◌||◌, not, if◌then◌else◌}
+use Rattle.std.specs.Prelude.{List, Bool, ◌&&◌, ◌||◌, not}
 use Rattle.std.specs.List.{list_any}
 use Rattle.redl_tree.specs.Model.Nodes.{Tag}
 use Rattle.redl_tree.specs.Roles.Kinds.{is_old_content, is_free, is_leave}
-use Rattle.redl_tree.specs.Roles.Lists.{place, inside, nowhere}
-use Rattle.redl_tree.specs.Roles.Places.{is_quiet}
+use Rattle.redl_tree.specs.Roles.Sites.{site_of, site_inside}
 use Rattle.redl_tree.specs.Decisions.Fates.{fate_of}
-use Rattle.redl_tree.specs.declared.lists.Place.{Place}
 use Rattle.redl_tree.specs.declared.kinds.Say.{Say}
 use Rattle.redl_tables.specs.declared.ancestors.Ancestors.{Ancestors}
 
@@ -20,25 +18,19 @@ leaves says tag = is_old_content tag.kind && is_leave (fate_of says tag)
 
 abbrev pub ancestors_of : List Say → List Tag → Ancestors
 ancestors_of says ancestors = record {
-  quiet = list_any is_quiet ancestors;
+  site = site_of ancestors;
   freed = list_any (frees says) ancestors;
   left = list_any (leaves says) ancestors;
-  place = place ancestors;
 }
-
--- the place of an element's kids
-abbrev pub place_inside : Tag → Ancestors → Place
-place_inside tag summary = if not (is_quiet tag || summary.quiet) then inside tag summary.place else nowhere
 
 -- the same for the kids of an element
 abbrev pub inside_of : List Say → Tag → Ancestors → Ancestors
 inside_of says tag summary = record {
-  quiet = is_quiet tag || summary.quiet;
+  site = site_inside tag summary.site;
   freed = frees says tag || summary.freed;
   left = leaves says tag || summary.left;
-  place = place_inside tag summary;
 }
 
 -- deleted text is live again there
 abbrev pub revives : Ancestors → Bool
-revives summary = not summary.quiet && summary.freed && not summary.left
+revives summary = not summary.site.quiet && summary.freed && not summary.left

@@ -1,26 +1,23 @@
 //! What a walk over a story knows of the ancestors of some nodes.
 
 ghost use Rattle.std.specs.Prelude.{◌≡◌, ◌∷◌, ◌&&◌, ◌||◌, [], List};
-ghost use Rattle.redl_tables.specs.Ancestors.{ancestors_of, inside_of, place_inside, frees, leaves, revives};
+ghost use Rattle.redl_tables.specs.Ancestors.{ancestors_of, inside_of, frees, leaves, revives};
 ghost use Rattle.redl_tree.specs.Decisions.Fates.{fate_of as fate_by};
 ghost use Rattle.redl_tree.specs.Model.Nodes.{Tag};
 ghost use Rattle.redl_tree.specs.Model.View.{tag_of};
 ghost use Rattle.redl_tree.specs.Roles.Kinds.{is_old_content as is_old_content_kind};
-ghost use Rattle.redl_tree.specs.Roles.Places.{is_quiet as is_quiet_by};
 
-use redl_tree::{Elem, Fate, Kind, Place, Say, Trace, is_quiet};
+use redl_tree::{Elem, Fate, Kind, Say, Site, Trace};
 
-/// What a walk over a story knows of the ancestors of some nodes, in place of their list.
+/// What a walk under says, as the pass or that of the plain text, knows of the ancestors of some nodes, in place of their list.
 #[derive(Clone, Copy, Debug, PartialEq, Eq)]
 pub struct Ancestors {
-    /// Some ancestor is quiet: it holds properties in place of content.
-    pub quiet: bool,
+    /// Whether one of them holds properties, and what the list of the nodes consists of.
+    pub site: Site,
     /// Some ancestor is a content revision of old matter, a `del` or a `moveFrom`, that is freed.
     pub freed: bool,
     /// Some ancestor is one that is left.
     pub left: bool,
-    /// Whether the nodes stand among blocks, rows or cells.
-    pub place: Place,
 }
 
 impl Ancestors {
@@ -29,10 +26,9 @@ impl Ancestors {
         ensures { (says : List Say) → result ≡ ancestors_of says [] }
     {
         Ancestors {
-            quiet: false,
+            site: Site::none(),
             freed: false,
             left: false,
-            place: Place::nowhere(),
         }
     }
 
@@ -44,12 +40,10 @@ impl Ancestors {
         ensures list { (says : List Say) → fate ≡ fate_by says (tag_of elem.now) → (ancestors : List Tag) → self ≡ ancestors_of says ancestors
             → result ≡ ancestors_of says (tag_of elem.now ∷ ancestors) }
     {
-        let quiet = is_quiet_inside(self, elem);
         Ancestors {
-            quiet,
+            site: self.site.inside(elem),
             freed: is_freed_inside(self, elem, fate),
             left: is_left_inside(self, elem, fate),
-            place: place_inside_of(self, elem, quiet),
         }
     }
 
@@ -57,14 +51,8 @@ impl Ancestors {
     pub fn revives(self) -> bool
         ensures { result ≡ revives self }
     {
-        !self.quiet && self.freed && !self.left
+        !self.site.quiet && self.freed && !self.left
     }
-}
-
-fn is_quiet_inside(ancestors: Ancestors, elem: &Elem) -> bool
-    ensures { result ≡ (is_quiet_by (tag_of elem.now) || ancestors.quiet) }
-{
-    is_quiet(elem) || ancestors.quiet
 }
 
 fn is_freed_inside(ancestors: Ancestors, elem: &Elem, fate: Fate) -> bool
@@ -77,17 +65,6 @@ fn is_left_inside(ancestors: Ancestors, elem: &Elem, fate: Fate) -> bool
     ensures { (says : List Say) → fate ≡ fate_by says (tag_of elem.now) → result ≡ (leaves says (tag_of elem.now) || ancestors.left) }
 {
     (is_old_content(elem.kind()) && fate == Fate::Leave) || ancestors.left
-}
-
-// The place of the kids of an element, where they have a quiet ancestor or not.
-fn place_inside_of(ancestors: Ancestors, elem: &Elem, quiet: bool) -> Place
-    requires { quiet ≡ (is_quiet_by (tag_of elem.now) || ancestors.quiet) }
-    ensures { result ≡ place_inside (tag_of elem.now) ancestors }
-{
-    if quiet {
-        return Place::nowhere();
-    }
-    ancestors.place.inside(elem)
 }
 
 // Whether an element of this kind is run content that was deleted or moved away.

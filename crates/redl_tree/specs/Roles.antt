@@ -4,5 +4,6 @@ pub mod Words
 pub mod Places
 pub mod Arounds
 pub mod Lists
+pub mod Sites
 pub mod Kinds
 pub mod Idle

@@ -38,13 +38,13 @@ pub start_same : (in_run : Bool) (tag : Tag) → Idle in_run tag → start_shown
 start_same in_run tag i =
     ap (λ w. if (w && bytes_eq tag.local (codes "tab")) then 9 ∷ [] else if ((w && bytes_eq tag.local (codes "br")) || ((w && bytes_eq tag.local (codes "cr")) || false)) then 10 ∷ [] else []) i.space
 
-stays : (says : List Say) (above : Summary) (in_run : Bool) (tag : Tag) (kids : Nodes) → Idle in_run tag → goes_at says above.ancestors.place tag kids ≡ false
-stays says above in_run tag kids i = ap (λ m. m && goes says (is_cell_list above.ancestors.place) tag kids) (none above.ancestors.place) where
+stays : (says : List Say) (above : Summary) (in_run : Bool) (tag : Tag) (kids : Nodes) → Idle in_run tag → goes_at says above.ancestors.site.place tag kids ≡ false
+stays says above in_run tag kids i = ap (λ m. m && goes says (is_cell_list above.ancestors.site.place) tag kids) (none above.ancestors.site.place) where
   none : (here : Place) → may_go here tag ≡ false
   none here = rw (has-not "tc" in_run tag i refl, has-not "tr" in_run tag i refl, has-not "tbl" in_run tag i refl, has-not "sdt" in_run tag i refl, has-not "customXml" in_run tag i refl) refl
 
-no_para : (says : List Say) (above : Summary) (in_run : Bool) (tag : Tag) → Idle in_run tag → is_block_para says above.ancestors.place tag ≡ false
-no_para says above in_run tag i = ap (λ p. p && is_block_list above.ancestors.place && is_leave (fate_of says tag)) (has-not "p" in_run tag i refl)
+no_para : (says : List Say) (above : Summary) (in_run : Bool) (tag : Tag) → Idle in_run tag → is_block_para says above.ancestors.site.place tag ≡ false
+no_para says above in_run tag i = ap (λ p. p && is_block_list above.ancestors.site.place && is_leave (fate_of says tag)) (has-not "p" in_run tag i refl)
 
 -- ---- what follows, what is given, and what is taken up
 
@@ -60,9 +60,9 @@ next_past says above in_run (element tag kids rest) y h =
 
 gives_one : (says : List Say) (above : Summary) (in_run : Bool) (tag : Tag) (kids : Nodes) (full : Bool) → Idle in_run tag → is "pPr" tag ≡ false → one_gives says above tag kids full ≡ true
 gives_one says above in_run tag kids full i e =
-    let own = not (is "pPr" tag) && not (goes_at says above.ancestors.place tag kids) in
+    let own = not (is "pPr" tag) && not (goes_at says above.ancestors.site.place tag kids) in
     ap (λ k. by_fate_of (fate k (say_of says tag.rev)) (is_content k) full own false) i.kind
-    ∙ ap (λ p. not p && not (goes_at says above.ancestors.place tag kids)) e ∙ ap not (stays says above in_run tag kids i)
+    ∙ ap (λ p. not p && not (goes_at says above.ancestors.site.place tag kids)) e ∙ ap not (stays says above in_run tag kids i)
 
 gives_past : (says : List Say) (above : Summary) (in_run : Bool) (x y : Nodes) → is_idle_in in_run x ≡ true → has_element x ≡ true → gives says above (x ⊕ y) ≡ true
 gives_past says above in_run no_nodes y h some = absurd cc
@@ -121,7 +121,7 @@ elem_one : (says : List Say) (above : Summary) (in_run : Bool) (tag : Tag) (kids
     → elem_view says above tag kids inner loses ≡ (if is_quiet tag then [] else start_shown tag ++ (inner ++ []))
 elem_one says above in_run tag kids inner loses i =
     let open_text = λ (p : Bool). start_shown tag ++ (inner ++ (if loses then [] else if p then 10 ∷ [] else [])) in
-    let own = if is_quiet tag || goes_at says above.ancestors.place tag kids then [] else open_text (is "p" tag) in
+    let own = if is_quiet tag || goes_at says above.ancestors.site.place tag kids then [] else open_text (is "p" tag) in
     ap (λ k. by_fate_of (fate k (say_of says tag.rev)) (is_content k) inner own []) i.kind
     ∙ ap (λ g. if is_quiet tag || g then [] else open_text (is "p" tag)) (stays says above in_run tag kids i)
     ∙ ap (λ p. if is_quiet tag || false then [] else open_text p) (has-not "p" in_run tag i refl)

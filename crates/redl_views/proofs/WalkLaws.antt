@@ -129,8 +129,8 @@ taken-after says ancestors taken tag kids rest a h f =
 -- a cut paragraph has its name
 cut_name : (says : List Say) (above : Summary) (tag : Tag) (kids : Nodes) → is_cut_para says above tag kids ≡ true → is "p" tag ≡ true
 cut_name says above tag kids c =
-    let block = (and_parts (by_place.is_block_para says above.ancestors.place tag) (para_is_cut says kids) c).0 in
-    (and_parts (is "p" tag) (is_block_list above.ancestors.place) (and_parts (is "p" tag && is_block_list above.ancestors.place) (is_leave (fate_of says tag)) block).0).0
+    let block = (and_parts (by_place.is_block_para says above.ancestors.site.place tag) (para_is_cut says kids) c).0 in
+    (and_parts (is "p" tag) (is_block_list above.ancestors.site.place) (and_parts (is "p" tag && is_block_list above.ancestors.site.place) (is_leave (fate_of says tag)) block).0).0
 
 -- so it is no properties
 pub cut_loud : (says : List Say) (above : Summary) (tag : Tag) (kids : Nodes) → is_cut_para says above tag kids ≡ true → is_quiet tag ≡ false
@@ -202,12 +202,12 @@ apart_fate Drop c q g x y gone h k = refl
 pub view-apart : (says : List Say) (above : Summary) (tag : Tag) (kids : Nodes) (inner : List ℕ) (loses : Bool) → is_freed says tag ≡ false → is_walked says above tag kids ≡ false →
     elem_view says above tag kids inner loses ≡ []
 view-apart says above tag kids inner loses f w =
-    apart_fate (fate_of says tag) (is_content tag.kind) (is_quiet tag) (by_place.goes_at says above.ancestors.place tag kids) inner (start_shown tag ++ (inner ++ (if loses then [] else end_shown tag))) [] f w
+    apart_fate (fate_of says tag) (is_content tag.kind) (is_quiet tag) (by_place.goes_at says above.ancestors.site.place tag kids) inner (start_shown tag ++ (inner ++ (if loses then [] else end_shown tag))) [] f w
 
 -- what it tells its list does not depend on its kids
 pub gives-apart : (says : List Say) (above : Summary) (tag : Tag) (kids : Nodes) (a b : Bool) → is_freed says tag ≡ false → one_gives says above tag kids a ≡ one_gives says above tag kids b
 gives-apart says above tag kids a b f =
-    let own = not (is "pPr" tag) && not (by_place.goes_at says above.ancestors.place tag kids) in
+    let own = not (is "pPr" tag) && not (by_place.goes_at says above.ancestors.site.place tag kids) in
     alike (fate_of says tag) (is_content tag.kind) a b own own false (λ e. absurd (true≢false (sym e ∙ f))) (λ e. refl)
 
 not_cut : (says : List Say) (above : Summary) (tag : Tag) (kids : Nodes) → is_walked says above tag kids ≡ false → is_cut_para says above tag kids ≡ false
@@ -216,13 +216,13 @@ not_cut says above tag kids w = at (is_cut_para says above tag kids) refl
     at : (b : Bool) → is_cut_para says above tag kids ≡ b → is_cut_para says above tag kids ≡ false
     at false e = e
     at true e =
-        let block = (and_parts (by_place.is_block_para says above.ancestors.place tag) (para_is_cut says kids) e).0 in
-        let parts = and_parts (is "p" tag && is_block_list above.ancestors.place) (is_leave (fate_of says tag)) block in
+        let block = (and_parts (by_place.is_block_para says above.ancestors.site.place tag) (para_is_cut says kids) e).0 in
+        let parts = and_parts (is "p" tag && is_block_list above.ancestors.site.place) (is_leave (fate_of says tag)) block in
         let name = cut_name says above tag kids e in
-        let going = by_name (λ t. by_place.goes_at says above.ancestors.place t kids ≡ false) "p" tag name refl in
+        let going = by_name (λ t. by_place.goes_at says above.ancestors.site.place t kids ≡ false) "p" tag name refl in
         let quiet = by_name (λ t. is_quiet t ≡ false) "p" tag name refl in
         let walked : is_walked says above tag kids ≡ true =
-        ap (λ b. (b && not (is_quiet tag)) && not (by_place.goes_at says above.ancestors.place tag kids)) parts.1 ∙ ap (λ b. not b && not (by_place.goes_at says above.ancestors.place tag kids)) quiet ∙ ap not going in
+        ap (λ b. (b && not (is_quiet tag)) && not (by_place.goes_at says above.ancestors.site.place tag kids)) parts.1 ∙ ap (λ b. not b && not (by_place.goes_at says above.ancestors.site.place tag kids)) quiet ∙ ap not going in
         absurd (true≢false (sym walked ∙ w))
 
 pub taken-apart : (says : List Say) (above : Summary) (taken : Option Bool) (tag : Tag) (kids rest : Nodes) (a b : Bool) → is_freed says tag ≡ false → is_walked says above tag kids ≡ false →
@@ -246,7 +246,7 @@ walked_fate Drop c q g x y gone k = absurd (true≢false (sym k))
 pub view-walked : (says : List Say) (above : Summary) (tag : Tag) (kids : Nodes) (inner : List ℕ) (loses : Bool) → is_walked says above tag kids ≡ true →
     elem_view says above tag kids inner loses ≡ start_shown tag ++ (inner ++ (if loses then [] else end_shown tag))
 view-walked says above tag kids inner loses w =
-    walked_fate (fate_of says tag) (is_content tag.kind) (is_quiet tag) (by_place.goes_at says above.ancestors.place tag kids) inner (start_shown tag ++ (inner ++ (if loses then [] else end_shown tag))) [] w
+    walked_fate (fate_of says tag) (is_content tag.kind) (is_quiet tag) (by_place.goes_at says above.ancestors.site.place tag kids) inner (start_shown tag ++ (inner ++ (if loses then [] else end_shown tag))) [] w
 
 walked_one : (f : Fate) (c q g p full : Bool) → (p ≡ true → q ≡ true) → ((is_leave f && not q) && not g) ≡ true → by_fate_of f c full (not p && not g) false ≡ true
 walked_one Leave c false false false full h k = refl
@@ -262,7 +262,7 @@ walked_one Drop c q g p full h k = absurd (true≢false (sym k))
 -- it becomes an element, and no properties of a paragraph
 pub gives-walked : (says : List Say) (above : Summary) (tag : Tag) (kids : Nodes) (full : Bool) → is_walked says above tag kids ≡ true → one_gives says above tag kids full ≡ true
 gives-walked says above tag kids full w =
-    walked_one (fate_of says tag) (is_content tag.kind) (is_quiet tag) (by_place.goes_at says above.ancestors.place tag kids) (is "pPr" tag) full
+    walked_one (fate_of says tag) (is_content tag.kind) (is_quiet tag) (by_place.goes_at says above.ancestors.site.place tag kids) (is "pPr" tag) full
     (λ e. by_name (λ t. is_quiet t ≡ true) "pPr" tag e refl) w
 
 -- ---- the nodes of a list, one after the other

@@ -43,13 +43,13 @@ inside_of says tag above = record {
 
 -- a paragraph of a block list that is cut
 abbrev pub is_cut_para : List Say → Summary → Tag → Nodes → Bool
-is_cut_para says above tag kids = is_block_para says above.ancestors.place tag && para_is_cut says kids
+is_cut_para says above tag kids = is_block_para says above.ancestors.site.place tag && para_is_cut says kids
 
 -- ---- what follows in a list, and what becomes of ends
 
 -- an element as the next thick node, where it is one
 abbrev pub elem_next : List Say → Summary → Tag → Next
-elem_next says above tag = if is_block_para says above.ancestors.place tag then Paragraph else if is_thick tag then Other else Nothing
+elem_next says above tag = if is_block_para says above.ancestors.site.place tag then Paragraph else if is_thick tag then Other else Nothing
 
 abbrev pub item_next : List Say → Summary → Item → Next
 item_next says above (bytes_item b) = Nothing
@@ -81,7 +81,7 @@ is_lost Other full = not full
 -- some kid of an element, or the element itself, becomes an element that is no properties of a paragraph
 abbrev pub one_gives : List Say → Summary → Tag → Nodes → Bool → Bool
 one_gives says above tag kids inside =
-    by_fate_of (fate_of says tag) (is_content tag.kind) inside (not (is "pPr" tag) && not (goes_at says above.ancestors.place tag kids)) false
+    by_fate_of (fate_of says tag) (is_content tag.kind) inside (not (is "pPr" tag) && not (goes_at says above.ancestors.site.place tag kids)) false
 
 abbrev pub gives : List Say → Summary → Nodes → Bool
 gives says above no_nodes = false
@@ -104,12 +104,12 @@ loses_end says above taken tag kids rest full =
 
 -- an element that stays and may show something: it holds no properties, and is no table, row, cell or shell that goes
 abbrev pub is_walked : List Say → Summary → Tag → Nodes → Bool
-is_walked says above tag kids = is_leave (fate_of says tag) && not (is_quiet tag) && not (goes_at says above.ancestors.place tag kids)
+is_walked says above tag kids = is_leave (fate_of says tag) && not (is_quiet tag) && not (goes_at says above.ancestors.site.place tag kids)
 
 abbrev pub elem_view : List Say → Summary → Tag → Nodes → List ℕ → Bool → List ℕ
 elem_view says above tag kids inner loses =
     by_fate_of (fate_of says tag) (is_content tag.kind) inner
-    (if is_quiet tag || goes_at says above.ancestors.place tag kids then [] else start_shown tag ++ (inner ++ (if loses then [] else end_shown tag)))
+    (if is_quiet tag || goes_at says above.ancestors.site.place tag kids then [] else start_shown tag ++ (inner ++ (if loses then [] else end_shown tag)))
     []
 
 abbrev pub view : List Say → Summary → Option Bool → Nodes → List ℕ

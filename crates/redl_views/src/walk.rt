@@ -156,7 +156,7 @@ fn is_walked(says: &[Say], elem: &Elem, above: Summary) -> bool
 {
     fate_of(says, elem) == Fate::Leave
         && !is_quiet(elem)
-        && !goes_at(elem, above.ancestors.place, says)
+        && !goes_at(elem, above.ancestors.site.place, says)
 }
 
 // What an element tells its list, whose kids give an element or not.
@@ -201,7 +201,8 @@ fn one_gives(elem: &Elem, says: &[Say], above: Summary, full: bool) -> bool
     ensures { result ≡ one_gives_by says.now above (tag_of elem.now) (kids_of elem.now) full }
 {
     match fate_of(says, elem) {
-        Fate::Leave => !is_word(elem, Word::PPr) && !goes_at(elem, above.ancestors.place, says),
+        Fate::Leave => !is_word(elem, Word::PPr)
+            && !goes_at(elem, above.ancestors.site.place, says),
         Fate::Free => elem.kind().is_content() && full,
         _ => false,
     }

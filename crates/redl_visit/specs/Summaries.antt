@@ -1,9 +1,10 @@
 -- The summary of the ancestors of an element, which code that goes down a story carries in place of them.
-use Rattle.std.specs.Prelude.{List, ◌||◌, not, if◌then◌else◌}
+use Rattle.std.specs.Prelude.{List, ◌||◌}
 use Rattle.redl_tree.specs.Model.Nodes.{Tag}
 use Rattle.redl_tree.specs.Roles.Places.{is_quiet}
 use Rattle.redl_tree.specs.Roles.Arounds.{around_of, inside_of}
-use Rattle.redl_tree.specs.Roles.Lists.{nowhere, inside, place}
+use Rattle.redl_tree.specs.Roles.Lists.{place}
+use Rattle.redl_tree.specs.Roles.Sites.{place_below}
 use Rattle.redl_visit.specs.declared.ancestors.Ancestors.{Ancestors}
 
 -- of these ancestors, the nearest first
@@ -14,5 +15,5 @@ ancestors_of tags = record { around = around_of tags; place = place tags }
 abbrev pub ancestors_inside : Tag → Ancestors → Ancestors
 ancestors_inside tag here = record {
   around = inside_of tag here.around;
-  place = if not (is_quiet tag || here.around.quiet) then inside tag here.place else nowhere;
+  place = place_below tag (is_quiet tag || here.around.quiet) here.place;
 }

@@ -1,17 +1,18 @@
 //! A summary of an element's ancestors.
 
-ghost use Rattle.std.specs.Prelude.{◌≡◌, [], not, if◌then◌else◌};
+ghost use Rattle.std.specs.Prelude.{◌≡◌, []};
 ghost use Rattle.redl_tree.specs.Model.Nodes.{Tag};
 ghost use Rattle.redl_tree.specs.Model.View.{tag_of};
 ghost use Rattle.redl_tree.specs.Roles.Arounds.{inside_of};
-ghost use Rattle.redl_tree.specs.Roles.Lists.{inside as inside_place, nowhere};
 ghost use Rattle.redl_visit.specs.Summaries.{ancestors_of, ancestors_inside};
 ghost use Rattle.redl_visit.specs.Visits.{inner_of};
 
 use crate::element::Element;
 use redl_tree::{Around, Elem, Place, has_elements};
 
-/// A summary of an element's ancestors in its story, by which its role and its list are known.
+/// A summary of an element's ancestors in its story, for a walk that asks for its role and for the list that it is in.
+///
+/// A walk that asks for the role alone hands down `Around`, and one that asks for the list alone `Site` of `redl_tree`.
 #[derive(Clone, Copy, Debug, PartialEq, Eq)]
 pub struct Ancestors {
     /// Whether some ancestor holds properties, and what the nearest ancestor is.
@@ -38,7 +39,7 @@ impl Ancestors {
         let around = self.around.inside(elem);
         Ancestors {
             around,
-            place: place_inside(self.place, elem, around.is_quiet()),
+            place: self.place.below(elem, around.is_quiet()),
         }
     }
 }
@@ -75,16 +76,5 @@ impl<'a> Summary<Elem<'a>> for Around {
         } else {
             None
         }
-    }
-}
-
-/// The place of the kids of `elem`, from its own. `quiet` says that the element or some ancestor holds properties.
-fn place_inside(here: Place, elem: &Elem, quiet: bool) -> Place
-    ensures { result ≡ (if not quiet then inside_place (tag_of elem.now) here else nowhere) }
-{
-    if quiet {
-        Place::nowhere()
-    } else {
-        here.inside(elem)
     }
 }

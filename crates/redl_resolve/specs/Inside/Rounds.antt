@@ -21,7 +21,7 @@ round_of says ancestors = record {
 abbrev pub inside_of : List Say → Tag → Round → Round
 inside_of says tag round = record {
   ancestors = known.inside_of says tag round.ancestors;
-  para = is "p" tag && not round.ancestors.quiet;
+  para = is "p" tag && not round.ancestors.site.quiet;
   para_props = is "pPr" tag && round.para;
   asked = asked_inside tag round.asked;
 }
