@@ -1,12 +1,10 @@
 -- The summary of a container's ancestors that the code carries down.
-use Rattle.std.specs.Prelude.{List, [], ◌∷◌, Bool, false, ◌&&◌, ◌||◌, not, if◌then◌else◌}
-use Rattle.std.specs.List.{list_any}
+use Rattle.std.specs.Prelude.{List, [], ◌∷◌, Bool, false, ◌&&◌, ◌||◌}
 use Rattle.redl_tree.specs.Model.Nodes.{Tag}
 use Rattle.redl_tree.specs.Roles.Names.{is}
-use Rattle.redl_tree.specs.Roles.Places.{is_quiet}
-use Rattle.redl_tree.specs.Roles.Lists.{place, inside, nowhere, is_block_list, is_wrapper}
+use Rattle.redl_tree.specs.Roles.Lists.{is_block_list, is_wrapper}
+use Rattle.redl_tree.specs.Roles.Sites.{site_of}
 use Rattle.redl_tree.specs.Leaves.Containers.{is_control}
-use Rattle.redl_tree.specs.declared.lists.Place.{Place}
 use Rattle.redl_tables.specs.Places.{is_row_list, is_cell_list, is_shell}
 use Rattle.redl_leaves.specs.declared.spot.Root.{Root}
 use Rattle.redl_leaves.specs.declared.spot.Spot.{Spot}
@@ -24,11 +22,7 @@ root_of (tag ∷ []) = root_named tag
 root_of (tag ∷ _ ∷ _) = no_root
 
 abbrev pub spot_of : List Tag → Spot
-spot_of ancestors = record { quiet = list_any is_quiet ancestors; place = place ancestors; root = root_of ancestors }
-
--- the place of an element's kids, where the element stands at this place
-abbrev pub place_inside : Tag → Place → Bool → Place
-place_inside tag here quiet = if not (is_quiet tag || quiet) then inside tag here else nowhere
+spot_of ancestors = record { site = site_of ancestors; root = root_of ancestors }
 
 -- an outer container
 abbrev pub opens_below : Root → Tag → Bool
@@ -36,21 +30,21 @@ opens_below root tag =
     (root.document && is "body" tag) || (root.footnotes && is "footnote" tag) || (root.endnotes && is "endnote" tag) || (root.comments && is "comment" tag)
 
 abbrev pub is_shell_at : Spot → Tag → Bool
-is_shell_at spot tag = is_shell spot.place tag
+is_shell_at spot tag = is_shell spot.site.place tag
 
 -- an element here is a container
 abbrev pub opens_at : Spot → Tag → Bool
 opens_at spot tag =
     opens_below spot.root tag
-    || (is_block_list spot.place && (is "tbl" tag || is_wrapper tag))
-    || (is_row_list spot.place && is "tr" tag)
-    || (is_cell_list spot.place && is "tc" tag)
+    || (is_block_list spot.site.place && (is "tbl" tag || is_wrapper tag))
+    || (is_row_list spot.site.place && is "tr" tag)
+    || (is_cell_list spot.site.place && is "tc" tag)
     || is_shell_at spot tag
-    || (is_control spot.place.reach && is "sdtContent" tag)
+    || (is_control spot.site.place.reach && is "sdtContent" tag)
 
 abbrev pub is_own_at : Spot → Tag → Bool
 is_own_at spot tag =
-    (is_row_list spot.place && is "tr" tag) || (is_cell_list spot.place && is "tc" tag)
+    (is_row_list spot.site.place && is "tr" tag) || (is_cell_list spot.site.place && is "tc" tag)
 
 abbrev pub is_between_at : Spot → Tag → Bool
-is_between_at spot tag = is_shell_at spot tag || (is_control spot.place.reach && is "sdtContent" tag)
+is_between_at spot tag = is_shell_at spot tag || (is_control spot.site.place.reach && is "sdtContent" tag)

@@ -322,7 +322,7 @@ fn split_node<'a>(
     split: &mut Splitting<'a>,
 ) -> Result<(), AllocError>
     ensures { OnOk result ((parent : Tag) → (above : List Tag) → spot ≡ spot_of (parent ∷ above) → item_count (item_of node.entry) < 2 ^ 32 → (later : List Sibling)
-        → whole (is_block_list spot.place) (parent ∷ above) split.new later ≡ whole (is_block_list spot.place) (parent ∷ above) split.old (item_siblings opens (parent ∷ above) (item_of node.entry) ++ later)) }
+        → whole (is_block_list spot.site.place) (parent ∷ above) split.new later ≡ whole (is_block_list spot.site.place) (parent ∷ above) split.old (item_siblings opens (parent ∷ above) (item_of node.entry) ++ later)) }
 {
     match node {
         Node::Elem(elem) => split_elem(alloc, elem, spot, split),
@@ -345,8 +345,8 @@ fn split_elem<'a>(
     split: &mut Splitting<'a>,
 ) -> Result<(), AllocError>
     ensures { OnOk result ((parent : Tag) → (above : List Tag) → spot ≡ spot_of (parent ∷ above) → count (kids_of elem.entry) < 2 ^ 32 → (later : List Sibling)
-        → whole (is_block_list spot.place) (parent ∷ above) split.new later
-        ≡ whole (is_block_list spot.place) (parent ∷ above) split.old
+        → whole (is_block_list spot.site.place) (parent ∷ above) split.new later
+        ≡ whole (is_block_list spot.site.place) (parent ∷ above) split.old
         (sibling opens (parent ∷ above) (tag_of elem.entry) (kids_of elem.entry) (slots_in opens (tag_of elem.entry ∷ parent ∷ above) (kids_of elem.entry)) ∷ later)) }
 {
     if spot.opens(&elem) {

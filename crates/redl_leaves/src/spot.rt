@@ -1,16 +1,15 @@
 //! Where the kids of a container stand, and which of them are containers.
 
 ghost use Rattle.std.specs.Prelude.{◌≡◌, ◌∷◌, ◌&&◌, ◌||◌, List, []};
-ghost use Rattle.redl_leaves.specs.Spots.{spot_of, root_named, opens_at, opens_below, is_shell_at, is_own_at, is_between_at, place_inside};
+ghost use Rattle.redl_leaves.specs.Spots.{spot_of, root_named, opens_at, opens_below, is_shell_at, is_own_at, is_between_at};
 ghost use Rattle.redl_tree.specs.Model.Nodes.{Tag};
 ghost use Rattle.redl_tree.specs.Model.View.{tag_of};
 ghost use Rattle.redl_tree.specs.Roles.Lists.{is_block_list};
 ghost use Rattle.redl_tree.specs.Roles.Names.{is};
-ghost use Rattle.redl_tree.specs.Roles.Places.{is_quiet as is_quiet_by};
 ghost use Rattle.redl_tree.specs.Leaves.Containers.{is_control};
 
 use redl_tables::{is_cell_list, is_row_list, is_shell};
-use redl_tree::{Elem, Place, Reach, Word, is_quiet, is_word, is_wrapper};
+use redl_tree::{Elem, Reach, Site, Word, is_word, is_wrapper};
 
 /// Which story's root some nodes stand in directly. At most one is true.
 #[derive(Clone, Copy)]
@@ -24,10 +23,8 @@ pub struct Root {
 /// Where the kids of a container stand.
 #[derive(Clone, Copy)]
 pub struct Spot {
-    /// Some ancestor holds properties.
-    pub quiet: bool,
-    /// Whether they are blocks, rows or cells.
-    pub place: Place,
+    /// Whether some ancestor holds properties, and whether they are blocks, rows or cells.
+    pub site: Site,
     /// The root that they stand in directly.
     pub root: Root,
 }
@@ -38,8 +35,7 @@ impl Spot {
         ensures { result ≡ spot_of (tag_of root.now ∷ []) }
     {
         Spot {
-            quiet: is_quiet(root),
-            place: place_in(Place::nowhere(), root, false),
+            site: Site::none().inside(root),
             root: Root {
                 document: is_word(root, Word::Document),
                 footnotes: is_word(root, Word::Footnotes),
@@ -54,8 +50,7 @@ impl Spot {
         ensures { (parent : Tag) → (above : List Tag) → self ≡ spot_of (parent ∷ above) → result ≡ spot_of (tag_of elem.now ∷ parent ∷ above) }
     {
         Spot {
-            quiet: is_quiet_in(self, elem),
-            place: place_in(self.place, elem, self.quiet),
+            site: self.site.inside(elem),
             root: Root {
                 document: false,
                 footnotes: false,
@@ -67,9 +62,9 @@ impl Spot {
 
     /// Whether they are blocks.
     pub(crate) fn among_blocks(self) -> bool
-        ensures { result ≡ is_block_list self.place }
+        ensures { result ≡ is_block_list self.site.place }
     {
-        self.place.is_block_list()
+        self.site.place.is_block_list()
     }
 
     /// Whether an element that stands here is a container.
@@ -78,8 +73,8 @@ impl Spot {
     {
         opens_in_root(self.root, elem)
             || (self.among_blocks() && (is_word(elem, Word::Tbl) || is_wrapper(elem)))
-            || (is_row_list(self.place) && is_word(elem, Word::Tr))
-            || (is_cell_list(self.place) && is_word(elem, Word::Tc))
+            || (is_row_list(self.site.place) && is_word(elem, Word::Tr))
+            || (is_cell_list(self.site.place) && is_word(elem, Word::Tc))
             || self.is_shell(elem)
             || (self.is_in_control() && is_word(elem, Word::SdtContent))
     }
@@ -87,21 +82,21 @@ impl Spot {
     pub(crate) fn is_shell(self, elem: &Elem) -> bool
         ensures { result ≡ is_shell_at self (tag_of elem.now) }
     {
-        is_shell(elem, self.place)
+        is_shell(elem, self.site.place)
     }
 
     fn is_in_control(self) -> bool
-        ensures { result ≡ is_control self.place.reach }
+        ensures { result ≡ is_control self.site.place.reach }
     {
-        self.place.reach == Reach::Control
+        self.site.place.reach == Reach::Control
     }
 
     /// Whether an element is an own row or cell.
     pub(crate) fn is_own(self, elem: &Elem) -> bool
         ensures { result ≡ is_own_at self (tag_of elem.now) }
     {
-        (is_row_list(self.place) && is_word(elem, Word::Tr))
-            || (is_cell_list(self.place) && is_word(elem, Word::Tc))
+        (is_row_list(self.site.place) && is_word(elem, Word::Tr))
+            || (is_cell_list(self.site.place) && is_word(elem, Word::Tc))
     }
 
     /// Whether the own rows or cells in an element are those of the table or row round it.
@@ -110,22 +105,6 @@ impl Spot {
     {
         self.is_shell(elem) || (self.is_in_control() && is_word(elem, Word::SdtContent))
     }
-}
-
-fn is_quiet_in(spot: Spot, elem: &Elem) -> bool
-    ensures { result ≡ (is_quiet_by (tag_of elem.now) || spot.quiet) }
-{
-    is_quiet(elem) || spot.quiet
-}
-
-// The place of the kids of an element at a place.
-fn place_in(place: Place, elem: &Elem, quiet: bool) -> Place
-    ensures { result ≡ place_inside (tag_of elem.now) place quiet }
-{
-    if is_quiet(elem) || quiet {
-        return Place::nowhere();
-    }
-    place.inside(elem)
 }
 
 fn opens_in_root(root: Root, elem: &Elem) -> bool

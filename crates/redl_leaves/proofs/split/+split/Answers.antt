@@ -48,7 +48,7 @@ split_elem-returns-then-opens t c = λ parent above spot_is few later.
     let opened : opens ancestors tag ≡ true = sym (opens-at ancestors tag) ∙ ap (λ s. opens_at s tag) (sym spot_is) ∙ sym c.opens.ensures ∙ c.if-opens.true in
     let added = c.in_ok-add_container.ensures tag kids ancestors (c.in_ok-container.ensures parent above spot_is few) later in
     (rw c.among_blocks.ensures at added)
-    ∙ ap (λ b. whole (is_block_list c.args.spot.place) ancestors c.args.split.now
+    ∙ ap (λ b. whole (is_block_list c.args.spot.site.place) ancestors c.args.split.now
     ((if b then open_sibling tag kids inner
     else if is "p" tag && in_blocks ancestors then para_sibling (has_mark kids) (element tag kids no_nodes)
     else if is_thick tag then thick_sibling (element tag kids no_nodes)
@@ -57,7 +57,7 @@ split_elem-returns-then-opens t c = λ parent above spot_is few later.
 pub split_kids-returns : goal.split_kids-returns
 split_kids-returns t c = λ parent above spot_is few.
     let ancestors = parent ∷ above in
-    let among = is_block_list c.args.spot.place in
+    let among = is_block_list c.args.spot.site.place in
     let split = c.loop-node.split in
     let none : into_iter_items c.loop-node.node-iterator ≡ [] = nil_from_length _ (sym c.loop-node.node-iterator.rest.ok.0 ∙ c.in-None.ensures.steps.0) in
     let last = c.in_ok-end_chain.ensures.slots no_states in
@@ -69,7 +69,7 @@ split_kids-returns t c = λ parent above spot_is few.
 
 pub split_kids-loop-node-preserved : goal.split_kids-loop-node-preserved
 split_kids-loop-node-preserved t c =
-    let among = is_block_list c.args.spot.place in
+    let among = is_block_list c.args.spot.site.place in
     let old = c.loop-node.split in
     let node = c.in-Some.node in
     let left = into_iter_items c.next.new.self in
@@ -92,4 +92,4 @@ split_node-returns-in_ok-add_thin-in-Plain t c = λ parent above spot_is few lat
     let ancestors = parent ∷ above in
     let added = c.in_ok-add_thin-in-Plain.ensures ancestors later in
     (rw c.among_blocks-in-Plain.ensures at added)
-    ∙ ap (λ ss. whole (is_block_list c.args.spot.place) ancestors c.args.split.now (ss ++ later)) (idle-thin ancestors c.args.node c.in-Plain.plain c.in-Plain.is)
+    ∙ ap (λ ss. whole (is_block_list c.args.spot.site.place) ancestors c.args.split.now (ss ++ later)) (idle-thin ancestors c.args.node c.in-Plain.plain c.in-Plain.is)

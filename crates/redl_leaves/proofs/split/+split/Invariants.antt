@@ -17,6 +17,6 @@ invariant-split_kids-loop-node l =
     record {
       few : count left ≤ count (nodes_of l.fn.kids.items);
       becomes : (parent : Tag) → (above : List Tag) → l.fn.spot ≡ spot_of (parent ∷ above) → count (nodes_of l.fn.kids.items) < 2 ^ 32
-          → whole (is_block_list l.fn.spot.place) (parent ∷ above) l.split (siblings opens (parent ∷ above) left)
+          → whole (is_block_list l.fn.spot.site.place) (parent ∷ above) l.split (siblings opens (parent ∷ above) left)
           ≡ fresh_states (parent ∷ above) (slots_in opens (parent ∷ above) (nodes_of l.fn.kids.items));
     }
