@@ -11,7 +11,7 @@ ghost use Rattle.redl_index.specs.Kinds.{kind_of, is_named};
 ghost use Rattle.redl_index.specs.Inside.Stories.{tails_in};
 ghost use Rattle.redl_index.specs.Inside.Sights.{IsApartAs, is_marker_by, marker_start, member_start, sight_at};
 
-use redl_moves::{Half, Moves, Start};
+use redl_moves::{Moves, Side, Start};
 use redl_stamp::has_attribute;
 use redl_tree::{Around, Elem, Kind, Trace, is_range_edge};
 
@@ -95,8 +95,8 @@ fn open_at(moves: &Moves, trace: Trace, at: u64) -> Option<Start>
     ensures { result ≡ option_map (start_in moves.now) (move_at (pairs moves.now) trace at) }
 {
     match trace {
-        Trace::From => moves.open_at(Half::From, at),
-        Trace::To => moves.open_at(Half::To, at),
+        Trace::From => moves.open_at(Side::Source, at),
+        Trace::To => moves.open_at(Side::Target, at),
         _ => None,
     }
 }

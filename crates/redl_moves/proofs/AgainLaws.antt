@@ -8,9 +8,9 @@ use Rattle.redl_tree.proofs.NameLaws.{and-left, and-right}
 use Rattle.redl_tree.proofs.SameBytes.{same_bytes}
 use Rattle.redl_moves.specs.Marks.{RisesFrom}
 use Rattle.redl_moves.specs.Opens.{start_of, or_this, find_last}
-use Rattle.redl_moves.specs.Standing.{side_of, pair_begun, pair_open}
-use Rattle.redl_moves.specs.declared.opens.Half.{Half}
-use Rattle.redl_moves.specs.declared.opens.Half.TheVariants.{From, To}
+use Rattle.redl_moves.specs.Standing.{range_on, pair_begun, pair_open}
+use Rattle.redl_moves.specs.declared.opens.Side.{Side}
+use Rattle.redl_moves.specs.declared.opens.Side.TheVariants.{Source, Target}
 use Rattle.redl_moves.proofs.StandingLaws.{pair_from-some}
 
 -- ---- members of lists
@@ -70,25 +70,25 @@ only-all (x ∷ y ∷ xs) a b e i = absurd (cc)
 
 -- ---- the latest, and the last of a rising list
 
-module _ (side : Pair → Range) where
-  latest-none : (xs : List Pair) → latest side xs ≡ None → (x : Pair) → In x xs → ⊥
+module _ (range_of : Pair → Range) where
+  latest-none : (xs : List Pair) → latest range_of xs ≡ None → (x : Pair) → In x xs → ⊥
   latest-none [] e x i = i
-  latest-none (y ∷ ys) e x i = by (latest side ys) e
+  latest-none (y ∷ ys) e x i = by (latest range_of ys) e
     where
       pick : (b : Bool) (o : Pair) → (if b then Some y else Some o) ≡ None → ⊥
       pick true o e = cc
       pick false o e = cc
 
-      by : (o : Option Pair) → later side y o ≡ None → ⊥
+      by : (o : Option Pair) → later range_of y o ≡ None → ⊥
       by None e = cc
-      by (Some o) e = pick (nat_lt (side o).start.at (side y).start.at) o e
+      by (Some o) e = pick (nat_lt (range_of o).start.at (range_of y).start.at) o e
 
-  pub latest-some : (xs : List Pair) (p : Pair) → latest side xs ≡ Some p → In p xs × ((x : Pair) → In x xs → (side x).start.at ≤ (side p).start.at)
+  pub latest-some : (xs : List Pair) (p : Pair) → latest range_of xs ≡ Some p → In p xs × ((x : Pair) → In x xs → (range_of x).start.at ≤ (range_of p).start.at)
   latest-some [] p e = absurd (cc)
-  latest-some (y ∷ ys) p e = by (latest side ys) refl e (latest-some ys)
+  latest-some (y ∷ ys) p e = by (latest range_of ys) refl e (latest-some ys)
     where
       at : Pair → ℕ
-      at q = (side q).start.at
+      at q = (range_of q).start.at
 
       less : (a b : ℕ) → nat_lt a b ≡ true → a ≤ b
       less a b e = grind arith
@@ -96,34 +96,34 @@ module _ (side : Pair → Range) where
       more : (a b : ℕ) → nat_lt a b ≡ false → b ≤ a
       more a b e = grind arith
 
-      first : (q : Pair) → y ≡ q → ((x : Pair) → In x ys → (side x).start.at ≤ (side y).start.at) → (x : Pair) → (x ≡ y) ⊎ In x ys → (side x).start.at ≤ (side q).start.at
-      first q is all x (inl j) = omega (arith, ap (λ (z : Pair). (side z).start.at) j, ap (λ (z : Pair). (side z).start.at) is)
-      first q is all x (inr j) = omega (arith, all x j, ap (λ (z : Pair). (side z).start.at) is)
+      first : (q : Pair) → y ≡ q → ((x : Pair) → In x ys → (range_of x).start.at ≤ (range_of y).start.at) → (x : Pair) → (x ≡ y) ⊎ In x ys → (range_of x).start.at ≤ (range_of q).start.at
+      first q is all x (inl j) = omega (arith, ap (λ (z : Pair). (range_of z).start.at) j, ap (λ (z : Pair). (range_of z).start.at) is)
+      first q is all x (inr j) = omega (arith, all x j, ap (λ (z : Pair). (range_of z).start.at) is)
 
-      second : (q : Pair) → (side y).start.at ≤ (side q).start.at → ((x : Pair) → In x ys → (side x).start.at ≤ (side q).start.at) → (x : Pair) → (x ≡ y) ⊎ In x ys → (side x).start.at ≤ (side q).start.at
-      second q h all x (inl j) = omega (arith, h, ap (λ (z : Pair). (side z).start.at) j)
+      second : (q : Pair) → (range_of y).start.at ≤ (range_of q).start.at → ((x : Pair) → In x ys → (range_of x).start.at ≤ (range_of q).start.at) → (x : Pair) → (x ≡ y) ⊎ In x ys → (range_of x).start.at ≤ (range_of q).start.at
+      second q h all x (inl j) = omega (arith, h, ap (λ (z : Pair). (range_of z).start.at) j)
       second q h all x (inr j) = all x j
 
-      pick : (b : Bool) (o : Pair) → nat_lt (side o).start.at (side y).start.at ≡ b → (if b then Some y else Some o) ≡ Some p →
-          In o ys × ((x : Pair) → In x ys → (side x).start.at ≤ (side o).start.at) → In p (y ∷ ys) × ((x : Pair) → In x (y ∷ ys) → (side x).start.at ≤ (side p).start.at)
+      pick : (b : Bool) (o : Pair) → nat_lt (range_of o).start.at (range_of y).start.at ≡ b → (if b then Some y else Some o) ≡ Some p →
+          In o ys × ((x : Pair) → In x ys → (range_of x).start.at ≤ (range_of o).start.at) → In p (y ∷ ys) × ((x : Pair) → In x (y ∷ ys) → (range_of x).start.at ≤ (range_of p).start.at)
       pick true o t e ih =
           let is : y ≡ p = cc in
-          (inl (sym is), first p is (λ x j. omega (arith, ih.1 x j, less (side o).start.at (side y).start.at t)))
+          (inl (sym is), first p is (λ x j. omega (arith, ih.1 x j, less (range_of o).start.at (range_of y).start.at t)))
       pick false o t e ih =
           let is : o ≡ p = cc in
-          let P : Pair → Type 0 = λ q. In q (y ∷ ys) × ((x : Pair) → In x (y ∷ ys) → (side x).start.at ≤ (side q).start.at) in
-          subst P is (inr ih.0, second o (more (side o).start.at (side y).start.at t) ih.1)
+          let P : Pair → Type 0 = λ q. In q (y ∷ ys) × ((x : Pair) → In x (y ∷ ys) → (range_of x).start.at ≤ (range_of q).start.at) in
+          subst P is (inr ih.0, second o (more (range_of o).start.at (range_of y).start.at t) ih.1)
 
-      by : (o : Option Pair) → latest side ys ≡ o → later side y o ≡ Some p →
-          ((q : Pair) → latest side ys ≡ Some q → In q ys × ((x : Pair) → In x ys → (side x).start.at ≤ (side q).start.at)) →
-          In p (y ∷ ys) × ((x : Pair) → In x (y ∷ ys) → (side x).start.at ≤ (side p).start.at)
+      by : (o : Option Pair) → latest range_of ys ≡ o → later range_of y o ≡ Some p →
+          ((q : Pair) → latest range_of ys ≡ Some q → In q ys × ((x : Pair) → In x ys → (range_of x).start.at ≤ (range_of q).start.at)) →
+          In p (y ∷ ys) × ((x : Pair) → In x (y ∷ ys) → (range_of x).start.at ≤ (range_of p).start.at)
       by None n e ih = let is : y ≡ p = cc in (inl (sym is), first p is (λ x j. absurd (latest-none ys n x j)))
-      by (Some o) n e ih = pick (nat_lt (side o).start.at (side y).start.at) o refl e (ih o n)
+      by (Some o) n e ih = pick (nat_lt (range_of o).start.at (range_of y).start.at) o refl e (ih o n)
 
   -- each starts before those after it
   abbrev pub Rising : List Pair → Type 0
   Rising [] = Unit {0}
-  Rising (x ∷ xs) = ((y : Pair) → In y xs → (side x).start.at < (side y).start.at) × Rising xs
+  Rising (x ∷ xs) = ((y : Pair) → In y xs → (range_of x).start.at < (range_of y).start.at) × Rising xs
 
   find-none : (t : Pair → Bool) (xs : List Pair) → find_last t xs ≡ None → (x : Pair) → In x xs → t x ≡ true → ⊥
   find-none t [] e x i h = i
@@ -136,42 +136,42 @@ module _ (side : Pair → Range) where
       by None false n q e (inr j) ih = ih n x j h
 
   find-some : (t : Pair → Bool) (xs : List Pair) (p : Pair) → Rising xs → find_last t xs ≡ Some p →
-      In p xs × (t p ≡ true) × ((x : Pair) → In x xs → t x ≡ true → (side x).start.at ≤ (side p).start.at)
+      In p xs × (t p ≡ true) × ((x : Pair) → In x xs → t x ≡ true → (range_of x).start.at ≤ (range_of p).start.at)
   find-some t [] p r e = absurd (cc)
   find-some t (y ∷ ys) p r e = by (find_last t ys) (t y) refl refl e (λ q. find-some t ys q r.1)
     where
-      last : (q : Pair) → In q ys → ((x : Pair) → In x ys → t x ≡ true → (side x).start.at ≤ (side q).start.at) → (x : Pair) → (x ≡ y) ⊎ In x ys → t x ≡ true → (side x).start.at ≤ (side q).start.at
-      last q i all x (inl is) h = omega (arith, r.0 q i, ap (λ (z : Pair). (side z).start.at) is)
+      last : (q : Pair) → In q ys → ((x : Pair) → In x ys → t x ≡ true → (range_of x).start.at ≤ (range_of q).start.at) → (x : Pair) → (x ≡ y) ⊎ In x ys → t x ≡ true → (range_of x).start.at ≤ (range_of q).start.at
+      last q i all x (inl is) h = omega (arith, r.0 q i, ap (λ (z : Pair). (range_of z).start.at) is)
       last q i all x (inr j) h = all x j h
 
-      own : (q : Pair) → y ≡ q → (x : Pair) → (x ≡ y) ⊎ In x ys → t x ≡ true → find_last t ys ≡ None → (side x).start.at ≤ (side q).start.at
-      own q is x (inl j) h n = omega (arith, ap (λ (z : Pair). (side z).start.at) j, ap (λ (z : Pair). (side z).start.at) is)
+      own : (q : Pair) → y ≡ q → (x : Pair) → (x ≡ y) ⊎ In x ys → t x ≡ true → find_last t ys ≡ None → (range_of x).start.at ≤ (range_of q).start.at
+      own q is x (inl j) h n = omega (arith, ap (λ (z : Pair). (range_of z).start.at) j, ap (λ (z : Pair). (range_of z).start.at) is)
       own q is x (inr j) h n = absurd (find-none t ys n x j h)
 
       by : (o : Option Pair) (b : Bool) → find_last t ys ≡ o → t y ≡ b → or_this b y o ≡ Some p →
-          ((q : Pair) → find_last t ys ≡ Some q → In q ys × (t q ≡ true) × ((x : Pair) → In x ys → t x ≡ true → (side x).start.at ≤ (side q).start.at)) →
-          In p (y ∷ ys) × (t p ≡ true) × ((x : Pair) → In x (y ∷ ys) → t x ≡ true → (side x).start.at ≤ (side p).start.at)
+          ((q : Pair) → find_last t ys ≡ Some q → In q ys × (t q ≡ true) × ((x : Pair) → In x ys → t x ≡ true → (range_of x).start.at ≤ (range_of q).start.at)) →
+          In p (y ∷ ys) × (t p ≡ true) × ((x : Pair) → In x (y ∷ ys) → t x ≡ true → (range_of x).start.at ≤ (range_of p).start.at)
       by (Some o) b n q e ih =
           let is : o ≡ p = cc in
-          let P : Pair → Type 0 = λ z. In z (y ∷ ys) × (t z ≡ true) × ((x : Pair) → In x (y ∷ ys) → t x ≡ true → (side x).start.at ≤ (side z).start.at) in
+          let P : Pair → Type 0 = λ z. In z (y ∷ ys) × (t z ≡ true) × ((x : Pair) → In x (y ∷ ys) → t x ≡ true → (range_of x).start.at ≤ (range_of z).start.at) in
           let r = ih o n in
           subst P is (inr r.0, r.1, last o r.0 r.2)
       by None true n q e ih = let is : y ≡ p = cc in (inl (sym is), sym (ap t is) ∙ q, λ x i h. own p is x i h n)
       by None false n q e ih = absurd (cc)
 
-  same-place : (xs : List Pair) → Rising xs → (a b : Pair) → In a xs → In b xs → (side a).start.at ≡ (side b).start.at → a ≡ b
+  same-place : (xs : List Pair) → Rising xs → (a b : Pair) → In a xs → In b xs → (range_of a).start.at ≡ (range_of b).start.at → a ≡ b
   same-place [] r a b i j e = absurd i
   same-place (y ∷ ys) r a b (inl i) (inl j) e = i ∙ sym j
-  same-place (y ∷ ys) r a b (inl i) (inr j) e = absurd (omega (arith, r.0 b j, e, ap (λ (z : Pair). (side z).start.at) i))
-  same-place (y ∷ ys) r a b (inr i) (inl j) e = absurd (omega (arith, r.0 a i, e, ap (λ (z : Pair). (side z).start.at) j))
+  same-place (y ∷ ys) r a b (inl i) (inr j) e = absurd (omega (arith, r.0 b j, e, ap (λ (z : Pair). (range_of z).start.at) i))
+  same-place (y ∷ ys) r a b (inr i) (inl j) e = absurd (omega (arith, r.0 a i, e, ap (λ (z : Pair). (range_of z).start.at) j))
   same-place (y ∷ ys) r a b (inr i) (inr j) e = same-place ys r.1 a b i j e
 
   -- the same members: the latest of the ones is the last of the others
   pub latest-last : (t : Pair → Bool) (xs ys : List Pair) → Rising ys → ((x : Pair) → In x xs → In x ys × (t x ≡ true)) → ((y : Pair) → In y ys → t y ≡ true → In y xs) →
-      latest side xs ≡ find_last t ys
-  latest-last t xs ys r to_ys to_xs = by (latest side xs) (find_last t ys) refl refl
+      latest range_of xs ≡ find_last t ys
+  latest-last t xs ys r to_ys to_xs = by (latest range_of xs) (find_last t ys) refl refl
     where
-      by : (a b : Option Pair) → latest side xs ≡ a → find_last t ys ≡ b → a ≡ b
+      by : (a b : Option Pair) → latest range_of xs ≡ a → find_last t ys ≡ b → a ≡ b
       by None None p q = refl
       by None (Some y) p q = let f = find-some t ys y r q in absurd (latest-none xs p y (to_xs y f.0 f.1))
       by (Some x) None p q = let l = latest-some xs x p in let g = to_ys x l.0 in absurd (find-none t ys q x g.0 g.1)
@@ -218,11 +218,11 @@ module _ (marks : List Marking) where
       (both-true (same_edge m.edge s) (bytes_eq m.id m.id) (and-left (same_edge m.edge s) (has_name name m.name) has.1) (bytes-own m.id)) in
       named.1 ∙ ap Some (only-all (with_id s m.id marks) range.start m start there)
 
-  side-start : (half : Half) (name : List ℕ) (pair : Pair) → pair_with_name marks name ≡ Some pair →
-      only_one (with_name (start_of half) name marks) ≡ Some (side_of half pair).start
-  side-start From name pair e =
+  range_of-start : (side : Side) (name : List ℕ) (pair : Pair) → pair_with_name marks name ≡ Some pair →
+      only_one (with_name (start_of side) name marks) ≡ Some (range_on side pair).start
+  range_of-start Source name pair e =
       range-start from_start from_end name pair.source (pair_from-some (range_with_name from_start from_end marks name) (range_with_name to_start to_end marks name) pair e).0
-  side-start To name pair e =
+  range_of-start Target name pair e =
       range-start to_start to_end name pair.target (pair_from-some (range_with_name from_start from_end marks name) (range_with_name to_start to_end marks name) pair e).1
 
   pub named : (edge : Edge) (m : Marking) (pair : Pair) → pair_begun edge marks m ≡ Some pair →
@@ -243,75 +243,75 @@ module _ (marks : List Marking) where
       by None h = absurd (true≢false (sym h))
       by (Some other) h = ap (pair_with_name marks) (same_bytes other name h) ∙ e
 
-  pub start-again : (half : Half) (name : List ℕ) (pair : Pair) → pair_with_name marks name ≡ Some pair →
-      In (side_of half pair).start marks × (pair_begun (start_of half) marks (side_of half pair).start ≡ Some pair)
-  start-again half name pair e =
-      let st = (side_of half pair).start in
-      let edge = start_of half in
-      let has = filter-in (λ x. same_edge x.edge edge && has_name name x.name) marks st (only-in (with_name edge name marks) st (side-start half name pair e)) in
+  pub start-again : (side : Side) (name : List ℕ) (pair : Pair) → pair_with_name marks name ≡ Some pair →
+      In (range_on side pair).start marks × (pair_begun (start_of side) marks (range_on side pair).start ≡ Some pair)
+  start-again side name pair e =
+      let st = (range_on side pair).start in
+      let edge = start_of side in
+      let has = filter-in (λ x. same_edge x.edge edge && has_name name x.name) marks st (only-in (with_name edge name marks) st (range_of-start side name pair e)) in
       (has.0, begun-again edge st name pair (and-left (same_edge st.edge edge) (has_name name st.name) has.1) (and-right (same_edge st.edge edge) (has_name name st.name) has.1) e)
 
-  start-is : (half : Half) (m : Marking) (pair : Pair) → In m marks → pair_begun (start_of half) marks m ≡ Some pair → m ≡ (side_of half pair).start
-  start-is half m pair i e =
-      let edge = start_of half in
+  start-is : (side : Side) (m : Marking) (pair : Pair) → In m marks → pair_begun (start_of side) marks m ≡ Some pair → m ≡ (range_on side pair).start
+  start-is side m pair i e =
+      let edge = start_of side in
       let n = named edge m pair e in
       let there = in-filter (λ x. same_edge x.edge edge && has_name n.0 x.name) marks m i
       (both-true (same_edge m.edge edge) (has_name n.0 m.name) n.1 (ap (has_name n.0) n.2 ∙ bytes-own n.0)) in
-      only-all (with_name edge n.0 marks) (side_of half pair).start m (side-start half n.0 pair n.3) there
+      only-all (with_name edge n.0 marks) (range_on side pair).start m (range_of-start side n.0 pair n.3) there
 
-  rising : (half : Half) (f : Marking → Bool) (from : ℕ) (ms : List Marking) → RisesFrom from ms → ((m : Marking) → In m ms → In m marks) →
-      Rising (side_of half) (filter_map (pair_begun (start_of half) marks) (filter f ms))
-  rising half f from [] r sub = tt
-  rising half f from (m ∷ ms) r sub = by (f m) (pair_begun (start_of half) marks m) refl (rising half f (m.at + 1) ms r.1 (λ x i. sub x (inr i)))
+  rising : (side : Side) (f : Marking → Bool) (from : ℕ) (ms : List Marking) → RisesFrom from ms → ((m : Marking) → In m ms → In m marks) →
+      Rising (range_on side) (filter_map (pair_begun (start_of side) marks) (filter f ms))
+  rising side f from [] r sub = tt
+  rising side f from (m ∷ ms) r sub = by (f m) (pair_begun (start_of side) marks m) refl (rising side f (m.at + 1) ms r.1 (λ x i. sub x (inr i)))
     where
       h : Marking → Option Pair
-      h = pair_begun (start_of half) marks
+      h = pair_begun (start_of side) marks
 
-      after_it : (p q : Pair) → pair_begun (start_of half) marks m ≡ Some p → In q (filter_map (pair_begun (start_of half) marks) (filter f ms)) →
-          (side_of half p).start.at < (side_of half q).start.at
+      after_it : (p q : Pair) → pair_begun (start_of side) marks m ≡ Some p → In q (filter_map (pair_begun (start_of side) marks) (filter f ms)) →
+          (range_on side p).start.at < (range_on side q).start.at
       after_it p q e i =
-          let found = map-in (pair_begun (start_of half) marks) (filter f ms) q i in
+          let found = map-in (pair_begun (start_of side) marks) (filter f ms) q i in
           let there = filter-in f ms found.0 found.1 in
           omega (
             arith,
-            ap (λ (y : Marking). y.at) (start-is half m p (sub m (inl refl)) e),
-            ap (λ (y : Marking). y.at) (start-is half found.0 q (sub found.0 (inr there.0)) found.2),
+            ap (λ (y : Marking). y.at) (start-is side m p (sub m (inl refl)) e),
+            ap (λ (y : Marking). y.at) (start-is side found.0 q (sub found.0 (inr there.0)) found.2),
             rises-in (m.at + 1) ms found.0 r.1 there.0,
           )
 
-      by : (b : Bool) (o : Option Pair) → pair_begun (start_of half) marks m ≡ o →
-          Rising (side_of half) (filter_map (pair_begun (start_of half) marks) (filter f ms)) →
-          Rising (side_of half) (filter_map (pair_begun (start_of half) marks) (cond b (m ∷ filter f ms) (filter f ms)))
+      by : (b : Bool) (o : Option Pair) → pair_begun (start_of side) marks m ≡ o →
+          Rising (range_on side) (filter_map (pair_begun (start_of side) marks) (filter f ms)) →
+          Rising (range_on side) (filter_map (pair_begun (start_of side) marks) (cond b (m ∷ filter f ms) (filter f ms)))
       by false o e ih = ih
-      by true None e ih = let P : Option Pair → Type 0 = λ z. Rising (side_of half) (cons_option z (filter_map (pair_begun (start_of half) marks) (filter f ms))) in subst P (sym e) ih
+      by true None e ih = let P : Option Pair → Type 0 = λ z. Rising (range_on side) (cons_option z (filter_map (pair_begun (start_of side) marks) (filter f ms))) in subst P (sym e) ih
       by true (Some p) e ih =
-          let P : Option Pair → Type 0 = λ z. Rising (side_of half) (cons_option z (filter_map (pair_begun (start_of half) marks) (filter f ms))) in
+          let P : Option Pair → Type 0 = λ z. Rising (range_on side) (cons_option z (filter_map (pair_begun (start_of side) marks) (filter f ms))) in
           subst P (sym e) (λ q i. after_it p q e i, ih)
 
   -- THE TWO DEFINITIONS ARE ONE: the latest of the open moves is the last, by its start, of those that end after the position
-  pub pair_at-open : (half : Half) (at : ℕ) → RisesFrom 0 marks → pair_at (side_of half) at (pairs marks) ≡ pair_open half at marks
-  pair_at-open half at rises =
-      let side = side_of half in
-      let edge = start_of half in
-      let opened : Pair → Bool = λ p. is_open_at at (side p) in
+  pub pair_at-open : (side : Side) (at : ℕ) → RisesFrom 0 marks → pair_at (range_on side) at (pairs marks) ≡ pair_open side at marks
+  pair_at-open side at rises =
+      let range_of = range_on side in
+      let edge = start_of side in
+      let opened : Pair → Bool = λ p. is_open_at at (range_of p) in
       let before : Marking → Bool = λ m. nat_lt m.at at in
-      let ends : Pair → Bool = λ p. nat_lt at (side p).end.at in
-      latest-last side ends (filter opened (pairs marks)) (filter_map (pair_begun edge marks) (filter before marks))
-      (rising half before 0 marks rises (λ m i. i))
+      let ends : Pair → Bool = λ p. nat_lt at (range_of p).end.at in
+      latest-last range_of ends (filter opened (pairs marks)) (filter_map (pair_begun edge marks) (filter before marks))
+      (rising side before 0 marks rises (λ m i. i))
       (λ x i.
       let has = filter-in opened (pairs marks) x i in
       let own = map-in (pair_of marks) marks x has.0 in
       let name = named from_start own.0 x own.2 in
-      let start = start-again half name.0 x name.3 in (
-        in-map (pair_begun edge marks) (filter before marks) (side x).start x
-            (in-filter before marks (side x).start start.0 (and-left (nat_lt (side x).start.at at) (nat_lt at (side x).end.at) has.1)) start.1,
-        and-right (nat_lt (side x).start.at at) (nat_lt at (side x).end.at) has.1,
+      let start = start-again side name.0 x name.3 in (
+        in-map (pair_begun edge marks) (filter before marks) (range_of x).start x
+            (in-filter before marks (range_of x).start start.0 (and-left (nat_lt (range_of x).start.at at) (nat_lt at (range_of x).end.at) has.1)) start.1,
+        and-right (nat_lt (range_of x).start.at at) (nat_lt at (range_of x).end.at) has.1,
       ))
       (λ y i t.
       let own = map-in (pair_begun edge marks) (filter before marks) y i in
       let there = filter-in before marks own.0 own.1 in
       let name = named edge own.0 y own.2 in
-      let source = start-again From name.0 y name.3 in
+      let source = start-again Source name.0 y name.3 in
       in-filter opened (pairs marks) y (in-map (pair_of marks) marks y.source.start y source.0 source.1)
-      (both-true (nat_lt (side y).start.at at) (nat_lt at (side y).end.at)
-      (sym (ap before (start-is half own.0 y there.0 own.2)) ∙ there.1) t))
+      (both-true (nat_lt (range_of y).start.at at) (nat_lt at (range_of y).end.at)
+      (sym (ap before (start-is side own.0 y there.0 own.2)) ∙ there.1) t))

@@ -1,5 +1,5 @@
 pub mod PlaceLaws
-pub mod TableLaws
+pub mod MarkerIndexLaws
 pub mod PairLaws
 pub mod OpenLaws
 pub mod StandingLaws

@@ -5,7 +5,7 @@ use Rattle.redl_tree.specs.Revisions.Moves.{Edge, from_start, from_end, to_start
 use Rattle.redl_moves.specs.Marks.{RisesFrom}
 use Rattle.redl_moves.specs.Keys.{has_key}
 use Rattle.redl_moves.specs.Places.{places_from, only_place, Span, are_range, span_between, span_from, span_with_id, span_with_name, move_from, move_with_name, move_begun, moves_by_place}
-use Rattle.redl_moves.specs.declared.table.Key.TheVariants.{Id, Name}
+use Rattle.redl_moves.specs.declared.marker_index.Key.TheVariants.{Id, Name}
 
 -- ---- lists
 

@@ -1,4 +1,4 @@
--- The move of a member is the one that the table of open moves has at the number of markers before it.
+-- The move of a member is the one that the list of open moves has at the number of markers before it.
 use Rattle.std.proofs.Common.{◌≡◌, ◌∙◌, refl, ap, sym, cond, ℕ, zero, suc, ◌+◌, ◌≤◌, List, [], ◌∷◌, ◌++◌, Bool, true, false, ◌&&◌, not, nat_lt, Option, Some, None, option_map, option_and_then, option_to_list, slice_get, filter, filter_map, take, length, arith, append_assoc, if◌then◌else◌}
 use Rattle.std.specs.List.{cons_option}
 use Rattle.std.proofs.lemmas.List.{append-nil}
@@ -7,37 +7,37 @@ use Rattle.redl_moves.specs.Marks.{RisesFrom}
 use Rattle.redl_moves.specs.Keys.{has_key}
 use Rattle.redl_moves.specs.Places.{only_place, move_with_name, move_begun}
 use Rattle.redl_moves.specs.Opens.{start_of, is_open_at, or_this, find_last, opens_over}
-use Rattle.redl_moves.specs.Standing.{side_of, pair_begun, pair_open, before}
-use Rattle.redl_moves.specs.declared.table.Key.TheVariants.{Id}
-use Rattle.redl_moves.specs.declared.opens.Half.{Half}
-use Rattle.redl_moves.specs.declared.opens.Half.TheVariants.{From, To}
+use Rattle.redl_moves.specs.Standing.{range_on, pair_begun, pair_open, before}
+use Rattle.redl_moves.specs.declared.marker_index.Key.TheVariants.{Id}
+use Rattle.redl_moves.specs.declared.opens.Side.{Side}
+use Rattle.redl_moves.specs.declared.opens.Side.TheVariants.{Source, Target}
 use Rattle.redl_moves.proofs.PlaceLaws.{only_one-place, place-at, pair-name}
 
--- ---- the table of open moves
+-- ---- the list of open moves
 
 begun-more : (had : List Move) (own : Option Move) (rest : List Move) → (had ++ option_to_list own) ++ rest ≡ had ++ cons_option own rest
 begun-more had None rest = append_assoc had [] rest
 begun-more had (Some m) rest = append_assoc had (m ∷ []) rest
 
-module _ (half : Half) (whole : List Marking) where
+module _ (side : Side) (whole : List Marking) where
   pub opens-get : (begun : List Move) (place : ℕ) (marks : List Marking) (i : ℕ) → i ≤ length marks →
-      slice_get (opens_over half whole begun place marks) i
-      ≡ Some (find_last (is_open_at half (place + i)) (begun ++ filter_map (move_begun (start_of half) whole) (take i marks)))
+      slice_get (opens_over side whole begun place marks) i
+      ≡ Some (find_last (is_open_at side (place + i)) (begun ++ filter_map (move_begun (start_of side) whole) (take i marks)))
   opens-get begun place [] zero h = ap Some (here begun place)
     where
-      here : (begun : List Move) (place : ℕ) → find_last (is_open_at half place) begun ≡ find_last (is_open_at half (place + 0)) (begun ++ [])
-      here begun place = ap (find_last (is_open_at half place)) (sym (append-nil begun)) ∙ ap (λ n. find_last (is_open_at half n) (begun ++ [])) (omega arith)
+      here : (begun : List Move) (place : ℕ) → find_last (is_open_at side place) begun ≡ find_last (is_open_at side (place + 0)) (begun ++ [])
+      here begun place = ap (find_last (is_open_at side place)) (sym (append-nil begun)) ∙ ap (λ n. find_last (is_open_at side n) (begun ++ [])) (omega arith)
   opens-get begun place (mark ∷ marks) zero h = ap Some (here begun place)
     where
-      here : (begun : List Move) (place : ℕ) → find_last (is_open_at half place) begun ≡ find_last (is_open_at half (place + 0)) (begun ++ [])
-      here begun place = ap (find_last (is_open_at half place)) (sym (append-nil begun)) ∙ ap (λ n. find_last (is_open_at half n) (begun ++ [])) (omega arith)
+      here : (begun : List Move) (place : ℕ) → find_last (is_open_at side place) begun ≡ find_last (is_open_at side (place + 0)) (begun ++ [])
+      here begun place = ap (find_last (is_open_at side place)) (sym (append-nil begun)) ∙ ap (λ n. find_last (is_open_at side n) (begun ++ [])) (omega arith)
   opens-get begun place [] (suc i) h = absurd (omega (arith, h))
   opens-get begun place (mark ∷ marks) (suc i) h =
-      let own = move_begun (start_of half) whole mark in
-      let rest = filter_map (move_begun (start_of half) whole) (take i marks) in
+      let own = move_begun (start_of side) whole mark in
+      let rest = filter_map (move_begun (start_of side) whole) (take i marks) in
       opens-get (begun ++ option_to_list own) (place + 1) marks i (omega (arith, h))
-      ∙ ap (λ n. Some (find_last (is_open_at half n) ((begun ++ option_to_list own) ++ rest))) (next place i)
-      ∙ ap (λ ms. Some (find_last (is_open_at half (place + suc i)) ms)) (begun-more begun own rest)
+      ∙ ap (λ n. Some (find_last (is_open_at side n) ((begun ++ option_to_list own) ++ rest))) (next place i)
+      ∙ ap (λ ms. Some (find_last (is_open_at side (place + suc i)) ms)) (begun-more begun own rest)
     where
       next : (p i : ℕ) → (p + 1) + i ≡ p + suc i
       next p i = omega arith
@@ -156,26 +156,26 @@ module _ (marks : List Marking) (rises : RisesFrom 0 marks) (at : ℕ) (apart : 
       other : (n : ℕ) → (n ≡ at → ⊥) → nat_lt at n ≡ not (nat_lt n at)
       other n h = grind arith
 
-  pair-open : (half : Half) (name : List ℕ) (pair : Pair) → pair_with_name marks name ≡ Some pair →
-      nat_lt at (side_of half pair).end.at ≡ is_open_at half (before at marks) (by_places marks pair)
-  pair-open From name pair e =
+  pair-open : (side : Side) (name : List ℕ) (pair : Pair) → pair_with_name marks name ≡ Some pair →
+      nat_lt at (range_on side pair).end.at ≡ is_open_at side (before at marks) (by_places marks pair)
+  pair-open Source name pair e =
       let both = pair_from-some (range_with_name from_start from_end marks name) (range_with_name to_start to_end marks name) pair e in
       let there = range-end from_start from_end marks name pair.source both.0 in
       end-open pair.source.end there.0 there.1
-  pair-open To name pair e =
+  pair-open Target name pair e =
       let both = pair_from-some (range_with_name from_start from_end marks name) (range_with_name to_start to_end marks name) pair e in
       let there = range-end to_start to_end marks name pair.target both.1 in
       end-open pair.target.end there.0 there.1
 
-  begun-open : (half : Half) (mark : Marking) (pair : Pair) → pair_begun (start_of half) marks mark ≡ Some pair →
-      nat_lt at (side_of half pair).end.at ≡ is_open_at half (before at marks) (by_places marks pair)
-  begun-open half mark pair e = by (same_edge mark.edge (start_of half)) mark.name e
+  begun-open : (side : Side) (mark : Marking) (pair : Pair) → pair_begun (start_of side) marks mark ≡ Some pair →
+      nat_lt at (range_on side pair).end.at ≡ is_open_at side (before at marks) (by_places marks pair)
+  begun-open side mark pair e = by (same_edge mark.edge (start_of side)) mark.name e
     where
       by : (b : Bool) (name : Option (List ℕ)) → (if b then option_and_then (pair_with_name marks) name else None) ≡ Some pair →
-          nat_lt at (side_of half pair).end.at ≡ is_open_at half (before at marks) (by_places marks pair)
+          nat_lt at (range_on side pair).end.at ≡ is_open_at side (before at marks) (by_places marks pair)
       by false name e = absurd (cc)
       by true None e = absurd (cc)
-      by true (Some name) e = pair-open half name pair e
+      by true (Some name) e = pair-open side name pair e
 
   begun-places : (edge : Edge) (mark : Marking) → option_map (by_places marks) (pair_begun edge marks mark) ≡ move_begun edge marks mark
   begun-places edge mark = by (same_edge mark.edge edge) mark.name
@@ -187,19 +187,19 @@ module _ (marks : List Marking) (rises : RisesFrom 0 marks) (at : ℕ) (apart : 
       by true None = refl
       by true (Some name) = pair-name marks rises name
 
-  -- THE OPEN MOVE at a position is in the table, at the number of markers before the position
-  pub open-in_table : (half : Half) → before at marks ≤ length marks →
-      slice_get (opens_over half marks [] 0 marks) (before at marks) ≡ Some (option_map (by_places marks) (pair_open half at marks))
-  open-in_table half within =
+  -- THE OPEN MOVE at a position is in the list, at the number of markers before the position
+  pub open-in_list : (side : Side) → before at marks ≤ length marks →
+      slice_get (opens_over side marks [] 0 marks) (before at marks) ≡ Some (option_map (by_places marks) (pair_open side at marks))
+  open-in_list side within =
       let k = before at marks in
-      let begun = move_begun (start_of half) marks in
-      opens-get half marks [] 0 marks k within
-      ∙ ap (λ n. Some (find_last (is_open_at half n) (filter_map begun (take k marks)))) (from_zero k)
+      let begun = move_begun (start_of side) marks in
+      opens-get side marks [] 0 marks k within
+      ∙ ap (λ n. Some (find_last (is_open_at side n) (filter_map begun (take k marks)))) (from_zero k)
       ∙ ap Some
-      (sym (ap (λ ms. option_map (by_places marks) (find_last (λ pair. nat_lt at (side_of half pair).end.at) (filter_map (pair_begun (start_of half) marks) ms)))
+      (sym (ap (λ ms. option_map (by_places marks) (find_last (λ pair. nat_lt at (range_on side pair).end.at) (filter_map (pair_begun (start_of side) marks) ms)))
       (filter-before at 0 marks rises)
-      ∙ last-map (by_places marks) (pair_begun (start_of half) marks) begun (λ pair. nat_lt at (side_of half pair).end.at) (is_open_at half k)
-      (begun-places (start_of half)) (begun-open half) (take k marks)))
+      ∙ last-map (by_places marks) (pair_begun (start_of side) marks) begun (λ pair. nat_lt at (range_on side pair).end.at) (is_open_at side k)
+      (begun-places (start_of side)) (begun-open side) (take k marks)))
     where
       from_zero : (n : ℕ) → 0 + n ≡ n
       from_zero n = omega arith

@@ -2,7 +2,7 @@
 use Rattle.std.proofs.Common.{◌≡◌, ◌∙◌, ap, sym, ℕ, suc, inl, inr, List, [], ◌∷◌, Some, slice_get, filter}
 use Rattle.redl_tree.specs.Revisions.Moves.{from_start, from_end, to_start, to_end, Marking, Range, Pair, range_with_name, pair_of, pairs, is_open_at, pair_at, place_of}
 use Rattle.redl_moves.specs.Marks.{RisesFrom}
-use Rattle.redl_moves.specs.declared.opens.Half.TheVariants.{From, To}
+use Rattle.redl_moves.specs.declared.opens.Side.TheVariants.{Source, Target}
 use Rattle.redl_moves.proofs.PlaceLaws.{place-at}
 use Rattle.redl_moves.proofs.StandingLaws.{range-end, pair_from-some}
 use Rattle.redl_moves.proofs.AgainLaws.{In, filter-in, map-in, latest-some, named, start-again}
@@ -33,9 +33,9 @@ module _ (marks : List Marking) (rises : RisesFrom 0 marks) where
       let name = named marks from_start own.0 pair own.2 in
       let both = pair_from-some (range_with_name from_start from_end marks name.0) (range_with_name to_start to_end marks name.0) pair name.3 in
       record {
-        source_start = at-place pair.source.start (in-place marks pair.source.start (start-again marks From name.0 pair name.3).0);
+        source_start = at-place pair.source.start (in-place marks pair.source.start (start-again marks Source name.0 pair name.3).0);
         source_end = at-place pair.source.end (range-end from_start from_end marks name.0 pair.source both.0);
-        target_start = at-place pair.target.start (in-place marks pair.target.start (start-again marks To name.0 pair name.3).0);
+        target_start = at-place pair.target.start (in-place marks pair.target.start (start-again marks Target name.0 pair name.3).0);
         target_end = at-place pair.target.end (range-end to_start to_end marks name.0 pair.target both.1);
       }
 
@@ -44,7 +44,7 @@ module _ (marks : List Marking) (rises : RisesFrom 0 marks) where
   start-there pair i = (pair-there pair i).source_start
 
   -- and so of the move that is open at a position
-  pub open-there : (side : Pair → Range) (at : ℕ) (pair : Pair) → pair_at side at (pairs marks) ≡ Some pair → IsThere marks pair
-  open-there side at pair e =
+  pub open-there : (range_of : Pair → Range) (at : ℕ) (pair : Pair) → pair_at range_of at (pairs marks) ≡ Some pair → IsThere marks pair
+  open-there range_of at pair e =
       pair-there pair
-      (filter-in (λ p. is_open_at at (side p)) (pairs marks) pair (latest-some side (filter (λ p. is_open_at at (side p)) (pairs marks)) pair e).0).0
+      (filter-in (λ p. is_open_at at (range_of p)) (pairs marks) pair (latest-some range_of (filter (λ p. is_open_at at (range_of p)) (pairs marks)) pair e).0).0

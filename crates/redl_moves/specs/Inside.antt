@@ -1,5 +1,5 @@
 -- What no public clause of this crate names: how its own code is stated.
 pub mod Owners
-pub mod Seats
+pub mod MarkerIndexes
 pub mod Stories
-pub mod Sides
+pub mod RangeIndexes

@@ -3,7 +3,7 @@
 use Rattle.std.specs.Prelude.{ℕ, ◌+◌, List, [], ◌∷◌, Bool, ◌&&◌, not, Option, Some, None, option_and_then, nat_lt, slice_get, filter_map, if◌then◌else◌}
 use Rattle.redl_tree.specs.Revisions.Moves.{Edge, from_start, from_end, to_start, to_end, Marking, Move, only_one, same_edge}
 use Rattle.redl_moves.specs.Keys.{has_key}
-use Rattle.redl_moves.specs.declared.table.Key.TheVariants.{Id, Name}
+use Rattle.redl_moves.specs.declared.marker_index.Key.TheVariants.{Id, Name}
 
 -- the places of the markers that pass, where the first marker has this place
 abbrev pub places_from : ℕ → (Marking → Bool) → List Marking → List ℕ

@@ -8,17 +8,17 @@
 
 mod before;
 mod marker;
+mod marker_index;
+mod move_index;
 mod moves;
 mod opens;
 mod owners;
 mod pairing;
-mod side;
+mod range_index;
 mod start;
-mod table;
-mod tables;
 
 pub use marker::{Marker, MarkerKind, Move};
 pub use moves::Moves;
-pub use opens::Half;
+pub use opens::Side;
 pub use pairing::pair;
 pub use start::Start;

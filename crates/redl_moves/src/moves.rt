@@ -3,14 +3,14 @@
 ghost use Rattle.std.specs.Prelude.{◌≡◌, ◌^◌, ◌<◌, length, find, option_map, IfOk};
 ghost use Rattle.redl_tree.specs.Revisions.Moves.{pairs, pair_at, is_of_pair};
 ghost use Rattle.redl_moves.specs.Marks.{markings, RisesFrom};
-ghost use Rattle.redl_moves.specs.Standing.{side_of, IsApart};
+ghost use Rattle.redl_moves.specs.Standing.{range_on, IsApart};
 ghost use Rattle.redl_moves.specs.Starts.{start_in};
 
 use crate::before::markers_before;
 use crate::marker::Marker;
-use crate::opens::Half;
+use crate::move_index::MoveIndex;
+use crate::opens::Side;
 use crate::start::Start;
-use crate::tables::Tables;
 use std::alloc::{AllocError, Global};
 use std::marker::Model;
 
@@ -18,7 +18,7 @@ use std::marker::Model;
 #[derive(Drop)]
 pub struct Moves {
     marks: Vec<Marker>,
-    tables: Tables,
+    index: MoveIndex,
 }
 
 impl Model for Moves {
@@ -31,7 +31,7 @@ impl Model for Moves {
 
     ghost view = { λ moves. markings moves.marks.items };
 
-    ghost invariant = { λ moves. IsStory (markings moves.marks.items) moves.tables };
+    ghost invariant = { λ moves. IsStory (markings moves.marks.items) moves.index };
 }
 
 impl Moves {
@@ -43,8 +43,8 @@ impl Moves {
         requires rising { RisesFrom 0 (markings marks.items) }
         ensures { IfOk result (λ moves. moves ≡ markings marks.items) }
     {
-        let tables = Tables::of(alloc, &marks)?;
-        Ok(Moves { marks, tables })
+        let index = MoveIndex::of(alloc, &marks)?;
+        Ok(Moves { marks, index })
     }
 
     /// The source start of the paired move of which a marker is at this position.
@@ -53,19 +53,19 @@ impl Moves {
     pub fn at_marker(&self, at: u64) -> Option<Start>
         ensures { result ≡ option_map (start_in self.now) (find (is_of_pair at) (pairs self.now)) }
     {
-        self.tables.owner(at)
+        self.index.owner(at)
     }
 
-    /// The source start of the paired move whose source range (`From`) or target range (`To`) is open at this position and
+    /// The source start of the paired move whose source range or target range is open at this position and
     /// started last. No marker may be at the position itself.
     ///
     /// `None` exactly where no such range is open: a range is open after its start and before its end.
-    pub fn open_at(&self, half: Half, at: u64) -> Option<Start>
-        ensures { IsApart at self.now → result ≡ option_map (start_in self.now) (pair_at (side_of half) at (pairs self.now)) }
+    pub fn open_at(&self, side: Side, at: u64) -> Option<Start>
+        ensures { IsApart at self.now → result ≡ option_map (start_in self.now) (pair_at (range_on side) at (pairs self.now)) }
     {
         let open = self
-            .tables
-            .open_after(half, markers_before(&self.marks, at))?;
+            .index
+            .open_after(side, markers_before(&self.marks, at))?;
         Some(Start::of(&self.marks, open.from_start))
     }
 }

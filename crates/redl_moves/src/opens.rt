@@ -3,28 +3,30 @@
 ghost use Rattle.std.specs.Prelude.{◌≡◌, ◌^◌, ◌<◌, [], length, map, IfOk, OnOk, option_map};
 ghost use Rattle.redl_moves.specs.Marks.{markings, edge_of, move_of};
 ghost use Rattle.redl_moves.specs.Opens.{start_of, is_open_at, find_last, opens_over, OpenAlike};
-ghost use Rattle.redl_moves.specs.Inside.Sides.{IsSides};
+ghost use Rattle.redl_moves.specs.Inside.RangeIndexes.{AreRangeIndexes};
 
 use crate::marker::{Marker, MarkerKind, Move};
 use crate::pairing::{add, move_begun};
-use crate::side::Sides;
+use crate::range_index::RangeIndexes;
 use std::alloc::{AllocError, Global};
 
-/// A side of moves: where content moved from, or where it moved to.
+/// A side of moves.
 #[derive(Clone, Copy, Debug, PartialEq, Eq)]
-pub enum Half {
-    From,
-    To,
+pub enum Side {
+    /// Where content moved from.
+    Source,
+    /// Where it moved to.
+    Target,
 }
 
-impl Half {
+impl Side {
     /// The kind of the starts of its ranges.
     fn start(self) -> MarkerKind
         ensures { edge_of result ≡ start_of self }
     {
         match self {
-            Half::From => MarkerKind::FromStart,
-            Half::To => MarkerKind::ToStart,
+            Side::Source => MarkerKind::FromStart,
+            Side::Target => MarkerKind::ToStart,
         }
     }
 
@@ -33,8 +35,8 @@ impl Half {
         ensures { result ≡ is_open_at self place (move_of begun) }
     {
         match self {
-            Half::From => begun.from_end >= place,
-            Half::To => begun.to_end >= place,
+            Side::Source => begun.from_end >= place,
+            Side::Target => begun.to_end >= place,
         }
     }
 }
@@ -44,33 +46,33 @@ impl Half {
 pub(crate) fn open_moves<'a>(
     alloc: Global,
     marks: &'a [Marker],
-    sides: &Sides<'a>,
-    half: Half,
+    ranges: &RangeIndexes<'a>,
+    side: Side,
 ) -> Result<Vec<Option<Move>>, AllocError>
     requires few { length marks.now < 2 ^ 32 }
-    requires sides { IsSides (markings marks.now) sides.now }
-    ensures { IfOk result (λ opens. map (option_map move_of) opens.items ≡ opens_over half (markings marks.now) [] 0 (markings marks.now)) }
+    requires ranges { AreRangeIndexes (markings marks.now) ranges.now }
+    ensures { IfOk result (λ opens. map (option_map move_of) opens.items ≡ opens_over side (markings marks.now) [] 0 (markings marks.now)) }
 {
     let mut opens = Vec::new(alloc);
     let mut begun = Vec::new(alloc);
     for place in 0..marks.len() {
-        let latest = last_open(&mut begun, half, place as u32)?;
+        let latest = last_open(&mut begun, side, place as u32)?;
         opens.push(latest)?;
-        let more = move_begun(&marks[place], half.start(), sides);
+        let more = move_begun(&marks[place], side.start(), ranges);
         add(&mut begun, more)?;
     }
-    let latest = last_open(&mut begun, half, marks.len() as u32)?;
+    let latest = last_open(&mut begun, side, marks.len() as u32)?;
     opens.push(latest)?;
     Ok(opens)
 }
 
 /// The last of the moves whose range is still open. Those after it are over, and are taken off. `Err` means out of memory.
-fn last_open(begun: &mut Vec<Move>, half: Half, place: u32) -> Result<Option<Move>, AllocError>
-    ensures last { IfOk result (λ found. option_map move_of found ≡ find_last (is_open_at half place) (map move_of begun.old.items)) }
-    ensures alike { OnOk result (OpenAlike half place (map move_of begun.new.items) (map move_of begun.old.items)) }
+fn last_open(begun: &mut Vec<Move>, side: Side, place: u32) -> Result<Option<Move>, AllocError>
+    ensures last { IfOk result (λ found. option_map move_of found ≡ find_last (is_open_at side place) (map move_of begun.old.items)) }
+    ensures alike { OnOk result (OpenAlike side place (map move_of begun.new.items) (map move_of begun.old.items)) }
 {
     while let Some(last) = begun.pop() {
-        if half.is_open(last, place) {
+        if side.is_open(last, place) {
             begun.push(last)?;
             return Ok(Some(last));
         }

@@ -4,10 +4,10 @@ ghost use Rattle.std.specs.Prelude.{◌≡◌, ◌^◌, ◌<◌, ◌++◌, List,
 ghost use Rattle.redl_tree.specs.Revisions.Moves.{Marking, paired_moves, from_start};
 ghost use Rattle.redl_moves.specs.Marks.{marking_of, markings, edge_of, move_of, RisesFrom};
 ghost use Rattle.redl_moves.specs.Places.{move_begun, move_with_name};
-ghost use Rattle.redl_moves.specs.Inside.Sides.{IsSides};
+ghost use Rattle.redl_moves.specs.Inside.RangeIndexes.{AreRangeIndexes};
 
 use crate::marker::{Marker, MarkerKind, Move};
-use crate::side::Sides;
+use crate::range_index::RangeIndexes;
 use std::alloc::{AllocError, Global};
 
 /// The paired moves of a story with these markers, in the order of their source starts.
@@ -20,27 +20,27 @@ pub fn pair(alloc: Global, marks: &[Marker]) -> Result<Vec<Move>, AllocError>
     requires rising { RisesFrom 0 (markings marks.now) }
     ensures { IfOk result (λ moves. map move_of moves.items ≡ paired_moves (markings marks.now)) }
 {
-    let sides = Sides::of(alloc, marks)?;
-    let moves = paired(alloc, marks, &sides);
+    let ranges = RangeIndexes::of(alloc, marks)?;
+    let moves = paired(alloc, marks, &ranges);
 
     // The call has its proof once, and the end of a scope has one in each function.
-    drop(sides);
+    drop(ranges);
     moves
 }
 
-/// The paired moves of markers whose sides are these. `Err` means out of memory.
+/// The paired moves of markers whose ranges are these. `Err` means out of memory.
 pub(crate) fn paired<'a>(
     alloc: Global,
     marks: &'a [Marker],
-    sides: &Sides<'a>,
+    ranges: &RangeIndexes<'a>,
 ) -> Result<Vec<Move>, AllocError>
     requires rising { RisesFrom 0 (markings marks.now) }
-    requires sides { IsSides (markings marks.now) sides.now }
+    requires ranges { AreRangeIndexes (markings marks.now) ranges.now }
     ensures { IfOk result (λ moves. map move_of moves.items ≡ paired_moves (markings marks.now)) }
 {
     let mut moves = Vec::new(alloc);
     for mark in marks {
-        let begun = move_begun(mark, MarkerKind::FromStart, sides);
+        let begun = move_begun(mark, MarkerKind::FromStart, ranges);
         add(&mut moves, begun)?;
     }
     Ok(moves)
@@ -60,24 +60,28 @@ pub(crate) fn add(moves: &mut Vec<Move>, found: Option<Move>) -> Result<(), Allo
 }
 
 /// The move of a marker's name, where the marker is a start of this kind.
-pub(crate) fn move_begun<'a>(mark: &'a Marker, start: MarkerKind, sides: &Sides<'a>) -> Option<Move>
-    ensures { (marks : List Marking) → IsSides marks sides.now → option_map move_of result ≡ move_begun (edge_of start) marks (marking_of mark.now) }
+pub(crate) fn move_begun<'a>(
+    mark: &'a Marker,
+    start: MarkerKind,
+    ranges: &RangeIndexes<'a>,
+) -> Option<Move>
+    ensures { (marks : List Marking) → AreRangeIndexes marks ranges.now → option_map move_of result ≡ move_begun (edge_of start) marks (marking_of mark.now) }
 {
     if mark.kind != start {
         return None;
     }
     match &mark.name {
-        Some(name) => move_with_name(name.as_bytes(), sides),
+        Some(name) => move_with_name(name.as_bytes(), ranges),
         None => None,
     }
 }
 
 /// The move of a name.
-fn move_with_name<'a>(name: &'a [u8], sides: &Sides<'a>) -> Option<Move>
-    ensures { (marks : List Marking) → IsSides marks sides.now → option_map move_of result ≡ move_with_name marks name.now }
+fn move_with_name<'a>(name: &'a [u8], ranges: &RangeIndexes<'a>) -> Option<Move>
+    ensures { (marks : List Marking) → AreRangeIndexes marks ranges.now → option_map move_of result ≡ move_with_name marks name.now }
 {
-    let from = sides.source.range(name)?;
-    let to = sides.target.range(name)?;
+    let from = ranges.source.range(name)?;
+    let to = ranges.target.range(name)?;
     Some(Move {
         from_start: from.start,
         from_end: from.end,

@@ -6,7 +6,7 @@ ghost use Rattle.redl_moves.specs.Marks.{markings, RisesFrom};
 
 use crate::documents::WORDS;
 use redl_index::{StoryMarkers, find_markers};
-use redl_moves::{Half, Marker, Moves, Start, pair};
+use redl_moves::{Marker, Moves, Side, Start, pair};
 use redl_outline::outline_text;
 use redl_tree::{Node, count_nodes};
 use std::alloc::{AllocError, Global};
@@ -120,7 +120,7 @@ fn starts(alloc: Global, words: &str, at: u64) -> Result<(Option<Start>, Option<
     let text = story(alloc, words)?;
     let found = found_in(alloc, text.as_str())?;
     let moves = Moves::of(alloc, found.marks)?;
-    Ok((moves.open_at(Half::From, at), moves.at_marker(at)))
+    Ok((moves.open_at(Side::Source, at), moves.at_marker(at)))
 }
 
 #[test]

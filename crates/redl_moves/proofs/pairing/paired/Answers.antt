@@ -17,7 +17,7 @@ loop-mark-preserved c =
     let had = c.loop-mark.moves.items in
     ap (λ (ms : List Move). map move_of ms ++ filter_map (move_begun from_start whole) (markings (drop (i + 1) marks))) c.in_ok-add.ensures
     ∙ move-added whole marks i c.mark-item.result had c.move_begun-begun.result (omega (arith, c.loop-mark-test.true)) c.mark-item.is
-    (c.move_begun-begun.ensures whole c.requires.sides)
+    (c.move_begun-begun.ensures whole c.requires.ranges)
     ∙ c.loop-mark.invariant
 
 pub returns : goal.returns

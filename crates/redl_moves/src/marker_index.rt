@@ -4,7 +4,7 @@ ghost use Rattle.std.specs.Prelude.{◌≡◌, ◌^◌, ◌<◌, List, ℕ, leng
 ghost use Rattle.redl_moves.specs.Marks.{marking_of, markings, edge_of};
 ghost use Rattle.redl_moves.specs.Keys.{key_of, has_key};
 ghost use Rattle.redl_moves.specs.Places.{only_place};
-ghost use Rattle.redl_moves.specs.Inside.Seats.{seat, noted, noted_key, seat_place};
+ghost use Rattle.redl_moves.specs.Inside.MarkerIndexes.{at_key, noted, noted_key, one_place};
 
 use crate::marker::{Marker, MarkerKind};
 use indexmap::IndexMap;
@@ -19,7 +19,7 @@ pub(crate) enum Key {
 
 /// For each key the place of the only marker that has it, or `None` where several have it.
 #[derive(Drop)]
-pub(crate) struct Table<'a> {
+pub(crate) struct MarkerIndex<'a> {
     places: IndexMap<&'a [u8], Option<u32>>,
 }
 
@@ -39,31 +39,31 @@ impl Key {
     }
 }
 
-impl<'a> Table<'a> {
+impl<'a> MarkerIndex<'a> {
     /// The markers of this kind, by this key. `Err` means out of memory.
     pub(crate) fn of(
         alloc: Global,
         marks: &'a [Marker],
         kind: MarkerKind,
         by: Key,
-    ) -> Result<Table<'a>, AllocError>
+    ) -> Result<MarkerIndex<'a>, AllocError>
         requires few { length marks.now < 2 ^ 32 }
-        ensures { IfOk result (λ table. (key : List ℕ) → seat_place (seat table key) ≡ only_place (has_key by (edge_of kind) key) (markings marks.now)) }
+        ensures { IfOk result (λ index. (key : List ℕ) → one_place (at_key index key) ≡ only_place (has_key by (edge_of kind) key) (markings marks.now)) }
     {
-        let mut table = Table {
+        let mut index = MarkerIndex {
             places: IndexMap::new(alloc),
         };
         for place in 0..marks.len() {
             if let Some(key) = by.of(kind, &marks[place]) {
-                table.note(key, place as u32)?;
+                index.note(key, place as u32)?;
             }
         }
-        Ok(table)
+        Ok(index)
     }
 
     /// One more marker has this key. `Err` means out of memory.
     fn note(&mut self, key: &'a [u8], place: u32) -> Result<(), AllocError>
-        ensures { OnOk result ((other : List ℕ) → seat self.new other ≡ noted_key key.now other place (seat self.old other)) }
+        ensures { OnOk result ((other : List ℕ) → at_key self.new other ≡ noted_key key.now other place (at_key self.old other)) }
     {
         let only = self.only_with(key, place);
         self.places.insert(key, only)?;
@@ -72,7 +72,7 @@ impl<'a> Table<'a> {
 
     /// The place of the only marker with this key, once this place has it too.
     fn only_with(&self, key: &'a [u8], place: u32) -> Option<u32>
-        ensures { Some result ≡ noted place (seat self.now key.now) }
+        ensures { Some result ≡ noted place (at_key self.now key.now) }
     {
         match self.places.get(key) {
             Some(_) => None,
@@ -82,7 +82,7 @@ impl<'a> Table<'a> {
 
     /// The place of the only marker with this key.
     pub(crate) fn only(&self, key: &'a [u8]) -> Option<u32>
-        ensures { result ≡ seat_place (seat self.now key.now) }
+        ensures { result ≡ one_place (at_key self.now key.now) }
     {
         match self.places.get(key) {
             Some(place) => *place,

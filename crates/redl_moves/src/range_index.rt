@@ -1,0 +1,90 @@
+//! The ranges of moves by their ids and names: those that content moved from, and those that it moved to.
+
+ghost use Rattle.std.specs.Prelude.{◌≡◌, ◌^◌, ◌<◌, List, length, IfOk, option_map};
+ghost use Rattle.redl_tree.specs.Revisions.Moves.{Edge, Marking};
+ghost use Rattle.redl_moves.specs.Marks.{markings, edge_of};
+ghost use Rattle.redl_moves.specs.Places.{span_with_id, span_with_name};
+ghost use Rattle.redl_moves.specs.Inside.RangeIndexes.{IsRangeIndex, AreRangeIndexes, span_of};
+
+use crate::marker::{Marker, MarkerKind};
+use crate::marker_index::{Key, MarkerIndex};
+use std::alloc::{AllocError, Global};
+
+/// The places of a start and its end.
+#[derive(Clone, Copy, Debug, PartialEq, Eq)]
+pub(crate) struct Range {
+    pub(crate) start: u32,
+    pub(crate) end: u32,
+}
+
+/// The ranges that content moved from in a story, and those that it moved to.
+#[derive(Drop)]
+pub(crate) struct RangeIndexes<'a> {
+    pub(crate) source: RangeIndex<'a>,
+    pub(crate) target: RangeIndex<'a>,
+}
+
+/// The ranges of one side of the moves of a story, by the ids and names of their markers.
+#[derive(Drop)]
+pub(crate) struct RangeIndex<'a> {
+    marks: &'a [Marker],
+    named: MarkerIndex<'a>,
+    starts: MarkerIndex<'a>,
+    ends: MarkerIndex<'a>,
+}
+
+impl<'a> RangeIndexes<'a> {
+    /// The ranges of these markers: the sources, and the targets. `Err` means out of memory.
+    pub(crate) fn of(alloc: Global, marks: &'a [Marker]) -> Result<RangeIndexes<'a>, AllocError>
+        requires few { length marks.now < 2 ^ 32 }
+        ensures { IfOk result (AreRangeIndexes (markings marks.now)) }
+    {
+        Ok(RangeIndexes {
+            source: RangeIndex::of(alloc, marks, MarkerKind::FromStart, MarkerKind::FromEnd)?,
+            target: RangeIndex::of(alloc, marks, MarkerKind::ToStart, MarkerKind::ToEnd)?,
+        })
+    }
+}
+
+impl<'a> RangeIndex<'a> {
+    /// The ranges of these starts and ends. `Err` means out of memory.
+    fn of(
+        alloc: Global,
+        marks: &'a [Marker],
+        start: MarkerKind,
+        end: MarkerKind,
+    ) -> Result<RangeIndex<'a>, AllocError>
+        requires few { length marks.now < 2 ^ 32 }
+        ensures { IfOk result (IsRangeIndex (edge_of start) (edge_of end) (markings marks.now)) }
+    {
+        Ok(RangeIndex {
+            marks,
+            named: MarkerIndex::of(alloc, marks, start, Key::Name)?,
+            starts: MarkerIndex::of(alloc, marks, start, Key::Id)?,
+            ends: MarkerIndex::of(alloc, marks, end, Key::Id)?,
+        })
+    }
+
+    /// The range with this name.
+    pub(crate) fn range(&self, name: &'a [u8]) -> Option<Range>
+        ensures { (start end : Edge) (marks : List Marking) → IsRangeIndex start end marks self.now → option_map span_of result ≡ span_with_name start end marks name.now }
+    {
+        let named = self.marks.get(self.named.only(name)? as usize)?;
+        self.range_with_id(named.id.as_bytes())
+    }
+
+    /// The range with this id.
+    fn range_with_id(&self, id: &'a [u8]) -> Option<Range>
+        ensures { (start end : Edge) (marks : List Marking) → IsRangeIndex start end marks self.now → option_map span_of result ≡ span_with_id start end marks id.now }
+    {
+        let start = self.starts.only(id)?;
+        let end = self.ends.only(id)?;
+        let first = self.marks.get(start as usize)?;
+        let last = self.marks.get(end as usize)?;
+        if first.at < last.at && !first.loose && !last.loose {
+            Some(Range { start, end })
+        } else {
+            None
+        }
+    }
+}
