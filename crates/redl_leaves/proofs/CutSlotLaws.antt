@@ -1,8 +1,8 @@
 -- Members that cut a row or a cell, a slot at a time, and containers that are cut anew along a way.
 use Rattle.std.proofs.Common.{◌≡◌, ◌<◌, ◌≤◌, ◌+◌, ℕ, zero, suc, List, [], ◌∷◌, Bool, true, false, length, get_or, set, drop, refl, sym, ap, ◌∙◌, arith, ◌&&◌, ◌||◌, if◌then◌else◌}
 use Rattle.redl_tables.proofs.CutLaws.{has_cut-⊕, kids_of_all-⊕}
-use Rattle.redl_tables.specs.Lines.{test_of, name_of}
-use Rattle.redl_tables.specs.declared.cuts.Line.{Line}
+use Rattle.redl_tables.specs.Owners.{test_of, name_of}
+use Rattle.redl_tables.specs.declared.cuts.Owner.{Owner}
 use Rattle.redl_tree.specs.Decisions.Tables.{has_cut}
 use Rattle.redl_tree.specs.Leaves.Rebuilt.{original}
 use Rattle.redl_tree.specs.Leaves.States.{States, no_states, leaf_state, container_state, slots_of}
@@ -16,19 +16,19 @@ use Rattle.redl_leaves.specs.View.{SlotView, leaf_view, container_view, before, 
 use Rattle.redl_leaves.specs.declared.slots.Slot.{Slot}
 use Rattle.redl_leaves.proofs.ViewLaws.{states_here}
 
-pub member-before : (line : Line) (says : List Say) (x : SlotView) (rest : States) → member_slots line says (before x rest) ≡ (member_in line says x || member_slots line says rest)
-member-before line says (leaf_view leaf present) rest = has_cut-⊕ (test_of line) says leaf.nodes (original (slots_of rest))
-member-before line says (container_view tag tally inner) rest = refl
+pub member-before : (owner : Owner) (says : List Say) (x : SlotView) (rest : States) → member_slots owner says (before x rest) ≡ (member_in owner says x || member_slots owner says rest)
+member-before owner says (leaf_view leaf present) rest = has_cut-⊕ (test_of owner) says leaf.nodes (original (slots_of rest))
+member-before owner says (container_view tag tally inner) rest = refl
 
-pub cut-before : (line : Line) (says : List Say) (x : SlotView) (rest : States) → cut_slots line says (before x rest) ≡ (cut_in line says x || cut_slots line says rest)
-cut-before line says (leaf_view leaf present) rest =
-    ap (has_cut (test_of line) says) (kids_of_all-⊕ (name_of line) leaf.nodes (original (slots_of rest)))
-    ∙ has_cut-⊕ (test_of line) says (kids_of_all (name_of line) leaf.nodes) (kids_of_all (name_of line) (original (slots_of rest)))
-cut-before line says (container_view tag tally inner) rest = at (is (name_of line) tag)
+pub cut-before : (owner : Owner) (says : List Say) (x : SlotView) (rest : States) → cut_slots owner says (before x rest) ≡ (cut_in owner says x || cut_slots owner says rest)
+cut-before owner says (leaf_view leaf present) rest =
+    ap (has_cut (test_of owner) says) (kids_of_all-⊕ (name_of owner) leaf.nodes (original (slots_of rest)))
+    ∙ has_cut-⊕ (test_of owner) says (kids_of_all (name_of owner) leaf.nodes) (kids_of_all (name_of owner) (original (slots_of rest)))
+cut-before owner says (container_view tag tally inner) rest = at (is (name_of owner) tag)
   where
-    at : (b : Bool) → has_cut (test_of line) says (if b then original (slots_of inner) ⊕ kids_of_all (name_of line) (original (slots_of rest)) else kids_of_all (name_of line) (original (slots_of rest)))
-        ≡ ((b && member_slots line says inner) || cut_slots line says rest)
-    at true = has_cut-⊕ (test_of line) says (original (slots_of inner)) (kids_of_all (name_of line) (original (slots_of rest)))
+    at : (b : Bool) → has_cut (test_of owner) says (if b then original (slots_of inner) ⊕ kids_of_all (name_of owner) (original (slots_of rest)) else kids_of_all (name_of owner) (original (slots_of rest)))
+        ≡ ((b && member_slots owner says inner) || cut_slots owner says rest)
+    at true = has_cut-⊕ (test_of owner) says (original (slots_of inner)) (kids_of_all (name_of owner) (original (slots_of rest)))
     at false = refl
 
 -- one step of a loop over slots that looks for one of which a test holds

@@ -4,7 +4,7 @@ ghost use Rattle.std.specs.Prelude.{◌≡◌, ◌&&◌};
 ghost use Rattle.redl_leaves.specs.Inside.Cuts.{cut_slots, cut_in, member_slots, member_in};
 ghost use Rattle.redl_leaves.specs.Inside.Mends.{recut, recut_in};
 ghost use Rattle.redl_leaves.specs.View.{states_of, view_of, container_of};
-ghost use Rattle.redl_tables.specs.Lines.{test_of, name_of};
+ghost use Rattle.redl_tables.specs.Owners.{test_of, name_of};
 ghost use Rattle.redl_tree.specs.Decisions.Fates.{fate_of as fate_by};
 ghost use Rattle.redl_tree.specs.Leaves.Living.{cut_at};
 ghost use Rattle.redl_tree.specs.Leaves.Rebuilt.{original};
@@ -14,7 +14,7 @@ ghost use Rattle.redl_tree.specs.Roles.Kinds.{is_cut as is_cut_fate};
 ghost use Rattle.redl_tree.specs.Roles.Names.{is};
 
 use crate::slots::{Container, Slot, Tally};
-use redl_tables::{Line, fate_of, has_cut_member, is_cut, is_member};
+use redl_tables::{Owner, fate_of, has_cut_member, is_cut, is_member};
 use redl_tree::{Elem, Fate, Say, Word, is_word};
 
 /// Whether a row or a cell with this element and these slots is cut by a member of its own.
@@ -22,82 +22,82 @@ fn is_cut_now(elem: &Elem, slots: &[Slot], says: &[Say]) -> bool
     ensures { result ≡ cut_at says.now (tag_of elem.now) (original (slots_of (states_of slots.now))) }
 {
     if is_word(elem, Word::Tc) {
-        return are_cut(slots, Line::Cell, says);
+        return are_cut(slots, Owner::Cell, says);
     }
     if is_word(elem, Word::Tr) {
-        return are_cut(slots, Line::Row, says);
+        return are_cut(slots, Owner::Row, says);
     }
     false
 }
 
 // Whether a member of this sort is cut in the properties among the slots.
-fn are_cut(slots: &[Slot], line: Line, says: &[Say]) -> bool
-    ensures { result ≡ cut_slots line says.now (states_of slots.now) }
+fn are_cut(slots: &[Slot], owner: Owner, says: &[Say]) -> bool
+    ensures { result ≡ cut_slots owner says.now (states_of slots.now) }
 {
     for slot in slots {
-        if cuts_in(slot, line, says) {
+        if cuts_in(slot, owner, says) {
             return true;
         }
     }
     false
 }
 
-fn cuts_in(slot: &Slot, line: Line, says: &[Say]) -> bool
-    ensures { result ≡ cut_in line says.now (view_of slot.now) }
+fn cuts_in(slot: &Slot, owner: Owner, says: &[Say]) -> bool
+    ensures { result ≡ cut_in owner says.now (view_of slot.now) }
 {
     match slot {
-        Slot::Leaf(leaf) => is_cut(&leaf.original, line, says),
-        Slot::Container(container) => cuts_below(container, line, says),
+        Slot::Leaf(leaf) => is_cut(&leaf.original, owner, says),
+        Slot::Container(container) => cuts_below(container, owner, says),
     }
 }
 
 // No container is the properties of a row or a cell, so this looks at its name alone.
-fn cuts_below(container: &Container, line: Line, says: &[Say]) -> bool
-    ensures { result ≡ cut_in line says.now (container_of container.now) }
+fn cuts_below(container: &Container, owner: Owner, says: &[Say]) -> bool
+    ensures { result ≡ cut_in owner says.now (container_of container.now) }
 {
-    is_props(&container.elem, line) && have_cut_member(&container.slots, line, says)
+    is_props(&container.elem, owner) && have_cut_member(&container.slots, owner, says)
 }
 
-fn is_props(elem: &Elem, line: Line) -> bool
-    ensures { result ≡ is (name_of line) (tag_of elem.now) }
+fn is_props(elem: &Elem, owner: Owner) -> bool
+    ensures { result ≡ is (name_of owner) (tag_of elem.now) }
 {
-    match line {
-        Line::Mark => is_word(elem, Word::RPr),
-        Line::Row => is_word(elem, Word::TrPr),
-        Line::Cell => is_word(elem, Word::TcPr),
+    match owner {
+        Owner::Mark => is_word(elem, Word::RPr),
+        Owner::Row => is_word(elem, Word::TrPr),
+        Owner::Cell => is_word(elem, Word::TcPr),
     }
 }
 
-fn have_cut_member(slots: &[Slot], line: Line, says: &[Say]) -> bool
-    ensures { result ≡ member_slots line says.now (states_of slots.now) }
+fn have_cut_member(slots: &[Slot], owner: Owner, says: &[Say]) -> bool
+    ensures { result ≡ member_slots owner says.now (states_of slots.now) }
 {
     for slot in slots {
-        if has_member_in(slot, line, says) {
+        if has_member_in(slot, owner, says) {
             return true;
         }
     }
     false
 }
 
-fn has_member_in(slot: &Slot, line: Line, says: &[Say]) -> bool
-    ensures { result ≡ member_in line says.now (view_of slot.now) }
+fn has_member_in(slot: &Slot, owner: Owner, says: &[Say]) -> bool
+    ensures { result ≡ member_in owner says.now (view_of slot.now) }
 {
     match slot {
-        Slot::Leaf(leaf) => has_cut_member(&leaf.original, line, says),
-        Slot::Container(container) => is_cut_member_of(container, line, says),
+        Slot::Leaf(leaf) => has_cut_member(&leaf.original, owner, says),
+        Slot::Container(container) => is_cut_member_of(container, owner, says),
     }
 }
 
-fn is_cut_member_of(container: &Container, line: Line, says: &[Say]) -> bool
-    ensures { result ≡ member_in line says.now (container_of container.now) }
+fn is_cut_member_of(container: &Container, owner: Owner, says: &[Say]) -> bool
+    ensures { result ≡ member_in owner says.now (container_of container.now) }
 {
-    is_cut_member(&container.elem, line, says)
+    is_cut_member(&container.elem, owner, says)
 }
 
-fn is_cut_member(elem: &Elem, line: Line, says: &[Say]) -> bool
-    ensures { result ≡ test_of line (tag_of elem.now).kind && is_cut_fate (fate_by says.now (tag_of elem.now)) }
+fn is_cut_member(elem: &Elem, owner: Owner, says: &[Say]) -> bool
+    ensures { result ≡ test_of owner (tag_of elem.now).kind && is_cut_fate (fate_by says.now (tag_of elem.now)) }
 {
-    is_member(elem.kind(), line) && fate_of(says, elem) == Fate::Cut
+    is_member(elem.kind(), owner) && fate_of(says, elem) == Fate::Cut
 }
 
 /// Says of each container on a way whether it is cut, under these says.

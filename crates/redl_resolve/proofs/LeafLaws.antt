@@ -9,7 +9,7 @@ use Rattle.redl_tree.specs.Decisions.Tables.{own}
 use Rattle.redl_tree.specs.declared.kinds.Say.{Say}
 use Rattle.redl_tree.specs.declared.lists.Reach.{Reach}
 use Rattle.redl_tables.specs.Asked.{answer}
-use Rattle.redl_tables.specs.Lines.{unit_name, unit_goes, found_of}
+use Rattle.redl_tables.specs.Owners.{unit_name, unit_goes, found_of}
 use Rattle.redl_tables.specs.declared.owned.Finding.TheVariants.{Nothing}
 use Rattle.redl_tables.specs.declared.questions.Question.{Question}
 

@@ -18,9 +18,9 @@ use Rattle.redl_tree.specs.declared.kinds.Say.{Say}
 use Rattle.redl_tree.specs.declared.kinds.Kind.{Kind}
 use Rattle.redl_tree.specs.declared.lists.Reach.{Reach}
 use Rattle.redl_tree.specs.declared.lists.Reach.TheVariants.{Beyond}
-use Rattle.redl_tables.specs.Lines.{test_of, name_of, item_cuts, item_cuts_below, item_cuts_para, unit_name, unit_goes, and_then, found_of, is_gone, is_living, item_found}
-use Rattle.redl_tables.specs.declared.cuts.Line.{Line}
-use Rattle.redl_tables.specs.declared.cuts.Line.TheVariants.{Mark, Row, Cell}
+use Rattle.redl_tables.specs.Owners.{test_of, name_of, item_cuts, item_cuts_below, item_cuts_para, unit_name, unit_goes, and_then, found_of, is_gone, is_living, item_found}
+use Rattle.redl_tables.specs.declared.cuts.Owner.{Owner}
+use Rattle.redl_tables.specs.declared.cuts.Owner.TheVariants.{Mark, Row, Cell}
 use Rattle.redl_tables.specs.declared.owned.Unit.{Unit as Own}
 use Rattle.redl_tables.specs.declared.owned.Unit.TheVariants as unit
 use Rattle.redl_tables.specs.declared.owned.Finding.{Finding}
@@ -44,12 +44,12 @@ kids_of_all-⊕ name (element tag kids rest) ys = at (is name tag) (kids_of_all-
     at false ih = ih
 
 -- idle elements are no members, hold none, and are no rows or cells
-no_member : (line : Line) (says : List Say) → NoneIs false (λ tag. test_of line tag.kind && is_cut (fate_of says tag))
+no_member : (owner : Owner) (says : List Say) → NoneIs false (λ tag. test_of owner tag.kind && is_cut (fate_of says tag))
 no_member Mark says tag i = ap (λ k. is_mark k && is_cut (fate_of says tag)) i.kind
 no_member Row says tag i = ap (λ k. is_row k && is_cut (fate_of says tag)) i.kind
 no_member Cell says tag i = ap (λ k. is_cell k && is_cut (fate_of says tag)) i.kind
 
-no_holder : (line : Line) → NoneIs false (is (name_of line))
+no_holder : (owner : Owner) → NoneIs false (is (name_of owner))
 no_holder Mark = name_none "rPr" false refl
 no_holder Row = name_none "trPr" false refl
 no_holder Cell = name_none "tcPr" false refl
@@ -58,11 +58,11 @@ no_unit : (what : Own) (in_run : Bool) → NoneIs in_run (is (unit_name what))
 no_unit unit.Row in_run = name_none "tr" in_run refl
 no_unit unit.Cell in_run = name_none "tc" in_run refl
 
-pub cuts-in_front : (line : Line) (says : List Say) (x : Item) (ys : Nodes)
-    → has_cut (test_of line) says (in_front x ys) ≡ (item_cuts line says x || has_cut (test_of line) says ys)
-cuts-in_front line says (bytes_item b) ys = refl
-cuts-in_front line says (element_item tag kids) ys = refl
-cuts-in_front line says (idle_item t) ys = some_past false _ (no_member line says) (idle_nodes t) ys (nodes_are_idle t)
+pub cuts-in_front : (owner : Owner) (says : List Say) (x : Item) (ys : Nodes)
+    → has_cut (test_of owner) says (in_front x ys) ≡ (item_cuts owner says x || has_cut (test_of owner) says ys)
+cuts-in_front owner says (bytes_item b) ys = refl
+cuts-in_front owner says (element_item tag kids) ys = refl
+cuts-in_front owner says (idle_item t) ys = some_past false _ (no_member owner says) (idle_nodes t) ys (nodes_are_idle t)
 
 -- the kids of all elements with a name, with a test of nodes that goes through
 below : (test : Kind → Bool) (says : List Say) (b : Bool) (kids more : Nodes)
@@ -70,12 +70,12 @@ below : (test : Kind → Bool) (says : List Say) (b : Bool) (kids more : Nodes)
 below test says true kids more = has_cut-⊕ test says kids more
 below test says false kids more = refl
 
-pub below-in_front : (line : Line) (says : List Say) (x : Item) (ys : Nodes)
-    → has_cut (test_of line) says (kids_of_all (name_of line) (in_front x ys)) ≡ (item_cuts_below line says x || has_cut (test_of line) says (kids_of_all (name_of line) ys))
-below-in_front line says (bytes_item b) ys = refl
-below-in_front line says (idle_item t) ys =
-    ap (has_cut (test_of line) says) (kids_of_all_past false (name_of line) (no_holder line) (idle_nodes t) ys (nodes_are_idle t))
-below-in_front line says (element_item tag kids) ys = below (test_of line) says (is (name_of line) tag) kids (kids_of_all (name_of line) ys)
+pub below-in_front : (owner : Owner) (says : List Say) (x : Item) (ys : Nodes)
+    → has_cut (test_of owner) says (kids_of_all (name_of owner) (in_front x ys)) ≡ (item_cuts_below owner says x || has_cut (test_of owner) says (kids_of_all (name_of owner) ys))
+below-in_front owner says (bytes_item b) ys = refl
+below-in_front owner says (idle_item t) ys =
+    ap (has_cut (test_of owner) says) (kids_of_all_past false (name_of owner) (no_holder owner) (idle_nodes t) ys (nodes_are_idle t))
+below-in_front owner says (element_item tag kids) ys = below (test_of owner) says (is (name_of owner) tag) kids (kids_of_all (name_of owner) ys)
 
 pub para-in_front : (says : List Say) (x : Item) (ys : Nodes) → para_is_cut says (in_front x ys) ≡ (item_cuts_para says x || para_is_cut says ys)
 para-in_front says (bytes_item b) ys = refl

@@ -2,7 +2,7 @@
 
 ghost use Rattle.std.specs.Prelude.{◌≡◌, true, false};
 ghost use Rattle.std.specs.List.{list_all};
-ghost use Rattle.redl_tables.specs.Lines.{shell_unit, unit_goes, unit_name};
+ghost use Rattle.redl_tables.specs.Owners.{shell_unit, unit_goes, unit_name};
 ghost use Rattle.redl_tree.specs.Roles.Lists.{into, is_wrapper};
 ghost use Rattle.redl_tree.specs.Roles.Names.{is};
 ghost use Rattle.redl_tree.specs.Decisions.Tables.{goes as goes_by, all_of_some, cell_is_cut, has_own, own, row_goes};

@@ -1,13 +1,13 @@
 //! The own rows of a table and the own cells of a row, and whether they go (ECMA-376 Part 1, 17.4).
 
 ghost use Rattle.std.specs.Prelude.{◌≡◌, ◌&&◌, if◌then◌else◌};
-ghost use Rattle.redl_tables.specs.Lines.{unit_name, unit_goes, found_of, and_then, item_found, elem_found, is_gone, is_living};
+ghost use Rattle.redl_tables.specs.Owners.{unit_name, unit_goes, found_of, and_then, item_found, elem_found, is_gone, is_living};
 ghost use Rattle.redl_tree.specs.Roles.Lists.{is_direct};
 ghost use Rattle.redl_tree.specs.Roles.Names.{is};
 ghost use Rattle.redl_tree.specs.Decisions.Tables.{own, row_goes as row_goes_by};
 ghost use Rattle.redl_tree.specs.Model.View.{nodes_of, item_of, tag_of, kids_of};
 
-use crate::cuts::{Line, is_cut};
+use crate::cuts::{Owner, is_cut};
 use redl_tree::{Elem, Node, Reach, Say, Word, is_word};
 
 /// What a table or a row owns: rows or cells.
@@ -136,7 +136,7 @@ pub(crate) fn goes_itself(kids: &[Node], unit: Unit, says: &[Say]) -> bool
 {
     match unit {
         Unit::Row => row_goes(kids, says),
-        Unit::Cell => is_cut(kids, Line::Cell, says),
+        Unit::Cell => is_cut(kids, Owner::Cell, says),
     }
 }
 
@@ -145,5 +145,5 @@ pub(crate) fn goes_itself(kids: &[Node], unit: Unit, says: &[Say]) -> bool
 fn row_goes(kids: &[Node], says: &[Say]) -> bool
     ensures { result ≡ row_goes_by says.now (nodes_of kids.now) }
 {
-    is_cut(kids, Line::Row, says) || found(kids, Unit::Cell, Reach::Direct, says).is_gone()
+    is_cut(kids, Owner::Row, says) || found(kids, Unit::Cell, Reach::Direct, says).is_gone()
 }

@@ -2,7 +2,7 @@
 
 ghost use Rattle.std.specs.Prelude.{◌≡◌, ◌&&◌, ◌||◌, [], unwrap_or};
 ghost use Rattle.redl_tables.specs.Asked.{asked, asked_inside, answer};
-ghost use Rattle.redl_tables.specs.Lines.{elem_found, unit_name};
+ghost use Rattle.redl_tables.specs.Owners.{elem_found, unit_name};
 ghost use Rattle.redl_tree.specs.Roles.Lists.{is_direct};
 ghost use Rattle.redl_tree.specs.Roles.Names.{is};
 ghost use Rattle.redl_tree.specs.Model.View.{tag_of, kids_of};

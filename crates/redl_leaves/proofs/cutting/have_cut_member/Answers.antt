@@ -6,15 +6,15 @@ use Rattle.redl_leaves.proofs.cutting.have_cut_member.Goals as goal
 
 pub loop-slot-preserved : goal.loop-slot-preserved
 loop-slot-preserved c =
-    sym (step (member_slots c.args.line c.args.says.now) (member_in c.args.line c.args.says.now) (member-before c.args.line c.args.says.now) c.args.slots.now c.loop-slot.slot-index c.slot-item.result false (omega arith) c.slot-item.is
+    sym (step (member_slots c.args.owner c.args.says.now) (member_in c.args.owner c.args.says.now) (member-before c.args.owner c.args.says.now) c.args.slots.now c.loop-slot.slot-index c.slot-item.result false (omega arith) c.slot-item.is
     (sym c.has_member_in.ensures ∙ c.if-has_member_in.false))
     ∙ c.loop-slot.invariant
 
 pub returns-then-has_member_in : goal.returns-then-has_member_in
 returns-then-has_member_in c =
-    sym (step (member_slots c.args.line c.args.says.now) (member_in c.args.line c.args.says.now) (member-before c.args.line c.args.says.now) c.args.slots.now c.loop-slot.slot-index c.slot-item.result true (omega arith) c.slot-item.is
+    sym (step (member_slots c.args.owner c.args.says.now) (member_in c.args.owner c.args.says.now) (member-before c.args.owner c.args.says.now) c.args.slots.now c.loop-slot.slot-index c.slot-item.result true (omega arith) c.slot-item.is
     (sym c.has_member_in.ensures ∙ c.if-has_member_in.true))
     ∙ c.loop-slot.invariant
 
 pub returns : goal.returns
-returns c = sym (ap (member_slots c.args.line c.args.says.now) (states_end c.args.slots.now c.loop-slot.slot-index (omega arith))) ∙ c.loop-slot.invariant
+returns c = sym (ap (member_slots c.args.owner c.args.says.now) (states_end c.args.slots.now c.loop-slot.slot-index (omega arith))) ∙ c.loop-slot.invariant

@@ -11,35 +11,35 @@ use Rattle.redl_tree.specs.Decisions.Tables.{own, has_cut, row_goes, cell_is_cut
 use Rattle.redl_tree.specs.declared.kinds.Say.{Say}
 use Rattle.redl_tree.specs.declared.kinds.Kind.{Kind}
 use Rattle.redl_tree.specs.declared.lists.Reach.{Reach}
-use Rattle.redl_tables.specs.declared.cuts.Line.{Line}
-use Rattle.redl_tables.specs.declared.cuts.Line.TheVariants.{Mark, Row, Cell}
+use Rattle.redl_tables.specs.declared.cuts.Owner.{Owner}
+use Rattle.redl_tables.specs.declared.cuts.Owner.TheVariants.{Mark, Row, Cell}
 use Rattle.redl_tables.specs.declared.owned.Unit.{Unit as Own}
 use Rattle.redl_tables.specs.declared.owned.Unit.TheVariants as unit
 use Rattle.redl_tables.specs.declared.owned.Finding.{Finding}
 use Rattle.redl_tables.specs.declared.owned.Finding.TheVariants.{Nothing, Gone, Living}
 
-abbrev pub test_of : Line → Kind → Bool
+abbrev pub test_of : Owner → Kind → Bool
 test_of Mark kind = is_mark kind
 test_of Row kind = is_row kind
 test_of Cell kind = is_cell kind
 
 -- the properties that hold such members
-abbrev pub name_of : Line → String
+abbrev pub name_of : Owner → String
 name_of Mark = "rPr"
 name_of Row = "trPr"
 name_of Cell = "tcPr"
 
 -- the node is such a member, and cut
-abbrev pub item_cuts : Line → List Say → Item → Bool
-item_cuts line says (bytes_item b) = false
-item_cuts line says (idle_item t) = false
-item_cuts line says (element_item tag kids) = test_of line tag.kind && is_cut (fate_of says tag)
+abbrev pub item_cuts : Owner → List Say → Item → Bool
+item_cuts owner says (bytes_item b) = false
+item_cuts owner says (idle_item t) = false
+item_cuts owner says (element_item tag kids) = test_of owner tag.kind && is_cut (fate_of says tag)
 
 -- the node is properties that hold such a member
-abbrev pub item_cuts_below : Line → List Say → Item → Bool
-item_cuts_below line says (bytes_item b) = false
-item_cuts_below line says (idle_item t) = false
-item_cuts_below line says (element_item tag kids) = is (name_of line) tag && has_cut (test_of line) says kids
+abbrev pub item_cuts_below : Owner → List Say → Item → Bool
+item_cuts_below owner says (bytes_item b) = false
+item_cuts_below owner says (idle_item t) = false
+item_cuts_below owner says (element_item tag kids) = is (name_of owner) tag && has_cut (test_of owner) says kids
 
 -- the node is a paragraph's properties, with such a member in those of its mark
 abbrev pub item_cuts_para : List Say → Item → Bool
