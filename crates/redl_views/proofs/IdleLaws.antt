@@ -19,7 +19,7 @@ use Rattle.redl_tree.proofs.Idle.Tags.{Idle, idle_parts, has-not}
 use Rattle.redl_tree.proofs.Idle.Lists.{thick_none}
 use Rattle.redl_tree.proofs.Idle.Items.{nodes_are_idle, element_among}
 use Rattle.redl_tables.specs.Places.{is_block_para, is_cell_list, may_go, goes_at}
-use Rattle.redl_tables.specs.Ancestors.{revives}
+use Rattle.redl_tables.specs.DecidedAncestors.{revives}
 use Rattle.redl_shown.specs.Shown.{shown}
 use Rattle.redl_idle.specs.Shows.{shows}
 use Rattle.redl_idle.proofs.RoleLaws.{name_same, quiet_same}

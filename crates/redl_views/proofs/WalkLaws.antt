@@ -17,7 +17,7 @@ use Rattle.redl_tree.specs.declared.kinds.Fate.TheVariants.{Leave, Free, Cut, Cl
 use Rattle.redl_tree.proofs.Named.{by_name}
 use Rattle.redl_tree.proofs.Fits.{AllFit, open_fits, open_∷}
 use Rattle.redl_tree.proofs.PassLaws.{block_p}
-use Rattle.redl_tables.specs.Ancestors.{ancestors_of}
+use Rattle.redl_tables.specs.DecidedAncestors.{ancestors_of}
 use Rattle.redl_tables.specs.Places as by_place
 use Rattle.redl_views.specs.declared.summary.Summary.{Summary}
 use Rattle.redl_views.specs.declared.next.Next.{Next}

@@ -13,8 +13,8 @@ use Rattle.redl_tree.specs.Decisions.Fates.{fate_of}
 use Rattle.redl_tree.specs.Decisions.Tables.{para_is_cut}
 use Rattle.redl_tree.specs.Decisions.Packages.{stories}
 use Rattle.redl_tree.specs.declared.kinds.Say.{Say}
-use Rattle.redl_tables.specs.Ancestors.{ancestors_of, revives}
-use Rattle.redl_tables.specs.Ancestors as known
+use Rattle.redl_tables.specs.DecidedAncestors.{ancestors_of, revives}
+use Rattle.redl_tables.specs.DecidedAncestors as known
 use Rattle.redl_tables.specs.Places.{goes_at, is_block_para}
 use Rattle.redl_views.specs.PlainText.{start_shown, end_shown}
 use Rattle.redl_shown.specs.Shown.{shown}

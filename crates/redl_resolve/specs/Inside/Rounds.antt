@@ -3,8 +3,8 @@ use Rattle.std.specs.Prelude.{List, [], ◌∷◌, ◌&&◌, not}
 use Rattle.redl_tree.specs.Model.Nodes.{Tag}
 use Rattle.redl_tree.specs.Roles.Places.{within, in_para_props}
 use Rattle.redl_tree.specs.Roles.Names.{is}
-use Rattle.redl_tables.specs.Ancestors.{ancestors_of}
-use Rattle.redl_tables.specs.Ancestors as known
+use Rattle.redl_tables.specs.DecidedAncestors.{ancestors_of}
+use Rattle.redl_tables.specs.DecidedAncestors as known
 use Rattle.redl_tables.specs.Asked.{asked, asked_inside}
 use Rattle.redl_tree.specs.declared.kinds.Say.{Say}
 use Rattle.redl_resolve.specs.declared.rounds.Round.{Round}

@@ -1,7 +1,7 @@
 use Rattle.std.proofs.Common.{[], false, ap, ◌∙◌}
 use Rattle.redl_resolve.specs.Inside.Rounds.{inside_of}
 use Rattle.redl_tables.specs.Asked.{asked}
-use Rattle.redl_tables.specs.declared.ancestors.Ancestors.{Ancestors}
+use Rattle.redl_tables.specs.declared.decided_ancestors.DecidedAncestors.{DecidedAncestors}
 use Rattle.redl_tree.specs.Model.View.{tag_of}
 use Rattle.redl_resolve.proofs.rounds.in_root.Goals as goal
 
@@ -11,4 +11,4 @@ returns c =
     let tag = tag_of c.args.root.now in
     c.inside.ensures says c.fate_of.ensures
     ∙ ap (inside_of says tag) c.beginning.ensures
-    ∙ ap (λ (known : Ancestors). inside_of says tag (record { ancestors = known; para = false; para_props = false; asked = asked [] })) (c.none.ensures says)
+    ∙ ap (λ (known : DecidedAncestors). inside_of says tag (record { ancestors = known; para = false; para_props = false; asked = asked [] })) (c.none.ensures says)

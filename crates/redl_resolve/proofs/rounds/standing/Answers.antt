@@ -2,7 +2,7 @@ use Rattle.std.proofs.Common.{◌≡◌, Bool, true, false, List, [], refl, ap, 
 use Rattle.redl_resolve.specs.Inside.Rounds.{round_of}
 use Rattle.redl_resolve.specs.declared.rounds.Round.{Round}
 use Rattle.redl_tables.specs.Asked.{asked}
-use Rattle.redl_tables.specs.declared.ancestors.Ancestors.{Ancestors}
+use Rattle.redl_tables.specs.declared.decided_ancestors.DecidedAncestors.{DecidedAncestors}
 use Rattle.redl_tree.specs.Leaves.Present.{stand_ins}
 use Rattle.redl_tree.specs.Roles.Lists.{place}
 use Rattle.redl_tree.specs.declared.lists.Place.{Place}
@@ -11,10 +11,10 @@ use Rattle.redl_tree.specs.declared.kinds.Say.{Say}
 use Rattle.redl_resolve.proofs.rounds.standing.Goals as goal
 
 -- where nothing is asked and no parent is a paragraph
-abbrev beginning : Ancestors → Round
+abbrev beginning : DecidedAncestors → Round
 beginning known = record { ancestors = known; para = false; para_props = false; asked = asked [] }
 
-abbrev known_at : Place → Ancestors
+abbrev known_at : Place → DecidedAncestors
 known_at here = record { site = record { quiet = false; place = here }; freed = false; left = false }
 
 stands : (says : List Say) (among_blocks : Bool) → beginning (known_at (place (stand_ins among_blocks))) ≡ round_of says (stand_ins among_blocks)
@@ -25,6 +25,6 @@ pub returns : goal.returns
 returns c = λ says.
     c.beginning.ensures
     ∙ ap (λ (site : Site). beginning (record c.none-2.result { site = record site { place = c.standing_place.result } })) c.none.ensures
-    ∙ ap (λ (known : Ancestors). beginning (record known { site = record { quiet = false; place = c.standing_place.result } })) (c.none-2.ensures says)
+    ∙ ap (λ (known : DecidedAncestors). beginning (record known { site = record { quiet = false; place = c.standing_place.result } })) (c.none-2.ensures says)
     ∙ ap (λ (here : Place). beginning (known_at here)) c.standing_place.ensures
     ∙ stands says c.args.among_blocks

@@ -6,7 +6,7 @@ use Rattle.redl_tree.specs.Roles.Kinds.{is_old_content, is_free, is_leave}
 use Rattle.redl_tree.specs.Roles.Sites.{site_of, site_inside}
 use Rattle.redl_tree.specs.Decisions.Fates.{fate_of}
 use Rattle.redl_tree.specs.declared.kinds.Say.{Say}
-use Rattle.redl_tables.specs.declared.ancestors.Ancestors.{Ancestors}
+use Rattle.redl_tables.specs.declared.decided_ancestors.DecidedAncestors.{DecidedAncestors}
 
 -- a content revision of old matter that is freed
 abbrev pub frees : List Say → Tag → Bool
@@ -16,7 +16,7 @@ frees says tag = is_old_content tag.kind && is_free (fate_of says tag)
 abbrev pub leaves : List Say → Tag → Bool
 leaves says tag = is_old_content tag.kind && is_leave (fate_of says tag)
 
-abbrev pub ancestors_of : List Say → List Tag → Ancestors
+abbrev pub ancestors_of : List Say → List Tag → DecidedAncestors
 ancestors_of says ancestors = record {
   site = site_of ancestors;
   freed = list_any (frees says) ancestors;
@@ -24,7 +24,7 @@ ancestors_of says ancestors = record {
 }
 
 -- the same for the kids of an element
-abbrev pub inside_of : List Say → Tag → Ancestors → Ancestors
+abbrev pub inside_of : List Say → Tag → DecidedAncestors → DecidedAncestors
 inside_of says tag summary = record {
   site = site_inside tag summary.site;
   freed = frees says tag || summary.freed;
@@ -32,5 +32,5 @@ inside_of says tag summary = record {
 }
 
 -- deleted text is live again there
-abbrev pub revives : Ancestors → Bool
+abbrev pub revives : DecidedAncestors → Bool
 revives summary = not summary.site.quiet && summary.freed && not summary.left
