@@ -2,7 +2,7 @@
 
 ghost use Rattle.std.specs.Prelude.{◌≡◌, IfOk};
 ghost use Rattle.redl_tree.specs.Model.Kids.{only, without, item_is};
-ghost use Rattle.redl_tree.specs.Decisions.Restored.{outlasts as outlasts_tag};
+ghost use Rattle.redl_tree.specs.Decisions.Restored.{is_uncovered as is_uncovered_tag};
 ghost use Rattle.redl_tree.specs.Model.View.{nodes_of, item_of, tag_of};
 
 use redl_tree::{Elem, Node, Prop, Word, copy_node, is_word};
@@ -12,19 +12,19 @@ use std::alloc::{AllocError, Global};
 ///
 /// All other kids stay, in their order. It takes no memory.
 pub fn without_marks(kids: Vec<Node>) -> Vec<Node>
-    ensures { nodes_of result.items ≡ without (outlasts_tag Prop.Run) (nodes_of kids.entry.items) }
+    ensures { nodes_of result.items ≡ without (is_uncovered_tag Prop.Run) (nodes_of kids.entry.items) }
 {
     let mut kids = kids;
-    kids.retain(|node| !node_outlasts(node, Prop::Run));
+    kids.retain(|node| !is_uncovered_node(node, Prop::Run));
     kids
 }
 
 /// The present kids that no change of these properties covers.
 pub(crate) fn retained(current: Vec<Node>, what: Prop) -> Vec<Node>
-    ensures { nodes_of result.items ≡ only (outlasts_tag what) (nodes_of current.entry.items) }
+    ensures { nodes_of result.items ≡ only (is_uncovered_tag what) (nodes_of current.entry.items) }
 {
     let mut kids = current;
-    kids.retain(|node| node_outlasts(node, what));
+    kids.retain(|node| is_uncovered_node(node, what));
     kids
 }
 
@@ -34,30 +34,30 @@ pub(crate) fn copied<'a>(
     former: &[Node<'a>],
     what: Prop,
 ) -> Result<Vec<Node<'a>>, AllocError>
-    ensures { IfOk result (λ kids. nodes_of kids.items ≡ without (outlasts_tag what) (nodes_of former.now)) }
+    ensures { IfOk result (λ kids. nodes_of kids.items ≡ without (is_uncovered_tag what) (nodes_of former.now)) }
 {
     let mut copied = Vec::with_capacity(alloc, former.len())?;
     for node in former {
-        if !node_outlasts(node, what) {
+        if !is_uncovered_node(node, what) {
             copied.push(copy_node(alloc, node)?)?;
         }
     }
     Ok(copied)
 }
 
-fn node_outlasts(node: &Node, what: Prop) -> bool
-    ensures { result ≡ item_is (outlasts_tag what) (item_of node.now) }
+fn is_uncovered_node(node: &Node, what: Prop) -> bool
+    ensures { result ≡ item_is (is_uncovered_tag what) (item_of node.now) }
 {
     match node {
-        Node::Elem(elem) => outlasts(elem, what),
+        Node::Elem(elem) => is_uncovered(elem, what),
         Node::Bytes(_) => false,
         Node::Plain(_) => false,
     }
 }
 
 // No change of these properties covers the element, so it stays when one is rejected.
-fn outlasts(elem: &Elem, what: Prop) -> bool
-    ensures { result ≡ outlasts_tag what (tag_of elem.now) }
+fn is_uncovered(elem: &Elem, what: Prop) -> bool
+    ensures { result ≡ is_uncovered_tag what (tag_of elem.now) }
 {
     match what {
         Prop::Run => {

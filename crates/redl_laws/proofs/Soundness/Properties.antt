@@ -7,7 +7,7 @@ use Rattle.redl_tree.specs.Roles.Names.{is, is_any}
 use Rattle.redl_tree.specs.Model.Kids.{only, without, some_element}
 use Rattle.redl_tree.specs.Roles.Places.{is_quiet, is_open, within, prop_of, role, in_mark_props, in_row_props, in_cell_props}
 use Rattle.redl_tree.specs.Roles.Kinds.{is_change}
-use Rattle.redl_tree.specs.Decisions.Restored.{Rejected, rejected, after_change, present, restored, outlasts}
+use Rattle.redl_tree.specs.Decisions.Restored.{Rejected, rejected, after_change, present, restored, is_uncovered}
 use Rattle.redl_tree.specs.Decisions.Pass.{pass}
 use Rattle.redl_tree.specs.Rules.Tests.{Test, open_one, once, each_once, only_first, only_last}
 use Rattle.redl_tree.specs.Rules.Sound.{below_change, test_4, test_5, test_6}
@@ -231,27 +231,27 @@ module _ (ext : Test) (ancestors old : List Tag) (ch : Tag) (below : below_chang
   restored_none : (prop : Prop) (current former : Nodes) → ((former ≡ no_nodes) ⊎ ((f : Tag) × Ground ext (f ∷ ch ∷ old) former)) →
       some_element (change_at ancestors) (restored prop current former) ≡ false
   restored_none Run current former g =
-      some-⊕ (change_at ancestors) (only (outlasts Run) current) (without (outlasts Run) former)
-      (only_none (change_at ancestors) (outlasts Run) (no_change_named ancestors (outlasts Run) (λ t e. by_prop (λ t. outlasts Run t ≡ false) t e (refl, (refl, (refl, (refl, (refl, (refl, (refl, tt))))))))) current)
-      (some-without (change_at ancestors) (outlasts Run) former (former_none former g))
+      some-⊕ (change_at ancestors) (only (is_uncovered Run) current) (without (is_uncovered Run) former)
+      (only_none (change_at ancestors) (is_uncovered Run) (no_change_named ancestors (is_uncovered Run) (λ t e. by_prop (λ t. is_uncovered Run t ≡ false) t e (refl, (refl, (refl, (refl, (refl, (refl, (refl, tt))))))))) current)
+      (some-without (change_at ancestors) (is_uncovered Run) former (former_none former g))
   restored_none ParaProp current former g =
-      some-⊕ (change_at ancestors) (without (outlasts ParaProp) former) (only (outlasts ParaProp) current)
-      (some-without (change_at ancestors) (outlasts ParaProp) former (former_none former g))
-      (only_none (change_at ancestors) (outlasts ParaProp) (no_change_named ancestors (outlasts ParaProp) (λ t e. by_prop (λ t. outlasts ParaProp t ≡ false) t e (refl, (refl, (refl, (refl, (refl, (refl, (refl, tt))))))))) current)
+      some-⊕ (change_at ancestors) (without (is_uncovered ParaProp) former) (only (is_uncovered ParaProp) current)
+      (some-without (change_at ancestors) (is_uncovered ParaProp) former (former_none former g))
+      (only_none (change_at ancestors) (is_uncovered ParaProp) (no_change_named ancestors (is_uncovered ParaProp) (λ t e. by_prop (λ t. is_uncovered ParaProp t ≡ false) t e (refl, (refl, (refl, (refl, (refl, (refl, (refl, tt))))))))) current)
   restored_none Sect current former g =
-      some-⊕ (change_at ancestors) (only (outlasts Sect) current) (without (outlasts Sect) former)
-      (only_none (change_at ancestors) (outlasts Sect) (no_change_named ancestors (outlasts Sect) (λ t e. by_prop (λ t. outlasts Sect t ≡ false) t e (refl, (refl, (refl, (refl, (refl, (refl, (refl, tt))))))))) current)
-      (some-without (change_at ancestors) (outlasts Sect) former (former_none former g))
+      some-⊕ (change_at ancestors) (only (is_uncovered Sect) current) (without (is_uncovered Sect) former)
+      (only_none (change_at ancestors) (is_uncovered Sect) (no_change_named ancestors (is_uncovered Sect) (λ t e. by_prop (λ t. is_uncovered Sect t ≡ false) t e (refl, (refl, (refl, (refl, (refl, (refl, (refl, tt))))))))) current)
+      (some-without (change_at ancestors) (is_uncovered Sect) former (former_none former g))
   restored_none Table current former g = former_none former g
   restored_none Except current former g = former_none former g
   restored_none RowProp current former g =
-      some-⊕ (change_at ancestors) (without (outlasts RowProp) former) (only (outlasts RowProp) current)
-      (some-without (change_at ancestors) (outlasts RowProp) former (former_none former g))
-      (only_none (change_at ancestors) (outlasts RowProp) (no_change_named ancestors (outlasts RowProp) (λ t e. by_prop (λ t. outlasts RowProp t ≡ false) t e (refl, (refl, (refl, (refl, (refl, (refl, (refl, tt))))))))) current)
+      some-⊕ (change_at ancestors) (without (is_uncovered RowProp) former) (only (is_uncovered RowProp) current)
+      (some-without (change_at ancestors) (is_uncovered RowProp) former (former_none former g))
+      (only_none (change_at ancestors) (is_uncovered RowProp) (no_change_named ancestors (is_uncovered RowProp) (λ t e. by_prop (λ t. is_uncovered RowProp t ≡ false) t e (refl, (refl, (refl, (refl, (refl, (refl, (refl, tt))))))))) current)
   restored_none CellProp current former g =
-      some-⊕ (change_at ancestors) (without (outlasts CellProp) former) (only (outlasts CellProp) current)
-      (some-without (change_at ancestors) (outlasts CellProp) former (former_none former g))
-      (only_none (change_at ancestors) (outlasts CellProp) (no_change_named ancestors (outlasts CellProp) (λ t e. by_prop (λ t. outlasts CellProp t ≡ false) t e (refl, (refl, (refl, (refl, (refl, (refl, (refl, tt))))))))) current)
+      some-⊕ (change_at ancestors) (without (is_uncovered CellProp) former) (only (is_uncovered CellProp) current)
+      (some-without (change_at ancestors) (is_uncovered CellProp) former (former_none former g))
+      (only_none (change_at ancestors) (is_uncovered CellProp) (no_change_named ancestors (is_uncovered CellProp) (λ t e. by_prop (λ t. is_uncovered CellProp t ≡ false) t e (refl, (refl, (refl, (refl, (refl, (refl, (refl, tt))))))))) current)
 
 some_never : (n : Tag → Bool) → ((t : Tag) → n t ≡ false) → (xs : Nodes) → some_element n xs ≡ false
 some_never n h no_nodes = refl
@@ -392,24 +392,24 @@ count_former name names h current former =
 count_present : (name : String) (old : List Tag) (a : Tag) (xs : Nodes) → count_named name (present old a xs) ≤ count_named name xs
 count_present name old a xs = at (is "rPr" a && not (within ("pPr" ∷ "p" ∷ []) old))
   where
-    at : (b : Bool) → count_named name (if b then without (outlasts Run) xs else xs) ≤ count_named name xs
-    at true = count-without name (outlasts Run) xs
+    at : (b : Bool) → count_named name (if b then without (is_uncovered Run) xs else xs) ≤ count_named name xs
+    at true = count-without name (is_uncovered Run) xs
     at false = omega arith
 
 -- a name of which no change of these properties speaks
 abbrev Spares : Prop → String → Type 0
-Spares prop name = (t : Tag) → outlasts prop t ≡ false → is name t ≡ false
+Spares prop name = (t : Tag) → is_uncovered prop t ≡ false → is name t ≡ false
 
 restored_count : (prop : Prop) (name : String) → Spares prop name → (current former : Nodes) → count_named name (restored prop current former) ≤ count_named name current
-restored_count Run name h current former = count_current name (outlasts Run) h current former
-restored_count ParaProp name h current former = count_former name (outlasts ParaProp) h current former
-restored_count Sect name h current former = count_current name (outlasts Sect) h current former
+restored_count Run name h current former = count_current name (is_uncovered Run) h current former
+restored_count ParaProp name h current former = count_former name (is_uncovered ParaProp) h current former
+restored_count Sect name h current former = count_current name (is_uncovered Sect) h current former
 restored_count Table name h current former =
     let c = count_none name former (some_never (is name) (λ t. h t refl) former) in omega arith
 restored_count Except name h current former =
     let c = count_none name former (some_never (is name) (λ t. h t refl) former) in omega arith
-restored_count RowProp name h current former = count_former name (outlasts RowProp) h current former
-restored_count CellProp name h current former = count_former name (outlasts CellProp) h current former
+restored_count RowProp name h current former = count_former name (is_uncovered RowProp) h current former
+restored_count CellProp name h current former = count_former name (is_uncovered CellProp) h current former
 
 spares_rPr : (name : String) → Spares Run name → (prop : Prop) (a : Tag) → is (owner_of prop) a ≡ true → is "rPr" a ≡ true → Spares prop name
 spares_rPr name h Run a e o = h

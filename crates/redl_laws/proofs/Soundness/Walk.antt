@@ -9,7 +9,7 @@ use Rattle.redl_tree.specs.Roles.Places.{is_quiet, is_open, within, trace_of, pr
 use Rattle.redl_tree.specs.Roles.Lists.{is_thick}
 use Rattle.redl_tree.specs.Roles.Kinds.{is_content, is_change, is_restore}
 use Rattle.redl_tree.specs.Decisions.Fates.{fate_of, renamed}
-use Rattle.redl_tree.specs.Decisions.Restored.{Rejected, rejected, rejected_as, after_change, present, restored, former_kids, outlasts}
+use Rattle.redl_tree.specs.Decisions.Restored.{Rejected, rejected, rejected_as, after_change, present, restored, former_kids, is_uncovered}
 use Rattle.redl_tree.specs.Decisions.Tables.{goes_at, para_is_cut}
 use Rattle.redl_tree.specs.Decisions.Groups.{Piece, para, thin, thick, has_thick, joins as joins_piece, taken, ended, joined_tag, joined_kids, settled, given, held_by, grouped_from}
 use Rattle.redl_tree.specs.Decisions.Pass.{by_fate, kept_kids, element_pass, is_block_para, pieces, pass}
@@ -192,13 +192,13 @@ Ground-without ext names ancestors (element tag kids rest) g =
     let ih = Ground-without ext names ancestors rest g.2 in
     Ground-if ext ancestors (names tag) (without names rest) (element tag kids (without names rest)) ih (g.0, g.1, ih)
 
-NoMark-without : (new : List Tag) (xs : Nodes) → NoMark new (without (outlasts ParaProp) xs)
+NoMark-without : (new : List Tag) (xs : Nodes) → NoMark new (without (is_uncovered ParaProp) xs)
 NoMark-without new no_nodes = tt
 NoMark-without new (bytes b rest) = NoMark-without new rest
 NoMark-without new (element tag kids rest) = at (is "rPr" tag) refl (is "sectPr" tag || false) (NoMark-without new rest)
   where
-    at : (x : Bool) → is "rPr" tag ≡ x → (y : Bool) → NoMark new (without (outlasts ParaProp) rest) →
-        NoMark new (if x || y then without (outlasts ParaProp) rest else element tag kids (without (outlasts ParaProp) rest))
+    at : (x : Bool) → is "rPr" tag ≡ x → (y : Bool) → NoMark new (without (is_uncovered ParaProp) rest) →
+        NoMark new (if x || y then without (is_uncovered ParaProp) rest else element tag kids (without (is_uncovered ParaProp) rest))
     at true e y ih = ih
     at false e true ih = ih
     at false e false ih = (no_and (is "rPr" tag) (within ("pPr" ∷ "p" ∷ []) new) e, ih)
@@ -339,22 +339,22 @@ module _ (ext : Test) (says : List Say) (test : Test) (k : Kept ext says test) (
   restored_all : (prop : Prop) → is (owner_of prop) a ≡ true → (current former : Nodes) → everywhere test (b ∷ new) current ≡ true →
       ((former ≡ no_nodes) ⊎ ((f : Tag) × Ground ext (f ∷ ch ∷ a ∷ old) former)) → everywhere test (b ∷ new) (restored prop current former) ≡ true
   restored_all Run e current former h g =
-      everywhere-⊕ test (b ∷ new) (only (outlasts Run) current) (without (outlasts Run) former) (everywhere-only (outlasts Run) test (b ∷ new) current h)
-      (former_part (outlasts Run) former g (λ x. not_para "rPr" refl e (λ t e. by_name (λ t. is "pPr" t ≡ false) "rPr" t e refl) (without (outlasts Run) x)))
+      everywhere-⊕ test (b ∷ new) (only (is_uncovered Run) current) (without (is_uncovered Run) former) (everywhere-only (is_uncovered Run) test (b ∷ new) current h)
+      (former_part (is_uncovered Run) former g (λ x. not_para "rPr" refl e (λ t e. by_name (λ t. is "pPr" t ≡ false) "rPr" t e refl) (without (is_uncovered Run) x)))
   restored_all ParaProp e current former h g =
-      everywhere-⊕ test (b ∷ new) (without (outlasts ParaProp) former) (only (outlasts ParaProp) current) (former_part (outlasts ParaProp) former g (λ x. NoMark-without (b ∷ new) x))
-      (everywhere-only (outlasts ParaProp) test (b ∷ new) current h)
+      everywhere-⊕ test (b ∷ new) (without (is_uncovered ParaProp) former) (only (is_uncovered ParaProp) current) (former_part (is_uncovered ParaProp) former g (λ x. NoMark-without (b ∷ new) x))
+      (everywhere-only (is_uncovered ParaProp) test (b ∷ new) current h)
   restored_all Sect e current former h g =
-      everywhere-⊕ test (b ∷ new) (only (outlasts Sect) current) (without (outlasts Sect) former) (everywhere-only (outlasts Sect) test (b ∷ new) current h)
-      (former_part (outlasts Sect) former g (λ x. not_para "sectPr" refl e (λ t e. by_name (λ t. is "pPr" t ≡ false) "sectPr" t e refl) (without (outlasts Sect) x)))
+      everywhere-⊕ test (b ∷ new) (only (is_uncovered Sect) current) (without (is_uncovered Sect) former) (everywhere-only (is_uncovered Sect) test (b ∷ new) current h)
+      (former_part (is_uncovered Sect) former g (λ x. not_para "sectPr" refl e (λ t e. by_name (λ t. is "pPr" t ≡ false) "sectPr" t e refl) (without (is_uncovered Sect) x)))
   restored_all Table e current former h g = former_all former g (not_para "tblPr" refl e (λ t e. by_name (λ t. is "pPr" t ≡ false) "tblPr" t e refl) former)
   restored_all Except e current former h g = former_all former g (not_para "tblPrEx" refl e (λ t e. by_name (λ t. is "pPr" t ≡ false) "tblPrEx" t e refl) former)
   restored_all RowProp e current former h g =
-      everywhere-⊕ test (b ∷ new) (without (outlasts RowProp) former) (only (outlasts RowProp) current) (former_part (outlasts RowProp) former g (λ x. not_para "trPr" refl e (λ t e. by_name (λ t. is "pPr" t ≡ false) "trPr" t e refl) (without (outlasts RowProp) x)))
-      (everywhere-only (outlasts RowProp) test (b ∷ new) current h)
+      everywhere-⊕ test (b ∷ new) (without (is_uncovered RowProp) former) (only (is_uncovered RowProp) current) (former_part (is_uncovered RowProp) former g (λ x. not_para "trPr" refl e (λ t e. by_name (λ t. is "pPr" t ≡ false) "trPr" t e refl) (without (is_uncovered RowProp) x)))
+      (everywhere-only (is_uncovered RowProp) test (b ∷ new) current h)
   restored_all CellProp e current former h g =
-      everywhere-⊕ test (b ∷ new) (without (outlasts CellProp) former) (only (outlasts CellProp) current) (former_part (outlasts CellProp) former g (λ x. not_para "tcPr" refl e (λ t e. by_name (λ t. is "pPr" t ≡ false) "tcPr" t e refl) (without (outlasts CellProp) x)))
-      (everywhere-only (outlasts CellProp) test (b ∷ new) current h)
+      everywhere-⊕ test (b ∷ new) (without (is_uncovered CellProp) former) (only (is_uncovered CellProp) current) (former_part (is_uncovered CellProp) former g (λ x. not_para "tcPr" refl e (λ t e. by_name (λ t. is "pPr" t ≡ false) "tcPr" t e refl) (without (is_uncovered CellProp) x)))
+      (everywhere-only (is_uncovered CellProp) test (b ∷ new) current h)
 
 -- the kids of an element that stays
 made_all : (ext : Test) → (says : List Say) (test : Test) → Kept ext says test → (old new : List Tag) (a b : Tag) (kids : Nodes) → Came old new → Like a b → Ground ext (a ∷ old) kids →
@@ -363,8 +363,8 @@ made_all ext says test k old new a b kids c l g h = at (rejected says kids) refl
   where
     current : everywhere test (b ∷ new) (present old a (pass says (a ∷ old) kids)) ≡ true
     current = if_both (λ n. everywhere test (b ∷ new) n ≡ true) (is "rPr" a && not (within ("pPr" ∷ "p" ∷ []) old))
-        (without (outlasts Run) (pass says (a ∷ old) kids)) (pass says (a ∷ old) kids)
-        (λ e. everywhere-without (outlasts Run) test (b ∷ new) (pass says (a ∷ old) kids) h) (λ e. h)
+        (without (is_uncovered Run) (pass says (a ∷ old) kids)) (pass says (a ∷ old) kids)
+        (λ e. everywhere-without (is_uncovered Run) test (b ∷ new) (pass says (a ∷ old) kids) h) (λ e. h)
 
     at : (u : Option Rejected) → rejected says kids ≡ u → everywhere test (b ∷ new) (after_change old a u (pass says (a ∷ old) kids)) ≡ true
     at None e = h

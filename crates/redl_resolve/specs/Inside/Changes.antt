@@ -4,7 +4,7 @@ use Rattle.std.specs.Global.{Global}
 use Rattle.redl_tree.specs.Decisions.Fates.{fate_of}
 use Rattle.redl_tree.specs.Roles.Kinds.{is_restore}
 use Rattle.redl_tree.specs.Model.Nodes.{Tag, Nodes, Item, bytes_item, element_item, idle_item}
-use Rattle.redl_tree.specs.Decisions.Restored.{Rejected, rejected_as, restored, outlasts}
+use Rattle.redl_tree.specs.Decisions.Restored.{Rejected, rejected_as, restored, is_uncovered}
 use Rattle.redl_tree.specs.Roles.Names.{is, named}
 use Rattle.redl_tree.specs.Model.Kids.{without}
 use Rattle.redl_tree.specs.declared.kinds.Prop.TheVariants.{Run}
@@ -40,7 +40,7 @@ item_former name (element_item tag kids) = if named name tag then Some kids else
 
 -- the same as `after_change`, given a summary of the ancestors
 abbrev pub present_in : Round → Tag → Nodes → Nodes
-present_in round tag kids = if is "rPr" tag && not round.para_props then without (outlasts Run) kids else kids
+present_in round tag kids = if is "rPr" tag && not round.para_props then without (is_uncovered Run) kids else kids
 
 abbrev pub after_in : Round → Tag → Option Rejected → Nodes → Nodes
 after_in round tag None passed = passed

@@ -15,25 +15,25 @@ use Rattle.redl_tree.specs.declared.kinds.Prop.TheVariants.{Run, Para, Sect, Tab
 
 -- Elements that no change of these properties covers: the revisions of a paragraph's mark, of a row and of a cell, the
 -- properties of a paragraph's mark and of its section, and the headers and footers of a section.
-abbrev pub outlasts : Prop → Tag → Bool
-outlasts Run tag = is_any ("ins" ∷ "del" ∷ "moveFrom" ∷ "moveTo" ∷ []) tag
-outlasts Para tag = is_any ("rPr" ∷ "sectPr" ∷ []) tag
-outlasts Sect tag = is_any ("headerReference" ∷ "footerReference" ∷ []) tag
-outlasts Table tag = false
-outlasts Except tag = false
-outlasts RowProp tag = is_any ("ins" ∷ "del" ∷ []) tag
-outlasts CellProp tag = is_any ("cellIns" ∷ "cellDel" ∷ "cellMerge" ∷ []) tag
+abbrev pub is_uncovered : Prop → Tag → Bool
+is_uncovered Run tag = is_any ("ins" ∷ "del" ∷ "moveFrom" ∷ "moveTo" ∷ []) tag
+is_uncovered Para tag = is_any ("rPr" ∷ "sectPr" ∷ []) tag
+is_uncovered Sect tag = is_any ("headerReference" ∷ "footerReference" ∷ []) tag
+is_uncovered Table tag = false
+is_uncovered Except tag = false
+is_uncovered RowProp tag = is_any ("ins" ∷ "del" ∷ []) tag
+is_uncovered CellProp tag = is_any ("cellIns" ∷ "cellDel" ∷ "cellMerge" ∷ []) tag
 
 -- The former kids in place of the current ones. Elements that no change covers stay as they are now, at the place that the
 -- schema gives them, and are left out of the former kids.
 abbrev pub restored : Prop → Nodes → Nodes → Nodes
-restored Run current former = only (outlasts Run) current ⊕ without (outlasts Run) former
-restored Para current former = without (outlasts Para) former ⊕ only (outlasts Para) current
-restored Sect current former = only (outlasts Sect) current ⊕ without (outlasts Sect) former
+restored Run current former = only (is_uncovered Run) current ⊕ without (is_uncovered Run) former
+restored Para current former = without (is_uncovered Para) former ⊕ only (is_uncovered Para) current
+restored Sect current former = only (is_uncovered Sect) current ⊕ without (is_uncovered Sect) former
 restored Table current former = former
 restored Except current former = former
-restored RowProp current former = without (outlasts RowProp) former ⊕ only (outlasts RowProp) current
-restored CellProp current former = without (outlasts CellProp) former ⊕ only (outlasts CellProp) current
+restored RowProp current former = without (is_uncovered RowProp) former ⊕ only (is_uncovered RowProp) current
+restored CellProp current former = without (is_uncovered CellProp) former ⊕ only (is_uncovered CellProp) current
 
 -- the former kids: those of the first element with this name, given by its bytes, among the kids of a change
 abbrev pub former_kids : List ℕ → Nodes → Nodes
@@ -61,7 +61,7 @@ rejected says (element tag kids rest) =
 -- The current kids of a property element with these ancestors. Only the `rPr` of a paragraph's mark has revisions of a mark
 -- to keep: from any other `rPr`, elements with their names are left out.
 abbrev pub present : List Tag → Tag → Nodes → Nodes
-present ancestors tag kids = if is "rPr" tag && not (in_para_props ancestors) then without (outlasts Run) kids else kids
+present ancestors tag kids = if is "rPr" tag && not (in_para_props ancestors) then without (is_uncovered Run) kids else kids
 
 -- the kids of an element that stays, whose passed kids are `passed`, after this rejected change if there is one
 abbrev pub after_change : List Tag → Tag → Option Rejected → Nodes → Nodes
