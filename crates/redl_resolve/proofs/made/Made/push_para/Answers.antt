@@ -7,7 +7,7 @@ use Rattle.redl_tree.specs.Model.Count.{count}
 use Rattle.redl_tree.specs.Decisions.Groups.{para, grouped}
 use Rattle.redl_tree.specs.Model.Nodes.{◌⊕◌}
 use Rattle.redl_tree.specs.Model.View.{nodes_of, tag_of, kids_of}
-use Rattle.redl_resolve.proofs.made.Made.give_para.Goals as goal
+use Rattle.redl_resolve.proofs.made.Made.push_para.Goals as goal
 
 pub returns-then-cut-clause-weight : goal.returns-then-cut-clause-weight
 returns-then-cut-clause-weight c =

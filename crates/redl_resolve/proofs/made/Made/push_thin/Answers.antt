@@ -7,7 +7,7 @@ use Rattle.redl_tree.specs.Model.Count.{count}
 use Rattle.redl_tree.specs.Decisions.Groups.{thin, grouped}
 use Rattle.redl_tree.specs.Model.Nodes.{no_nodes, ◌⊕◌}
 use Rattle.redl_tree.specs.Model.View.{nodes_of, item_of}
-use Rattle.redl_resolve.proofs.made.Made.give.Goals as goal
+use Rattle.redl_resolve.proofs.made.Made.push_thin.Goals as goal
 
 pub returns-then-has_no_chain-clause-whole : goal.returns-then-has_no_chain-clause-whole
 returns-then-has_no_chain-clause-whole c = λ rest.
