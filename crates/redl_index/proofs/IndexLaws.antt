@@ -3,22 +3,22 @@ use Rattle.std.proofs.Common.{◌≡◌, ◌∙◌, refl, sym, subst, ℕ, zero,
 use Rattle.std.proofs.lemmas.List.Elements.{All-set}
 use Rattle.std.proofs.lemmas.Option.{slice_get_within, get_or_from_slice_get}
 use Rattle.redl_index.specs.declared.revision.Revision.{Revision}
-use Rattle.redl_index.specs.Revisions.{IsTold, AreNumbered, IsIndex}
+use Rattle.redl_index.specs.Revisions.{IsListable, AreNumbered, IsIndex}
 use Rattle.redl_index.specs.Inside.Tallies.{with_one_more, replaced}
 use Rattle.redl_index.proofs.TallyLaws.{length-replaced}
 
-told-more : (r : Revision) → IsTold r → IsTold (with_one_more r)
+told-more : (r : Revision) → IsListable r → IsListable (with_one_more r)
 told-more r told = record { named = told.named; author = told.author; moment = told.moment }
 
 all-get : {X : Type 0} (P : X → Type 0) (xs : List X) (i : ℕ) (x : X) → All P xs → slice_get xs i ≡ Some x → P x
 all-get P xs i x all is = subst P (get_or_from_slice_get xs i x x is) (all i x (slice_get_within xs i x is))
 
-told-replaced : (rs : List Revision) (place : ℕ) → All IsTold rs → All IsTold (replaced rs place (slice_get rs place))
+told-replaced : (rs : List Revision) (place : ℕ) → All IsListable rs → All IsListable (replaced rs place (slice_get rs place))
 told-replaced rs place told = by (slice_get rs place) refl
   where
-    by : (o : Option Revision) → slice_get rs place ≡ o → All IsTold (replaced rs place o)
+    by : (o : Option Revision) → slice_get rs place ≡ o → All IsListable (replaced rs place o)
     by None is = told
-    by (Some r) is = All-set IsTold rs place (with_one_more r) (told-more r (all-get IsTold rs place r told is)) told
+    by (Some r) is = All-set IsListable rs place (with_one_more r) (told-more r (all-get IsListable rs place r told is)) told
 
 -- revisions whose numbers count from this one
 abbrev pub AreNumberedFrom : ℕ → List Revision → Type 0
@@ -62,7 +62,7 @@ numbers-replaced rs place numbers = by (slice_get rs place) refl
 -- an index with a member counted is an index
 pub index-replaced : (rs more : List Revision) (place : ℕ) → more ≡ replaced rs place (slice_get rs place) → IsIndex rs → IsIndex more
 index-replaced rs more place is index = record {
-  told = let P : List Revision → Type 0 = All IsTold in subst P (sym is) (told-replaced rs place index.told);
+  told = let P : List Revision → Type 0 = All IsListable in subst P (sym is) (told-replaced rs place index.told);
   numbers = subst AreNumbered (sym is) (numbers-replaced rs place index.numbers);
   few = omega (arith, index.few, ap length is, length-replaced rs place (slice_get rs place));
 }

@@ -11,9 +11,9 @@ pub mod SeekerLaws
 pub mod LabelLaws
 pub mod NumberingLaws
 pub mod NumbererLaws
-pub mod KnownLaws
+pub mod StoryFactLaws
 pub mod SurveyLaws
-pub mod UnlabelledLaws
+pub mod ToLabelLaws
 pub mod RevisionLaws
 pub mod PartLaws
 pub mod AgainLaws

@@ -16,11 +16,11 @@ use Rattle.redl_rules.specs.Rounds.{round_of}
 use Rattle.redl_rules.specs.Keeping.{kept_here, element_kept}
 use Rattle.redl_rules.specs.Visiting.{keeper_rule}
 use Rattle.redl_rules.proofs.KeeperLaws.{story-kept}
-use Rattle.redl_index.specs.Known.{Marked}
+use Rattle.redl_index.specs.StoryFacts.{Facts}
 
 -- what is known of a story in which this was found, where no move has a number yet
-abbrev pub known_from : Finding → Marked
-known_from found = record {
+abbrev pub facts_from : Finding → Facts
+facts_from found = record {
   marks = found.marks;
   tails = found.tails;
   ends = found.ends;

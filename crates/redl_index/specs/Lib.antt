@@ -4,6 +4,6 @@ pub mod KindNames
 pub mod Mentions
 pub mod Revisions
 pub mod Markers
-pub mod Known
-pub mod Unlabelled
+pub mod StoryFacts
+pub mod ToLabel
 pub mod Inside

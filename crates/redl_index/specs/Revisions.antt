@@ -14,7 +14,7 @@ use Rattle.redl_index.specs.Kinds.{is_named}
 use Rattle.redl_index.specs.Mentions.{Mention, mentions}
 
 -- what is told of each revision: its kind has a name, its author is UTF-8, and its moment lies in the years 0000 to 9999
-pub record IsTold (revision : Revision) : Type 0 where
+pub record IsListable (revision : Revision) : Type 0 where
   pub named : IsTrue (is_named revision.kind)
   pub author : IsUtf8 revision.author
   pub moment : IfSome revision.seconds IsMoment
@@ -25,7 +25,7 @@ AreNumbered revisions = (k : ℕ) (revision : Revision) → slice_get revisions 
 
 -- what an index keeps: that this is told of each revision, that their numbers count from 1, and that 32 bits hold them
 pub record IsIndex (revisions : List Revision) : Type 0 where
-  pub told : All IsTold revisions
+  pub told : All IsListable revisions
   pub numbers : AreNumbered revisions
   pub few : length revisions < 2 ^ 32
 

@@ -5,14 +5,14 @@ ghost use Rattle.redl_tree.specs.Model.Count.{count};
 ghost use Rattle.redl_tree.specs.Decisions.Packages.{is_story_root, stories};
 ghost use Rattle.redl_tree.specs.Model.View.{tag_of, kids_of};
 ghost use Rattle.redl_tree.specs.Model.Tree.{HasUtf8Tails};
-ghost use Rattle.redl_index.specs.Known.{known_of, known_in, parts_by};
+ghost use Rattle.redl_index.specs.StoryFacts.{facts_of, facts_in, parts_by};
 ghost use Rattle.redl_index.specs.Revisions.{numbered, story_revisions, revisions_of};
 ghost use Rattle.redl_index.specs.Inside.Seeking.{seeking_of, seeking_in};
 
 use crate::found::Found;
 use crate::index::Index;
-use crate::known::Known;
 use crate::story::{Sight, Story};
+use crate::story_facts::StoryFacts;
 use crate::walk::Walk;
 use redl_opc::Package;
 use redl_tree::{Around, Elem, Plain};
@@ -23,9 +23,9 @@ use std::alloc::{AllocError, Global};
 pub(crate) fn find_in_stories(
     alloc: Global,
     pkg: &Package,
-    known: &[Known],
+    known: &[StoryFacts],
 ) -> Result<Index, AllocError>
-    requires known { map known_of known.now ≡ map known_in (stories pkg.now) }
+    requires known { map facts_of known.now ≡ map facts_in (stories pkg.now) }
     ensures { IfOk result (λ index. index ≡ revisions_of pkg.now) }
 {
     let mut found = Found::nothing(alloc);
@@ -44,11 +44,16 @@ pub(crate) fn find_in_stories(
 }
 
 /// Adds what is in the story with this root. `Err` means out of memory.
-fn find_in_story(known: &Known, root: &Elem, part: u32, found: Found) -> Result<Found, AllocError>
+fn find_in_story(
+    known: &StoryFacts,
+    root: &Elem,
+    part: u32,
+    found: Found,
+) -> Result<Found, AllocError>
     requires few { length found.index + count (kids_of root.now) < 2 ^ 32 }
     requires tails { HasUtf8Tails (kids_of root.now) }
     requires root { IsTrue (is_story_root (tag_of root.now)) }
-    requires known { known_of known.now ≡ known_in (parts_by (tag_of root.now) (kids_of root.now)) }
+    requires known { facts_of known.now ≡ facts_in (parts_by (tag_of root.now) (kids_of root.now)) }
     ensures at_most { IfOk result (λ more. length more.index ≤ length found.index + count (kids_of root.now)) }
     ensures index { IfOk result (λ more. more.index ≡ found.index ++ numbered (1 + length found.index) (story_revisions part (tag_of root.now) (kids_of root.now))) }
 {
@@ -67,8 +72,8 @@ struct Seeker<'s, 'a> {
 
 impl<'s, 'a> Seeker<'s, 'a> {
     /// Before the first element of a story, which is in the part with this number.
-    fn begin(known: &'s Known<'a>, part: u32, found: Found) -> Seeker<'s, 'a>
-        ensures { seeking_of result ≡ seeking_in part (known_of known.now) found.index }
+    fn begin(known: &'s StoryFacts<'a>, part: u32, found: Found) -> Seeker<'s, 'a>
+        ensures { seeking_of result ≡ seeking_in part (facts_of known.now) found.index }
     {
         let mut found = found;
         found.begin_story();

@@ -5,15 +5,15 @@ ghost use Rattle.redl_tree.specs.Decisions.Packages.{stories};
 ghost use Rattle.redl_tree.specs.Model.Count.{count};
 ghost use Rattle.redl_tree.specs.Model.Text.{text};
 ghost use Rattle.redl_opc.specs.Shape.{refusal};
-ghost use Rattle.redl_index.specs.Known.{known_of, known_in};
+ghost use Rattle.redl_index.specs.StoryFacts.{facts_of, facts_in};
 ghost use Rattle.redl_index.specs.Numbers.{numbered_package, package_revisions};
-ghost use Rattle.redl_index.specs.Revisions.{AreNumbered, IsInStory, IsTold, revisions_of};
+ghost use Rattle.redl_index.specs.Revisions.{AreNumbered, IsInStory, IsListable, revisions_of};
 ghost use Rattle.redl_index.specs.Inside.Tallies.{mentioned_again, replaced};
 
 use crate::find::find_in_stories;
-use crate::known::{Known, known_stories};
 use crate::label::label_stories;
 use crate::revision::Revision;
+use crate::story_facts::{StoryFacts, known_stories};
 use redl_opc::Package;
 use std::alloc::{AllocError, Global};
 use std::marker::Model;
@@ -48,7 +48,7 @@ impl Index {
 
     /// Adds a revision after the others. `Err` means out of memory.
     pub(crate) fn add(&mut self, revision: Revision) -> Result<(), AllocError>
-        requires told { IsTold revision }
+        requires told { IsListable revision }
         requires number { revision.number ≡ length self.old + 1 }
         requires few { length self.old + 1 < 2 ^ 32 }
         ensures { OnOk result (self.new ≡ self.old ++ revision ∷ []) }
@@ -89,9 +89,9 @@ impl Index {
     pub(crate) fn of_known(
         alloc: Global,
         pkg: &mut Package,
-        known: Vec<Known>,
+        known: Vec<StoryFacts>,
     ) -> Result<Index, AllocError>
-        requires known { map known_of known.items ≡ map known_in (stories pkg.old) }
+        requires known { map facts_of known.items ≡ map facts_in (stories pkg.old) }
         requires shape { refusal pkg.old ≡ None }
         requires few { count pkg.old < 2 ^ 32 }
         ensures index { IfOk result (λ index. index ≡ revisions_of pkg.old) }
@@ -117,7 +117,7 @@ impl Index {
     pub fn revisions(&self) -> &[Revision]
         ensures value { result.now ≡ self.now }
         ensures numbers { AreNumbered self.now }
-        ensures told { All IsTold self.now }
+        ensures told { All IsListable self.now }
     {
         &self.revisions
     }
@@ -130,7 +130,7 @@ impl Index {
         ensures found { IsSome result ↔ ((0 < number) × (number ≤ length self.now)) }
         ensures value { IfSome result (λ found. slice_get self.now (number - 1) ≡ Some found.now) }
         ensures number { IfSome result (λ found. found.now.number ≡ number) }
-        ensures told { IfSome result (λ found. IsTold found.now) }
+        ensures told { IfSome result (λ found. IsListable found.now) }
     {
         let place = number.checked_sub(1)?;
         self.revisions.get(place as usize)

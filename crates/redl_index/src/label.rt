@@ -8,12 +8,12 @@ ghost use Rattle.redl_tree.specs.Decisions.Packages.{is_story_root, stories};
 ghost use Rattle.redl_tree.specs.Revisions.Numbers.{labelled_story, next_after_story};
 ghost use Rattle.redl_opc.specs.Shape.{refusal};
 ghost use Rattle.redl_stamp.specs.Attribute.{attribute_value};
-ghost use Rattle.redl_index.specs.Known.{known_of, known_in, parts_by};
+ghost use Rattle.redl_index.specs.StoryFacts.{facts_of, facts_in, parts_by};
 ghost use Rattle.redl_index.specs.Numbers.{numbered_package, package_revisions};
 
-use crate::known::Known;
 use crate::numbers::Numbers;
 use crate::story::Sight;
+use crate::story_facts::StoryFacts;
 use crate::walk::Walk;
 use redl_moves::Moves;
 use redl_opc::Package;
@@ -23,15 +23,15 @@ use std::convert::Infallible;
 use std::mem;
 
 /// Labels the stories of a package, given `known`, one for each story, and gives how many revisions there are. It takes no memory.
-pub(crate) fn label_stories(pkg: &mut Package, known: Vec<Known>) -> u32
-    requires known { map known_of known.items ≡ map known_in (stories pkg.old) }
+pub(crate) fn label_stories(pkg: &mut Package, known: Vec<StoryFacts>) -> u32
+    requires known { map facts_of known.items ≡ map facts_in (stories pkg.old) }
     requires shape { refusal pkg.old ≡ None }
     requires few { count pkg.old < 2 ^ 32 }
     ensures count { result ≡ package_revisions pkg.old }
     ensures nodes { pkg.new ≡ numbered_package pkg.old }
     ensures text { text pkg.new ≡ text pkg.old }
 {
-    let mut left = Unlabelled {
+    let mut left = ToLabel {
         stories: known,
         place: 0,
         next: 1,
@@ -42,8 +42,8 @@ pub(crate) fn label_stories(pkg: &mut Package, known: Vec<Known>) -> u32
 
 /// What is known of the stories, the place of the next one to be labelled, and the next number.
 #[derive(Drop)]
-pub(crate) struct Unlabelled<'a> {
-    pub(crate) stories: Vec<Known<'a>>,
+pub(crate) struct ToLabel<'a> {
+    pub(crate) stories: Vec<StoryFacts<'a>>,
     pub(crate) place: usize,
     pub(crate) next: u32,
 }
@@ -52,11 +52,11 @@ pub(crate) struct Unlabelled<'a> {
 #[derive(Clone, Copy)]
 struct Labelling;
 
-impl StoryChange<Unlabelled<'_>> for Labelling {
+impl StoryChange<ToLabel<'_>> for Labelling {
     type Error = Infallible;
 
     ghost use Rattle.std.specs.Prelude.{false};
-    ghost use Rattle.redl_index.specs.Unlabelled.{Left, left_of, left_rule, IsNext};
+    ghost use Rattle.redl_index.specs.ToLabel.{Left, left_of, left_rule, IsNext};
 
     ghost Given = { Left };
 
@@ -70,9 +70,9 @@ impl StoryChange<Unlabelled<'_>> for Labelling {
 
     ghost steps = { λ _. 0 };
 
-    fn meet(&self, _left: &mut Unlabelled<'_>, _nodes: u32) {}
+    fn meet(&self, _left: &mut ToLabel<'_>, _nodes: u32) {}
 
-    fn change(&self, root: &mut Elem, left: &mut Unlabelled<'_>) -> Result<(), Infallible> {
+    fn change(&self, root: &mut Elem, left: &mut ToLabel<'_>) -> Result<(), Infallible> {
         let place = left.place;
         let next = label_story(&mut left.stories[place], root, left.next);
         left.next = next;
@@ -82,8 +82,8 @@ impl StoryChange<Unlabelled<'_>> for Labelling {
 }
 
 /// Labels a story, given what is known of it, and gives the next number after it.
-fn label_story(known: &mut Known<'_>, root: &mut Elem, next: u32) -> u32
-    requires known { known_of known.old ≡ known_in (parts_by (tag_of root.old) (kids_of root.old)) }
+fn label_story(known: &mut StoryFacts<'_>, root: &mut Elem, next: u32) -> u32
+    requires known { facts_of known.old ≡ facts_in (parts_by (tag_of root.old) (kids_of root.old)) }
     requires root { IsTrue (is_story_root (tag_of root.old)) }
     requires begun { 0 < next }
     requires few { next + count (kids_of root.old) < 2 ^ 32 }

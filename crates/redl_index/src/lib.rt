@@ -12,7 +12,6 @@ mod find;
 mod found;
 mod index;
 mod kind_names;
-mod known;
 mod label;
 mod laws;
 mod markers;
@@ -20,6 +19,7 @@ mod numbering;
 mod numbers;
 mod revision;
 mod story;
+mod story_facts;
 mod survey;
 mod walk;
 

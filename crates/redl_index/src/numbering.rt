@@ -4,8 +4,8 @@ ghost use Rattle.std.specs.Prelude.{◌≡◌, IfOk, OnOk, OnErr};
 ghost use Rattle.redl_tree.specs.Model.Text.{text};
 ghost use Rattle.redl_index.specs.Numbers.{numbered_package, package_revisions};
 
-use crate::known::known_stories;
 use crate::label::label_stories;
+use crate::story_facts::known_stories;
 use redl_opc::Package;
 use std::alloc::{AllocError, Global};
 

@@ -3,7 +3,7 @@
 ghost use Rattle.std.specs.Prelude.{◌≡◌, IfOk, IsTrue};
 ghost use Rattle.std.specs.Str.{IsUtf8};
 ghost use Rattle.redl_index.specs.Kinds.{kind_of, is_named};
-ghost use Rattle.redl_index.specs.Revisions.{IsTold, revision_with};
+ghost use Rattle.redl_index.specs.Revisions.{IsListable, revision_with};
 ghost use Rattle.redl_index.specs.Inside.Tallies.{with_one_more};
 
 use redl_io::Text;
@@ -65,7 +65,7 @@ impl Revision {
         requires named { IsTrue (is_named kind) }
         requires tail { IsUtf8 tail.now }
         ensures value { IfOk result (λ revision. revision ≡ revision_with part kind tail.now members number) }
-        ensures told { IfOk result IsTold }
+        ensures told { IfOk result IsListable }
     {
         let stamp = read_stamp(alloc, tail)?;
         Ok(Revision {

@@ -8,14 +8,14 @@ ghost use Rattle.redl_tree.specs.Model.View.{tag_of, kids_of};
 ghost use Rattle.redl_opc.specs.Shape.{refusal};
 ghost use Rattle.redl_rules.specs.Attributes.{broken_rule as broken_rule_of};
 ghost use Rattle.redl_rules.specs.Keeping.{element_kept, kept_among};
-ghost use Rattle.redl_index.specs.Known.{known_of, known_in, parts_by};
+ghost use Rattle.redl_index.specs.StoryFacts.{facts_of, facts_in, parts_by};
 ghost use Rattle.redl_index.specs.Numbers.{numbered_package, package_revisions};
 ghost use Rattle.redl_index.specs.Revisions.{IsInStory, revisions_of};
 
 use crate::index::Index;
-use crate::known::Known;
 use crate::label::label_stories;
 use crate::markers::{Below, Finder};
+use crate::story_facts::StoryFacts;
 use redl_opc::Package;
 use redl_rules::{Keeper, Kept};
 use redl_tree::Elem;
@@ -29,7 +29,7 @@ use std::marker::Model;
 pub struct Surveyed<'a> {
     package: Package<'a>,
     broken: Option<u8>,
-    stories: Vec<Known<'a>>,
+    stories: Vec<StoryFacts<'a>>,
 }
 
 impl<'a> Model for Surveyed<'a> {
@@ -42,11 +42,11 @@ impl<'a> Model for Surveyed<'a> {
     ghost coded = { nodes_code (Prim.hlevel codes) };
 
     ghost use Rattle.std.specs.Prelude.{map};
-    ghost use Rattle.redl_index.specs.Known.{known_of, IsSurvey};
+    ghost use Rattle.redl_index.specs.StoryFacts.{facts_of, IsSurvey};
 
     ghost view = { λ surveyed. surveyed.«package» };
 
-    ghost invariant = { λ surveyed. IsSurvey surveyed.«package» surveyed.broken (map known_of surveyed.stories.items) };
+    ghost invariant = { λ surveyed. IsSurvey surveyed.«package» surveyed.broken (map facts_of surveyed.stories.items) };
 }
 
 /// A package with the kinds and numbers of its revisions, and the revisions.
@@ -119,9 +119,9 @@ impl<'a> Surveyed<'a> {
 fn survey_stories<'a>(
     alloc: Global,
     pkg: &Package<'a>,
-) -> Result<(Kept, Vec<Known<'a>>), AllocError>
+) -> Result<(Kept, Vec<StoryFacts<'a>>), AllocError>
     ensures rules { IfOk result (λ seen. seen.0 ≡ kept_among (stories pkg.now)) }
-    ensures known { IfOk result (λ seen. map known_of seen.1.items ≡ map known_in (stories pkg.now)) }
+    ensures known { IfOk result (λ seen. map facts_of seen.1.items ≡ map facts_in (stories pkg.now)) }
     ensures shape { IfOk result (λ seen. refusal pkg.now ≡ None) }
     ensures few { IfOk result (λ seen. count pkg.now < 2 ^ 32) }
 {
@@ -139,10 +139,10 @@ fn survey_stories<'a>(
 }
 
 /// Which rules hold in the story with this root, and what is known of it, by one walk. `Err` means out of memory.
-fn survey_story<'a>(alloc: Global, root: &Elem<'a>) -> Result<(Kept, Known<'a>), AllocError>
+fn survey_story<'a>(alloc: Global, root: &Elem<'a>) -> Result<(Kept, StoryFacts<'a>), AllocError>
     requires few { count (kids_of root.now) < 2 ^ 32 }
     ensures rules { IfOk result (λ seen. seen.0 ≡ element_kept [] (tag_of root.now) (kids_of root.now)) }
-    ensures known { IfOk result (λ seen. known_of seen.1 ≡ known_in (parts_by (tag_of root.now) (kids_of root.now))) }
+    ensures known { IfOk result (λ seen. facts_of seen.1 ≡ facts_in (parts_by (tag_of root.now) (kids_of root.now))) }
 {
     let inner = Ancestors::none().inside(root);
     let (keeper, round) = Keeper::<AllocError>::at_root(root);
@@ -152,6 +152,6 @@ fn survey_story<'a>(alloc: Global, root: &Elem<'a>) -> Result<(Kept, Known<'a>),
         second: Finder::new(alloc),
     };
     visit_kids(root, &inner, &(round, below), &mut both)?;
-    let known = Known::of_markers(alloc, both.second.found)?;
+    let known = StoryFacts::of_markers(alloc, both.second.found)?;
     Ok((both.first.kept, known))
 }

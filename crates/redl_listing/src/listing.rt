@@ -2,7 +2,7 @@
 
 ghost use Rattle.std.specs.Prelude.{◌≡◌, ◌+◌, ◌++◌, ◌∷◌, ◌<◌, ◌↔◌, [], All, Bool, List, drop, length, true, false, IfOk, IsTrue, OnOk, OnErr, if◌then◌else◌};
 ghost use Rattle.std.specs.Str.{IsUtf8};
-ghost use Rattle.redl_index.specs.Revisions.{IsTold};
+ghost use Rattle.redl_index.specs.Revisions.{IsListable};
 ghost use Rattle.redl_index.specs.declared.revision.Revision.{Revision};
 ghost use Rattle.redl_listing.specs.Rows.{IsRow, first_detail, first_shown, rows_of, shown_rows, told_row, told_rows};
 ghost use Rattle.redl_details.specs.Details.{IsDetail};
@@ -141,7 +141,7 @@ fn add_rows(
     shown: &[bool],
 ) -> Result<(), AllocError>
     requires names { All IsUtf8 parts.now }
-    requires told { All IsTold revisions.now }
+    requires told { All IsListable revisions.now }
     requires parts { All (λ revision. revision.part < length parts.now) revisions.now }
     requires verdicts { length verdicts.now ≡ length revisions.now }
     requires details { All IsDetail details.old.items }
@@ -177,7 +177,7 @@ fn add_if(
     is_shown: bool,
 ) -> Result<(), AllocError>
     requires names { All IsUtf8 parts.now }
-    requires told { IsTold revision.now }
+    requires told { IsListable revision.now }
     requires part { revision.now.part < length parts.now }
     requires detail { IsDetail detail }
     requires open { is_closed format.old ≡ false }

@@ -2,7 +2,7 @@
 
 ghost use Rattle.std.specs.Prelude.{◌≡◌, ◌<◌, length, All, IfOk};
 ghost use Rattle.std.specs.Str.{IsUtf8};
-ghost use Rattle.redl_index.specs.Revisions.{IsTold};
+ghost use Rattle.redl_index.specs.Revisions.{IsListable};
 ghost use Rattle.redl_listing.specs.Rows.{IsRow, told_row};
 ghost use Rattle.redl_details.specs.Details.{IsDetail};
 
@@ -45,7 +45,7 @@ impl Row {
     ) -> Result<Row, AllocError>
         requires part { revision.now.part < length parts.now }
         requires parts { All IsUtf8 parts.now }
-        requires told { IsTold revision.now }
+        requires told { IsListable revision.now }
         requires detail { IsDetail detail }
         ensures value { IfOk result (λ row. row ≡ told_row parts.now revision.now verdict detail) }
         ensures row { IfOk result IsRow }

@@ -18,7 +18,7 @@ use Rattle.redl_tree.specs.declared.kinds.Kind.TheVariants.{Plain}
 -- ---- one element and its revision
 
 -- the revision has this kind, and the author and the moment that these attributes tell
-pub record IsTold (of_kind : Option RevKind) (tail : List ℕ) (revision : Revision) : Type 0 where
+pub record IsListable (of_kind : Option RevKind) (tail : List ℕ) (revision : Revision) : Type 0 where
   pub kind : of_kind ≡ Some revision.kind
   pub author : revision.author ≡ author_of tail
   pub seconds : revision.seconds ≡ seconds_of tail
@@ -32,9 +32,9 @@ pub record StandsAt (elements : List Seen) (position : ℕ) : Type 0 where
 -- The revision is that of an element of the story with these elements. Where the element is in no paired move, it tells the
 -- revision itself. Else the revision is that move, told by the start of its source.
 abbrev pub IsTellerOf : List Seen → Seen → Revision → Option Pair → Type 0
-IsTellerOf elements element revision None = IsTold (kind_of element.own.tag.kind) element.own.tag.tail revision
+IsTellerOf elements element revision None = IsListable (kind_of element.own.tag.kind) element.own.tag.tail revision
 IsTellerOf elements element revision (Some pair) =
-    (source : StandsAt elements pair.source.start.at) × IsTold (Some Move) source.element.own.tag.tail revision
+    (source : StandsAt elements pair.source.start.at) × IsListable (Some Move) source.element.own.tag.tail revision
 
 -- the revision at this place of the list is that of an element of the story in this part
 pub record Names (revisions : List Revision) (part : ℕ) (elements : List Seen) (element : Seen) (place : ℕ) : Type 0 where

@@ -5,7 +5,7 @@ ghost use Rattle.std.specs.List.{flat_map};
 ghost use Rattle.std.specs.Map.Iter.{deref};
 ghost use Rattle.redl_io.specs.Sink.{Puts};
 ghost use Rattle.redl_index.specs.KindNames.{kind_name};
-ghost use Rattle.redl_index.specs.Revisions.{IsTold};
+ghost use Rattle.redl_index.specs.Revisions.{IsListable};
 ghost use Rattle.redl_join.specs.LastWords.{last_words, words_on};
 ghost use Rattle.redl_listing.specs.Dates.{date_text, moment_text};
 ghost use Rattle.redl_stamp.specs.Moment.{IsMoment};
@@ -44,7 +44,7 @@ fn put_each<K: Sink>(
     locked: &[bool],
     out: &mut K,
 ) -> Result<(), Failed>
-    requires told { All IsTold revisions.now }
+    requires told { All IsListable revisions.now }
     requires words { (rev : ℕ) → words_on words.now rev ≡ last_words book.now rev }
     requires locked { length locked.now ≡ length revisions.now }
     ensures { Puts K.told K.faults K.settled K.lenders out.old out.new (pieces_text (changes book.now revisions.now locked.now)) result }
@@ -70,7 +70,7 @@ fn put_change<K: Sink>(
     words: &[&Entry],
     out: &mut K,
 ) -> Result<(), Failed>
-    requires { IsTold revision.now }
+    requires { IsListable revision.now }
     ensures { Puts K.told K.faults K.settled K.lenders out.old out.new (pieces_text (change revision.now verdict locked (map deref words.now))) result }
 {
     put_change_head(revision, out)?;
@@ -80,7 +80,7 @@ fn put_change<K: Sink>(
 }
 
 fn put_change_head<K: Sink>(revision: &Revision, out: &mut K) -> Result<(), Failed>
-    requires { IsTold revision.now }
+    requires { IsListable revision.now }
     ensures { Puts K.told K.faults K.settled K.lenders out.old out.new (pieces_text (change_head revision.now)) result }
 {
     put_number_and_kind(revision, out)?;
@@ -88,7 +88,7 @@ fn put_change_head<K: Sink>(revision: &Revision, out: &mut K) -> Result<(), Fail
 }
 
 fn put_number_and_kind<K: Sink>(revision: &Revision, out: &mut K) -> Result<(), Failed>
-    requires { IsTold revision.now }
+    requires { IsListable revision.now }
     ensures { Puts K.told K.faults K.settled K.lenders out.old out.new
         ((codes "<li id=\"revision-" ++ decimal revision.now.number) ++ (codes "\" data-kind=\"" ++ escaped (kind_name revision.now.kind))) result }
 {
@@ -98,7 +98,7 @@ fn put_number_and_kind<K: Sink>(revision: &Revision, out: &mut K) -> Result<(), 
 }
 
 fn put_author_and_date<K: Sink>(revision: &Revision, out: &mut K) -> Result<(), Failed>
-    requires { IsTold revision.now }
+    requires { IsListable revision.now }
     ensures { Puts K.told K.faults K.settled K.lenders out.old out.new
         ((codes "\" data-author=\"" ++ escaped revision.now.author) ++ (codes "\" data-date=\"" ++ escaped (date_text revision.now.seconds))) result }
 {

@@ -14,7 +14,7 @@ use Rattle.std.proofs.lemmas.Map.Text.{is_eq-slice_cmp}
 use Rattle.redl_tree.specs.declared.kinds.Trace.TheVariants.{Ins, Del, From, To}
 use Rattle.redl_tree.specs.declared.kinds.Prop.TheVariants as props
 use Rattle.redl_index.specs.Kinds.{is_named}
-use Rattle.redl_index.specs.Revisions.{IsTold}
+use Rattle.redl_index.specs.Revisions.{IsListable}
 use Rattle.redl_index.specs.declared.revision.RevKind.{RevKind}
 use Rattle.redl_index.specs.declared.revision.RevKind.TheVariants as kind
 use Rattle.redl_index.specs.declared.revision.Revision.{Revision}
@@ -284,13 +284,13 @@ module _ (revisions : List Revision) (book : List Entry) where
   kinds own [] = tt
   kinds own (one ∷ of) = (λ role. absurd cc, kinds own of)
 
-  named : All IsTold revisions → (name : List ℕ) → AllByRecursion (λ revision. IsTrue (is_named revision.kind)) (group name).items
+  named : All IsListable revisions → (name : List ℕ) → AllByRecursion (λ revision. IsTrue (is_named revision.kind)) (group name).items
   named told name =
       let test = λ (revision : Revision). bytes_eq revision.author name in
       recursion_from_All (λ (revision : Revision). IsTrue (is_named revision.kind)) (filter test revisions)
-      (All-filter test (λ revision. IsTrue (is_named revision.kind)) revisions (All-weaker IsTold (λ revision. IsTrue (is_named revision.kind)) (λ revision is. is.named) revisions told))
+      (All-filter test (λ revision. IsTrue (is_named revision.kind)) revisions (All-weaker IsListable (λ revision. IsTrue (is_named revision.kind)) (λ revision is. is.named) revisions told))
 
-  lines : All IsTold revisions → (names : List (List ℕ)) → AllByRecursion (λ name. among name authors ≡ kind_lines KINDS book (group name)) names
+  lines : All IsListable revisions → (names : List (List ℕ)) → AllByRecursion (λ name. among name authors ≡ kind_lines KINDS book (group name)) names
       → All (KindsAddUp whole) (flat_map (author_lines book) (map group names))
   lines told [] are = All-from_recursion (KindsAddUp whole) [] tt
   lines told (name ∷ names) are =
@@ -304,7 +304,7 @@ module _ (revisions : List Revision) (book : List Entry) where
       own : KindsAddUp whole (author_line book (group name))
       own = λ role. ap (fold with_counts no_revisions) (kinds-among name ∙ are.0) ∙ own-sum book (group name) (named told name)
 
-  pub kinds-add_up : All IsTold revisions → All (KindsAddUp whole) whole
+  pub kinds-add_up : All IsListable revisions → All (KindsAddUp whole) whole
   kinds-add_up told =
       All-append (KindsAddUp whole) (map (reviewer_line (length revisions)) (grouped reviewer_of book)) (flat_map (author_lines book) (grouped author_of revisions))
       (All-from_recursion (KindsAddUp whole) (map (reviewer_line (length revisions)) (grouped reviewer_of book)) (reviewers (grouped reviewer_of book)))

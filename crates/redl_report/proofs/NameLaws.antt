@@ -7,7 +7,7 @@ use Rattle.std.specs.Str.{IsUtf8}
 use Rattle.std.proofs.lemmas.List.Elements.{All-append, All-filter, All-from_recursion, All-map, All-same, All-weaker, recursion_from_All}
 use Rattle.std.proofs.lemmas.List.Concat.{flat_map-cons}
 use Rattle.redl_index.specs.declared.revision.Revision.{Revision}
-use Rattle.redl_index.specs.Revisions.{IsTold}
+use Rattle.redl_index.specs.Revisions.{IsListable}
 use Rattle.redl_journal.specs.declared.entry.Entry.{Entry}
 use Rattle.redl_journal.specs.Journals.{IsAllowed}
 use Rattle.redl_report.specs.declared.line.ReportLine.{ReportLine}
@@ -62,14 +62,14 @@ author_lines-named book own utf8 =
     each [] are = tt
     each (kind ∷ kinds) are = (record { who = utf8; kind = are.0 }, each kinds are.1)
 
-pub lines-named : (revisions : List Revision) (book : List Entry) → All IsTold revisions → All IsAllowed book → All IsLine (report_lines revisions book)
+pub lines-named : (revisions : List Revision) (book : List Entry) → All IsListable revisions → All IsAllowed book → All IsLine (report_lines revisions book)
 lines-named revisions book told allowed =
     All-append IsLine (map (reviewer_line (length revisions)) (grouped reviewer_of book)) (map (author_line book) (grouped author_of revisions))
     (named reviewer_of (reviewer_line (length revisions)) (λ group utf8. record { who = utf8; kind = tt }) book (All-weaker IsAllowed (λ entry. IsUtf8 entry.reviewer) (λ entry is. is.reviewer.utf8) book allowed))
-    (named author_of (author_line book) (λ group utf8. record { who = utf8; kind = tt }) revisions (All-weaker IsTold (λ revision. IsUtf8 revision.author) (λ revision is. is.author) revisions told))
+    (named author_of (author_line book) (λ group utf8. record { who = utf8; kind = tt }) revisions (All-weaker IsListable (λ revision. IsUtf8 revision.author) (λ revision is. is.author) revisions told))
 
-pub lines-named-by_kind : (revisions : List Revision) (book : List Entry) → All IsTold revisions → All IsAllowed book → All IsLine (report_lines_by_kind revisions book)
+pub lines-named-by_kind : (revisions : List Revision) (book : List Entry) → All IsListable revisions → All IsAllowed book → All IsLine (report_lines_by_kind revisions book)
 lines-named-by_kind revisions book told allowed =
     All-append IsLine (map (reviewer_line (length revisions)) (grouped reviewer_of book)) (flat_map (author_lines book) (grouped author_of revisions))
     (named reviewer_of (reviewer_line (length revisions)) (λ group utf8. record { who = utf8; kind = tt }) book (All-weaker IsAllowed (λ entry. IsUtf8 entry.reviewer) (λ entry is. is.reviewer.utf8) book allowed))
-    (all-named author_of (author_lines book) (author_lines-named book) revisions (All-weaker IsTold (λ revision. IsUtf8 revision.author) (λ revision is. is.author) revisions told))
+    (all-named author_of (author_lines book) (author_lines-named book) revisions (All-weaker IsListable (λ revision. IsUtf8 revision.author) (λ revision is. is.author) revisions told))

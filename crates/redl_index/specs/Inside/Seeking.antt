@@ -5,7 +5,7 @@ use Rattle.redl_tree.specs.Roles.Arounds.{role_in}
 use Rattle.redl_tree.specs.Revisions.Moves.{Marking}
 use Rattle.redl_tree.specs.declared.around.Around.{Around}
 use Rattle.redl_visit.specs.Visits.{VisitRule, VisitNeeds}
-use Rattle.redl_index.specs.Known.{Marked}
+use Rattle.redl_index.specs.StoryFacts.{Facts}
 use Rattle.redl_index.specs.Mentions.{sight_by}
 use Rattle.redl_index.specs.Inside.Sights.{IsApartAs, sight_at, next_end, ends_after}
 use Rattle.redl_index.specs.Inside.Stories.{tails_in}
@@ -35,7 +35,7 @@ seeking_of seeker = record {
 }
 
 -- before the first element of the story in this part of which this is known, where these revisions are found so far
-abbrev pub seeking_in : ℕ → Marked → List Revision → Seeking
+abbrev pub seeking_in : ℕ → Facts → List Revision → Seeking
 seeking_in part known index = record {
   part = part;
   marks = known.marks;

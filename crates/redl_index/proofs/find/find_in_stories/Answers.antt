@@ -6,11 +6,11 @@ use Rattle.redl_opc.specs.Parts.{story}
 use Rattle.redl_opc.specs.Shape.{parts_of}
 use Rattle.redl_opc.specs.Stories.{story_view, stories_from}
 use Rattle.redl_opc.proofs.WalkLaws.{count_from-start, count_from-part, count_from-story, parts-end, stories_from-start, stories_from-part}
-use Rattle.redl_index.specs.Known.{known_in}
+use Rattle.redl_index.specs.StoryFacts.{facts_in}
 use Rattle.redl_index.specs.Revisions.{numbered, revisions_in, revisions_from}
 use Rattle.redl_index.specs.declared.revision.Revision.{Revision}
 use Rattle.redl_index.proofs.RevisionLaws.{found-part}
-use Rattle.redl_index.proofs.KnownLaws.{known-at}
+use Rattle.redl_index.proofs.StoryFactLaws.{known-at}
 use Rattle.redl_index.proofs.find.find_in_stories.Goals as goal
 
 pub loop-part-init : goal.loop-part-init
@@ -19,7 +19,7 @@ loop-part-init c =
     record {
       at_most = omega (arith, ap (λ (rs : List Revision). length rs) c.nothing-found.ensures, count_from-start pkg);
       found = ap (λ (rs : List Revision). rs ++ numbered (1 + length rs) (revisions_from 0 (parts_of pkg))) c.nothing-found.ensures;
-      known = c.requires.known ∙ ap (map known_in) (sym (stories_from-start pkg c.parts-part-end.ensures.shape));
+      known = c.requires.known ∙ ap (map facts_in) (sym (stories_from-start pkg c.parts-part-end.ensures.shape));
     }
 
 pub loop-part-preserved : goal.loop-part-preserved
@@ -38,7 +38,7 @@ loop-part-preserved c =
     record {
       at_most = omega (arith, c.in_ok-found.ensures.at_most, count_from-story pkg part root within is_story, c.loop-part.invariant.at_most);
       found = found-part pkg part within old now now_is ∙ c.loop-part.invariant.found;
-      known = (known-at c.args.known.now c.loop-part.place (known_in (story_view root)) (map known_in (stories_from (part + 1) pkg)) (c.loop-part.invariant.known ∙ ap (map known_in) here)).later;
+      known = (known-at c.args.known.now c.loop-part.place (facts_in (story_view root)) (map facts_in (stories_from (part + 1) pkg)) (c.loop-part.invariant.known ∙ ap (map facts_in) here)).later;
     }
 
 pub loop-part-preserved-in_default : goal.loop-part-preserved-in_default
@@ -55,7 +55,7 @@ loop-part-preserved-in_default c =
     record {
       at_most = omega (arith, count_from-part pkg part within, c.loop-part.invariant.at_most);
       found = found-part pkg part within old old found_is ∙ c.loop-part.invariant.found;
-      known = c.loop-part.invariant.known ∙ ap (map known_in) here;
+      known = c.loop-part.invariant.known ∙ ap (map facts_in) here;
     }
 
 pub loop-part-preserved-in_default-get : goal.loop-part-preserved-in_default-get
@@ -67,7 +67,7 @@ loop-part-preserved-in_default-get c =
     let within : part < length (parts_of pkg) = omega (arith, c.parts-part-end.ensures.value, c.loop-part-test.true) in
     let here : stories_from part pkg ≡ story_view root ∷ stories_from (part + 1) pkg =
     stories_from-part pkg part within ∙ ap (λ o. option_to_list (option_map story_view o) ++ stories_from (part + 1) pkg) c.in-Some.ensures.value in
-    let at = known-at known c.loop-part.place (known_in (story_view root)) (map known_in (stories_from (part + 1) pkg)) (c.loop-part.invariant.known ∙ ap (map known_in) here) in
+    let at = known-at known c.loop-part.place (facts_in (story_view root)) (map facts_in (stories_from (part + 1) pkg)) (c.loop-part.invariant.known ∙ ap (map facts_in) here) in
     let past : length known ≤ c.loop-part.place = search rules in
     absurd (omega (arith, at.within, past))
 
@@ -89,7 +89,7 @@ find_in_story-requires-clause-known c =
     stories_from-part pkg part within ∙ ap (λ o. option_to_list (option_map story_view o) ++ stories_from (part + 1) pkg) c.in-Some.ensures.value in
     let known = c.args.known.now in
     let next = c.in-Some-get.next.now in
-    let at = known-at known c.loop-part.place (known_in (story_view root)) (map known_in (stories_from (part + 1) pkg)) (c.loop-part.invariant.known ∙ ap (map known_in) here) in
+    let at = known-at known c.loop-part.place (facts_in (story_view root)) (map facts_in (stories_from (part + 1) pkg)) (c.loop-part.invariant.known ∙ ap (map facts_in) here) in
     let same : get_or known c.loop-part.place next ≡ next = search rules in
     at.here next (slice_get-get_or known c.loop-part.place next at.within ∙ ap Some same)
 

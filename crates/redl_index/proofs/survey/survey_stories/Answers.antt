@@ -4,7 +4,7 @@ use Rattle.redl_opc.specs.Shape.{parts_of}
 use Rattle.redl_opc.proofs.WalkLaws.{count_from-start, count_from-part, count_from-story}
 use Rattle.redl_rules.specs.Keeping.{in_both}
 use Rattle.redl_rules.proofs.StoryLaws.{kept-first, kept-story, kept-other, kept-last}
-use Rattle.redl_index.proofs.KnownLaws.{known-first, known-story, known-other, known-last}
+use Rattle.redl_index.proofs.StoryFactLaws.{known-first, known-story, known-other, known-last}
 use Rattle.redl_index.proofs.survey.survey_stories.Goals as goal
 
 pub survey_story-requires : goal.survey_story-requires

@@ -7,7 +7,7 @@ use Rattle.redl_visit.proofs.PairLaws.{both-needs}
 use Rattle.redl_index.specs.Inside.Markers.Finding.{Finding, finding_of, all_found, finder_rule, finder_needs}
 use Rattle.redl_index.proofs.MarkerLaws.Finder.{story-needs, story-few, story-rises}
 use Rattle.redl_rules.specs.Visiting.{keeper_rule}
-use Rattle.redl_index.proofs.SurveyLaws.{known_from, rules-told, markers-told}
+use Rattle.redl_index.proofs.SurveyLaws.{facts_from, rules-told, markers-told}
 use Rattle.redl_index.proofs.survey.survey_story.Goals as goal
 
 pub visit_kids-requires : goal.visit_kids-requires
@@ -45,7 +45,7 @@ returns-clause-rules c =
 pub returns-clause-known : goal.returns-clause-known
 returns-clause-known c =
     c.in_ok-known.ensures
-    ∙ ap known_from
+    ∙ ap facts_from
     (markers-told (tag_of c.args.root.now) (kids_of c.args.root.now) c.none.result c.inside-inner.result c.at_root.result.1 c.of_root-below.result c.at_root.result.0.kept (finding_of c.new.result)
     (c.visit_kids.new.visitor.first.kept, finding_of c.visit_kids.new.visitor.second) c.none.ensures c.inside-inner.ensures c.in_ok-visit_kids.ensures.state
     c.of_root-below.ensures c.new.ensures)

@@ -1,6 +1,6 @@
 -- What the chosen format says for all rows, it says when these rows are in it and it is closed.
 use Rattle.std.proofs.Common.{◌≡◌, [], false, All, subst, sym, ◌∙◌, refl}
-use Rattle.redl_index.specs.Revisions.{IsTold}
+use Rattle.redl_index.specs.Revisions.{IsListable}
 use Rattle.redl_listing.specs.Rows.{shown_rows, told_rows}
 use Rattle.redl_listing.proofs.NameLaws.{named_has, nothing_named}
 use Rattle.redl_listing.proofs.listing.list_told.Goals as goal
@@ -17,7 +17,7 @@ returns-clause-listed g c =
     rw (← c.in-Some.ensures.found) (refl, c.in_ok-finish.ensures.text ∙ rw (c.requires.empty, rows) (c.in_ok-add_rows.ensures.same_format all))
 
 pub add_rows-requires-clause-told : goal.add_rows-requires-clause-told
-add_rows-requires-clause-told g c = subst (All IsTold) (sym c.revisions.ensures.value) c.revisions.ensures.told
+add_rows-requires-clause-told g c = subst (All IsListable) (sym c.revisions.ensures.value) c.revisions.ensures.told
 
 pub returns-in_default-clause-unchanged : goal.returns-in_default-clause-unchanged
 returns-in_default-clause-unchanged g c =

@@ -11,17 +11,17 @@ use Rattle.redl_moves.specs.Marks.{markings}
 use Rattle.redl_index.specs.declared.markers.StoryMarkers.{StoryMarkers}
 use Rattle.redl_index.specs.Markers.Ends.{ends_from}
 use Rattle.redl_index.specs.Markers.Found.{markers_of, marker_tails}
-use Rattle.redl_index.specs.declared.known.Known.{Known}
+use Rattle.redl_index.specs.declared.story_facts.StoryFacts.{StoryFacts}
 
 -- a story by its markers, their attributes, the ends of its paragraphs, and the numbers of its moves by places among the markers
-pub record Marked : Type 0 where
+pub record Facts : Type 0 where
   pub marks : List Marking
   pub tails : List (List ℕ)
   pub ends : List ℕ
   pub numbers : List ℕ
 
-abbrev pub known_of : Known → Marked
-known_of known = record {
+abbrev pub facts_of : StoryFacts → Facts
+facts_of known = record {
   marks = known.moves;
   tails = map (λ tail. tail.now) known.tails.items;
   ends = known.ends.items;
@@ -29,8 +29,8 @@ known_of known = record {
 }
 
 -- the same by what was found in it, where no move has a number yet
-abbrev pub known_by : StoryMarkers → Marked
-known_by found = record {
+abbrev pub facts_by : StoryMarkers → Facts
+facts_by found = record {
   marks = markings found.marks.items;
   tails = map (λ tail. tail.now) found.tails.items;
   ends = found.ends.items;
@@ -41,8 +41,8 @@ abbrev pub parts_by : Tag → Nodes → Parts
 parts_by tag kids = record { tag = tag; kids = kids }
 
 -- what there is to know of a story, none of whose moves has a number yet
-abbrev pub known_in : Parts → Marked
-known_in story = record {
+abbrev pub facts_in : Parts → Facts
+facts_in story = record {
   marks = markers_of story.tag story.kids;
   tails = marker_tails story.tag story.kids;
   ends = ends_from 1 story.kids;
@@ -50,8 +50,8 @@ known_in story = record {
 }
 
 -- the rule that a package breaks, and what is known of its stories
-pub record IsSurvey (nodes : Nodes) (rule : Option ℕ) (surveyed : List Marked) : Type 0 where
+pub record IsSurvey (nodes : Nodes) (rule : Option ℕ) (surveyed : List Facts) : Type 0 where
   pub broken : rule ≡ broken_rule nodes
-  pub known : surveyed ≡ map known_in (stories nodes)
+  pub known : surveyed ≡ map facts_in (stories nodes)
   pub shape : refusal nodes ≡ None
   pub few : count nodes < 2 ^ 32

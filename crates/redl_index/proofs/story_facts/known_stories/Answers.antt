@@ -2,8 +2,8 @@ use Rattle.std.proofs.Common.{◌<◌, ◌≤◌, length, arith}
 use Rattle.redl_opc.specs.Elements.{element_of}
 use Rattle.redl_opc.specs.Shape.{parts_of}
 use Rattle.redl_opc.proofs.WalkLaws.{count_from-start, count_from-part, count_from-story}
-use Rattle.redl_index.proofs.KnownLaws.{known-first, known-story, known-other, known-last}
-use Rattle.redl_index.proofs.known.known_stories.Goals as goal
+use Rattle.redl_index.proofs.StoryFactLaws.{known-first, known-story, known-other, known-last}
+use Rattle.redl_index.proofs.story_facts.known_stories.Goals as goal
 
 pub of-requires : goal.of-requires
 of-requires c =

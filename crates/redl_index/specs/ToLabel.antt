@@ -5,16 +5,16 @@ use Rattle.redl_tree.specs.Model.Nodes.{Tag, Nodes}
 use Rattle.redl_tree.specs.Decisions.Packages.{StoryRule, is_story_root}
 use Rattle.redl_tree.specs.Revisions.Numbers.{labelled_story, next_after_story}
 use Rattle.redl_stamp.specs.Attribute.{attribute_value}
-use Rattle.redl_index.specs.Known.{Marked, known_of, known_in, parts_by}
-use Rattle.redl_index.specs.declared.label.Unlabelled.{Unlabelled}
+use Rattle.redl_index.specs.StoryFacts.{Facts, facts_of, facts_in, parts_by}
+use Rattle.redl_index.specs.declared.label.ToLabel.{ToLabel}
 
 -- the next number, and what is known of the stories that are left
 pub record Left : Type 0 where
   pub next : ℕ
-  pub stories : List Marked
+  pub stories : List Facts
 
-abbrev pub left_of : Unlabelled → Left
-left_of left = record { next = left.next; stories = map known_of (drop left.place left.stories.items) }
+abbrev pub left_of : ToLabel → Left
+left_of left = record { next = left.next; stories = map facts_of (drop left.place left.stories.items) }
 
 -- Each story is labelled from the next number on.
 abbrev pub left_rule : StoryRule Left
@@ -26,6 +26,6 @@ left_rule = record {
 -- the story with this root is the next one that is known, and 32 bits hold its numbers
 pub record IsNext (left : Left) (tag : Tag) (kids : Nodes) : Type 0 where
   pub root : IsTrue (is_story_root tag)
-  pub known : slice_get left.stories 0 ≡ Some (known_in (parts_by tag kids))
+  pub known : slice_get left.stories 0 ≡ Some (facts_in (parts_by tag kids))
   pub begun : 0 < left.next
   pub few : left.next + count kids < 2 ^ 32

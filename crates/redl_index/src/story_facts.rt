@@ -6,7 +6,7 @@ ghost use Rattle.redl_tree.specs.Model.View.{tag_of, kids_of};
 ghost use Rattle.redl_tree.specs.Decisions.Packages.{stories};
 ghost use Rattle.redl_opc.specs.Shape.{refusal};
 ghost use Rattle.redl_moves.specs.Marks.{markings, RisesFrom};
-ghost use Rattle.redl_index.specs.Known.{known_of, known_by, known_in, parts_by};
+ghost use Rattle.redl_index.specs.StoryFacts.{facts_of, facts_by, facts_in, parts_by};
 
 use crate::markers::{StoryMarkers, find_markers};
 use crate::numbers::Numbers;
@@ -18,7 +18,7 @@ use std::alloc::{AllocError, Global};
 /// What is known of a story: its moves, the attributes of its markers, where its paragraphs end, and the numbers that its moves have
 /// so far.
 #[derive(Drop)]
-pub(crate) struct Known<'a> {
+pub(crate) struct StoryFacts<'a> {
     pub(crate) moves: Moves,
     pub(crate) tails: Vec<&'a [u8]>,
     pub(crate) ends: Vec<u64>,
@@ -29,8 +29,8 @@ pub(crate) struct Known<'a> {
 pub(crate) fn known_stories<'a>(
     alloc: Global,
     pkg: &Package<'a>,
-) -> Result<Vec<Known<'a>>, AllocError>
-    ensures known { IfOk result (λ known. map known_of known.items ≡ map known_in (stories pkg.now)) }
+) -> Result<Vec<StoryFacts<'a>>, AllocError>
+    ensures known { IfOk result (λ known. map facts_of known.items ≡ map facts_in (stories pkg.now)) }
     ensures shape { IfOk result (λ known. refusal pkg.now ≡ None) }
     ensures few { IfOk result (λ known. count pkg.now < 2 ^ 32) }
 {
@@ -39,31 +39,31 @@ pub(crate) fn known_stories<'a>(
         let Some(root) = pkg.story(part) else {
             continue;
         };
-        known.push(Known::of(alloc, root)?)?;
+        known.push(StoryFacts::of(alloc, root)?)?;
     }
     Ok(known)
 }
 
-impl<'a> Known<'a> {
+impl<'a> StoryFacts<'a> {
     /// What is known of the story with this root. `Err` means out of memory.
-    fn of(alloc: Global, root: &Elem<'a>) -> Result<Known<'a>, AllocError>
+    fn of(alloc: Global, root: &Elem<'a>) -> Result<StoryFacts<'a>, AllocError>
         requires few { count (kids_of root.now) < 2 ^ 32 }
-        ensures { IfOk result (λ known. known_of known ≡ known_in (parts_by (tag_of root.now) (kids_of root.now))) }
+        ensures { IfOk result (λ known. facts_of known ≡ facts_in (parts_by (tag_of root.now) (kids_of root.now))) }
     {
-        Known::of_markers(alloc, find_markers(alloc, root)?)
+        StoryFacts::of_markers(alloc, find_markers(alloc, root)?)
     }
 
     /// What is known of the story whose markers and ends these are. `Err` means out of memory.
     pub(crate) fn of_markers(
         alloc: Global,
         found: StoryMarkers<'a>,
-    ) -> Result<Known<'a>, AllocError>
+    ) -> Result<StoryFacts<'a>, AllocError>
         requires few { length found.marks.items < 2 ^ 32 }
         requires rising { RisesFrom 0 (markings found.marks.items) }
-        ensures { IfOk result (λ known. known_of known ≡ known_by found.entry) }
+        ensures { IfOk result (λ known. facts_of known ≡ facts_by found.entry) }
     {
         let numbers = vec![in alloc; 0; found.marks.len()]?;
-        Ok(Known {
+        Ok(StoryFacts {
             moves: Moves::of(alloc, found.marks)?,
             tails: found.tails,
             ends: found.ends,

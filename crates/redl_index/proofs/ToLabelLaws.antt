@@ -14,9 +14,9 @@ use Rattle.redl_tree.proofs.StoryLaws.{Agree, changed_in-agree}
 use Rattle.redl_opc.specs.Labels.{SetsLabels}
 use Rattle.redl_stamp.specs.Attribute.{attribute_value}
 use Rattle.redl_index.specs.Inside.Markers.Free.{Every}
-use Rattle.redl_index.specs.Known.{Marked, known_in}
+use Rattle.redl_index.specs.StoryFacts.{Facts, facts_in}
 use Rattle.redl_index.specs.Numbers.{numbered_package}
-use Rattle.redl_index.specs.Unlabelled.{Left, left_rule, IsNext}
+use Rattle.redl_index.specs.ToLabel.{Left, left_rule, IsNext}
 use Rattle.redl_index.proofs.EveryLaws.{every-append}
 use Rattle.redl_index.proofs.LabelLaws.{GoesOn, numbering-goes}
 
@@ -80,7 +80,7 @@ story-goes : (next : ℕ) (tag : Tag) (kids : Nodes) → GoesOn next (next_after
 story-goes next tag kids = numbering-goes (moves_among attribute_value (seen tag kids)) (root_spots tag kids) 1 (start_with next) kids
 
 takes-known : (next : ℕ) (xs : List Parts) → Every HasRoot xs → 0 < next → next + size xs ≤ 2 ^ 32
-    → TakesAll left_rule IsNext (record { next = next; stories = map known_in xs }) xs
+    → TakesAll left_rule IsNext (record { next = next; stories = map facts_in xs }) xs
 takes-known next [] roots begun few = tt
 takes-known next (story ∷ xs) roots begun few =
     let goes = story-goes next story.tag story.kids in (
@@ -88,8 +88,8 @@ takes-known next (story ∷ xs) roots begun few =
       takes-known (next_after_story attribute_value next story.tag story.kids) xs roots.1 (omega (arith, begun, goes.at_least)) (omega (arith, few, goes.at_most)),
     )
 
-pub takes-stories : (known : List Marked) (nodes : Nodes) → known ≡ map known_in (stories nodes) → count nodes < 2 ^ 32
+pub takes-stories : (known : List Facts) (nodes : Nodes) → known ≡ map facts_in (stories nodes) → count nodes < 2 ^ 32
     → TakesAll left_rule IsNext (record { next = 1; stories = known }) (stories nodes)
 takes-stories known nodes is few =
-    let P : List Marked → Type 0 = λ stories_known. TakesAll left_rule IsNext (record { next = 1; stories = stories_known }) (stories nodes) in
+    let P : List Facts → Type 0 = λ stories_known. TakesAll left_rule IsNext (record { next = 1; stories = stories_known }) (stories nodes) in
     subst P (sym is) (takes-known 1 (stories nodes) (roots-in [] nodes) (omega arith) (omega (arith, size-in [] nodes, few)))

@@ -1,8 +1,8 @@
 use Rattle.std.proofs.Common.{◌≤◌}
 use Rattle.redl_tree.specs.Model.Count.{count}
 use Rattle.redl_opc.proofs.WalkLaws.{count_from}
-use Rattle.redl_index.proofs.KnownLaws.{IsKnownBelow}
-use Rattle.redl_index.proofs.known.known_stories.Given as goal
+use Rattle.redl_index.proofs.StoryFactLaws.{IsKnownBelow}
+use Rattle.redl_index.proofs.story_facts.known_stories.Given as goal
 
 -- what is known of the stories so far, and how many nodes there are in the parts that are left
 abbrev pub invariant-loop-part : goal.invariant-loop-part
