@@ -39,7 +39,7 @@ use Rattle.redl_tree.specs.Decisions.Packages.{stories, pass_package}
 use Rattle.redl_tree.specs.Rules.Tests.{Test}
 use Rattle.redl_tree.specs.Rules.Sound.{holds, first_broken, is_sound}
 use Rattle.redl_tree.specs.Model.Text.{text}
-use Rattle.redl_tree.specs.Model.View.{Parts}
+use Rattle.redl_tree.specs.Model.View.{Element}
 use Rattle.redl_tree.specs.declared.kinds.Say.{Say}
 
 -- ---- calls that wrote all
@@ -62,7 +62,7 @@ is_made (Err failure) is = absurd (failed_is_not_written failure is)
 
 -- ---- a package that was read is sound
 
-none_broken : (number : ℕ) (tests : List Test) (parts : List Parts) → first_broken number tests parts ≡ None → list_all (λ test. holds test parts) tests ≡ true
+none_broken : (number : ℕ) (tests : List Test) (parts : List Element) → first_broken number tests parts ≡ None → list_all (λ test. holds test parts) tests ≡ true
 none_broken number [] parts is = refl
 none_broken number (test ∷ later) parts is = here (holds test parts) refl (none_broken (number + 1) later parts) is
   where

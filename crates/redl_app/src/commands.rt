@@ -51,7 +51,10 @@ pub(crate) fn carry_out<'a, F: Shelf, O: Sink>(
     match command {
         Command::Settle { accept, .. } => put(settle_package(alloc, *accept, text.unwrap()), out),
         Command::Text { view, .. } => put_text(alloc, *view, text.unwrap(), out),
-        Command::List(command) => put(list_package(alloc, command, text.unwrap(), shelf, formats), out),
+        Command::List(command) => put(
+            list_package(alloc, command, text.unwrap(), shelf, formats),
+            out,
+        ),
         Command::Report(command) => put(
             report_package(alloc, command, text.unwrap(), shelf, reports),
             out,
@@ -65,7 +68,10 @@ pub(crate) fn carry_out<'a, F: Shelf, O: Sink>(
             locks,
             journals,
             ..
-        } => put(write_package(alloc, locks, journals, text.unwrap(), shelf), out),
+        } => put(
+            write_package(alloc, locks, journals, text.unwrap(), shelf),
+            out,
+        ),
         Command::Decide(command) => put(decide_package(alloc, command, text.unwrap(), shelf), out),
         Command::Resume(command) => put(resume_package(alloc, command, text.unwrap(), shelf), out),
         Command::Join { journals } => put(join_files(alloc, journals, shelf), out),

@@ -12,7 +12,7 @@ use Rattle.redl_tree.specs.Leaves.Settings.{has_member, slots_cost, setting_cost
 use Rattle.redl_tree.specs.Leaves.Slots.{Leaf, Slots, no_slots, leaf_slot, container_slot}
 use Rattle.redl_tree.specs.Leaves.Ways.{ways, leaf_at}
 use Rattle.redl_tree.specs.Model.Nodes.{Nodes, no_nodes, bytes, element}
-use Rattle.redl_tree.specs.Model.View.{Parts}
+use Rattle.redl_tree.specs.Model.View.{Element}
 use Rattle.redl_editor.proofs.CoverLaws.{some-holder, holds-within, way-numbered, or-left, or-right}
 use Rattle.redl_editor.specs.Costs.{parts_cost}
 use Rattle.redl_editor.specs.Holdings.{HoldsOf, is_rev, is_touched, slots_hold, some_held}
@@ -255,10 +255,10 @@ touched-cost held revs leaves touched once slots of is_set listed depth =
 
 -- ---- of all stories
 
-pub cost-here : (is_set : ℕ → Bool) (parts : List Parts) (i : ℕ) (part : Parts) → i < length parts → part ≡ get_or parts i part
+pub cost-here : (is_set : ℕ → Bool) (parts : List Element) (i : ℕ) (part : Element) → i < length parts → part ≡ get_or parts i part
     → parts_cost is_set (drop i parts) ≡ setting_cost is_set (leaves part) + parts_cost is_set (drop (i + 1) parts)
 cost-here is_set parts i part lt is =
     ap (parts_cost is_set) (drop_more parts i part lt) ∙ ap (λ p. setting_cost is_set (leaves p) + parts_cost is_set (drop (i + 1) parts)) (sym is)
 
-pub cost-end : (is_set : ℕ → Bool) (parts : List Parts) (i : ℕ) → length parts ≤ i → parts_cost is_set (drop i parts) ≡ 0
+pub cost-end : (is_set : ℕ → Bool) (parts : List Element) (i : ℕ) → length parts ≤ i → parts_cost is_set (drop i parts) ≡ 0
 cost-end is_set parts i past = ap (parts_cost is_set) (drop_all i parts past)

@@ -14,7 +14,7 @@ use Rattle.redl_tree.specs.Leaves.Rebuilt.{original}
 use Rattle.redl_tree.specs.Leaves.Settings.{Setting, set_each}
 use Rattle.redl_tree.specs.Leaves.Shown.{AreStatesOfEach, ShowsStory, shown_rule}
 use Rattle.redl_tree.specs.Model.Nodes.{Tag, Nodes, no_nodes, bytes, element}
-use Rattle.redl_tree.specs.Model.View.{Parts, nodes_of}
+use Rattle.redl_tree.specs.Model.View.{Element, nodes_of}
 use Rattle.redl_tree.specs.declared.kinds.Say.{Say}
 use Rattle.redl_tree.specs.declared.kinds.Say.TheVariants.{Keep}
 use Rattle.redl_tree.specs.declared.node.Node.{Node}
@@ -48,7 +48,7 @@ changed-same given ancestors (element tag kids rest) =
 original-blind : IsBlind original_rule
 original-blind = record { kids = λ given tag xs ys. refl; left = λ given tag xs ys. refl }
 
-begun-agree : (parts : List Parts) (kept : List Story) → AreBegun parts kept → Agree original_rule same_rule (map slots_kept kept) tt parts
+begun-agree : (parts : List Element) (kept : List Story) → AreBegun parts kept → Agree original_rule same_rule (map slots_kept kept) tt parts
 begun-agree [] kept begun = tt
 begun-agree (part ∷ parts) [] begun = absurd begun
 begun-agree (part ∷ parts) (story ∷ kept) begun = (
@@ -65,7 +65,7 @@ original-taken nodes emptied left kept taken is begun =
     ∙ changed-same tt [] nodes
 
 -- and what is kept of it where nothing is decided
-pub begun-kept : (revisions : ℕ) (parts : List Parts) (kept : List Story) (tables : List Table) → AreBegun parts kept → AreTables kept tables
+pub begun-kept : (revisions : ℕ) (parts : List Element) (kept : List Story) (tables : List Table) → AreBegun parts kept → AreTables kept tables
     → AreKept (replicate revisions Keep) parts kept tables
 begun-kept revisions [] [] [] begun known = tt
 begun-kept revisions [] [] (table ∷ tables) begun known = absurd known
@@ -87,7 +87,7 @@ begun-consistent revisions nodes left kept tables numbered plain is begun known 
 
 -- ---- what is written
 
-kept-states : (says : List Say) (parts : List Parts) (kept : List Story) (tables : List Table) → AreKept says parts kept tables
+kept-states : (says : List Say) (parts : List Element) (kept : List Story) (tables : List Table) → AreKept says parts kept tables
     → AreStatesOfEach opens says parts (map states_kept kept)
 kept-states says [] [] [] are = tt
 kept-states says [] [] (table ∷ tables) are = absurd are
@@ -105,7 +105,7 @@ kept-written nodes kept tables says is =
 
 -- ---- what is lent
 
-shown-lent : (says : List Say) (parts : List Parts) (kept : List Story) (tables : List Table) → AreKept says parts kept tables → All (ShowsStory opens says) parts
+shown-lent : (says : List Say) (parts : List Element) (kept : List Story) (tables : List Table) → AreKept says parts kept tables → All (ShowsStory opens says) parts
     → (k place : ℕ) → lent_story (slice_get kept k) place ≡ leaf_of says (slice_get parts k) place
 shown-lent says [] [] [] are shows k place = refl
 shown-lent says [] [] (table ∷ tables) are shows k place = absurd are
@@ -125,7 +125,7 @@ kept-lent nodes kept tables says is =
 
 -- ---- says that are set
 
-unheld : (is_set : ℕ → Bool) (parts : List Parts) → members.AreUnheld opens is_set parts → AreUnheld is_set parts
+unheld : (is_set : ℕ → Bool) (parts : List Element) → members.AreUnheld opens is_set parts → AreUnheld is_set parts
 unheld is_set [] h = tt
 unheld is_set (part ∷ parts) h = (h.0, unheld is_set parts h.1)
 
@@ -149,7 +149,7 @@ set-consistent nodes kept now tables old new is same are =
 pub set-either : {E : Type 0} (nodes : List Node) (kept now : List Story) (tables : List Table) (old new : List Say) (settings : List Setting) (result : Result (Unit {0}) E)
     → IsConsistent nodes kept tables old
     → OnOk result (new ≡ set_each old settings)
-    → OnOk result ((parts : List Parts) → AreUnheld (is_changed old (set_each old settings)) parts → AreKept old parts kept tables → AreKept new parts now tables)
+    → OnOk result ((parts : List Element) → AreUnheld (is_changed old (set_each old settings)) parts → AreKept old parts kept tables → AreKept new parts now tables)
     → OnErr result (new ≡ old) → OnErr result (now ≡ kept) → IsConsistent nodes now tables new
 set-either nodes kept now tables old new settings (Ok done) is says keeps said untouched =
     let parts = stories (original_package nodes kept) in
@@ -161,7 +161,7 @@ set-either nodes kept now tables old new settings (Err error) is says keeps said
 pub set-document : {E : Type 0} (nodes : List Node) (kept now : List Story) (tables : List Table) (old new : List Say) (settings : List Setting) (result : Result (Unit {0}) E)
     → IsConsistent nodes kept tables old
     → OnOk result (new ≡ set_each old settings)
-    → OnOk result ((parts : List Parts) → AreUnheld (is_changed old (set_each old settings)) parts → AreKept old parts kept tables → AreKept new parts now tables)
+    → OnOk result ((parts : List Element) → AreUnheld (is_changed old (set_each old settings)) parts → AreKept old parts kept tables → AreKept new parts now tables)
     → OnOk result (◌≡◌ {A = Document} (record { nodes = original_package nodes now; says = new }) (record { nodes = original_package nodes kept; says = set_each old settings }))
 set-document nodes kept now tables old new settings (Ok done) is says keeps =
     let parts = stories (original_package nodes kept) in

@@ -9,7 +9,7 @@ use Rattle.redl_tree.specs.Leaves.Leaf.{leaves, leaf_count}
 use Rattle.redl_tree.specs.Leaves.Slots.{slots_in}
 use Rattle.redl_tree.specs.Leaves.States.{States, slots_of, lent}
 use Rattle.redl_tree.specs.Leaves.Ways.{ways, lent_at}
-use Rattle.redl_tree.specs.Model.View.{Parts}
+use Rattle.redl_tree.specs.Model.View.{Element}
 use Rattle.redl_tree.specs.declared.kinds.Say.{Say}
 use Rattle.redl_editor.proofs.CoverLaws.{way-numbered}
 use Rattle.redl_editor.specs.Kept.{IsKept, AreKept, count_of, lent_story}
@@ -21,16 +21,16 @@ use Rattle.redl_editor.specs.declared.table.Table.{Table}
 -- ---- how many there are
 
 -- the ways in this table, which are as many as the leaves of the story with this number
-pub record CountsWays (parts : List Parts) (k : ℕ) (table : Table) : Type 0 where
+pub record CountsWays (parts : List Element) (k : ℕ) (table : Table) : Type 0 where
   pub all : List (List ℕ)
   pub has : HasWays table.places all
   pub count : length all ≡ count_of (slice_get parts k)
 
-ways-leaves : (says : List Say) (part : Parts) (story : Story) (table : Table) → IsKept says part story table → length (ways (slots_kept story)) ≡ length (leaves part)
+ways-leaves : (says : List Say) (part : Element) (story : Story) (table : Table) → IsKept says part story table → length (ways (slots_kept story)) ≡ length (leaves part)
 ways-leaves says part story table kept =
     ways-count 0 (slots_kept story) ∙ ap leaf_count kept.states.split ∙ sym (count-leaves (part ∷ []) (slots_in opens (part.tag ∷ []) part.kids))
 
-pub count-here : (says : List Say) (parts : List Parts) (stories : List Story) (tables : List Table) → AreKept says parts stories tables → (k : ℕ) (table : Table)
+pub count-here : (says : List Say) (parts : List Element) (stories : List Story) (tables : List Table) → AreKept says parts stories tables → (k : ℕ) (table : Table)
     → k < length tables → table ≡ get_or tables k table → CountsWays parts k table
 count-here says [] [] [] kept k table lt is = absurd (omega (arith, lt))
 count-here says [] [] (one ∷ tables) kept k table lt is = absurd kept
@@ -45,7 +45,7 @@ count-here says (part ∷ parts) (story ∷ stories) (one ∷ tables) kept zero 
 count-here says (part ∷ parts) (story ∷ stories) (one ∷ tables) kept (suc k) table lt is =
     let later = count-here says parts stories tables kept.1 k table (omega (arith, lt)) is in record { all = later.all; has = later.has; count = later.count }
 
-pub count-past : (says : List Say) (parts : List Parts) (stories : List Story) (tables : List Table) → AreKept says parts stories tables → (k : ℕ)
+pub count-past : (says : List Say) (parts : List Element) (stories : List Story) (tables : List Table) → AreKept says parts stories tables → (k : ℕ)
     → length tables ≤ k → count_of (slice_get parts k) ≡ 0
 count-past says [] [] [] kept k past = refl
 count-past says [] [] (one ∷ tables) kept k past = absurd kept

@@ -13,7 +13,7 @@ use Rattle.redl_tree.specs.Leaves.Shown.{AreStatesOf}
 use Rattle.redl_tree.specs.Leaves.Leaf.{leaves}
 use Rattle.redl_tree.specs.Leaves.Settings.{Setting, set_each, slots_cost, setting_cost}
 use Rattle.redl_tree.specs.Leaves.Slots.{Slots, slots_in}
-use Rattle.redl_tree.specs.Model.View.{Parts}
+use Rattle.redl_tree.specs.Model.View.{Element}
 use Rattle.redl_tree.specs.declared.kinds.Say.{Say}
 use Rattle.redl_editor.proofs.FormerLaws.{former-differ, changed-same}
 use Rattle.redl_editor.specs.Changes.{former_of, differ, is_changed}
@@ -26,7 +26,7 @@ use Rattle.redl_editor.specs.declared.table.Table.{Table}
 
 -- ---- as many of each
 
-pub kept-tables : (says : List Say) (parts : List Parts) (stories : List Story) (tables : List Table) → AreKept says parts stories tables → length tables ≡ length stories
+pub kept-tables : (says : List Say) (parts : List Element) (stories : List Story) (tables : List Table) → AreKept says parts stories tables → length tables ≡ length stories
 kept-tables says [] [] [] kept = refl
 kept-tables says [] [] (table ∷ tables) kept = absurd kept
 kept-tables says [] (story ∷ stories) tables kept = absurd kept
@@ -34,7 +34,7 @@ kept-tables says (part ∷ parts) [] tables kept = absurd kept
 kept-tables says (part ∷ parts) (story ∷ stories) [] kept = absurd kept
 kept-tables says (part ∷ parts) (story ∷ stories) (table ∷ tables) kept = ap suc (kept-tables says parts stories tables kept.1)
 
-pub kept-parts : (says : List Say) (parts : List Parts) (stories : List Story) (tables : List Table) → AreKept says parts stories tables → length stories ≡ length parts
+pub kept-parts : (says : List Say) (parts : List Element) (stories : List Story) (tables : List Table) → AreKept says parts stories tables → length stories ≡ length parts
 kept-parts says [] [] [] kept = refl
 kept-parts says [] [] (table ∷ tables) kept = absurd kept
 kept-parts says [] (story ∷ stories) tables kept = absurd kept
@@ -43,7 +43,7 @@ kept-parts says (part ∷ parts) (story ∷ stories) [] kept = absurd kept
 kept-parts says (part ∷ parts) (story ∷ stories) (table ∷ tables) kept = ap suc (kept-parts says parts stories tables kept.1)
 
 -- the notes of each are in the order of revisions
-pub kept-rises : (says : List Say) (parts : List Parts) (stories : List Story) (tables : List Table) → AreKept says parts stories tables
+pub kept-rises : (says : List Say) (parts : List Element) (stories : List Story) (tables : List Table) → AreKept says parts stories tables
     → All (λ table. IsNonDecreasingBy (λ one. one.rev) table.held.items) tables
 kept-rises says [] [] [] kept = All-nil (λ (table : Table). IsNonDecreasingBy (λ one. one.rev) table.held.items)
 kept-rises says [] [] (table ∷ tables) kept = absurd kept
@@ -54,7 +54,7 @@ kept-rises says (part ∷ parts) (story ∷ stories) (table ∷ tables) kept =
     All-cons (λ (table : Table). IsNonDecreasingBy (λ one. one.rev) table.held.items) table tables kept.0.table.held.rises (kept-rises says parts stories tables kept.1)
 
 -- under all says they have the slots of the originals
-pub kept-slots : (says others : List Say) (parts : List Parts) (xs ys : List Story) (tables those : List Table) → AreKept says parts xs tables → AreKept others parts ys those
+pub kept-slots : (says others : List Say) (parts : List Element) (xs ys : List Story) (tables those : List Table) → AreKept says parts xs tables → AreKept others parts ys those
     → map slots_kept xs ≡ map slots_kept ys
 kept-slots says others [] [] [] [] those kept also = refl
 kept-slots says others [] [] (y ∷ ys) [] those kept also = absurd also
@@ -70,12 +70,12 @@ kept-slots says others (part ∷ parts) (x ∷ xs) (y ∷ ys) (table ∷ tables)
 
 -- ---- the story with a number
 
-abbrev pub IsKeptAt : List Say → Option Parts → Option Story → Option Table → Type 0
+abbrev pub IsKeptAt : List Say → Option Element → Option Story → Option Table → Type 0
 IsKeptAt says None None None = Unit {0}
 IsKeptAt says (Some part) (Some story) (Some table) = IsKept says part story table
 IsKeptAt says _ _ _ = ⊥
 
-pub kept-at : (says : List Say) (parts : List Parts) (stories : List Story) (tables : List Table) → AreKept says parts stories tables → (k : ℕ)
+pub kept-at : (says : List Say) (parts : List Element) (stories : List Story) (tables : List Table) → AreKept says parts stories tables → (k : ℕ)
     → IsKeptAt says (slice_get parts k) (slice_get stories k) (slice_get tables k)
 kept-at says [] [] [] kept k = tt
 kept-at says [] [] (table ∷ tables) kept k = absurd kept
@@ -99,7 +99,7 @@ ready-pushed revs says (story ∷ stories) (table ∷ tables) (made ∷ all) one
 -- ---- stories that are set one after the other
 
 -- the first `n` of them are under the new says, and the later ones are ready
-abbrev pub AreSet : List ℕ → List Say → List Say → ℕ → List Parts → List Story → List Table → List (Vec Made Global) → Type 0
+abbrev pub AreSet : List ℕ → List Say → List Say → ℕ → List Element → List Story → List Table → List (Vec Made Global) → Type 0
 AreSet revs before says zero parts stories tables rest = AreKept before parts stories tables × AreReady revs says stories tables rest
 AreSet revs before says (suc n) (part ∷ parts) (story ∷ stories) (table ∷ tables) rest = IsKept says part story table × AreSet revs before says n parts stories tables rest
 AreSet revs before says (suc n) _ _ _ rest = ⊥
@@ -107,11 +107,11 @@ AreSet revs before says (suc n) _ _ _ rest = ⊥
 -- what setting one story does
 abbrev pub SetsStory : (ℕ → Bool) → List Say → List Say → Story → Story → List Made → Type 0
 SetsStory is_set before says old new all =
-    (part : Parts) → old.spot ≡ spot_of (part.tag ∷ []) → CanSet is_set before says part (map way_of all) (states_kept old)
+    (part : Element) → old.spot ≡ spot_of (part.tag ∷ []) → CanSet is_set before says part (map way_of all) (states_kept old)
     → AreMade says all (states_kept old) → AreStatesOf opens before part (states_kept old) → AreStatesOf opens says part (states_kept new)
 
 module _ (is_set : ℕ → Bool) (before says : List Say) (revs : List ℕ) (are : AreChanges is_set before says revs) where
-  kept-set : (part : Parts) (old new : Story) (table : Table) (all : List Made) → new.spot ≡ old.spot → SetsStory is_set before says old new all
+  kept-set : (part : Element) (old new : Story) (table : Table) (all : List Made) → new.spot ≡ old.spot → SetsStory is_set before says old new all
       → AreUnheld is_set (part ∷ []) → IsKept before part old table → IsReady revs says old table all → IsKept says part new table
   kept-set part old new table all same sets unheld kept ready =
       let states = sets part kept.spot (ready.ways kept.table part is_set before are.same are.none are.listed unheld.0) ready.made kept.states in
@@ -122,7 +122,7 @@ module _ (is_set : ℕ → Bool) (before says : List Say) (revs : List ℕ) (are
         states = states;
       }
 
-  pub set-more : (n : ℕ) (parts : List Parts) (stories : List Story) (tables : List Table) (one : Vec Made Global) (rest : List (Vec Made Global)) (x new : Story)
+  pub set-more : (n : ℕ) (parts : List Element) (stories : List Story) (tables : List Table) (one : Vec Made Global) (rest : List (Vec Made Global)) (x new : Story)
       → AreUnheld is_set parts → x ≡ get_or stories n x → new.spot ≡ x.spot → SetsStory is_set before says x new one.items
       → AreSet revs before says n parts stories tables (one ∷ rest) → AreSet revs before says (suc n) parts (set stories n new) tables rest
   set-more zero parts [] tables one rest x new unheld is same sets h = absurd h.1
@@ -138,7 +138,7 @@ module _ (is_set : ℕ → Bool) (before says : List Say) (revs : List ℕ) (are
   set-more (suc n) (part ∷ parts) (story ∷ stories) (table ∷ tables) one rest x new unheld is same sets h =
       (h.0, set-more n parts stories tables one rest x new unheld.1 is same sets h.1)
 
-pub set-done : (revs : List ℕ) (before says : List Say) (n : ℕ) (parts : List Parts) (stories : List Story) (tables : List Table) (rest : List (Vec Made Global))
+pub set-done : (revs : List ℕ) (before says : List Say) (n : ℕ) (parts : List Element) (stories : List Story) (tables : List Table) (rest : List (Vec Made Global))
     → length stories ≡ n → AreSet revs before says n parts stories tables rest → AreKept says parts stories tables
 set-done revs before says zero [] [] [] rest all h = tt
 set-done revs before says zero [] [] (table ∷ tables) rest all h = absurd h.0
@@ -170,13 +170,13 @@ tables-done xs i ts past so_far = subst (λ (ys : List Story). AreTables ys ts) 
 -- ---- what making a story's leaves may cost
 
 -- the story with a number, and what is kept of it
-pub record KeptHere (says : List Say) (parts : List Parts) (i : ℕ) (story : Story) (known : Table) : Type 0 where
-  pub part : Parts
+pub record KeptHere (says : List Say) (parts : List Element) (i : ℕ) (story : Story) (known : Table) : Type 0 where
+  pub part : Element
   pub within : i < length parts
   pub is : part ≡ get_or parts i part
   pub kept : IsKept says part story known
 
-pub kept-here : (says : List Say) (parts : List Parts) (stories : List Story) (tables : List Table) (i : ℕ) (x : Story) (y : Table) → AreKept says parts stories tables
+pub kept-here : (says : List Say) (parts : List Element) (stories : List Story) (tables : List Table) (i : ℕ) (x : Story) (y : Table) → AreKept says parts stories tables
     → i < length stories → x ≡ get_or stories i x → y ≡ get_or tables i y → KeptHere says parts i x y
 kept-here says parts [] tables i x y kept lt is there = absurd (omega (arith, lt))
 kept-here says [] (story ∷ stories) tables i x y kept lt is there = absurd kept
@@ -195,7 +195,7 @@ kept-here says (part ∷ parts) (story ∷ stories) (table ∷ tables) (suc i) x
       kept = later.kept;
     }
 
-pub kept-cost : (says : List Say) (part : Parts) (story : Story) (table : Table) → IsKept says part story table → (is_set : ℕ → Bool)
+pub kept-cost : (says : List Say) (part : Element) (story : Story) (table : Table) → IsKept says part story table → (is_set : ℕ → Bool)
     → slots_cost is_set 1 (slots_kept story) ≡ setting_cost is_set (leaves part)
 kept-cost says part story table kept is_set =
     ap (slots_cost is_set 1) kept.states.split ∙ sym (cost-walk is_set (part ∷ []) (slots_in opens (part.tag ∷ []) part.kids))

@@ -6,7 +6,7 @@ use Rattle.redl_tree.specs.Decisions.Packages.{roots_are_plain, stories}
 use Rattle.redl_tree.specs.Leaves.Leaf.{leaves}
 use Rattle.redl_tree.specs.Leaves.Present.{present_leaf}
 use Rattle.redl_tree.specs.Model.Nodes.{Tag, Nodes}
-use Rattle.redl_tree.specs.Model.View.{Parts}
+use Rattle.redl_tree.specs.Model.View.{Element}
 use Rattle.redl_tree.specs.Revisions.Markers.{Value}
 use Rattle.redl_tree.specs.Revisions.Numbers.{IsIndexed}
 use Rattle.redl_tree.specs.declared.kinds.Say.{Say}
@@ -41,7 +41,7 @@ pub record IsConsistent (nodes : List Node) (taken : List Story) (tables : List 
 -- ---- leaves by their numbers
 
 -- the present leaf of a story with this number
-abbrev pub leaf_of : List Say → Option Parts → ℕ → Option Nodes
+abbrev pub leaf_of : List Say → Option Element → ℕ → Option Nodes
 leaf_of says None place = None
 leaf_of says (Some story) place = slice_get (map (present_leaf says) (leaves story)) place
 

@@ -11,7 +11,7 @@ use Rattle.redl_tree.specs.Leaves.Shown.{AreStatesOf}
 use Rattle.redl_tree.specs.Leaves.Slots.{slots_in}
 use Rattle.redl_tree.specs.Leaves.States.{lent}
 use Rattle.redl_tree.specs.Model.Nodes.{Nodes}
-use Rattle.redl_tree.specs.Model.View.{Parts}
+use Rattle.redl_tree.specs.Model.View.{Element}
 use Rattle.redl_tree.specs.declared.kinds.Say.{Say}
 use Rattle.redl_editor.specs.Changes.{differ}
 use Rattle.redl_editor.specs.Holdings.{is_touched}
@@ -21,26 +21,26 @@ use Rattle.redl_editor.specs.declared.story.Story.{Story}
 use Rattle.redl_editor.specs.declared.table.Table.{Table}
 
 -- this is kept of a story under these says
-pub record IsKept (says : List Say) (part : Parts) (story : Story) (known : Table) : Type 0 where
+pub record IsKept (says : List Say) (part : Element) (story : Story) (known : Table) : Type 0 where
   pub spot : story.spot ≡ spot_of (part.tag ∷ [])
   pub table : IsTable known (slots_kept story)
   pub states : AreStatesOf opens says part (states_kept story)
 
 -- the same of each story, in their order
-abbrev pub AreKept : List Say → List Parts → List Story → List Table → Type 0
+abbrev pub AreKept : List Say → List Element → List Story → List Table → Type 0
 AreKept says [] [] [] = Unit {0}
 AreKept says (part ∷ parts) (story ∷ stories) (table ∷ tables) = IsKept says part story table × AreKept says parts stories tables
 AreKept says _ _ _ = ⊥
 
 -- no container of these stories is a member of a revision that is set
-abbrev pub AreUnheld : (ℕ → Bool) → List Parts → Type 0
+abbrev pub AreUnheld : (ℕ → Bool) → List Element → Type 0
 AreUnheld is_set [] = Unit {0}
 AreUnheld is_set (part ∷ parts) = IsUnheld is_set (slots_in opens (part.tag ∷ []) part.kids) × AreUnheld is_set parts
 
 -- the leaves of a story that these revisions touch are made anew under these says
 pub record IsReady (revs : List ℕ) (says : List Say) (story : Story) (table : Table) (all : List Made) : Type 0 where
   pub made : AreMade says all (states_kept story)
-  pub ways : IsTable table (slots_kept story) → (part : Parts) (is_set : ℕ → Bool) (before : List Say)
+  pub ways : IsTable table (slots_kept story) → (part : Element) (is_set : ℕ → Bool) (before : List Say)
       → SameBut is_set before says → is_set 0 ≡ false → ((rev : ℕ) → is_set rev ≡ true → is_touched revs rev ≡ true)
       → IsUnheld is_set (slots_in opens (part.tag ∷ []) part.kids) → CanSet is_set before says part (map way_of all) (states_kept story)
 
@@ -75,6 +75,6 @@ lent_story None place = None
 lent_story (Some story) place = slice_get (lent false (states_kept story)) place
 
 -- how many leaves a story has, if it is there
-abbrev pub count_of : Option Parts → ℕ
+abbrev pub count_of : Option Element → ℕ
 count_of None = 0
 count_of (Some story) = length (leaves story)

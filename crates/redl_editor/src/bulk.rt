@@ -7,7 +7,7 @@ ghost use Rattle.redl_editor.specs.Costs.{parts_cost};
 ghost use Rattle.redl_editor.specs.Holdings.{is_touched};
 ghost use Rattle.redl_editor.specs.Kept.{AreKept, AreReady, AreUnheld, AreChanges, AreMadeFor};
 ghost use Rattle.redl_tree.specs.Leaves.Settings.{set_each};
-ghost use Rattle.redl_tree.specs.Model.View.{Parts};
+ghost use Rattle.redl_tree.specs.Model.View.{Element};
 ghost use Rattle.redl_editor.specs.declared.table.Table.{Table as TableModel};
 ghost use Rattle.redl_tree.specs.declared.kinds.Say.{Say as SayModel};
 
@@ -33,12 +33,12 @@ pub(crate) fn set_all<'a, L: Ledger>(
     requires rises { All (λ table. IsNonDecreasingBy (λ one. one.rev) table.held.items) tables.now }
     requires as_many { length tables.now ≡ length stories.old }
     ensures says { OnOk result (says.new ≡ set_each says.old (map setting_of changes.now)) }
-    ensures kept { OnOk result ((parts : List Parts) → AreUnheld (is_changed says.old (set_each says.old (map setting_of changes.now))) parts
+    ensures kept { OnOk result ((parts : List Element) → AreUnheld (is_changed says.old (set_each says.old (map setting_of changes.now))) parts
         → AreKept says.old parts stories.old tables.now → AreKept says.new parts stories.new tables.now) }
     ensures said { OnErr result (says.new ≡ says.old) }
     ensures untouched { OnErr result (stories.new ≡ stories.old) }
     ensures own { former_of says.old (map setting_of changes.now) ≡ [] → IsOk result }
-    ensures steps { (parts : List Parts) → AreKept says.old parts stories.old tables.now
+    ensures steps { (parts : List Element) → AreKept says.old parts stories.old tables.now
         → steps.new ≤ steps.old + parts_cost (is_changed says.old (set_each says.old (map setting_of changes.now))) parts }
 {
     let former = former_says(alloc, says, changes)?;
@@ -70,7 +70,7 @@ fn make_changed<'w, 'a, L: Ledger>(
     requires rises { All (λ table. IsNonDecreasingBy (λ one. one.rev) table.held.items) tables.now }
     requires as_many { length tables.now ≡ length stories.now }
     ensures made { IfOk result (λ all. AreMadeFor (map setting_of former.now) says.now stories.now tables.now all.items) }
-    ensures steps { (parts : List Parts) → (before : List SayModel) → AreKept before parts stories.now tables.now
+    ensures steps { (parts : List Element) → (before : List SayModel) → AreKept before parts stories.now tables.now
         → (is_set : ℕ → Bool) → ((rev : ℕ) → differ says.now (map setting_of former.now) rev ≡ true → is_set rev ≡ true)
         → steps.new ≤ steps.old + parts_cost is_set parts }
 {
@@ -92,7 +92,7 @@ fn make_stories<'w, 'a, L: Ledger>(
     requires as_many { length tables.now ≡ length stories.now }
     ensures ready { IfOk result (λ all. AreReady revs.now says.now stories.now tables.now all.items) }
     ensures count { IfOk result (λ all. length all.items ≡ length stories.now) }
-    ensures steps { (parts : List Parts) → (before : List SayModel) → AreKept before parts stories.now tables.now
+    ensures steps { (parts : List Element) → (before : List SayModel) → AreKept before parts stories.now tables.now
         → (is_set : ℕ → Bool) → ((rev : ℕ) → is_touched revs.now rev ≡ true → is_set rev ≡ true)
         → steps.new ≤ steps.old + parts_cost is_set parts }
 {
@@ -107,7 +107,7 @@ fn make_stories<'w, 'a, L: Ledger>(
 // Sets says in all stories, whose leaves are made anew.
 fn set_stories<'w, 'a>(stories: &mut [Story<'a>], says: &[Say], all: Vec<Vec<Made<'w, 'a>>>)
     requires as_many { length all.items ≡ length stories.old }
-    ensures { (parts : List Parts) → (tables : List TableModel) → (is_set : ℕ → Bool) → (before : List SayModel) → (revs : List ℕ)
+    ensures { (parts : List Element) → (tables : List TableModel) → (is_set : ℕ → Bool) → (before : List SayModel) → (revs : List ℕ)
         → AreChanges is_set before says.now revs → AreUnheld is_set parts → AreReady revs says.now stories.old tables all.entry.items
         → AreKept before parts stories.old tables → AreKept says.now parts stories.new tables }
 {

@@ -7,7 +7,7 @@ ghost use Rattle.redl_editor.specs.Tables.{IsTable};
 ghost use Rattle.redl_editor.specs.declared.story.Story.{Story as StoryModel};
 ghost use Rattle.redl_leaves.specs.Lends.{lent_nodes};
 ghost use Rattle.redl_tree.specs.Leaves.States.{lent};
-ghost use Rattle.redl_tree.specs.Model.View.{Parts};
+ghost use Rattle.redl_tree.specs.Model.View.{Element};
 ghost use Rattle.redl_tree.specs.declared.kinds.Say.{Say};
 
 use crate::story::Story;
@@ -17,7 +17,7 @@ use redl_tree::Node;
 
 /// How many leaves the story with this number has, and 0 if it is not there.
 pub(crate) fn count_leaves(tables: &[Table], story: usize) -> usize
-    ensures { (says : List Say) → (parts : List Parts) → (stories : List StoryModel) → AreKept says parts stories tables.now
+    ensures { (says : List Say) → (parts : List Element) → (stories : List StoryModel) → AreKept says parts stories tables.now
         → result ≡ count_of (slice_get parts story) }
 {
     match tables.get(story) {
@@ -33,7 +33,7 @@ pub(crate) fn find_present<'s, 'a>(
     story: usize,
     place: usize,
 ) -> Option<&'s [Node<'a>]>
-    ensures { (says : List Say) → (parts : List Parts) → AreKept says parts stories.now tables.now
+    ensures { (says : List Say) → (parts : List Element) → AreKept says parts stories.now tables.now
         → lent_nodes result ≡ lent_story (slice_get stories.now story) place }
 {
     let kept = stories.get(story)?;

@@ -11,7 +11,7 @@ ghost use Rattle.redl_tree.specs.Leaves.Containers.{opens};
 ghost use Rattle.redl_tree.specs.Leaves.Settings.{SameBut, IsUnheld, slots_cost};
 ghost use Rattle.redl_tree.specs.Leaves.Slots.{slots_in};
 ghost use Rattle.redl_tree.specs.Leaves.States.{slots_of};
-ghost use Rattle.redl_tree.specs.Model.View.{Parts};
+ghost use Rattle.redl_tree.specs.Model.View.{Element};
 ghost use Rattle.redl_tree.specs.declared.kinds.Say.{Say as SayModel};
 
 use crate::holding::{Held, held_by_story};
@@ -70,7 +70,7 @@ pub(crate) fn make_touched<'w, 'a, L: Ledger>(
     ensures made { IfOk result (λ all. AreMade says.now all.items (states_of slots.now)) }
     ensures steps { IsTable table.now (slots_of (states_of slots.now)) → (is_set : ℕ → Bool) → ((rev : ℕ) → is_touched revs.now rev ≡ true → is_set rev ≡ true)
         → (depth : ℕ) → steps.new ≤ steps.old + slots_cost is_set depth (slots_of (states_of slots.now)) }
-    ensures ways { IfOk result (λ all. IsTable table.now (slots_of (states_of slots.now)) → (story : Parts) → (is_set : ℕ → Bool) → (before : List SayModel)
+    ensures ways { IfOk result (λ all. IsTable table.now (slots_of (states_of slots.now)) → (story : Element) → (is_set : ℕ → Bool) → (before : List SayModel)
         → SameBut is_set before says.now → is_set 0 ≡ false → ((rev : ℕ) → is_set rev ≡ true → is_touched revs.now rev ≡ true)
         → IsUnheld is_set (slots_in opens (story.tag ∷ []) story.kids)
         → CanSet is_set before says.now story (map way_of all.items) (states_of slots.now)) }

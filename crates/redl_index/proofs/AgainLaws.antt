@@ -3,7 +3,6 @@ use Rattle.std.proofs.Common.{◌≡◌, ◌∙◌, refl, ap, sym, ℕ, ◌+◌,
 use Rattle.std.specs.List.{cons_option}
 use Rattle.redl_tree.specs.Model.Nodes.{Tag, Nodes}
 use Rattle.redl_tree.specs.Model.Seen.{Seen, seen}
-use Rattle.redl_tree.specs.Model.View.{Parts}
 use Rattle.redl_tree.specs.Decisions.Packages.{stories, left_after, changed_stories}
 use Rattle.redl_tree.specs.Revisions.Labels.{unlabelled_tag, unlabelled}
 use Rattle.redl_tree.specs.Revisions.Markers.{marker_of, move_of, whole_role}
@@ -96,7 +95,7 @@ next-again next first root kids =
     ∙ ap (next_after_story attribute_value next (unlabelled_tag root)) (unlabelled-story attribute_value first root kids)
     ∙ story_next-bare attribute_value next root kids
 
-all-again : (next first : ℕ) (parts : List Parts) → left_after (number_rule attribute_value) next (changed_stories (number_rule attribute_value) first parts) ≡ left_after (number_rule attribute_value) next parts
+all-again : (next first : ℕ) (parts : List Element) → left_after (number_rule attribute_value) next (changed_stories (number_rule attribute_value) first parts) ≡ left_after (number_rule attribute_value) next parts
 all-again next first [] = refl
 all-again next first (story ∷ later) =
     ap (λ n. left_after (number_rule attribute_value) n (changed_stories (number_rule attribute_value) (next_after_story attribute_value first story.tag story.kids) later))

@@ -24,7 +24,7 @@ use Rattle.redl_visit.specs.Visits.{VisitRule, visited, Needs}
 use Rattle.redl_index.specs.Inside.Sights.{para_end}
 use Rattle.redl_index.specs.Inside.Numberings.{NumbersView, number_given, given, IsNumbering}
 use Rattle.redl_index.specs.Inside.Numberers.{NumbererState, sight_of_next, numberer_rule, numberer_needs}
-use Rattle.redl_index.specs.StoryFacts.{Facts, facts_in, parts_by}
+use Rattle.redl_index.specs.StoryFacts.{Facts, facts_in, element_by}
 use Rattle.redl_index.specs.declared.story.Sight.{Sight}
 use Rattle.redl_index.proofs.LabelLaws.{counted-goes, numbering-goes}
 use Rattle.redl_index.proofs.NumberingLaws.{none_of, numbering-begins, placed-move, number-given, numbering-given}
@@ -165,7 +165,7 @@ begun_with known next = state_at known.marks 1 known.ends (record { next = next;
 
 module _ (root : Tag) (kids : Nodes) (next : ℕ) where
   story-begun : is_story_root root ≡ true → 0 < next → next + count kids < 2 ^ 32
-      → IsLabelled (markers_of root kids) (root_spots root kids) 1 [] (start_with next) kids (inside_of root (around_of [])) 0 (begun_with (facts_in (parts_by root kids)) next)
+      → IsLabelled (markers_of root kids) (root_spots root kids) 1 [] (start_with next) kids (inside_of root (around_of [])) 0 (begun_with (facts_in (element_by root kids)) next)
   story-begun is_root begun few =
       let marks = markers_of root kids in
       let spots = root_spots root kids in
@@ -183,9 +183,9 @@ module _ (root : Tag) (kids : Nodes) (next : ℕ) where
         few = few;
       }))
 
-  pub story-labelled : is_story_root root ≡ true → 0 < next → next + count kids < 2 ^ 32 → (known : Facts) → known ≡ facts_in (parts_by root kids)
+  pub story-labelled : is_story_root root ≡ true → 0 < next → next + count kids < 2 ^ 32 → (known : Facts) → known ≡ facts_in (element_by root kids)
       → (around : Around) → around ≡ around_of [] → (here : Around) → here ≡ inside_of root around → (s : NumbererState) → s ≡ begun_with known next
       → IsLabelled (markers_of root kids) (root_spots root kids) 1 [] (start_with next) kids here 0 s
   story-labelled is_root begun few known is_known around top here is_here s is =
-      from-same (markers_of root kids) (root_spots root kids) 1 [] (start_with next) kids here (inside_of root (around_of [])) 0 0 s (begun_with (facts_in (parts_by root kids)) next)
+      from-same (markers_of root kids) (root_spots root kids) 1 [] (start_with next) kids here (inside_of root (around_of [])) 0 0 s (begun_with (facts_in (element_by root kids)) next)
       (is_here ∙ ap (inside_of root) top) refl (is ∙ ap (λ k. begun_with k next) is_known) (story-begun is_root begun few)

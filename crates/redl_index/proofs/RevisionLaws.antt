@@ -3,7 +3,6 @@ use Rattle.std.proofs.Common.{◌≡◌, ◌∙◌, refl, ap, sym, subst, ℕ, s
 use Rattle.std.specs.List.{cons_option, list_any}
 use Rattle.std.proofs.lemmas.List.{append-nil}
 use Rattle.redl_tree.specs.Model.Nodes.{Tag, Nodes}
-use Rattle.redl_tree.specs.Model.View.{Parts}
 use Rattle.redl_tree.specs.Model.Count.{count}
 use Rattle.redl_tree.specs.Revisions.Markers.{whole_role, move_of}
 use Rattle.redl_tree.specs.Revisions.Moves.{Marking, Pair, pairs}
@@ -20,7 +19,6 @@ use Rattle.redl_index.proofs.MarkerLaws.Counts.{seen-count}
 use Rattle.redl_opc.specs.Elements.{Element}
 use Rattle.redl_opc.specs.Parts.{story}
 use Rattle.redl_opc.specs.Shape.{parts_of, story_of, refusal}
-use Rattle.redl_opc.specs.Stories.{story_view}
 use Rattle.redl_opc.proofs.StoryLaws.{stories-parts}
 use Rattle.redl_opc.proofs.WalkLaws.{part-at}
 use Rattle.redl_index.specs.Numbers.{package_revisions}
@@ -628,12 +626,12 @@ length-story part next root kids =
 -- ---- how many a package has
 
 -- the stories of parts
-abbrev stories_in_parts : List Element → List Parts
-stories_in_parts parts = map story_view (filter_map story_of parts)
+abbrev stories_in_parts : List Element → List Element
+stories_in_parts parts = filter_map story_of parts
 
 -- the next number behind a part
 pub length-in : (k next : ℕ) (root : Option Element)
-    → next + length (revisions_in k root) ≡ left_after (number_rule attribute_value) next (option_to_list (option_map story_view root))
+    → next + length (revisions_in k root) ≡ left_after (number_rule attribute_value) next (option_to_list root)
 length-in k next None = omega arith
 length-in k next (Some root) = length-story k next root.tag root.kids
 
@@ -641,10 +639,10 @@ length-from : (k next : ℕ) (parts : List Element) → next + length (revisions
 length-from k next [] = omega arith
 length-from k next (part ∷ rest) = by (story_of part) (length-in k next (story_of part)) (λ n. length-from (k + 1) n rest)
   where
-    by : (root : Option Element) → next + length (revisions_in k root) ≡ left_after (number_rule attribute_value) next (option_to_list (option_map story_view root))
+    by : (root : Option Element) → next + length (revisions_in k root) ≡ left_after (number_rule attribute_value) next (option_to_list root)
         → ((n : ℕ) → n + length (revisions_from (k + 1) rest) ≡ left_after (number_rule attribute_value) n (stories_in_parts rest))
         → next + length (revisions_in k root ++ revisions_from (k + 1) rest)
-        ≡ left_after (number_rule attribute_value) next (map story_view (cons_option root (filter_map story_of rest)))
+        ≡ left_after (number_rule attribute_value) next (cons_option root (filter_map story_of rest))
     by None here more = more next
     by (Some root) here more =
         let inner = story_revisions k root.tag root.kids in

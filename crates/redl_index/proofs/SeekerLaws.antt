@@ -17,7 +17,7 @@ use Rattle.redl_index.proofs.EveryLaws.{every-left, every-right}
 use Rattle.redl_index.proofs.MarkerLaws.Free.{story-free}
 use Rattle.redl_index.proofs.MarkerLaws.Counts.{seen-count, tags-count}
 use Rattle.redl_index.proofs.MarkerLaws.Tails.{utf8-tails}
-use Rattle.redl_index.specs.StoryFacts.{Facts, facts_in, parts_by}
+use Rattle.redl_index.specs.StoryFacts.{Facts, facts_in, element_by}
 use Rattle.redl_index.specs.Mentions.{Sight, sight_by, sight_in}
 use Rattle.redl_index.specs.Revisions.{numbered, story_revisions}
 use Rattle.redl_index.specs.declared.revision.Revision.{Revision}
@@ -198,10 +198,10 @@ seeker-needs spots (element tag kids rest) later s left ready =
 
 -- a visit of the kids of a story's root
 module _ (part : ℕ) (base : List Revision) (root : Tag) (kids : Nodes) (known : Facts) (top here : Around) (begun : Seeking)
-    (is_root : is_story_root root ≡ true) (few : length base + count kids < 2 ^ 32) (is_known : known ≡ facts_in (parts_by root kids))
+    (is_root : is_story_root root ≡ true) (few : length base + count kids < 2 ^ 32) (is_known : known ≡ facts_in (element_by root kids))
     (is_top : top ≡ around_of []) (is_here : here ≡ inside_of root top) (is_begun : begun ≡ seeking_in part known base) where
   abbrev first : Seeking
-  first = seeking_in part (facts_in (parts_by root kids)) base
+  first = seeking_in part (facts_in (element_by root kids)) base
 
   left_is : first.ends ≡ ends_from 1 kids ++ []
   left_is = sym (append-nil (ends_from 1 kids))

@@ -6,7 +6,7 @@ use Rattle.redl_tree.specs.Model.Nodes.{Nodes}
 use Rattle.redl_opc.specs.Elements.{Element}
 use Rattle.redl_opc.specs.Parts.{story}
 use Rattle.redl_opc.specs.Shape.{parts_of, refusal}
-use Rattle.redl_opc.specs.Stories.{story_view, stories_from}
+use Rattle.redl_opc.specs.Stories.{stories_from}
 use Rattle.redl_opc.proofs.WalkLaws.{stories_from-start, stories_from-part, stories_from-end}
 use Rattle.redl_index.specs.declared.story_facts.StoryFacts.{StoryFacts}
 use Rattle.redl_index.specs.StoryFacts.{Facts, facts_of, facts_in}
@@ -29,15 +29,15 @@ known-last pkg part known past is =
 
 module _ (pkg : Nodes) (part : ℕ) (known : List StoryFacts) (within : part < length (parts_of pkg)) (is : IsKnownBelow part pkg known) where
   -- behind a part with this story
-  pub known-story : (now : List StoryFacts) (one : StoryFacts) (root : Element) → story pkg part ≡ Some root → now ≡ known ++ one ∷ [] → facts_of one ≡ facts_in (story_view root) →
+  pub known-story : (now : List StoryFacts) (one : StoryFacts) (root : Element) → story pkg part ≡ Some root → now ≡ known ++ one ∷ [] → facts_of one ≡ facts_in root →
       IsKnownBelow (part + 1) pkg now
   known-story now one root found added told =
       let later = stories_from (part + 1) pkg in
-      let here : stories_from part pkg ≡ story_view root ∷ later =
-      stories_from-part pkg part within ∙ ap (λ o. option_to_list (option_map story_view o) ++ later) found in
+      let here : stories_from part pkg ≡ root ∷ later =
+      stories_from-part pkg part within ∙ ap (λ o. option_to_list o ++ later) found in
       ap (λ (ks : List StoryFacts). map facts_of ks ++ map facts_in later) added
       ∙ ap (λ (ks : List Facts). ks ++ map facts_in later) (map-append facts_of known (one ∷ []) ∙ ap (λ (k : Facts). map facts_of known ++ k ∷ []) told)
-      ∙ append_assoc (map facts_of known) (facts_in (story_view root) ∷ []) (map facts_in later)
+      ∙ append_assoc (map facts_of known) (facts_in root ∷ []) (map facts_in later)
       ∙ ap (λ ss. map facts_of known ++ map facts_in ss) (sym here)
       ∙ is
 
@@ -45,7 +45,7 @@ module _ (pkg : Nodes) (part : ℕ) (known : List StoryFacts) (within : part < l
   pub known-other : story pkg part ≡ None → IsKnownBelow (part + 1) pkg known
   known-other found =
       let here : stories_from part pkg ≡ stories_from (part + 1) pkg =
-      stories_from-part pkg part within ∙ ap (λ o. option_to_list (option_map story_view o) ++ stories_from (part + 1) pkg) found in
+      stories_from-part pkg part within ∙ ap (λ o. option_to_list o ++ stories_from (part + 1) pkg) found in
       ap (λ ss. map facts_of known ++ map facts_in ss) (sym here) ∙ is
 
 -- ---- the next story, at a place in the list

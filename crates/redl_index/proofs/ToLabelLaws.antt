@@ -3,7 +3,7 @@ use Rattle.std.proofs.Common.{◌≡◌, ◌∙◌, refl, ap, sym, subst, ℕ, �
 use Rattle.redl_tree.specs.Model.Count.{count}
 use Rattle.redl_tree.specs.Model.Nodes.{Tag, Nodes, no_nodes, bytes, element}
 use Rattle.redl_tree.specs.Model.Seen.{seen, root_spots}
-use Rattle.redl_tree.specs.Model.View.{Parts}
+use Rattle.redl_tree.specs.Model.View.{Element}
 use Rattle.redl_tree.specs.Decisions.Packages.{is_data_level, level_of, is_story_root, is_root, stories_in, stories, left_after, changed_package}
 use Rattle.redl_tree.specs.Decisions.Taken.{TakesAll}
 use Rattle.redl_tree.specs.Revisions.Markers.{moves_among}
@@ -25,7 +25,7 @@ use Rattle.redl_index.proofs.LabelLaws.{GoesOn, numbering-goes}
 pub sets-labels : SetsLabels left_rule
 sets-labels left tag kids = unlabelled-story attribute_value left.next tag kids
 
-rules-agree : (left : Left) (xs : List Parts) → Agree left_rule (number_rule attribute_value) left left.next xs
+rules-agree : (left : Left) (xs : List Element) → Agree left_rule (number_rule attribute_value) left left.next xs
 rules-agree left [] = tt
 rules-agree left (story ∷ xs) = (refl, rules-agree (left_rule.left left story.tag story.kids) xs)
 
@@ -34,21 +34,21 @@ labelled-numbered left nodes is =
     changed_in-agree left_rule (number_rule attribute_value) left left.next [] nodes (rules-agree left (stories nodes))
     ∙ ap (λ next. changed_package (number_rule attribute_value) next nodes) is
 
-pub next-left : (left : Left) (xs : List Parts) → (left_after left_rule left xs).next ≡ left_after (number_rule attribute_value) left.next xs
+pub next-left : (left : Left) (xs : List Element) → (left_after left_rule left xs).next ≡ left_after (number_rule attribute_value) left.next xs
 next-left left [] = refl
 next-left left (story ∷ xs) = next-left (left_rule.left left story.tag story.kids) xs
 
 -- ---- each story is the next one that is known
 
-abbrev HasRoot : Parts → Type 0
+abbrev HasRoot : Element → Type 0
 HasRoot story = is_story_root story.tag ≡ true
 
 -- the nodes of stories, their roots included
-abbrev pub size : List Parts → ℕ
+abbrev pub size : List Element → ℕ
 size [] = 0
 size (story ∷ xs) = (1 + count story.kids) + size xs
 
-size-append : (xs ys : List Parts) → size (xs ++ ys) ≡ size xs + size ys
+size-append : (xs ys : List Element) → size (xs ++ ys) ≡ size xs + size ys
 size-append [] ys = omega arith
 size-append (x ∷ xs) ys = omega (arith, size-append xs ys)
 
@@ -79,7 +79,7 @@ size-in ancestors (element tag kids rest) =
 story-goes : (next : ℕ) (tag : Tag) (kids : Nodes) → GoesOn next (next_after_story attribute_value next tag kids) (count kids)
 story-goes next tag kids = numbering-goes (moves_among attribute_value (seen tag kids)) (root_spots tag kids) 1 (start_with next) kids
 
-takes-known : (next : ℕ) (xs : List Parts) → Every HasRoot xs → 0 < next → next + size xs ≤ 2 ^ 32
+takes-known : (next : ℕ) (xs : List Element) → Every HasRoot xs → 0 < next → next + size xs ≤ 2 ^ 32
     → TakesAll left_rule IsNext (record { next = next; stories = map facts_in xs }) xs
 takes-known next [] roots begun few = tt
 takes-known next (story ∷ xs) roots begun few =

@@ -5,7 +5,7 @@ use Rattle.redl_rules.specs.Attributes.{broken_rule}
 use Rattle.redl_tree.specs.Decisions.Packages.{stories}
 use Rattle.redl_tree.specs.Model.Count.{count}
 use Rattle.redl_tree.specs.Model.Nodes.{Tag, Nodes}
-use Rattle.redl_tree.specs.Model.View.{Parts}
+use Rattle.redl_tree.specs.Model.View.{Element}
 use Rattle.redl_tree.specs.Revisions.Moves.{Marking}
 use Rattle.redl_moves.specs.Marks.{markings}
 use Rattle.redl_index.specs.declared.markers.StoryMarkers.{StoryMarkers}
@@ -37,11 +37,11 @@ facts_by found = record {
   numbers = replicate (length (markings found.marks.items)) 0;
 }
 
-abbrev pub parts_by : Tag → Nodes → Parts
-parts_by tag kids = record { tag = tag; kids = kids }
+abbrev pub element_by : Tag → Nodes → Element
+element_by tag kids = record { tag = tag; kids = kids }
 
 -- what there is to know of a story, none of whose moves has a number yet
-abbrev pub facts_in : Parts → Facts
+abbrev pub facts_in : Element → Facts
 facts_in story = record {
   marks = markers_of story.tag story.kids;
   tails = marker_tails story.tag story.kids;

@@ -5,7 +5,7 @@ use Rattle.redl_tree.specs.Model.Nodes.{Tag, Nodes}
 use Rattle.redl_tree.specs.Decisions.Packages.{StoryRule, is_story_root}
 use Rattle.redl_tree.specs.Revisions.Numbers.{labelled_story, next_after_story}
 use Rattle.redl_stamp.specs.Attribute.{attribute_value}
-use Rattle.redl_index.specs.StoryFacts.{Facts, facts_of, facts_in, parts_by}
+use Rattle.redl_index.specs.StoryFacts.{Facts, facts_of, facts_in, element_by}
 use Rattle.redl_index.specs.declared.label.ToLabel.{ToLabel}
 
 -- the next number, and what is known of the stories that are left
@@ -26,6 +26,6 @@ left_rule = record {
 -- the story with this root is the next one that is known, and 32 bits hold its numbers
 pub record IsNext (left : Left) (tag : Tag) (kids : Nodes) : Type 0 where
   pub root : IsTrue (is_story_root tag)
-  pub known : slice_get left.stories 0 ≡ Some (facts_in (parts_by tag kids))
+  pub known : slice_get left.stories 0 ≡ Some (facts_in (element_by tag kids))
   pub begun : 0 < left.next
   pub few : left.next + count kids < 2 ^ 32

@@ -5,7 +5,7 @@ ghost use Rattle.redl_tree.specs.Model.Count.{count};
 ghost use Rattle.redl_tree.specs.Decisions.Packages.{is_story_root, stories};
 ghost use Rattle.redl_tree.specs.Model.View.{tag_of, kids_of};
 ghost use Rattle.redl_tree.specs.Model.Tree.{HasUtf8Tails};
-ghost use Rattle.redl_index.specs.StoryFacts.{facts_of, facts_in, parts_by};
+ghost use Rattle.redl_index.specs.StoryFacts.{facts_of, facts_in, element_by};
 ghost use Rattle.redl_index.specs.Revisions.{numbered, story_revisions, revisions_of};
 ghost use Rattle.redl_index.specs.Inside.Seeking.{seeking_of, seeking_in};
 
@@ -53,7 +53,7 @@ fn find_in_story(
     requires few { length found.index + count (kids_of root.now) < 2 ^ 32 }
     requires tails { HasUtf8Tails (kids_of root.now) }
     requires root { IsTrue (is_story_root (tag_of root.now)) }
-    requires known { facts_of known.now ≡ facts_in (parts_by (tag_of root.now) (kids_of root.now)) }
+    requires known { facts_of known.now ≡ facts_in (element_by (tag_of root.now) (kids_of root.now)) }
     ensures at_most { IfOk result (λ more. length more.index ≤ length found.index + count (kids_of root.now)) }
     ensures index { IfOk result (λ more. more.index ≡ found.index ++ numbered (1 + length found.index) (story_revisions part (tag_of root.now) (kids_of root.now))) }
 {

@@ -8,7 +8,7 @@ ghost use Rattle.redl_tree.specs.Decisions.Packages.{is_story_root, stories};
 ghost use Rattle.redl_tree.specs.Revisions.Numbers.{labelled_story, next_after_story};
 ghost use Rattle.redl_opc.specs.Shape.{refusal};
 ghost use Rattle.redl_stamp.specs.Attribute.{attribute_value};
-ghost use Rattle.redl_index.specs.StoryFacts.{facts_of, facts_in, parts_by};
+ghost use Rattle.redl_index.specs.StoryFacts.{facts_of, facts_in, element_by};
 ghost use Rattle.redl_index.specs.Numbers.{numbered_package, package_revisions};
 
 use crate::numbers::Numbers;
@@ -83,7 +83,7 @@ impl StoryChange<ToLabel<'_>> for Labelling {
 
 /// Labels a story, given what is known of it, and gives the next number after it.
 fn label_story(known: &mut StoryFacts<'_>, root: &mut Elem, next: u32) -> u32
-    requires known { facts_of known.old ≡ facts_in (parts_by (tag_of root.old) (kids_of root.old)) }
+    requires known { facts_of known.old ≡ facts_in (element_by (tag_of root.old) (kids_of root.old)) }
     requires root { IsTrue (is_story_root (tag_of root.old)) }
     requires begun { 0 < next }
     requires few { next + count (kids_of root.old) < 2 ^ 32 }

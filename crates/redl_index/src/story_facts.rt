@@ -6,7 +6,7 @@ ghost use Rattle.redl_tree.specs.Model.View.{tag_of, kids_of};
 ghost use Rattle.redl_tree.specs.Decisions.Packages.{stories};
 ghost use Rattle.redl_opc.specs.Shape.{refusal};
 ghost use Rattle.redl_moves.specs.Marks.{markings, RisesFrom};
-ghost use Rattle.redl_index.specs.StoryFacts.{facts_of, facts_by, facts_in, parts_by};
+ghost use Rattle.redl_index.specs.StoryFacts.{facts_of, facts_by, facts_in, element_by};
 
 use crate::markers::{StoryMarkers, find_markers};
 use crate::numbers::Numbers;
@@ -48,7 +48,7 @@ impl<'a> StoryFacts<'a> {
     /// What is known of the story with this root. `Err` means out of memory.
     fn of(alloc: Global, root: &Elem<'a>) -> Result<StoryFacts<'a>, AllocError>
         requires few { count (kids_of root.now) < 2 ^ 32 }
-        ensures { IfOk result (λ known. facts_of known ≡ facts_in (parts_by (tag_of root.now) (kids_of root.now))) }
+        ensures { IfOk result (λ known. facts_of known ≡ facts_in (element_by (tag_of root.now) (kids_of root.now))) }
     {
         StoryFacts::of_markers(alloc, find_markers(alloc, root)?)
     }

@@ -8,7 +8,7 @@ ghost use Rattle.redl_tree.specs.Model.View.{tag_of, kids_of};
 ghost use Rattle.redl_opc.specs.Shape.{refusal};
 ghost use Rattle.redl_rules.specs.Attributes.{broken_rule as broken_rule_of};
 ghost use Rattle.redl_rules.specs.Keeping.{element_kept, kept_among};
-ghost use Rattle.redl_index.specs.StoryFacts.{facts_of, facts_in, parts_by};
+ghost use Rattle.redl_index.specs.StoryFacts.{facts_of, facts_in, element_by};
 ghost use Rattle.redl_index.specs.Numbers.{numbered_package, package_revisions};
 ghost use Rattle.redl_index.specs.Revisions.{IsInStory, revisions_of};
 
@@ -142,7 +142,7 @@ fn survey_stories<'a>(
 fn survey_story<'a>(alloc: Global, root: &Elem<'a>) -> Result<(Kept, StoryFacts<'a>), AllocError>
     requires few { count (kids_of root.now) < 2 ^ 32 }
     ensures rules { IfOk result (λ seen. seen.0 ≡ element_kept [] (tag_of root.now) (kids_of root.now)) }
-    ensures known { IfOk result (λ seen. facts_of seen.1 ≡ facts_in (parts_by (tag_of root.now) (kids_of root.now))) }
+    ensures known { IfOk result (λ seen. facts_of seen.1 ≡ facts_in (element_by (tag_of root.now) (kids_of root.now))) }
 {
     let inner = Ancestors::none().inside(root);
     let (keeper, round) = Keeper::<AllocError>::at_root(root);

@@ -6,7 +6,7 @@ use Rattle.redl_tree.specs.Leaves.Settings.{SameBut, IsUnheld}
 use Rattle.redl_tree.specs.Leaves.Slots.{slots_in}
 use Rattle.redl_tree.specs.Leaves.States.{States, slots_of}
 use Rattle.redl_tree.specs.Leaves.Ways.{AreWays, is_end}
-use Rattle.redl_tree.specs.Model.View.{Parts, nodes_of}
+use Rattle.redl_tree.specs.Model.View.{Element, nodes_of}
 use Rattle.redl_tree.specs.declared.kinds.Say.{Say}
 use Rattle.redl_leaves.specs.Puts.{IsMade}
 use Rattle.redl_leaves.specs.declared.stepping.Made.{Made}
@@ -21,7 +21,7 @@ AreMade says (one ∷ later) states = IsMade says one.way.now (nodes_of one.node
 
 -- What setting takes: these says differ in the revisions that are set alone, no container is a member of one, and these ways
 -- lead to each leaf that holds one.
-pub record CanSet (is_set : ℕ → Bool) (old new : List Say) (story : Parts) (ends : List (List ℕ)) (states : States) : Type 0 where
+pub record CanSet (is_set : ℕ → Bool) (old new : List Say) (story : Element) (ends : List (List ℕ)) (states : States) : Type 0 where
   pub same : SameBut is_set old new
   pub unheld : IsUnheld is_set (slots_in opens (story.tag ∷ []) story.kids)
   pub ways : AreWays ends (slots_of states)

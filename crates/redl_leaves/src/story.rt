@@ -8,7 +8,7 @@ ghost use Rattle.redl_tree.specs.Leaves.Containers.{opens};
 ghost use Rattle.redl_tree.specs.Leaves.Shown.{AreStatesOf};
 ghost use Rattle.redl_tree.specs.Model.Count.{count};
 ghost use Rattle.redl_tree.specs.Model.Nodes.{no_nodes};
-ghost use Rattle.redl_tree.specs.Model.View.{Parts, tag_of, kids_of};
+ghost use Rattle.redl_tree.specs.Model.View.{Element, tag_of, kids_of};
 ghost use Rattle.redl_tree.specs.declared.kinds.Say.{Say as SayModel};
 ghost use Rattle.redl_tree.specs.declared.kinds.Say.TheVariants.{Keep};
 
@@ -36,7 +36,7 @@ pub fn take_story<'a>(alloc: Global, root: &mut Elem<'a>) -> Result<Vec<Slot<'a>
 /// Sets says in a story: each of these leaves gets its pass under the new says, and the containers on the ways to them are told
 /// whether they go.
 pub fn set_story<'w, 'a>(slots: &mut [Slot<'a>], spot: Spot, says: &[Say], all: Vec<Made<'w, 'a>>)
-    ensures { (story : Parts) → spot ≡ spot_of (story.tag ∷ []) → (is_set : ℕ → Bool) → (before : List SayModel)
+    ensures { (story : Element) → spot ≡ spot_of (story.tag ∷ []) → (is_set : ℕ → Bool) → (before : List SayModel)
         → CanSet is_set before says.now story (map way_of all.entry.items) (states_of slots.old) → AreMade says.now all.entry.items (states_of slots.old)
         → AreStatesOf opens before story (states_of slots.old) → AreStatesOf opens says.now story (states_of slots.new) }
 {

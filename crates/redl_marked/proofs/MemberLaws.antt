@@ -6,7 +6,6 @@ use Rattle.std.specs.List.{All, flat_map, last_or, cons_option}
 use Rattle.std.proofs.lemmas.List.Elements.{All-append}
 use Rattle.std.proofs.lemmas.Bool.{and_parts}
 use Rattle.redl_tree.specs.Model.Nodes.{Tag, Nodes, no_nodes, bytes, element}
-use Rattle.redl_tree.specs.Model.View.{Parts}
 use Rattle.redl_tree.specs.Roles.Names.{is}
 use Rattle.redl_tree.specs.Roles.Places.{is_open, within, in_mark_props, role}
 use Rattle.redl_tree.specs.Decisions.Packages.{is_story_root, stories}
@@ -23,7 +22,6 @@ use Rattle.redl_tree.specs.Roles.Names.{is_any}
 use Rattle.redl_opc.specs.Elements.{Element}
 use Rattle.redl_opc.specs.Parts.{name_in}
 use Rattle.redl_opc.specs.Shape.{parts_of, story_of, refusal}
-use Rattle.redl_opc.specs.Stories.{story_view}
 use Rattle.redl_opc.proofs.StoryLaws.{stories-parts}
 use Rattle.redl_shown.specs.Shown.{shown}
 use Rattle.redl_marked.specs.Signs.{start_sign, mark_sign, end_sign, mark_signs, run_signs, para_signs}
@@ -175,7 +173,7 @@ told_story root kids sign r (in_run w h) = absurd (true≢false (sym (and_parts 
 told_story root kids sign r (in_props w h) = absurd (true≢false (sym (and_parts (is "pPr" root) false w).1))
 told_story root kids sign r (in_para w h) = absurd (true≢false (sym (and_parts (is "p" root) true w).0 ∙ root_no_para root r))
 
-abbrev story_members : Parts → List Tag
+abbrev story_members : Element → List Tag
 story_members story = members_in story.kids
 
 told_stories : (before : Option ℕ) (named : List NamedStory) → AreStories (map (λ (n : NamedStory). n.story) named)
@@ -189,17 +187,17 @@ told_stories before (n ∷ later) h =
     (told_story n.story.tag n.story.kids _ h.0.root (told_in (n.story.tag ∷ []) n.story.kids h.0.fits k d within))))
     (λ k d within. part_right _ here rest (told_stories (last_or before here) later h.1 k d within))
 
-named_parts : (parts : List Element) → map (λ (n : NamedStory). n.story) (filter_map named_story parts) ≡ map story_view (filter_map story_of parts)
+named_parts : (parts : List Element) → map (λ (n : NamedStory). n.story) (filter_map named_story parts) ≡ filter_map story_of parts
 named_parts [] = refl
 named_parts (part ∷ parts) = by (story_of part) (named_parts parts) where
-  by : (root : Option Element) → map (λ (n : NamedStory). n.story) (filter_map named_story parts) ≡ map story_view (filter_map story_of parts)
-      → map (λ (n : NamedStory). n.story) (cons_option (option_map (λ (r : Element). record { name = name_in part.tag; story = story_view r }) root) (filter_map named_story parts))
-      ≡ map story_view (cons_option root (filter_map story_of parts))
+  by : (root : Option Element) → map (λ (n : NamedStory). n.story) (filter_map named_story parts) ≡ filter_map story_of parts
+      → map (λ (n : NamedStory). n.story) (cons_option (option_map (λ (r : Element). record { name = name_in part.tag; story = r }) root) (filter_map named_story parts))
+      ≡ cons_option root (filter_map story_of parts)
   by None h = h
-  by (Some root) h = ap (λ ss. story_view root ∷ ss) h
+  by (Some root) h = ap (λ ss. root ∷ ss) h
 
 pub members-told : (value : Value) (nodes : Nodes) → refusal nodes ≡ None → IsIndexed value nodes → All (λ (tag : Tag). HasPart (member_sign tag) (marked_text nodes)) (members_of nodes)
 members-told value nodes shape is =
     let same : map (λ (n : NamedStory). n.story) (named_stories nodes) ≡ stories nodes = named_parts (parts_of nodes) ∙ stories-parts nodes shape in
-    subst (λ (ss : List Parts). All (λ (tag : Tag). HasPart (member_sign tag) (marked_text nodes)) (flat_map story_members ss)) same
+    subst (λ (ss : List Element). All (λ (tag : Tag). HasPart (member_sign tag) (marked_text nodes)) (flat_map story_members ss)) same
     (told_stories None (named_stories nodes) (subst AreStories (sym same) (indexed_stories value nodes is)))

@@ -3,7 +3,7 @@ use Prim.Native.String.{String}
 use Rattle.std.proofs.Common.{◌≡◌, ℕ, List, [], ◌∷◌, ◌++◌, codes, None, refl}
 use Rattle.std.specs.Fmt.{digits}
 use Rattle.redl_tree.specs.Model.Nodes.{Nodes, no_nodes, Empty, End, ◌⊕◌}
-use Rattle.redl_tree.specs.Model.View.{Parts}
+use Rattle.redl_tree.specs.Model.View.{Element}
 use Rattle.redl_tree.specs.declared.kinds.Kind.{Kind}
 use Rattle.redl_tree.specs.declared.kinds.Kind.TheVariants.{Mark, Row, Cell, Change}
 use Rattle.redl_tree.specs.declared.kinds.Trace.TheVariants.{Ins, Del, From, To}
@@ -17,7 +17,7 @@ use Rattle.redl_marked.specs.MarkedText.{NamedStory, story_marked, stories_marke
 use lib.Utf8.{encode}
 
 -- the story with this root and this body
-abbrev story : String → Nodes → Parts
+abbrev story : String → Nodes → Element
 story root body = record { tag = tag_in W "w" root "" (End []); kids = body }
 
 -- what the document with this body shows

@@ -6,7 +6,6 @@ use Rattle.redl_tree.specs.Model.Nodes.{Tag, Nodes}
 use Rattle.redl_opc.specs.Elements.{Element}
 use Rattle.redl_opc.specs.Parts.{name_in, part_name, story}
 use Rattle.redl_opc.specs.Shape.{parts_of, story_of}
-use Rattle.redl_opc.specs.Stories.{story_view}
 use Rattle.redl_opc.proofs.WalkLaws.{part-at}
 use Rattle.redl_marked.specs.declared.summary.Summary.{Summary}
 use Rattle.redl_marked.specs.MarkedText.{NamedStory, named_story, marked_in, heading, headed, stories_marked}
@@ -39,7 +38,7 @@ named-part nodes number within =
     ∙ ap (λ root. named_of (part_name nodes number) root ++ later) (sym found.1.root)
   where
     onto : (later : List NamedStory) (name : List ℕ) (root : Option Element)
-        → cons_option (option_map (λ root. record { name = name; story = story_view root }) root) later ≡ named_of (Some name) root ++ later
+        → cons_option (option_map (λ root. record { name = name; story = root }) root) later ≡ named_of (Some name) root ++ later
     onto later name None = refl
     onto later name (Some root) = refl
 
@@ -57,16 +56,16 @@ pub part_text : (before : Option ℕ) (nodes : Nodes) (number : ℕ) (name : Lis
 part_text before nodes number name root above read e f g h =
     ap (λ n. stories_marked before (named_of n (story nodes number))) e
     ∙ ap (λ r. stories_marked before (named_of (Some name) r)) f
-    ∙ append-nil (headed before (record { name = name; story = story_view root }))
+    ∙ append-nil (headed before (record { name = name; story = root }))
     ∙ ap (λ t. heading before name ++ t) (marked-summary (root.tag ∷ []) root.kids ∙ ap (λ a. marked a root.kids) (sym g) ∙ ap (marked above) (sym h))
 
 -- how it ends
 pub part_last : (before : Option ℕ) (nodes : Nodes) (number : ℕ) (name : List ℕ) (root : Element) (last : Option ℕ)
     → part_name nodes number ≡ Some name → story nodes number ≡ Some root
-    → last ≡ last_or before (headed before (record { name = name; story = story_view root }))
+    → last ≡ last_or before (headed before (record { name = name; story = root }))
     → last ≡ last_or before (stories_marked before (named_in nodes number))
 part_last before nodes number name root last e f h =
-    h ∙ ap (last_or before) (sym (append-nil (headed before (record { name = name; story = story_view root }))))
+    h ∙ ap (last_or before) (sym (append-nil (headed before (record { name = name; story = root }))))
     ∙ ap (λ r. last_or before (stories_marked before (named_of (Some name) r))) (sym f)
     ∙ ap (λ n. last_or before (stories_marked before (named_of n (story nodes number)))) (sym e)
 

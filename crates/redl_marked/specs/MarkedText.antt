@@ -5,13 +5,11 @@ use Rattle.std.specs.Prelude.{ℕ, List, [], ◌∷◌, ◌++◌, ◌==◌, Bool
 use Rattle.std.specs.Option.{option_map}
 use Rattle.std.specs.List.{last_or}
 use Rattle.redl_tree.specs.Model.Nodes.{Tag, Nodes, no_nodes, bytes, element}
-use Rattle.redl_tree.specs.Model.View.{Parts}
 use Rattle.redl_tree.specs.Roles.Names.{is, is_any}
 use Rattle.redl_tree.specs.Roles.Places.{is_open}
 use Rattle.redl_opc.specs.Elements.{Element}
 use Rattle.redl_opc.specs.Parts.{name_in}
 use Rattle.redl_opc.specs.Shape.{parts_of, story_of}
-use Rattle.redl_opc.specs.Stories.{story_view}
 use Rattle.redl_shown.specs.Shown.{shown}
 use Rattle.redl_views.specs.PlainText.{start_shown}
 use Rattle.redl_marked.specs.Signs.{start_sign, end_sign, para_signs}
@@ -45,17 +43,17 @@ marked_in ancestors (element tag kids rest) =
     ++ marked_in ancestors rest
 
 -- the marked text of a story
-abbrev pub story_marked : Parts → List ℕ
+abbrev pub story_marked : Element → List ℕ
 story_marked story = marked_in (story.tag ∷ []) story.kids
 
 -- a story, with the name of its part
 pub record NamedStory : Type 0 where
   pub name : List ℕ
-  pub story : Parts
+  pub story : Element
 
 -- the story of a part, if the part is one
 abbrev pub named_story : Element → Option NamedStory
-named_story part = option_map (λ root. record { name = name_in part.tag; story = story_view root }) (story_of part)
+named_story part = option_map (λ root. record { name = name_in part.tag; story = root }) (story_of part)
 
 -- the stories of a package, in the order of parts
 abbrev pub named_stories : Nodes → List NamedStory

@@ -2,7 +2,7 @@
 use Rattle.std.specs.Prelude.{◌≡◌, ℕ, List, [], ◌∷◌, ◌++◌, Bool, true, false, if◌then◌else◌}
 use Rattle.std.specs.List.{flat_map}
 use Rattle.redl_tree.specs.Model.Nodes.{Tag, Nodes, no_nodes, bytes, element}
-use Rattle.redl_tree.specs.Model.View.{Parts}
+use Rattle.redl_tree.specs.Model.View.{Element}
 use Rattle.redl_tree.specs.Decisions.Packages.{stories}
 use Rattle.redl_tree.specs.declared.kinds.Kind.{Kind}
 use Rattle.redl_tree.specs.declared.kinds.Kind.TheVariants.{Plain, Marker}
@@ -22,7 +22,7 @@ members_in (element tag kids rest) = (if is_member tag.kind then tag ∷ [] else
 
 -- the members in the stories of a package
 abbrev pub members_of : Nodes → List Tag
-members_of nodes = flat_map (λ (story : Parts). members_in story.kids) (stories nodes)
+members_of nodes = flat_map (λ (story : Element). members_in story.kids) (stories nodes)
 
 -- The sign with the number of a member's revision. Of content it is the one before it.
 abbrev pub member_sign : Tag → List ℕ

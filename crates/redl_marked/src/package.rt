@@ -4,7 +4,6 @@ ghost use Rattle.std.specs.Prelude.{◌≡◌, ◌==◌, ◌∷◌, [], List, �
 ghost use Rattle.std.specs.List.{last_or};
 ghost use Rattle.redl_io.specs.Sink.{Puts};
 ghost use Rattle.redl_opc.specs.Elements.{element_of};
-ghost use Rattle.redl_opc.specs.Stories.{story_view};
 ghost use Rattle.redl_marked.specs.MarkedText.{NamedStory, heading, headed, stories_marked, marked_text};
 ghost use Rattle.redl_marked.specs.Inside.Walks.{named_in};
 
@@ -79,7 +78,7 @@ fn put_line_end<K: Sink>(last: u8, out: &mut K) -> Result<(), Failed>
 
 // The byte in which the text ends after a story.
 fn last_of_story(root: &Elem, before: Option<u8>) -> Option<u8>
-    ensures { (name : List ℕ) → result ≡ last_or before (headed before (record { name = name; story = story_view (element_of root.now) })) }
+    ensures { (name : List ℕ) → result ≡ last_or before (headed before (record { name = name; story = element_of root.now })) }
 {
     match last_of_nodes(root.kids(), in_root(root)) {
         Some(last) => Some(last),

@@ -5,13 +5,11 @@ use Rattle.std.proofs.lemmas.Option.{slice_get_within}
 use Rattle.redl_tree.specs.Decisions.Packages.{stories, changed_stories}
 use Rattle.redl_tree.specs.Model.Nodes.{Nodes, no_nodes}
 use Rattle.redl_tree.specs.Model.Seen.{Seen, seen}
-use Rattle.redl_tree.specs.Model.View.{Parts}
 use Rattle.redl_tree.specs.Revisions.Numbers.{labelled_story, next_after_story, number_rule}
 use Rattle.redl_tree.proofs.NumberLaws.{stories-numbered, numbered-indexed, unlabelled-numbered}
 use Rattle.redl_opc.specs.Elements.{Element}
 use Rattle.redl_opc.specs.Parts.{story}
 use Rattle.redl_opc.specs.Shape.{parts_of, story_of, refusal}
-use Rattle.redl_opc.specs.Stories.{story_view}
 use Rattle.redl_opc.proofs.LabelLaws.{refusal-unlabelled}
 use Rattle.redl_opc.proofs.StoryLaws.{stories-parts}
 use Rattle.redl_stamp.specs.Attribute.{attribute_value}
@@ -127,16 +125,16 @@ pub record HasOwner (revisions : List Revision) (k : ℕ) (parts : List Element)
   pub within : place < length (numbered has.base (story_revisions (k + at) root.tag root.kids))
   pub number : has.base + place ≡ wanted
 
-abbrev first_kids : List Parts → Nodes
+abbrev first_kids : List Element → Nodes
 first_kids [] = no_nodes
 first_kids (story ∷ later) = story.kids
 
-abbrev later_ones : List Parts → List Parts
+abbrev later_ones : List Element → List Element
 later_ones [] = []
 later_ones (story ∷ later) = later
 
-abbrev stories_in : List Element → List Parts
-stories_in parts = map story_view (filter_map story_of parts)
+abbrev stories_in : List Element → List Element
+stories_in parts = filter_map story_of parts
 
 module _ (revisions : List Revision) where
   abbrev HaveStories : ℕ → List Element → Type 0
@@ -187,7 +185,7 @@ module _ (revisions : List Revision) where
           subst P number (more i p root at is)
 
       by : (o : Option Element) → story_of part ≡ o
-          → changed_stories (number_rule attribute_value) next (map story_view (cons_option o (filter_map story_of later))) ≡ map story_view (cons_option o (filter_map story_of later))
+          → changed_stories (number_rule attribute_value) next (cons_option o (filter_map story_of later)) ≡ cons_option o (filter_map story_of later)
           → revisions ≡ front ++ numbered next (revisions_in k o ++ revisions_from (k + 1) later) → Rest
           → HaveStories k (part ∷ later) × ((place : ℕ) → place < length (revisions_in k o ++ revisions_from (k + 1) later) → HasOwner revisions k (part ∷ later) (next + place))
       by None is same splits rest =
@@ -238,7 +236,7 @@ module _ (nodes : Nodes) (shape : refusal nodes ≡ None) (is : numbered_package
   all-stories : AllStories nodes
   all-stories =
       let same : changed_stories (number_rule attribute_value) 1 (stories nodes) ≡ stories nodes = sym (stories-numbered attribute_value nodes) ∙ ap stories is in
-      let P : List Parts → Type 0 = λ xs. changed_stories (number_rule attribute_value) 1 xs ≡ xs in
+      let P : List Element → Type 0 = λ xs. changed_stories (number_rule attribute_value) 1 xs ≡ xs in
       walk-parts (revisions_of nodes) 0 1 [] (parts_of nodes) (subst P (sym (stories-parts nodes shape)) same) refl refl tt
 
   story-of : (part : ℕ) (root : Element) → story nodes part ≡ Some root → HasStory (revisions_of nodes) part root

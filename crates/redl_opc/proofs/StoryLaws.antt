@@ -2,7 +2,6 @@
 use Rattle.std.proofs.Common.{◌≡◌, ◌<◌, ℕ, zero, suc, List, [], ◌∷◌, ◌++◌, map, filter_map, length, slice_get, slice_index_or, Contains, Option, Some, None, is_some, option_map, option_and_then, Bool, true, false, true≢false, ◌&&◌, ◌||◌, not, if◌then◌else◌, refl, sym, ap, ◌∙◌, codes, bytes_eq, arith, append-nil, subst}
 use Rattle.std.specs.List.{list_all, list_any, cons_option}
 use Rattle.redl_tree.specs.Model.Nodes.{Tag, Nodes, no_nodes, bytes, element}
-use Rattle.redl_tree.specs.Model.View.{Parts}
 use Rattle.redl_tree.specs.Decisions.Packages.{is_pkg, named_pkg, level_below, level_of, is_data_level, is_story_root, is_root, stories_in, stories}
 use Rattle.redl_tree.specs.declared.level.Level.TheVariants.{Package, Part, Data, Below}
 use Rattle.redl_tree.proofs.NameLaws.{and-left, and-right, and-false}
@@ -11,16 +10,16 @@ use Rattle.redl_opc.specs.Elements.{Element, elements_of, only, only_element}
 use Rattle.redl_opc.specs.Shape.{has_attribute, is_data, is_data_alone, is_part, root_in, story_root, story_of, is_document, package_in, package_of, elements_in, parts_of, refusal_of, refusal}
 use Rattle.redl_opc.specs.declared.error.OpcError.TheVariants.{PartShape, NoDocument}
 use Rattle.redl_opc.specs.Parts.{name_in}
-use Rattle.redl_opc.specs.Stories.{story_view, part_stories, IsStoryOfPart}
+use Rattle.redl_opc.specs.Stories.{part_stories, IsStoryOfPart}
 use Rattle.redl_opc.proofs.PartLaws.{root_is}
 
 -- ---- stories an element at a time
 
 -- the stories of an element with these ancestors: itself, or those inside it
-abbrev element_stories : List Tag → Element → List Parts
-element_stories ancestors e = if is_root ancestors e.tag then story_view e ∷ [] else stories_in (e.tag ∷ ancestors) e.kids
+abbrev element_stories : List Tag → Element → List Element
+element_stories ancestors e = if is_root ancestors e.tag then e ∷ [] else stories_in (e.tag ∷ ancestors) e.kids
 
-abbrev stories_among : List Tag → List Element → List Parts
+abbrev stories_among : List Tag → List Element → List Element
 stories_among ancestors [] = []
 stories_among ancestors (e ∷ es) = element_stories ancestors e ++ stories_among ancestors es
 
@@ -34,7 +33,7 @@ stories_in-elements ancestors (element tag kids rest) =
 above_data : (ancestors : List Tag) (e : Element) → is_data_level (level_of ancestors) ≡ false
     → element_stories ancestors e ≡ stories_among (e.tag ∷ ancestors) (elements_of e.kids)
 above_data ancestors e h =
-    ap (λ here. if here && is_story_root e.tag then story_view e ∷ [] else stories_in (e.tag ∷ ancestors) e.kids) h
+    ap (λ here. if here && is_story_root e.tag then e ∷ [] else stories_in (e.tag ∷ ancestors) e.kids) h
     ∙ stories_in-elements (e.tag ∷ ancestors) e.kids
 
 -- there are no stories where no part's data is
@@ -49,18 +48,18 @@ none_below ancestors (element tag kids rest) h =
 -- ---- from the root of a story up to the root of the package
 
 -- one story or none, as a list
-abbrev listed : Option Element → List Parts
+abbrev listed : Option Element → List Element
 listed None = []
-listed (Some root) = story_view root ∷ []
+listed (Some root) = root ∷ []
 
 -- what stands in the data of a part: one element, a root where it has the name of one
 in_data : (ancestors : List Tag) (root : Element) → level_of ancestors ≡ Data → element_stories ancestors root ≡ listed (story_root (Some root))
 in_data ancestors root h =
-    ap (λ level. if is_data_level level && is_story_root root.tag then story_view root ∷ [] else stories_in (root.tag ∷ ancestors) root.kids) h
-    ∙ ap (λ xs. if is_story_root root.tag then story_view root ∷ [] else xs) (none_below (root.tag ∷ ancestors) root.kids (ap (λ level. level_below level root.tag) h))
+    ap (λ level. if is_data_level level && is_story_root root.tag then root ∷ [] else stories_in (root.tag ∷ ancestors) root.kids) h
+    ∙ ap (λ xs. if is_story_root root.tag then root ∷ [] else xs) (none_below (root.tag ∷ ancestors) root.kids (ap (λ level. level_below level root.tag) h))
     ∙ by (is_story_root root.tag)
   where
-    by : (b : Bool) → (if b then story_view root ∷ [] else []) ≡ listed (if b then Some root else None)
+    by : (b : Bool) → (if b then root ∷ [] else []) ≡ listed (if b then Some root else None)
     by true = refl
     by false = refl
 
@@ -117,14 +116,14 @@ in_package ancestors part h is =
     above_data ancestors part (ap is_data_level h) ∙ in_part_alone (part.tag ∷ ancestors) (elements_of part.kids) level held_alone
 
 in_parts : (ancestors : List Tag) (parts : List Element) → level_of ancestors ≡ Package → list_all is_part parts ≡ true
-    → stories_among ancestors parts ≡ map story_view (filter_map story_of parts)
+    → stories_among ancestors parts ≡ filter_map story_of parts
 in_parts ancestors [] h all = refl
 in_parts ancestors (part ∷ parts) h all =
     ap (λ xs. xs ++ stories_among ancestors parts) (in_package ancestors part h (and-left (is_part part) (list_all is_part parts) all))
     ∙ ap (λ xs. listed (story_of part) ++ xs) (in_parts ancestors parts h (and-right (is_part part) (list_all is_part parts) all))
     ∙ onto (story_of part)
   where
-    onto : (o : Option Element) → listed o ++ map story_view (filter_map story_of parts) ≡ map story_view (cons_option o (filter_map story_of parts))
+    onto : (o : Option Element) → listed o ++ filter_map story_of parts ≡ cons_option o (filter_map story_of parts)
     onto None = refl
     onto (Some root) = refl
 
@@ -140,7 +139,7 @@ stories-parts nodes = by (package_of nodes) refl
     are_parts true c h = refl
     are_parts false c h = absurd cc
 
-    by : (o : Option Element) → package_of nodes ≡ o → refusal_of o ≡ None → map story_view (filter_map story_of (elements_in o)) ≡ stories nodes
+    by : (o : Option Element) → package_of nodes ≡ o → refusal_of o ≡ None → filter_map story_of (elements_in o) ≡ stories nodes
     by None is h = absurd cc
     by (Some root) is h =
         let parts = elements_of root.kids in
@@ -155,14 +154,14 @@ stories-parts nodes = by (package_of nodes) refl
 
 -- ---- the part of a story
 
-abbrev stories_of : List Element → List Parts
-stories_of parts = map story_view (filter_map story_of parts)
+abbrev stories_of : List Element → List Element
+stories_of parts = filter_map story_of parts
 
 -- this is the story of the part with this number
-abbrev IsStoryAt : List Element → Parts → ℕ → Type 0
-IsStoryAt parts found number = option_map story_view (option_and_then story_of (slice_get parts number)) ≡ Some found
+abbrev IsStoryAt : List Element → Element → ℕ → Type 0
+IsStoryAt parts found number = option_and_then story_of (slice_get parts number) ≡ Some found
 
-part_of_story : (parts : List Element) (found : Parts) (k : ℕ) → k < length (stories_of parts) → slice_index_or (stories_of parts) k found ≡ found
+part_of_story : (parts : List Element) (found : Element) (k : ℕ) → k < length (stories_of parts) → slice_index_or (stories_of parts) k found ≡ found
     → (number : ℕ) × (number < length parts) × IsStoryAt parts found number
 part_of_story [] found k within at_k = absurd (omega (arith, within))
 part_of_story (part ∷ parts) found k within at_k = by (story_of part) refl k within at_k (part_of_story parts found)
@@ -171,15 +170,15 @@ part_of_story (part ∷ parts) found k within at_k = by (story_of part) refl k w
     later at = (suc at.0, omega (arith, at.1), at.2)
 
     by : (o : Option Element) → story_of part ≡ o
-        → (k : ℕ) → k < length (map story_view (cons_option o (filter_map story_of parts))) → slice_index_or (map story_view (cons_option o (filter_map story_of parts))) k found ≡ found
+        → (k : ℕ) → k < length (cons_option o (filter_map story_of parts)) → slice_index_or (cons_option o (filter_map story_of parts)) k found ≡ found
         → ((k : ℕ) → k < length (stories_of parts) → slice_index_or (stories_of parts) k found ≡ found → (number : ℕ) × (number < length parts) × IsStoryAt parts found number)
         → (number : ℕ) × (number < length (part ∷ parts)) × IsStoryAt (part ∷ parts) found number
     by None is k within at_k more = later (more k within at_k)
-    by (Some root) is zero within at_k more = (0, omega arith, ap (option_map story_view) is ∙ ap Some at_k)
+    by (Some root) is zero within at_k more = (0, omega arith, is ∙ ap Some at_k)
     by (Some root) is (suc k) within at_k more = later (more k (omega (arith, within)) at_k)
 
 -- each story of a package is that of a part, which has a number and a name
-pub story-part_of : (nodes : Nodes) (found : Parts) → refusal nodes ≡ None → Contains (stories nodes) found
+pub story-part_of : (nodes : Nodes) (found : Element) → refusal nodes ≡ None → Contains (stories nodes) found
     → (number : ℕ) × (name : List ℕ) × IsStoryOfPart nodes found number name
 story-part_of nodes found shape among =
     let among_parts = subst (λ xs. Contains xs found) (sym (stories-parts nodes shape)) among in
@@ -190,7 +189,7 @@ story-part_of nodes found shape among =
         → (o : Option Element) → slice_get (parts_of nodes) number ≡ o
         → (number : ℕ) × (name : List ℕ) × IsStoryOfPart nodes found number name
     by number within is None at =
-        let none : None ≡ Some found = ap (λ o. option_map story_view (option_and_then story_of o)) (sym at) ∙ is in
+        let none : None ≡ Some found = ap (option_and_then story_of) (sym at) ∙ is in
         absurd cc
     by number within is (Some part) at =
         (number, name_in part.tag, record { is_part = within; has_name = ap (option_map (λ part. name_in part.tag)) at; has_story = is })

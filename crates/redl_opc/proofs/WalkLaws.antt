@@ -7,7 +7,7 @@ use Rattle.redl_tree.specs.Decisions.Packages.{named_pkg, is_story_root, stories
 use Rattle.redl_opc.specs.Elements.{Element, elements_of, only_element}
 use Rattle.redl_opc.specs.Parts.{story}
 use Rattle.redl_opc.specs.Shape.{root_in, story_root, story_of, package_of, elements_in, parts_of, refusal}
-use Rattle.redl_opc.specs.Stories.{story_view, stories_of_part, stories_from}
+use Rattle.redl_opc.specs.Stories.{stories_of_part, stories_from}
 use Rattle.redl_tree.specs.Model.Tree.{HasUtf8Tails}
 use Rattle.redl_opc.proofs.PartLaws.{count-first, tails-first, only_is, root_is}
 use Rattle.redl_opc.proofs.StoryLaws.{stories-parts}
@@ -45,12 +45,12 @@ pub stories_from-part : (nodes : Nodes) (number : ℕ) → number < length (part
 stories_from-part nodes number within =
     let found = part-at nodes number within in
     let later = drop (number + 1) (parts_of nodes) in
-    ap (λ parts. map story_view (filter_map story_of parts)) found.1.front
+    ap (filter_map story_of) found.1.front
     ∙ onto later (story_of found.0)
-    ∙ ap (λ o. option_to_list (option_map story_view o) ++ stories_from (number + 1) nodes) (sym found.1.root)
+    ∙ ap (λ o. option_to_list o ++ stories_from (number + 1) nodes) (sym found.1.root)
   where
     onto : (later : List Element) (o : Option Element)
-        → map story_view (cons_option o (filter_map story_of later)) ≡ option_to_list (option_map story_view o) ++ map story_view (filter_map story_of later)
+        → cons_option o (filter_map story_of later) ≡ option_to_list o ++ filter_map story_of later
     onto later None = refl
     onto later (Some root) = refl
 
@@ -65,7 +65,7 @@ parts-end nodes number past = drop-past (parts_of nodes) number past
 
 -- no stories come behind the last part
 pub stories_from-end : (nodes : Nodes) (number : ℕ) → length (parts_of nodes) ≤ number → stories_from number nodes ≡ []
-stories_from-end nodes number past = ap (λ parts. map story_view (filter_map story_of parts)) (parts-end nodes number past)
+stories_from-end nodes number past = ap (filter_map story_of) (parts-end nodes number past)
 
 -- the stories from the first part on are all of them
 pub stories_from-start : (nodes : Nodes) → refusal nodes ≡ None → stories_from 0 nodes ≡ stories nodes

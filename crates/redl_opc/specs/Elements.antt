@@ -2,11 +2,8 @@
 use Rattle.std.specs.Prelude.{List, [], ◌∷◌, Option, Some, None}
 use Rattle.redl_tree.specs.Model.Nodes.{Tag, Nodes, no_nodes, bytes, element, Item, bytes_item, element_item, idle_item}
 use Rattle.redl_tree.specs.Model.View.{tag_of, kids_of}
+pub use Rattle.redl_tree.specs.Model.View.{Element}
 use Rattle.redl_tree.specs.declared.node.Elem.{Elem}
-
-pub record Element : Type 0 where
-  pub tag : Tag
-  pub kids : Nodes
 
 abbrev pub element_of : Elem → Element
 element_of e = record { tag = tag_of e; kids = kids_of e }

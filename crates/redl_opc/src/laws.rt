@@ -5,7 +5,7 @@ ghost use Rattle.redl_tree.specs.Revisions.Markers.{Value};
 ghost use Rattle.redl_tree.specs.Model.Nodes.{Nodes};
 ghost use Rattle.redl_tree.specs.Revisions.Numbers.{numbered_package};
 ghost use Rattle.redl_tree.specs.Decisions.Packages.{stories};
-ghost use Rattle.redl_tree.specs.Model.View.{Parts};
+ghost use Rattle.redl_tree.specs.Model.View.{Element};
 ghost use Rattle.redl_opc.specs.Parts.{part_name};
 ghost use Rattle.redl_opc.specs.Shape.{refusal, parts_of};
 ghost use Rattle.redl_opc.specs.Stories.{part_stories, IsStoryOfPart};
@@ -19,7 +19,7 @@ pub fn stories_are_of_parts()
 /// Each story of a package is that of a part, which has a number and a name. A `Package` gives both: its stories by number,
 /// and the names, which are UTF-8.
 pub fn each_story_has_a_part()
-    ensures { (nodes : Nodes) (found : Parts) → refusal nodes ≡ None → Contains (stories nodes) found
+    ensures { (nodes : Nodes) (found : Element) → refusal nodes ≡ None → Contains (stories nodes) found
         → (number : ℕ) × (name : List ℕ) × IsStoryOfPart nodes found number name }
 {}
 

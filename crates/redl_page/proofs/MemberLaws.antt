@@ -3,7 +3,6 @@ use Rattle.std.proofs.Common.{◌≡◌, ℕ, List, [], ◌∷◌, ◌++◌, map
 use Rattle.std.proofs.lemmas.Bool.{and_parts}
 use Rattle.std.specs.List.{list_any, cons_option}
 use Rattle.redl_tree.specs.Model.Nodes.{Tag, Nodes, no_nodes, bytes, element}
-use Rattle.redl_tree.specs.Model.View.{Parts}
 use Rattle.redl_tree.specs.Roles.Names.{is}
 use Rattle.redl_tree.specs.Roles.Places.{is_quiet, is_open, within, is_range_edge, role, placed, first_role, change_at, in_mark_props, in_para_props, in_props, in_row_props, in_cell_props, trace_of, row_trace_of, cell_trace_of, prop_of}
 use Rattle.redl_tree.specs.Decisions.Packages.{is_story_root, stories}
@@ -22,7 +21,6 @@ use Rattle.redl_index.specs.declared.revision.Revision.{Revision}
 use Rattle.redl_opc.specs.Elements.{Element}
 use Rattle.redl_opc.specs.Parts.{name_in}
 use Rattle.redl_opc.specs.Shape.{parts_of, story_of, refusal}
-use Rattle.redl_opc.specs.Stories.{story_view}
 use Rattle.redl_opc.proofs.StoryLaws.{stories-parts}
 use Rattle.redl_page.specs.declared.marks.Depth.TheVariants.{Kids, Properties, RunProperties}
 use Rattle.redl_page.specs.declared.place.Place.{Place}
@@ -247,30 +245,30 @@ module _ (shown : List ℕ → List ℕ) (revisions : List Revision) (v : ℕ) w
   none_waits root nodes r (in_para p h) = let e = (and_parts (is "pPr" root) (within ("p" ∷ []) []) p).0 in let f = (no_root root r).1 in cc
   none_waits root nodes r (in_kids p h) = let e = (and_parts (is "p" root) (is_open []) p).0 in let f = (no_root root r).0 in cc
 
-  story-has : (story : Parts) → IsStory story → has_member v story.kids ≡ true → has_element v (nodes_pieces shown revisions in_story story.kids) ≡ true
+  story-has : (story : Element) → IsStory story → has_member v story.kids ≡ true → has_element v (nodes_pieces shown revisions in_story story.kids) ≡ true
   story-has story is h = at (found in_story (story.tag ∷ []) story.kids (sym (ap (λ q. not (q || false)) is.loud)) is.fits h)
     where
       at : Found in_story (story.tag ∷ []) story.kids → has_element v (nodes_pieces shown revisions in_story story.kids) ≡ true
       at (inl here) = here
       at (inr waits) = absurd (none_waits story.tag story.kids is.root waits)
 
-  section-has : (first : Bool) (name : List ℕ) (root : Element) → IsStory (story_view root) → has_member v root.kids ≡ true → has_element v (section shown revisions first name root.kids) ≡ true
+  section-has : (first : Bool) (name : List ℕ) (root : Element) → IsStory root → has_member v root.kids ≡ true → has_element v (section shown revisions first name root.kids) ≡ true
   section-has first name root is h =
-      has-right opens_number v (section_head first name) _ (has-left opens_number v (nodes_pieces shown revisions in_story root.kids) (own "</section>\n" ∷ []) (story-has (story_view root) is h))
+      has-right opens_number v (section_head first name) _ (has-left opens_number v (nodes_pieces shown revisions in_story root.kids) (own "</section>\n" ∷ []) (story-has root is h))
 
-  sections-have : (first : Bool) (parts : List Element) → AreStories (map story_view (filter_map story_of parts)) → list_any (λ story. has_member v story.kids) (map story_view (filter_map story_of parts)) ≡ true →
+  sections-have : (first : Bool) (parts : List Element) → AreStories (filter_map story_of parts) → list_any (λ story. has_member v story.kids) (filter_map story_of parts) ≡ true →
       has_element v (sections shown revisions first parts) ≡ true
   sections-have first [] are h = cc
   sections-have first (part ∷ parts) are h = at (story_of part) are h (sections-have first parts) (sections-have false parts)
     where
-      at : (o : Option Element) → AreStories (map story_view (cons_option o (filter_map story_of parts))) → list_any (λ story. has_member v story.kids) (map story_view (cons_option o (filter_map story_of parts))) ≡ true →
-          (AreStories (map story_view (filter_map story_of parts)) → list_any (λ story. has_member v story.kids) (map story_view (filter_map story_of parts)) ≡ true → has_element v (sections shown revisions first parts) ≡ true) →
-          (AreStories (map story_view (filter_map story_of parts)) → list_any (λ story. has_member v story.kids) (map story_view (filter_map story_of parts)) ≡ true → has_element v (sections shown revisions false parts) ≡ true) →
+      at : (o : Option Element) → AreStories (cons_option o (filter_map story_of parts)) → list_any (λ story. has_member v story.kids) (cons_option o (filter_map story_of parts)) ≡ true →
+          (AreStories (filter_map story_of parts) → list_any (λ story. has_member v story.kids) (filter_map story_of parts) ≡ true → has_element v (sections shown revisions first parts) ≡ true) →
+          (AreStories (filter_map story_of parts) → list_any (λ story. has_member v story.kids) (filter_map story_of parts) ≡ true → has_element v (sections shown revisions false parts) ≡ true) →
           has_element v (section_in shown revisions first (name_in part.tag) o ++ sections shown revisions (is_first_after first o) parts) ≡ true
       at None are h same later = same are h
       at (Some root) are h same later = by (or_cases (has_member v root.kids) _ h)
         where
-          by : (has_member v root.kids ≡ true) ⊎ (list_any (λ story. has_member v story.kids) (map story_view (filter_map story_of parts)) ≡ true) →
+          by : (has_member v root.kids ≡ true) ⊎ (list_any (λ story. has_member v story.kids) (filter_map story_of parts) ≡ true) →
               has_element v (section shown revisions first (name_in part.tag) root.kids ++ sections shown revisions false parts) ≡ true
           by (inl here) = has-left opens_number v (section shown revisions first (name_in part.tag) root.kids) (sections shown revisions false parts) (section-has first (name_in part.tag) root are.0 here)
           by (inr there) = has-right opens_number v (section shown revisions first (name_in part.tag) root.kids) (sections shown revisions false parts) (later are.1 there)

@@ -9,7 +9,7 @@ use Rattle.redl_tree.specs.Revisions.Numbers.{IsIndexed}
 use Rattle.redl_tree.specs.Decisions.Packages.{stories}
 use Rattle.redl_tree.specs.Rules.Sound.{tests, holds, is_sound, test_1, test_2, test_3, test_4, test_5, test_6, test_7, test_8, test_9}
 use Rattle.redl_tree.specs.Decisions.Survivors.{text_pieces, survivors}
-use Rattle.redl_tree.specs.Model.View.{Parts}
+use Rattle.redl_tree.specs.Model.View.{Element}
 use Rattle.redl_tree.specs.declared.kinds.Say.{Say}
 
 -- The text pieces of the stories are those of the original that survive, byte for byte and in their order.
@@ -18,7 +18,7 @@ KeepsText says given result =
     (value : Value) → IsIndexed value given → map text_pieces (stories result) ≡ map (survivors says) (stories given)
 
 -- Stories follow all rules of structure.
-pub record FollowRules (has_id declares : List ℕ → Bool) (parts : List Parts) : Type 0 where
+pub record FollowRules (has_id declares : List ℕ → Bool) (parts : List Element) : Type 0 where
   -- rule 1: a cell ends in a paragraph
   pub rule_1 : holds test_1 parts ≡ true
   -- rule 2: a row has a cell

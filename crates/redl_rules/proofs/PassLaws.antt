@@ -217,7 +217,7 @@ kept-idle here round in_run at (element tag kids rest) kept h =
     let within = round_inside tag (role_in here.around tag) inner round in
     let told : Kept = kept_by_round here.around (inside_of tag here.around) round (role_in here.around tag) tag kids in
     let runs : is "r" tag ≡ true → InRuns inner.around within =
-        λ e. record { parent = inside-run tag here.around.quiet here.around.parent e; content = ap is_some (no_trace in_run tag p.own) } in
+    λ e. record { parent = inside-run tag here.around.quiet here.around.parent e; content = ap is_some (no_trace in_run tag p.own) } in
     ap (visited ancestors_inside keeper_rule here round rest)
     (visited-choice ancestors_inside keeper_rule inner (λ b. if b then within else round) kids (in_both kept told)
     ∙ kept-idle inner within (is "r" tag) runs kids (in_both kept told) p.below

@@ -6,7 +6,7 @@ use Rattle.redl_tree.specs.Decisions.Packages.{stories}
 use Rattle.redl_opc.specs.Elements.{Element}
 use Rattle.redl_opc.specs.Shape.{parts_of, refusal}
 use Rattle.redl_opc.specs.Parts.{story}
-use Rattle.redl_opc.specs.Stories.{story_view, stories_of_part, stories_from}
+use Rattle.redl_opc.specs.Stories.{stories_of_part, stories_from}
 use Rattle.redl_opc.proofs.WalkLaws.{stories_from-start, stories_from-part, stories_from-end}
 use Rattle.redl_rules.specs.declared.kept.Kept.{Kept}
 use Rattle.redl_rules.specs.Keeping.{all_kept, in_both, element_kept, kept_among}
@@ -32,13 +32,13 @@ module _ (pkg : Nodes) (part : ℕ) (kept : Kept) (within : part < length (parts
   -- behind a part with this story
   pub kept-story : (now : Kept) (root : Element) → story pkg part ≡ Some root → now ≡ in_both kept (element_kept [] root.tag root.kids) → IsKeptBelow (part + 1) pkg now
   kept-story now root found told =
-      let one : stories_of_part pkg part ≡ story_view root ∷ [] = ap (λ o. option_to_list (option_map story_view o)) found in
+      let one : stories_of_part pkg part ≡ root ∷ [] = ap option_to_list found in
       kept-more kept now (stories_of_part pkg part) (stories_from (part + 1) pkg) (stories_from part pkg)
-      (told ∙ ap (in_both kept) (sym (kept_among_one (story_view root)) ∙ ap kept_among (sym one))) (stories_from-part pkg part within) ∙ is
+      (told ∙ ap (in_both kept) (sym (kept_among_one root) ∙ ap kept_among (sym one))) (stories_from-part pkg part within) ∙ is
 
   -- behind one that is no story
   pub kept-other : story pkg part ≡ None → IsKeptBelow (part + 1) pkg kept
   kept-other found =
-      let none : stories_of_part pkg part ≡ [] = ap (λ o. option_to_list (option_map story_view o)) found in
+      let none : stories_of_part pkg part ≡ [] = ap option_to_list found in
       kept-more kept kept (stories_of_part pkg part) (stories_from (part + 1) pkg) (stories_from part pkg)
       (sym (in_both-all kept) ∙ ap (λ ss. in_both kept (kept_among ss)) (sym none)) (stories_from-part pkg part within) ∙ is

@@ -2,7 +2,7 @@
 use Rattle.std.specs.Prelude.{ℕ, List, [], ◌∷◌, Bool, true, ◌&&◌, not, map, Option}
 use Rattle.std.specs.List.{list_all, position_from}
 use Rattle.redl_tree.specs.Model.Nodes.{Tag, Nodes}
-use Rattle.redl_tree.specs.Model.View.{Parts}
+use Rattle.redl_tree.specs.Model.View.{Element}
 use Rattle.redl_tree.specs.Rules.Tests.{Test, everywhere}
 use Rattle.redl_tree.specs.Rules.Sound.{holds}
 use Rattle.redl_rules.specs.Attributes.{rules}
@@ -38,7 +38,7 @@ abbrev pub element_kept : List Tag → Tag → Nodes → Kept
 element_kept ancestors tag kids = in_both (kept_here ancestors tag kids) (kept_in (tag ∷ ancestors) kids)
 
 -- the same of stories
-abbrev pub kept_among : List Parts → Kept
+abbrev pub kept_among : List Element → Kept
 kept_among stories = kept_by (λ test. holds test stories)
 
 -- all rules hold

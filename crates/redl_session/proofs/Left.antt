@@ -11,13 +11,13 @@ use Rattle.redl_laws.proofs.Soundness.AllRules.{soundness}
 use Rattle.redl_tree.specs.Decisions.Packages.{pass_package, stories}
 use Rattle.redl_tree.specs.Decisions.Survivors.{survivors, text_pieces}
 use Rattle.redl_tree.specs.Model.Nodes.{Nodes}
-use Rattle.redl_tree.specs.Model.View.{Parts}
+use Rattle.redl_tree.specs.Model.View.{Element}
 use Rattle.redl_tree.specs.Rules.Tests.{Test}
 use Rattle.redl_tree.specs.Rules.Sound.{first_broken, holds}
 use Rattle.redl_tree.specs.declared.kinds.Say.{Say}
 
 -- no rule is broken exactly where all hold
-all_hold : (number : ℕ) (tests : List Test) (parts : List Parts) → first_broken number tests parts ≡ None → list_all (λ test. holds test parts) tests ≡ true
+all_hold : (number : ℕ) (tests : List Test) (parts : List Element) → first_broken number tests parts ≡ None → list_all (λ test. holds test parts) tests ≡ true
 all_hold number [] parts is = refl
 all_hold number (test ∷ later) parts is = by (holds test parts) refl (all_hold (number + 1) later parts) is where
   by : (b : Bool) → holds test parts ≡ b → (first_broken (number + 1) later parts ≡ None → list_all (λ other. holds other parts) later ≡ true)
@@ -25,7 +25,7 @@ all_hold number (test ∷ later) parts is = by (holds test parts) refl (all_hold
   by true e rest none = and_from (holds test parts) (list_all (λ other. holds other parts) later) e (rest none)
   by false e rest none = absurd (cc none)
 
-none_broken : (number : ℕ) (tests : List Test) (parts : List Parts) → list_all (λ test. holds test parts) tests ≡ true → first_broken number tests parts ≡ None
+none_broken : (number : ℕ) (tests : List Test) (parts : List Element) → list_all (λ test. holds test parts) tests ≡ true → first_broken number tests parts ≡ None
 none_broken number [] parts is = refl
 none_broken number (test ∷ later) parts is = by (holds test parts) is (none_broken (number + 1) later parts) where
   by : (b : Bool) → (b && list_all (λ other. holds other parts) later) ≡ true

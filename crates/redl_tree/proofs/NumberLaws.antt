@@ -10,7 +10,7 @@ use Rattle.redl_tree.specs.Roles.Names.{is}
 use Rattle.redl_tree.specs.Model.Kids.{some_element, kids_of_all}
 use Rattle.redl_tree.specs.Roles.Places.{is_open, trace_of, row_trace_of, cell_trace_of, role}
 use Rattle.redl_tree.specs.Roles.Lists.{into, place, in_rows, in_cells}
-use Rattle.redl_tree.specs.Model.View.{Parts}
+use Rattle.redl_tree.specs.Model.View.{Element}
 use Rattle.redl_tree.specs.Decisions.Packages.{stories, changed_stories}
 use Rattle.redl_tree.specs.Rules.Tests.{Test, everywhere}
 use Rattle.redl_tree.specs.Rules.Sound.{is_marker, holds, tests, first_broken, broken, is_sound}
@@ -321,7 +321,7 @@ everywhere-labelled test blind value next root kids =
     ∙ ap (λ xs. everywhere test [] (element (unlabelled_tag root) xs no_nodes)) (unlabelled-story value next root kids)
     ∙ everywhere-bare test blind [] (element root kids no_nodes)
 
-holds-labelled : (test : Test) → Blind test → (value : Value) (next : ℕ) (xs : List Parts) → holds test (changed_stories (number_rule value) next xs) ≡ holds test xs
+holds-labelled : (test : Test) → Blind test → (value : Value) (next : ℕ) (xs : List Element) → holds test (changed_stories (number_rule value) next xs) ≡ holds test xs
 holds-labelled test blind value next [] = refl
 holds-labelled test blind value next (story ∷ later) =
     ap (λ b. b && holds test (changed_stories (number_rule value) (next_after_story value next story.tag story.kids) later)) (everywhere-labelled test blind value next story.tag story.kids)

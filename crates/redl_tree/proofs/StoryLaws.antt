@@ -2,7 +2,7 @@
 use Rattle.std.proofs.Common.{◌≡◌, List, [], ◌∷◌, ◌++◌, map, Bool, true, false, refl, sym, ap, ◌∙◌, if◌then◌else◌}
 use Rattle.redl_tree.specs.Model.Nodes.{Tag, Nodes, no_nodes, bytes, element, Item, bytes_item, element_item, idle_item, in_front, ◌⊕◌}
 use Rattle.redl_tree.specs.Model.IdleTexts.{idle_nodes}
-use Rattle.redl_tree.specs.Model.View.{Parts}
+use Rattle.redl_tree.specs.Model.View.{Element}
 use Rattle.redl_tree.specs.Revisions.Labels.{unlabelled_tag, unlabelled}
 use Rattle.redl_tree.specs.Decisions.Packages.{is_root, stories_in, element_stories, StoryRule, left_after, changed_stories, changed_in}
 use Rattle.redl_tree.specs.Decisions.StoryWalk.{changed_item, item_stories}
@@ -18,7 +18,7 @@ stories_in-in_front ancestors (element_item tag kids) ys = refl
 stories_in-in_front ancestors (idle_item t) ys = stories_past ancestors false (idle_nodes t) ys (nodes_are_idle t)
 
 module _ {S : Type 0} (rule : StoryRule S) where
-  pub left_after-append : (given : S) (xs ys : List Parts) → left_after rule given (xs ++ ys) ≡ left_after rule (left_after rule given xs) ys
+  pub left_after-append : (given : S) (xs ys : List Element) → left_after rule given (xs ++ ys) ≡ left_after rule (left_after rule given xs) ys
   left_after-append given [] ys = refl
   left_after-append given (story ∷ xs) ys = left_after-append (rule.left given story.tag story.kids) xs ys
 
@@ -33,7 +33,7 @@ module _ {S : Type 0} (rule : StoryRule S) where
 
   -- ---- the stories of a changed package
 
-  changed_stories-append : (given : S) (xs ys : List Parts)
+  changed_stories-append : (given : S) (xs ys : List Element)
       → changed_stories rule given (xs ++ ys) ≡ changed_stories rule given xs ++ changed_stories rule (left_after rule given xs) ys
   changed_stories-append given [] ys = refl
   changed_stories-append given (story ∷ xs) ys =
@@ -63,7 +63,7 @@ module _ {S : Type 0} (rule : StoryRule S) where
           ∙ sym (changed_stories-append given inner (stories_in ancestors rest))
 
   -- they have the roots of the original
-  pub changed-roots : (given : S) (xs : List Parts) → map (λ story. story.tag) (changed_stories rule given xs) ≡ map (λ story. story.tag) xs
+  pub changed-roots : (given : S) (xs : List Element) → map (λ story. story.tag) (changed_stories rule given xs) ≡ map (λ story. story.tag) xs
   changed-roots given [] = refl
   changed-roots given (story ∷ later) = ap (λ roots. story.tag ∷ roots) (changed-roots (rule.left given story.tag story.kids) later)
 
@@ -87,7 +87,7 @@ module _ {S : Type 0} (rule : StoryRule S) where
   -- ---- rules that change nothing the second time
 
   left_after-again : ((given : S) (tag : Tag) (kids : Nodes) → rule.left given tag (rule.kids given tag kids) ≡ rule.left given tag kids)
-      → (given : S) (xs : List Parts) → left_after rule given (changed_stories rule given xs) ≡ left_after rule given xs
+      → (given : S) (xs : List Element) → left_after rule given (changed_stories rule given xs) ≡ left_after rule given xs
   left_after-again again given [] = refl
   left_after-again again given (story ∷ later) =
       let left = rule.left given story.tag story.kids in
@@ -132,14 +132,14 @@ module _ {S : Type 0} (rule : StoryRule S) where
 
 -- ---- two rules that make the same of each story
 
-abbrev pub Agree : {S T : Type 0} → StoryRule S → StoryRule T → S → T → List Parts → Type 0
+abbrev pub Agree : {S T : Type 0} → StoryRule S → StoryRule T → S → T → List Element → Type 0
 Agree r q given other [] = Unit {0}
 Agree r q given other (story ∷ later) =
     (r.kids given story.tag story.kids ≡ q.kids other story.tag story.kids)
     × Agree r q (r.left given story.tag story.kids) (q.left other story.tag story.kids) later
 
 module _ {S T : Type 0} (r : StoryRule S) (q : StoryRule T) where
-  Agree-append : (given : S) (other : T) (xs ys : List Parts) → Agree r q given other (xs ++ ys)
+  Agree-append : (given : S) (other : T) (xs ys : List Element) → Agree r q given other (xs ++ ys)
       → Agree r q given other xs × Agree r q (left_after r given xs) (left_after q other xs) ys
   Agree-append given other [] ys agree = (tt, agree)
   Agree-append given other (story ∷ xs) ys agree =

@@ -2,7 +2,7 @@
 use Rattle.std.proofs.Common.{◌<◌, ◌+◌, ℕ, List, [], ◌∷◌, ◌++◌, length, drop, get_or, ap, subst, ◌∙◌}
 use Rattle.std.proofs.lemmas.List.{drop_more}
 use Rattle.redl_tree.specs.Model.Nodes.{Tag, Nodes}
-use Rattle.redl_tree.specs.Model.View.{Parts}
+use Rattle.redl_tree.specs.Model.View.{Element}
 use Rattle.redl_tree.specs.Model.View.{item_of, nodes_of}
 use Rattle.redl_tree.specs.Decisions.Packages.{stories_in, StoryRule, left_after}
 use Rattle.redl_tree.specs.Decisions.StoryWalk.{item_stories}
@@ -13,7 +13,7 @@ use Rattle.redl_tree.proofs.StoryLaws.{stories_in-in_front}
 
 module _ {S : Type 0} (rule : StoryRule S) (Takes : S → Tag → Nodes → Type 0) where
   -- some stories, and those after them
-  pub takes-append : (given : S) (xs ys : List Parts) → TakesAll rule Takes given (xs ++ ys)
+  pub takes-append : (given : S) (xs ys : List Element) → TakesAll rule Takes given (xs ++ ys)
       → TakesAll rule Takes given xs × TakesAll rule Takes (left_after rule given xs) ys
   takes-append given [] ys taken = (tt, taken)
   takes-append given (story ∷ xs) ys taken =
@@ -21,7 +21,7 @@ module _ {S : Type 0} (rule : StoryRule S) (Takes : S → Tag → Nodes → Type
       ((taken.0, more.0), more.1)
 
   -- a change that takes every story takes these
-  pub takes-every : ((given : S) (tag : Tag) (kids : Nodes) → Takes given tag kids) → (given : S) (xs : List Parts) → TakesAll rule Takes given xs
+  pub takes-every : ((given : S) (tag : Tag) (kids : Nodes) → Takes given tag kids) → (given : S) (xs : List Element) → TakesAll rule Takes given xs
   takes-every each given [] = tt
   takes-every each given (story ∷ xs) = (each given story.tag story.kids, takes-every each (rule.left given story.tag story.kids) xs)
 

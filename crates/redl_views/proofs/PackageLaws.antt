@@ -3,7 +3,7 @@
 use Rattle.std.proofs.Common.{◌≡◌, ℕ, List, [], ◌∷◌, ◌++◌, map, length, ◌+◌, ◌<◌, Bool, true, false, Option, None, subst, refl, sym, ap, ◌∙◌, if◌then◌else◌}
 use Rattle.std.specs.List.{flat_map}
 use Rattle.redl_tree.specs.Model.Nodes.{Tag, Nodes}
-use Rattle.redl_tree.specs.Model.View.{Parts}
+use Rattle.redl_tree.specs.Model.View.{Element}
 use Rattle.redl_tree.specs.Roles.Names.{is}
 use Rattle.redl_tree.specs.Revisions.Markers.{Value}
 use Rattle.redl_tree.specs.Revisions.Numbers.{IsIndexed}
@@ -35,7 +35,7 @@ root_hidden says root e = at (is_freed says root) (by_name (λ t. is "t" t ≡ f
     at false n = n
 
 module _ (shown : List ℕ → List ℕ) where
-  view-story : (says : List Say) (story : Parts) → IsStory story → story_plain shown (passed says story) ≡ story_view shown says story
+  view-story : (says : List Say) (story : Element) → IsStory story → story_plain shown (passed says story) ≡ story_view shown says story
   view-story says story h = at (is "document" story.tag) refl
     where
       at : (b : Bool) → is "document" story.tag ≡ b →
@@ -46,7 +46,7 @@ module _ (shown : List ℕ → List ℕ) where
           ap (λ c. plain_in shown c (pass says (story.tag ∷ []) story.kids)) (sym (root_hidden says story.tag e))
           ∙ view-pass shown says (story.tag ∷ []) story.kids (open_∷ story.tag [] h.loud) h.fits (λ b. root_hidden says story.tag e)
 
-  view-stories : (says : List Say) (xs : List Parts) → AreStories xs → flat_map (story_plain shown) (map (passed says) xs) ≡ flat_map (story_view shown says) xs
+  view-stories : (says : List Say) (xs : List Element) → AreStories xs → flat_map (story_plain shown) (map (passed says) xs) ≡ flat_map (story_view shown says) xs
   view-stories says [] h = refl
   view-stories says (x ∷ xs) h =
       ap (λ ts. ts ++ flat_map (story_plain shown) (map (passed says) xs)) (view-story says x h.0)
@@ -58,11 +58,11 @@ module _ (shown : List ℕ → List ℕ) where
       ap (λ ss. flat_map (story_plain shown) ss) (stories-pass says nodes) ∙ view-stories says (stories nodes) (indexed_stories value nodes is)
 
 -- what the code puts of a story
-walk-story : (says : List Say) (story : Parts) → IsStory story → story_walk says story ≡ story_view shown_text says story
+walk-story : (says : List Say) (story : Element) → IsStory story → story_walk says story ≡ story_view shown_text says story
 walk-story says story h =
     ap (λ ts. if is "document" story.tag then ts else []) (walk-view says (story.tag ∷ []) None story.kids (open_∷ story.tag [] h.loud) h.fits)
 
-walk-stories : (says : List Say) (xs : List Parts) → AreStories xs → flat_map (story_walk says) xs ≡ flat_map (story_view shown_text says) xs
+walk-stories : (says : List Say) (xs : List Element) → AreStories xs → flat_map (story_walk says) xs ≡ flat_map (story_view shown_text says) xs
 walk-stories says [] h = refl
 walk-stories says (x ∷ xs) h =
     ap (λ ts. ts ++ flat_map (story_walk says) xs) (walk-story says x h.0) ∙ ap (λ ts. story_view shown_text says x ++ ts) (walk-stories says xs h.1)

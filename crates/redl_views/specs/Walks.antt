@@ -4,7 +4,7 @@ use Rattle.std.specs.List.{flat_map}
 use Rattle.std.specs.Option.{option_map}
 use Rattle.redl_tree.specs.Model.Nodes.{Tag, Nodes, no_nodes, bytes, element, Item, bytes_item, element_item, idle_item}
 use Rattle.redl_tree.specs.Model.IdleTexts.{idle_nodes}
-use Rattle.redl_tree.specs.Model.View.{Parts}
+use Rattle.redl_tree.specs.Model.View.{Element}
 use Rattle.redl_tree.specs.Roles.Names.{is}
 use Rattle.redl_tree.specs.Roles.Places.{is_quiet}
 use Rattle.redl_tree.specs.Roles.Kinds.{is_content, is_leave}
@@ -144,7 +144,7 @@ item_taken says above taken (element_item tag kids) rest =
 item_taken says above taken (idle_item t) rest = option_map (λ b. b || true) taken
 
 -- a story, where it is the main one
-abbrev pub story_walk : List Say → Parts → List ℕ
+abbrev pub story_walk : List Say → Element → List ℕ
 story_walk says story =
     if is "document" story.tag then view says (summary_of says (story.tag ∷ [])) None story.kids else []
 

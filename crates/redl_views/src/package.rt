@@ -8,7 +8,7 @@ ghost use Rattle.redl_tree.specs.Model.View.{tag_of, kids_of};
 ghost use Rattle.redl_tree.specs.Revisions.Markers.{Value};
 ghost use Rattle.redl_tree.specs.Revisions.Numbers.{IsIndexed};
 ghost use Rattle.redl_opc.specs.Elements.{element_of};
-ghost use Rattle.redl_opc.specs.Stories.{story_view, stories_of_part};
+ghost use Rattle.redl_opc.specs.Stories.{stories_of_part};
 ghost use Rattle.redl_views.specs.PlainText.{plain_text};
 ghost use Rattle.redl_shown.specs.Shown.{shown};
 ghost use Rattle.redl_views.specs.Walks.{story_walk, walk_text};
@@ -51,7 +51,7 @@ fn view_part<K: Sink>(pkg: &Package, part: u32, says: &[Say], out: &mut K) -> Re
 }
 
 fn view_story<K: Sink>(root: &Elem, says: &[Say], out: &mut K) -> Result<(), Failed>
-    ensures { Puts K.told K.faults K.settled K.lenders out.old out.new (story_walk says.now (story_view (element_of root.now))) result }
+    ensures { Puts K.told K.faults K.settled K.lenders out.old out.new (story_walk says.now (element_of root.now)) result }
 {
     if is_word(root, Word::Document) {
         view_nodes(root.kids(), says, in_root(says, root), out)?;

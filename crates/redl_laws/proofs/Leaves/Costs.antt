@@ -2,7 +2,7 @@
 use Rattle.std.proofs.Common.{◌≡◌, ◌∙◌, refl, ap, ℕ, suc, ◌+◌, ◌*◌, ◌≤◌, List, [], ◌∷◌, length, length-append, sum_by, Bool, true, false, ◌||◌, ◌==◌, if◌then◌else◌, arith, true≢false}
 use Rattle.std.proofs.lemmas.List.Sums.{sum_by-cons, sum_by-append}
 use Rattle.redl_tree.specs.Model.Nodes.{Tag, Nodes, no_nodes, bytes, element}
-use Rattle.redl_tree.specs.Model.View.{Parts}
+use Rattle.redl_tree.specs.Model.View.{Element}
 use Rattle.redl_tree.specs.Model.Count.{count}
 use Rattle.redl_tree.specs.Leaves.Slots.{Slots, no_slots, leaf_slot, container_slot, joined_slots, slots_in}
 use Rattle.redl_tree.specs.Leaves.Leaf.{leaves_in, leaves_by, leaf_count, leaf_size}
@@ -17,14 +17,14 @@ use Rattle.redl_laws.proofs.Leaves.Locality.{both-false}
 
 -- ---- the list of leaves, and a walk over slots
 
-pub count-leaves : (containers : List Parts) (slots : Slots) → length (leaves_in containers slots) ≡ leaf_count slots
+pub count-leaves : (containers : List Element) (slots : Slots) → length (leaves_in containers slots) ≡ leaf_count slots
 count-leaves containers no_slots = refl
 count-leaves containers (leaf_slot leaf rest) = omega (arith, count-leaves containers rest)
 count-leaves containers (container_slot tag kids inner rest) =
     length-append (leaves_in (record { tag = tag; kids = kids } ∷ containers) inner) (leaves_in containers rest)
     ∙ omega (arith, count-leaves (record { tag = tag; kids = kids } ∷ containers) inner, count-leaves containers rest)
 
-pub cost-walk : (is_set : ℕ → Bool) (containers : List Parts) (slots : Slots)
+pub cost-walk : (is_set : ℕ → Bool) (containers : List Element) (slots : Slots)
     → setting_cost is_set (leaves_in containers slots) ≡ slots_cost is_set (length containers) slots
 cost-walk is_set containers no_slots = refl
 cost-walk is_set containers (leaf_slot leaf rest) =
@@ -159,7 +159,7 @@ held-count is_set (container_slot tag kids inner rest) = omega (arith, held-coun
 -- ---- of a story
 
 -- the sum of what the single settings cost in these leaves
-pub cost-once : (opens : List Tag → Tag → Bool) (settings : List Setting) (story : Parts)
+pub cost-once : (opens : List Tag → Tag → Bool) (settings : List Setting) (story : Element)
     → setting_cost (is_among settings) (leaves_by opens story) ≤ sum_by (λ setting. setting_cost (λ n. n == setting.rev) (leaves_by opens story)) settings
 cost-once opens settings story =
     let slots = slots_in opens (story.tag ∷ []) story.kids in
@@ -177,7 +177,7 @@ cost-once opens settings story =
         )
 
 -- a setting that alters nothing costs nothing
-pub cost-own : (opens : List Tag → Tag → Bool) (says : List Say) (setting : Setting) (story : Parts) → say_of says setting.rev ≡ setting.say
+pub cost-own : (opens : List Tag → Tag → Bool) (says : List Say) (setting : Setting) (story : Element) → say_of says setting.rev ≡ setting.say
     → setting_cost (is_altered says (setting ∷ [])) (leaves_by opens story) ≡ 0
 cost-own opens says setting story e =
     let slots = slots_in opens (story.tag ∷ []) story.kids in

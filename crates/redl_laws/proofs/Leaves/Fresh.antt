@@ -1,7 +1,7 @@
 -- States as they are at first: they are those under no says, and under says that all leave their revisions undecided.
 use Rattle.std.proofs.Common.{Bool, ◌≡◌, ◌∙◌, refl, sym, ap, ℕ, zero, suc, ◌+◌, List, [], ◌∷◌, replicate, false, if◌then◌else◌}
 use Rattle.redl_tree.specs.Model.Nodes.{Tag, Nodes, no_nodes, bytes, element}
-use Rattle.redl_tree.specs.Model.View.{Parts}
+use Rattle.redl_tree.specs.Model.View.{Element}
 use Rattle.redl_tree.specs.Revisions.Markers.{is_own}
 use Rattle.redl_tree.specs.Decisions.Fates.{say_of}
 use Rattle.redl_tree.specs.Leaves.Slots.{Slots, no_slots, leaf_slot, container_slot, slots_in}
@@ -107,7 +107,7 @@ pub fresh-split : (opens : List Tag → Tag → Bool) (ancestors : List Tag) (ki
     → slots_of (fresh_states ancestors (slots_in opens ancestors kids)) ≡ slots_in opens ancestors kids
 fresh-split opens ancestors kids = fresh-slots ancestors (slots_in opens ancestors kids) (split-containers opens ancestors kids)
 
-pub fresh-story : (opens : List Tag → Tag → Bool) (count : ℕ) (story : Parts)
+pub fresh-story : (opens : List Tag → Tag → Bool) (count : ℕ) (story : Element)
     → AreStatesOf opens (replicate count Keep) story (fresh_states (story.tag ∷ []) (slots_in opens (story.tag ∷ []) story.kids))
 fresh-story opens count story = record {
   split = fresh-split opens (story.tag ∷ []) story.kids;

@@ -1,7 +1,7 @@
 -- In an indexed story only leaves hold members and markers: a container has the number 0.
 use Rattle.std.proofs.Common.{refl, ◌≡◌, ◌∙◌, sym, ap, ℕ, ◌+◌, List, [], ◌∷◌, ◌++◌, Bool, true, false, Option, if◌then◌else◌, ◌&&◌, ◌||◌}
 use Rattle.redl_tree.specs.Model.Nodes.{Tag, Nodes, no_nodes, bytes, element}
-use Rattle.redl_tree.specs.Model.View.{Parts}
+use Rattle.redl_tree.specs.Model.View.{Element}
 use Rattle.redl_tree.specs.Model.Seen.{Spot, spot, seen_one, root_spots, seen, tags}
 use Rattle.redl_tree.specs.Roles.Places.{is_open}
 use Rattle.redl_tree.specs.Model.Kids.{kids_of_all}
@@ -53,11 +53,11 @@ labelled-numbers value moves ancestors at so_far (element tag kids rest) e =
     )
 
 -- in each of these stories
-abbrev AreUnnumberedStories : List Parts → Type 0
+abbrev AreUnnumberedStories : List Element → Type 0
 AreUnnumberedStories [] = Unit {0}
 AreUnnumberedStories (story ∷ later) = AreUnnumbered story.kids × AreUnnumberedStories later
 
-unnumbered-++ : (xs ys : List Parts) → AreUnnumberedStories xs → AreUnnumberedStories ys → AreUnnumberedStories (xs ++ ys)
+unnumbered-++ : (xs ys : List Element) → AreUnnumberedStories xs → AreUnnumberedStories ys → AreUnnumberedStories (xs ++ ys)
 unnumbered-++ [] ys h k = k
 unnumbered-++ (x ∷ xs) ys h k = (h.0, unnumbered-++ xs ys h.1 k)
 
@@ -92,7 +92,7 @@ record Members (ancestors : List Tag) (nodes : Nodes) : Type 0 where
   numbers : AreUnnumbered nodes
 
 -- in each of these stories no container is a member of a revision that is set
-abbrev pub AreUnheld : (List Tag → Tag → Bool) → (ℕ → Bool) → List Parts → Type 0
+abbrev pub AreUnheld : (List Tag → Tag → Bool) → (ℕ → Bool) → List Element → Type 0
 AreUnheld opens is_set [] = Unit {0}
 AreUnheld opens is_set (story ∷ later) = IsUnheld is_set (slots_in opens (story.tag ∷ []) story.kids) × AreUnheld opens is_set later
 
@@ -117,7 +117,7 @@ module _ (opens : List Tag → Tag → Bool) (named : (ancestors : List Tag) (ta
       unset-unheld is_set ancestors (slots_in opens ancestors nodes)
       (all-containers (IsUnset is_set) opens Members members-carry ancestors nodes (record { loud = loud; fits = fits; numbers = numbers }))
 
-  stories-unheld : (xs : List Parts) → AreStories xs → AreUnnumberedStories xs → AreUnheld opens is_set xs
+  stories-unheld : (xs : List Element) → AreStories xs → AreUnnumberedStories xs → AreUnheld opens is_set xs
   stories-unheld [] h k = tt
   stories-unheld (story ∷ later) h k = (
     slots-unheld (story.tag ∷ []) story.kids (open_∷ story.tag [] h.0.loud) h.0.fits k.0,

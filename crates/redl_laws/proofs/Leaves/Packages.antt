@@ -2,7 +2,7 @@
 use Rattle.std.proofs.Common.{◌≡◌, refl, List, [], ◌∷◌, ◌++◌, Bool, true, false, if◌then◌else◌, ◌&&◌, ◌∙◌, sym, ap}
 use Rattle.std.proofs.lemmas.Bool.{and_parts}
 use Rattle.redl_tree.specs.Model.Nodes.{Tag, Nodes, no_nodes, bytes, element}
-use Rattle.redl_tree.specs.Model.View.{Parts}
+use Rattle.redl_tree.specs.Model.View.{Element}
 use Rattle.redl_tree.specs.Decisions.Pass.{pass}
 use Rattle.redl_tree.specs.Decisions.Packages.{is_root, is_story_root, is_plain, roots_are_plain, stories_in, stories, element_stories, pass_rule, changed_package, pass_package, StoryRule, left_after, changed_in}
 use Rattle.redl_tree.specs.Revisions.Markers.{Value}
@@ -31,11 +31,11 @@ plain_kind (Change p) e = cc
 plain_kind Marker e = cc
 
 -- the roots of these stories have no role
-abbrev pub ArePlain : List Parts → Type 0
+abbrev pub ArePlain : List Element → Type 0
 ArePlain [] = Unit {0}
 ArePlain (story ∷ later) = (story.tag.kind ≡ Plain) × ArePlain later
 
-ArePlain-++ : (xs ys : List Parts) → ArePlain xs → ArePlain ys → ArePlain (xs ++ ys)
+ArePlain-++ : (xs ys : List Element) → ArePlain xs → ArePlain ys → ArePlain (xs ++ ys)
 ArePlain-++ [] ys h k = k
 ArePlain-++ (x ∷ xs) ys h k = (h.0, ArePlain-++ xs ys h.1 k)
 
@@ -60,7 +60,7 @@ RebuildsStories opens says =
     → rebuilt says (root ∷ []) (slots_in opens (root ∷ []) kids) ≡ pass says (root ∷ []) kids
 
 module _ (opens : List Tag → Tag → Bool) (says : List Say) (rebuilds : RebuildsStories opens says) where
-  stories-agree : (xs : List Parts) → AreStories xs → ArePlain xs → Agree (rebuild_rule opens) pass_rule says says xs
+  stories-agree : (xs : List Element) → AreStories xs → ArePlain xs → Agree (rebuild_rule opens) pass_rule says says xs
   stories-agree [] h p = tt
   stories-agree (story ∷ later) h p = (
     rebuilds story.tag story.kids h.0.root (is_any-among story_roots frame_names story.tag h.0.root refl, p.0) h.0.fits,

@@ -1,7 +1,7 @@
 -- What is written of a package: its nodes outside stories, and each story as its states show it.
 use Rattle.std.proofs.Common.{◌≡◌, ◌∙◌, refl, ap, List, [], ◌∷◌, Bool, true, false, if◌then◌else◌}
 use Rattle.redl_tree.specs.Model.Nodes.{Tag, Nodes, no_nodes, bytes, element}
-use Rattle.redl_tree.specs.Model.View.{Parts}
+use Rattle.redl_tree.specs.Model.View.{Element}
 use Rattle.redl_tree.specs.Decisions.Packages.{is_root, is_story_root, roots_are_plain, stories_in, stories, StoryRule, left_after, changed_stories, changed_in, changed_package, pass_rule, pass_package}
 use Rattle.redl_tree.specs.Revisions.Markers.{Value}
 use Rattle.redl_tree.specs.Revisions.Numbers.{IsIndexed}
@@ -30,7 +30,7 @@ module _ {S T : Type 0} (rule : StoryRule S) (blind : IsBlind rule) (first : Sto
   left-blind given other ancestors nodes =
       ap (left_after rule given) (stories-changed first other ancestors nodes) ∙ along given other (stories_in ancestors nodes)
     where
-      along : (given : S) (other : T) (xs : List Parts) → left_after rule given (changed_stories first other xs) ≡ left_after rule given xs
+      along : (given : S) (other : T) (xs : List Element) → left_after rule given (changed_stories first other xs) ≡ left_after rule given xs
       along given other [] = refl
       along given other (story ∷ later) =
           ap (λ g. left_after rule g (changed_stories first (first.left other story.tag story.kids) later))
@@ -80,7 +80,7 @@ shown-blind = record { kids = λ given tag xs ys. refl; left = λ given tag xs y
 
 module _ (opens : List Tag → Tag → Bool) (IsPath : List Tag → Type 0) (is : IsCountedOpening opens IsPath)
     (root : (tag : Tag) → is_story_root tag ≡ true → IsPath (tag ∷ [])) where
-  shown-agree : (says : List Say) (xs : List Parts) (each : List States) → AreStories xs → ArePlain xs → AreStatesOfEach opens says xs each
+  shown-agree : (says : List Say) (xs : List Element) (each : List States) → AreStories xs → ArePlain xs → AreStatesOfEach opens says xs each
       → Agree shown_rule pass_rule each says xs
   shown-agree says [] each h p of = tt
   shown-agree says (story ∷ later) [] h p of = absurd of

@@ -2,7 +2,7 @@
 use Rattle.std.proofs.Common.{◌≡◌, ◌∙◌, refl, sym, ap, ℕ, List, [], ◌∷◌, Bool, true, false, ◌||◌, map, All}
 use Rattle.std.proofs.lemmas.List.Elements.{All-nil, All-cons}
 use Rattle.redl_tree.specs.Model.Nodes.{Tag, Nodes}
-use Rattle.redl_tree.specs.Model.View.{Parts}
+use Rattle.redl_tree.specs.Model.View.{Element}
 use Rattle.redl_tree.specs.Decisions.Packages.{is_story_root, roots_are_plain, stories}
 use Rattle.redl_tree.specs.Revisions.Markers.{Value}
 use Rattle.redl_tree.specs.Revisions.Numbers.{IsIndexed}
@@ -26,7 +26,7 @@ use Rattle.redl_laws.proofs.Leaves.Present.{present-walk}
 use Rattle.redl_laws.proofs.Leaves.States.{IsCountedOpening, whole_opening, outer_opening, shown-pass, lent-present}
 
 -- the root of a story never goes
-root-walk : (opens : List Tag → Tag → Bool) (says : List Say) (story : Parts) → is_story_root story.tag ≡ true
+root-walk : (opens : List Tag → Tag → Bool) (says : List Say) (story : Element) → is_story_root story.tag ≡ true
     → map (present_leaf says) (leaves_by opens story) ≡ present_leaves says false (story.tag ∷ []) (slots_in opens (story.tag ∷ []) story.kids)
 root-walk opens says story named =
     present-walk says (story ∷ []) (slots_in opens (story.tag ∷ []) story.kids)
@@ -34,7 +34,7 @@ root-walk opens says story named =
 
 module _ (opens : List Tag → Tag → Bool) (IsPath : List Tag → Type 0) (is : IsCountedOpening opens IsPath)
     (root : (tag : Tag) → is_story_root tag ≡ true → IsPath (tag ∷ [])) where
-  pub story-shown : (says : List Say) (story : Parts) → IsStory story → IsPlain story.tag → ShowsStory opens says story
+  pub story-shown : (says : List Say) (story : Element) → IsStory story → IsPlain story.tag → ShowsStory opens says story
   story-shown says story it plain = record {
     written = λ kept of. shown-pass opens IsPath is says (story.tag ∷ []) story.kids kept (root story.tag it.root) (plain, tt) it.fits of.split of.current;
     leaves = λ kept of.
@@ -42,7 +42,7 @@ module _ (opens : List Tag → Tag → Bool) (IsPath : List Tag → Type 0) (is 
         ∙ sym (root-walk opens says story it.root);
   }
 
-  stories-shown : (says : List Say) (xs : List Parts) → AreStories xs → ArePlain xs → All (ShowsStory opens says) xs
+  stories-shown : (says : List Say) (xs : List Element) → AreStories xs → ArePlain xs → All (ShowsStory opens says) xs
   stories-shown says [] h p = All-nil (ShowsStory opens says)
   stories-shown says (story ∷ later) h p =
       All-cons (ShowsStory opens says) story later
@@ -61,10 +61,10 @@ package-shown_outer value says nodes plain indexed =
 -- ---- members
 
 -- In an indexed package only leaves hold members and markers, so what a story holds is what its leaves hold.
-abbrev AreHeld : (List Tag → Tag → Bool) → (ℕ → Bool) → Parts → Type 0
+abbrev AreHeld : (List Tag → Tag → Bool) → (ℕ → Bool) → Element → Type 0
 AreHeld opens is_set story = has_member is_set story.kids ≡ leaf_holds is_set (slots_in opens (story.tag ∷ []) story.kids)
 
-stories-held : (opens : List Tag → Tag → Bool) (is_set : ℕ → Bool) (xs : List Parts) → AreUnheld opens is_set xs → All (AreHeld opens is_set) xs
+stories-held : (opens : List Tag → Tag → Bool) (is_set : ℕ → Bool) (xs : List Element) → AreUnheld opens is_set xs → All (AreHeld opens is_set) xs
 stories-held opens is_set [] h = All-nil (AreHeld opens is_set)
 stories-held opens is_set (story ∷ later) h =
     let slots = slots_in opens (story.tag ∷ []) story.kids in

@@ -6,7 +6,7 @@ use Rattle.redl_tree.specs.Model.Nodes.{Tag}
 use Rattle.redl_tree.specs.Leaves.Slots.{Slots, no_slots, leaf_slot, container_slot, slots_in}
 use Rattle.redl_tree.specs.Leaves.Leaf.{leaf_count}
 use Rattle.redl_tree.specs.Leaves.Shown.{AreStatesOf}
-use Rattle.redl_tree.specs.Model.View.{Parts}
+use Rattle.redl_tree.specs.Model.View.{Element}
 use Rattle.redl_tree.specs.Leaves.Rebuilt.{original}
 use Rattle.redl_tree.specs.Leaves.Settings.{SameBut, IsUnheld}
 use Rattle.redl_tree.specs.Leaves.States.{States, no_states, leaf_state, container_state, slots_of, AreTallied, ArePassed, AreCurrent}
@@ -145,7 +145,7 @@ each-current is_set old new same ancestors ends states unheld are covers now = r
 }
 
 -- the same of a story
-pub story-set : (opens : List Tag → Tag → Bool) (is_set : ℕ → Bool) (old new : List Say) → SameBut is_set old new → (story : Parts)
+pub story-set : (opens : List Tag → Tag → Bool) (is_set : ℕ → Bool) (old new : List Say) → SameBut is_set old new → (story : Element)
     (ends : List (List ℕ)) (states : States) → IsUnheld is_set (slots_in opens (story.tag ∷ []) story.kids) → AreWays ends (slots_of states)
     → Covers (is_end (slots_of states) ends) is_set 0 (slots_of states)
     → AreStatesOf opens old story states → AreStatesOf opens new story (made_each new (story.tag ∷ []) ends states)

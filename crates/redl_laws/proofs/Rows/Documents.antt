@@ -2,7 +2,7 @@
 use Prim.Native.String.{String}
 use Rattle.std.proofs.Common.{ℕ, List, replicate, Option, codes, []}
 use Rattle.redl_tree.specs.Model.Nodes.{Tag, Nodes, no_nodes, bytes, element, ◌⊕◌}
-use Rattle.redl_tree.specs.Model.View.{Parts}
+use Rattle.redl_tree.specs.Model.View.{Element}
 use Rattle.redl_tree.specs.Model.Text.{text}
 use Rattle.redl_tree.specs.Decisions.Packages.{pass_package}
 use Rattle.redl_tree.specs.Revisions.Numbers.{numbered_package, package_revisions}
@@ -81,7 +81,7 @@ broken_rule body = broken (tests has_id declares) (package_of body)
 abbrev pub root : Tag
 root = tag_in W "w" "document" "" (End [])
 
-abbrev pub story : Nodes → Parts
+abbrev pub story : Nodes → Element
 story package_ = record { tag = root; kids = below (below (below (below package_))) }
 
 abbrev pub says_of : Say → Nodes → List Say

@@ -2,7 +2,7 @@
 use Rattle.std.proofs.Common.{◌≡◌, ℕ, List, [], ◌∷◌, map, Bool, true, false, ◌&&◌, not, is_some, refl, sym, ap, ◌∙◌, true≢false}
 use Rattle.std.proofs.lemmas.Bool.{and_parts, and_from, or_parts, or_from}
 use Rattle.redl_tree.specs.Model.Nodes.{Tag, Nodes, no_nodes, bytes, element}
-use Rattle.redl_tree.specs.Model.View.{Parts}
+use Rattle.redl_tree.specs.Model.View.{Element}
 use Rattle.redl_tree.specs.Roles.Names.{is}
 use Rattle.redl_tree.specs.Model.Kids.{some_element}
 use Rattle.redl_tree.specs.Roles.Places.{is_quiet, is_open, trace_of, role}
@@ -156,32 +156,32 @@ sound_story ext says test k root kids name loud fit rules =
 
 -- Packages
 
-abbrev AllSound : Test → List Parts → Type 0
+abbrev AllSound : Test → List Element → Type 0
 AllSound ext [] = Unit {0}
 AllSound ext (story ∷ rest) = AllRules ext [] (one story.tag story.kids) × AllSound ext rest
 
-passed_holds : (ext : Test) (says : List Say) (test : Test) → Kept ext says test → (xs : List Parts) → AreStories xs → AllSound ext xs → holds test (map (passed says) xs) ≡ true
+passed_holds : (ext : Test) (says : List Say) (test : Test) → Kept ext says test → (xs : List Element) → AreStories xs → AllSound ext xs → holds test (map (passed says) xs) ≡ true
 passed_holds ext says test k [] h r = refl
 passed_holds ext says test k (x ∷ xs) h r =
     and_from _ _ (sound_story ext says test k x.tag x.kids h.0.root h.0.loud h.0.fits r.0) (passed_holds ext says test k xs h.1 r.1)
 
-rules_of : (x : Parts) (xs : List Parts) (test : Test) → holds test (x ∷ xs) ≡ true → (everywhere test [] (one x.tag x.kids) ≡ true) × (holds test xs ≡ true)
+rules_of : (x : Element) (xs : List Element) (test : Test) → holds test (x ∷ xs) ≡ true → (everywhere test [] (one x.tag x.kids) ≡ true) × (holds test xs ≡ true)
 rules_of x xs test e = and_parts (everywhere test [] (one x.tag x.kids)) (holds test xs) e
 
-kids_hold : (xs : List Parts) → holds test_3 xs ≡ true → holds kid_3 xs ≡ true
+kids_hold : (xs : List Element) → holds test_3 xs ≡ true → holds kid_3 xs ≡ true
 kids_hold [] e = refl
 kids_hold (x ∷ xs) e =
     let r = rules_of x xs test_3 e in
     and_from _ _ (to_kid_3 [] (one x.tag x.kids) (λ i a. absurd (true≢false (sym i))) r.0) (kids_hold xs r.1)
 
-content_holds : (xs : List Parts) → holds kid_3 xs ≡ true → holds test_3 xs ≡ true
+content_holds : (xs : List Element) → holds kid_3 xs ≡ true → holds test_3 xs ≡ true
 content_holds [] e = refl
 content_holds (x ∷ xs) e =
     let r = rules_of x xs kid_3 e in
     and_from _ _ (from_kid_3 [] (one x.tag x.kids) r.0) (content_holds xs r.1)
 
 -- the nine rules of a list of stories
-pub record NineHold (has_id declares : List ℕ → Bool) (xs : List Parts) : Type 0 where
+pub record NineHold (has_id declares : List ℕ → Bool) (xs : List Element) : Type 0 where
   pub rule_1 : holds test_1 xs ≡ true
   pub rule_2 : holds test_2 xs ≡ true
   pub rule_3 : holds test_3 xs ≡ true
@@ -192,7 +192,7 @@ pub record NineHold (has_id declares : List ℕ → Bool) (xs : List Parts) : Ty
   pub rule_8 : holds test_8 xs ≡ true
   pub rule_9 : holds (test_9 declares) xs ≡ true
 
-record EightHold (ext : Test) (xs : List Parts) : Type 0 where
+record EightHold (ext : Test) (xs : List Element) : Type 0 where
   rule_1 : holds test_1 xs ≡ true
   rule_2 : holds test_2 xs ≡ true
   rule_3 : holds kid_3 xs ≡ true
@@ -202,7 +202,7 @@ record EightHold (ext : Test) (xs : List Parts) : Type 0 where
   rule_8 : holds test_8 xs ≡ true
   own : holds ext xs ≡ true
 
-all_sound : (ext : Test) (xs : List Parts) → EightHold ext xs → AllSound ext xs
+all_sound : (ext : Test) (xs : List Element) → EightHold ext xs → AllSound ext xs
 all_sound ext [] n = tt
 all_sound ext (x ∷ xs) n =
     let r1 = rules_of x xs test_1 n.rule_1 in

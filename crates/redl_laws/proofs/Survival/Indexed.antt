@@ -3,7 +3,7 @@
 use Rattle.std.proofs.Common.{◌≡◌, ℕ, ◌+◌, List, [], ◌∷◌, ◌++◌, map, Bool, true, false, ◌&&◌, inl, inr, is_some, find, refl, sym, ap, ◌∙◌, codes, if◌then◌else◌}
 use Rattle.std.proofs.lemmas.Bool.{and_parts}
 use Rattle.redl_tree.specs.Model.Nodes.{Tag, Nodes, no_nodes, bytes, element}
-use Rattle.redl_tree.specs.Model.View.{Parts}
+use Rattle.redl_tree.specs.Model.View.{Element}
 use Rattle.redl_tree.specs.Roles.Places.{is_quiet, is_open, is_range_edge, role}
 use Rattle.redl_tree.specs.Model.Seen.{Spot, spot, seen_one, root_spots, seen, tags, tags_of}
 use Rattle.redl_tree.specs.Revisions.Moves.{Pair, is_of_pair}
@@ -61,16 +61,16 @@ root_loud ancestors tag e =
     by_names (λ t. is_quiet t ≡ false) ("document" ∷ "hdr" ∷ "ftr" ∷ "footnotes" ∷ "endnotes" ∷ "comments" ∷ []) tag (root_name ancestors tag e) (refl, (refl, (refl, (refl, (refl, (refl, tt))))))
 
 -- a story of an indexed package
-pub record IsStory (story : Parts) : Type 0 where
+pub record IsStory (story : Element) : Type 0 where
   pub root : is_story_root story.tag ≡ true
   pub loud : is_quiet story.tag ≡ false
   pub fits : AllFit (story.tag ∷ []) story.kids
 
-abbrev pub AreStories : List Parts → Type 0
+abbrev pub AreStories : List Element → Type 0
 AreStories [] = Unit {0}
 AreStories (story ∷ rest) = IsStory story × AreStories rest
 
-AreStories-++ : (xs ys : List Parts) → AreStories xs → AreStories ys → AreStories (xs ++ ys)
+AreStories-++ : (xs ys : List Element) → AreStories xs → AreStories ys → AreStories (xs ++ ys)
 AreStories-++ [] ys h k = k
 AreStories-++ (x ∷ xs) ys h k = (h.0, AreStories-++ xs ys h.1 k)
 
@@ -93,10 +93,10 @@ pub indexed_stories : (value : Value) (nodes : Nodes) → IsIndexed value nodes 
 indexed_stories value nodes e = stories_are value [] 1 nodes e
 
 -- the stories of a passed package are the passed stories
-abbrev pub passed : List Say → Parts → Parts
+abbrev pub passed : List Say → Element → Element
 passed says story = record { tag = story.tag; kids = pass says (story.tag ∷ []) story.kids }
 
-passed_all : (says : List Say) (xs : List Parts) → changed_stories pass_rule says xs ≡ map (passed says) xs
+passed_all : (says : List Say) (xs : List Element) → changed_stories pass_rule says xs ≡ map (passed says) xs
 passed_all says [] = refl
 passed_all says (x ∷ xs) = ap (λ ss. passed says x ∷ ss) (passed_all says xs)
 
@@ -104,7 +104,7 @@ pub stories-pass : (says : List Say) (nodes : Nodes) → stories (pass_package s
 stories-pass says nodes = stories-changed pass_rule says [] nodes ∙ passed_all says (stories nodes)
 
 -- The law of survival for a package: the text pieces of the passed stories are the survivors of the original ones.
-survival_of : (says : List Say) (xs : List Parts) → AreStories xs → map text_pieces (map (passed says) xs) ≡ map (survivors says) xs
+survival_of : (says : List Say) (xs : List Element) → AreStories xs → map text_pieces (map (passed says) xs) ≡ map (survivors says) xs
 survival_of says [] h = refl
 survival_of says (x ∷ xs) h =
     ap (λ t. t ∷ map text_pieces (map (passed says) xs)) (survival says x.tag x.kids h.0.loud h.0.fits)

@@ -4,7 +4,7 @@ use Rattle.std.proofs.lemmas.List.{append-nil, map-append}
 use Rattle.std.proofs.lemmas.List.Elements.{filter-append}
 use Rattle.std.specs.List.{list_any}
 use Rattle.redl_tree.specs.Model.Nodes.{Tag, Nodes, no_nodes, bytes, element, ◌⊕◌}
-use Rattle.redl_tree.specs.Model.View.{Parts}
+use Rattle.redl_tree.specs.Model.View.{Element}
 use Rattle.redl_tree.specs.Roles.Names.{is}
 use Rattle.redl_tree.specs.Model.Kids.{only, without, has_element}
 use Rattle.redl_tree.specs.Roles.Places.{is_quiet, is_open, trace_of}
@@ -329,26 +329,26 @@ texts-pieces says ancestors (element tag kids rest) o fit =
 
 -- Stretches
 
-abbrev pub tags_above : List Parts → List Tag
+abbrev pub tags_above : List Element → List Tag
 tags_above ancestors = map (λ parts. parts.tag) ancestors
 
 -- the texts that pass a test on what stands above, where the test looks at one element after the other
-abbrev pub left_by : (List Parts → Tag → Nodes → Bool) → List Parts → Nodes → List (List ℕ)
+abbrev pub left_by : (List Element → Tag → Nodes → Bool) → List Element → Nodes → List (List ℕ)
 left_by ends ancestors no_nodes = []
 left_by ends ancestors (bytes b rest) = b ∷ left_by ends ancestors rest
 left_by ends ancestors (element tag kids rest) =
     (if ends ancestors tag kids then [] else left_by ends (record { tag = tag; kids = kids } ∷ ancestors) kids) ++ left_by ends ancestors rest
 
-module _ (live : List Parts → Bool) (ends : List Parts → Tag → Nodes → Bool)
-    (step : (ancestors : List Parts) (tag : Tag) (kids : Nodes) → live (record { tag = tag; kids = kids } ∷ ancestors) ≡ (not (ends ancestors tag kids) && live ancestors)) where
-  dead_below : (ancestors : List Parts) (tag : Tag) (kids : Nodes) → live ancestors ≡ false → live (record { tag = tag; kids = kids } ∷ ancestors) ≡ false
+module _ (live : List Element → Bool) (ends : List Element → Tag → Nodes → Bool)
+    (step : (ancestors : List Element) (tag : Tag) (kids : Nodes) → live (record { tag = tag; kids = kids } ∷ ancestors) ≡ (not (ends ancestors tag kids) && live ancestors)) where
+  dead_below : (ancestors : List Element) (tag : Tag) (kids : Nodes) → live ancestors ≡ false → live (record { tag = tag; kids = kids } ∷ ancestors) ≡ false
   dead_below ancestors tag kids d = step ancestors tag kids ∙ at (not (ends ancestors tag kids)) (live ancestors) d
     where
       at : (a b : Bool) → b ≡ false → (a && b) ≡ false
       at true b e = e
       at false b e = refl
 
-  dead_stretches : (ancestors : List Parts) (nodes : Nodes) → live ancestors ≡ false → filter (λ s. live s.ancestors) (stretches_in ancestors nodes) ≡ []
+  dead_stretches : (ancestors : List Element) (nodes : Nodes) → live ancestors ≡ false → filter (λ s. live s.ancestors) (stretches_in ancestors nodes) ≡ []
   dead_stretches ancestors no_nodes d = refl
   dead_stretches ancestors (bytes b rest) d = if_false (live ancestors) (record { text = b; ancestors = ancestors } ∷ filter (λ s. live s.ancestors) (stretches_in ancestors rest)) (filter (λ s. live s.ancestors) (stretches_in ancestors rest)) d ∙ dead_stretches ancestors rest d
   dead_stretches ancestors (element tag kids rest) d =
@@ -357,7 +357,7 @@ module _ (live : List Parts → Bool) (ends : List Parts → Tag → Nodes → B
       ∙ ap (λ ts. ts ++ filter (λ s. live s.ancestors) (stretches_in ancestors rest)) (dead_stretches below kids (dead_below ancestors tag kids d))
       ∙ dead_stretches ancestors rest d
 
-  stretches_left : (ancestors : List Parts) (nodes : Nodes) → live ancestors ≡ true →
+  stretches_left : (ancestors : List Element) (nodes : Nodes) → live ancestors ≡ true →
       map (λ s. s.text) (filter (λ s. live s.ancestors) (stretches_in ancestors nodes)) ≡ left_by ends ancestors nodes
   stretches_left ancestors no_nodes l = refl
   stretches_left ancestors (bytes b rest) l =
@@ -379,18 +379,18 @@ module _ (live : List Parts → Bool) (ends : List Parts → Tag → Nodes → B
       at true b inside left l is d h = ap (λ ss. map (λ s. s.text) ss) (d is)
       at false b inside left l is d h = h (is ∙ l)
 
-left_by-quiet : (ancestors : List Parts) (nodes : Nodes) → left_by (λ ancestors tag kids. is_quiet tag) ancestors nodes ≡ texts nodes
+left_by-quiet : (ancestors : List Element) (nodes : Nodes) → left_by (λ ancestors tag kids. is_quiet tag) ancestors nodes ≡ texts nodes
 left_by-quiet ancestors no_nodes = refl
 left_by-quiet ancestors (bytes b rest) = ap (λ ts. b ∷ ts) (left_by-quiet ancestors rest)
 left_by-quiet ancestors (element tag kids rest) =
     ap (λ ts. (if is_quiet tag then [] else ts) ++ left_by (λ ancestors tag kids. is_quiet tag) ancestors rest) (left_by-quiet (record { tag = tag; kids = kids } ∷ ancestors) kids)
     ∙ ap (λ ts. (if is_quiet tag then [] else texts kids) ++ ts) (left_by-quiet ancestors rest)
 
-abbrev ends_under : List Say → List Parts → Tag → Nodes → Bool
+abbrev ends_under : List Say → List Element → Tag → Nodes → Bool
 ends_under says ancestors tag kids = is_quiet tag || is_gone says ancestors (record { tag = tag; kids = kids })
 
 -- below the root
-left_by-kept : (says : List Say) (parent : Parts) (ancestors : List Parts) (nodes : Nodes) →
+left_by-kept : (says : List Say) (parent : Element) (ancestors : List Element) (nodes : Nodes) →
     left_by (ends_under says) (parent ∷ ancestors) nodes ≡ kept says (tags_above (parent ∷ ancestors)) nodes
 left_by-kept says parent ancestors no_nodes = refl
 left_by-kept says parent ancestors (bytes b rest) = ap (λ ts. b ∷ ts) (left_by-kept says parent ancestors rest)

@@ -6,7 +6,6 @@ use Rattle.redl_tree.specs.Model.IdleTexts.{idle_nodes}
 use Rattle.redl_tree.specs.Roles.Names.{is, is_any}
 use Rattle.redl_tree.specs.Roles.Places.{is_quiet}
 use Rattle.redl_opc.specs.Elements.{Element}
-use Rattle.redl_opc.specs.Stories.{story_view}
 use Rattle.redl_opc.specs.Parts.{part_name, story}
 use Rattle.redl_shown.specs.Shown.{shown}
 use Rattle.redl_marked.specs.Signs.{start_sign, end_sign, mark_sign, mark_signs, run_signs}
@@ -65,7 +64,7 @@ last_of text = last_or None text
 
 -- the story with this root in a part with this name, in a list of its own, which is empty where one of them is missing
 abbrev pub named_of : Option (List ℕ) → Option Element → List NamedStory
-named_of (Some name) (Some root) = record { name = name; story = story_view root } ∷ []
+named_of (Some name) (Some root) = record { name = name; story = root } ∷ []
 named_of _ _ = []
 
 -- the story of the part with this number

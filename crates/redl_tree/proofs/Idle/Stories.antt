@@ -1,7 +1,7 @@
 -- Among idle nodes no story begins, and a change of stories leaves them as they are.
 use Rattle.std.proofs.Common.{◌≡◌, ◌∙◌, refl, ap, List, [], ◌∷◌, ◌++◌, Bool, true, false, ◌&&◌, if◌then◌else◌}
 use Rattle.redl_tree.specs.Model.Nodes.{Tag, Nodes, no_nodes, bytes, element, ◌⊕◌}
-use Rattle.redl_tree.specs.Model.View.{Parts}
+use Rattle.redl_tree.specs.Model.View.{Element}
 use Rattle.redl_tree.specs.Roles.Names.{is}
 use Rattle.redl_tree.specs.Roles.Idle.{is_idle_in}
 use Rattle.redl_tree.specs.Decisions.Packages.{level_of, is_data_level, is_root, stories_in, element_stories, StoryRule, left_after, changed_in}
@@ -20,7 +20,7 @@ stories_idle ancestors in_run (bytes b rest) h = stories_idle ancestors in_run r
 stories_idle ancestors in_run (element tag kids rest) h =
     let p = idle_parts in_run tag kids rest h in
     ap (λ b. (if b then record { tag = tag; kids = kids } ∷ [] else stories_in (tag ∷ ancestors) kids) ++ stories_in ancestors rest) (no_root ancestors in_run tag p.own)
-    ∙ ap (λ (found : List Parts). found ++ stories_in ancestors rest) (stories_idle (tag ∷ ancestors) (is "r" tag) kids p.below)
+    ∙ ap (λ (found : List Element). found ++ stories_in ancestors rest) (stories_idle (tag ∷ ancestors) (is "r" tag) kids p.below)
     ∙ stories_idle ancestors in_run rest p.later
 
 pub stories_past : (ancestors : List Tag) (in_run : Bool) (x y : Nodes) → is_idle_in in_run x ≡ true → stories_in ancestors (x ⊕ y) ≡ stories_in ancestors y
@@ -29,7 +29,7 @@ stories_past ancestors in_run (bytes b rest) y h = stories_past ancestors in_run
 stories_past ancestors in_run (element tag kids rest) y h =
     let p = idle_parts in_run tag kids rest h in
     ap (λ b. (if b then record { tag = tag; kids = kids } ∷ [] else stories_in (tag ∷ ancestors) kids) ++ stories_in ancestors (rest ⊕ y)) (no_root ancestors in_run tag p.own)
-    ∙ ap (λ (found : List Parts). found ++ stories_in ancestors (rest ⊕ y)) (stories_idle (tag ∷ ancestors) (is "r" tag) kids p.below)
+    ∙ ap (λ (found : List Element). found ++ stories_in ancestors (rest ⊕ y)) (stories_idle (tag ∷ ancestors) (is "r" tag) kids p.below)
     ∙ stories_past ancestors in_run rest y p.later
 
 pub changed_idle : {S : Type 0} (rule : StoryRule S) (given : S) (ancestors : List Tag) (in_run : Bool) (nodes : Nodes) → is_idle_in in_run nodes ≡ true → changed_in rule given ancestors nodes ≡ nodes

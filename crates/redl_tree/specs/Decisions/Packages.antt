@@ -6,7 +6,7 @@ use Rattle.std.specs.Prelude.{ℕ, List, [], ◌∷◌, ◌++◌, Bool, true, fa
 use Rattle.redl_tree.specs.Model.Nodes.{Tag, Nodes, no_nodes, bytes, element}
 use Rattle.redl_tree.specs.Roles.Names.{is_any}
 use Rattle.redl_tree.specs.Decisions.Pass.{pass}
-use Rattle.redl_tree.specs.Model.View.{Parts}
+use Rattle.redl_tree.specs.Model.View.{Element}
 use Rattle.redl_tree.specs.declared.kinds.Say.{Say}
 use Rattle.redl_tree.specs.declared.kinds.Kind.{Kind}
 use Rattle.redl_tree.specs.declared.kinds.Kind.TheVariants.{Plain}
@@ -51,7 +51,7 @@ abbrev pub is_root : List Tag → Tag → Bool
 is_root ancestors tag = is_data_level (level_of ancestors) && is_story_root tag
 
 -- the stories among nodes with these ancestors, in their order, each by its root's tag and kids
-abbrev pub stories_in : List Tag → Nodes → List Parts
+abbrev pub stories_in : List Tag → Nodes → List Element
 stories_in ancestors no_nodes = []
 stories_in ancestors (bytes b rest) = stories_in ancestors rest
 stories_in ancestors (element tag kids rest) =
@@ -59,11 +59,11 @@ stories_in ancestors (element tag kids rest) =
     ++ stories_in ancestors rest
 
 -- the stories of a package
-abbrev pub stories : Nodes → List Parts
+abbrev pub stories : Nodes → List Element
 stories nodes = stories_in [] nodes
 
 -- the stories of an element with these ancestors: itself as the root of one, or those inside it
-abbrev pub element_stories : List Tag → Tag → Nodes → List Parts
+abbrev pub element_stories : List Tag → Tag → Nodes → List Element
 element_stories ancestors tag kids =
     if is_root ancestors tag then record { tag = tag; kids = kids } ∷ [] else stories_in (tag ∷ ancestors) kids
 
@@ -74,12 +74,12 @@ pub record StoryRule (S : Type 0) : Type 0 where
   pub left : S → Tag → Nodes → S
 
 -- what a story after these starts with
-abbrev pub left_after : {S : Type 0} → StoryRule S → S → List Parts → S
+abbrev pub left_after : {S : Type 0} → StoryRule S → S → List Element → S
 left_after rule given [] = given
 left_after rule given (story ∷ later) = left_after rule (rule.left given story.tag story.kids) later
 
 -- these stories, changed
-abbrev pub changed_stories : {S : Type 0} → StoryRule S → S → List Parts → List Parts
+abbrev pub changed_stories : {S : Type 0} → StoryRule S → S → List Element → List Element
 changed_stories rule given [] = []
 changed_stories rule given (story ∷ later) =
     record { tag = story.tag; kids = rule.kids given story.tag story.kids }

@@ -10,7 +10,7 @@ use Rattle.redl_tree.specs.declared.node.Elem.{Elem}
 use Rattle.redl_tree.specs.declared.node.Spaced.{Spaced, fold-Spaced}
 
 -- an element's tag and its kids
-pub record Parts : Type 0 where
+pub record Element : Type 0 where
   pub tag : Tag
   pub kids : Nodes
 
@@ -32,25 +32,25 @@ tagged start close = record {
 }
 
 -- one level, with each node inside already seen as its model
-abbrev pub body_step : Body-F Held Item Parts Held → Held
+abbrev pub body_step : Body-F Held Item Element Held → Held
 body_step Body-F.Empty = record { kids = no_nodes; close = Empty }
 body_step (Body-F.Kids kids) = record { kids = from_items kids.items; close = End [] }
 body_step (Body-F.Spaced spaced) = spaced.value
 
-abbrev pub node_step : Node-F Held Item Parts Held → Item
+abbrev pub node_step : Node-F Held Item Element Held → Item
 node_step (Node-F.Elem e) = element_item e.tag e.kids
 node_step (Node-F.Bytes b) = bytes_item b.now
 node_step (Node-F.Plain text) = idle_item text
 
-abbrev pub elem_step : Elem-F Held Item Parts Held → Parts
+abbrev pub elem_step : Elem-F Held Item Element Held → Element
 elem_step e = record { tag = tagged e.tag e.body.close; kids = e.body.kids }
 
-abbrev pub spaced_step : Spaced-F Held Item Parts Held → Held
+abbrev pub spaced_step : Spaced-F Held Item Element Held → Held
 spaced_step s = record { kids = from_items s.kids.items; close = End s.space.now }
 
 -- the model of one node
 abbrev pub item_of : Node → Item
-item_of = fold-Node Held Item Parts Held body_step node_step elem_step spaced_step
+item_of = fold-Node Held Item Element Held body_step node_step elem_step spaced_step
 
 -- the model of a list of nodes
 abbrev pub nodes_of : List Node → Nodes
@@ -58,11 +58,11 @@ nodes_of ns = from_items (map item_of ns)
 
 -- the model of what an element holds
 abbrev pub held_of : Body → Held
-held_of = fold-Body Held Item Parts Held body_step node_step elem_step spaced_step
+held_of = fold-Body Held Item Element Held body_step node_step elem_step spaced_step
 
 -- the same of kids with white space
 abbrev pub spaced_of : Spaced → Held
-spaced_of = fold-Spaced Held Item Parts Held body_step node_step elem_step spaced_step
+spaced_of = fold-Spaced Held Item Element Held body_step node_step elem_step spaced_step
 
 -- all of an element but its kids
 abbrev pub tag_of : Elem → Tag

@@ -15,7 +15,7 @@ use Rattle.redl_tree.specs.Rules.CellEnds.{is_so, end_of}
 use Rattle.redl_tree.specs.Decisions.Tables.{has_own}
 use Rattle.redl_tree.specs.Roles.Kinds.{is_content, is_change}
 use Rattle.redl_tree.specs.Decisions.Packages.{stories}
-use Rattle.redl_tree.specs.Model.View.{Parts}
+use Rattle.redl_tree.specs.Model.View.{Element}
 use Rattle.redl_tree.specs.declared.kinds.Kind.{Kind}
 use Rattle.redl_tree.specs.declared.kinds.Kind.TheVariants.{Change}
 
@@ -134,11 +134,11 @@ tests has_id declares =
     test_1 ∷ test_2 ∷ test_3 ∷ test_4 ∷ test_5 ∷ test_6 ∷ test_7 has_id ∷ test_8 ∷ test_9 declares ∷ []
 
 -- the rule of a test holds in stories: all elements pass
-abbrev pub holds : Test → List Parts → Bool
+abbrev pub holds : Test → List Element → Bool
 holds test parts = list_all (λ story. everywhere test [] (element story.tag story.kids no_nodes)) parts
 
 -- the least number of a rule that doesn't hold, where the first of these has this one
-abbrev pub first_broken : ℕ → List Test → List Parts → Option ℕ
+abbrev pub first_broken : ℕ → List Test → List Element → Option ℕ
 first_broken number [] parts = None
 first_broken number (test ∷ later) parts =
     if holds test parts then first_broken (number + 1) later parts else Some number

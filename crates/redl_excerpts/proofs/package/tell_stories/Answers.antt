@@ -5,7 +5,7 @@ use Rattle.std.proofs.lemmas.List.Concat.{flat_map-append}
 use Rattle.redl_opc.specs.Shape.{parts_of}
 use Rattle.redl_opc.specs.Stories.{stories_of_part, stories_from}
 use Rattle.redl_opc.proofs.WalkLaws.{stories_from-start, stories_from-part, stories_from-end}
-use Rattle.redl_tree.specs.Model.View.{Parts}
+use Rattle.redl_tree.specs.Model.View.{Element}
 use Rattle.redl_excerpts.specs.Excerpts.{is_moved, package_mentions}
 use Rattle.redl_excerpts.specs.Mentions.{mentions, outside}
 use Rattle.redl_excerpts.proofs.MemberLaws.{tells-begins-at, tells-goes_on, tells-ends}
@@ -13,13 +13,13 @@ use Rattle.redl_excerpts.proofs.package.tell_stories.Goals as goal
 
 pub loop-part-init : goal.loop-part-init
 loop-part-init c =
-    let one = λ (v : ℕ) (story : Parts). mentions (is_moved c.args.revisions.now v) v outside story.kids in
+    let one = λ (v : ℕ) (story : Element). mentions (is_moved c.args.revisions.now v) v outside story.kids in
     tells-begins-at c.args.excerpts.now.items (λ v. package_mentions (is_moved c.args.revisions.now v) v c.args.pkg.now) (λ v. flat_map (one v) (stories_from 0 c.args.pkg.now))
     (λ v. ap (flat_map (one v)) (stories_from-start c.args.pkg.now c.parts-part-end.ensures.shape))
 
 pub loop-part-preserved : goal.loop-part-preserved
 loop-part-preserved c =
-    let one = λ (v : ℕ) (story : Parts). mentions (is_moved c.args.revisions.now v) v outside story.kids in
+    let one = λ (v : ℕ) (story : Element). mentions (is_moved c.args.revisions.now v) v outside story.kids in
     let part = c.loop-part.part in
     let within : part < length (parts_of c.args.pkg.now) = omega (arith, c.parts-part-end.ensures.value, c.loop-part-test.true) in
     tells-goes_on c.args.excerpts.now.items c.loop-part.excerpts.items c.tell_part.new.excerpts.items _ (λ v. flat_map (one v) (stories_from part c.args.pkg.now))
@@ -29,7 +29,7 @@ loop-part-preserved c =
 
 pub returns : goal.returns
 returns c =
-    let one = λ (v : ℕ) (story : Parts). mentions (is_moved c.args.revisions.now v) v outside story.kids in
+    let one = λ (v : ℕ) (story : Element). mentions (is_moved c.args.revisions.now v) v outside story.kids in
     let part = c.loop-part.part in
     let past : length (parts_of c.args.pkg.now) ≤ part = omega (arith, c.parts-part-end.ensures.value, c.loop-part-test.false) in
     tells-ends c.args.excerpts.now.items c.loop-part.excerpts.items _ (λ v. flat_map (one v) (stories_from part c.args.pkg.now)) c.loop-part.invariant

@@ -4,7 +4,7 @@ use Rattle.std.proofs.lemmas.Option.{slice_get-get_or}
 use Rattle.redl_opc.specs.Elements.{element_of}
 use Rattle.redl_opc.specs.Parts.{story}
 use Rattle.redl_opc.specs.Shape.{parts_of}
-use Rattle.redl_opc.specs.Stories.{story_view, stories_from}
+use Rattle.redl_opc.specs.Stories.{stories_from}
 use Rattle.redl_opc.proofs.WalkLaws.{count_from-start, count_from-part, count_from-story, parts-end, stories_from-start, stories_from-part}
 use Rattle.redl_index.specs.StoryFacts.{facts_in}
 use Rattle.redl_index.specs.Revisions.{numbered, revisions_in, revisions_from}
@@ -33,12 +33,12 @@ loop-part-preserved c =
     let now = c.in_ok-found.found.index in
     let now_is : now ≡ old ++ numbered (1 + length old) (revisions_in part (story pkg part)) =
     c.in_ok-found.ensures.index ∙ ap (λ o. old ++ numbered (1 + length old) (revisions_in part o)) (sym is_story) in
-    let here : stories_from part pkg ≡ story_view root ∷ stories_from (part + 1) pkg =
-    stories_from-part pkg part within ∙ ap (λ o. option_to_list (option_map story_view o) ++ stories_from (part + 1) pkg) is_story in
+    let here : stories_from part pkg ≡ root ∷ stories_from (part + 1) pkg =
+    stories_from-part pkg part within ∙ ap (λ o. option_to_list o ++ stories_from (part + 1) pkg) is_story in
     record {
       at_most = omega (arith, c.in_ok-found.ensures.at_most, count_from-story pkg part root within is_story, c.loop-part.invariant.at_most);
       found = found-part pkg part within old now now_is ∙ c.loop-part.invariant.found;
-      known = (known-at c.args.known.now c.loop-part.place (facts_in (story_view root)) (map facts_in (stories_from (part + 1) pkg)) (c.loop-part.invariant.known ∙ ap (map facts_in) here)).later;
+      known = (known-at c.args.known.now c.loop-part.place (facts_in root) (map facts_in (stories_from (part + 1) pkg)) (c.loop-part.invariant.known ∙ ap (map facts_in) here)).later;
     }
 
 pub loop-part-preserved-in_default : goal.loop-part-preserved-in_default
@@ -51,7 +51,7 @@ loop-part-preserved-in_default c =
     let found_is : old ≡ old ++ numbered (1 + length old) (revisions_in part (story pkg part)) =
     sym (append-nil old) ∙ ap (λ o. old ++ numbered (1 + length old) (revisions_in part o)) (sym none) in
     let here : stories_from part pkg ≡ stories_from (part + 1) pkg =
-    stories_from-part pkg part within ∙ ap (λ o. option_to_list (option_map story_view o) ++ stories_from (part + 1) pkg) none in
+    stories_from-part pkg part within ∙ ap (λ o. option_to_list o ++ stories_from (part + 1) pkg) none in
     record {
       at_most = omega (arith, count_from-part pkg part within, c.loop-part.invariant.at_most);
       found = found-part pkg part within old old found_is ∙ c.loop-part.invariant.found;
@@ -65,9 +65,9 @@ loop-part-preserved-in_default-get c =
     let known = c.args.known.now in
     let root = element_of c.in-Some.root.now in
     let within : part < length (parts_of pkg) = omega (arith, c.parts-part-end.ensures.value, c.loop-part-test.true) in
-    let here : stories_from part pkg ≡ story_view root ∷ stories_from (part + 1) pkg =
-    stories_from-part pkg part within ∙ ap (λ o. option_to_list (option_map story_view o) ++ stories_from (part + 1) pkg) c.in-Some.ensures.value in
-    let at = known-at known c.loop-part.place (facts_in (story_view root)) (map facts_in (stories_from (part + 1) pkg)) (c.loop-part.invariant.known ∙ ap (map facts_in) here) in
+    let here : stories_from part pkg ≡ root ∷ stories_from (part + 1) pkg =
+    stories_from-part pkg part within ∙ ap (λ o. option_to_list o ++ stories_from (part + 1) pkg) c.in-Some.ensures.value in
+    let at = known-at known c.loop-part.place (facts_in root) (map facts_in (stories_from (part + 1) pkg)) (c.loop-part.invariant.known ∙ ap (map facts_in) here) in
     let past : length known ≤ c.loop-part.place = search rules in
     absurd (omega (arith, at.within, past))
 
@@ -85,11 +85,11 @@ find_in_story-requires-clause-known c =
     let part = c.loop-part.part in
     let root = element_of c.in-Some.root.now in
     let within : part < length (parts_of pkg) = omega (arith, c.parts-part-end.ensures.value, c.loop-part-test.true) in
-    let here : stories_from part pkg ≡ story_view root ∷ stories_from (part + 1) pkg =
-    stories_from-part pkg part within ∙ ap (λ o. option_to_list (option_map story_view o) ++ stories_from (part + 1) pkg) c.in-Some.ensures.value in
+    let here : stories_from part pkg ≡ root ∷ stories_from (part + 1) pkg =
+    stories_from-part pkg part within ∙ ap (λ o. option_to_list o ++ stories_from (part + 1) pkg) c.in-Some.ensures.value in
     let known = c.args.known.now in
     let next = c.in-Some-get.next.now in
-    let at = known-at known c.loop-part.place (facts_in (story_view root)) (map facts_in (stories_from (part + 1) pkg)) (c.loop-part.invariant.known ∙ ap (map facts_in) here) in
+    let at = known-at known c.loop-part.place (facts_in root) (map facts_in (stories_from (part + 1) pkg)) (c.loop-part.invariant.known ∙ ap (map facts_in) here) in
     let same : get_or known c.loop-part.place next ≡ next = search rules in
     at.here next (slice_get-get_or known c.loop-part.place next at.within ∙ ap Some same)
 
