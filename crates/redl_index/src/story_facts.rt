@@ -26,6 +26,8 @@ pub(crate) struct StoryFacts<'a> {
 }
 
 /// What is known of each story of a package, in their order. `Err` means out of memory.
+///
+/// A survey finds the same, and the rules in the same walk, which nobody asks for here.
 pub(crate) fn known_stories<'a>(
     alloc: Global,
     pkg: &Package<'a>,

@@ -29,8 +29,9 @@ pub enum RuleError {
 
 /// Checks that all stories of a package keep the rules.
 ///
-/// `Broken` exactly where they don't, with the least number from 1 to 9 of a rule that is broken. The check takes no memory,
-/// and so never answers `NoMemory`. It goes once through the package, and one level deeper for each level of elements.
+/// `Broken` exactly where they don't, with the least number from 1 to 9 of a rule that is broken. It goes once through the
+/// package, and one level deeper for each level of elements. It takes no memory, and so never answers `NoMemory`: that is in its
+/// type because it is in the type of each call on a package, so that a caller treats them alike.
 pub fn check(_alloc: Global, pkg: &Package) -> Result<(), RuleError>
     ensures { result ≡ answer_of (broken_rule_of pkg.now) }
 {
