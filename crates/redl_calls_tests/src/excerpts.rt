@@ -10,7 +10,7 @@ use std::test::Fail;
 // Fifty characters.
 const FIFTY: &str = "01234567890123456789012345678901234567890123456789";
 
-/// What is told of each revision of a body: what stands before its words, the words in brackets, what stands behind, and a newline.
+// What is told of each revision of a body: what stands before its words, the words in brackets, what stands behind, and a newline.
 fn told(alloc: Global, body: &str) -> Result<Vec<u8>, Fail> {
     let text = package_text(alloc, "/word/document.xml", body)?;
     let mut package = Package::make(alloc, redl_xml::read(alloc, text.as_bytes())?)?;
@@ -100,7 +100,7 @@ fn excerpts_of_runs(rt: HostRuntime) -> Result<(), Fail> {
     Ok(())
 }
 
-/// Two runs inserted, of which the first has 150 characters, and the second 50 and then these.
+// Two runs inserted, of which the first has 150 characters, and the second 50 and then these.
 fn two_runs(alloc: Global, more: &str) -> Result<String, AllocError> {
     format!(in alloc;
         "<w:p><w:ins w:author='A'><w:r><w:t>{FIFTY}{FIFTY}{FIFTY}</w:t></w:r><w:r><w:t>{FIFTY}{more}</w:t></w:r></w:ins></w:p>"

@@ -21,7 +21,7 @@ fn names(alloc: Global) -> Result<Vec<Text>, AllocError> {
     Ok(names)
 }
 
-/// Adds the text of the listing of the open revisions of a body, by the format of that name. Gives whether there is one.
+// Adds the text of the listing of the open revisions of a body, by the format of that name. Gives whether there is one.
 fn listed(
     alloc: Global,
     formats: &mut Vec<Box<dyn RowFormat>>,
@@ -44,7 +44,7 @@ fn listed(
     Ok(made)
 }
 
-/// What the format makes of a body, under a name.
+// What the format makes of a body, under a name.
 fn by_format(
     alloc: Global,
     format: Box<dyn RowFormat>,
@@ -109,7 +109,7 @@ fn listings_of_other_bodies(rt: HostRuntime) -> Result<(), Fail> {
     Ok(())
 }
 
-/// How many formats are left of two of one name, where the first is taken.
+// How many formats are left of two of one name, where the first is taken.
 fn left_of_two(alloc: Global) -> Result<usize, Fail> {
     let mut formats = Vec::new(alloc);
     add_format(&mut formats, Box::new(alloc, TextFormat::new(alloc)?)?)?;

@@ -11,7 +11,7 @@ use redl_page::{Shown, Skin, put_document, write_page};
 use std::alloc::{AllocError, Global};
 use std::test::Fail;
 
-/// The text of the package with these parts, each with its name.
+// The text of the package with these parts, each with its name.
 fn package_of(alloc: Global, parts: &[(&str, &str)]) -> Result<String, AllocError> {
     let mut all = String::new(alloc);
     for (name, data) in parts {
@@ -20,7 +20,7 @@ fn package_of(alloc: Global, parts: &[(&str, &str)]) -> Result<String, AllocErro
     package(alloc, all.as_str())
 }
 
-/// The stories of a package with these parts, as they stand in its page.
+// The stories of a package with these parts, as they stand in its page.
 fn document_of(alloc: Global, parts: &[(&str, &str)]) -> Result<MemSink, Fail> {
     let text = package_of(alloc, parts)?;
     let mut package = Package::make(alloc, redl_xml::read(alloc, text.as_bytes())?)?;
@@ -164,7 +164,7 @@ const LINES: &[u8] = b"2\t1\taccept\tAnn & Co\n7\t1\treject\tBob\n";
 const WHOLE: &str =
     "<!DOCTYPE html>\n<html lang=\"en\">\n<head>\n<meta charset=\"utf-8\">\n<meta http-equiv=\"Content-Security-Policy\" content=\"default-src 'none'\">\n<meta name=\"viewport\" content=\"width=device-width, initial-scale=1\">\n<title>Redline: changes to decide</title>\n<style>p{}</style>\n</head>\n<body data-document=\"e3b0c44298fc1c149afbf4c8996fb92427ae41e4649b934ca495991b7852b855\" data-revisions=\"1\">\n<main lang=\"\">\n<section>\n<p><ins class=\"text\" data-revision=\"1\" data-author=\"Eve\">x</ins></p>\n</section>\n</main>\n<aside aria-label=\"Changes\">\n<ol>\n<li id=\"revision-1\" data-kind=\"ins\" data-author=\"Eve\" data-date=\"2024-05-06T07:08:00Z\" data-verdict=\"disputed\" data-locked=\"yes\"><p data-word=\"accept\" data-rank=\"0\">Ann &amp; Co</p><p data-word=\"reject\" data-rank=\"0\">Bob</p></li>\n</ol>\n<ul>\n<li data-sequence=\"2\">Ann &amp; Co</li>\n<li data-sequence=\"7\">Bob</li>\n</ul>\n</aside>\n<script>1 < 2</script>\n</body>\n</html>\n";
 
-/// The page of the package with this document, whose one revision is locked, under this book.
+// The page of the package with this document, whose one revision is locked, under this book.
 fn page_of(alloc: Global, book: &Book, digest: &[u8; 32]) -> Result<MemSink, Fail> {
     let text = package_of(
         alloc,

@@ -19,7 +19,7 @@ const DEE: &str = "1\t1\taccept\tDee\n1\t2\treject\tDee\n";
 
 const EVE: &str = "1\t2\taccept\tEve\n";
 
-/// What a format makes of a package under two journals with these lines, by its name.
+// What a format makes of a package under two journals with these lines, by its name.
 fn reported(
     alloc: Global,
     format: Box<dyn ReportFormat>,
@@ -43,7 +43,7 @@ fn reported(
     Ok(made)
 }
 
-/// The same by kind, for Dee's and Eve's journals.
+// The same by kind, for Dee's and Eve's journals.
 fn reported_by_kind(
     alloc: Global,
     format: Box<dyn ReportFormat>,

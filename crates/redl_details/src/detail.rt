@@ -42,7 +42,7 @@ impl Detail {
         })
     }
 
-    /// The detail of a revision with this excerpt, where these are the last words on it. `Err` means out of memory.
+    // The detail of a revision with this excerpt, where these are the last words on it. `Err` means out of memory.
     fn of(alloc: Global, excerpt: Excerpt, entries: &[&Entry]) -> Result<Detail, AllocError>
         ensures value { IfOk result (λ detail. detail ≡ detail_of excerpt (map deref entries.now)) }
         ensures utf8 { IfOk result IsDetail }

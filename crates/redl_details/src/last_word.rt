@@ -36,7 +36,7 @@ impl Model for Says {
 }
 
 impl LastWord {
-    /// That of an entry. `Err` means out of memory.
+    // That of an entry. `Err` means out of memory.
     fn of(alloc: Global, entry: &Entry) -> Result<LastWord, AllocError>
         ensures value { IfOk result (λ said. said ≡ last_word_of entry.now) }
         ensures utf8 { IfOk result (λ said. IsUtf8 said.reviewer) }
@@ -48,7 +48,7 @@ impl LastWord {
         })
     }
 
-    /// An equal one. `Err` means out of memory.
+    // An equal one. `Err` means out of memory.
     fn copy(&self, alloc: Global) -> Result<LastWord, AllocError>
         ensures { IfOk result (λ copy. copy ≡ self.now) }
     {

@@ -66,7 +66,7 @@ pub(crate) fn put_says(says: &mut [Say], changes: &[Change])
     }
 }
 
-/// Sets one say. Numbers of revisions begin with 1.
+// Sets one say. Numbers of revisions begin with 1.
 fn put_say(says: &mut [Say], rev: u32, say: Say)
     ensures { says.new ≡ set_say says.old rev say }
 {

@@ -16,7 +16,7 @@ use redl_stamp::attribute;
 use redl_tree::{Elem, Node};
 use std::alloc::{AllocError, Global};
 
-/// How many characters of words are kept.
+// How many characters of words are kept.
 const ROOM: u8 = 200;
 
 /// What is told of a revision.
@@ -82,7 +82,7 @@ impl Excerpt {
         Ok(())
     }
 
-    /// The first member tells its id, and what stands before it. `Err` means out of memory.
+    // The first member tells its id, and what stands before it. `Err` means out of memory.
     fn begin(
         &mut self,
         alloc: Global,

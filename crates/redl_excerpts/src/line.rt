@@ -9,10 +9,10 @@ use redl_io::Text;
 use std::alloc::{AllocError, Global};
 use std::marker::Model;
 
-/// How many characters before a place and behind it are told.
+// How many characters before a place and behind it are told.
 const NEAR: usize = 40;
 
-/// How many bytes so many characters have at most.
+// How many bytes so many characters have at most.
 const NEAR_BYTES: usize = 160;
 
 /// A line that is being made: its text, and whether white space came last.
@@ -41,7 +41,7 @@ impl Line {
         }
     }
 
-    /// Adds a byte. `Err` means out of memory.
+    // Adds a byte. `Err` means out of memory.
     fn draw(&mut self, byte: u8) -> Result<(), AllocError>
         ensures { OnOk result (self.new ≡ drawn self.old (byte ∷ [])) }
     {
@@ -122,7 +122,7 @@ impl Place {
         Place { left: 0, gap: true }
     }
 
-    /// Goes past a byte.
+    // Goes past a byte.
     #[tactic(auto, unfolding(crate::specs::Lines::passed))]
     fn pass(&mut self, byte: u8)
         ensures { self.new ≡ passed self.old byte }
@@ -179,7 +179,7 @@ pub(crate) fn behind(alloc: Global, line: &[u8], place: Place) -> Result<Text, A
     Text::copy_of(alloc, first_characters(NEAR, &line[from..]))
 }
 
-/// The first characters, at most so many.
+// The first characters, at most so many.
 fn first_characters(count: usize, bytes: &[u8]) -> &[u8]
     ensures { result.now ≡ first_characters count bytes.now }
 {
@@ -187,7 +187,7 @@ fn first_characters(count: usize, bytes: &[u8]) -> &[u8]
     &bytes[..bytes.len().saturating_sub(rest.len())]
 }
 
-/// The last 40 characters, which are among the last 160 bytes.
+// The last 40 characters, which are among the last 160 bytes.
 fn last_characters(bytes: &[u8]) -> &[u8]
     ensures { result.now ≡ last_characters bytes.now }
 {

@@ -17,7 +17,7 @@ use redl_index::{RevKind, Revision};
 use redl_tree::{Elem, Kind, Node, Plain, Trace, is_quiet};
 use std::alloc::{AllocError, Global};
 
-/// For how many bytes a line takes room at first.
+// For how many bytes a line takes room at first.
 const USUAL_LINE: usize = 400;
 
 /// Where nodes stand, but for their place in the line: in an element that holds text or not; what the nearest ancestor holds

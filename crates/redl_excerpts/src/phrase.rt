@@ -43,7 +43,7 @@ pub(crate) fn is_inner(byte: u8) -> bool
     128 <= byte && byte < 192
 }
 
-/// Whether a byte is kept as it is, where a space came last or not.
+// Whether a byte is kept as it is, where a space came last or not.
 fn fits(space: bool, byte: u8) -> bool
     ensures { result ≡ fits space byte }
 {
@@ -82,14 +82,14 @@ impl Phrase {
         }
     }
 
-    /// Makes room for what is kept of this number of bytes more. `Err` means out of memory.
+    // Makes room for what is kept of this number of bytes more. `Err` means out of memory.
     fn make_room(&mut self, count: usize) -> Result<(), AllocError>
         ensures { self.new ≡ self.old }
     {
         self.text.reserve(count.min(4 * self.room as usize))
     }
 
-    /// Hears one byte. `Err` means out of memory.
+    // Hears one byte. `Err` means out of memory.
     #[tactic(auto, unfolding(crate::specs::Phrases::heard_byte))]
     fn hear_byte(&mut self, byte: u8) -> Result<(), AllocError>
         ensures { OnOk result (self.new ≡ heard_byte self.old byte) }
@@ -107,7 +107,7 @@ impl Phrase {
         self.begin(byte, false)
     }
 
-    /// Hears the first bytes at once, where they are kept as they are, and answers those that are left. `Err` means out of memory.
+    // Hears the first bytes at once, where they are kept as they are, and answers those that are left. `Err` means out of memory.
     fn hear_front<'a>(&mut self, bytes: &'a [u8]) -> Result<&'a [u8], AllocError>
         ensures { IfOk result (λ rest. heard self.new rest.now ≡ heard self.old bytes.now) }
     {
@@ -124,7 +124,7 @@ impl Phrase {
         Ok(rest)
     }
 
-    /// White space comes.
+    // White space comes.
     #[tactic(auto, unfolding(crate::specs::Phrases::paused))]
     fn pause(&mut self) -> Result<(), AllocError>
         ensures { OnOk result (self.new ≡ paused self.old) }
@@ -135,7 +135,7 @@ impl Phrase {
         self.begin(b' ', true)
     }
 
-    /// One character more begins with this byte.
+    // One character more begins with this byte.
     #[tactic(auto, unfolding(crate::specs::Phrases::begun))]
     fn begin(&mut self, byte: u8, white: bool) -> Result<(), AllocError>
         ensures { OnOk result (self.new ≡ begun self.old byte white) }

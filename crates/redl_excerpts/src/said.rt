@@ -86,9 +86,9 @@ fn tell_shown<E: Ear>(bytes: &[u8], ear: &mut E) -> Result<(), AllocError>
     Ok(())
 }
 
-/// Whether bytes are shown as they are, each of them.
-///
-/// It looks at every byte: so the compiler takes many at a time.
+// Whether bytes are shown as they are, each of them.
+//
+// It looks at every byte: so the compiler takes many at a time.
 fn is_all_plain(bytes: &[u8]) -> bool
     ensures { result ≡ all_plain_from true bytes.now }
 {

@@ -43,7 +43,7 @@ pub(crate) fn find_in_stories(
     Ok(found.index)
 }
 
-/// Adds what is in the story with this root. `Err` means out of memory.
+// Adds what is in the story with this root. `Err` means out of memory.
 fn find_in_story(
     known: &StoryFacts,
     root: &Elem,
@@ -62,7 +62,7 @@ fn find_in_story(
     Ok(seeker.found)
 }
 
-/// Adds the elements of a story to their revisions. What is handed down is where the nearest paragraph ends.
+// Adds the elements of a story to their revisions. What is handed down is where the nearest paragraph ends.
 #[derive(Drop)]
 struct Seeker<'s, 'a> {
     story: Story<'s, 'a>,
@@ -71,7 +71,7 @@ struct Seeker<'s, 'a> {
 }
 
 impl<'s, 'a> Seeker<'s, 'a> {
-    /// Before the first element of a story, which is in the part with this number.
+    // Before the first element of a story, which is in the part with this number.
     fn begin(known: &'s StoryFacts<'a>, part: u32, found: Found) -> Seeker<'s, 'a>
         ensures { seeking_of result ≡ seeking_in part (facts_of known.now) found.index }
     {

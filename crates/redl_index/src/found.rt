@@ -66,7 +66,7 @@ impl Found {
         }
     }
 
-    /// Adds an element to its revision, where it is in one.
+    // Adds an element to its revision, where it is in one.
     fn mention(
         &mut self,
         story: &Story<'_, '_>,
@@ -86,7 +86,7 @@ impl Found {
         }
     }
 
-    /// Adds a mention of a move, by a member of it or by a marker.
+    // Adds a mention of a move, by a member of it or by a marker.
     fn mention_move(
         &mut self,
         story: &Story<'_, '_>,
@@ -106,7 +106,7 @@ impl Found {
         }
     }
 
-    /// The number that the move has whose source starts at this position, if it has one yet.
+    // The number that the move has whose source starts at this position, if it has one yet.
     fn known_number(&self, start: u64) -> Option<u32>
         ensures { result ≡ move_number self.now.moves.entries start }
     {
@@ -116,7 +116,7 @@ impl Found {
         }
     }
 
-    /// Adds a move that is mentioned for the first time.
+    // Adds a move that is mentioned for the first time.
     fn first_of_move(
         &mut self,
         story: &Story<'_, '_>,
@@ -134,7 +134,7 @@ impl Found {
         Ok(())
     }
 
-    /// Adds a revision that is mentioned for the first time, and has these attributes and so many members so far.
+    // Adds a revision that is mentioned for the first time, and has these attributes and so many members so far.
     fn first(
         &mut self,
         part: u32,

@@ -137,7 +137,7 @@ impl Index {
     }
 }
 
-/// Counts a member more of the revision at a place.
+// Counts a member more of the revision at a place.
 fn count_member(revisions: &mut Vec<Revision>, place: usize)
     ensures { revisions.new.items ≡ replaced revisions.old.items place (slice_get revisions.old.items place) }
 {

@@ -48,7 +48,7 @@ pub(crate) struct ToLabel<'a> {
     pub(crate) next: u32,
 }
 
-/// Each story gets the labels of its elements. Numbers go on from story to story.
+// Each story gets the labels of its elements. Numbers go on from story to story.
 #[derive(Clone, Copy)]
 struct Labelling;
 
@@ -81,7 +81,7 @@ impl StoryChange<ToLabel<'_>> for Labelling {
     }
 }
 
-/// Labels a story, given what is known of it, and gives the next number after it.
+// Labels a story, given what is known of it, and gives the next number after it.
 fn label_story(known: &mut StoryFacts<'_>, root: &mut Elem, next: u32) -> u32
     requires known { facts_of known.old ≡ facts_in (element_by (tag_of root.old) (kids_of root.old)) }
     requires root { IsTrue (is_story_root (tag_of root.old)) }

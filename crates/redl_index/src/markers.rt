@@ -83,8 +83,8 @@ impl<'a> StoryMarkers<'a> {
     }
 }
 
-/// The marker that an element is, where it is one. `here` and `trail` sum up its ancestors, and `at` is the position of its start
-/// tag. `Err` means out of memory.
+// The marker that an element is, where it is one. `here` and `trail` sum up its ancestors, and `at` is the position of its start
+// tag. `Err` means out of memory.
 fn marker(
     alloc: Global,
     elem: &Elem,
@@ -113,7 +113,7 @@ fn marker(
     }))
 }
 
-/// Which end of which range an element is by its name.
+// Which end of which range an element is by its name.
 fn kind_of(elem: &Elem) -> Option<MarkerKind>
     ensures { option_map edge_of result ≡ edge_of_tag (tag_of elem.now) }
 {

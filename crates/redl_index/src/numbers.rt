@@ -32,7 +32,7 @@ impl Numbers {
         }
     }
 
-    /// The number of the move whose source starts with the marker at this place.
+    // The number of the move whose source starts with the marker at this place.
     fn number_of_move(&mut self, place: u32) -> u32
         requires few { self.old.next + 1 < 2 ^ 32 }
         ensures number { result ≡ number_at place (numbers_view self.old) }
@@ -47,7 +47,7 @@ impl Numbers {
         number
     }
 
-    /// The next number.
+    // The next number.
     fn take(&mut self) -> u32
         requires few { self.old.next + 1 < 2 ^ 32 }
         ensures number { result ≡ self.old.next }
@@ -58,7 +58,7 @@ impl Numbers {
         number
     }
 
-    /// The number at a place, or 0.
+    // The number at a place, or 0.
     fn known(&self, place: u32) -> u32
         ensures { result ≡ get_or self.now.moves.items place 0 }
     {
@@ -68,7 +68,7 @@ impl Numbers {
         }
     }
 
-    /// Notes the number of the move at a place.
+    // Notes the number of the move at a place.
     fn note(&mut self, place: u32, number: u32)
         ensures next { self.new.next ≡ self.old.next }
         ensures moves { self.new.moves.items ≡ set self.old.moves.items place number }
@@ -79,7 +79,7 @@ impl Numbers {
     }
 }
 
-/// Whether an element of this kind is in a revision.
+// Whether an element of this kind is in a revision.
 fn is_member(kind: Kind) -> bool
     ensures { result ≡ is_some (kind_of kind) }
 {

@@ -65,7 +65,7 @@ impl Sight {
     }
 }
 
-/// Where the move starts of which an element is a marker.
+// Where the move starts of which an element is a marker.
 fn marker(moves: &Moves, elem: &Elem, around: Around, at: u64) -> Option<Start>
     ensures { result ≡ marker_start moves.now around at (tag_of elem.now) }
 {
@@ -76,8 +76,8 @@ fn marker(moves: &Moves, elem: &Elem, around: Around, at: u64) -> Option<Start>
     }
 }
 
-/// Where the move starts of which an element with this role is a member. Content is where it starts, and the mark of a paragraph
-/// where the paragraph ends.
+// Where the move starts of which an element with this role is a member. Content is where it starts, and the mark of a paragraph
+// where the paragraph ends.
 fn member(moves: &Moves, role: Kind, at: u64, para_end: u64) -> Option<Start>
     requires apart { IsApartAs moves.now role at para_end }
     ensures { result ≡ member_start moves.now role at para_end }
@@ -89,7 +89,7 @@ fn member(moves: &Moves, role: Kind, at: u64, para_end: u64) -> Option<Start>
     }
 }
 
-/// Where the move starts that something with this trace is in at this position.
+// Where the move starts that something with this trace is in at this position.
 fn open_at(moves: &Moves, trace: Trace, at: u64) -> Option<Start>
     requires apart { IsApart at moves.now }
     ensures { result ≡ option_map (start_in moves.now) (move_at (pairs moves.now) trace at) }
@@ -101,7 +101,7 @@ fn open_at(moves: &Moves, trace: Trace, at: u64) -> Option<Start>
     }
 }
 
-/// Whether an element is a marker of a move: an open edge of a range, with an `id`.
+// Whether an element is a marker of a move: an open edge of a range, with an `id`.
 fn is_marker(elem: &Elem, around: Around) -> bool
     ensures { result ≡ is_marker_by around (tag_of elem.now) }
 {

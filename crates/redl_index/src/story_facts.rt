@@ -47,7 +47,7 @@ pub(crate) fn known_stories<'a>(
 }
 
 impl<'a> StoryFacts<'a> {
-    /// What is known of the story with this root. `Err` means out of memory.
+    // What is known of the story with this root. `Err` means out of memory.
     fn of(alloc: Global, root: &Elem<'a>) -> Result<StoryFacts<'a>, AllocError>
         requires few { count (kids_of root.now) < 2 ^ 32 }
         ensures { IfOk result (λ known. facts_of known ≡ facts_in (element_by (tag_of root.now) (kids_of root.now))) }

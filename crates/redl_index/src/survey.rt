@@ -115,7 +115,7 @@ impl<'a> Surveyed<'a> {
     }
 }
 
-/// Which rules hold in all stories of a package, and what is known of each of them, in their order. `Err` means out of memory.
+// Which rules hold in all stories of a package, and what is known of each of them, in their order. `Err` means out of memory.
 fn survey_stories<'a>(
     alloc: Global,
     pkg: &Package<'a>,
@@ -138,7 +138,7 @@ fn survey_stories<'a>(
     Ok((kept, known))
 }
 
-/// Which rules hold in the story with this root, and what is known of it, by one walk. `Err` means out of memory.
+// Which rules hold in the story with this root, and what is known of it, by one walk. `Err` means out of memory.
 fn survey_story<'a>(alloc: Global, root: &Elem<'a>) -> Result<(Kept, StoryFacts<'a>), AllocError>
     requires few { count (kids_of root.now) < 2 ^ 32 }
     ensures rules { IfOk result (λ seen. seen.0 ≡ element_kept [] (tag_of root.now) (kids_of root.now)) }

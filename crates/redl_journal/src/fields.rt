@@ -63,7 +63,7 @@ pub(crate) fn digest(digits: &[u8]) -> Option<[u8; 32]>
     }
 }
 
-/// Whether no byte is a control character of ASCII.
+// Whether no byte is a control character of ASCII.
 #[tactic(auto, unfolding(crate::specs::Journals::is_visible))]
 fn are_visible(bytes: &[u8]) -> bool
     ensures { result ≡ list_all is_visible bytes.now }
@@ -71,7 +71,7 @@ fn are_visible(bytes: &[u8]) -> bool
     bytes.iter().all(|byte| *byte >= 32 && *byte != 127)
 }
 
-/// Whether the bytes are UTF-8.
+// Whether the bytes are UTF-8.
 fn is_text(bytes: &[u8]) -> bool
     ensures { result ≡ is_utf8 bytes.now }
 {

@@ -17,7 +17,7 @@ use crate::slots::{Container, Slot, Tally};
 use redl_tables::{Owner, fate_of, has_cut_member, is_cut, is_member};
 use redl_tree::{Elem, Fate, Say, Word, is_word};
 
-/// Whether a row or a cell with this element and these slots is cut by a member of its own.
+// Whether a row or a cell with this element and these slots is cut by a member of its own.
 fn is_cut_now(elem: &Elem, slots: &[Slot], says: &[Say]) -> bool
     ensures { result ≡ cut_at says.now (tag_of elem.now) (original (slots_of (states_of slots.now))) }
 {

@@ -23,7 +23,7 @@ pub(crate) fn put_leaf<'a>(leaf: &mut Leaf<'a>, passed: Vec<Node<'a>>, says: &[S
     }
 }
 
-/// Whether a revision is decided of which a member or marker is among these nodes, at every depth.
+// Whether a revision is decided of which a member or marker is among these nodes, at every depth.
 #[cycle(decided)]
 fn has_decided(nodes: &[Node], says: &[Say]) -> bool
     ensures { result ≡ has_member (is_decided says.now) (nodes_of nodes.now) }

@@ -9,7 +9,7 @@ use std::alloc::{AllocError, Global};
 use std::marker::{Model, PhantomData};
 use std::mem;
 
-/// What closing adds.
+// What closing adds.
 const END: &[u8] = b"]\n";
 
 /// An array with the pieces of the items (RFC 8259), without white space between, which closing ends. Contracts see the items
@@ -92,7 +92,7 @@ impl<I: Item, P: Piece<I>> ArrayFormat<I, P> {
     }
 }
 
-/// A comma, unless there is no item. It takes the place of what `room` has. `Err` means out of memory.
+// A comma, unless there is no item. It takes the place of what `room` has. `Err` means out of memory.
 fn comma_after<I>(room: Vec<u8>, items: &[I]) -> Result<Vec<u8>, AllocError>
     ensures { IfOk result (λ front. front.items ≡ comma_after items.now) }
 {

@@ -7,20 +7,20 @@ ghost use Rattle.redl_listing.specs.Dates.{two_digits, ymd_text, day_text, time_
 
 use jiff_core::civil::Date;
 
-/// 0000-01-01T00:00:00Z.
+// 0000-01-01T00:00:00Z.
 const FIRST_MOMENT: i64 = -62_167_219_200;
 
-/// How many days after -9999-01-01 is 0000-01-01.
+// How many days after -9999-01-01 is 0000-01-01.
 const FIRST_DAY: u32 = 3_652_059;
 
-/// The two last decimal digits of a number.
+// The two last decimal digits of a number.
 fn two_digits(number: u8) -> [u8; 2]
     ensures { result ≡ two_digits number }
 {
     [b'0' + number / 10 % 10, b'0' + number % 10]
 }
 
-/// The day that is so many days after 0000-01-01, up to 9999-12-31.
+// The day that is so many days after 0000-01-01, up to 9999-12-31.
 fn day_after(days: u64) -> Date
     requires { days < 3_652_425 }
     ensures year { pos 0 ≤ℤ result.year }
@@ -29,7 +29,7 @@ fn day_after(days: u64) -> Date
     Date::from_days_since_min(FIRST_DAY + days as u32)
 }
 
-/// The day that is so many days after 0000-01-01, as `YYYY-MM-DD`.
+// The day that is so many days after 0000-01-01, as `YYYY-MM-DD`.
 fn day_text(days: u64) -> [u8; 10]
     requires { days < 3_652_425 }
     ensures { result ≡ day_text days }
@@ -38,7 +38,7 @@ fn day_text(days: u64) -> [u8; 10]
     ymd_text(date.year as u16, date.month, date.day)
 }
 
-/// The day as `YYYY-MM-DD`.
+// The day as `YYYY-MM-DD`.
 fn ymd_text(year: u16, month: u8, day: u8) -> [u8; 10]
     requires { year < 10_000 }
     ensures { result ≡ ymd_text year month day }
@@ -50,7 +50,7 @@ fn ymd_text(year: u16, month: u8, day: u8) -> [u8; 10]
     [a, b, c, d, b'-', e, f, b'-', g, h]
 }
 
-/// The time so many seconds after midnight, as `hh:mm:ss`.
+// The time so many seconds after midnight, as `hh:mm:ss`.
 fn time_text(second: u32) -> [u8; 8]
     requires { second < 86_400 }
     ensures { result ≡ time_text second }

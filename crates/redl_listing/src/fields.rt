@@ -103,7 +103,7 @@ pub fn push_shown(line: &mut Vec<u8>, bytes: &[u8]) -> Result<(), AllocError>
     Ok(())
 }
 
-/// Whether no byte is a control character of ASCII.
+// Whether no byte is a control character of ASCII.
 fn are_shown(bytes: &[u8]) -> bool
     ensures { result ≡ list_all is_shown bytes.now }
 {
@@ -131,7 +131,7 @@ pub(crate) fn push_escaped(line: &mut Vec<u8>, bytes: &[u8]) -> Result<(), Alloc
     Ok(())
 }
 
-/// Whether no byte is a backslash, a tab or of the end of a line.
+// Whether no byte is a backslash, a tab or of the end of a line.
 fn are_unescaped(bytes: &[u8]) -> bool
     ensures { result ≡ list_all is_unescaped bytes.now }
 {

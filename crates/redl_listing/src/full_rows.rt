@@ -37,7 +37,7 @@ impl Piece<Row> for FullRows {
     }
 }
 
-/// The bytes, and the object of a row after them.
+// The bytes, and the object of a row after them.
 fn full_row(piece: Vec<u8>, row: &Row) -> Result<Vec<u8>, AllocError>
     requires { IsRow row.now }
     ensures { IfOk result (λ more. more.items ≡ piece.items ++ full_row row.now) }
@@ -52,7 +52,7 @@ fn full_row(piece: Vec<u8>, row: &Row) -> Result<Vec<u8>, AllocError>
     Ok(object.into_inner())
 }
 
-/// Writes the members before the last words. `Err` means out of memory.
+// Writes the members before the last words. `Err` means out of memory.
 fn put_front(object: &mut Writer, row: &Row) -> Result<(), AllocError>
     requires { IsRow row.now }
     ensures written { OnOk result (object.new.tokens ≡ object.old.tokens ++ front_tokens row.now) }
@@ -70,7 +70,7 @@ fn put_front(object: &mut Writer, row: &Row) -> Result<(), AllocError>
     Ok(())
 }
 
-/// Writes the member that is the element's own id. `Err` means out of memory.
+// Writes the member that is the element's own id. `Err` means out of memory.
 fn put_id(object: &mut Writer, id: &Option<Text>) -> Result<(), AllocError>
     requires { IfSome id.now IsUtf8 }
     ensures written { OnOk result (object.new.tokens ≡ object.old.tokens ++ key_token (codes "id") ∷ id_token id.now ∷ []) }
@@ -85,7 +85,7 @@ fn put_id(object: &mut Writer, id: &Option<Text>) -> Result<(), AllocError>
     }
 }
 
-/// Writes the member that says who said what. `Err` means out of memory.
+// Writes the member that says who said what. `Err` means out of memory.
 fn put_says(object: &mut Writer, says: &[LastWord]) -> Result<(), AllocError>
     requires { All (λ said. IsUtf8 said.reviewer) says.now }
     ensures written { OnOk result (object.new.tokens
@@ -99,7 +99,7 @@ fn put_says(object: &mut Writer, says: &[LastWord]) -> Result<(), AllocError>
     Ok(())
 }
 
-/// Writes an object for each last word. `Err` means out of memory.
+// Writes an object for each last word. `Err` means out of memory.
 fn put_each(object: &mut Writer, says: &[LastWord]) -> Result<(), AllocError>
     requires { All (λ said. IsUtf8 said.reviewer) says.now }
     ensures written { OnOk result (object.new.tokens ≡ object.old.tokens ++ flat_map said_tokens says.now) }
@@ -111,7 +111,7 @@ fn put_each(object: &mut Writer, says: &[LastWord]) -> Result<(), AllocError>
     Ok(())
 }
 
-/// Writes the object of a last word. `Err` means out of memory.
+// Writes the object of a last word. `Err` means out of memory.
 fn put_said(object: &mut Writer, said: &LastWord) -> Result<(), AllocError>
     requires { IsUtf8 said.now.reviewer }
     ensures written { OnOk result (object.new.tokens ≡ object.old.tokens ++ said_tokens said.now) }

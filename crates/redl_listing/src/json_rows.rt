@@ -35,7 +35,7 @@ impl Piece<Row> for JsonRows {
     }
 }
 
-/// The bytes, and the object of a row after them.
+// The bytes, and the object of a row after them.
 fn json_row(piece: Vec<u8>, row: &Row) -> Result<Vec<u8>, AllocError>
     requires { IsRow row.now }
     ensures { IfOk result (λ more. more.items ≡ piece.items ++ json_row row.now) }

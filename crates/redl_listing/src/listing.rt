@@ -130,7 +130,7 @@ pub fn list_told(
     Ok(true)
 }
 
-/// Gives the format a row for each revision that is shown, with its detail, which it takes.
+// Gives the format a row for each revision that is shown, with its detail, which it takes.
 fn add_rows(
     alloc: Global,
     format: &mut Box<dyn RowFormat>,
@@ -166,7 +166,7 @@ fn add_rows(
     Ok(())
 }
 
-/// Gives the format the row of a revision, if it is shown.
+// Gives the format the row of a revision, if it is shown.
 fn add_if(
     alloc: Global,
     format: &mut Box<dyn RowFormat>,
@@ -192,7 +192,7 @@ fn add_if(
     add_row(format, row)
 }
 
-/// Whether the row at this place is shown.
+// Whether the row at this place is shown.
 fn is_shown(shown: &[bool], place: usize) -> bool
     ensures { result ≡ first_shown (drop place shown.now) }
 {
@@ -202,7 +202,7 @@ fn is_shown(shown: &[bool], place: usize) -> bool
     }
 }
 
-/// Takes the detail at this place, if there is one, and leaves none there. `Err` means out of memory.
+// Takes the detail at this place, if there is one, and leaves none there. `Err` means out of memory.
 fn take_detail(alloc: Global, details: &mut Vec<Detail>, place: usize) -> Result<Detail, AllocError>
     requires { All IsDetail details.old.items }
     ensures value { IfOk result (λ detail. detail ≡ first_detail (drop place details.old.items)) }
@@ -230,7 +230,7 @@ fn add_row(format: &mut Box<dyn RowFormat>, row: Row) -> Result<(), AllocError>
     }
 }
 
-/// Closes the format, and adds its text to what was made. `Err` means out of memory.
+// Closes the format, and adds its text to what was made. `Err` means out of memory.
 fn finish(format: &mut Box<dyn RowFormat>, made: &mut Vec<u8>) -> Result<(), AllocError>
     requires { is_closed format.old ≡ false }
     ensures text { OnOk result (made.new.items ≡ made.old.items ++ text_for format.old (rows_so_far format.old) true) }

@@ -32,7 +32,7 @@ impl Piece<Row> for TabRows {
     }
 }
 
-/// Adds the line of a row. `Err` means out of memory.
+// Adds the line of a row. `Err` means out of memory.
 #[tactic(auto, unfolding(crate::specs::Texts::tab_row))]
 fn push_tab_row(line: &mut Vec<u8>, row: &Row) -> Result<(), AllocError>
     requires { IsRow row.now }
@@ -48,7 +48,7 @@ fn push_tab_row(line: &mut Vec<u8>, row: &Row) -> Result<(), AllocError>
     Ok(())
 }
 
-/// Adds the fields before the members, each with a tab after it. `Err` means out of memory.
+// Adds the fields before the members, each with a tab after it. `Err` means out of memory.
 #[tactic(auto, unfolding(crate::specs::Texts::decided_fields))]
 fn push_decided_fields(line: &mut Vec<u8>, row: &Row) -> Result<(), AllocError>
     requires { IsRow row.now }
@@ -62,7 +62,7 @@ fn push_decided_fields(line: &mut Vec<u8>, row: &Row) -> Result<(), AllocError>
     Ok(())
 }
 
-/// Adds the number and the kind, each with a tab after it. `Err` means out of memory.
+// Adds the number and the kind, each with a tab after it. `Err` means out of memory.
 #[tactic(auto, unfolding(crate::specs::Texts::named_fields))]
 fn push_named_fields(line: &mut Vec<u8>, row: &Row) -> Result<(), AllocError>
     requires { IsRow row.now }

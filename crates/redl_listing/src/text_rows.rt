@@ -32,7 +32,7 @@ impl Piece<Row> for TextRows {
     }
 }
 
-/// Adds the line of a row. `Err` means out of memory.
+// Adds the line of a row. `Err` means out of memory.
 #[tactic(auto, unfolding(crate::specs::Texts::text_row))]
 fn push_text_row(line: &mut Vec<u8>, row: &Row) -> Result<(), AllocError>
     requires { IsRow row.now }

@@ -16,10 +16,10 @@ use redl_join::Verdict;
 use redl_tree::Trace;
 use std::alloc::{AllocError, Global};
 
-/// How many places the author has.
+// How many places the author has.
 const AUTHOR: usize = 13;
 
-/// How many characters of what stands before are shown.
+// How many characters of what stands before are shown.
 const BEFORE: usize = 11;
 
 /// A line for each row: number, kind, verdict and author in columns, and its words in their paragraph.
@@ -45,7 +45,7 @@ impl Piece<Row> for WordsRows {
     }
 }
 
-/// Adds the line of a row. `Err` means out of memory.
+// Adds the line of a row. `Err` means out of memory.
 #[tactic(auto, unfolding(crate::specs::Words::words_row))]
 fn push_words_row(line: &mut Vec<u8>, row: &Row) -> Result<(), AllocError>
     requires { IsRow row.now }
@@ -58,7 +58,7 @@ fn push_words_row(line: &mut Vec<u8>, row: &Row) -> Result<(), AllocError>
     Ok(())
 }
 
-/// Adds number, kind, verdict and author, with a space behind each. `Err` means out of memory.
+// Adds number, kind, verdict and author, with a space behind each. `Err` means out of memory.
 #[tactic(auto, unfolding(crate::specs::Words::words_columns))]
 fn push_words_columns(line: &mut Vec<u8>, row: &Row) -> Result<(), AllocError>
     requires { IsRow row.now }
@@ -72,7 +72,7 @@ fn push_words_columns(line: &mut Vec<u8>, row: &Row) -> Result<(), AllocError>
     Ok(())
 }
 
-/// Adds number and kind, with a space behind each. `Err` means out of memory.
+// Adds number and kind, with a space behind each. `Err` means out of memory.
 #[tactic(auto, unfolding(crate::specs::Words::numbered_columns))]
 fn push_numbered_columns(line: &mut Vec<u8>, row: &Row) -> Result<(), AllocError>
     requires { IsRow row.now }
@@ -85,7 +85,7 @@ fn push_numbered_columns(line: &mut Vec<u8>, row: &Row) -> Result<(), AllocError
     Ok(())
 }
 
-/// Adds an author in 13 places. `Err` means out of memory.
+// Adds an author in 13 places. `Err` means out of memory.
 fn push_author(line: &mut Vec<u8>, author: &[u8]) -> Result<(), AllocError>
     ensures { OnOk result (line.new.items ≡ line.old.items ++ in_places 13 (shortened 12 (map shown author.now))) }
 {
@@ -99,7 +99,7 @@ fn push_author(line: &mut Vec<u8>, author: &[u8]) -> Result<(), AllocError>
     Ok(())
 }
 
-/// Adds the words in their paragraph. `Err` means out of memory.
+// Adds the words in their paragraph. `Err` means out of memory.
 #[tactic(auto, unfolding(crate::specs::Words::quoted))]
 fn push_quoted(line: &mut Vec<u8>, row: &Row) -> Result<(), AllocError>
     ensures { OnOk result (line.new.items ≡ line.old.items ++ quoted row.now) }
@@ -112,7 +112,7 @@ fn push_quoted(line: &mut Vec<u8>, row: &Row) -> Result<(), AllocError>
     Ok(())
 }
 
-/// Adds the last 11 characters, with dots for those before. `Err` means out of memory.
+// Adds the last 11 characters, with dots for those before. `Err` means out of memory.
 fn push_near_end(line: &mut Vec<u8>, text: &[u8]) -> Result<(), AllocError>
     ensures { OnOk result (line.new.items ≡ line.old.items ++ map shown (near_end text.now)) }
 {
@@ -125,7 +125,7 @@ fn push_near_end(line: &mut Vec<u8>, text: &[u8]) -> Result<(), AllocError>
     Ok(())
 }
 
-/// Adds the first characters, with dots for the rest. `Err` means out of memory.
+// Adds the first characters, with dots for the rest. `Err` means out of memory.
 fn push_shortened(line: &mut Vec<u8>, text: &[u8], room: u8) -> Result<(), AllocError>
     ensures { OnOk result (line.new.items ≡ line.old.items ++ map shown (shortened room text.now)) }
 {
@@ -134,7 +134,7 @@ fn push_shortened(line: &mut Vec<u8>, text: &[u8], room: u8) -> Result<(), Alloc
     Ok(())
 }
 
-/// Adds who said what, where that is disputed. `Err` means out of memory.
+// Adds who said what, where that is disputed. `Err` means out of memory.
 fn push_says(line: &mut Vec<u8>, verdict: Verdict, says: &Says) -> Result<(), AllocError>
     ensures { OnOk result (line.new.items ≡ line.old.items ++ says_text verdict says.now) }
 {
@@ -163,7 +163,7 @@ fn push_said(line: &mut Vec<u8>, said: &LastWord) -> Result<(), AllocError>
     Ok(())
 }
 
-/// The sign before the words of a revision.
+// The sign before the words of a revision.
 fn opening(kind: RevKind) -> &'static str
     ensures { result.now ≡ opening kind }
 {
@@ -188,7 +188,7 @@ fn opening_of(trace: Trace) -> &'static str
     }
 }
 
-/// The sign behind the words of a revision.
+// The sign behind the words of a revision.
 fn closing(kind: RevKind) -> &'static str
     ensures { result.now ≡ closing kind }
 {

@@ -92,7 +92,7 @@ pub(crate) fn last_of_idle(plain: &Plain<'_>, above: Summary) -> Option<u8>
     }
 }
 
-/// The last byte of the text so far.
+// The last byte of the text so far.
 #[derive(Clone, Copy)]
 struct Last {
     byte: Option<u8>,

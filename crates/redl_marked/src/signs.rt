@@ -35,7 +35,7 @@ pub(crate) fn put_end_sign<K: Sink>(elem: &Elem, out: &mut K) -> Result<(), Fail
     }
 }
 
-/// How a sign begins.
+// How a sign begins.
 fn sign_begin(trace: Trace) -> &'static [u8]
     ensures { result.now ≡ sign_begin_of trace }
 {

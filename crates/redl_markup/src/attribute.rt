@@ -33,7 +33,7 @@ fn quote(bytes: &[u8]) -> Option<(u8, &[u8])>
     }
 }
 
-/// A `=` in white space and the quote behind it, and the bytes after the quote.
+// A `=` in white space and the quote behind it, and the bytes after the quote.
 #[tactic(auto, unfolding(crate::specs::ScanTags::opening_at))]
 #[inline(always)]
 fn opening(bytes: &[u8]) -> Option<(u8, &[u8])>
@@ -53,7 +53,7 @@ pub(crate) fn equated(bytes: &[u8]) -> Option<(&[u8], &[u8])>
     field(more, quote)
 }
 
-/// Whether a value has neither `<` nor `&`, and so needs no further test.
+// Whether a value has neither `<` nor `&`, and so needs no further test.
 fn is_plain(bytes: &[u8]) -> bool
     ensures { result ≡ list_all is_plain bytes.now }
 {
@@ -73,7 +73,7 @@ fn is_value(bytes: &[u8]) -> bool
     is_plain(bytes) || has_no_tag(bytes) && are_references(bytes)
 }
 
-/// A value before this quote, and the bytes after the quote, if the value needs no test of its own. Most values are so.
+// A value before this quote, and the bytes after the quote, if the value needs no test of its own. Most values are so.
 #[inline(always)]
 fn plain_value(bytes: &[u8], quote: u8) -> Option<(&[u8], &[u8])>
     ensures { IfSome result (λ x. (field_at quote bytes.now ≡ Some (x.0.now, x.1.now)) × (is_value x.0.now ≡ true)) }
@@ -83,7 +83,7 @@ fn plain_value(bytes: &[u8], quote: u8) -> Option<(&[u8], &[u8])>
     Some((value, rest))
 }
 
-/// A value with its `=`, and the bytes after it.
+// A value with its `=`, and the bytes after it.
 #[inline(always)]
 fn value(bytes: &[u8]) -> Option<(&[u8], &[u8])>
     ensures { Gives (λ x. (x.0.now, x.1.now)) result (value_at bytes.now) }
@@ -119,7 +119,7 @@ pub(crate) fn attribute_behind<'a>(gap: &[u8], bytes: &'a [u8]) -> Option<(Attri
     attribute_behind_gap(bytes)
 }
 
-/// The first attribute of a tail with the white space before it, and what is left of the tail.
+// The first attribute of a tail with the white space before it, and what is left of the tail.
 #[tactic(auto, unfolding(crate::specs::ScanTags::attribute_in))]
 fn first_attribute(tail: &[u8]) -> Option<(Attribute<'_>, &[u8])>
     ensures { Gives (λ x. (attribute_view x.0, x.1.now)) result (attribute_in tail.now) }

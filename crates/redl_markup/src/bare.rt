@@ -87,7 +87,7 @@ pub enum BarePiece<'a> {
     Stretch(&'a [u8]),
 }
 
-/// The bytes after the attributes of a tag and their white space.
+// The bytes after the attributes of a tag and their white space.
 fn attributes_end(bytes: &[u8]) -> Option<&[u8]>
     ensures { Gives (λ rest. rest.now) result (attributes_end bytes.now) }
 {
@@ -104,7 +104,7 @@ fn attributes_end(bytes: &[u8]) -> Option<&[u8]>
     }
 }
 
-/// The bytes after a tail that is known to be there.
+// The bytes after a tail that is known to be there.
 fn known_tail(bytes: &[u8]) -> Option<&[u8]>
     requires { is_there (tail_at bytes.now) ≡ true }
     ensures { Gives (λ end. (before bytes.now end.now, end.now)) result (tail_at bytes.now) }
@@ -112,7 +112,7 @@ fn known_tail(bytes: &[u8]) -> Option<&[u8]>
     attributes_end(bytes)
 }
 
-/// A start tag or an empty element's tag that is known to be there, given the bytes after its `<`.
+// A start tag or an empty element's tag that is known to be there, given the bytes after its `<`.
 #[tactic(auto, unfolding(crate::specs::ScanTags::tag_at))]
 fn known_tag(bytes: &[u8]) -> Option<(BarePiece<'_>, &[u8])>
     requires { is_there (tag_at bytes.now) ≡ true }

@@ -40,7 +40,7 @@ fn is_plain_byte(b: u8) -> bool
     b >= 0x20 && b != 0xEF || matches!(b, b'\t' | b'\n' | b'\r')
 }
 
-/// The same of 64 bytes, all at a time.
+// The same of 64 bytes, all at a time.
 #[inline(always)]
 fn is_plain_block(block: u8x64) -> bool
     ensures { result ≡ list_all is_plain_byte block }
@@ -52,7 +52,7 @@ fn is_plain_block(block: u8x64) -> bool
     !(is_control | block.simd_eq(u8x64::splat(0xEF))).any()
 }
 
-/// Whether no byte begins a forbidden character: no control character, and not the first byte of U+FFFE and U+FFFF.
+// Whether no byte begins a forbidden character: no control character, and not the first byte of U+FFFE and U+FFFF.
 fn has_plain_bytes(bytes: &[u8]) -> bool
     ensures { result ≡ list_all is_plain_byte bytes.now }
 {

@@ -12,7 +12,7 @@ use crate::place::Place;
 use crate::space::spaces;
 use redl_reading::skip;
 
-/// White space, a word, a `=` and a text between quotes: that text, and the bytes after it.
+// White space, a word, a `=` and a text between quotes: that text, and the bytes after it.
 #[tactic(auto, unfolding(crate::specs::ScanStretches::setting_at))]
 fn setting<'a>(bytes: &'a [u8], word: &[u8]) -> Option<(&'a [u8], &'a [u8])>
     ensures { Gives (λ x. (x.0.now, x.1.now)) result (setting_at word.now bytes.now) }
@@ -61,7 +61,7 @@ fn version(bytes: &[u8]) -> Option<&[u8]>
     if is_version(value) { Some(rest) } else { None }
 }
 
-/// The bytes after the encoding, which is optional.
+// The bytes after the encoding, which is optional.
 fn encoding(bytes: &[u8]) -> Option<&[u8]>
     ensures { Gives (λ rest. rest.now) result (optional_after is_encoding bytes.now (setting_at (codes "encoding") bytes.now)) }
 {
@@ -72,7 +72,7 @@ fn encoding(bytes: &[u8]) -> Option<&[u8]>
     }
 }
 
-/// The bytes after the `standalone` setting, which is optional.
+// The bytes after the `standalone` setting, which is optional.
 fn standalone(bytes: &[u8]) -> Option<&[u8]>
     ensures { Gives (λ rest. rest.now) result (optional_after is_standalone bytes.now (setting_at (codes "standalone") bytes.now)) }
 {
@@ -83,7 +83,7 @@ fn standalone(bytes: &[u8]) -> Option<&[u8]>
     }
 }
 
-/// The bytes after an XML declaration.
+// The bytes after an XML declaration.
 #[tactic(auto, unfolding(crate::specs::ScanStretches::declaration_at))]
 fn declaration(bytes: &[u8]) -> Option<&[u8]>
     ensures { Gives (λ rest. rest.now) result (declaration_at bytes.now) }

@@ -9,17 +9,17 @@ use crate::name::Name;
 use std::alloc::{AllocError, Global};
 use std::collections::BTreeSet;
 
-/// Up to this many names are compared pairwise, without making a set.
+// Up to this many names are compared pairwise, without making a set.
 const FEW: usize = 8;
 
-/// Whether two names are written alike. Names of one tag mostly differ in the local parts.
+// Whether two names are written alike. Names of one tag mostly differ in the local parts.
 fn are_alike(a: Name<'_>, b: Name<'_>) -> bool
     ensures { result ≡ name_eq (name_view a.entry) (name_view b.entry) }
 {
     a.local == b.local && a.prefix == b.prefix
 }
 
-/// Whether a name is written differently from all the others.
+// Whether a name is written differently from all the others.
 #[inline(always)]
 fn is_unlike<'a>(name: Name<'a>, others: &[Name<'a>]) -> bool
     ensures { result ≡ list_all (λ m. not (name_eq (name_view name.entry) m)) (map name_view others.now) }

@@ -10,7 +10,7 @@ use crate::space::is_space;
 use crate::word::word;
 use redl_reading::{past, skip};
 
-/// The bytes after a comment, given those after its `<!--`.
+// The bytes after a comment, given those after its `<!--`.
 #[tactic(auto, unfolding(crate::specs::ScanStretches::comment_at))]
 fn comment(bytes: &[u8]) -> Option<&[u8]>
     ensures { Gives (λ rest. rest.now) result (comment_at bytes.now) }
@@ -34,7 +34,7 @@ fn begins_with_space(bytes: &[u8]) -> bool
     }
 }
 
-/// The bytes after an instruction, given those after its name.
+// The bytes after an instruction, given those after its name.
 #[tactic(auto, unfolding(crate::specs::ScanStretches::instruction_end))]
 fn instruction_end(bytes: &[u8]) -> Option<&[u8]>
     ensures { Gives (λ rest. rest.now) result (instruction_end bytes.now) }
@@ -46,7 +46,7 @@ fn instruction_end(bytes: &[u8]) -> Option<&[u8]>
     }
 }
 
-/// The bytes after an instruction, given those after its `<?`.
+// The bytes after an instruction, given those after its `<?`.
 #[tactic(auto, unfolding(crate::specs::ScanStretches::instruction_at))]
 fn instruction(bytes: &[u8]) -> Option<&[u8]>
     ensures { Gives (λ rest. rest.now) result (instruction_at bytes.now) }
@@ -58,7 +58,7 @@ fn instruction(bytes: &[u8]) -> Option<&[u8]>
     instruction_end(rest)
 }
 
-/// The bytes after a CDATA section, given those after its `<![CDATA[`.
+// The bytes after a CDATA section, given those after its `<![CDATA[`.
 fn cdata(bytes: &[u8], place: Place) -> Option<&[u8]>
     ensures { Gives (λ rest. rest.now) result (cdata_at place bytes.now) }
 {

@@ -7,7 +7,7 @@ ghost use Rattle.redl_markup.specs.Inside.Near.{plain_in};
 use redl_reading::{before, run};
 use std::simd::prelude::*;
 
-/// How many bytes of a block come before the first of three bytes.
+// How many bytes of a block come before the first of three bytes.
 #[inline(always)]
 fn plain_front(block: u8x16, a: u8, b: u8, c: u8) -> usize
     ensures { result ≡ plain_in a b c block }
@@ -33,7 +33,7 @@ pub(crate) fn near_until_any(bytes: &[u8], a: u8, b: u8, c: u8) -> (&[u8], &[u8]
     (before(bytes, rest), rest)
 }
 
-/// The bytes from the first of three bytes on.
+// The bytes from the first of three bytes on.
 #[inline(always)]
 fn near_rest(bytes: &[u8], a: u8, b: u8, c: u8) -> &[u8]
     ensures { result.now ≡ after (is_none_of a b c) bytes.now }

@@ -47,7 +47,7 @@ fn is_run(bytes: &[u8], place: Place) -> bool
     }
 }
 
-/// The bytes after runs and items.
+// The bytes after runs and items.
 fn end_of_items(bytes: &[u8], place: Place) -> Option<&[u8]>
     ensures { Gives (λ rest. rest.now) result (items_end place bytes.now) }
 {
@@ -64,7 +64,7 @@ fn end_of_items(bytes: &[u8], place: Place) -> Option<&[u8]>
     }
 }
 
-/// A stretch in an element that is text without references and `]`.
+// A stretch in an element that is text without references and `]`.
 fn plain_stretch(bytes: &[u8]) -> Option<(&[u8], &[u8])>
     ensures { IfSome result (λ x. stretch_at InElement bytes.now ≡ Some (a_stretch x.0.now, x.1.now)) }
 {
@@ -75,7 +75,7 @@ fn plain_stretch(bytes: &[u8]) -> Option<(&[u8], &[u8])>
     Some((text, rest))
 }
 
-/// Whether a stretch may end before these bytes: they are empty, or begin with a tag.
+// Whether a stretch may end before these bytes: they are empty, or begin with a tag.
 fn ends_stretch(bytes: &[u8]) -> bool
     ensures { result ≡ ends_stretch bytes.now }
 {

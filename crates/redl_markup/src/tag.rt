@@ -29,7 +29,7 @@ pub(crate) fn is_at_end(bytes: &[u8]) -> bool
     matches!(bytes, [b'>' | b'/', ..])
 }
 
-/// The names of a tag's attributes, and the bytes after the attributes and their white space.
+// The names of a tag's attributes, and the bytes after the attributes and their white space.
 #[inline(always)]
 fn attributes<'a>(
     list: Vec<Name<'a>>,
@@ -53,7 +53,7 @@ fn attributes<'a>(
     }
 }
 
-/// The names of the attributes of a tail, and the bytes after the tail.
+// The names of the attributes of a tail, and the bytes after the tail.
 #[tactic(auto, unfolding(crate::specs::ScanTags::tail_at))]
 #[inline(always)]
 fn tail<'a>(

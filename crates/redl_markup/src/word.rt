@@ -35,7 +35,7 @@ fn decoded_char(bytes: &[u8]) -> Option<(char, &[u8])>
     Some((c, rest))
 }
 
-/// The first character. An ASCII byte is a character, so few are decoded.
+// The first character. An ASCII byte is a character, so few are decoded.
 #[tactic(auto, using(crate::proofs::Names::ascii_again))]
 fn first_char(bytes: &[u8]) -> Option<(char, &[u8])>
     ensures { Gives (λ x. (x.0, x.1.now)) result (char_at bytes.now) }
@@ -59,7 +59,7 @@ fn behind_start_char(bytes: &[u8], colons: bool) -> Option<&[u8]>
     }
 }
 
-/// The bytes after the first character of a name. Most are ASCII letters, so few are decoded.
+// The bytes after the first character of a name. Most are ASCII letters, so few are decoded.
 #[tactic(auto, using(crate::proofs::Names::letter_starts))]
 #[inline(always)]
 fn behind_start(bytes: &[u8], colons: bool) -> Option<&[u8]>
@@ -84,7 +84,7 @@ fn is_name_byte(b: u8, colons: bool) -> bool
     }
 }
 
-/// The bytes after the leading ASCII characters of a name.
+// The bytes after the leading ASCII characters of a name.
 #[inline(always)]
 fn after_name_bytes(bytes: &[u8], colons: bool) -> &[u8]
     ensures { result.now ≡ after (is_name_byte colons) bytes.now }
@@ -92,7 +92,7 @@ fn after_name_bytes(bytes: &[u8], colons: bool) -> &[u8]
     run(bytes, |b| is_name_byte(b, colons)).1
 }
 
-/// The bytes after the leading name characters. Most are ASCII, so few are decoded.
+// The bytes after the leading name characters. Most are ASCII, so few are decoded.
 #[inline(always)]
 fn end_of_name(bytes: &[u8], colons: bool) -> &[u8]
     ensures { name_end colons bytes.now ≡ Some result.now }
@@ -107,7 +107,7 @@ fn end_of_name(bytes: &[u8], colons: bool) -> &[u8]
     end_of_characters(rest, colons)
 }
 
-/// The same, decoding one character at a time.
+// The same, decoding one character at a time.
 #[cold]
 fn end_of_characters(bytes: &[u8], colons: bool) -> &[u8]
     ensures { name_end colons bytes.now ≡ Some result.now }

@@ -24,7 +24,7 @@ pub(crate) struct MarkerIndex<'a> {
 }
 
 impl Key {
-    /// The key of a marker of this kind; of another kind it has none.
+    // The key of a marker of this kind; of another kind it has none.
     fn of<'a>(self, kind: MarkerKind, mark: &'a Marker) -> Option<&'a [u8]>
         ensures { option_map (λ key. key.now) result ≡ key_of self (edge_of kind) (marking_of mark.now) }
     {
@@ -61,7 +61,7 @@ impl<'a> MarkerIndex<'a> {
         Ok(index)
     }
 
-    /// One more marker has this key. `Err` means out of memory.
+    // One more marker has this key. `Err` means out of memory.
     fn note(&mut self, key: &'a [u8], place: u32) -> Result<(), AllocError>
         ensures { OnOk result ((other : List ℕ) → at_key self.new other ≡ noted_key key.now other place (at_key self.old other)) }
     {
@@ -70,7 +70,7 @@ impl<'a> MarkerIndex<'a> {
         Ok(())
     }
 
-    /// The place of the only marker with this key, once this place has it too.
+    // The place of the only marker with this key, once this place has it too.
     fn only_with(&self, key: &'a [u8], place: u32) -> Option<u32>
         ensures { Some result ≡ noted place (at_key self.now key.now) }
     {

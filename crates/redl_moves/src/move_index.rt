@@ -41,7 +41,7 @@ impl MoveIndex {
         index
     }
 
-    /// The index of markers whose ranges are these. `Err` means out of memory.
+    // The index of markers whose ranges are these. `Err` means out of memory.
     fn by_ranges<'a>(
         alloc: Global,
         marks: &'a [Marker],
@@ -60,7 +60,7 @@ impl MoveIndex {
         })
     }
 
-    /// The index of a story without markers. It takes no memory.
+    // The index of a story without markers. It takes no memory.
     fn empty(alloc: Global) -> MoveIndex
         ensures { IsMoveIndex [] result }
     {

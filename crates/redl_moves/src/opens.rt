@@ -20,7 +20,7 @@ pub enum Side {
 }
 
 impl Side {
-    /// The kind of the starts of its ranges.
+    // The kind of the starts of its ranges.
     fn start(self) -> MarkerKind
         ensures { edge_of result ≡ start_of self }
     {
@@ -30,7 +30,7 @@ impl Side {
         }
     }
 
-    /// Whether the range of a move that has begun is still open after so many markers.
+    // Whether the range of a move that has begun is still open after so many markers.
     fn is_open(self, begun: Move, place: u32) -> bool
         ensures { result ≡ is_open_at self place (move_of begun) }
     {
@@ -66,7 +66,7 @@ pub(crate) fn open_moves<'a>(
     Ok(opens)
 }
 
-/// The last of the moves whose range is still open. Those after it are over, and are taken off. `Err` means out of memory.
+// The last of the moves whose range is still open. Those after it are over, and are taken off. `Err` means out of memory.
 fn last_open(begun: &mut Vec<Move>, side: Side, place: u32) -> Result<Option<Move>, AllocError>
     ensures last { IfOk result (λ found. option_map move_of found ≡ find_last (is_open_at side place) (map move_of begun.old.items)) }
     ensures alike { OnOk result (OpenAlike side place (map move_of begun.new.items) (map move_of begun.old.items)) }

@@ -27,7 +27,7 @@ pub(crate) fn owners(
     Ok(owners)
 }
 
-/// Adds the four markers of a move. `Err` means out of memory.
+// Adds the four markers of a move. `Err` means out of memory.
 fn add_owner(
     owners: &mut IndexMap<u64, Start>,
     marks: &[Marker],
@@ -43,7 +43,7 @@ fn add_owner(
     keep_first(owners, position(marks, paired.to_end), start)
 }
 
-/// Notes a start at a position that has none yet. `Err` means out of memory.
+// Notes a start at a position that has none yet. `Err` means out of memory.
 fn keep_first(owners: &mut IndexMap<u64, Start>, at: u64, start: Start) -> Result<(), AllocError>
     ensures { OnOk result ((other : ℕ) → get nat_eq owners.new other ≡ first_owner (other == at) start (get nat_eq owners.old other)) }
 {

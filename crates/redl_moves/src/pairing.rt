@@ -76,7 +76,7 @@ pub(crate) fn move_begun<'a>(
     }
 }
 
-/// The move of a name.
+// The move of a name.
 fn move_with_name<'a>(name: &'a [u8], ranges: &RangeIndexes<'a>) -> Option<Move>
     ensures { (marks : List Marking) → AreRangeIndexes marks ranges.now → option_map move_of result ≡ move_with_name marks name.now }
 {

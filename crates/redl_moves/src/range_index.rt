@@ -47,7 +47,7 @@ impl<'a> RangeIndexes<'a> {
 }
 
 impl<'a> RangeIndex<'a> {
-    /// The ranges of these starts and ends. `Err` means out of memory.
+    // The ranges of these starts and ends. `Err` means out of memory.
     fn of(
         alloc: Global,
         marks: &'a [Marker],
@@ -73,7 +73,7 @@ impl<'a> RangeIndex<'a> {
         self.range_with_id(named.id.as_bytes())
     }
 
-    /// The range with this id.
+    // The range with this id.
     fn range_with_id(&self, id: &'a [u8]) -> Option<Range>
         ensures { (start end : Edge) (marks : List Marking) → IsRangeIndex start end marks self.now → option_map span_of result ≡ span_with_id start end marks id.now }
     {

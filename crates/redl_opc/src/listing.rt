@@ -16,7 +16,7 @@ use redl_stamp::attribute;
 use redl_tree::{Elem, Node};
 use std::alloc::{AllocError, Global};
 
-/// The decoded name in a part's tag. Without a name it is the empty text.
+// The decoded name in a part's tag. Without a name it is the empty text.
 fn name_of(alloc: Global, elem: &Elem) -> Result<Text, AllocError>
     ensures value { IfOk result (λ name. name ≡ name_in (tag_of elem.now)) }
     ensures utf8 { IsUtf8 (tag_of elem.now).tail → IfOk result IsUtf8 }

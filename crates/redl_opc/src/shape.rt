@@ -27,7 +27,7 @@ fn holds_data(elem: &Elem) -> bool
     }
 }
 
-/// Whether an element is a part, with a name, a content type and one element of data.
+// Whether an element is a part, with a name, a content type and one element of data.
 fn is_part(elem: &Elem) -> bool
     ensures { result ≡ is_part (element_of elem.now) }
 {

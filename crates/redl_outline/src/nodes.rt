@@ -4,7 +4,7 @@ use crate::words::Start;
 use redl_tree::{Around, Elem, Kind, Node, Space, Tag};
 use std::alloc::{AllocError, Global};
 
-/// An element whose kids are still to come, with those that came, and what it and its ancestors are to them.
+// An element whose kids are still to come, with those that came, and what it and its ancestors are to them.
 #[derive(Drop)]
 struct Open<'a> {
     elem: Elem<'a>,

@@ -244,7 +244,7 @@ fn is_block(elem: &Elem) -> bool
     is_word(elem, Word::P) || is_word(elem, Word::Tbl) || is_other_form(elem)
 }
 
-/// Whether there is such an element at some depth.
+// Whether there is such an element at some depth.
 #[cycle(blocks)]
 fn holds_blocks(nodes: &[Node]) -> bool
     ensures { result ≡ holds_blocks (nodes_of nodes.now) }

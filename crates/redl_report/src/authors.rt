@@ -48,7 +48,7 @@ pub(crate) fn add_authors_by_kind(
     Ok(())
 }
 
-/// Adds the line of an author with these revisions, and one for each kind of them. `Err` means out of memory.
+// Adds the line of an author with these revisions, and one for each kind of them. `Err` means out of memory.
 fn add_author(
     alloc: Global,
     name: &[u8],
@@ -64,7 +64,7 @@ fn add_author(
     add_kinds(alloc, &KINDS, name, own, book, lines)
 }
 
-/// The line of an author with these revisions. `Err` means out of memory.
+// The line of an author with these revisions. `Err` means out of memory.
 fn author_line(
     alloc: Global,
     name: &[u8],

@@ -42,7 +42,7 @@ pub(crate) fn by_author(
     Ok(groups)
 }
 
-/// Adds a thing at the end of the group of its name. `Err` means out of memory.
+// Adds a thing at the end of the group of its name. `Err` means out of memory.
 fn add_item<'a, T>(
     alloc: Global,
     groups: &mut Groups<'a, T>,

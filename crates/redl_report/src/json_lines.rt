@@ -31,7 +31,7 @@ impl Piece<ReportLine> for JsonLines {
     }
 }
 
-/// The bytes, and the object of a line after them.
+// The bytes, and the object of a line after them.
 fn json_line(piece: Vec<u8>, line: &ReportLine) -> Result<Vec<u8>, AllocError>
     requires { IsLine line.now }
     ensures { IfOk result (λ more. more.items ≡ piece.items ++ json_line line.now) }
@@ -49,7 +49,7 @@ fn json_line(piece: Vec<u8>, line: &ReportLine) -> Result<Vec<u8>, AllocError>
     Ok(object.into_inner())
 }
 
-/// Writes the member that is the kind that a line is about, if it is about one. `Err` means out of memory.
+// Writes the member that is the kind that a line is about, if it is about one. `Err` means out of memory.
 fn put_kind(object: &mut Writer, role: Role) -> Result<(), AllocError>
     requires { HasKindName role }
     ensures written { OnOk result (object.new.tokens ≡ object.old.tokens ++ kind_tokens role) }

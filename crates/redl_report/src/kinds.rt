@@ -57,7 +57,7 @@ pub(crate) fn add_kinds(
     Ok(())
 }
 
-/// The line of an author with these revisions for those of one kind. `Err` means out of memory.
+// The line of an author with these revisions for those of one kind. `Err` means out of memory.
 fn kind_line(
     alloc: Global,
     kind: RevKind,
@@ -77,7 +77,7 @@ fn kind_line(
     Ok(line)
 }
 
-/// Whether two kinds are the same.
+// Whether two kinds are the same.
 fn is_same_kind(one: RevKind, other: RevKind) -> bool
     ensures { result ≡ is_same_kind one other }
 {

@@ -61,7 +61,7 @@ pub fn report(
     Ok(true)
 }
 
-/// Gives the format the lines. `Err` means out of memory.
+// Gives the format the lines. `Err` means out of memory.
 fn add_lines(format: &mut Box<dyn ReportFormat>, lines: &[ReportLine]) -> Result<(), AllocError>
     requires names { All IsLine lines.now }
     requires open { is_ended format.old ≡ false }
@@ -88,7 +88,7 @@ fn add_line(format: &mut Box<dyn ReportFormat>, line: &ReportLine) -> Result<(),
     }
 }
 
-/// Closes the format, and adds its text to what was made. `Err` means out of memory.
+// Closes the format, and adds its text to what was made. `Err` means out of memory.
 fn finish(format: &mut Box<dyn ReportFormat>, made: &mut Vec<u8>) -> Result<(), AllocError>
     requires { is_ended format.old ≡ false }
     ensures text { OnOk result (made.new.items ≡ made.old.items ++ report_text format.old (lines_so_far format.old) true) }

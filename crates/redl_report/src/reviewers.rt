@@ -32,7 +32,7 @@ pub(crate) fn add_reviewers(
     Ok(())
 }
 
-/// The line of a reviewer with these entries, over so many revisions. `Err` means out of memory.
+// The line of a reviewer with these entries, over so many revisions. `Err` means out of memory.
 fn reviewer_line(
     alloc: Global,
     count: u32,
@@ -52,7 +52,7 @@ fn reviewer_line(
     Ok(line)
 }
 
-/// The book of these entries alone. `Err` means out of memory.
+// The book of these entries alone. `Err` means out of memory.
 fn own_book(alloc: Global, own: &[&Entry]) -> Result<Book, AllocError>
     requires book { IsBook (map deref own.now) }
     requires allowed { All IsAllowed (map deref own.now) }
@@ -65,7 +65,7 @@ fn own_book(alloc: Global, own: &[&Entry]) -> Result<Book, AllocError>
     Ok(book)
 }
 
-/// The numbers of the revisions that the entries are on, of so many. `Err` means out of memory.
+// The numbers of the revisions that the entries are on, of so many. `Err` means out of memory.
 fn own_revisions(alloc: Global, count: u32, own: &[&Entry]) -> Result<BTreeSet<u32>, AllocError>
     ensures { IfOk result (λ numbers. numbers.keys ≡ revisions_on count (map deref own.now)) }
 {
@@ -78,7 +78,7 @@ fn own_revisions(alloc: Global, count: u32, own: &[&Entry]) -> Result<BTreeSet<u
     Ok(numbers)
 }
 
-/// Whether one of so many revisions has this number.
+// Whether one of so many revisions has this number.
 fn is_number(count: u32, number: u32) -> bool
     ensures { result ≡ is_number count number }
 {

@@ -56,7 +56,7 @@ impl TableReport {
         })
     }
 
-    /// Adds a line. `Err` means out of memory, and then the format is as before.
+    // Adds a line. `Err` means out of memory, and then the format is as before.
     fn add(&mut self, line: &ReportLine) -> Result<(), AllocError>
         requires open { self.old.closed ≡ false }
         requires line { IsLine line.now }

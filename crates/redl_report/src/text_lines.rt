@@ -53,7 +53,7 @@ pub(crate) fn label(line: &ReportLine) -> &[u8]
     }
 }
 
-/// Adds the line's text. `Err` means out of memory.
+// Adds the line's text. `Err` means out of memory.
 #[tactic(auto, unfolding(crate::specs::Texts::text_line))]
 fn push_text_line(text: &mut Vec<u8>, line: &ReportLine) -> Result<(), AllocError>
     requires { IsLine line.now }
@@ -67,7 +67,7 @@ fn push_text_line(text: &mut Vec<u8>, line: &ReportLine) -> Result<(), AllocErro
     Ok(())
 }
 
-/// Adds the four counts, each with a space after it. `Err` means out of memory.
+// Adds the four counts, each with a space after it. `Err` means out of memory.
 #[tactic(auto, unfolding(crate::specs::Texts::count_columns))]
 fn push_counts(text: &mut Vec<u8>, line: &ReportLine) -> Result<(), AllocError>
     ensures { OnOk result (text.new.items ≡ text.old.items ++ count_columns line.now) }
@@ -79,7 +79,7 @@ fn push_counts(text: &mut Vec<u8>, line: &ReportLine) -> Result<(), AllocError>
     Ok(())
 }
 
-/// Adds a count, with a space after it. `Err` means out of memory.
+// Adds a count, with a space after it. `Err` means out of memory.
 fn push_count(text: &mut Vec<u8>, count: u32) -> Result<(), AllocError>
     ensures { OnOk result (text.new.items ≡ text.old.items ++ count_column count) }
 {

@@ -32,7 +32,7 @@ impl Totals {
         }
     }
 
-    /// With the revisions of a line more. No memory holds so many lines that they do not fit.
+    // With the revisions of a line more. No memory holds so many lines that they do not fit.
     fn with_counts(self, line: &ReportLine) -> Result<Totals, AllocError>
         ensures { IfOk result (λ totals. totals ≡ with_counts self line.now) }
     {
@@ -82,7 +82,7 @@ pub(crate) fn last_line(alloc: Global, totals: Totals) -> Result<Vec<u8>, AllocE
     table_row(alloc, "all", totals, b"revisions")
 }
 
-/// Columns with whom a line is about, its counts and a name. `Err` means out of memory.
+// Columns with whom a line is about, its counts and a name. `Err` means out of memory.
 #[tactic(auto, unfolding(crate::specs::Tables::table_row))]
 fn table_row(alloc: Global, first: &str, counts: Totals, last: &[u8]) -> Result<Vec<u8>, AllocError>
     ensures { IfOk result (λ text. text.items ≡ table_row first.now counts last.now) }
@@ -96,7 +96,7 @@ fn table_row(alloc: Global, first: &str, counts: Totals, last: &[u8]) -> Result<
     Ok(text)
 }
 
-/// Adds four counts, each with a space after it. `Err` means out of memory.
+// Adds four counts, each with a space after it. `Err` means out of memory.
 #[tactic(auto, unfolding(crate::specs::Tables::cells))]
 fn push_cells(text: &mut Vec<u8>, counts: Totals) -> Result<(), AllocError>
     ensures { OnOk result (text.new.items ≡ text.old.items ++ cells counts) }
@@ -108,7 +108,7 @@ fn push_cells(text: &mut Vec<u8>, counts: Totals) -> Result<(), AllocError>
     Ok(())
 }
 
-/// Adds a count, with a space after it. `Err` means out of memory.
+// Adds a count, with a space after it. `Err` means out of memory.
 fn push_cell(text: &mut Vec<u8>, count: u64) -> Result<(), AllocError>
     ensures { OnOk result (text.new.items ≡ text.old.items ++ cell count) }
 {

@@ -28,7 +28,7 @@ pub fn choose(alloc: Global, index: &Index, sel: &Selection) -> Result<Vec<u32>,
     }
 }
 
-/// What the items list in a package with so many revisions, in the order of the numbers, each once.
+// What the items list in a package with so many revisions, in the order of the numbers, each once.
 fn in_order(alloc: Global, count: u32, listed: &[Listed]) -> Result<Vec<u32>, AllocError>
     ensures value { IfOk result (λ numbers. numbers.items ≡ in_order (flat_map (listed_by count) listed.now)) }
     ensures ascending { IfOk result (λ numbers. IsStrictlySortedBy nat_cmp numbers.items) }
@@ -40,7 +40,7 @@ fn in_order(alloc: Global, count: u32, listed: &[Listed]) -> Result<Vec<u32>, Al
     numbers.into_iter().collect(alloc)
 }
 
-/// Adds what an item lists in a package with so many revisions.
+// Adds what an item lists in a package with so many revisions.
 fn add_listed(numbers: &mut BTreeSet<u32>, count: u32, item: Listed) -> Result<(), AllocError>
     requires ordered { IsStrictlySortedBy nat_cmp numbers.old.keys }
     ensures value { OnOk result (numbers.new.keys ≡ fold (insert_key nat_cmp) numbers.old.keys (listed_by count item)) }
@@ -60,7 +60,7 @@ fn add_listed(numbers: &mut BTreeSet<u32>, count: u32, item: Listed) -> Result<(
     Ok(())
 }
 
-/// Adds the numbers from the first to the last.
+// Adds the numbers from the first to the last.
 fn add_between(numbers: &mut BTreeSet<u32>, first: u32, last: u32) -> Result<(), AllocError>
     requires some { first ≤ last }
     requires ordered { IsStrictlySortedBy nat_cmp numbers.old.keys }
@@ -74,7 +74,7 @@ fn add_between(numbers: &mut BTreeSet<u32>, first: u32, last: u32) -> Result<(),
     Ok(())
 }
 
-/// The numbers of the revisions that the selection means.
+// The numbers of the revisions that the selection means.
 fn numbers_of_selected(
     alloc: Global,
     index: &Index,
@@ -92,7 +92,7 @@ fn numbers_of_selected(
     Ok(numbers)
 }
 
-/// Whether the selection means the revision with this number.
+// Whether the selection means the revision with this number.
 fn selects_number(index: &Index, sel: &Selection, number: u32) -> bool
     requires { number ≤ length index.now }
     ensures { (revision : Revision) → slice_get index.now (number - 1) ≡ Some revision → 0 < number → result ≡ selects (selection_of sel.now) revision }
@@ -115,14 +115,14 @@ pub fn chooses(sel: &Selection, revision: &Revision) -> bool
     }
 }
 
-/// Whether an item of a list has the number.
+// Whether an item of a list has the number.
 fn is_among(listed: &[Listed], number: u32) -> bool
     ensures { result ≡ list_any (has_number number) listed.now }
 {
     listed.iter().any(|item| item.has(number))
 }
 
-/// Whether the selection means this revision. A list of numbers is no test of revisions.
+// Whether the selection means this revision. A list of numbers is no test of revisions.
 fn selects(sel: &Selection, revision: &Revision) -> bool
     ensures { result ≡ selects (selection_of sel.now) revision.now }
 {

@@ -7,7 +7,7 @@ ghost use Rattle.redl_stamp.specs.Moment.{is_decimal, digit_at, two_digits_at, f
 
 use redl_reading::{run, skip};
 
-/// The value of a leading digit, and the bytes after it.
+// The value of a leading digit, and the bytes after it.
 fn digit(bytes: &[u8]) -> Option<(u8, &[u8])>
     ensures value { Gives (λ x. (x.0, x.1.now)) result (digit_at bytes.now) }
     ensures range { IfSome result (λ x. x.0 < 10) }

@@ -10,13 +10,13 @@ use crate::digits::{digits, four_digits, marked_digits, two_digits};
 use jiff::civil::{Date, Time};
 use redl_reading::skip;
 
-/// 0000-01-01T00:00:00Z.
+// 0000-01-01T00:00:00Z.
 const FIRST_MOMENT: i64 = -62_167_219_200;
 
-/// 9999-12-31T23:59:59Z.
+// 9999-12-31T23:59:59Z.
 const LAST_MOMENT: i64 = 253_402_300_799;
 
-/// The seconds from 1970-01-01T00:00:00 to the start of a day.
+// The seconds from 1970-01-01T00:00:00 to the start of a day.
 fn seconds_to(date: Date) -> i64
     ensures seconds { result ≡ seconds_to (epoch_day date) }
     ensures range { IsBetween (neg_ℤ (pos 377_705_116_800)) (pos 253_402_214_400) result }
@@ -25,7 +25,7 @@ fn seconds_to(date: Date) -> i64
     date.duration_since(epoch).as_secs()
 }
 
-/// The seconds to the start of a leading day `YYYY-MM-DD` of the calendar, and the bytes after it.
+// The seconds to the start of a leading day `YYYY-MM-DD` of the calendar, and the bytes after it.
 #[tactic(auto, unfolding(crate::specs::Moment::date_at))]
 fn date(bytes: &[u8]) -> Option<(i64, &[u8])>
     ensures value { Gives (λ x. (x.0, x.1.now)) result (date_at bytes.now) }
@@ -40,7 +40,7 @@ fn date(bytes: &[u8]) -> Option<(i64, &[u8])>
     }
 }
 
-/// The seconds from midnight of a leading time `hh:mm:ss`, and the bytes after it.
+// The seconds from midnight of a leading time `hh:mm:ss`, and the bytes after it.
 #[tactic(auto, unfolding(crate::specs::Moment::time_at))]
 fn time(bytes: &[u8]) -> Option<(u32, &[u8])>
     ensures value { Gives (λ x. (x.0, x.1.now)) result (time_at bytes.now) }
@@ -58,7 +58,7 @@ fn time(bytes: &[u8]) -> Option<(u32, &[u8])>
     }
 }
 
-/// The bytes after a leading fraction of a second, if there is one, or else all of them.
+// The bytes after a leading fraction of a second, if there is one, or else all of them.
 #[tactic(auto, unfolding(crate::specs::Moment::behind_fraction))]
 fn skip_fraction(bytes: &[u8]) -> Option<&[u8]>
     ensures { Gives (λ rest. rest.now) result (behind_fraction bytes.now) }
@@ -74,7 +74,7 @@ fn skip_fraction(bytes: &[u8]) -> Option<&[u8]>
     }
 }
 
-/// The hours and minutes of a zone, `hh:mm` to the end, in seconds.
+// The hours and minutes of a zone, `hh:mm` to the end, in seconds.
 #[tactic(auto, unfolding(crate::specs::Moment::offset_in))]
 fn offset(bytes: &[u8]) -> Option<u32>
     ensures value { result ≡ offset_in bytes.now }
@@ -89,7 +89,7 @@ fn offset(bytes: &[u8]) -> Option<u32>
     }
 }
 
-/// The seconds by which the clocks of a zone are ahead of UTC. Without a zone the time is UTC.
+// The seconds by which the clocks of a zone are ahead of UTC. Without a zone the time is UTC.
 #[tactic(auto, unfolding(crate::specs::Moment::zone_in))]
 fn zone(bytes: &[u8]) -> Option<i64>
     ensures value { result ≡ zone_in bytes.now }
@@ -106,7 +106,7 @@ fn zone(bytes: &[u8]) -> Option<i64>
     }
 }
 
-/// The seconds, if their year in UTC is 0000 to 9999.
+// The seconds, if their year in UTC is 0000 to 9999.
 fn within_years(seconds: i64) -> Option<i64>
     ensures value { result ≡ within_years seconds }
     ensures range { IfSome result IsMoment }

@@ -25,7 +25,7 @@ pub struct Stamp {
     pub id: Option<Text>,
 }
 
-/// The author that a value names, or the empty text without a value. `Err` means out of memory.
+// The author that a value names, or the empty text without a value. `Err` means out of memory.
 fn author(alloc: Global, written: Option<&[u8]>) -> Result<Text, AllocError>
     ensures value { IfOk result (λ author. author ≡ unwrap_or (option_map decoded_value (option_map (λ value. value.now) written.entry)) []) }
     ensures utf8 { IfSome written.entry (λ value. IsUtf8 value.now) → IfOk result IsUtf8 }
@@ -36,7 +36,7 @@ fn author(alloc: Global, written: Option<&[u8]>) -> Result<Text, AllocError>
     }
 }
 
-/// The seconds to the date that a value names. `Err` means out of memory.
+// The seconds to the date that a value names. `Err` means out of memory.
 fn seconds(alloc: Global, written: Option<&[u8]>) -> Result<Option<i64>, AllocError>
     ensures value { IfOk result (λ seconds. seconds
         ≡ option_and_then moment_of (option_map decoded_value (option_map (λ value. value.now) written.entry))) }

@@ -43,7 +43,7 @@ impl<'a> Written<'a> {
         written
     }
 
-    /// These values, and this attribute's value if no earlier attribute had its name.
+    // These values, and this attribute's value if no earlier attribute had its name.
     fn with(self, attribute: &Attribute<'a>) -> Written<'a>
         ensures author { option_map (λ value. value.now) result.author
             ≡ option_or (option_map (λ value. value.now) self.entry.author) (own_value (codes "author") (attribute_view attribute.now)) }
@@ -69,7 +69,7 @@ impl<'a> Written<'a> {
     }
 }
 
-/// The value found so far, or else that of the attribute if it has this local name.
+// The value found so far, or else that of the attribute if it has this local name.
 fn first_value<'a>(
     found: Option<&'a [u8]>,
     attribute: &Attribute<'a>,

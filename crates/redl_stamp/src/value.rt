@@ -19,7 +19,7 @@ pub(crate) fn has_local_name(attribute: &Attribute<'_>, local: &[u8]) -> bool
     attribute.name.local == local && attribute.name.prefix != b"xmlns".as_slice()
 }
 
-/// The value of the first attribute of the tail with this local name, as it is written.
+// The value of the first attribute of the tail with this local name, as it is written.
 fn written_value<'a>(tail: &'a [u8], local: &[u8]) -> Option<&'a [u8]>
     ensures value { Gives (λ value. value.now) result (written_value tail.now local.now) }
     ensures utf8 { IsUtf8 tail.now → IfSome result (λ value. IsUtf8 value.now) }

@@ -21,7 +21,7 @@ const MARK: Kind = Kind::Mark(Trace::From);
 
 const EDGE: Kind = Kind::Marker;
 
-/// The text of the package with a part for each of these outlines.
+// The text of the package with a part for each of these outlines.
 fn package_text(alloc: Global, outlines: &[&str]) -> Result<String, AllocError> {
     let mut parts = String::new(alloc);
     for words in outlines {
@@ -32,7 +32,7 @@ fn package_text(alloc: Global, outlines: &[&str]) -> Result<String, AllocError> 
     package(alloc, parts.as_str())
 }
 
-/// Adds the kinds and numbers of the members, in the order of their start tags.
+// Adds the kinds and numbers of the members, in the order of their start tags.
 #[cycle(labels)]
 fn add_labels(nodes: &[Node], labels: &mut Vec<(Kind, u32)>) -> Result<(), Fail> {
     for node in nodes {
@@ -52,7 +52,7 @@ fn add_label(node: &Node, labels: &mut Vec<(Kind, u32)>) -> Result<(), Fail> {
     add_labels(elem.kids(), labels)
 }
 
-/// The kinds and numbers of the elements of a package that are in a revision.
+// The kinds and numbers of the elements of a package that are in a revision.
 fn labelled(alloc: Global, parts: &[&str]) -> Result<Vec<(Kind, u32)>, Fail> {
     let text = package_text(alloc, parts)?;
     let mut made = read_package(alloc, text.as_bytes())?;
@@ -187,7 +187,7 @@ fn moves_are_labelled(rt: HostRuntime) -> Result<(), Fail> {
     Ok(())
 }
 
-/// What a revision is, who made it and when, its part, and how many members it has.
+// What a revision is, who made it and when, its part, and how many members it has.
 type Told<'a> = (RevKind, &'a [u8], Option<i64>, u32, u32);
 
 fn told(index: &Index, number: u32) -> Option<Told<'_>> {

@@ -12,7 +12,7 @@ use redl_tree::{Node, count_nodes};
 use std::alloc::{AllocError, Global};
 use std::test::Fail;
 
-/// The text of the story with an outline, whose root isn't in the outline.
+// The text of the story with an outline, whose root isn't in the outline.
 fn story(alloc: Global, words: &str) -> Result<String, AllocError> {
     let body = outline_text(alloc, words, WORDS)?;
     format!(in alloc;
@@ -20,7 +20,7 @@ fn story(alloc: Global, words: &str) -> Result<String, AllocError> {
     )
 }
 
-/// What is found in the story with this text.
+// What is found in the story with this text.
 fn found_in(alloc: Global, text: &str) -> Result<StoryMarkers<'_>, Fail>
     ensures few { IfOk result (λ found. length found.marks.items < 2 ^ 32) }
     ensures rising { IfOk result (λ found. RisesFrom 0 (markings found.marks.items)) }
@@ -34,7 +34,7 @@ fn found_in(alloc: Global, text: &str) -> Result<StoryMarkers<'_>, Fail>
     }
 }
 
-/// How many of these are loose.
+// How many of these are loose.
 fn loose_among(marks: &[Marker]) -> usize {
     let mut loose = 0usize;
     for mark in marks {
@@ -45,7 +45,7 @@ fn loose_among(marks: &[Marker]) -> usize {
     loose
 }
 
-/// How many markers a story has, how many of them are loose, and how many paired moves it has.
+// How many markers a story has, how many of them are loose, and how many paired moves it has.
 fn counts(alloc: Global, words: &str) -> Result<(usize, usize, usize), Fail> {
     let text = story(alloc, words)?;
     let found = found_in(alloc, text.as_str())?;
@@ -53,7 +53,7 @@ fn counts(alloc: Global, words: &str) -> Result<(usize, usize, usize), Fail> {
     Ok((found.marks.len(), loose_among(&found.marks), moves.len()))
 }
 
-/// Outlines, each with its counts of markers, of loose ones and of paired moves.
+// Outlines, each with its counts of markers, of loose ones and of paired moves.
 const ROWS: [(&str, (usize, usize, usize)); 30] = [
     ("", (0, 0, 0)),
     ("fs/1/a fe/1 ts/2/a te/2", (4, 0, 1)),
@@ -114,8 +114,8 @@ fn names_are_paired_or_not(rt: HostRuntime) -> Result<(), Fail> {
     Ok(())
 }
 
-/// The position at which the move starts that is open at a position of a story on the source side, and of the one that has a
-/// marker there.
+// The position at which the move starts that is open at a position of a story on the source side, and of the one that has a
+// marker there.
 fn starts(alloc: Global, words: &str, at: u64) -> Result<(Option<Start>, Option<Start>), Fail> {
     let text = story(alloc, words)?;
     let found = found_in(alloc, text.as_str())?;

@@ -16,7 +16,7 @@ const OWN: &[(&str, &str)] = &[
     ("space", " xml:space='preserve' q:xmlns='u'"),
 ];
 
-/// A package with a document that has this body, and a further part with these data, both as outlines.
+// A package with a document that has this body, and a further part with these data, both as outlines.
 fn package_text(alloc: Global, body: &str, further: &str) -> Result<String, AllocError> {
     let body = outline_text(alloc, body, OWN)?;
     let further = outline_text(alloc, further, OWN)?;
@@ -29,7 +29,7 @@ fn package_text(alloc: Global, body: &str, further: &str) -> Result<String, Allo
     package(alloc, parts.as_str())
 }
 
-/// What a check of that package answers.
+// What a check of that package answers.
 fn answer(alloc: Global, body: &str, further: &str) -> Result<Result<(), RuleError>, Fail> {
     let text = package_text(alloc, body, further)?;
     let pkg = read_package(alloc, text.as_bytes())?;

@@ -77,7 +77,7 @@ pub fn label_kids<L: Labeller>(elem: &mut Elem, inner: Around, below: L::Own, la
     label_body(&mut elem.body, inner, below, labeller);
 }
 
-/// Sets the labels of all elements in the body of an element.
+// Sets the labels of all elements in the body of an element.
 #[cycle(labels)]
 fn label_body<L: Labeller>(body: &mut Body, here: Around, own: L::Own, labeller: &mut L)
     requires needs { Needs inside_of (visit_of L.rule) (needs_of L.needs) here own (held_of body.old).kids (L.state labeller.old) }
@@ -92,7 +92,7 @@ fn label_body<L: Labeller>(body: &mut Body, here: Around, own: L::Own, labeller:
     }
 }
 
-/// The same for a body in a box. Apart from `label_body`, since a write through a box in a variant is proved in two steps.
+// The same for a body in a box. Apart from `label_body`, since a write through a box in a variant is proved in two steps.
 #[cycle(labels)]
 fn label_spaced<L: Labeller>(spaced: &mut Box<Spaced>, here: Around, own: L::Own, labeller: &mut L)
     requires needs { Needs inside_of (visit_of L.rule) (needs_of L.needs) here own (spaced_of spaced.old.value).kids (L.state labeller.old) }
@@ -103,7 +103,7 @@ fn label_spaced<L: Labeller>(spaced: &mut Box<Spaced>, here: Around, own: L::Own
     label_nodes(&mut spaced.kids, here, own, labeller);
 }
 
-/// Sets the labels of all elements among nodes, and below them.
+// Sets the labels of all elements among nodes, and below them.
 #[cycle(labels)]
 fn label_nodes<L: Labeller>(nodes: &mut [Node], here: Around, own: L::Own, labeller: &mut L)
     requires needs { Needs inside_of (visit_of L.rule) (needs_of L.needs) here own (nodes_of nodes.old) (L.state labeller.old) }
@@ -115,7 +115,7 @@ fn label_nodes<L: Labeller>(nodes: &mut [Node], here: Around, own: L::Own, label
     }
 }
 
-/// Sets the labels of the element that a node is, and of all elements below it.
+// Sets the labels of the element that a node is, and of all elements below it.
 #[cycle(labels)]
 fn label_node<L: Labeller>(node: &mut Node, here: Around, own: L::Own, labeller: &mut L)
     requires needs { NeedsItem inside_of (visit_of L.rule) (needs_of L.needs) here own (item_of node.old) (L.state labeller.old) }
@@ -129,8 +129,8 @@ fn label_node<L: Labeller>(node: &mut Node, here: Around, own: L::Own, labeller:
     }
 }
 
-/// Sets the labels of an element and of all elements below it. `here` sums up the ancestors of the element, and `own` is handed
-/// down to it.
+// Sets the labels of an element and of all elements below it. `here` sums up the ancestors of the element, and `own` is handed
+// down to it.
 #[cycle(labels)]
 fn label_elem<L: Labeller>(elem: &mut Elem, here: Around, own: L::Own, labeller: &mut L)
     requires needs { NeedsElement inside_of (visit_of L.rule) (needs_of L.needs) here own (tag_of elem.old) (kids_of elem.old) (L.state labeller.old) }
@@ -145,7 +145,7 @@ fn label_elem<L: Labeller>(elem: &mut Elem, here: Around, own: L::Own, labeller:
     elem.set_label(label.kind, label.rev);
 }
 
-/// Sets the labels of all elements below this one, where `inner` is not `None`. There are none otherwise.
+// Sets the labels of all elements below this one, where `inner` is not `None`. There are none otherwise.
 #[cycle(labels)]
 #[inline(always)]
 #[tactic(auto, using(crate::proofs::VisitLaws::some_inner))]

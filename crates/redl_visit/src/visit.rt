@@ -79,7 +79,7 @@ pub fn visit_kids<E: Element, H: Summary<E>, V: Visitor<E, H>>(
     Ok(())
 }
 
-/// Shows a visitor the element that a node is, and all elements below it.
+// Shows a visitor the element that a node is, and all elements below it.
 #[cycle(visit)]
 fn visit_node<E: Element, H: Summary<E>, V: Visitor<E, H>>(
     node: &E::Node,
@@ -100,7 +100,7 @@ fn visit_node<E: Element, H: Summary<E>, V: Visitor<E, H>>(
     }
 }
 
-/// Lets a visitor pass over the idle elements that a node is, if it is their text.
+// Lets a visitor pass over the idle elements that a node is, if it is their text.
 #[inline(always)]
 #[tactic(auto, using(crate::proofs::VisitLaws::no_item))]
 fn pass_node<E: Element, H: Summary<E>, V: Visitor<E, H>>(
@@ -118,7 +118,7 @@ fn pass_node<E: Element, H: Summary<E>, V: Visitor<E, H>>(
     }
 }
 
-/// Shows a visitor an element and all elements below it. `here` sums up the ancestors of the element, and `own` is handed down to it.
+// Shows a visitor an element and all elements below it. `here` sums up the ancestors of the element, and `own` is handed down to it.
 #[cycle(visit)]
 fn visit_elem<E: Element, H: Summary<E>, V: Visitor<E, H>>(
     elem: &E,
@@ -136,7 +136,7 @@ fn visit_elem<E: Element, H: Summary<E>, V: Visitor<E, H>>(
     visitor.leave(elem, here, &below)
 }
 
-/// Shows a visitor all elements below this one, where `inner` is not `None`. There are none otherwise.
+// Shows a visitor all elements below this one, where `inner` is not `None`. There are none otherwise.
 #[cycle(visit)]
 #[inline(always)]
 #[tactic(auto, using(crate::proofs::VisitLaws::some_inner, crate::proofs::VisitLaws::none_inner))]

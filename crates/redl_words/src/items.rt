@@ -30,7 +30,7 @@ pub(crate) struct Items {
 }
 
 impl Items {
-    /// What no items say.
+    // What no items say.
     fn nothing(alloc: Global) -> Items
         ensures { items_view result ≡ nothing }
     {
@@ -45,7 +45,7 @@ impl Items {
         }
     }
 
-    /// Adds a journal that stands without an option.
+    // Adds a journal that stands without an option.
     #[tactic(auto, unfolding(crate::specs::Reading::Items::with_plain_journal))]
     fn add_plain_journal(
         &mut self,
@@ -62,7 +62,7 @@ impl Items {
         Ok(())
     }
 
-    /// Sets the format, which may come once.
+    // Sets the format, which may come once.
     #[tactic(auto, unfolding(crate::specs::Reading::Items::with_option))]
     fn set_format(&mut self, alloc: Global, name: &Text) -> Result<(), WordsError>
         ensures { Finds (λ _. items_view self.new) result (with_option ItemOption.Format name.now (items_view self.old)) }
@@ -74,7 +74,7 @@ impl Items {
         Ok(())
     }
 
-    /// Sets that it goes by kind, which may come once.
+    // Sets that it goes by kind, which may come once.
     #[tactic(auto, unfolding(crate::specs::Reading::Items::with_option))]
     fn set_by(&mut self, value: &Text) -> Result<(), WordsError>
         ensures { Finds (λ _. items_view self.new) result (with_option ItemOption.By value.now (items_view self.old)) }
@@ -86,7 +86,7 @@ impl Items {
         Ok(())
     }
 
-    /// Adds a lock.
+    // Adds a lock.
     #[tactic(auto, unfolding(crate::specs::Reading::Items::with_option))]
     fn add_lock(&mut self, alloc: Global, on: Locked, text: &Text) -> Result<(), WordsError>
         requires { IsUtf8 text.now }
@@ -98,7 +98,7 @@ impl Items {
         Ok(())
     }
 
-    /// Sets the rank, which may come once.
+    // Sets the rank, which may come once.
     #[tactic(auto, unfolding(crate::specs::Reading::Items::with_option))]
     fn set_rank(&mut self, digits: &Text) -> Result<(), WordsError>
         ensures { Finds (λ _. items_view self.new) result (with_option ItemOption.Rank digits.now (items_view self.old)) }
@@ -113,7 +113,7 @@ impl Items {
         Ok(())
     }
 
-    /// Adds a journal that an option names.
+    // Adds a journal that an option names.
     #[tactic(auto, unfolding(crate::specs::Reading::Items::with_option))]
     fn add_journal(&mut self, alloc: Global, name: &Text) -> Result<(), WordsError>
         ensures { Finds (λ _. items_view self.new) result (with_option ItemOption.Journal name.now (items_view self.old)) }
@@ -125,7 +125,7 @@ impl Items {
         Ok(())
     }
 
-    /// Adds what the reviewer decides on a selection.
+    // Adds what the reviewer decides on a selection.
     #[tactic(auto, unfolding(crate::specs::Reading::Items::with_option))]
     fn add_choice(&mut self, alloc: Global, word: Word, text: &Text) -> Result<(), WordsError>
         requires { IsUtf8 text.now }
@@ -137,7 +137,7 @@ impl Items {
         Ok(())
     }
 
-    /// Adds which revisions are shown.
+    // Adds which revisions are shown.
     #[tactic(auto, unfolding(crate::specs::Reading::Items::with_option))]
     fn add_only(&mut self, alloc: Global, text: &Text) -> Result<(), WordsError>
         requires { IsUtf8 text.now }
@@ -149,7 +149,7 @@ impl Items {
         Ok(())
     }
 
-    /// Adds what an option and its value say.
+    // Adds what an option and its value say.
     fn add_option(
         &mut self,
         alloc: Global,
@@ -170,7 +170,7 @@ impl Items {
         }
     }
 
-    /// Adds what a word says that is an option, with the word after it.
+    // Adds what a word says that is an option, with the word after it.
     #[tactic(auto, unfolding(crate::specs::Reading::Items::with_word))]
     fn add_pair(
         &mut self,
@@ -188,7 +188,7 @@ impl Items {
         }
     }
 
-    /// Adds what the first item says, which begins with this word, and gives the words after the item.
+    // Adds what the first item says, which begins with this word, and gives the words after the item.
     fn add_first<'a>(
         &mut self,
         alloc: Global,

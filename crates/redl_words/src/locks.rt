@@ -23,7 +23,7 @@ pub(crate) fn read_lock(alloc: Global, on: Locked, text: &str) -> Result<Lock, W
     }
 }
 
-/// The lock on the kind with this name.
+// The lock on the kind with this name.
 fn read_kind_lock(name: &str) -> Result<Lock, WordsError>
     ensures { Finds (λ lock. lock) result (kind_lock_in name.now) }
 {
@@ -33,7 +33,7 @@ fn read_kind_lock(name: &str) -> Result<Lock, WordsError>
     }
 }
 
-/// The lock on the span between two dates with a slash between.
+// The lock on the span between two dates with a slash between.
 fn read_span_lock(text: &str) -> Result<Lock, WordsError>
     ensures { Finds (λ lock. lock) result (span_lock_in text.now) }
 {

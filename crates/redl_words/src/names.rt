@@ -40,14 +40,14 @@ pub(crate) fn read_names(alloc: Global, words: &[Text]) -> Result<Vec<Text>, Wor
     Ok(names)
 }
 
-/// Whether each word can name a file.
+// Whether each word can name a file.
 fn are_file_names(words: &[Text]) -> bool
     ensures { result ≡ list_all is_name words.now }
 {
     words.iter().all(|word| is_file_name(word.as_bytes()))
 }
 
-/// Copies of the words. `Err` means out of memory.
+// Copies of the words. `Err` means out of memory.
 fn copies(alloc: Global, words: &[Text]) -> Result<Vec<Text>, AllocError>
     ensures { IfOk result (λ copies. copies.items ≡ words.now) }
 {

@@ -32,7 +32,7 @@ pub(crate) fn read_only(alloc: Global, text: &str) -> Result<Only, WordsError>
     Ok(Only::Chosen(selection))
 }
 
-/// The verdict with this name.
+// The verdict with this name.
 #[tactic(auto, unfolding(crate::specs::Reading::Shown::verdict_in))]
 fn read_verdict(word: &[u8]) -> Option<Verdict>
     ensures { result ≡ verdict_in word.now }

@@ -46,7 +46,7 @@ pub(crate) fn read_option(form: Form, word: &[u8]) -> Option<ItemOption>
     }
 }
 
-/// What the option is on that a word is, if it is one of the three for locks.
+// What the option is on that a word is, if it is one of the three for locks.
 #[tactic(auto, unfolding(crate::specs::Reading::Items::locking_option))]
 fn locking_option(word: &[u8]) -> Option<Locked>
     ensures { result ≡ locking_option word.now }
@@ -62,7 +62,7 @@ fn locking_option(word: &[u8]) -> Option<Locked>
     }
 }
 
-/// The option that a word is, besides those for locks.
+// The option that a word is, besides those for locks.
 fn own_option(form: Form, word: &[u8]) -> Option<ItemOption>
     ensures { result ≡ own_option form word.now }
 {
@@ -75,7 +75,7 @@ fn own_option(form: Form, word: &[u8]) -> Option<ItemOption>
     }
 }
 
-/// The option that a word is, besides those for locks, in a report.
+// The option that a word is, besides those for locks, in a report.
 #[tactic(auto, unfolding(crate::specs::Reading::Items::reporting_option))]
 fn reporting_option(word: &[u8]) -> Option<ItemOption>
     ensures { result ≡ reporting_option word.now }
@@ -89,7 +89,7 @@ fn reporting_option(word: &[u8]) -> Option<ItemOption>
     }
 }
 
-/// The option that a word is, besides those for locks, in a command that decides.
+// The option that a word is, besides those for locks, in a command that decides.
 #[tactic(auto, unfolding(crate::specs::Reading::Items::deciding_option))]
 fn deciding_option(word: &[u8]) -> Option<ItemOption>
     ensures { result ≡ deciding_option word.now }

@@ -33,7 +33,7 @@ pub fn read_words(alloc: Global, words: &[Text]) -> Result<Command, WordsError>
     read_command(alloc, words)
 }
 
-/// The same, in the words of reading.
+// The same, in the words of reading.
 #[tactic(auto, unfolding(crate::specs::Reading::Commands::command_in))]
 fn read_command(alloc: Global, words: &[Text]) -> Result<Command, WordsError>
     requires { All IsUtf8 words.now }
@@ -58,7 +58,7 @@ fn read_command(alloc: Global, words: &[Text]) -> Result<Command, WordsError>
     }
 }
 
-/// The words after `settle`.
+// The words after `settle`.
 #[tactic(auto, unfolding(crate::specs::Reading::Commands::settle_in))]
 fn read_settle(alloc: Global, words: &[Text]) -> Result<Command, WordsError>
     ensures { Finds command_of result (settle_in words.now) }
@@ -76,7 +76,7 @@ fn read_settle(alloc: Global, words: &[Text]) -> Result<Command, WordsError>
     Ok(Command::Settle { accept, package })
 }
 
-/// Whether the word says accept. `None` where it says neither accept nor reject.
+// Whether the word says accept. `None` where it says neither accept nor reject.
 #[tactic(auto, unfolding(crate::specs::Reading::Commands::say_in))]
 fn read_say(word: &[u8]) -> Option<bool>
     ensures { result ≡ say_in word.now }
@@ -90,7 +90,7 @@ fn read_say(word: &[u8]) -> Option<bool>
     }
 }
 
-/// The words after `text`.
+// The words after `text`.
 #[tactic(auto, unfolding(crate::specs::Reading::Commands::text_in))]
 fn read_text(alloc: Global, words: &[Text]) -> Result<Command, WordsError>
     ensures { Finds command_of result (text_in words.now) }
@@ -104,7 +104,7 @@ fn read_text(alloc: Global, words: &[Text]) -> Result<Command, WordsError>
     }
 }
 
-/// The command for the text of this package, if there is a view and the package has the name of a file.
+// The command for the text of this package, if there is a view and the package has the name of a file.
 fn make_text(alloc: Global, file: &Text, view: Option<View>) -> Result<Command, WordsError>
     ensures { Finds command_of result (text_with file.now view) }
 {
@@ -118,7 +118,7 @@ fn make_text(alloc: Global, file: &Text, view: Option<View>) -> Result<Command, 
     Ok(Command::Text { package, view })
 }
 
-/// The view of this name.
+// The view of this name.
 #[tactic(auto, unfolding(crate::specs::Reading::Commands::view_in))]
 fn read_view(name: &[u8]) -> Option<View>
     ensures { result ≡ view_in name.now }
@@ -134,7 +134,7 @@ fn read_view(name: &[u8]) -> Option<View>
     }
 }
 
-/// The words after `list`.
+// The words after `list`.
 fn read_list(alloc: Global, words: &[Text]) -> Result<Command, WordsError>
     requires { All IsUtf8 words.now }
     ensures { Finds command_of result (list_in words.now) }
@@ -149,7 +149,7 @@ fn read_list(alloc: Global, words: &[Text]) -> Result<Command, WordsError>
     }))
 }
 
-/// The words after `report`.
+// The words after `report`.
 fn read_report(alloc: Global, words: &[Text]) -> Result<Command, WordsError>
     requires { All IsUtf8 words.now }
     ensures { Finds command_of result (report_in words.now) }
@@ -164,7 +164,7 @@ fn read_report(alloc: Global, words: &[Text]) -> Result<Command, WordsError>
     }))
 }
 
-/// What is asked of a package: a format of this name, by kind or not, with locks and journals, and which revisions are shown.
+// What is asked of a package: a format of this name, by kind or not, with locks and journals, and which revisions are shown.
 #[derive(Drop)]
 struct Asked {
     package: Text,
@@ -175,7 +175,7 @@ struct Asked {
     only: Vec<Only>,
 }
 
-/// The words after `list` or `report`.
+// The words after `list` or `report`.
 #[tactic(auto, unfolding(crate::specs::Reading::Commands::asked_in))]
 fn read_asked(alloc: Global, form: Form, words: &[Text]) -> Result<Asked, WordsError>
     requires { All IsUtf8 words.now }
@@ -200,7 +200,7 @@ fn read_asked(alloc: Global, form: Form, words: &[Text]) -> Result<Asked, WordsE
     })
 }
 
-/// The format of this name, or `text` without one. `Err` means out of memory.
+// The format of this name, or `text` without one. `Err` means out of memory.
 fn format_or_text(alloc: Global, format: Option<Text>) -> Result<Text, AllocError>
     ensures { IfOk result (λ name. name ≡ format_or_text format) }
 {
@@ -210,7 +210,7 @@ fn format_or_text(alloc: Global, format: Option<Text>) -> Result<Text, AllocErro
     }
 }
 
-/// The words after `page`.
+// The words after `page`.
 #[tactic(auto, unfolding(crate::specs::Reading::Commands::page_in))]
 fn read_page(alloc: Global, words: &[Text]) -> Result<Command, WordsError>
     requires { All IsUtf8 words.now }
@@ -231,7 +231,7 @@ fn read_page(alloc: Global, words: &[Text]) -> Result<Command, WordsError>
     })
 }
 
-/// The words after `write`.
+// The words after `write`.
 #[tactic(auto, unfolding(crate::specs::Reading::Commands::write_in))]
 fn read_write(alloc: Global, words: &[Text]) -> Result<Command, WordsError>
     requires { All IsUtf8 words.now }
@@ -252,7 +252,7 @@ fn read_write(alloc: Global, words: &[Text]) -> Result<Command, WordsError>
     })
 }
 
-/// The words after `decide`.
+// The words after `decide`.
 #[tactic(auto, unfolding(crate::specs::Reading::Commands::decide_in))]
 fn read_decide(alloc: Global, words: &[Text]) -> Result<Command, WordsError>
     requires { All IsUtf8 words.now }
@@ -281,14 +281,14 @@ fn read_decide(alloc: Global, words: &[Text]) -> Result<Command, WordsError>
     }))
 }
 
-/// The rank, or 0 without one.
+// The rank, or 0 without one.
 fn rank_or_0(rank: Option<u8>) -> u8
     ensures { result ≡ rank_or_0 rank }
 {
     rank.unwrap_or(0)
 }
 
-/// The words after `resume`.
+// The words after `resume`.
 #[tactic(auto, unfolding(crate::specs::Reading::Commands::resume_in))]
 fn read_resume(alloc: Global, words: &[Text]) -> Result<Command, WordsError>
     ensures { Finds command_of result (resume_in words.now) }
@@ -310,7 +310,7 @@ fn read_resume(alloc: Global, words: &[Text]) -> Result<Command, WordsError>
     }))
 }
 
-/// The words after `join`.
+// The words after `join`.
 #[tactic(auto, unfolding(crate::specs::Reading::Commands::join_in))]
 fn read_join(alloc: Global, words: &[Text]) -> Result<Command, WordsError>
     ensures { Finds command_of result (join_in words.now) }
@@ -322,7 +322,7 @@ fn read_join(alloc: Global, words: &[Text]) -> Result<Command, WordsError>
     Ok(Command::Join { journals })
 }
 
-/// The words after `check`.
+// The words after `check`.
 #[tactic(auto, unfolding(crate::specs::Reading::Commands::check_in))]
 fn read_check(alloc: Global, words: &[Text]) -> Result<Command, WordsError>
     ensures { Finds command_of result (check_in words.now) }
@@ -337,7 +337,7 @@ fn read_check(alloc: Global, words: &[Text]) -> Result<Command, WordsError>
     Ok(Command::Check { package })
 }
 
-/// The words after `sample`.
+// The words after `sample`.
 #[tactic(auto, unfolding(crate::specs::Reading::Commands::sample_in))]
 fn read_sample(words: &[Text]) -> Result<Command, WordsError>
     ensures { Finds command_of result (sample_in words.now) }

@@ -30,21 +30,21 @@ pub(crate) fn read_selection(alloc: Global, text: &str) -> Result<Selection, Wor
     }
 }
 
-/// The label before the first colon, and the value behind it.
+// The label before the first colon, and the value behind it.
 fn split_label(text: &str) -> Option<(&str, &str)>
     ensures { Gives (λ x. (x.0.now, x.1.now)) result (field_at 58 text.now) }
 {
     text.split_once(':')
 }
 
-/// The date before the first slash, and the one behind it.
+// The date before the first slash, and the one behind it.
 fn split_dates(text: &str) -> Option<(&str, &str)>
     ensures { Gives (λ x. (x.0.now, x.1.now)) result (field_at 47 text.now) }
 {
     text.split_once('/')
 }
 
-/// The selection without a label.
+// The selection without a label.
 fn read_unlabelled(text: &str) -> Result<Selection, WordsError>
     ensures { Finds selection_of result (unlabelled text.now) }
 {
@@ -55,7 +55,7 @@ fn read_unlabelled(text: &str) -> Result<Selection, WordsError>
     }
 }
 
-/// The selection with this label and this value.
+// The selection with this label and this value.
 #[tactic(auto, unfolding(crate::specs::Reading::Selections::labelled))]
 fn read_labelled(alloc: Global, label: &str, value: &str) -> Result<Selection, WordsError>
     ensures { Finds selection_of result (labelled label.now value.now) }
@@ -76,7 +76,7 @@ fn read_labelled(alloc: Global, label: &str, value: &str) -> Result<Selection, W
     }
 }
 
-/// The items with commas between.
+// The items with commas between.
 fn read_numbers(alloc: Global, text: &str) -> Result<Vec<Listed>, WordsError>
     ensures { Finds (λ listed. listed.items) result (numbers_in text.now) }
 {
@@ -90,7 +90,7 @@ fn read_numbers(alloc: Global, text: &str) -> Result<Vec<Listed>, WordsError>
     Ok(listed)
 }
 
-/// A number, or two with a dash between.
+// A number, or two with a dash between.
 #[tactic(auto, unfolding(crate::specs::Reading::Selections::item_in))]
 fn read_item(text: &str) -> Option<Listed>
     ensures { result ≡ item_in text.now }
@@ -101,14 +101,14 @@ fn read_item(text: &str) -> Option<Listed>
     }
 }
 
-/// The number before the first dash, and the one behind it.
+// The number before the first dash, and the one behind it.
 fn split_ends(text: &str) -> Option<(&str, &str)>
     ensures { Gives (λ x. (x.0.now, x.1.now)) result (field_at 45 text.now) }
 {
     text.split_once('-')
 }
 
-/// A number alone.
+// A number alone.
 fn read_one(digits: &str) -> Option<Listed>
     ensures { result ≡ option_map Listed.One (number_in digits.now) }
 {
@@ -118,7 +118,7 @@ fn read_one(digits: &str) -> Option<Listed>
     }
 }
 
-/// The range from the first number to the last. There is none where the first is the greater one.
+// The range from the first number to the last. There is none where the first is the greater one.
 #[tactic(auto, unfolding(crate::specs::Reading::Selections::range_in))]
 fn read_range(first: &str, last: &str) -> Option<Listed>
     ensures { result ≡ range_in first.now last.now }
@@ -138,7 +138,7 @@ pub(crate) fn read_kind_name(name: &str) -> Option<RevKind>
     RevKind::named(name.as_bytes())
 }
 
-/// The revisions of the kind, or of the kinds of the group, with this name.
+// The revisions of the kind, or of the kinds of the group, with this name.
 fn read_kind(name: &str) -> Result<Selection, WordsError>
     ensures { Finds selection_of result (kinds_in name.now) }
 {
@@ -148,7 +148,7 @@ fn read_kind(name: &str) -> Result<Selection, WordsError>
     }
 }
 
-/// The revisions of the kinds of the group with this name.
+// The revisions of the kinds of the group with this name.
 fn read_group(name: &str) -> Result<Selection, WordsError>
     ensures { Finds selection_of result (option_map group (group_named name.now)) }
 {
@@ -158,7 +158,7 @@ fn read_group(name: &str) -> Result<Selection, WordsError>
     }
 }
 
-/// The group with this name.
+// The group with this name.
 #[tactic(auto, unfolding(crate::specs::Reading::Selections::group_named))]
 fn read_group_name(name: &[u8]) -> Option<Group>
     ensures { result ≡ group_named name.now }
@@ -178,7 +178,7 @@ fn read_group_name(name: &[u8]) -> Option<Group>
     }
 }
 
-/// The span between two dates with a slash between.
+// The span between two dates with a slash between.
 fn read_span(text: &str) -> Result<Selection, WordsError>
     ensures { Finds selection_of result (span_in text.now) }
 {

@@ -19,7 +19,7 @@ pub(crate) struct Sittings {
 }
 
 impl Sittings {
-    /// No journals.
+    // No journals.
     fn nothing(alloc: Global) -> Sittings
         ensures { sittings_view result ≡ no_sittings }
     {
@@ -29,7 +29,7 @@ impl Sittings {
         }
     }
 
-    /// Adds the first journal, whose words begin with this one, and gives the words after it.
+    // Adds the first journal, whose words begin with this one, and gives the words after it.
     fn add_journal<'a>(
         &mut self,
         alloc: Global,
@@ -53,7 +53,7 @@ impl Sittings {
     }
 }
 
-/// Whether these two words name a journal of the first package.
+// Whether these two words name a journal of the first package.
 fn names_first(word: &Text, name: &Text) -> bool
     ensures { result ≡ (bytes_eq word.now (codes "--journal") && is_name name.now) }
 {

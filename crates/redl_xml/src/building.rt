@@ -48,7 +48,7 @@ pub(crate) fn push_node<'a>(nodes: &mut Vec<Node<'a>>, node: Node<'a>) -> Result
     Ok(())
 }
 
-/// Whether the bytes begin as those of an element do.
+// Whether the bytes begin as those of an element do.
 #[inline(always)]
 fn begins_element(bytes: &[u8]) -> bool {
     bytes.starts_with(b"<") && !bytes.starts_with(b"</")

@@ -10,7 +10,7 @@ ghost use Rattle.redl_markup.specs.Views.{name_view};
 use redl_markup::Name;
 use redl_reading::skip;
 
-/// The bytes behind a word, where the bytes begin with it.
+// The bytes behind a word, where the bytes begin with it.
 #[inline(always)]
 fn behind_word<'a>(bytes: &'a [u8], word: &[u8]) -> Option<&'a [u8]>
     ensures { Gives (λ rest. rest.now) result (behind word.now bytes.now) }
@@ -28,7 +28,7 @@ fn behind_word<'a>(bytes: &'a [u8], word: &[u8]) -> Option<&'a [u8]>
     Some(rest)
 }
 
-/// The bytes behind this name, where the bytes begin with it.
+// The bytes behind this name, where the bytes begin with it.
 #[inline(always)]
 fn behind_name<'a>(bytes: &'a [u8], name: Name<'_>) -> Option<&'a [u8]>
     ensures { IfSome result (λ rest. bytes.now ≡ name_text (name_view name.entry) ++ rest.now) }

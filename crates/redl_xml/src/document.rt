@@ -14,19 +14,24 @@ ghost use Rattle.redl_xml.specs.Readings.{IsReading, HasReading, HasNoReading};
 use crate::element::read_element;
 use crate::error::XmlError;
 use crate::sizes::{Limits, Sizes};
-use crate::{DEPTH_LIMIT, NODE_LIMIT};
 use redl_markup::{MarkupError, Piece, Place, is_text, next_piece};
 use redl_tree::Node;
 use std::alloc::{AllocError, Global};
 
-/// The nodes of a document, how deep they go, and how many there are, counted up to one above a limit.
+/// The greatest depth of an element, with the root at depth 1.
+pub const DEPTH_LIMIT: usize = 512;
+
+/// The greatest number of nodes of a text.
+pub const NODE_LIMIT: u32 = 2_097_152;
+
+// The nodes of a document, how deep they go, and how many there are, counted up to one above a limit.
 #[derive(Drop)]
 struct Document<'a> {
     nodes: Vec<Node<'a>>,
     sizes: Sizes,
 }
 
-/// The leading stretch of this place, which may be empty, and the bytes after it.
+// The leading stretch of this place, which may be empty, and the bytes after it.
 #[tactic(auto, unfolding(crate::specs::Inside::Documents::stretch_in))]
 #[inline(never)]
 fn stretch(alloc: Global, bytes: &[u8], place: Place) -> Result<(&[u8], &[u8]), MarkupError>
@@ -39,7 +44,7 @@ fn stretch(alloc: Global, bytes: &[u8], place: Place) -> Result<(&[u8], &[u8]), 
     }
 }
 
-/// Adds the bytes as a node, if there are any.
+// Adds the bytes as a node, if there are any.
 fn push_bytes<'a>(nodes: &mut Vec<Node<'a>>, bytes: &'a [u8]) -> Result<(), AllocError>
     ensures { OnOk result (nodes_of nodes.new.items ≡ nodes_of nodes.old.items ⊕ bytes_or_none bytes.entry.now) }
 {
@@ -50,7 +55,7 @@ fn push_bytes<'a>(nodes: &mut Vec<Node<'a>>, bytes: &'a [u8]) -> Result<(), Allo
     Ok(())
 }
 
-/// The nodes at the top: the stretch before the root, the root, and the stretch after it.
+// The nodes at the top: the stretch before the root, the root, and the stretch after it.
 fn top_nodes<'a>(
     alloc: Global,
     before: &'a [u8],
@@ -67,7 +72,7 @@ fn top_nodes<'a>(
     Ok(nodes)
 }
 
-/// Counts the bytes as a node, if there are any.
+// Counts the bytes as a node, if there are any.
 fn count_bytes(sizes: &mut Sizes, limit: u32, bytes: &[u8])
     ensures deepest { sizes.new.deepest ≡ sizes.old.deepest }
     ensures nodes { sizes.new.nodes ≡ counted limit bytes.now sizes.old.nodes }
@@ -77,7 +82,7 @@ fn count_bytes(sizes: &mut Sizes, limit: u32, bytes: &[u8])
     }
 }
 
-/// The document that the bytes are. `Unreadable` exactly if they are not one. Past a limit its nodes are incomplete.
+// The document that the bytes are. `Unreadable` exactly if they are not one. Past a limit its nodes are incomplete.
 fn read_document(alloc: Global, limits: Limits, bytes: &[u8]) -> Result<Document<'_>, MarkupError>
     ensures sizes { Finds (λ d. (d.sizes.deepest, d.sizes.nodes)) result (sizes_at limits.nodes bytes.now) }
     ensures nodes { IfOk result (λ d. d.sizes.deepest ≤ limits.depth → d.sizes.nodes ≤ limits.nodes → document_at bytes.now ≡ Some (nodes_of d.nodes.items)) }
@@ -95,7 +100,7 @@ fn read_document(alloc: Global, limits: Limits, bytes: &[u8]) -> Result<Document
     Ok(Document { nodes, sizes })
 }
 
-/// The nodes of a text, if it is within the limits.
+// The nodes of a text, if it is within the limits.
 fn read_within(alloc: Global, bytes: &[u8], limits: Limits) -> Result<Vec<Node>, XmlError>
     ensures found { IfOk result (λ nodes. IsReading bytes.now (nodes_of nodes.items)) }
     ensures within { IfOk result (λ nodes. (depth_of (nodes_of nodes.items) ≤ limits.depth) × (count (nodes_of nodes.items) ≤ limits.nodes)) }

@@ -26,14 +26,14 @@ pub(crate) struct Element<'a> {
     pub(crate) rest: &'a [u8],
 }
 
-/// The bytes ahead, and the piece with which they begin with the bytes after it, if that was read.
+// The bytes ahead, and the piece with which they begin with the bytes after it, if that was read.
 #[derive(Drop)]
 struct Ahead<'a> {
     rest: &'a [u8],
     next: Option<(Piece<'a>, &'a [u8])>,
 }
 
-/// Passes over nodes in which no walk finds anything, if the bytes begin with some, and counts them.
+// Passes over nodes in which no walk finds anything, if the bytes begin with some, and counts them.
 fn pass_over<'a>(
     alloc: Global,
     limits: Limits,
@@ -60,7 +60,7 @@ fn pass_over<'a>(
     })
 }
 
-/// The piece ahead, and the bytes after it.
+// The piece ahead, and the bytes after it.
 #[inline(always)]
 fn piece_ahead<'a>(
     alloc: Global,

@@ -61,7 +61,7 @@ impl<'a> Tries<'a> {
     }
 }
 
-/// Whether a tag has this space and declares nothing.
+// Whether a tag has this space and declares nothing.
 fn is_plain_start<'a>(scopes: &mut Spaces<'a>, space: Space, tag: &StartTag<'a>) -> bool
     ensures plain { result ≡ true → HoldsOf (λ _. IsPlainIn scopes.old space) false space tag.now.name tag.now.tail }
     ensures same { scopes.new ≡ scopes.old }
@@ -73,7 +73,7 @@ fn is_plain_start<'a>(scopes: &mut Spaces<'a>, space: Space, tag: &StartTag<'a>)
     }
 }
 
-/// Whether an element with this start tag may be passed over, if all in it may.
+// Whether an element with this start tag may be passed over, if all in it may.
 fn is_idle_start<'a>(scopes: &mut Spaces<'a>, in_run: bool, tag: &StartTag<'a>) -> bool
     ensures idle { result ≡ true → HoldsOf (IsIdleIn scopes.old) in_run W tag.now.name tag.now.tail }
     ensures same { scopes.new ≡ scopes.old }
@@ -81,7 +81,7 @@ fn is_idle_start<'a>(scopes: &mut Spaces<'a>, in_run: bool, tag: &StartTag<'a>) 
     is_idle_name(tag.name().local, in_run) && is_plain_start(scopes, Space::W, tag)
 }
 
-/// Whether a piece may be passed over.
+// Whether a piece may be passed over.
 fn may_pass<'a>(scopes: &mut Spaces<'a>, in_run: bool, piece: &Piece<'a>) -> bool
     ensures idle { result ≡ true → HoldsIn (IsIdleIn scopes.old) in_run W (piece_view piece.now) }
     ensures same { scopes.new ≡ scopes.old }
@@ -94,7 +94,7 @@ fn may_pass<'a>(scopes: &mut Spaces<'a>, in_run: bool, piece: &Piece<'a>) -> boo
     }
 }
 
-/// Takes the innermost open element's end tag, if the bytes begin with that and there is no white space in it. Gives the bytes behind.
+// Takes the innermost open element's end tag, if the bytes begin with that and there is no white space in it. Gives the bytes behind.
 #[inline(always)]
 fn close_last<'a>(names: &mut Vec<Name<'a>>, bytes: &'a [u8]) -> Option<&'a [u8]>
     ensures closed { IfSome result (λ rest. ClosesLast names.old.items names.new.items bytes.entry.now rest.now) }
@@ -106,7 +106,7 @@ fn close_last<'a>(names: &mut Vec<Name<'a>>, bytes: &'a [u8]) -> Option<&'a [u8]
     Some(rest)
 }
 
-/// Whether the innermost of these open elements of W is a run.
+// Whether the innermost of these open elements of W is a run.
 fn is_run_open(names: &[Name<'_>]) -> bool
     ensures { result ≡ is_run_open W (names_view names.now) }
 {
@@ -116,7 +116,7 @@ fn is_run_open(names: &[Name<'_>]) -> bool
     }
 }
 
-/// Takes a piece to the open elements, if it belongs there.
+// Takes a piece to the open elements, if it belongs there.
 fn take_name<'a>(names: &mut Vec<Name<'a>>, piece: &Piece<'a>) -> Result<bool, AllocError>
     ensures { IfOk result (λ taken. taken ≡ true → put_name (piece_view piece.now) (names_view names.old.items) ≡ Some (names_view names.new.items)) }
 {
@@ -134,7 +134,7 @@ fn take_name<'a>(names: &mut Vec<Name<'a>>, piece: &Piece<'a>) -> Result<bool, A
     }
 }
 
-/// Takes a piece to the open elements, if it may be passed over there.
+// Takes a piece to the open elements, if it may be passed over there.
 fn pass_piece<'a>(
     scopes: &mut Spaces<'a>,
     names: &mut Vec<Name<'a>>,
@@ -167,7 +167,7 @@ fn elems_of_piece(piece: &Piece<'_>) -> usize
     }
 }
 
-/// The greatest depth with one more piece, if an element that begins with it is at this depth.
+// The greatest depth with one more piece, if an element that begins with it is at this depth.
 fn deepest_of_piece(piece: &Piece<'_>, depth: usize, deepest: usize) -> usize
     ensures { result ≡ deepest_with (piece_view piece.now) depth deepest }
 {
@@ -177,7 +177,7 @@ fn deepest_of_piece(piece: &Piece<'_>, depth: usize, deepest: usize) -> usize
     }
 }
 
-/// Gives the list of a tag's names back for the next tag.
+// Gives the list of a tag's names back for the next tag.
 fn give_back<'a>(list: &mut Vec<Name<'a>>, piece: Piece<'a>) {
     match piece {
         Piece::Start(tag) => *list = tag.into_attributes(),
@@ -186,7 +186,7 @@ fn give_back<'a>(list: &mut Vec<Name<'a>>, piece: Piece<'a>) {
     }
 }
 
-/// The piece with which the bytes begin, if there is one, and the bytes after it. `Err` means out of memory.
+// The piece with which the bytes begin, if there is one, and the bytes after it. `Err` means out of memory.
 fn some_piece<'a>(
     alloc: Global,
     list: &mut Vec<Name<'a>>,
@@ -201,14 +201,14 @@ fn some_piece<'a>(
     }
 }
 
-/// What was passed over when no element was open last: all, if none is now, else what was so before.
+// What was passed over when no element was open last: all, if none is now, else what was so before.
 fn last_whole<'a>(names: &[Name<'_>], all: Idle<'a>, before: Option<Idle<'a>>) -> Option<Idle<'a>>
     ensures { result ≡ (if length names.now == 0 then Some all.entry else before.entry) }
 {
     if names.is_empty() { Some(all) } else { before }
 }
 
-/// What a list of nodes keeps of what was passed over. `None` where it holds no element, or is too long.
+// What a list of nodes keeps of what was passed over. `None` where it holds no element, or is too long.
 fn plain_of<'a>(idle: Idle<'a>, bytes: &'a [u8]) -> Option<Plain<'a>>
     requires { (scope : Scope) × IsPassed (IsIdleIn scope) W bytes.now idle.rest.now idle.nodes idle.elems idle.deepest }
     ensures { (scope : Scope) → IsPassed (IsIdleIn scope) W bytes.entry.now idle.entry.rest.now idle.entry.nodes idle.entry.elems idle.entry.deepest → IfSome result (λ plain. IsIdleText scope bytes.entry.now plain idle.entry.rest.now idle.entry.nodes idle.entry.deepest) }
@@ -226,7 +226,7 @@ fn plain_of<'a>(idle: Idle<'a>, bytes: &'a [u8]) -> Option<Plain<'a>>
     Some(Plain::new(text, nodes, elems))
 }
 
-/// A try that ended before this piece. At depth 1 no element is open there, so the piece is the next one.
+// A try that ended before this piece. At depth 1 no element is open there, so the piece is the next one.
 fn ended<'a>(
     list: &mut Vec<Name<'a>>,
     idle: Option<Idle<'a>>,

@@ -16,7 +16,7 @@ use redl_markup::{Attribute, MarkupError, Name, StartTag, decode_value, next_att
 use redl_tree::Space;
 use std::alloc::{AllocError, Global};
 
-/// The space of the namespace with this name.
+// The space of the namespace with this name.
 #[tactic(auto, unfolding(crate::specs::Scopes::space_named))]
 fn space_named(name: &[u8]) -> Space
     ensures { result ≡ space_named name.now }
@@ -56,7 +56,7 @@ fn is_xmlns(word: &[u8]) -> bool
     word == b"xmlns".as_slice()
 }
 
-/// The prefix that an attribute with this name declares, which is empty for `xmlns`.
+// The prefix that an attribute with this name declares, which is empty for `xmlns`.
 fn declared_prefix<'a>(name: Name<'a>) -> Option<&'a [u8]>
     ensures { Gives (λ prefix. prefix.now) result (declared_prefix (name_view name.entry)) }
 {
@@ -69,7 +69,7 @@ fn declared_prefix<'a>(name: Name<'a>) -> Option<&'a [u8]>
     None
 }
 
-/// Whether a prefix may be declared with this value, given as written and as decoded.
+// Whether a prefix may be declared with this value, given as written and as decoded.
 #[tactic(auto, unfolding(crate::specs::Scopes::may_declare))]
 fn may_declare(prefix: &[u8], value: &[u8], decoded: &[u8]) -> bool
     requires { decoded.now ≡ decoded_value value.now }
@@ -88,7 +88,7 @@ fn is_known<'a>(scopes: &Spaces<'a>, prefix: &'a [u8]) -> bool
     prefix.is_empty() || is_xml_prefix(prefix) || scopes.space(prefix).is_some()
 }
 
-/// Whether an element may have a prefix. An attribute with such a prefix is no declaration.
+// Whether an element may have a prefix. An attribute with such a prefix is no declaration.
 #[cold]
 fn is_element_prefix<'a>(scopes: &Spaces<'a>, prefix: &'a [u8]) -> bool
     ensures { result ≡ is_element_prefix scopes.now prefix.now }
@@ -96,14 +96,14 @@ fn is_element_prefix<'a>(scopes: &Spaces<'a>, prefix: &'a [u8]) -> bool
     !is_xmlns(prefix) && is_known(scopes, prefix)
 }
 
-/// Whether an attribute with this name is a declaration, or has a prefix that may be used.
+// Whether an attribute with this name is a declaration, or has a prefix that may be used.
 fn is_known_attribute<'a>(scopes: &Spaces<'a>, name: Name<'a>) -> bool
     ensures { result ≡ (is_there (declared_prefix (name_view name.entry)) || is_known scopes.now (name_view name.entry).prefix) }
 {
     declared_prefix(name).is_some() || is_known(scopes, name.prefix)
 }
 
-/// Adds the declaration of an attribute, if it is one.
+// Adds the declaration of an attribute, if it is one.
 #[tactic(auto, unfolding(crate::specs::Inside::Elements::with_attribute))]
 fn declare_attribute<'a>(
     scopes: &mut Spaces<'a>,
@@ -123,7 +123,7 @@ fn declare_attribute<'a>(
     Ok(())
 }
 
-/// Adds the declarations among the attributes of a tail.
+// Adds the declarations among the attributes of a tail.
 fn declare_attributes<'a>(
     scopes: &mut Spaces<'a>,
     alloc: Global,
@@ -139,7 +139,7 @@ fn declare_attributes<'a>(
     Ok(())
 }
 
-/// Whether the prefixes of a tail's attributes may be used.
+// Whether the prefixes of a tail's attributes may be used.
 fn are_known<'a>(scopes: &Spaces<'a>, tail: &'a [u8]) -> bool
     ensures { result ≡ list_all (is_known_attribute scopes.now) (attributes_of tail.now) }
 {
@@ -170,7 +170,7 @@ pub(crate) fn element_space<'a>(scopes: &mut Spaces<'a>, name: Name<'a>) -> Opti
     }
 }
 
-/// The space of an element, if its prefix and those of its attributes may be used.
+// The space of an element, if its prefix and those of its attributes may be used.
 #[tactic(auto, unfolding(crate::specs::Inside::Elements::known))]
 fn known_space<'a>(scopes: &mut Spaces<'a>, name: Name<'a>, tail: &'a [u8]) -> Option<Space>
     ensures space { Gives (λ space. (space, scopes.old)) result (known (name_view name.entry) (attributes_of tail.entry.now) scopes.old) }
@@ -214,7 +214,7 @@ pub(crate) struct Entered {
     pub(crate) declared: usize,
 }
 
-/// Enters an element of this name and tail: adds its declarations, and gives its space.
+// Enters an element of this name and tail: adds its declarations, and gives its space.
 #[cold]
 #[tactic(auto, unfolding(crate::specs::Inside::Elements::entered))]
 fn enter_declaring<'a>(

@@ -82,7 +82,7 @@ impl<'a> Scopes<'a> {
         }
     }
 
-    /// Removes the nearest declaration.
+    // Removes the nearest declaration.
     fn forget_one(&mut self)
         ensures { self.new ≡ drop 1 self.old }
     {

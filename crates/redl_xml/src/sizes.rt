@@ -20,7 +20,7 @@ pub(crate) struct Sizes {
     pub(crate) nodes: u64,
 }
 
-/// A count plus one, up to one above the limit.
+// A count plus one, up to one above the limit.
 fn one_more(limit: u32, nodes: u64) -> u64
     ensures { result ≡ one_more limit nodes }
 {

@@ -11,7 +11,7 @@ use std::test::Fail;
 
 const THREE: &str = "<w:p><w:ins{A}/><w:del{A}/><w:ins{A}/></w:p>";
 
-/// What a call with the words of this line writes of a package with this body, in these formats.
+// What a call with the words of this line writes of a package with this body, in these formats.
 fn listed(
     alloc: Global,
     line: &str,
@@ -26,7 +26,7 @@ fn listed(
     Ok(out)
 }
 
-/// Calls with the words of this line, in these formats.
+// Calls with the words of this line, in these formats.
 fn call_in(
     alloc: Global,
     line: &str,
@@ -49,7 +49,7 @@ fn call_in(
     ))
 }
 
-/// Three revisions in the tests' own format.
+// Three revisions in the tests' own format.
 fn counted(alloc: Global) -> Result<MemSink, AllocError> {
     let mut formats = Vec::new(alloc);
     add_format(&mut formats, Box::new(alloc, TextFormat::new(alloc)?)?)?;
@@ -60,7 +60,7 @@ fn counted(alloc: Global) -> Result<MemSink, AllocError> {
     listed(alloc, "list P --format count", THREE, &mut formats)
 }
 
-/// Whether of two formats named `text` the first one wrote, and whether one is left.
+// Whether of two formats named `text` the first one wrote, and whether one is left.
 fn in_turn(alloc: Global) -> Result<(bool, bool), AllocError> {
     let mut formats = Vec::new(alloc);
     add_format(
@@ -73,8 +73,8 @@ fn in_turn(alloc: Global) -> Result<(bool, bool), AllocError> {
     Ok((first.bytes() == b"#\n".as_slice(), left == 1))
 }
 
-/// What comes of three revisions in a format that refuses the third: the status, how many bytes are out, and how many formats are
-/// left of two.
+// What comes of three revisions in a format that refuses the third: the status, how many bytes are out, and how many formats are
+// left of two.
 fn refused(alloc: Global) -> Result<(Status, usize, usize), AllocError> {
     let mut formats = Vec::new(alloc);
     add_format(&mut formats, Box::new(alloc, TextFormat::new(alloc)?)?)?;
@@ -89,7 +89,7 @@ fn refused(alloc: Global) -> Result<(Status, usize, usize), AllocError> {
     Ok((status, out.bytes().len(), formats.len()))
 }
 
-/// What comes of one revision, listed as text, where this put fails and takes this number of bytes: the status, and what is out.
+// What comes of one revision, listed as text, where this put fails and takes this number of bytes: the status, and what is out.
 fn listed_in_front(alloc: Global, fails: u64, taken: u64) -> Result<(Status, MemSink), AllocError> {
     let mut formats = Vec::new(alloc);
     add_format(&mut formats, Box::new(alloc, TextFormat::new(alloc)?)?)?;

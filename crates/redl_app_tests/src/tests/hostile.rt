@@ -13,18 +13,18 @@ use std::test::Fail;
 
 const UNWRITTEN: &str = "redline: cannot write\n";
 
-/// A text in a cell that was moved into a paragraph.
+// A text in a cell that was moved into a paragraph.
 const MOVED: &str =
     "<w:tbl><w:tr><w:tc><w:p><w:moveFromRangeStart w:id=\"10\" w:author=\"Bob\" w:name=\"m1\"/><w:moveFrom w:id=\"11\" w:author=\"Bob\"><w:r><w:t>f</w:t></w:r></w:moveFrom><w:moveFromRangeEnd w:id=\"10\"/></w:p></w:tc></w:tr></w:tbl><w:p><w:moveToRangeStart w:id=\"12\" w:author=\"Bob\" w:name=\"m1\"/><w:moveTo w:id=\"13\" w:author=\"Bob\"><w:r><w:t>f</w:t></w:r></w:moveTo><w:moveToRangeEnd w:id=\"12\"/></w:p>";
 
 const MOVED_LIVE: &str =
     "<w:tbl><w:tr><w:tc><w:p></w:p></w:tc></w:tr></w:tbl><w:p><w:r><w:t>f</w:t></w:r></w:p>";
 
-/// An inserted text of 60 letters.
+// An inserted text of 60 letters.
 const WIDE: &str =
     "<w:p><w:ins{A}><w:r><w:t>a text of sixty letters, counted from the first to the last.</w:t></w:r></w:ins></w:p>";
 
-/// What a call comes to.
+// What a call comes to.
 #[derive(Drop)]
 struct Ended {
     status: Status,
@@ -41,7 +41,7 @@ impl Ended {
     }
 }
 
-/// Calls with the words of this line, with the format of text, over an output and lines whose puts of these numbers fail.
+// Calls with the words of this line, with the format of text, over an output and lines whose puts of these numbers fail.
 fn call_failing(
     alloc: Global,
     line: &str,

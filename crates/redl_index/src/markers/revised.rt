@@ -18,7 +18,7 @@ pub(crate) fn is_revised(elem: &Elem) -> bool
         || (is_word(elem, Word::Tc) && is_cell_revision(elem.kids()))
 }
 
-/// Whether a row with these kids is a revision itself.
+// Whether a row with these kids is a revision itself.
 fn is_row_revision(kids: &[Node]) -> bool
     ensures { result ≡ row_revision (nodes_of kids.now) }
 {
@@ -30,7 +30,7 @@ fn is_row_revision(kids: &[Node]) -> bool
     false
 }
 
-/// Whether one of these marks its row as inserted or deleted.
+// Whether one of these marks its row as inserted or deleted.
 fn has_row_trace(nodes: &[Node]) -> bool
     ensures { result ≡ some_element (λ tag. is_some (row_trace_of_tag tag)) (nodes_of nodes.now) }
 {
@@ -42,7 +42,7 @@ fn has_row_trace(nodes: &[Node]) -> bool
     false
 }
 
-/// Whether a cell with these kids is a revision itself.
+// Whether a cell with these kids is a revision itself.
 fn is_cell_revision(kids: &[Node]) -> bool
     ensures { result ≡ cell_revision (nodes_of kids.now) }
 {
@@ -54,7 +54,7 @@ fn is_cell_revision(kids: &[Node]) -> bool
     false
 }
 
-/// Whether one of these marks its cell as inserted or deleted.
+// Whether one of these marks its cell as inserted or deleted.
 fn has_cell_trace(nodes: &[Node]) -> bool
     ensures { result ≡ some_element (λ tag. is_some (cell_trace_of_tag tag)) (nodes_of nodes.now) }
 {
@@ -66,7 +66,7 @@ fn has_cell_trace(nodes: &[Node]) -> bool
     false
 }
 
-/// Whether a node is the properties of a row, and they make the row a revision.
+// Whether a node is the properties of a row, and they make the row a revision.
 fn makes_row_revision(node: &Node) -> bool
     ensures { result ≡ makes_revised "trPr" (λ tag. is_some (row_trace_of_tag tag)) (item_of node.now) }
 {
@@ -76,7 +76,7 @@ fn makes_row_revision(node: &Node) -> bool
     }
 }
 
-/// Whether a node is the properties of a cell, and they make the cell a revision.
+// Whether a node is the properties of a cell, and they make the cell a revision.
 fn makes_cell_revision(node: &Node) -> bool
     ensures { result ≡ makes_revised "tcPr" (λ tag. is_some (cell_trace_of_tag tag)) (item_of node.now) }
 {
@@ -86,7 +86,7 @@ fn makes_cell_revision(node: &Node) -> bool
     }
 }
 
-/// Whether a node marks its row as inserted or deleted.
+// Whether a node marks its row as inserted or deleted.
 #[inline(always)]
 fn marks_row(node: &Node) -> bool
     ensures { result ≡ item_is (λ tag. is_some (row_trace_of_tag tag)) (item_of node.now) }
@@ -98,7 +98,7 @@ fn marks_row(node: &Node) -> bool
     }
 }
 
-/// Whether a node marks its cell as inserted or deleted.
+// Whether a node marks its cell as inserted or deleted.
 #[inline(always)]
 fn marks_cell(node: &Node) -> bool
     ensures { result ≡ item_is (λ tag. is_some (cell_trace_of_tag tag)) (item_of node.now) }

@@ -28,7 +28,7 @@ pub(crate) struct Below {
 }
 
 impl Trail {
-    /// The trail of a story's root, which has no ancestors.
+    // The trail of a story's root, which has no ancestors.
     fn top() -> Trail
         ensures { result ≡ trail_of [] }
     {
@@ -38,7 +38,7 @@ impl Trail {
         }
     }
 
-    /// The trail of the kids of `elem`, from its own. `here` sums up the ancestors of the element.
+    // The trail of the kids of `elem`, from its own. `here` sums up the ancestors of the element.
     fn inside(self, elem: &Elem, here: &Ancestors) -> Trail
         ensures { result ≡ inside_trail (tag_of elem.now) (kids_of elem.now) here.now self }
     {
@@ -77,7 +77,7 @@ impl Below {
     }
 }
 
-/// Whether it is among the rows of a table or the cells of a row, shells included.
+// Whether it is among the rows of a table or the cells of a row, shells included.
 fn is_in_grid(here: Place) -> bool
     ensures { result ≡ in_grid here }
 {
@@ -87,7 +87,7 @@ fn is_in_grid(here: Place) -> bool
     }
 }
 
-/// Whether an element here is an own row of its table, or an own cell of its row.
+// Whether an element here is an own row of its table, or an own cell of its row.
 fn is_own(here: Place, elem: &Elem) -> bool
     ensures { result ≡ is_own_at here (tag_of elem.now) }
 {
@@ -98,7 +98,7 @@ fn is_own(here: Place, elem: &Elem) -> bool
     }
 }
 
-/// Whether an element here is in a table or row, and what it holds in none of the own rows or cells.
+// Whether an element here is in a table or row, and what it holds in none of the own rows or cells.
 fn leaves_grid(here: Place, elem: &Elem) -> bool
     ensures { result ≡ leaves_grid_at here (tag_of elem.now) }
 {
