@@ -11,15 +11,20 @@ use redl_stamp::read_stamp;
 use redl_tree::{Kind, Prop, Trace};
 use std::alloc::{AllocError, Global};
 
-/// What a revision is: content, a paragraph's mark, a row or a cell that is inserted, deleted or moved, a move with its
-/// ranges, or a change of properties.
+/// What a revision is, and whether that is inserted, deleted or moved.
 #[derive(Clone, Copy, Debug, PartialEq, Eq)]
 pub enum RevKind {
+    /// Run content.
     Content(Trace),
+    /// A move with its ranges.
     Move,
+    /// The mark of a paragraph.
     Mark(Trace),
+    /// A row.
     Row(Trace),
+    /// A cell.
     Cell(Trace),
+    /// A change of properties.
     Change(Prop),
 }
 
@@ -40,15 +45,20 @@ impl RevKind {
     }
 }
 
-/// A revision: its number from 1 on, what it is, who made it and when, the number of its part from 0 on, and how many
-/// members it has. The moment is in seconds from 1970-01-01T00:00:00Z.
+/// A revision.
 #[derive(Drop)]
 pub struct Revision {
+    /// Its number, from 1 on.
     pub number: u32,
+    /// What it is.
     pub kind: RevKind,
+    /// Who made it; the empty text where no author is named.
     pub author: Text,
+    /// When, in seconds from 1970-01-01T00:00:00Z, where its date can be read.
     pub seconds: Option<i64>,
+    /// The number of its part, from 0 on.
     pub part: u32,
+    /// How many members it has.
     pub members: u32,
 }
 

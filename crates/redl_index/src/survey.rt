@@ -52,14 +52,18 @@ impl<'a> Model for Surveyed<'a> {
 /// A package with the kinds and numbers of its revisions, and the revisions.
 #[derive(Drop)]
 pub struct Numbered<'a> {
+    /// The package.
     pub package: Package<'a>,
+    /// Its revisions.
     pub index: Index,
 }
 
 /// A package with the kinds and numbers of its revisions, and how many it has.
 #[derive(Drop)]
 pub struct Counted<'a> {
+    /// The package.
     pub package: Package<'a>,
+    /// How many revisions it has.
     pub count: u32,
 }
 

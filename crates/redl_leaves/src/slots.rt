@@ -7,7 +7,9 @@ use redl_tree::{Elem, Node};
 #[derive(Drop)]
 #[cycle(slot)]
 pub enum Slot<'a> {
+    /// A leaf.
     Leaf(Leaf<'a>),
+    /// A container.
     Container(Box<Container<'a>>),
 }
 

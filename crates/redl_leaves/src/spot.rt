@@ -14,9 +14,13 @@ use redl_tree::{Elem, Reach, Site, Word, is_word, is_wrapper};
 /// Which story's root some nodes stand in directly. At most one is true.
 #[derive(Clone, Copy)]
 pub struct Root {
+    /// `document`, of a main document.
     pub document: bool,
+    /// `footnotes`.
     pub footnotes: bool,
+    /// `endnotes`.
     pub endnotes: bool,
+    /// `comments`.
     pub comments: bool,
 }
 

@@ -37,7 +37,9 @@ pub(crate) fn step_at<'a>(
 /// A leaf that is made anew: the way to it, and its pass.
 #[derive(Drop)]
 pub struct Made<'w, 'a> {
+    /// The way to it.
     pub way: &'w [u32],
+    /// Its pass.
     pub nodes: Vec<Node<'a>>,
 }
 

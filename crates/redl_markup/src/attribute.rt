@@ -19,7 +19,9 @@ use redl_reading::{field, skip};
 /// An attribute as it is written: its name, and its value without the quotes.
 #[derive(Clone, Copy, Debug, PartialEq, Eq)]
 pub struct Attribute<'a> {
+    /// Its name.
     pub name: Name<'a>,
+    /// The value between the quotes, as it is written.
     pub value: &'a [u8],
 }
 

@@ -9,7 +9,9 @@ use crate::marker::Marker;
 /// The source start of a move: its position, which names the move in its story, and its place in the list of markers.
 #[derive(Clone, Copy, Debug, PartialEq, Eq)]
 pub struct Start {
+    /// Its position.
     pub at: u64,
+    /// Its place in the list of markers.
     pub place: u32,
 }
 

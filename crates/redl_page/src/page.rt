@@ -22,19 +22,26 @@ use redl_opc::Package;
 /// attribute between quotes, the style, and the script.
 #[derive(Clone, Copy)]
 pub struct Skin<'a> {
+    /// The content security policy.
     pub policy: &'a [u8],
+    /// The style.
     pub style: &'a [u8],
+    /// The script.
     pub script: &'a [u8],
 }
 
-/// What a page shows: a package whose revisions are numbered, its revisions, which of them are locked, the book of its journals, and
-/// the digest of its text.
+/// What a page shows, of a package whose revisions are numbered.
 #[derive(Clone, Copy)]
 pub struct Shown<'a, 'b> {
+    /// The package.
     pub package: &'a Package<'b>,
+    /// Its revisions.
     pub index: &'a Index,
+    /// Whether each revision is locked, in the order of their numbers.
     pub locked: &'a [bool],
+    /// The joined book.
     pub book: &'a Book,
+    /// The SHA-256 of the text of the package.
     pub digest: &'a [u8; 32],
 }
 

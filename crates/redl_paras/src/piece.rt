@@ -2,16 +2,20 @@
 
 use redl_tree::{Elem, Node};
 
-/// What comes after a chain among the nodes that count as blocks: none of them, or one that is no paragraph.
+/// What comes after a chain among the nodes that count as blocks.
 #[derive(Clone, Copy, Debug, PartialEq, Eq)]
 pub enum Next {
+    /// No such node.
     End,
+    /// One that is no paragraph.
     Other,
 }
 
-/// A piece of a chain, already passed: a paragraph, whose mark is cut or not, or a node that counts as no block.
+/// A piece of a chain, already passed.
 #[derive(Drop)]
 pub enum Piece<'a> {
+    /// A paragraph; `cut` where its mark goes.
     Para { elem: Elem<'a>, cut: bool },
+    /// A node that counts as no block.
     Thin(Node<'a>),
 }

@@ -17,7 +17,9 @@ pub enum Own {
 /// The program's texts of itself.
 #[derive(Clone, Copy)]
 pub struct Texts<'a> {
+    /// The answer to `--help`.
     pub help: &'a str,
+    /// The answer to `--version`.
     pub version: &'a str,
 }
 

@@ -6,6 +6,7 @@ ghost use Rattle.redl_rules.specs.Keeping.{all_kept, in_both, least_broken};
 /// Which of the rules hold, in their order.
 #[derive(Clone, Copy)]
 pub struct Kept {
+    /// Whether each of them holds.
     pub rules: [bool; 9],
 }
 

@@ -25,8 +25,11 @@ pub enum Piece<'a> {
 /// A step over the bytes of a node: what it shows, what the next byte is in, and the bytes that are left.
 #[derive(Clone, Copy, Debug)]
 pub struct Step<'a> {
+    /// What it shows.
     pub piece: Piece<'a>,
+    /// What the next byte is in.
     pub here: Here,
+    /// The bytes that are left.
     pub rest: &'a [u8],
 }
 

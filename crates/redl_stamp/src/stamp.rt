@@ -21,7 +21,9 @@ pub struct Stamp {
     pub author: Text,
     /// The seconds from 1970-01-01T00:00:00Z to the date, if it can be read.
     pub seconds: Option<i64>,
+    /// The name, if the tag has one.
     pub name: Option<Text>,
+    /// The id, if the tag has one.
     pub id: Option<Text>,
 }
 

@@ -10,18 +10,23 @@ ghost use Rattle.redl_tree.specs.Model.View.{nodes_of, item_of, tag_of, kids_of}
 use crate::cuts::{Owner, is_cut};
 use redl_tree::{Elem, Node, Reach, Say, Word, is_word};
 
-/// What a table or a row owns: rows or cells.
+/// What a table or a row owns.
 #[derive(Clone, Copy, Debug, PartialEq, Eq)]
 pub enum Unit {
+    /// Rows of a table.
     Row,
+    /// Cells of a row.
     Cell,
 }
 
-/// What is found of own rows or cells: there is none, all go, or one stays.
+/// What is found of own rows or cells.
 #[derive(Clone, Copy, Debug, PartialEq, Eq)]
 pub enum Finding {
+    /// There is none.
     Nothing,
+    /// All go.
     Gone,
+    /// One stays.
     Living,
 }
 

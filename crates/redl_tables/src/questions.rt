@@ -14,7 +14,9 @@ use redl_tree::{Elem, Reach, Say, Word, is_word};
 /// how it reaches the list.
 #[derive(Clone, Copy, Debug, PartialEq, Eq)]
 pub struct Question {
+    /// Rows or cells.
     pub unit: Unit,
+    /// How the list is reached.
     pub reach: Reach,
 }
 

@@ -37,7 +37,9 @@ impl<'a> Model for Laid<'a> {
 /// The first of some nodes.
 #[derive(Drop)]
 pub enum First<'a> {
+    /// A stretch of bytes without a tag.
     Bytes(&'a [u8]),
+    /// An element.
     Elem(LaidElem<'a>),
 }
 
@@ -45,8 +47,11 @@ pub enum First<'a> {
 /// in its end tag.
 #[derive(Drop)]
 pub struct LaidElem<'a> {
+    /// Its start tag.
     pub tag: Tag<'a>,
+    /// How it is closed.
     pub close: Option<&'a [u8]>,
+    /// Its kids.
     pub kids: Laid<'a>,
 }
 

@@ -9,7 +9,9 @@ use crate::visit::Visitor;
 /// Two visitors as one, for one walk. At each element `first` is called before `second`, and the first `Err` of either ends the walk.
 #[derive(Drop)]
 pub struct Both<A, B> {
+    /// The visitor that is called first.
     pub first: A,
+    /// The other one.
     pub second: B,
 }
 

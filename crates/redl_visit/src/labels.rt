@@ -13,7 +13,9 @@ use redl_tree::{Around, Body, Elem, Kind, Node, Plain, Spaced};
 /// The kind of an element and the number of its revision.
 #[derive(Clone, Copy, Debug, PartialEq, Eq)]
 pub struct Label {
+    /// The kind of the element.
     pub kind: Kind,
+    /// The number of its revision, or 0 for none.
     pub rev: u32,
 }
 

@@ -8,18 +8,26 @@ use redl_select::{Lock, Selection};
 /// What is shown of a document: its text before its revisions, its text after them, or the original with its changes marked.
 #[derive(Clone, Copy, Debug, PartialEq, Eq)]
 pub enum View {
+    /// The text before the revisions.
     Original,
+    /// The text after them.
     Final,
+    /// The original with its changes marked.
     Marked,
 }
 
 /// A list of the package's revisions in the format of this name, of those alone that each of `only` shows.
 #[derive(Drop)]
 pub struct ListCommand {
+    /// The name of the package.
     pub package: Text,
+    /// The name of the format.
     pub format: Text,
+    /// The locks.
     pub locks: Vec<Lock>,
+    /// The names of the journals.
     pub journals: Vec<Text>,
+    /// What each shown revision has to be.
     pub only: Vec<Only>,
 }
 
@@ -27,30 +35,45 @@ pub struct ListCommand {
 /// each kind, if this is asked for.
 #[derive(Drop)]
 pub struct ReportCommand {
+    /// The name of the package.
     pub package: Text,
+    /// The name of the format.
     pub format: Text,
+    /// Whether each kind has a line.
     pub by_kind: bool,
+    /// The locks.
     pub locks: Vec<Lock>,
+    /// The names of the journals.
     pub journals: Vec<Text>,
 }
 
 /// A journal of what the reviewer decides, with this rank, on revisions of the package.
 #[derive(Drop)]
 pub struct DecideCommand {
+    /// The name of the package.
     pub package: Text,
+    /// Who decides.
     pub reviewer: Text,
+    /// The names of the journals.
     pub journals: Vec<Text>,
+    /// The locks.
     pub locks: Vec<Lock>,
+    /// What is decided on which revisions.
     pub choices: Vec<(Word, Selection)>,
+    /// The rank of what is decided.
     pub rank: u8,
 }
 
 /// One journal for the package, of its own journals and those of the second package.
 #[derive(Drop)]
 pub struct ResumeCommand {
+    /// The name of the package.
     pub package: Text,
+    /// The name of the second package.
     pub second: Text,
+    /// The names of the journals of the package.
     pub firsts: Vec<Text>,
+    /// The names of the journals of the second package.
     pub journals: Vec<Text>,
 }
 
@@ -67,6 +90,7 @@ pub enum Command {
         package: Text,
         view: View,
     },
+    /// A list of a package's revisions.
     List(ListCommand),
     /// A page of the package's revisions, on which a reviewer decides in a browser.
     Page {
@@ -74,6 +98,7 @@ pub enum Command {
         locks: Vec<Lock>,
         journals: Vec<Text>,
     },
+    /// Where each reviewer and each author stands.
     Report(ReportCommand),
     /// The package under the joined verdicts of the journals.
     Write {
@@ -81,7 +106,9 @@ pub enum Command {
         locks: Vec<Lock>,
         journals: Vec<Text>,
     },
+    /// A journal of what a reviewer decides.
     Decide(DecideCommand),
+    /// One journal of two sittings.
     Resume(ResumeCommand),
     /// The union of the journals.
     Join {
