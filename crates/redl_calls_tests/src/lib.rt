@@ -3,6 +3,8 @@
 #![tactic(auto)]
 
 #[cfg(test)]
+mod editor;
+#[cfg(test)]
 mod excerpts;
 #[cfg(test)]
 mod inputs;

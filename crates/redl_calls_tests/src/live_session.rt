@@ -32,8 +32,12 @@ const FREED: &[u8] = b"<w:p><w:r><w:t>a</w:t></w:r></w:p>";
 
 const CUT: &[u8] = b"<w:p></w:p>";
 
-// A session over the package with this text, under these locks.
-fn session_over<'t>(alloc: Global, text: &'t [u8], locks: Locks) -> Result<LiveSession<'t>, Fail> {
+/// A session over the package with this text, under these locks.
+pub(crate) fn session_over<'t>(
+    alloc: Global,
+    text: &'t [u8],
+    locks: Locks,
+) -> Result<LiveSession<'t>, Fail> {
     let mut pkg = Package::make(alloc, redl_xml::read(alloc, text)?)?;
     check(alloc, &pkg)?;
     let index = Index::build(alloc, &mut pkg)?;

@@ -1,0 +1,144 @@
+//! Leaves of bodies that are read. The reader keeps neighbours in which no walk finds anything as one text; each of them is a leaf all
+//! the same, or is in that of a chain, and comes back as it was written.
+//!
+//! Bodies, leaves and what is wanted are outlines. The wanted ones follow from ECMA-376 Part 1, 17.13.5.
+
+use crate::inputs::{entries_of, package_text};
+use crate::live_session::session_over;
+use redl_editor::Editor;
+use redl_io::MemSink;
+use redl_outline::{nodes_text, outline_text};
+use redl_session::Locks;
+use std::alloc::{AllocError, Global};
+use std::str::from_utf8;
+use std::test::Fail;
+
+// A member of revision 1, and an element whose tags have white space.
+const OWN: &[(&str, &str)] = &[
+    ("1", " w:id='1' w:author='Ann'"),
+    ("blank", "<w:k ><w:m  w:a = '1'>x</w:m ></w:k\n>"),
+];
+
+const ACCEPT: &[u8] = b"1\t1\taccept\tAnn\n";
+
+const REJECT: &[u8] = b"1\t1\treject\tAnn\n";
+
+// A body, its leaves, an entry, the leaves then, and what is left of the body.
+type Row<'t> = (&'t str, &'t [&'t str], &'t [u8], &'t [&'t str], &'t str);
+
+const ROWS: [Row; 6] = [
+    (
+        "k m .a ..(x) .(y) (z) k p .r ..t ...(a) .k .ins/1 ..r ...t ....(b) .r .k",
+        &[
+            "k",
+            "m .a ..(x) .(y)",
+            "(z)",
+            "k",
+            "p .r ..t ...(a) .k .ins/1 ..r ...t ....(b) .r .k",
+        ],
+        ACCEPT,
+        &[
+            "k",
+            "m .a ..(x) .(y)",
+            "(z)",
+            "k",
+            "p .r ..t ...(a) .k .r ..t ...(b) .r .k",
+        ],
+        "k m .a ..(x) .(y) (z) k p .r ..t ...(a) .k .r ..t ...(b) .r .k",
+    ),
+    (
+        "(blank) m p .ins/1 ..r",
+        &["(blank)", "m", "p .ins/1 ..r"],
+        REJECT,
+        &["(blank)", "m", "p .()"],
+        "(blank) m p .()",
+    ),
+    // a chain that goes on after them, and one that ends before them
+    (
+        "p .pPr ..rPr ...del/1 .r ..t ...(a) k m .a p .r ..t ...(b) k m",
+        &[
+            "p .pPr ..rPr ...del/1 .r ..t ...(a) k m .a p .r ..t ...(b)",
+            "k",
+            "m",
+        ],
+        ACCEPT,
+        &["p .r ..t ...(a) .k .m ..a .r ..t ...(b)", "k", "m"],
+        "p .r ..t ...(a) .k .m ..a .r ..t ...(b) k m",
+    ),
+    (
+        "p .pPr ..rPr ...ins/1 .r k m .a tbl .tr ..tc ...p",
+        &["p .pPr ..rPr ...ins/1 .r", "k", "m .a", "p"],
+        ACCEPT,
+        &["p .pPr ..rPr ...() .r", "k", "m .a", "p"],
+        "p .pPr ..rPr ...() .r k m .a tbl .tr ..tc ...p",
+    ),
+    // in a table, and in a row that goes
+    (
+        "tbl .k .m .tr ..k ..tc ...p ....ins/1 .....r ...k ...m ....a .k .m",
+        &["k", "m", "k", "p .ins/1 ..r", "k", "m .a", "k", "m"],
+        ACCEPT,
+        &["k", "m", "k", "p .r", "k", "m .a", "k", "m"],
+        "tbl .k .m .tr ..k ..tc ...p ....r ...k ...m ....a .k .m",
+    ),
+    (
+        "tbl .tr ..trPr ...del/1 ..k ..m ..tc ...p ...k ...m .k .tr ..tc ...p",
+        &["trPr .del/1", "k", "m", "p", "k", "m", "k", "p"],
+        ACCEPT,
+        &["", "", "", "", "", "", "k", "p"],
+        "tbl .k .tr ..tc ...p",
+    ),
+];
+
+// The texts of leaves, each with a bar after it.
+fn leaves_text(alloc: Global, editor: &Editor) -> Result<String, AllocError> {
+    let mut text = String::new(alloc);
+    for place in 0..editor.leaves(0) {
+        if let Some(nodes) = editor.leaf(0, place) {
+            text.push_str(nodes_text(alloc, nodes)?.as_str())?;
+        }
+        text.push('|')?;
+    }
+    Ok(text)
+}
+
+// The same of outlines.
+fn outlines_text(alloc: Global, leaves: &[&str]) -> Result<String, AllocError> {
+    let mut text = String::new(alloc);
+    for leaf in leaves {
+        text.push_str(outline_text(alloc, leaf, OWN)?.as_str())?;
+        text.push('|')?;
+    }
+    Ok(text)
+}
+
+// The leaves of this body, those after these entries, and the package that is written then.
+fn shown(alloc: Global, body: &str, lines: &[u8]) -> Result<(String, String, String), Fail> {
+    let text = body_text(alloc, body)?;
+    let mut session = session_over(alloc, text.as_bytes(), Locks::new(Vec::new(alloc)))?;
+    let before = leaves_text(alloc, session.editor())?;
+    session.admit_many(entries_of(alloc, lines)?)?;
+    let after = leaves_text(alloc, session.editor())?;
+    let mut out = MemSink::new(alloc, 2_000, Vec::new(alloc))?;
+    session.write(&mut out)?;
+    let written = String::from_str(alloc, from_utf8(out.bytes()).unwrap_or("no text"))?;
+    Ok((before, after, written))
+}
+
+// The text of the package with this body.
+fn body_text(alloc: Global, body: &str) -> Result<String, AllocError> {
+    package_text(alloc, "/d", outline_text(alloc, body, OWN)?.as_str())
+}
+
+#[test]
+fn neighbours_that_are_kept_as_text_are_leaves(rt: HostRuntime) -> Result<(), Fail> {
+    for (body, leaves, lines, later, left) in ROWS {
+        let (before, after, written) = shown(rt.alloc(), body, lines)?;
+        let want = outlines_text(rt.alloc(), leaves)?;
+        assert!(rt; before == want, "{body}: {before}");
+        let want = outlines_text(rt.alloc(), later)?;
+        assert!(rt; after == want, "{body}: {after}");
+        let want = body_text(rt.alloc(), left)?;
+        assert!(rt; written == want, "{body}: {written}");
+    }
+    Ok(())
+}
