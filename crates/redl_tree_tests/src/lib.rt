@@ -5,6 +5,8 @@
 #[cfg(test)]
 mod documents;
 #[cfg(test)]
+mod folds;
+#[cfg(test)]
 mod index;
 #[cfg(test)]
 mod markers;

@@ -301,38 +301,66 @@ fn push_times(text: &mut Vec<u8>, part: &str, times: u32) -> Result<(), AllocErr
     Ok(())
 }
 
-// Why a text with this many start tags, then as many times `inner`, and then as many end tags, is refused.
+// The root of the rows on limits, and one in which all is of WordprocessingML, so that neighbours are one text from the
+// fifth level on.
+const ROOT: &str = "<a>";
+
+const WORD_ROOT: &str = "<a xmlns='http://schemas.openxmlformats.org/wordprocessingml/2006/main'>";
+
+// Why a text is refused with this root among so many start tags, then so many times `inner`, and then so many end tags.
 fn refused(
     alloc: Global,
+    root: &str,
     starts: u32,
-    inner: &str,
-    times: u32,
+    (inner, times): (&str, u32),
     ends: u32,
 ) -> Result<Option<XmlError>, AllocError> {
     let mut text = Vec::new(alloc);
-    push_times(&mut text, "<a>", starts)?;
+    push_times(&mut text, root, 1)?;
+    push_times(&mut text, "<a>", starts.saturating_sub(1))?;
     push_times(&mut text, inner, times)?;
     push_times(&mut text, "</a>", ends)?;
     Ok(read(alloc, &text).err())
 }
 
+const LIMITS: &[(&str, u32, (&str, u32), u32, Option<XmlError>)] = &[
+    (ROOT, 512, ("", 0), 512, None),
+    (ROOT, 513, ("", 0), 513, Some(XmlError::Depth)),
+    (ROOT, 511, ("<b/>", 2), 511, None),
+    (ROOT, 512, ("x", 1), 512, None),
+    (ROOT, 512, ("<b/>", 1), 512, Some(XmlError::Depth)),
+    (ROOT, 513, ("", 0), 512, Some(XmlError::Unreadable)),
+    (ROOT, 1, ("<b/>", 2_097_151), 1, None),
+    (ROOT, 1, ("<b/>", 2_097_152), 1, Some(XmlError::Nodes)),
+    (ROOT, 1, ("x<b></b>", 1_048_576), 1, Some(XmlError::Nodes)),
+    (ROOT, 512, ("<b/>", 2_097_152), 512, Some(XmlError::Depth)),
+    (ROOT, 1, ("<b/>", 2_097_152), 0, Some(XmlError::Unreadable)),
+    // the elements and bytes of a text count too
+    (WORD_ROOT, 512, ("", 0), 512, None),
+    (WORD_ROOT, 513, ("", 0), 513, Some(XmlError::Depth)),
+    (WORD_ROOT, 512, ("<b/>", 1), 512, Some(XmlError::Depth)),
+    (WORD_ROOT, 4, ("<b></b>x", 1_048_574), 4, None),
+    (
+        WORD_ROOT,
+        5,
+        ("<b></b>x", 1_048_574),
+        5,
+        Some(XmlError::Nodes),
+    ),
+    (
+        WORD_ROOT,
+        4,
+        ("<b/>", 2_097_149),
+        3,
+        Some(XmlError::Unreadable),
+    ),
+];
+
 #[test]
 fn depth_and_nodes_have_limits(rt: HostRuntime) -> Result<(), Fail> {
-    for (starts, inner, times, ends, want) in [
-        (512, "", 0, 512, None),
-        (513, "", 0, 513, Some(XmlError::Depth)),
-        (511, "<b/>", 2, 511, None),
-        (512, "x", 1, 512, None),
-        (512, "<b/>", 1, 512, Some(XmlError::Depth)),
-        (513, "", 0, 512, Some(XmlError::Unreadable)),
-        (1, "<b/>", 2_097_151, 1, None),
-        (1, "<b/>", 2_097_152, 1, Some(XmlError::Nodes)),
-        (1, "x<b></b>", 1_048_576, 1, Some(XmlError::Nodes)),
-        (512, "<b/>", 2_097_152, 512, Some(XmlError::Depth)),
-        (1, "<b/>", 2_097_152, 0, Some(XmlError::Unreadable)),
-    ] {
-        let got = refused(rt.alloc(), starts, inner, times, ends)?;
-        assert!(rt; got == want, "{starts} {inner} {times} {ends}: {got:?}");
+    for (root, starts, inner, ends, want) in LIMITS {
+        let got = refused(rt.alloc(), root, *starts, *inner, *ends)?;
+        assert!(rt; got == *want, "{root} {starts} {inner:?} {ends}: {got:?}");
     }
     Ok(())
 }
