@@ -6,7 +6,6 @@ use Rattle.redl_tree.specs.Roles.Names.{is, of_w}
 use Rattle.redl_tree.specs.Roles.Places.{is_quiet}
 use Rattle.redl_tree.specs.Roles.Idle.{is_idle_in}
 use Rattle.redl_tree.specs.declared.kinds.Kind.TheVariants.{Plain}
-use Rattle.redl_tree.proofs.Laws.{⊕-no_nodes}
 use Rattle.redl_tree.proofs.NameLaws.{and-false}
 use Rattle.redl_tree.proofs.Named.{by_name}
 use Rattle.redl_tree.proofs.Idle.Tags.{Idle, idle_parts, has-not}
@@ -16,9 +15,9 @@ use Rattle.redl_idle.specs.Shows.{shows}
 use Rattle.redl_idle.proofs.RoleLaws.{by_local, name_same, quiet_same}
 use Rattle.redl_excerpts.specs.declared.idle.Below.{Below}
 use Rattle.redl_excerpts.specs.Inside.Idle.{beside, idle_rule, inside_idle}
-use Rattle.redl_excerpts.specs.Ears.{along-more}
 use Rattle.redl_excerpts.specs.Mentions.{Mention, Where, bytes_said, inside, member_told, mentions, past, told_by}
 use Rattle.redl_excerpts.specs.Said.{element_said, holds_text, is_silent, said, start_said}
+use Rattle.redl_excerpts.proofs.SaidLaws.{mentions-⊕}
 
 -- ---- one element
 
@@ -96,9 +95,6 @@ said_idle in_line in_text t = says_idle in_line in_text false (idle_nodes t) (no
 
 -- ---- no idle element is a member
 
-past-twice : (here : Where) (a b : List ℕ) → past (past here a) b ≡ past here (a ++ b)
-past-twice here a b = ap (λ p. record here { place = p }) (along-more here.place a b)
-
 nothing_told : (moved : Bool) (v : ℕ) (here : Where) (in_run : Bool) (tag : Tag) (kids : Nodes) → Idle in_run tag → member_told moved v here tag kids ≡ []
 nothing_told moved v here in_run tag kids i =
     ap (λ k. if tag.rev == v then told_by moved here k tag kids else []) i.kind ∙ either (tag.rev == v)
@@ -107,23 +103,20 @@ nothing_told moved v here in_run tag kids i =
     either true = refl
     either false = refl
 
-mentions_past : (moved : Bool) (v : ℕ) (here : Where) (in_run : Bool) (x y : Nodes) → is_idle_in in_run x ≡ true
-    → mentions moved v here (x ⊕ y) ≡ mentions moved v (past here (said true here.in_text x)) y
-mentions_past moved v here in_run no_nodes y h = refl
-mentions_past moved v here in_run (bytes b rest) y h =
-    let own = bytes_said here.in_text b in
-    mentions_past moved v (past here own) in_run rest y h ∙ ap (λ now. mentions moved v now y) (past-twice here own (said true here.in_text rest))
-mentions_past moved v here in_run (element tag kids rest) y h =
+idle_mentions : (moved : Bool) (v : ℕ) (here : Where) (in_run : Bool) (x : Nodes) → is_idle_in in_run x ≡ true → mentions moved v here x ≡ []
+idle_mentions moved v here in_run no_nodes h = refl
+idle_mentions moved v here in_run (bytes b rest) h = idle_mentions moved v (past here (bytes_said here.in_text b)) in_run rest h
+idle_mentions moved v here in_run (element tag kids rest) h =
     let p = idle_parts in_run tag kids rest h in
     let there = inside here tag kids in
-    let own = element_said true tag kids in
-    let below : mentions moved v there kids ≡ [] = ap (mentions moved v there) (sym (⊕-no_nodes kids)) ∙ mentions_past moved v there (is "r" tag) kids no_nodes p.below in
-    let later = mentions moved v (past here own) (rest ⊕ y) in
+    let later = mentions moved v (past here (element_said true tag kids)) rest in
     ap (λ (ms : List Mention). (ms ++ mentions moved v there kids) ++ later) (nothing_told moved v here in_run tag kids p.own)
-    ∙ ap (λ (ms : List Mention). ms ++ later) below
-    ∙ mentions_past moved v (past here own) in_run rest y p.later
-    ∙ ap (λ now. mentions moved v now y) (past-twice here own (said true here.in_text rest))
+    ∙ ap (λ (ms : List Mention). ms ++ later) (idle_mentions moved v there (is "r" tag) kids p.below)
+    ∙ idle_mentions moved v (past here (element_said true tag kids)) in_run rest p.later
 
+-- so those after them tell what they tell, at a later place
 pub mentions_idle : (moved : Bool) (v : ℕ) (here : Where) (t : List ℕ) (rest : Nodes)
     → mentions moved v here (idle_nodes t ⊕ rest) ≡ mentions moved v (past here (said true here.in_text (idle_nodes t))) rest
-mentions_idle moved v here t rest = mentions_past moved v here false (idle_nodes t) rest (nodes_are_idle t)
+mentions_idle moved v here t rest =
+    mentions-⊕ moved v here (idle_nodes t) rest
+    ∙ ap (λ (ms : List Mention). ms ++ mentions moved v (past here (said true here.in_text (idle_nodes t))) rest) (idle_mentions moved v here false (idle_nodes t) (nodes_are_idle t))

@@ -1,4 +1,4 @@
--- What nodes say after others, and bytes that are shown as they are.
+-- What nodes say and tell after others, and bytes that are shown as they are.
 use Rattle.std.proofs.Common.{◌≡◌, ◌&&◌, ℕ, Bool, true, List, [], ◌∷◌, ◌++◌, refl, sym, ap, ◌∙◌, append_assoc, if◌then◌else◌}
 use Rattle.std.proofs.lemmas.Bool.{and_parts}
 use Rattle.std.proofs.lemmas.List.{append-nil}
@@ -8,7 +8,9 @@ use Rattle.redl_shown.specs.Shown.{in_part, is_plain, shown}
 use Rattle.redl_shown.proofs.ShownLaws.{shown-plain}
 use Rattle.redl_tree.specs.Model.IdleTexts.{idle_nodes}
 use Rattle.redl_tree.specs.Model.Nodes.{Nodes, no_nodes, bytes, element, Item, bytes_item, element_item, idle_item, in_front, ◌⊕◌}
-use Rattle.redl_excerpts.specs.Said.{all_plain_from, holds_text, is_silent, item_said, said, start_said}
+use Rattle.redl_excerpts.specs.Ears.{along-more}
+use Rattle.redl_excerpts.specs.Mentions.{Mention, Where, bytes_said, inside, member_told, mentions, past}
+use Rattle.redl_excerpts.specs.Said.{all_plain_from, element_said, holds_text, is_silent, item_said, said, start_said}
 
 -- nodes after others
 pub said-⊕ : (in_line in_text : Bool) (x y : Nodes) → said in_line in_text (x ⊕ y) ≡ said in_line in_text x ++ said in_line in_text y
@@ -24,6 +26,26 @@ pub said-in_front : (in_line in_text : Bool) (item : Item) (rest : Nodes) → sa
 said-in_front in_line in_text (bytes_item b) rest = refl
 said-in_front in_line in_text (element_item tag kids) rest = refl
 said-in_front in_line in_text (idle_item t) rest = said-⊕ in_line in_text (idle_nodes t) rest
+
+-- ---- what they tell
+
+past-twice : (here : Where) (a b : List ℕ) → past (past here a) b ≡ past here (a ++ b)
+past-twice here a b = ap (λ p. record here { place = p }) (along-more here.place a b)
+
+pub mentions-⊕ : (moved : Bool) (v : ℕ) (here : Where) (x y : Nodes)
+    → mentions moved v here (x ⊕ y) ≡ mentions moved v here x ++ mentions moved v (past here (said true here.in_text x)) y
+mentions-⊕ moved v here no_nodes y = refl
+mentions-⊕ moved v here (bytes b rest) y =
+    let own = bytes_said here.in_text b in
+    mentions-⊕ moved v (past here own) rest y
+    ∙ ap (λ now. mentions moved v (past here own) rest ++ mentions moved v now y) (past-twice here own (said true here.in_text rest))
+mentions-⊕ moved v here (element tag kids rest) y =
+    let own = element_said true tag kids in
+    let told = member_told moved v here tag kids ++ mentions moved v (inside here tag kids) kids in
+    let later = mentions moved v (past here own) rest in
+    ap (λ (ms : List Mention). told ++ ms) (mentions-⊕ moved v (past here own) rest y)
+    ∙ sym (append_assoc told later (mentions moved v (past (past here own) (said true here.in_text rest)) y))
+    ∙ ap (λ now. (told ++ later) ++ mentions moved v now y) (past-twice here own (said true here.in_text rest))
 
 -- ---- bytes
 

@@ -33,6 +33,11 @@ tells-nothing excerpts = λ k. unchanged (slice_get excerpts k)
 pub tells-as : (old new : List Excerpt) (first second : ℕ → List Mention) → ((v : ℕ) → first v ≡ second v) → TellsEach old new first → TellsEach old new second
 tells-as old new first second same tells = λ k. tells k ∙ ap (λ ms. option_map (λ excerpt. told_all excerpt ms) (slice_get old k)) (same (k + 1))
 
+-- the same where numbers begin with 1
+pub tells-from_one : (old new : List Excerpt) (first second : ℕ → List Mention) → ((v : ℕ) → 0 < v → first v ≡ second v) → TellsEach old new first → TellsEach old new second
+tells-from_one old new first second same tells =
+    λ k. tells k ∙ ap (λ ms. option_map (λ excerpt. told_all excerpt ms) (slice_get old k)) (same (k + 1) (omega arith))
+
 -- one after the other
 pub tells-then : (old mid new : List Excerpt) (first second : ℕ → List Mention) → TellsEach old mid first → TellsEach mid new second → TellsEach old new (λ v. first v ++ second v)
 tells-then old mid new first second before after =

@@ -1,10 +1,11 @@
 //! Excerpts.
 
-ghost use Rattle.std.specs.Prelude.{◌≡◌, IfOk, OnOk, true, if◌then◌else◌};
+ghost use Rattle.std.specs.Prelude.{◌≡◌, IfOk, OnOk, true, false, if◌then◌else◌};
 ghost use Rattle.redl_tree.specs.Model.View.{nodes_of, tag_of};
 ghost use Rattle.redl_excerpts.specs.Excerpts.{is_trimmed, nothing_told, told};
 ghost use Rattle.redl_excerpts.specs.Mentions.{id_of, paragraph_end_in, stretch_in};
-ghost use Rattle.redl_excerpts.specs.Lines.{before};
+ghost use Rattle.redl_excerpts.specs.Lines.{along, before};
+ghost use Rattle.redl_excerpts.specs.Said.{said};
 
 use crate::ear::Ear;
 use crate::line::{Place, before, behind};
@@ -48,7 +49,8 @@ impl Excerpt {
         })
     }
 
-    /// A member tells of these nodes, which begin at this place of the line. `Err` means out of memory.
+    /// A member tells of these nodes, which begin at this place of the line. It gives the place where they end in the line. `Err`
+    /// means out of memory.
     pub(crate) fn tell_stretch(
         &mut self,
         alloc: Global,
@@ -56,15 +58,16 @@ impl Excerpt {
         line: &[u8],
         place: Place,
         nodes: &[Node],
-    ) -> Result<(), AllocError>
-        ensures { OnOk result (self.new ≡ told self.old (stretch_in line.now (tag_of elem.now) place (nodes_of nodes.now))) }
+    ) -> Result<Place, AllocError>
+        ensures told { OnOk result (self.new ≡ told self.old (stretch_in line.now (tag_of elem.now) place (nodes_of nodes.now))) }
+        ensures end { IfOk result (λ end. end ≡ along place (said true false (nodes_of nodes.now))) }
     {
         self.begin(alloc, elem, line, place)?;
         tell_nodes(nodes, false, false, &mut self.words)?;
         let mut end = place;
         tell_nodes(nodes, true, false, &mut end)?;
         self.behind = behind(alloc, line, end)?;
-        Ok(())
+        Ok(end)
     }
 
     /// A member tells of the end of the paragraph with this line. `Err` means out of memory.

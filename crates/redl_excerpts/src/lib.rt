@@ -7,6 +7,7 @@
 
 mod ear;
 mod excerpt;
+mod flat;
 mod idle;
 mod line;
 mod members;

@@ -1,15 +1,17 @@
 //! The walk over the nodes of a story: each member tells the excerpt of its revision.
 
-ghost use Rattle.std.specs.Prelude.{◌≡◌, ◌<◌, IfOk, OnOk, false, true};
+ghost use Rattle.std.specs.Prelude.{◌≡◌, ◌<◌, IfOk, IfSome, IsSome, OnOk, false, true};
 ghost use Rattle.redl_tree.specs.Model.IdleTexts.{idle_nodes};
 ghost use Rattle.redl_tree.specs.Model.View.{nodes_of, item_of, tag_of, kids_of};
 ghost use Rattle.redl_excerpts.specs.Excerpts.{TellsEach, is_moved, told_all};
 ghost use Rattle.redl_excerpts.specs.Lines.{along, line_of};
 ghost use Rattle.redl_excerpts.specs.Mentions.{bytes_said, element_mentions, in_paragraph, item_mentions, member_told, mentions, told_by};
-ghost use Rattle.redl_excerpts.specs.Said.{element_said, item_said, said, start_said};
+ghost use Rattle.redl_excerpts.specs.Said.{element_said, holds_text, item_said, said, start_said};
+ghost use Rattle.redl_excerpts.specs.Inside.Flat.{are_flat};
 ghost use Rattle.redl_excerpts.specs.Inside.Views.{where_of};
 
 use crate::excerpt::Excerpt;
+use crate::flat::{are_flat, count_telling};
 use crate::idle::tell_plain;
 use crate::line::{Line, Place};
 use crate::said::{holds_text, is_paragraph, tell_bytes, tell_nodes, tell_start};
@@ -103,7 +105,7 @@ fn tell_member_elem(
     ensures told { OnOk result (TellsEach excerpts.old.items excerpts.new.items (λ v. element_mentions (is_moved revisions.now v) v (where_of here.entry place) (tag_of elem.now) (kids_of elem.now))) }
     ensures place { IfOk result (λ behind. behind ≡ along place (element_said true (tag_of elem.now) (kids_of elem.now))) }
 {
-    tell_member(alloc, revisions, elem, here, place, excerpts)?;
+    let end = tell_member(alloc, revisions, elem, here, place, excerpts)?;
     if is_paragraph(elem) {
         tell_paragraph(alloc, revisions, elem, excerpts)?;
         return Ok(place);
@@ -120,6 +122,9 @@ fn tell_member_elem(
         return Ok(place);
     }
     let begin = past_start(elem, place)?;
+    if let Some(end) = end_of_flat(elem, place, begin, end) {
+        return Ok(end);
+    }
     let inside = Here {
         in_text: holds_text(elem),
         owner: held,
@@ -138,6 +143,19 @@ fn past_start(elem: &Elem, place: Place) -> Result<Place, AllocError>
     Ok(behind)
 }
 
+// The place behind an element's kids, which begin here, where a member told of them and nothing inside tells: that where they ended
+// then, so that they need not be walked once more.
+fn end_of_flat(elem: &Elem, place: Place, begin: Place, end: Option<Place>) -> Option<Place>
+    requires { IfSome end (λ end. end ≡ along place (said true false (kids_of elem.now))) }
+    ensures behind { IfSome result (λ behind. behind ≡ along begin (said true (holds_text (tag_of elem.now)) (kids_of elem.now))) }
+    ensures flat { IsSome result → are_flat (kids_of elem.now) ≡ true }
+{
+    if end.is_some() && begin == place && !holds_text(elem) && are_flat(elem.kids()) {
+        return end;
+    }
+    None
+}
+
 #[cycle(members)]
 fn tell_paragraph(
     alloc: Global,
@@ -148,6 +166,10 @@ fn tell_paragraph(
     ensures { OnOk result (TellsEach excerpts.old.items excerpts.new.items (λ v. mentions (is_moved revisions.now v) v (in_paragraph (kids_of elem.now) (line_of (said true false (kids_of elem.now)))) (kids_of elem.now))) }
 {
     let held = elem.kids();
+    let count = count_telling(held);
+    if count == 0 {
+        return Ok(());
+    }
     let line = line_of(alloc, held)?;
     let start = Place::start(line.as_bytes());
     let inside = Here {
@@ -156,7 +178,7 @@ fn tell_paragraph(
         owner_place: start,
         whole: line.as_bytes(),
     };
-    tell_members(alloc, revisions, held, inside, start, excerpts)?;
+    tell_members(alloc, revisions, &held[..count], inside, start, excerpts)?;
     Ok(())
 }
 
@@ -170,7 +192,8 @@ fn line_of(alloc: Global, nodes: &[Node]) -> Result<Line, AllocError>
     Ok(line)
 }
 
-// Tells the excerpt of its revision what an element tells, where it is a member of one.
+// Tells the excerpt of its revision what an element tells, where it is a member of one. It gives the place where the element's kids
+// end in the line, where these are what it tells of.
 fn tell_member(
     alloc: Global,
     revisions: &[Revision],
@@ -178,19 +201,20 @@ fn tell_member(
     here: Here<'_, '_>,
     place: Place,
     excerpts: &mut Vec<Excerpt>,
-) -> Result<(), AllocError>
-    ensures { OnOk result (TellsEach excerpts.old.items excerpts.new.items (λ v. member_told (is_moved revisions.now v) v (where_of here.entry place) (tag_of elem.now) (kids_of elem.now))) }
+) -> Result<Option<Place>, AllocError>
+    ensures told { OnOk result (TellsEach excerpts.old.items excerpts.new.items (λ v. member_told (is_moved revisions.now v) v (where_of here.entry place) (tag_of elem.now) (kids_of elem.now))) }
+    ensures end { IfOk result (λ end. IfSome end (λ end. end ≡ along place (said true false (kids_of elem.now)))) }
 {
     let number = elem.rev() as usize;
     if number == 0 {
-        return Ok(());
+        return Ok(None);
     }
     if excerpts.len() < number {
-        return Ok(());
+        return Ok(None);
     }
     let moved = is_moved(revisions, number);
-    tell_kind(alloc, moved, elem, here, place, &mut excerpts[number - 1])?;
-    Ok(())
+    let end = tell_kind(alloc, moved, elem, here, place, &mut excerpts[number - 1])?;
+    Ok(end)
 }
 
 fn is_moved(revisions: &[Revision], number: usize) -> bool
@@ -203,7 +227,8 @@ fn is_moved(revisions: &[Revision], number: usize) -> bool
     }
 }
 
-// Tells the excerpt what a member tells.
+// Tells the excerpt what a member tells. It gives the place where the element's kids end in the line, where these are what it tells
+// of.
 fn tell_kind(
     alloc: Global,
     moved: bool,
@@ -211,25 +236,29 @@ fn tell_kind(
     here: Here<'_, '_>,
     place: Place,
     excerpt: &mut Excerpt,
-) -> Result<(), AllocError>
-    ensures { OnOk result (excerpt.new ≡ told_all excerpt.old (told_by moved (where_of here.entry place) (tag_of elem.now).kind (tag_of elem.now) (kids_of elem.now))) }
+) -> Result<Option<Place>, AllocError>
+    ensures told { OnOk result (excerpt.new ≡ told_all excerpt.old (told_by moved (where_of here.entry place) (tag_of elem.now).kind (tag_of elem.now) (kids_of elem.now))) }
+    ensures end { IfOk result (λ end. IfSome end (λ end. end ≡ along place (said true false (kids_of elem.now)))) }
 {
     match elem.kind() {
-        Kind::Plain | Kind::Marker => Ok(()),
+        Kind::Plain | Kind::Marker => Ok(None),
         Kind::Content(trace) => {
             if moved && trace == Trace::To {
-                return Ok(());
+                return Ok(None);
             }
-            excerpt.tell_stretch(alloc, elem, here.whole, place, elem.kids())
+            let end = excerpt.tell_stretch(alloc, elem, here.whole, place, elem.kids())?;
+            Ok(Some(end))
         }
         Kind::Mark(_) => {
             if moved {
-                return Ok(());
+                return Ok(None);
             }
-            excerpt.tell_paragraph_end(alloc, elem, here.whole)
+            excerpt.tell_paragraph_end(alloc, elem, here.whole)?;
+            Ok(None)
         }
         Kind::Row(_) | Kind::Cell(_) | Kind::Change(_) => {
-            excerpt.tell_stretch(alloc, elem, here.whole, here.owner_place, here.owner)
+            excerpt.tell_stretch(alloc, elem, here.whole, here.owner_place, here.owner)?;
+            Ok(None)
         }
     }
 }

@@ -1,13 +1,17 @@
 -- Each node tells after those before it.
-use Rattle.std.proofs.Common.{◌∙◌, ◌+◌, ◌++◌, ℕ, drop, refl, sym, ap, arith, true}
-use Rattle.redl_tree.specs.Model.View.{item_of, nodes_of}
+use Rattle.std.proofs.Common.{◌≤◌, ◌∙◌, ◌+◌, ◌++◌, ℕ, zero, suc, List, [], ◌∷◌, append-nil, drop, take, refl, sym, ap, arith, true}
+use denote.Param.Weighed.{most}
+use Rattle.redl_tree.specs.Model.View.{item_of, kids_of, nodes_of, tag_of}
+use Rattle.redl_tree.specs.declared.node.Node.{Node, size-Node}
 use Rattle.redl_tree.proofs.Laws.{nodes_here}
 use Rattle.redl_excerpts.specs.Ears.{along-more}
 use Rattle.redl_excerpts.specs.Excerpts.{is_moved}
 use Rattle.redl_excerpts.specs.Lines.{along}
-use Rattle.redl_excerpts.specs.Mentions.{item_mentions, mentions}
+use Rattle.redl_excerpts.specs.Mentions.{Mention, element_mentions, inside, item_mentions, member_told, mentions}
 use Rattle.redl_excerpts.specs.Said.{item_said, said}
 use Rattle.redl_excerpts.specs.Inside.Views.{where_of}
+use Rattle.redl_excerpts.proofs.FlatLaws.{flat_mentions}
+use Rattle.redl_excerpts.proofs.TellLaws.{tells-from_one}
 use Rattle.redl_excerpts.proofs.MemberLaws.{mentions-in_front, tells-begins, tells-goes_on}
 use Rattle.redl_excerpts.proofs.SaidLaws.{said-in_front}
 use Rattle.redl_excerpts.proofs.members.+members.Goals as goal
@@ -38,3 +42,26 @@ tell_members-loop-node-preserved t c =
           ∙ ap (along at) (sym (ap (said true c.args.here.in_text) here ∙ said-in_front true c.args.here.in_text (item_of x) rest))
           ∙ c.loop-node.invariant.place;
     }
+
+pub tell_member_elem-returns-in-Some-clause-told : goal.tell_member_elem-returns-in-Some-clause-told
+tell_member_elem-returns-in-Some-clause-told t c =
+    let tag = tag_of c.args.elem.now in
+    let kids = kids_of c.args.elem.now in
+    let here = where_of c.args.here c.args.place in
+    let moved = λ (v : ℕ). is_moved c.args.revisions.now v in
+    tells-from_one c.args.excerpts.now.items c.tell_member.new.excerpts.items (λ v. member_told (moved v) v here tag kids) (λ v. element_mentions (moved v) v here tag kids)
+    (λ v pos. sym (append-nil (member_told (moved v) v here tag kids))
+    ∙ ap (λ (ms : List Mention). member_told (moved v) v here tag kids ++ ms) (sym (flat_mentions (moved v) v (inside here tag kids) kids pos (c.in-Some.ensures.flat refl))))
+    c.in_ok-end.ensures.told
+
+-- the first nodes are no deeper than all
+most_take : (measure : Node → ℕ) (nodes : List Node) (n : ℕ) → most measure (take n nodes) ≤ most measure nodes
+most_take measure nodes zero = omega arith
+most_take measure [] (suc n) = omega arith
+most_take measure (x ∷ xs) (suc n) = let later : most measure (take n xs) ≤ most measure xs = most_take measure xs n in omega (arith, later)
+
+pub tell_paragraph-tell_members-requires : goal.tell_paragraph-tell_members-requires
+tell_paragraph-tell_members-requires t c =
+    let fewer : most (λ node. size-Node node) (take c.count_telling-count.result c.kids-held.result.now) ≤ most (λ node. size-Node node) c.kids-held.result.now =
+    most_take (λ node. size-Node node) c.kids-held.result.now c.count_telling-count.result in
+    (omega (arith, fewer, c.kids-held.ensures.below, c.decreases), tt)

@@ -9,20 +9,20 @@ use Rattle.redl_excerpts.specs.Inside.Views.{where_of}
 use Rattle.redl_excerpts.proofs.TellLaws.{tells-at, tells-none, where_it_is}
 use Rattle.redl_excerpts.proofs.members.tell_member.Goals as goal
 
-pub returns-then-number-eq0 : goal.returns-then-number-eq0
-returns-then-number-eq0 c =
+pub returns-then-number-eq0-clause-told : goal.returns-then-number-eq0-clause-told
+returns-then-number-eq0-clause-told c =
     let tag = tag_of c.args.elem.now in
     tells-none c.args.excerpts.now.items tag.rev (λ v. told_by (is_moved c.args.revisions.now v) (where_of c.args.here c.args.place) tag.kind tag (kids_of c.args.elem.now))
     (inl (sym c.rev-number.ensures ∙ c.if-number-eq0.true))
 
-pub returns-then-len-number : goal.returns-then-len-number
-returns-then-len-number c =
+pub returns-then-len-number-clause-told : goal.returns-then-len-number-clause-told
+returns-then-len-number-clause-told c =
     let tag = tag_of c.args.elem.now in
     tells-none c.args.excerpts.now.items tag.rev (λ v. told_by (is_moved c.args.revisions.now v) (where_of c.args.here c.args.place) tag.kind tag (kids_of c.args.elem.now))
     (inr (omega (arith, c.rev-number.ensures, c.if-len-number.true, c.len.ensures, c.args.excerpts.now.ok.0)))
 
-pub returns : goal.returns
-returns c =
+pub returns-clause-told : goal.returns-clause-told
+returns-clause-told c =
     let old = c.args.excerpts.now.items in
     let number = c.rev-number.result in
     let tag = tag_of c.args.elem.now in
@@ -31,6 +31,6 @@ returns c =
     let within : number ≤ length old = omega (arith, c.if-len-number.false, c.len.ensures, c.args.excerpts.now.ok.0) in
     let before : number - 1 < length old = omega (arith, pos, within) in
     let at = slice_get_read old (length old) (number - 1) c.index_mut.result.now refl before c.index_mut.ensures.value in
-    let is = c.in_ok-tell_kind.ensures ∙ ap (λ b. told_all c.index_mut.result.now (told_by b (where_of c.args.here c.args.place) tag.kind tag (kids_of c.args.elem.now))) c.is_moved-moved.ensures in
+    let is = c.in_ok-end.ensures.told ∙ ap (λ b. told_all c.index_mut.result.now (told_by b (where_of c.args.here c.args.place) tag.kind tag (kids_of c.args.elem.now))) c.is_moved-moved.ensures in
     subst (λ n. TellsEach old (set old (number - 1) c.tell_kind.new.excerpt) (λ v. where_it_is n v (mentions_of v))) c.rev-number.ensures
     (tells-at old number c.index_mut.result.now mentions_of c.tell_kind.new.excerpt pos within at is)
