@@ -1,6 +1,7 @@
 //! What the documents of several modules are made of.
 
 use redl_opc::Package;
+use redl_tree::Node;
 use std::alloc::Global;
 use std::test::Fail;
 
@@ -23,4 +24,24 @@ pub(crate) const WORDS: &[(&str, &str)] = &[
 /// The package with this text.
 pub(crate) fn read_package<'t>(alloc: Global, text: &'t [u8]) -> Result<Package<'t>, Fail> {
     Ok(Package::make(alloc, redl_xml::read(alloc, text)?)?)
+}
+
+/// Whether these nodes keep idle elements as text, at any depth.
+#[cycle(texts)]
+pub(crate) fn keep_text(nodes: &[Node]) -> bool {
+    for node in nodes {
+        if keeps_text(node) {
+            return true;
+        }
+    }
+    false
+}
+
+#[cycle(texts)]
+fn keeps_text(node: &Node) -> bool {
+    match node {
+        Node::Elem(elem) => keep_text(elem.kids()),
+        Node::Plain(_) => true,
+        Node::Bytes(_) => false,
+    }
 }

@@ -2,7 +2,7 @@
 
 ghost use Rattle.std.specs.Prelude.{◌≡◌};
 
-use crate::documents::{WORDS, read_package};
+use crate::documents::{WORDS, keep_text, read_package};
 use redl_index::{Index, RevKind};
 use redl_outline::{outline_text, package, part};
 use redl_tree::{Kind, Node, Prop, Trace};
@@ -187,6 +187,87 @@ fn moves_are_labelled(rt: HostRuntime) -> Result<(), Fail> {
     Ok(())
 }
 
+// Parts in which the reader keeps runs and properties as text, with the labels.
+const KEPT: [([&str; 2], &[(Kind, u32)]); 5] = [
+    (
+        [
+            "document .body ..p ...r ....t .....(x) ...ins ....r .....t ......(y) ...r ....rPr .....u ....t ...r ...del ....r",
+            "hdr .p ..r ..r ..ins ...r",
+        ],
+        &[(INS, 1), (DEL, 2), (INS, 3)],
+    ),
+    (
+        [
+            "document .tbl ..tblGrid ...gridCol ..tr ...trPr ....cantSplit ....ins ....jc ...tc ....tcPr .....tcW .....cellDel .....shd ....p .....r",
+            "ftr .tbl ..tblPr ...tblStyle ...tblPrChange ....tblPr .....tblStyle ..tr ...trPr ....cantSplit ....trPrChange ...tc ....p .....r",
+        ],
+        &[
+            (Kind::Row(Trace::Ins), 1),
+            (Kind::Cell(Trace::Del), 2),
+            (Kind::Change(Prop::Table), 3),
+            (Kind::Change(Prop::Row), 4),
+        ],
+    ),
+    (
+        [
+            "document .body ..p ...pPr ....jc ....rPr .....u .....ins .....i ...r ....t ...r ....rPr .....u .....rPrChange ......rPr .......i ....t ...r",
+            "styles .style ..rPr ...u ...ins",
+        ],
+        &[(Kind::Mark(Trace::Ins), 1), (Kind::Change(Prop::Run), 2)],
+    ),
+    // a move over two paragraphs, with the mark of the first
+    (
+        [
+            "document .p ..pPr ...keepNext ...rPr ....u ....moveFrom ..r ...t ....(x) ..fs/1/a ..r ..moveFrom ...r ....rPr .....u ....t ..r .p ..r ...tab ..moveFrom ...r ..r ..fe/1 ..r .p ..ts/2/a ..r ..moveTo ...r ..r ..te/2 ..r",
+            "hdr .p ..r ..ins",
+        ],
+        &[
+            (MARK, 1),
+            (EDGE, 1),
+            (FROM, 1),
+            (FROM, 1),
+            (EDGE, 1),
+            (EDGE, 1),
+            (TO, 1),
+            (EDGE, 1),
+            (INS, 2),
+        ],
+    ),
+    // the range ends in the paragraph of the mark
+    (
+        [
+            "document .p ..pPr ...rPr ....u ....moveFrom ..r ..fs/1/a ..r ..moveFrom ...r ..fe/1 ..r .p ..r ..ts/2/a ..moveTo ...r ..r ..te/2",
+            "hdr .p ..r ...t ....(x)",
+        ],
+        &[
+            (MARK, 1),
+            (EDGE, 2),
+            (FROM, 2),
+            (EDGE, 2),
+            (EDGE, 2),
+            (TO, 2),
+            (EDGE, 2),
+        ],
+    ),
+];
+
+// Whether the reader keeps text of the package with these parts.
+fn is_kept(alloc: Global, parts: &[&str]) -> Result<bool, Fail> {
+    let text = package_text(alloc, parts)?;
+    let made = read_package(alloc, text.as_bytes())?;
+    Ok(keep_text(made.nodes()))
+}
+
+#[test]
+fn members_among_texts_are_labelled(rt: HostRuntime) -> Result<(), Fail> {
+    for (parts, want) in KEPT {
+        assert!(rt; is_kept(rt.alloc(), &parts)?, "{parts:?}");
+        let got = labelled(rt.alloc(), &parts)?;
+        assert!(rt; got.as_slice() == want, "{parts:?}: {got:?}");
+    }
+    Ok(())
+}
+
 // What a revision is, who made it and when, its part, and how many members it has.
 type Told<'a> = (RevKind, &'a [u8], Option<i64>, u32, u32);
 
@@ -207,6 +288,15 @@ const TOLD_PARTS: [&str; 5] = [
     "hdr .tbl ..tr ...trPr ....del/author=B/date=1969-12-31T23:59:59 ...tc ....tcPr .....cellIns/author=/date=2024-02-30T00:00:00Z",
     "footnotes .ts/2/a/author=Cid/date=2024-05-06T07:08:09Z .p ..moveTo/date=2024-05-06T07:08:09+02:00/QA .te/2 .fs/1/a/author=Ann/date=1970-01-02T00:00:01Z .p ..moveFrom .p ..moveFrom .fe/1",
     "endnotes .fs/1/a/author=Ann .fe/1 .ts/2/a/author=Cid/date=2024-05-06T07:08:09Z .te/2",
+];
+
+// The same revisions among runs and properties that the reader keeps as text.
+const TOLD_AMONG_TEXTS: [&str; 5] = [
+    "styles .style ..u ..ins/1/author=Ann/date=1970-01-02T00:00:01Z",
+    "document .body ..p ...pPr ....jc ....rPr .....u .....ins/1/author=Ann/date=1970-01-02T00:00:01Z .....i ...r ....t .....(x) ...del/date=2024-05-06T07:08:09+02:00/QA ....r ...r",
+    "hdr .tbl ..tr ...trPr ....jc ....del/author=B/date=1969-12-31T23:59:59 ...tc ....tcPr .....tcW .....cellIns/author=/date=2024-02-30T00:00:00Z .....shd ....p .....r",
+    "footnotes .r .ts/2/a/author=Cid/date=2024-05-06T07:08:09Z .p ..r ...t ....(x) ..moveTo/date=2024-05-06T07:08:09+02:00/QA ...r ..r .te/2 .fs/1/a/author=Ann/date=1970-01-02T00:00:01Z .p ..r ..moveFrom ...r .p ..moveFrom ...r ..r ...tab .fe/1",
+    "endnotes .fs/1/a/author=Ann .r .fe/1 .r .ts/2/a/author=Cid/date=2024-05-06T07:08:09Z .r .te/2",
 ];
 
 const TOLD: [(u32, Option<Told>); 8] = [
@@ -235,12 +325,14 @@ const TOLD: [(u32, Option<Told>); 8] = [
 #[test]
 fn revisions_are_told(rt: HostRuntime) -> Result<(), Fail> {
     let alloc = rt.alloc();
-    let text = package_text(alloc, &TOLD_PARTS)?;
-    let mut made = read_package(alloc, text.as_bytes())?;
-    let index = Index::build(alloc, &mut made)?;
-    for (number, want) in TOLD {
-        let got = told(&index, number);
-        assert!(rt; got == want, "{number}: {got:?}");
+    for parts in [TOLD_PARTS, TOLD_AMONG_TEXTS] {
+        let text = package_text(alloc, &parts)?;
+        let mut made = read_package(alloc, text.as_bytes())?;
+        let index = Index::build(alloc, &mut made)?;
+        for (number, want) in TOLD {
+            let got = told(&index, number);
+            assert!(rt; got == want, "{number}: {got:?}");
+        }
     }
     Ok(())
 }

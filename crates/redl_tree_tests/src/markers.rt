@@ -4,7 +4,7 @@
 ghost use Rattle.std.specs.Prelude.{◌^◌, ◌<◌, length, IfOk};
 ghost use Rattle.redl_moves.specs.Marks.{markings, RisesFrom};
 
-use crate::documents::WORDS;
+use crate::documents::{WORDS, keep_text};
 use redl_index::{StoryMarkers, find_markers};
 use redl_moves::{Marker, Moves, Side, Start, pair};
 use redl_outline::outline_text;
@@ -105,11 +105,55 @@ const ROWS: [(&str, (usize, usize, usize)); 30] = [
     ("fs/1/a ins .fe/1 tbl .ts/2/a p .te/2", (4, 2, 0)),
 ];
 
+// Outlines in which the reader keeps runs and properties as text, each with its counts.
+const KEPT: [(&str, (usize, usize, usize)); 6] = [
+    (
+        "tbl .tr ..tc ...p ....r .....t ......(x) ....fs/1/a ....r .....t ......(y) ....fe/1 ....r .....tab ....ts/2/a ....r ....te/2 ....r",
+        (4, 0, 1),
+    ),
+    (
+        "tbl .tr ..tc ...p ....r .....fs/1/a .....t ....fe/1 ....ts/2/a ....te/2",
+        (4, 0, 1),
+    ),
+    (
+        "tbl .tr ..trPr ...cantSplit ..tc ...p ....fs/1/a ....r ....fe/1 ....ts/2/a ....te/2",
+        (4, 0, 1),
+    ),
+    (
+        "tbl .tr ..trPr ...cantSplit ...ins ...jc ..tc ...p ....fs/1/a ....r ....fe/1 ....ts/2/a ....te/2",
+        (4, 4, 0),
+    ),
+    (
+        "tbl .tr ..tc ...tcPr ....tcW ...p ....fs/1/a ....r ....fe/1 ....ts/2/a ....te/2",
+        (4, 0, 1),
+    ),
+    (
+        "tbl .tr ..tc ...tcPr ....tcW ....cellIns ....shd ...p ....fs/1/a ....r ....fe/1 ....ts/2/a ....te/2",
+        (4, 4, 0),
+    ),
+];
+
+// Whether the reader keeps text of the story with an outline.
+fn is_kept(alloc: Global, words: &str) -> Result<bool, Fail> {
+    let text = story(alloc, words)?;
+    let nodes = redl_xml::read(alloc, text.as_bytes())?;
+    Ok(keep_text(&nodes))
+}
+
 #[test]
 fn names_are_paired_or_not(rt: HostRuntime) -> Result<(), Fail> {
     for (words, want) in ROWS {
         let got = counts(rt.alloc(), words)?;
         assert!(rt; got == want, "{words}: {got:?}");
+    }
+    Ok(())
+}
+
+#[test]
+fn names_are_paired_among_texts(rt: HostRuntime) -> Result<(), Fail> {
+    for (words, want) in KEPT {
+        let got = (is_kept(rt.alloc(), words)?, counts(rt.alloc(), words)?);
+        assert!(rt; got == (true, want), "{words}: {got:?}");
     }
     Ok(())
 }
@@ -136,6 +180,26 @@ fn moves_answer(rt: HostRuntime) -> Result<(), Fail> {
         (10, (outer, None)),
         (12, (None, None)),
         (17, (None, inner)),
+    ] {
+        let got = starts(rt.alloc(), words, at)?;
+        assert!(rt; got == want, "{at}: {got:?}");
+    }
+    Ok(())
+}
+
+#[test]
+fn positions_go_on_over_texts(rt: HostRuntime) -> Result<(), Fail> {
+    let begun = Some(Start { at: 9, place: 0 });
+    let words =
+        "tbl .tr ..tc ...p ....r .....t ......(x) ....fs/1/a ....r .....rPr ......u .....t ....fe/1 ....r ....ts/2/a ....r .....tab .....br ....te/2";
+    for (at, want) in [
+        (8, (None, None)),
+        (10, (begun, None)),
+        (18, (begun, None)),
+        (20, (None, None)),
+        (22, (None, None)),
+        (23, (None, begun)),
+        (31, (None, begun)),
     ] {
         let got = starts(rt.alloc(), words, at)?;
         assert!(rt; got == want, "{at}: {got:?}");

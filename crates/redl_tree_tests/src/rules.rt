@@ -84,6 +84,24 @@ fn a_broken_rule_is_answered(rt: HostRuntime) -> Result<(), Fail> {
         (9, "p .ins/declared ..r"),
         (9, "p .pPr ..pPrChange/declared ...pPr"),
         (9, "p .pPr ..pPrChange ...o-pPr ...pPr/default"),
+        // The reader keeps runs and properties as text.
+        (1, "tbl .tr ..tc ...r ....t .....(x)"),
+        (1, "tbl .tr ..tc ...p ...sdt ....sdtContent .....r"),
+        (2, "tbl .tr ..trPr ...cantSplit ..bookmarkStart"),
+        (3, "p .r ..t .del ..r ...t ..r ...sectPr"),
+        (3, "ins .r .sdt .r"),
+        (4, "p .r ..rPr ...b ...rPrChange ....rPr ...i ...u"),
+        (4, "p .pPr ..jc ..pPrChange ...pPr ..keepNext"),
+        (5, "p .pPr ..rPr ...b ...ins ...i ...ins ...u"),
+        (6, "p .r ..t ...(x) .pPr"),
+        (6, "p .pPr ..jc .r .pPr ..jc"),
+        (6, "p sectPr .pgSz .cols bookmarkStart"),
+        (7, "p .moveFromRangeStart/id ..r ...t ....(x)"),
+        (
+            8,
+            "p .r ..t .r ..rPr ...rPrChange ....rPr .....b .....rPrChange",
+        ),
+        (9, "p .r ..t .ins/declared ..r ...t"),
     ] {
         let got = answer(alloc, body, "styles")?;
         assert!(rt; got == Err(RuleError::Broken(rule)), "{body}: {got:?}");
@@ -115,6 +133,13 @@ fn near_ones_break_no_rule(rt: HostRuntime) -> Result<(), Fail> {
         "p .r/declared",
         "p .pPr ..pPrChange ...pPr ...pPr/declared",
         "p .pPr ..pPrChange ...o-pPr/declared",
+        // The reader keeps runs and properties as text.
+        "p .r ..rPr ...b ..t ...(x) ..tab .ins ..r ...t ....(y) .r ..rPr ...i",
+        "p .pPr ..jc ..rPr ...b ...ins ...i .r .r ..t sectPr .pgSz .cols",
+        "tbl .tblPr ..tblStyle .tblGrid ..gridCol .tr ..trPr ...cantSplit ...ins ..tc ...tcPr ....tcW ...p ....r .....t ...bookmarkStart",
+        "p .r ..rPr ...b ...rPrChange ....rPr .....i ..t .r ..t/declared",
+        "p .r ..rPr ..rPr",
+        "tbl .tr ..tc ...p ....r ...r ....t .....(x)",
     ] {
         let got = answer(alloc, body, "styles")?;
         assert!(rt; got == Ok(()), "{body}: {got:?}");
