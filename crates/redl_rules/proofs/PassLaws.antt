@@ -121,7 +121,7 @@ inside-asks in_run tag quiet parent at i = by quiet (props in_run at i) where
   by true h = h
   by false h = opened-asks in_run tag (props_in parent tag) i h
 
--- a run is none of the properties, whatever its parent
+-- a run holds no properties, whatever its parent
 run-props : (tag : Tag) (parent : Parent) → is "r" tag ≡ true → props_in parent tag ≡ Other
 run-props tag InPara e = rw (is-other "r" "pPr" tag e refl) refl
 run-props tag ParaProps e = rw (is-other "r" "rPr" tag e refl, is-other "r" "sectPr" tag e refl) refl

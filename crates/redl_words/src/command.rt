@@ -52,7 +52,7 @@ pub struct ReportCommand {
 pub struct DecideCommand {
     /// The name of the package.
     pub package: Text,
-    /// Who decides.
+    /// The reviewer who decides.
     pub reviewer: Text,
     /// The names of the journals.
     pub journals: Vec<Text>,
