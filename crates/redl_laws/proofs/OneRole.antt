@@ -8,7 +8,7 @@ use Rattle.std.specs.List.{list_any}
 use Rattle.std.proofs.lemmas.Bool.{and_parts}
 use Rattle.redl_tree.specs.Model.Nodes.{Tag}
 use Rattle.redl_tree.specs.Roles.Names.{is, is_any, is_math}
-use Rattle.redl_tree.specs.Roles.Places.{is_quiet, is_open, within, in_mark_props, in_row_props, in_cell_props, in_props, placed, change_at, first_role, role}
+use Rattle.redl_tree.specs.Roles.Places.{is_quiet, is_open, within, change_name, in_mark_props, in_row_props, in_cell_props, in_props, placed, change_at, first_role, role}
 use Rattle.redl_tree.specs.declared.kinds.Trace.{Trace}
 use Rattle.redl_tree.specs.declared.kinds.Trace.TheVariants.{Ins, Del, From, To}
 use Rattle.redl_tree.specs.declared.kinds.Prop.{Prop}
@@ -25,15 +25,6 @@ trace_name Ins = "ins"
 trace_name Del = "del"
 trace_name From = "moveFrom"
 trace_name To = "moveTo"
-
-abbrev pub change_name : Prop → String
-change_name Run = "rPrChange"
-change_name Para = "pPrChange"
-change_name Sect = "sectPrChange"
-change_name Table = "tblPrChange"
-change_name Except = "tblPrExChange"
-change_name RowProp = "trPrChange"
-change_name CellProp = "tcPrChange"
 
 -- the names of the elements with a role; `Plain` is no role, and markers of moves are not in the table
 abbrev pub names_of : Kind → List String

@@ -3,7 +3,6 @@
 ghost use Rattle.std.specs.Prelude.{◌≡◌, ◌+◌, IfOk};
 ghost use Rattle.redl_resolve.specs.Inside.Changes.{former_of, elem_rejected, item_rejected, copies_of, item_former, present_in, after_in};
 ghost use Rattle.redl_resolve.specs.Counts.{former_count};
-ghost use Rattle.redl_tree.specs.Roles.Names.{named};
 ghost use Rattle.redl_tree.specs.Roles.Places.{props_name};
 ghost use Rattle.redl_tree.specs.Decisions.Restored.{rejected as rejected_by, former_kids};
 ghost use Rattle.redl_tree.specs.Model.View.{nodes_of, item_of, tag_of, kids_of};
@@ -98,27 +97,12 @@ fn copy_if_former<'a>(
 {
     match node {
         Node::Elem(elem) => {
-            if is_former(elem, prop) {
+            if is_word(elem, prop.word()) {
                 return Ok(Some(copy_nodes(alloc, elem.kids())?));
             }
             Ok(None)
         }
         Node::Bytes(_) | Node::Plain(_) => Ok(None),
-    }
-}
-
-// Whether an element has the name of these properties.
-fn is_former(elem: &Elem, prop: Prop) -> bool
-    ensures { result ≡ named (props_name prop) (tag_of elem.now) }
-{
-    match prop {
-        Prop::Run => is_word(elem, Word::RPr),
-        Prop::Para => is_word(elem, Word::PPr),
-        Prop::Sect => is_word(elem, Word::SectPr),
-        Prop::Table => is_word(elem, Word::TblPr),
-        Prop::Except => is_word(elem, Word::TblPrEx),
-        Prop::Row => is_word(elem, Word::TrPr),
-        Prop::Cell => is_word(elem, Word::TcPr),
     }
 }
 

@@ -5,7 +5,6 @@ ghost use Rattle.redl_tree.specs.Roles.Names.{is, is_any};
 ghost use Rattle.redl_tree.specs.Model.Kids.{some_element};
 ghost use Rattle.redl_tree.specs.Roles.Kinds.{is_content};
 ghost use Rattle.redl_tree.specs.Roles.Lists.{is_thick};
-ghost use Rattle.redl_tree.specs.Roles.Places.{props_name as props_name_of};
 ghost use Rattle.redl_tree.specs.Roles.Idle.{is_idle_number};
 ghost use Rattle.redl_tree.specs.Roles.Words.{name_of, number};
 ghost use Rattle.redl_tree.specs.Rules.Tests.{implies, once, each_once, only_first, only_last};
@@ -19,8 +18,7 @@ use crate::ends::{end_of_nodes, has_own_cell, is_so_end};
 use crate::kids::{changes_are_last, has_thick, is_once, is_only_first, is_only_last};
 use crate::round::Round;
 use redl_tree::{
-    Around, Elem, Kind, Node, Parent, Prop, Reach, Word, has_elements, is_range_edge, is_word,
-    prop_of,
+    Around, Elem, Kind, Node, Parent, Reach, Word, has_elements, is_range_edge, is_word, prop_of,
 };
 
 /// A cell ends in a paragraph (rule 1).
@@ -236,24 +234,8 @@ fn change_declares(kind: Kind, kids: &[Node]) -> bool
     ensures { result ≡ change_declares_by declares kind (nodes_of kids.now) }
 {
     match kind {
-        Kind::Change(prop) => former_declares_names(props_word(prop), kids),
+        Kind::Change(prop) => former_declares_names(prop.word(), kids),
         _ => false,
-    }
-}
-
-// The name of the properties that a change is of.
-fn props_word(prop: Prop) -> Word
-    ensures name { name_of result ≡ props_name_of prop }
-    ensures asked { is_idle_number false (number result) ≡ false }
-{
-    match prop {
-        Prop::Run => Word::RPr,
-        Prop::Para => Word::PPr,
-        Prop::Sect => Word::SectPr,
-        Prop::Table => Word::TblPr,
-        Prop::Except => Word::TblPrEx,
-        Prop::Row => Word::TrPr,
-        Prop::Cell => Word::TcPr,
     }
 }
 

@@ -1,13 +1,12 @@
 -- What the ancestors of an element are to it, in two answers, and its role by these alone: whether one of them is quiet, and
 -- what the nearest one is. Code that goes down a tree carries the answers in place of the ancestors. Each one is said in the
 -- words of `Places`.
-use Prim.Native.String.{String}
 use Rattle.std.specs.Prelude.{List, [], ◌∷◌, Bool, ◌||◌, not, Option, None, if◌then◌else◌}
 use Rattle.std.specs.Option.{option_map, unwrap_or}
 use Rattle.std.specs.List.{list_any}
 use Rattle.redl_tree.specs.Model.Nodes.{Tag}
 use Rattle.redl_tree.specs.Roles.Names.{is}
-use Rattle.redl_tree.specs.Roles.Places.{is_quiet, within, has_run_props, in_run_owner, in_run_props, in_mark_props, in_para_props, in_sect_props, in_table_props, in_except_props, in_row_props, in_cell_props, trace_of, row_trace_of, cell_trace_of, placed}
+use Rattle.redl_tree.specs.Roles.Places.{is_quiet, within, has_run_props, in_run_owner, in_run_props, in_mark_props, in_para_props, in_sect_props, in_table_props, in_except_props, in_row_props, in_cell_props, trace_of, row_trace_of, cell_trace_of, change_name, placed}
 use Rattle.redl_tree.specs.declared.kinds.Prop.{Prop}
 use Rattle.redl_tree.specs.declared.kinds.Prop.TheVariants.{Run, Para, Sect, Table, Except, Row as RowProp, Cell as CellProp}
 use Rattle.redl_tree.specs.declared.kinds.Kind.{Kind}
@@ -80,18 +79,19 @@ mark_in CellProps tag = option_map Cell (cell_trace_of tag)
 mark_in _ tag = None
 
 -- the role of an element that changes these properties, by its name
-abbrev pub changed : String → Prop → Tag → Kind
-changed name prop tag = if is name tag then Change prop else Plain
+abbrev pub changed : Prop → Tag → Kind
+changed prop tag = if is (change_name prop) tag then Change prop else Plain
 
+-- the role of an element that changes properties, in these
 abbrev pub change_in : Parent → Tag → Kind
-change_in RunProps tag = changed "rPrChange" Run tag
-change_in MarkProps tag = changed "rPrChange" Run tag
-change_in ParaProps tag = changed "pPrChange" Para tag
-change_in SectProps tag = changed "sectPrChange" Sect tag
-change_in TableProps tag = changed "tblPrChange" Table tag
-change_in ExceptProps tag = changed "tblPrExChange" Except tag
-change_in RowProps tag = changed "trPrChange" RowProp tag
-change_in CellProps tag = changed "tcPrChange" CellProp tag
+change_in RunProps tag = changed Run tag
+change_in MarkProps tag = changed Run tag
+change_in ParaProps tag = changed Para tag
+change_in SectProps tag = changed Sect tag
+change_in TableProps tag = changed Table tag
+change_in ExceptProps tag = changed Except tag
+change_in RowProps tag = changed RowProp tag
+change_in CellProps tag = changed CellProp tag
 change_in _ tag = Plain
 
 -- the role of an element in these properties

@@ -48,16 +48,26 @@ row_trace_of tag = if is "ins" tag then Some Ins else if is "del" tag then Some 
 abbrev pub cell_trace_of : Tag → Option Trace
 cell_trace_of tag = if is "cellIns" tag then Some Ins else if is "cellDel" tag then Some Del else None
 
+-- the name of the elements that change these properties
+abbrev pub change_name : Prop → String
+change_name Run = "rPrChange"
+change_name Para = "pPrChange"
+change_name Sect = "sectPrChange"
+change_name Table = "tblPrChange"
+change_name Except = "tblPrExChange"
+change_name RowProp = "trPrChange"
+change_name CellProp = "tcPrChange"
+
 -- whose properties a change element changes
 abbrev pub prop_of : Tag → Option Prop
 prop_of tag =
-    if is "rPrChange" tag then Some Run
-    else if is "pPrChange" tag then Some Para
-    else if is "sectPrChange" tag then Some Sect
-    else if is "tblPrChange" tag then Some Table
-    else if is "tblPrExChange" tag then Some Except
-    else if is "trPrChange" tag then Some RowProp
-    else if is "tcPrChange" tag then Some CellProp
+    if is (change_name Run) tag then Some Run
+    else if is (change_name Para) tag then Some Para
+    else if is (change_name Sect) tag then Some Sect
+    else if is (change_name Table) tag then Some Table
+    else if is (change_name Except) tag then Some Except
+    else if is (change_name RowProp) tag then Some RowProp
+    else if is (change_name CellProp) tag then Some CellProp
     else None
 
 -- the name of the properties that a change is of
