@@ -159,7 +159,7 @@ module _ (marks : List Marking) where
 
 -- ---- a whole story
 
--- before the first element of a story of which this is known, where this is the next number
+-- at the start of a story, from what is known of it and the next number
 abbrev pub begun_with : Facts → ℕ → NumbererState
 begun_with known next = state_at known.marks 1 known.ends (record { next = next; moves = known.numbers })
 

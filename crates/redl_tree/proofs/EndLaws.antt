@@ -8,6 +8,7 @@ pub before_none : (x : Option Bool) → or_before None x ≡ x
 before_none None = refl
 before_none (Some x) = refl
 
+-- a node that decides nothing does not change how the nodes after it end
 pub two_none : (reach : Reach) (x : Option Bool) → end_of_two reach None x ≡ x
 two_none Direct x = before_none x
 two_none Beyond x = before_none x

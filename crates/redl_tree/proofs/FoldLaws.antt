@@ -45,9 +45,11 @@ abbrev pub opens_then : List Open → List ℕ → List ℕ
 opens_then [] y = y
 opens_then (f ∷ fs) y = opens_then fs (tree_then f.before (60 ∷ (name_text f.name ++ (f.tail ++ (62 ∷ y)))))
 
+-- the text of all that was read so far, in front of what follows it
 abbrev pub level_then : Level → List ℕ → List ℕ
 level_then s y = opens_then s.open_elements (tree_then s.kids y)
 
+-- an end tag that closes an element has its name, and the element becomes the last sibling
 pub shut_some : (space : Space) (f : Open) (fs : List Open) (kids : Nodes) (name : Name) (white : List ℕ) (s' : Level) → shut space (f ∷ fs) kids name white ≡ Some s' → (f.name ≡ name) × (level fs (f.before ⊕ one_element f.name space f.tail (End white) kids) ≡ s')
 shut_some space f fs kids name white s' e =
     let c = cond_some (name_eq f.name name) (level fs (f.before ⊕ one_element f.name space f.tail (End white) kids)) s' e in
@@ -61,6 +63,7 @@ shut_text space (f ∷ fs) kids name white s' rest e =
     let Q : Name → Type 0 = λ n. opens_then fs (tree_then (f.before ⊕ one_element f.name space f.tail (End white) kids) rest) ≡ opens_then (f ∷ fs) (tree_then kids (piece_then (end_tag n white) rest)) in
     subst P c.1 (subst Q c.0 (ap (opens_then fs) (tree_then-⊕ f.before (one_element f.name space f.tail (End white) kids) rest)))
 
+-- reading one more piece moves its text from what follows to what was read, and changes no text
 pub put_text : (space : Space) (p : Piece) (s s' : Level) (rest : List ℕ) → put space p s ≡ Some s' → level_then s' rest ≡ level_then s (piece_then p rest)
 put_text space (start_tag name tail) s s' rest e =
     ap (λ (t : Level). level_then t rest) (sym (same_Some (level (record { name = name; tail = tail; before = s.kids } ∷ s.open_elements) no_nodes) s' e))
@@ -91,6 +94,7 @@ pub record IsLaidOpen (space : Space) (f : Open) : Type 0 where
   pub tail : IsTail f.tail
   pub before : AreLaid space f.before
 
+-- each open element has a name and a tail as they are read, and the nodes before it are as they are read
 abbrev pub AreLaidOpen : Space → List Open → Type 0
 AreLaidOpen space [] = Unit {0}
 AreLaidOpen space (f ∷ fs) = IsLaidOpen space f × AreLaidOpen space fs
@@ -136,6 +140,7 @@ shut_laid space (f ∷ fs) kids name white s' rest e hf hk c =
     let o = hf.0 in
     subst P r.1 (put_element space fs f.before f.name f.tail (End white) kids rest hf.1 o.before o.name o.tail c hk)
 
+-- reading one more piece leaves all that was read in the form in which nodes are read
 pub put_laid : (space : Space) (p : Piece) (s s' : Level) (rest : List ℕ) → put space p s ≡ Some s' → IsPiece InElement p → Follows p rest → IsLaidAt space s (piece_then p rest) → IsLaidAt space s' rest
 put_laid space (start_tag name tail) s s' rest e h f laid =
     let P : Level → Type 0 = λ t. IsLaidAt space t rest in
@@ -191,6 +196,7 @@ pub nodes_sound : (space : Space) (t : List ℕ) (u : Nodes) → nodes_at space 
 unfolding nodes_at
 nodes_sound space t u e = read_turns (suc (length t)) space t (level [] no_nodes) u e (record { opens_laid = tt; kids_laid = tt; follows = λ e. absurd cc })
 
+-- the text of nodes is what they put in front of nothing
 pub tree-text : (u : Nodes) → text u ≡ tree_then u []
 tree-text u = sym (append-nil (text u)) ∙ tree-then u []
 
@@ -307,9 +313,11 @@ nodes_are space t h =
     let x = there (nodes_at space t) h in
     x.1 ∙ ap (λ (o : Option Nodes). Some (or_same o no_nodes)) (sym x.1)
 
+-- the nodes that a text is read as have this text
 pub text_of_nodes_in : (space : Space) (t : List ℕ) → Reads space t → text (nodes_in space t) ≡ t
 text_of_nodes_in space t h = text_of_nodes space t (nodes_in space t) (nodes_are space t h)
 
+-- the nodes that a text is read as have the form in which nodes are read
 pub nodes_are_laid : (space : Space) (t : List ℕ) → Reads space t → AreLaid space (nodes_in space t)
 nodes_are_laid space t h = (nodes_sound space t (nodes_in space t) (nodes_are space t h)).laid
 

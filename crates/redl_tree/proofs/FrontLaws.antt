@@ -245,6 +245,7 @@ inside_ends space bs k depth left p white behind g e f =
 
 -- ---- what comes first, and how long it is
 
+-- an empty text is read as no nodes
 pub nothing_in : (t : List ℕ) → length t ≡ 0 → nodes_in W t ≡ no_nodes
 unfolding level_step nodes_at
 nothing_in [] none = refl

@@ -103,5 +103,6 @@ beside-from followed held (p ∷ ps) l t =
     ∙ append_assoc (beside_held held) (bytes_of_each (p ∷ [])) (bytes_of_each ps)
     ∙ ap (λ ts. beside_held held ++ ts) (each-∷ p ps)
 
+-- joining paragraphs keeps all bytes that stand beside their properties, in their order
 pub beside-grouped : (followed : Bool) (ps : List Piece) → are_named ps ≡ true → bytes_beside (grouped followed ps) ≡ bytes_of_each ps
 beside-grouped followed ps l = beside-from followed None ps l tt

@@ -13,21 +13,25 @@ use Rattle.redl_tree.proofs.PassLaws.{without-⊕}
 use Rattle.redl_tree.proofs.Idle.Lists.{NoneIs, only_past, without_past}
 use Rattle.redl_tree.proofs.Idle.Items.{nodes_are_idle, none_idle}
 
+-- a first node that passes the test is kept by `only`
 pub only_kept : (test : Tag → Bool) → NoneIs false test → (x : Item) (xs : Nodes) → item_is test x ≡ true → only test (in_front x xs) ≡ in_front x (only test xs)
 only_kept test none (bytes_item b) xs e = absurd cc
 only_kept test none (element_item tag kids) xs e = rw e refl
 only_kept test none (idle_item t) xs e = absurd (true≢false (sym e ∙ none_idle test none t))
 
+-- a first node that does not pass the test is left out by `only`
 pub only_left : (test : Tag → Bool) → NoneIs false test → (x : Item) (xs : Nodes) → item_is test x ≡ false → only test (in_front x xs) ≡ only test xs
 only_left test none (bytes_item b) xs e = refl
 only_left test none (element_item tag kids) xs e = rw e refl
 only_left test none (idle_item t) xs e = only_past false test none (idle_nodes t) xs (nodes_are_idle t)
 
+-- a first node that passes the test is left out by `without`
 pub without_left : (test : Tag → Bool) → NoneIs false test → (x : Item) (xs : Nodes) → item_is test x ≡ true → without test (in_front x xs) ≡ without test xs
 without_left test none (bytes_item b) xs e = absurd cc
 without_left test none (element_item tag kids) xs e = rw e refl
 without_left test none (idle_item t) xs e = absurd (true≢false (sym e ∙ none_idle test none t))
 
+-- a first node that does not pass the test is kept by `without`
 pub without_kept : (test : Tag → Bool) → NoneIs false test → (x : Item) (xs : Nodes) → item_is test x ≡ false → without test (in_front x xs) ≡ in_front x (without test xs)
 without_kept test none (bytes_item b) xs e = refl
 without_kept test none (element_item tag kids) xs e = rw e refl
@@ -70,6 +74,7 @@ has-⊕ no_nodes ys = refl
 has-⊕ (bytes b rest) ys = has-⊕ rest ys
 has-⊕ (element tag kids rest) ys = refl
 
+-- some element of two lists passes a test if one of the first list or one of the second does
 pub some-⊕ : (test : Tag → Bool) (xs ys : Nodes) → some_element test (xs ⊕ ys) ≡ (some_element test xs || some_element test ys)
 some-⊕ test no_nodes ys = refl
 some-⊕ test (bytes b rest) ys = some-⊕ test rest ys
@@ -80,6 +85,7 @@ some-⊕ test (element tag kids rest) ys =
 pub has-in_front : (x : Item) (xs : Nodes) → has_element (in_front x xs) ≡ (has_element (in_front x no_nodes) || has_element xs)
 has-in_front x xs = ap has_element (sym (in_front-⊕ x no_nodes xs)) ∙ has-⊕ (in_front x no_nodes) xs
 
+-- the same of one node and the nodes after it
 pub some-in_front : (test : Tag → Bool) (x : Item) (xs : Nodes) → some_element test (in_front x xs) ≡ (item_is test x || some_element test xs)
 some-in_front test (bytes_item b) xs = refl
 some-in_front test (element_item tag kids) xs = refl
@@ -96,6 +102,7 @@ more_front test (element_item tag kids) xs = at (test tag)
     at true = refl
     at false = refl
 
+-- `only` takes the first node and the nodes after it apart from each other
 pub only_front : (test : Tag → Bool) (x : Item) (xs : Nodes) → only test (in_front x xs) ≡ only test (in_front x no_nodes) ⊕ only test xs
 only_front test (bytes_item b) xs = refl
 only_front test (idle_item t) xs =

@@ -62,6 +62,7 @@ abbrev pub differs : String → List String → Bool
 differs name [] = true
 differs name (other ∷ others) = not (bytes_eq (codes name) (codes other)) && differs name others
 
+-- none of these names is one of those
 abbrev pub all_differ : List String → List String → Bool
 all_differ [] others = true
 all_differ (name ∷ names) others = differs name others && all_differ names others
@@ -105,6 +106,7 @@ frame_names =
     "document" ∷ "hdr" ∷ "ftr" ∷ "footnotes" ∷ "endnotes" ∷ "comments" ∷ "body" ∷ "footnote" ∷ "endnote" ∷ "comment"
     ∷ "tbl" ∷ "tr" ∷ "tc" ∷ "sdt" ∷ "customXml" ∷ "sdtContent" ∷ []
 
+-- a container, by its name
 abbrev pub is_frame : Tag → Bool
 is_frame tag = is_any frame_names tag
 
@@ -113,10 +115,12 @@ pub frame-apart : (others : List String) (tag : Tag) → is_frame tag ≡ true �
     is_any others tag ≡ false
 frame-apart others tag h d = is_any-apart frame_names others tag h d
 
+-- a container has no name outside the list of their names
 pub frame-not : (other : String) (tag : Tag) → is_frame tag ≡ true → all_differ frame_names (other ∷ []) ≡ true →
     is other tag ≡ false
 frame-not other tag h d = sym (or-false (is other tag)) ∙ frame-apart (other ∷ []) tag h d
 
+-- a container holds content, not properties
 pub frame-quiet : (tag : Tag) → is_frame tag ≡ true → is_quiet tag ≡ false
 frame-quiet tag h =
     ap (λ b. b || is_math "ctrlPr" tag)
@@ -131,6 +135,7 @@ abbrev pub among : String → List String → Bool
 among name [] = false
 among name (other ∷ others) = bytes_eq (codes name) (codes other) || among name others
 
+-- each of these names is one of those
 abbrev pub all_among : List String → List String → Bool
 all_among [] others = true
 all_among (name ∷ names) others = among name others && all_among names others
@@ -147,6 +152,7 @@ is_any-one name (other ∷ others) tag h e =
     (λ k. ap (λ b. b || is_any others tag) (is-same name other tag h k))
     (λ _ k. ap (λ b. is other tag || b) (is_any-one name others tag h k) ∙ or-true (is other tag))
 
+-- an element with one of some names has one of any names that these are among
 pub is_any-among : (names others : List String) (tag : Tag) → is_any names tag ≡ true → all_among names others ≡ true →
     is_any others tag ≡ true
 is_any-among [] others tag h d = absurd (true≢false (sym h))

@@ -21,6 +21,7 @@ pub record Named (name : String) (tag : Tag) : Type 0 where
   pub space : tag.space ≡ W
   pub local : tag.local ≡ codes name
 
+-- an element that passes the test for a name is one of W, and its local name is this one
 pub named : (name : String) (tag : Tag) → is name tag ≡ true → Named name tag
 named name tag e =
     let both = and_parts (is_w tag.space) (bytes_eq tag.local (codes name)) e in
@@ -34,12 +35,12 @@ by_name P name tag e h =
     subst (λ s. P (record tag { space = s; local = tag.local })) (sym n.space)
     (subst (λ l. P (record tag { space = W; local = l })) (sym n.local) h)
 
--- the same of an element with one of several names
-
+-- the fact holds of the element under each of these names
 abbrev pub AllNames : (Tag → Type 0) → Tag → List String → Type 0
 AllNames P tag [] = Unit {0}
 AllNames P tag (name ∷ names) = P (record tag { space = W; local = codes name }) × AllNames P tag names
 
+-- what holds under each of some names holds of an element that has one of them
 pub by_names : (P : Tag → Type 0) (names : List String) (tag : Tag) → is_any names tag ≡ true → AllNames P tag names → P tag
 by_names P [] tag e h = absurd (true≢false (sym e))
 by_names P (name ∷ names) tag e h = at (is name tag) refl e (λ k. by_names P names tag k h.1)
@@ -58,6 +59,7 @@ some_trace false false true d = refl
 some_trace false false false true = refl
 some_trace false false false false = refl
 
+-- what holds under each name of a content revision holds of a content revision
 pub by_trace : (P : Tag → Type 0) (tag : Tag) → is_some (trace_of tag) ≡ true →
     AllNames P tag ("ins" ∷ "del" ∷ "moveFrom" ∷ "moveTo" ∷ []) → P tag
 by_trace P tag e h =

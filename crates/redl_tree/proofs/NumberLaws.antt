@@ -37,6 +37,7 @@ bare_spot s = record { tag = unlabelled_tag s.tag; kids = unlabelled s.kids; sta
 abbrev pub bare_spots : List Spot → List Spot
 bare_spots spots = map bare_spot spots
 
+-- an element as it is seen in its story, without labels
 abbrev pub bare_seen : Seen → Seen
 bare_seen s = record { own = bare_spot s.own; ancestors = bare_spots s.ancestors }
 
@@ -70,6 +71,7 @@ tags_of-bare (s ∷ ancestors) = ap (λ ts. unlabelled_tag s.tag ∷ ts) (tags_o
 root_spots-bare : (root : Tag) (kids : Nodes) → root_spots (unlabelled_tag root) (unlabelled kids) ≡ bare_spots (root_spots root kids)
 root_spots-bare root kids = ap (λ s. s ∷ []) (spot-bare 0 root kids)
 
+-- a story without labels has the same elements in the same places
 pub seen-bare : (root : Tag) (kids : Nodes) → seen (unlabelled_tag root) (unlabelled kids) ≡ map bare_seen (seen root kids)
 seen-bare root kids = ap (λ ancestors. seen_from ancestors 1 (unlabelled kids)) (root_spots-bare root kids) ∙ seen_from-bare (root_spots root kids) 1 kids
 
@@ -131,11 +133,13 @@ marker_if value s loose =
     (λ edge. option_map (λ id. record { edge = edge; id = id; name = value s.own.tag.tail (codes "name"); at = s.own.start; loose = loose })
     (value s.own.tag.tail (codes "id"))) (edge_of s.own.tag)
 
+-- an element is the same marker without labels
 pub marker_of-bare : (value : Value) (s : Seen) → marker_of value (bare_seen s) ≡ marker_of value s
 marker_of-bare value s =
     ap (λ b. if b then marker_if value s (is_loose (bare_spots s.ancestors)) else None) (spots_open s.ancestors)
     ∙ ap (λ l. if is_open (tags_of s.ancestors) then marker_if value s l else None) (loose-bare s.ancestors)
 
+-- a story has the same markers without labels
 pub markers-bare : (value : Value) (xs : List Seen) → filter_map (marker_of value) (map bare_seen xs) ≡ filter_map (marker_of value) xs
 markers-bare value [] = refl
 markers-bare value (x ∷ xs) = rw (marker_of-bare value x, markers-bare value xs) refl
@@ -169,11 +173,13 @@ move_of_member-bare moves (Cell trace) s = refl
 move_of_member-bare moves (Change prop) s = refl
 move_of_member-bare moves Marker s = refl
 
+-- an element belongs to the same move without labels
 pub move_of-bare : (value : Value) (moves : List Pair) (s : Seen) → move_of value moves (bare_seen s) ≡ move_of value moves s
 move_of-bare value moves s =
     ap (λ m. either m (move_of_member moves (own_role (bare_seen s)) (bare_seen s))) (move_of_marker-bare value moves s)
     ∙ ap (either (move_of_marker value moves s)) (ap (λ kind. move_of_member moves kind (bare_seen s)) (own_role-bare s) ∙ move_of_member-bare moves (own_role s) s)
 
+-- an element has the same role without labels, markers of moves included
 pub whole_role-bare : (value : Value) (moves : List Pair) (s : Seen) → whole_role value moves (bare_seen s) ≡ whole_role value moves s
 whole_role-bare value moves s =
     ap (λ m. if is_some m then Marker else own_role (bare_seen s)) (move_of_marker-bare value moves s)

@@ -19,6 +19,7 @@ use Rattle.redl_tree.proofs.Laws.{⊕_assoc}
 
 -- An element that is no cut paragraph of a block list gives its part by itself, and the nodes after it give theirs.
 
+-- an element that is left stays
 pub leave_of : (f : Fate) (ic : Bool) (passed stays : Nodes) → is_leave f ≡ true → by_fate f ic passed stays ≡ stays
 leave_of Leave ic passed stays e = refl
 leave_of Free ic passed stays e = absurd (true≢false (sym e))
@@ -45,6 +46,7 @@ para_pass says ancestors tag kids passed e =
     leave_of (fate_of says tag) (is_content tag.kind) passed (if goes_at says ancestors tag kids then no_nodes else stays) a.1
     ∙ if_false (goes_at says ancestors tag kids) no_nodes stays (by_name (λ t. goes_at says ancestors t kids ≡ false) "p" tag b.0 refl)
 
+-- a paragraph that may be joined with another one is a `p`
 pub block_p : (says : List Say) (ancestors : List Tag) (tag : Tag) → is_block_para says ancestors tag ≡ true → is "p" tag ≡ true
 block_p says ancestors tag e = (and_parts (is "p" tag) (in_blocks ancestors) (and_parts (is "p" tag && in_blocks ancestors) (is_leave (fate_of says tag)) e).0).0
 
@@ -60,12 +62,14 @@ alone-if true heavy cut tag kids n h = sym (h refl)
 alone-if false true cut tag kids n h = refl
 alone-if false false cut tag kids n h = refl
 
+-- what an element gives by itself is the element passed, whatever it is to its list
 pub alone-piece : (says : List Say) (ancestors : List Tag) (tag : Tag) (kids passed : Nodes) →
     alone (piece says ancestors tag kids passed) ≡ element_pass says ancestors tag kids passed
 alone-piece says ancestors tag kids passed =
     alone-if (is_block_para says ancestors tag) (is_thick tag) (para_is_cut says kids) (renamed says ancestors tag) (kept_kids says ancestors tag kids passed)
     (element_pass says ancestors tag kids passed) (para_pass says ancestors tag kids passed)
 
+-- what the nodes of a list give, each by itself
 abbrev pub all_alone : List Piece → Nodes
 all_alone [] = no_nodes
 all_alone (p ∷ ps) = alone p ⊕ all_alone ps
@@ -76,6 +80,7 @@ each says ancestors no_nodes = no_nodes
 each says ancestors (bytes b rest) = bytes b (each says ancestors rest)
 each says ancestors (element tag kids rest) = element_pass says ancestors tag kids (pass says (tag ∷ ancestors) kids) ⊕ each says ancestors rest
 
+-- the nodes of a list give, each by itself, what they are passed as one by one
 pub all_alone-each : (says : List Say) (ancestors : List Tag) (nodes : Nodes) → all_alone (pieces says ancestors nodes) ≡ each says ancestors nodes
 all_alone-each says ancestors no_nodes = refl
 all_alone-each says ancestors (bytes b rest) = ap (bytes b) (all_alone-each says ancestors rest)
@@ -90,6 +95,7 @@ step_apart followed true heavy false tag kids n ps e h = ap (λ x. x ⊕ grouped
 step_apart followed false true cut tag kids n ps e h = refl
 step_apart followed false false cut tag kids n ps e h = refl
 
+-- a first element that is no cut paragraph is passed by itself, and the nodes after it are passed by themselves
 pub pass-apart : (says : List Say) (ancestors : List Tag) (tag : Tag) (kids rest : Nodes) → (is_block_para says ancestors tag && para_is_cut says kids) ≡ false →
     pass says ancestors (element tag kids rest) ≡ element_pass says ancestors tag kids (pass says (tag ∷ ancestors) kids) ⊕ pass says ancestors rest
 pass-apart says ancestors tag kids rest e =
@@ -113,6 +119,7 @@ pass-outside says ancestors tag kids rest e =
     (no_and (is_block_para says ancestors tag) (para_is_cut says kids)
     (no_and (is "p" tag && in_blocks ancestors) (is_leave (fate_of says tag)) (and_no (is "p" tag) (in_blocks ancestors) e)))
 
+-- a list that is no block list is passed node by node
 pub pass-each : (says : List Say) (ancestors : List Tag) (nodes : Nodes) → in_blocks ancestors ≡ false → pass says ancestors nodes ≡ each says ancestors nodes
 pass-each says ancestors no_nodes e = refl
 pass-each says ancestors (bytes b rest) e = ap (bytes b) (pass-each says ancestors rest e)
@@ -120,6 +127,7 @@ pass-each says ancestors (element tag kids rest) e =
     pass-outside says ancestors tag kids rest e
     ∙ ap (λ n. element_pass says ancestors tag kids (pass says (tag ∷ ancestors) kids) ⊕ n) (pass-each says ancestors rest e)
 
+-- elements that are left out of two lists in a row are left out of each
 pub without-⊕ : (test : Tag → Bool) (xs ys : Nodes) → without test (xs ⊕ ys) ≡ without test xs ⊕ without test ys
 without-⊕ test no_nodes ys = refl
 without-⊕ test (bytes b rest) ys = ap (bytes b) (without-⊕ test rest ys)
@@ -138,6 +146,7 @@ abbrev pub Takes : Option Nodes → List Piece → Type 0
 Takes None ps = Unit {0}
 Takes (Some held) ps = paragraph_next ps ≡ true
 
+-- where what is held is taken up by a paragraph of the list, so is what is held after its first node
 pub takes-next : (p : Piece) (held : Option Nodes) (ps : List Piece) → Takes held (p ∷ ps) → Takes (held_by p held (joins p ps)) ps
 takes-next (para tag cut kids) held ps t = at cut (paragraph_next ps) refl
   where
@@ -170,6 +179,7 @@ next_of : Bool → Bool → Bool → Bool
 next_of true mine other = mine
 next_of false mine other = other
 
+-- where no node is thick there is no next paragraph
 pub next-thick : (xs : List Piece) → has_thick xs ≡ false → paragraph_next xs ≡ false
 next-thick [] e = refl
 next-thick (para tag cut kids ∷ xs) e = absurd (true≢false e)
@@ -229,10 +239,12 @@ grouped_from-append followed (p ∷ xs) ys held e t =
     ∙ ap (λ n. here ⊕ n) (grouped_from-append followed xs ys later (ends-rest p xs (paragraph_next ys) e) (takes-next p held xs t))
     ∙ sym (⊕_assoc here (grouped_from (has_thick ys || followed) later xs) (grouped_from followed None ys))
 
+-- two lists that no joined paragraphs reach across are put together each by itself
 pub grouped-append : (followed : Bool) (xs ys : List Piece) → (ends_cut xs && paragraph_next ys) ≡ false →
     grouped followed (xs ++ ys) ≡ grouped (has_thick ys || followed) xs ⊕ grouped followed ys
 grouped-append followed xs ys e = grouped_from-append followed xs ys None e tt
 
+-- two lists in a row give the pieces of the first, then those of the second
 pub pieces-⊕ : (says : List Say) (ancestors : List Tag) (xs ys : Nodes) → pieces says ancestors (xs ⊕ ys) ≡ pieces says ancestors xs ++ pieces says ancestors ys
 pieces-⊕ says ancestors no_nodes ys = refl
 pieces-⊕ says ancestors (bytes b rest) ys = ap (λ ps. thin (bytes b no_nodes) ∷ ps) (pieces-⊕ says ancestors rest ys)

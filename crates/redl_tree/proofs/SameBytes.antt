@@ -16,6 +16,7 @@ bytes_same xs = (bytes_eq-Decides xs xs).1 refl
 abbrev name_by : List ℕ → List ℕ → Name
 name_by prefix local = record { prefix = prefix; local = local }
 
+-- names that agree byte for byte are the same name
 pub same_name : (m n : Name) → name_eq m n ≡ true → m ≡ n
 same_name m n e =
     let both = and_parts _ _ e in

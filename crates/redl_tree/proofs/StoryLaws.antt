@@ -12,6 +12,7 @@ use Rattle.redl_tree.proofs.Idle.Items.{nodes_are_idle}
 
 -- ---- a node at a time
 
+-- the stories of a list are those of its first node, then those of the others
 pub stories_in-in_front : (ancestors : List Tag) (x : Item) (ys : Nodes) → stories_in ancestors (in_front x ys) ≡ item_stories ancestors x ++ stories_in ancestors ys
 stories_in-in_front ancestors (bytes_item b) ys = refl
 stories_in-in_front ancestors (element_item tag kids) ys = refl
@@ -132,6 +133,7 @@ module _ {S : Type 0} (rule : StoryRule S) where
 
 -- ---- two rules that make the same of each story
 
+-- two rules make the same kids of each of these stories, one after the other
 abbrev pub Agree : {S T : Type 0} → StoryRule S → StoryRule T → S → T → List Element → Type 0
 Agree r q given other [] = Unit {0}
 Agree r q given other (story ∷ later) =

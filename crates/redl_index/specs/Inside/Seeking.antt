@@ -34,7 +34,7 @@ seeking_of seeker = record {
   found = tally_of seeker.found;
 }
 
--- before the first element of the story in this part of which this is known, where these revisions are found so far
+-- at the start of the story in this part, from what is known of it and the revisions found so far
 abbrev pub seeking_in : ℕ → Facts → List Revision → Seeking
 seeking_in part known index = record {
   part = part;

@@ -17,6 +17,7 @@ use Rattle.redl_laws.proofs.Leaves.Locality.{both-false}
 
 -- ---- the list of leaves, and a walk over slots
 
+-- the list of leaves has as many as their number
 pub count-leaves : (containers : List Element) (slots : Slots) → length (leaves_in containers slots) ≡ leaf_count slots
 count-leaves containers no_slots = refl
 count-leaves containers (leaf_slot leaf rest) = omega (arith, count-leaves containers rest)
@@ -24,6 +25,7 @@ count-leaves containers (container_slot tag kids inner rest) =
     length-append (leaves_in (record { tag = tag; kids = kids } ∷ containers) inner) (leaves_in containers rest)
     ∙ omega (arith, count-leaves (record { tag = tag; kids = kids } ∷ containers) inner, count-leaves containers rest)
 
+-- what it costs to set says, counted leaf by leaf, is what a walk over the slots counts
 pub cost-walk : (is_set : ℕ → Bool) (containers : List Element) (slots : Slots)
     → setting_cost is_set (leaves_in containers slots) ≡ slots_cost is_set (length containers) slots
 cost-walk is_set containers no_slots = refl

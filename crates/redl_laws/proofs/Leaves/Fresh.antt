@@ -107,6 +107,7 @@ pub fresh-split : (opens : List Tag → Tag → Bool) (ancestors : List Tag) (ki
     → slots_of (fresh_states ancestors (slots_in opens ancestors kids)) ≡ slots_in opens ancestors kids
 fresh-split opens ancestors kids = fresh-slots ancestors (slots_in opens ancestors kids) (split-containers opens ancestors kids)
 
+-- the first states of a story are those under says that leave all undecided
 pub fresh-story : (opens : List Tag → Tag → Bool) (count : ℕ) (story : Element)
     → AreStatesOf opens (replicate count Keep) story (fresh_states (story.tag ∷ []) (slots_in opens (story.tag ∷ []) story.kids))
 fresh-story opens count story = record {

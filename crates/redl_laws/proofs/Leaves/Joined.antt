@@ -31,6 +31,7 @@ unheld-split is_set (container_slot tag kids inner rest) ys u = let more = unhel
 
 -- ---- states
 
+-- no states after others change nothing
 pub joined-none : (xs : States) → joined_states xs no_states ≡ xs
 joined-none no_states = refl
 joined-none (leaf_state leaf present rest) = ap (leaf_state leaf present) (joined-none rest)

@@ -27,6 +27,7 @@ get-later (x ∷ xs) ys k =
 
 -- ---- leaves
 
+-- the leaf at the end of a way stands in the list of leaves at the number of the way
 pub leaf-numbered : (way : List ℕ) (slots : Slots) → IsWay way slots → slice_get (leaf_list slots) (number_at way slots) ≡ leaf_at way slots
 leaf-numbered way no_slots is = absurd is
 leaf-numbered [] (leaf_slot leaf rest) is = absurd is
@@ -43,12 +44,14 @@ leaf-numbered (suc n ∷ way) (container_slot tag kids inner rest) is =
 
 -- ---- what is lent
 
+-- as many leaves are lent as there are
 pub lent-count : (gone : Bool) (states : States) → length (lent gone states) ≡ states_count states
 lent-count gone no_states = refl
 lent-count gone (leaf_state leaf present rest) = omega (arith, lent-count gone rest)
 lent-count gone (container_state tag tally inner rest) =
     omega (arith, length-append (lent (tally.gone || gone) inner) (lent gone rest), lent-count (tally.gone || gone) inner, lent-count gone rest)
 
+-- what is lent at the end of a way stands among all that is lent at the number of the way
 pub lent-numbered : (gone : Bool) (way : List ℕ) (states : States) → IsWay way (slots_of states)
     → slice_get (lent gone states) (number_at way (slots_of states)) ≡ lent_at gone way states
 lent-numbered gone way no_states is = absurd is

@@ -73,6 +73,7 @@ module _ {S T : Type 0} (rule : StoryRule S) (blind : IsBlind rule) (first : Sto
           ∙ ap (λ g. element tag (changed_in rule given (tag ∷ ancestors) kids) (changed_in rule g ancestors (changed_in first o ancestors rest))) gone
           ∙ ap (element tag (changed_in rule given (tag ∷ ancestors) kids)) (later (left_after rule given (stories_in (tag ∷ ancestors) kids)) o)
 
+-- what a story shows depends on its states, not on the kids that its root has at the time
 pub shown-blind : IsBlind shown_rule
 shown-blind = record { kids = λ given tag xs ys. refl; left = λ given tag xs ys. refl }
 
@@ -111,6 +112,7 @@ package-written_outer first other value says nodes each plain indexed of =
     changed-blind shown_rule shown-blind first each other [] nodes
     ∙ package-of opens_outer IsOuter outer_opening (λ tag named. root-outer tag named) value says nodes each plain indexed of
 
+-- a package whose stories show their current states is its pass under the says
 pub package-shows : (value : Value) (says : List Say) (nodes : Nodes) (each : List States) → roots_are_plain [] nodes ≡ true → IsIndexed value nodes
     → AreStatesOfEach opens says (stories nodes) each → changed_package shown_rule each nodes ≡ pass_package says nodes
 package-shows = package-of opens AnyPath whole_opening (λ tag named. tt)

@@ -48,6 +48,7 @@ module _ (opens : List Tag → Tag → Bool) (IsPath : List Tag → Type 0) (is 
       All-cons (ShowsStory opens says) story later
       (story-shown says story h.0 (is_any-among story_roots frame_names story.tag h.0.root refl, p.0)) (stories-shown says later h.1 p.1)
 
+-- each story of an indexed package is shown by its leaves as the pass makes it
 pub package-shown : (value : Value) (says : List Say) (nodes : Nodes) → roots_are_plain [] nodes ≡ true → IsIndexed value nodes
     → All (ShowsStory opens says) (stories nodes)
 package-shown value says nodes plain indexed =

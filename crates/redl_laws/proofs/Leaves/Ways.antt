@@ -17,6 +17,7 @@ use Rattle.redl_laws.proofs.Leaves.Pending.{pending-begun, pending-done, pending
 
 -- ---- one step leaves the slots, and keeps the tallies
 
+-- making a leaf anew leaves the slots as they are
 pub made-slots : (says : List Say) (ancestors : List Tag) (way : List ℕ) (states : States) → slots_of (made_at says ancestors way states) ≡ slots_of states
 made-slots says ancestors way no_states = refl
 made-slots says ancestors [] (leaf_state leaf present rest) = refl
@@ -28,6 +29,7 @@ made-slots says ancestors (suc n ∷ way) (leaf_state leaf present rest) = ap (l
 made-slots says ancestors (suc n ∷ way) (container_state tag tally inner rest) =
     ap (container_slot tag (original (slots_of inner)) (slots_of inner)) (made-slots says ancestors (n ∷ way) rest)
 
+-- making a leaf anew keeps the tallies right
 pub made-tallied : (says : List Say) (ancestors : List Tag) (way : List ℕ) (states : States) → AreTallied ancestors states
     → AreTallied ancestors (made_at says ancestors way states)
 made-tallied says ancestors way no_states t = tt

@@ -30,6 +30,7 @@ use Rattle.redl_laws.proofs.Soundness.Ancestors.{Came, came_open, implies_from, 
 use Rattle.redl_laws.proofs.Soundness.Walk.{Holds, Ground, Kept, made, change_shut, and_no}
 use Rattle.redl_laws.proofs.Soundness.Properties.{fits_of, made_open, open_came, no_p, shut_one}
 
+-- the list is empty
 abbrev pub is_empty : {X : Type 0} → List X → Bool
 is_empty [] = true
 is_empty (x ∷ xs) = false
@@ -41,6 +42,7 @@ own-⊕ name reach (element t k rest) ys =
     let here = if is_direct reach && is name t then k ∷ [] else own name (into reach t) k in
     ap (λ x. here ++ x) (own-⊕ name reach rest ys) ∙ sym (append_assoc here (own name reach rest) (own name reach ys))
 
+-- a list has rows or cells of its own if the list of these is not empty
 pub own-has : (name : String) (reach : Reach) (xs : Nodes) → has_own name reach xs ≡ not (is_empty (own name reach xs))
 own-has name reach no_nodes = refl
 own-has name reach (bytes b rest) = own-has name reach rest

@@ -404,6 +404,7 @@ GoodHeld test new None = Unit {0}
 GoodHeld test new (Some held) =
     ((b : Tag) → is "p" b ≡ true → everywhere test (b ∷ new) held ≡ true) × (some_element (is "pPr") held ≡ false)
 
+-- no element of two lists in a row passes a test that none of either list passes
 pub some-⊕ : (n : Tag → Bool) (xs ys : Nodes) → some_element n xs ≡ false → some_element n ys ≡ false → some_element n (xs ⊕ ys) ≡ false
 some-⊕ n no_nodes ys p q = q
 some-⊕ n (bytes b rest) ys p q = some-⊕ n rest ys p q

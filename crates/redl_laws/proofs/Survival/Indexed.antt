@@ -66,6 +66,7 @@ pub record IsStory (story : Element) : Type 0 where
   pub loud : is_quiet story.tag ≡ false
   pub fits : AllFit (story.tag ∷ []) story.kids
 
+-- each of these is a story of an indexed package
 abbrev pub AreStories : List Element → Type 0
 AreStories [] = Unit {0}
 AreStories (story ∷ rest) = IsStory story × AreStories rest
@@ -89,6 +90,7 @@ stories_are value ancestors next (element tag kids rest) e =
         (record { root = root_name ancestors tag r; loud = root_loud ancestors tag r; fits = fits_from value (moves_among value (seen tag kids)) (start_with next) (root_spots tag kids) 1 kids e }, tt)
     here false r e ih = ih e
 
+-- the stories of an indexed package have story roots, and their elements have the kinds of their roles or are markers
 pub indexed_stories : (value : Value) (nodes : Nodes) → IsIndexed value nodes → AreStories (stories nodes)
 indexed_stories value nodes e = stories_are value [] 1 nodes e
 
@@ -100,6 +102,7 @@ passed_all : (says : List Say) (xs : List Element) → changed_stories pass_rule
 passed_all says [] = refl
 passed_all says (x ∷ xs) = ap (λ ss. passed says x ∷ ss) (passed_all says xs)
 
+-- the stories of a passed package are its stories, each passed
 pub stories-pass : (says : List Say) (nodes : Nodes) → stories (pass_package says nodes) ≡ map (passed says) (stories nodes)
 stories-pass says nodes = stories-changed pass_rule says [] nodes ∙ passed_all says (stories nodes)
 
@@ -110,6 +113,7 @@ survival_of says (x ∷ xs) h =
     ap (λ t. t ∷ map text_pieces (map (passed says) xs)) (survival says x.tag x.kids h.0.loud h.0.fits)
     ∙ ap (λ ts. survivors says x ∷ ts) (survival_of says xs h.1)
 
+-- the text pieces of the passed stories are the survivors of the original ones
 pub survival-package : (value : Value) (says : List Say) (nodes : Nodes) → IsIndexed value nodes →
     map text_pieces (stories (pass_package says nodes)) ≡ map (survivors says) (stories nodes)
 survival-package value says nodes is =

@@ -28,6 +28,7 @@ nodes_are_idle t = by (is_idle_text t) refl where
   by true e = (and_parts (is_idle (nodes_in W t)) (not (elements (nodes_in W t) == 0)) (and_parts (is_there (nodes_at W t)) (is_idle (nodes_in W t) && not (elements (nodes_in W t) == 0)) e).1).0
   by false e = refl
 
+-- idle nodes that are kept as text hold an element
 pub element_among : (t : List ℕ) → has_element (idle_nodes t) ≡ true
 unfolding idle_nodes
 element_among t = by (is_idle_text t) refl where
@@ -64,6 +65,7 @@ pub record ReadsIdle (t : List ℕ) : Type 0 where
   pub is : is_idle_text t ≡ true
   pub nodes : idle_nodes t ≡ nodes_in W t
 
+-- a text that is read as idle nodes, an element among them, is kept as text and stands for these nodes
 pub idle_text : (t : List ℕ) → Reads W t → is_idle (nodes_in W t) ≡ true → elements (nodes_in W t) ≢ 0 → ReadsIdle t
 idle_text t reads idle some =
     let h : is_idle_text t ≡ true = and_from (is_there (nodes_at W t)) (is_idle (nodes_in W t) && not (elements (nodes_in W t) == 0)) reads (and_from (is_idle (nodes_in W t)) (not (elements (nodes_in W t) == 0)) idle (not_none (elements (nodes_in W t)) some)) in

@@ -25,9 +25,11 @@ use Rattle.redl_tree.proofs.Idle.Tags.{Idle, idle_parts, has-not}
 
 -- Tests that no idle element passes
 
+-- no idle element passes the test
 abbrev pub NoneIs : Bool → (Tag → Bool) → Type 0
 NoneIs in_run test = (tag : Tag) → Idle in_run tag → test tag ≡ false
 
+-- an idle element has none of the names that are asked for
 pub name_none : (name : String) (in_run : Bool) → is_idle_name in_run (codes name) ≡ false → NoneIs in_run (is name)
 name_none name in_run e tag i = has-not name in_run tag i e
 
@@ -45,12 +47,14 @@ abbrev pub are_asked : Bool → List String → Bool
 are_asked in_run [] = true
 are_asked in_run (name ∷ names) = not (is_idle_name in_run (codes name)) && are_asked in_run names
 
+-- the same of several names
 pub names_none : (names : List String) (in_run : Bool) → are_asked in_run names ≡ true → NoneIs in_run (is_any names)
 names_none [] in_run e tag i = refl
 names_none (name ∷ names) in_run e tag i =
     let both = and_parts (not (is_idle_name in_run (codes name))) (are_asked in_run names) e in
     or_from (is name tag) (is_any names tag) (has-not name in_run tag i (not-true (is_idle_name in_run (codes name)) both.0)) (names_none names in_run both.1 tag i)
 
+-- no idle element is a block by itself
 pub thick_none : (in_run : Bool) → NoneIs in_run is_thick
 thick_none in_run tag i =
     or_from (is_any ("p" ∷ "tbl" ∷ "sdt" ∷ "customXml" ∷ "altChunk" ∷ []) tag) (not (is_w tag.space || is_m tag.space))
@@ -59,6 +63,7 @@ thick_none in_run tag i =
 
 -- Elements with such tags
 
+-- whether some element passes such a test does not depend on idle nodes in front
 pub some_past : (in_run : Bool) (test : Tag → Bool) → NoneIs in_run test → (x y : Nodes) → is_idle_in in_run x ≡ true → some_element test (x ⊕ y) ≡ some_element test y
 some_past in_run test none no_nodes y h = refl
 some_past in_run test none (bytes b rest) y h = some_past in_run test none rest y h
@@ -73,6 +78,7 @@ only_past in_run test none (element tag kids rest) y h =
     let p = idle_parts in_run tag kids rest h in
     rw (none tag p.own) (only_past in_run test none rest y p.later)
 
+-- idle nodes in front stay where such elements are left out
 pub without_past : (in_run : Bool) (test : Tag → Bool) → NoneIs in_run test → (x y : Nodes) → is_idle_in in_run x ≡ true → without test (x ⊕ y) ≡ x ⊕ without test y
 without_past in_run test none no_nodes y h = refl
 without_past in_run test none (bytes b rest) y h = ap (bytes b) (without_past in_run test none rest y h)
@@ -80,6 +86,7 @@ without_past in_run test none (element tag kids rest) y h =
     let p = idle_parts in_run tag kids rest h in
     rw (none tag p.own) (ap (element tag kids) (without_past in_run test none rest y p.later))
 
+-- idle nodes in front add no kids to those of all elements with a name
 pub kids_of_all_past : (in_run : Bool) (name : String) → NoneIs in_run (is name) → (x y : Nodes) → is_idle_in in_run x ≡ true → kids_of_all name (x ⊕ y) ≡ kids_of_all name y
 kids_of_all_past in_run name none no_nodes y h = refl
 kids_of_all_past in_run name none (bytes b rest) y h = kids_of_all_past in_run name none rest y h
@@ -88,6 +95,7 @@ kids_of_all_past in_run name none (element tag kids rest) y h =
     ap (λ b. if b then kids ⊕ kids_of_all name (rest ⊕ y) else kids_of_all name (rest ⊕ y)) (none tag p.own)
     ∙ kids_of_all_past in_run name none rest y p.later
 
+-- whether at most one element passes such a test does not depend on idle nodes in front
 pub few_past : (in_run : Bool) (test : Tag → Bool) → NoneIs in_run test → (x y : Nodes) → is_idle_in in_run x ≡ true → at_most_one test (x ⊕ y) ≡ at_most_one test y
 few_past in_run test none no_nodes y h = refl
 few_past in_run test none (bytes b rest) y h = few_past in_run test none rest y h
@@ -95,6 +103,7 @@ few_past in_run test none (element tag kids rest) y h =
     let p = idle_parts in_run tag kids rest h in
     rw (none tag p.own) (few_past in_run test none rest y p.later)
 
+-- whether only the last element passes such a test does not depend on idle nodes in front
 pub last_past : (in_run : Bool) (test : Tag → Bool) → NoneIs in_run test → (x y : Nodes) → is_idle_in in_run x ≡ true → only_last test (x ⊕ y) ≡ only_last test y
 last_past in_run test none no_nodes y h = refl
 last_past in_run test none (bytes b rest) y h = last_past in_run test none rest y h
@@ -102,6 +111,7 @@ last_past in_run test none (element tag kids rest) y h =
     let p = idle_parts in_run tag kids rest h in
     rw (none tag p.own) (last_past in_run test none rest y p.later)
 
+-- among idle nodes alone no element but the last one passes such a test
 pub last_idle : (in_run : Bool) (test : Tag → Bool) → NoneIs in_run test → (nodes : Nodes) → is_idle_in in_run nodes ≡ true → only_last test nodes ≡ true
 last_idle in_run test none no_nodes h = refl
 last_idle in_run test none (bytes b rest) h = last_idle in_run test none rest h
@@ -121,6 +131,7 @@ has_past no_nodes y h = absurd (true≢false (sym h))
 has_past (bytes b rest) y h = has_past rest y h
 has_past (element tag kids rest) y h = refl
 
+-- after idle nodes with an element among them, only the first element passes such a test exactly if none does
 pub first_past : (in_run : Bool) (test : Tag → Bool) → NoneIs in_run test → (x y : Nodes) → is_idle_in in_run x ≡ true → has_element x ≡ true → only_first test (x ⊕ y) ≡ not (some_element test y)
 first_past in_run test none no_nodes y h there = absurd (true≢false (sym there))
 first_past in_run test none (bytes b rest) y h there = first_past in_run test none rest y h there
@@ -140,6 +151,7 @@ own_idle name none in_run reach (element tag kids rest) h =
     ∙ ap (λ (found : List Nodes). found ++ own name reach rest) (own_idle name none (is "r" tag) (into reach tag) kids p.below)
     ∙ own_idle name none in_run reach rest p.later
 
+-- idle nodes in front hold none of a list's rows or cells
 pub own_past : (name : String) → ((in_run : Bool) → NoneIs in_run (is name)) → (in_run : Bool) (reach : Reach) (x y : Nodes) → is_idle_in in_run x ≡ true → own name reach (x ⊕ y) ≡ own name reach y
 own_past name none in_run reach no_nodes y h = refl
 own_past name none in_run reach (bytes b rest) y h = own_past name none in_run reach rest y h
@@ -159,6 +171,7 @@ has_own_idle name none in_run reach (element tag kids rest) h =
     ∙ ap (λ b. (if b then true else has_own name (into reach tag) kids) || has_own name reach rest) (and-false (is_direct reach))
     ∙ or_from (has_own name (into reach tag) kids) (has_own name reach rest) (has_own_idle name none (is "r" tag) (into reach tag) kids p.below) (has_own_idle name none in_run reach rest p.later)
 
+-- whether a list has rows or cells of its own does not depend on idle nodes in front
 pub has_own_past : (name : String) → ((in_run : Bool) → NoneIs in_run (is name)) → (in_run : Bool) (reach : Reach) (x y : Nodes) → is_idle_in in_run x ≡ true → has_own name reach (x ⊕ y) ≡ has_own name reach y
 has_own_past name none in_run reach no_nodes y h = refl
 has_own_past name none in_run reach (bytes b rest) y h = has_own_past name none in_run reach rest y h
@@ -175,6 +188,7 @@ end_one_none in_run Direct tag inner i =
 end_one_none in_run Control tag inner i = rw (has-not "sdtContent" in_run tag i refl) refl
 end_one_none in_run Beyond tag inner i = refl
 
+-- how a list of blocks ends does not depend on idle nodes in front
 pub end_past : (in_run : Bool) (reach : Reach) (x y : Nodes) → is_idle_in in_run x ≡ true → end_of reach (x ⊕ y) ≡ end_of reach y
 end_past in_run reach no_nodes y h = refl
 end_past in_run reach (bytes b rest) y h = end_past in_run reach rest y h
@@ -186,6 +200,7 @@ end_past in_run reach (element tag kids rest) y h =
 
 -- Members of revisions, which have numbers from 1
 
+-- idle nodes hold no member of a revision
 pub no_member : (is_set : ℕ → Bool) → is_set 0 ≡ false → (in_run : Bool) (nodes : Nodes) → is_idle_in in_run nodes ≡ true → has_member is_set nodes ≡ false
 no_member is_set none in_run no_nodes h = refl
 no_member is_set none in_run (bytes b rest) h = no_member is_set none in_run rest h

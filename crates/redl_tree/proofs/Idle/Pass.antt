@@ -33,10 +33,12 @@ none_rejected says in_run (element tag kids rest) h =
     let p = idle_parts in_run tag kids rest h in
     rw p.own.kind (none_rejected says in_run rest p.later)
 
+-- an idle element with idle kids is passed as it is
 pub one_pass : (says : List Say) (ancestors : List Tag) (in_run : Bool) (tag : Tag) (kids : Nodes) → Idle in_run tag → is_idle_in (is "r" tag) kids ≡ true → element_pass says ancestors tag kids kids ≡ element tag kids no_nodes
 one_pass says ancestors in_run tag kids i h =
     rw (stays_one says ancestors in_run tag kids i, same_name says ancestors in_run tag i, none_rejected says (is "r" tag) kids h, i.kind) refl
 
+-- an idle element is thin: it stands between blocks and ends no group of paragraphs
 pub thin_piece : (says : List Say) (ancestors : List Tag) (in_run : Bool) (tag : Tag) (kids passed : Nodes) → Idle in_run tag → piece says ancestors tag kids passed ≡ thin (element_pass says ancestors tag kids passed)
 thin_piece says ancestors in_run tag kids passed i = by_tests (is "p" tag) (has-not "p" in_run tag i refl) (is_thick tag) (thick_none in_run tag i) where
   by_tests : (p : Bool) → p ≡ false → (heavy : Bool) → heavy ≡ false →
@@ -45,6 +47,7 @@ thin_piece says ancestors in_run tag kids passed i = by_tests (is "p" tag) (has-
       ≡ thin (element_pass says ancestors tag kids passed)
   by_tests p e heavy f = rw (e, f) refl
 
+-- idle nodes are passed as they are
 pub pass_idle : (says : List Say) (ancestors : List Tag) (in_run : Bool) (nodes : Nodes) → is_idle_in in_run nodes ≡ true → pass says ancestors nodes ≡ nodes
 pass_idle says ancestors in_run no_nodes h = refl
 pass_idle says ancestors in_run (bytes b rest) h = ap (bytes b) (pass_idle says ancestors in_run rest h)

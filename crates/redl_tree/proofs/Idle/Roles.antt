@@ -12,23 +12,29 @@ use Rattle.redl_tree.proofs.NameLaws.{and-false}
 use Rattle.redl_tree.proofs.Idle.Tags.{Idle, has-not}
 use Rattle.redl_tree.proofs.Idle.Lists.{names_none}
 
+-- an idle element marks no content and no paragraph
 pub no_trace : (in_run : Bool) (tag : Tag) → Idle in_run tag → trace_of tag ≡ None
 no_trace in_run tag i = rw (has-not "ins" in_run tag i refl, has-not "del" in_run tag i refl, has-not "moveFrom" in_run tag i refl, has-not "moveTo" in_run tag i refl) refl
 
+-- an idle element marks no row
 pub no_row_trace : (in_run : Bool) (tag : Tag) → Idle in_run tag → row_trace_of tag ≡ None
 no_row_trace in_run tag i = rw (has-not "ins" in_run tag i refl, has-not "del" in_run tag i refl) refl
 
+-- an idle element marks no cell
 pub no_cell_trace : (in_run : Bool) (tag : Tag) → Idle in_run tag → cell_trace_of tag ≡ None
 no_cell_trace in_run tag i = rw (has-not "cellIns" in_run tag i refl, has-not "cellDel" in_run tag i refl) refl
 
+-- an idle element is no change of properties
 pub no_prop : (in_run : Bool) (tag : Tag) → Idle in_run tag → prop_of tag ≡ None
 no_prop in_run tag i =
     rw (has-not "rPrChange" in_run tag i refl, has-not "pPrChange" in_run tag i refl, has-not "sectPrChange" in_run tag i refl, has-not "tblPrChange" in_run tag i refl, has-not "tblPrExChange" in_run tag i refl, has-not "trPrChange" in_run tag i refl, has-not "tcPrChange" in_run tag i refl) refl
 
+-- an idle element is no edge of a move
 pub no_edge : (in_run : Bool) (tag : Tag) → Idle in_run tag → edge_of tag ≡ None
 no_edge in_run tag i =
     rw (has-not "moveFromRangeStart" in_run tag i refl, has-not "moveFromRangeEnd" in_run tag i refl, has-not "moveToRangeStart" in_run tag i refl, has-not "moveToRangeEnd" in_run tag i refl) refl
 
+-- an idle element neither starts nor ends the range of a move
 pub no_range_edge : (in_run : Bool) (tag : Tag) → Idle in_run tag → is_range_edge tag ≡ false
 no_range_edge in_run tag i = names_none ("moveFromRangeStart" ∷ "moveFromRangeEnd" ∷ "moveToRangeStart" ∷ "moveToRangeEnd" ∷ []) in_run refl tag i
 

@@ -10,6 +10,7 @@ use Rattle.redl_tree.specs.declared.kinds.Kind.TheVariants.{Plain, Content, Mark
 use Rattle.redl_tree.proofs.NameLaws.{and-false}
 use Rattle.redl_tree.proofs.SameBytes.{same_bytes}
 
+-- an element of W in no revision, with a name that no definition asks for
 pub record Idle (in_run : Bool) (tag : Tag) : Type 0 where
   pub kind : tag.kind ≡ Plain
   pub rev : tag.rev ≡ 0
@@ -38,6 +39,7 @@ pub record IdleParts (in_run : Bool) (tag : Tag) (kids rest : Nodes) : Type 0 wh
   pub below : is_idle_in (is "r" tag) kids ≡ true
   pub later : is_idle_in in_run rest ≡ true
 
+-- where the first of some idle nodes is an element, it is idle, and so are its kids and the nodes after it
 pub idle_parts : (in_run : Bool) (tag : Tag) (kids rest : Nodes) → is_idle_in in_run (element tag kids rest) ≡ true → IdleParts in_run tag kids rest
 idle_parts in_run tag kids rest h =
     let one = and_parts (is_idle_tag in_run tag) (is_idle_in (is "r" tag) kids && is_idle_in in_run rest) h in

@@ -7,6 +7,7 @@ use Rattle.redl_tree.specs.declared.kinds.Space.TheVariants.{W}
 use Rattle.redl_tree.specs.declared.laid.First.{First}
 use Rattle.redl_tree.specs.declared.laid.First.TheVariants.{Bytes, Elem}
 
+-- the node that was read first
 abbrev pub first_item : First → Item
 first_item (Bytes b) = bytes_item b.now
 first_item (Elem elem) = element_item (tagged elem.tag (close_of elem.close)) (nodes_in W elem.kids)

@@ -11,7 +11,7 @@ use Rattle.redl_tree.specs.declared.lists.Reach.TheVariants.{Direct, Control, Be
 use Rattle.redl_tree.specs.declared.lists.Lot.{Lot}
 use Rattle.redl_tree.specs.declared.lists.Lot.TheVariants.{Blocks, Rows, Cells}
 
--- how the kids of an element are reached, where the element stands among kids that are reached so
+-- how the kids of an element are reached, from how its own list is
 abbrev pub into : Reach → Tag → Reach
 into Direct tag = if is "sdt" tag then Control else if is "customXml" tag then Direct else Beyond
 into Control tag = if is "sdtContent" tag then Direct else Beyond
@@ -21,7 +21,7 @@ into Beyond tag = Beyond
 abbrev pub nowhere : Place
 nowhere = record { lot = Blocks; reach = Beyond }
 
--- a list of the same, reached so
+-- the place of a list that consists of this, from how it is reached
 abbrev pub still : Lot → Reach → Place
 still lot Beyond = nowhere
 still lot reach = record { lot = lot; reach = reach }

@@ -7,10 +7,12 @@ use Rattle.redl_tree.specs.declared.kinds.Space.{Space}
 use Rattle.redl_tree.specs.declared.kinds.Space.TheVariants.{W, M}
 use Rattle.redl_tree.specs.declared.kinds.Kind.TheVariants.{Plain}
 
+-- the namespace of WordprocessingML
 abbrev pub is_w : Space → Bool
 is_w W = true
 is_w _ = false
 
+-- the namespace of mathematics
 abbrev pub is_m : Space → Bool
 is_m M = true
 is_m _ = false

@@ -110,16 +110,19 @@ in_para_props ancestors = within ("pPr" ∷ "p" ∷ []) ancestors
 abbrev pub in_sect_props : List Tag → Bool
 in_sect_props ancestors = within ("sectPr" ∷ "body" ∷ []) ancestors || within ("sectPr" ∷ "pPr" ∷ "p" ∷ []) ancestors
 
--- in the properties of a table, in a row's exceptions to these, and in the properties of a row and of a cell (17.4)
+-- in the properties of a table (17.4)
 abbrev pub in_table_props : List Tag → Bool
 in_table_props ancestors = within ("tblPr" ∷ "tbl" ∷ []) ancestors
 
+-- in a row's exceptions to the properties of its table (17.4)
 abbrev pub in_except_props : List Tag → Bool
 in_except_props ancestors = within ("tblPrEx" ∷ "tr" ∷ []) ancestors
 
+-- in the properties of a row (17.4)
 abbrev pub in_row_props : List Tag → Bool
 in_row_props ancestors = within ("trPr" ∷ "tr" ∷ []) ancestors
 
+-- in the properties of a cell (17.4)
 abbrev pub in_cell_props : List Tag → Bool
 in_cell_props ancestors = within ("tcPr" ∷ "tc" ∷ []) ancestors
 
@@ -138,6 +141,7 @@ abbrev pub placed : Bool → Option Kind → Option Kind
 placed true kind = kind
 placed false kind = None
 
+-- the role of a change, where it stands in the properties that it changes
 abbrev pub change_at : List Tag → Option Prop → Option Kind
 change_at ancestors None = None
 change_at ancestors (Some prop) = placed (in_props prop ancestors) (Some (Change prop))

@@ -5,6 +5,7 @@ use Rattle.redl_tree.specs.declared.kinds.Space.TheVariants.{W}
 use Rattle.redl_tree.specs.declared.word.Word.{Word}
 use Rattle.redl_tree.specs.declared.word.Word.TheVariants.{P, R, Tr, Tc, Tbl, Ins, Del, Sdt, Hdr, Ftr, PPr, RPr, Body, TrPr, TcPr, TblPr, SdtPr, TblGrid, SectPr, TblPrEx, MoveFrom, MoveTo, CustomXml, SdtContent, SdtEndPr, TxbxContent, AltChunk, Comment, Comments, Footnote, Footnotes, Endnote, Endnotes, Document, CellIns, CellDel, CellMerge, DelText, DelInstrText, HeaderReference, FooterReference, RPrChange, PPrChange, SectPrChange, TblPrChange, TblPrExChange, TrPrChange, TcPrChange, MoveFromRangeStart, MoveFromRangeEnd, MoveToRangeStart, MoveToRangeEnd}
 
+-- the local name that a word is
 abbrev pub name_of : Word → List ℕ
 name_of P = codes "p"
 name_of R = codes "r"
