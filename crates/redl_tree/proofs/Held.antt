@@ -18,10 +18,10 @@ held_of-Kids v = search (rules, the_lemmas)
 pub held_of-Spaced : (b : Box Spaced Global) → held_of (body.Spaced b) ≡ spaced_of b.value
 held_of-Spaced b = search (rules, the_lemmas)
 
-pub spaced_of-made : (s : Spaced-F Body Node Elem Spaced) → spaced_of (roll-Spaced s) ≡ record { kids = nodes_of s.kids.items; close = End s.space.now }
+pub spaced_of-made : (s : Spaced-F Body Node Elem Spaced) → spaced_of (roll-Spaced s) ≡ record { kids = nodes_of s.kids.items; close = End s.white.now }
 spaced_of-made s = search (rules, the_lemmas)
 
-pub spaced_of-fields : (s : Spaced) → spaced_of s ≡ record { kids = nodes_of s.kids.items; close = End s.space.now }
+pub spaced_of-fields : (s : Spaced) → spaced_of s ≡ record { kids = nodes_of s.kids.items; close = End s.white.now }
 spaced_of-fields s = search (rules, the_lemmas)
 
 -- what a body holds, by one look at it
@@ -41,7 +41,7 @@ unfolding made_held
 bare_when_closed Body-F.Empty closed = refl
 bare_when_closed (Body-F.Kids v) closed = absurd cc
 bare_when_closed (Body-F.Spaced b) closed =
-    let ended : (spaced_of b.value).close ≡ End b.value.space.now = ap (λ (h : Held). h.close) (spaced_of-fields b.value) in
+    let ended : (spaced_of b.value).close ≡ End b.value.white.now = ap (λ (h : Held). h.close) (spaced_of-fields b.value) in
     absurd cc
 
 -- an element that is closed in its start tag has no kids

@@ -46,7 +46,7 @@ abbrev pub elem_step : Elem-F Held Item Element Held → Element
 elem_step e = record { tag = tagged e.tag e.body.close; kids = e.body.kids }
 
 abbrev pub spaced_step : Spaced-F Held Item Element Held → Held
-spaced_step s = record { kids = from_items s.kids.items; close = End s.space.now }
+spaced_step s = record { kids = from_items s.kids.items; close = End s.white.now }
 
 -- the model of one node
 abbrev pub item_of : Node → Item

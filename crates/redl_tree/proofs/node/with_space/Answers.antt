@@ -8,5 +8,5 @@ use Rattle.redl_tree.proofs.node.with_space.Goals as goal
 pub returns-clause-close : goal.returns-clause-close
 returns-clause-close c =
     ap (λ (h : Held). h.close) (held_of-Spaced _ ∙ spaced_of-made _)
-    ∙ ap (λ (s : Spaced). End s.space.now) c.deref_mut.ensures.value
+    ∙ ap (λ (s : Spaced). End s.white.now) c.deref_mut.ensures.value
     ∙ sym (ap (λ (h : Held). h.close) (spaced_of-fields _))

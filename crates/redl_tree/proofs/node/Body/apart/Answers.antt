@@ -13,5 +13,5 @@ returns-in-Spaced-clause-bare c =
 pub returns-in-Spaced-clause-close : goal.returns-in-Spaced-clause-close
 returns-in-Spaced-clause-close c =
     ap (λ (h : Held). h.close) (held_of-Spaced _ ∙ spaced_of-made _)
-    ∙ ap (λ (s : Spaced). End s.space.now) c.deref_mut.ensures.value
+    ∙ ap (λ (s : Spaced). End s.white.now) c.deref_mut.ensures.value
     ∙ sym (ap (λ (h : Held). h.close) (ap held_of c.in-Spaced.is ∙ held_of-Spaced _ ∙ spaced_of-fields _))
