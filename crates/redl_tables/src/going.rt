@@ -9,7 +9,7 @@ ghost use Rattle.redl_tree.specs.Decisions.Tables.{goes as goes_by, all_of_some,
 ghost use Rattle.redl_tree.specs.Model.View.{nodes_of, tag_of, kids_of};
 ghost use Rattle.redl_tree.specs.declared.lists.Reach.TheVariants.{Direct};
 
-use crate::owned::{Unit, found, goes_itself};
+use crate::owned::{Unit, finding_of_nodes, goes_itself};
 use redl_tree::{Elem, Node, Reach, Say, Word, is_word};
 
 /// Whether a table, a row, a cell or a shell goes (ECMA-376 Part 1, 17.4, 17.13.5).
@@ -47,5 +47,5 @@ pub fn goes(elem: &Elem, in_row: bool, says: &[Say]) -> bool
 fn all_go(nodes: &[Node], unit: Unit, reach: Reach, says: &[Say]) -> bool
     ensures { result ≡ all_of_some (unit_goes unit says.now) (own (unit_name unit) reach (nodes_of nodes.now)) }
 {
-    found(nodes, unit, reach, says).is_gone()
+    finding_of_nodes(nodes, unit, reach, says).is_gone()
 }

@@ -59,12 +59,12 @@ impl Finding {
 
 /// What these nodes hold, reached as `reach` says. It stops at the first row or cell that stays.
 #[cycle(own)]
-pub(crate) fn found(nodes: &[Node], unit: Unit, reach: Reach, says: &[Say]) -> Finding
+pub(crate) fn finding_of_nodes(nodes: &[Node], unit: Unit, reach: Reach, says: &[Say]) -> Finding
     ensures { result ≡ found_of (unit_goes unit says.now) (own (unit_name unit) reach (nodes_of nodes.now)) }
 {
     let mut all = Finding::Nothing;
     for node in nodes {
-        all = all.and(found_in(node, unit, reach, says));
+        all = all.and(finding_of_node(node, unit, reach, says));
         if all.is_living() {
             return Finding::Living;
         }
@@ -74,29 +74,29 @@ pub(crate) fn found(nodes: &[Node], unit: Unit, reach: Reach, says: &[Say]) -> F
 
 // What is found of one node.
 #[cycle(own)]
-fn found_in(node: &Node, unit: Unit, reach: Reach, says: &[Say]) -> Finding
+fn finding_of_node(node: &Node, unit: Unit, reach: Reach, says: &[Say]) -> Finding
     ensures { result ≡ item_found unit says.now reach (item_of node.now) }
 {
     match node {
-        Node::Elem(elem) => found_at(elem, unit, reach, says),
+        Node::Elem(elem) => finding_of_elem(elem, unit, reach, says),
         Node::Bytes(_) | Node::Plain(_) => Finding::Nothing,
     }
 }
 
 /// What is found of an element: of a row or cell that is an own one, by itself, else among its kids.
 #[cycle(own)]
-pub(crate) fn found_at(elem: &Elem, unit: Unit, reach: Reach, says: &[Say]) -> Finding
+pub(crate) fn finding_of_elem(elem: &Elem, unit: Unit, reach: Reach, says: &[Say]) -> Finding
     ensures { result ≡ elem_found unit says.now reach (tag_of elem.now) (kids_of elem.now) }
 {
     if is_own(elem, unit, reach) {
-        return found_itself(elem, unit, says);
+        return finding_of_own(elem, unit, says);
     }
-    found_further(elem.kids(), unit, reach.into(elem), says)
+    finding_if_reached(elem.kids(), unit, reach.into(elem), says)
 }
 
 // What is found of an own row or cell.
 #[cycle(own)]
-fn found_itself(elem: &Elem, unit: Unit, says: &[Say]) -> Finding
+fn finding_of_own(elem: &Elem, unit: Unit, says: &[Say]) -> Finding
     ensures { result ≡ (if unit_goes unit says.now (kids_of elem.now) then Finding.Gone else Finding.Living) }
 {
     if goes_itself(elem.kids(), unit, says) {
@@ -106,14 +106,14 @@ fn found_itself(elem: &Elem, unit: Unit, says: &[Say]) -> Finding
     }
 }
 
-// The same as `found`, which is left out where nothing is reached.
+// The same as `finding_of_nodes`, which is left out where nothing is reached.
 #[cycle(own)]
-fn found_further(nodes: &[Node], unit: Unit, reach: Reach, says: &[Say]) -> Finding
+fn finding_if_reached(nodes: &[Node], unit: Unit, reach: Reach, says: &[Say]) -> Finding
     ensures { result ≡ found_of (unit_goes unit says.now) (own (unit_name unit) reach (nodes_of nodes.now)) }
 {
     match reach {
         Reach::Beyond => Finding::Nothing,
-        _ => found(nodes, unit, reach, says),
+        _ => finding_of_nodes(nodes, unit, reach, says),
     }
 }
 
@@ -150,5 +150,5 @@ pub(crate) fn goes_itself(kids: &[Node], unit: Unit, says: &[Say]) -> bool
 fn row_goes(kids: &[Node], says: &[Say]) -> bool
     ensures { result ≡ row_goes_by says.now (nodes_of kids.now) }
 {
-    is_cut(kids, Owner::Row, says) || found(kids, Unit::Cell, Reach::Direct, says).is_gone()
+    is_cut(kids, Owner::Row, says) || finding_of_nodes(kids, Unit::Cell, Reach::Direct, says).is_gone()
 }

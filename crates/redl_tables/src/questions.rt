@@ -7,7 +7,7 @@ ghost use Rattle.redl_tree.specs.Roles.Lists.{is_direct};
 ghost use Rattle.redl_tree.specs.Roles.Names.{is};
 ghost use Rattle.redl_tree.specs.Model.View.{tag_of, kids_of};
 
-use crate::owned::{Finding, Unit, found_at, is_own};
+use crate::owned::{Finding, Unit, finding_of_elem, is_own};
 use redl_tree::{Elem, Reach, Say, Word, is_word};
 
 /// What the nearest table or row has to know of a list below it: whether its own rows or cells go that are in the list, and
@@ -65,7 +65,7 @@ impl Question {
     pub fn answer_of(self, elem: &Elem, says: &[Say]) -> Finding
         ensures { result ≡ elem_found self.unit says.now self.reach (tag_of elem.now) (kids_of elem.now) }
     {
-        found_at(elem, self.unit, self.reach, says)
+        finding_of_elem(elem, self.unit, self.reach, says)
     }
 
     /// The answer of an element that answers by itself. `None` where its answer is that of its kids.
