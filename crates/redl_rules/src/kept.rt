@@ -3,11 +3,14 @@
 ghost use Rattle.std.specs.Prelude.{◌≡◌, ◌<◌, IfSome, length, not, position};
 ghost use Rattle.redl_rules.specs.Keeping.{all_kept, in_both, least_broken};
 
+// How many rules of structure there are.
+const RULES: usize = 9;
+
 /// Which of the rules hold, in their order.
 #[derive(Clone, Copy)]
 pub struct Kept {
     /// Whether each of them holds.
-    pub rules: [bool; 9],
+    pub rules: [bool; RULES],
 }
 
 impl Kept {
@@ -15,7 +18,9 @@ impl Kept {
     pub fn all() -> Kept
         ensures { result ≡ all_kept }
     {
-        Kept { rules: [true; 9] }
+        Kept {
+            rules: [true; RULES],
+        }
     }
 
     /// The rules that hold in both.

@@ -150,5 +150,6 @@ pub(crate) fn goes_itself(kids: &[Node], unit: Unit, says: &[Say]) -> bool
 fn row_goes(kids: &[Node], says: &[Say]) -> bool
     ensures { result ≡ row_goes_by says.now (nodes_of kids.now) }
 {
-    is_cut(kids, Owner::Row, says) || finding_of_nodes(kids, Unit::Cell, Reach::Direct, says).is_gone()
+    is_cut(kids, Owner::Row, says)
+        || finding_of_nodes(kids, Unit::Cell, Reach::Direct, says).is_gone()
 }
