@@ -14,6 +14,7 @@ use Rattle.std.specs.Cmp.{nat_cmp_is}
 use Rattle.std.specs.Map.{keys_of}
 use Rattle.std.specs.Option.{option_map}
 use Rattle.std.specs.Ordering.{nat_cmp, match_ordering, is_eq}
+use Rattle.std.proofs.Math.Bool.{or-false}
 use Rattle.redl_commands.specs.Choices.{is_among, chosen_numbers, word_on}
 use Rattle.redl_index.specs.declared.revision.Revision.{Revision}
 use Rattle.redl_journal.specs.declared.entry.Word.{Word}
@@ -44,11 +45,7 @@ keys_more numbers keys number = fold_push (insert_key nat_cmp) keys numbers numb
 
 -- a number is among these and one more
 pub among_more : (numbers : List ℕ) (last number : ℕ) → is_among (numbers ++ last ∷ []) number ≡ (is_among numbers number || last == number)
-among_more numbers last number = list_any-append (λ one. one == number) numbers (last ∷ []) ∙ ap (λ b. is_among numbers number || b) (or_false (last == number))
-  where
-    or_false : (b : Bool) → (b || false) ≡ b
-    or_false true = refl
-    or_false false = refl
+among_more numbers last number = list_any-append (λ one. one == number) numbers (last ∷ []) ∙ ap (λ b. is_among numbers number || b) (or-false (last == number))
 
 -- numbers that compare as equal are the same
 compared : (a b : ℕ) → is_eq (nat_cmp a b) ≡ (a == b)

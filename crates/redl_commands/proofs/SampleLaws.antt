@@ -1,9 +1,8 @@
 -- The entries of the sample's reviewers, one reviewer after another.
 use Rattle.std.proofs.Common.{◌≡◌, ◌+◌, ◌≤◌, ℕ, nat_lt, false, List, [], ◌∷◌, ◌++◌, Option, Result, Ok, ap, sym, subst, ◌∙◌, append-nil, arith, refl}
-use Rattle.std.proofs.lemmas.Bool.{le-ltb}
+use Rattle.std.proofs.lemmas.Bool.{le-ltb, cond-false}
 use Rattle.std.proofs.lemmas.Grind.{flat_map-append}
 use Rattle.std.specs.List.{flat_map, range_with_len}
-use Rattle.redl_inputs.proofs.FetchLaws.{if_false}
 use Rattle.redl_commands.specs.Sample.{reviewers_entries, sampled, summarized, summary_of}
 use Rattle.redl_inputs.specs.Packages.{package_in, shaped, sound}
 use Rattle.redl_inputs.specs.Readers.{Reader, IsReader}
@@ -47,6 +46,6 @@ pub sampled_within : (number : ℕ) (made : Result Writing Failure) → number �
     → Reads made (λ reader. package_in reader (package_text number) >>= (λ nodes. Ok (summarized number (no_admission (package_text number) nodes []))))
     → Reads made (λ reader. sampled reader number)
 sampled_within number made few step = record {
-  as_due = λ reader is. subst (λ due. IsMade made due ⊥) (sym (if_false (nat_lt sample_paragraphs number) _ _ (le-ltb sample_paragraphs number few))) (step.as_due reader is);
+  as_due = λ reader is. subst (λ due. IsMade made due ⊥) (sym (cond-false (nat_lt sample_paragraphs number) _ _ (le-ltb sample_paragraphs number few))) (step.as_due reader is);
   never_unread = step.never_unread;
 }

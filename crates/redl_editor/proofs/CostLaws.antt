@@ -1,8 +1,8 @@
 -- What making the touched leaves takes is what setting may cost.
 use Rattle.std.proofs.Common.{◌≡◌, ◌<◌, ◌≤◌, ◌+◌, ◌-◌, ◌*◌, ◌==◌, ◌||◌, ◌&&◌, not, ℕ, zero, suc, List, [], ◌∷◌, ◌++◌, length, get_or, drop, map, slice_get, Bool, true, false, true≢false, ◌⊎◌, inl, inr, refl, sym, ap, subst, ◌∙◌, arith, if◌then◌else◌}
-use Rattle.std.proofs.lemmas.List.{get_or_append_left, get_or-append-add, map-append, drop_more, drop_all}
+use Rattle.std.proofs.lemmas.List.{get_or_append_left, get_or-append-add, map-append, drop_more, drop_all, length-map}
 use Rattle.std.proofs.lemmas.List.Sums.{sum_by-cons}
-use Rattle.std.proofs.lemmas.Bool.{eqb-true, eq-eqb}
+use Rattle.std.proofs.lemmas.Bool.{eqb-true, eq-eqb, or_left, or_right}
 use Rattle.std.specs.List.Sorted.{IsStrictlyIncreasing}
 use Rattle.redl_leaves.specs.Finds.{size_at}
 use Rattle.redl_laws.proofs.Leaves.Lending.{leaf-numbered}
@@ -13,7 +13,7 @@ use Rattle.redl_tree.specs.Leaves.Slots.{Leaf, Slots, no_slots, leaf_slot, conta
 use Rattle.redl_tree.specs.Leaves.Ways.{ways, leaf_at}
 use Rattle.redl_tree.specs.Model.Nodes.{Nodes, no_nodes, bytes, element}
 use Rattle.redl_tree.specs.Model.View.{Element}
-use Rattle.redl_editor.proofs.CoverLaws.{some-holder, holds-within, way-numbered, or-left, or-right}
+use Rattle.redl_editor.proofs.CoverLaws.{some-holder, holds-within, way-numbered}
 use Rattle.redl_editor.specs.Costs.{parts_cost}
 use Rattle.redl_editor.specs.Holdings.{HoldsOf, is_rev, is_touched, slots_hold, some_held}
 use Rattle.redl_editor.specs.Inside.Makes.{sizes_of}
@@ -131,12 +131,12 @@ member-more is_set rev one (element tag kids rest) h =
     at : (a : Bool) → is_rev rev tag.rev ≡ a → (b : Bool) → (b ≡ true → has_member is_set kids ≡ true) → (c : Bool) → (c ≡ true → has_member is_set rest ≡ true)
         → ((a || b) || c) ≡ true → has_member is_set (element tag kids rest) ≡ true
     at true here b below c after h =
-        or-left (is_set tag.rev || has_member is_set kids) (has_member is_set rest)
-        (or-left (is_set tag.rev) (has_member is_set kids) (ap is_set (rev-is rev tag.rev here) ∙ one))
+        or_left (is_set tag.rev || has_member is_set kids) (has_member is_set rest)
+        (or_left (is_set tag.rev) (has_member is_set kids) (ap is_set (rev-is rev tag.rev here) ∙ one))
     at false here true below c after h =
-        or-left (is_set tag.rev || has_member is_set kids) (has_member is_set rest) (or-right (is_set tag.rev) (has_member is_set kids) (below refl))
+        or_left (is_set tag.rev || has_member is_set kids) (has_member is_set rest) (or_right (is_set tag.rev) (has_member is_set kids) (below refl))
     at false here false below c after h =
-        or-right (is_set tag.rev || has_member is_set kids) (has_member is_set rest) (after h)
+        or_right (is_set tag.rev || has_member is_set kids) (has_member is_set rest) (after h)
 
 -- the size of the leaf with a number
 abbrev sizes : Slots → List ℕ
@@ -146,10 +146,6 @@ sizes slots = map leaf_size (leaf_list slots)
 record Weighs (is_set : ℕ → Bool) (first : ℕ) (slots : Slots) (n : ℕ) : Type 0 where
   late : first ≤ n
   same : get_or (sizes slots) (n - first) 0 ≡ get_or (weights is_set slots) (n - first) 0
-
-map-length : {X Y : Type 0} (f : X → Y) (xs : List X) → length (map f xs) ≡ length xs
-map-length f [] = refl
-map-length f (x ∷ xs) = ap suc (map-length f xs)
 
 holds-weighs : (is_set : ℕ → Bool) (rev : ℕ) → is_set rev ≡ true → (first : ℕ) (slots : Slots) (n : ℕ) → slots_hold first slots rev n ≡ true → Weighs is_set first slots n
 holds-weighs is_set rev one first no_slots n h = absurd (true≢false (sym h))
@@ -183,8 +179,8 @@ holds-weighs is_set rev one first (container_slot tag kids inner rest) n h =
     at true is below more h =
         let w = below is in
         let lt = holds-within first inner rev n is in
-        let in_sizes : n - first < length (sizes inner) = omega (arith, lt, w.late, list-count inner, map-length leaf_size (leaf_list inner)) in
-        let in_weights : n - first < length (weights is_set inner) = omega (arith, lt, w.late, list-count inner, map-length (weight is_set) (leaf_list inner)) in
+        let in_sizes : n - first < length (sizes inner) = omega (arith, lt, w.late, list-count inner, length-map (leaf_list inner) leaf_size) in
+        let in_weights : n - first < length (weights is_set inner) = omega (arith, lt, w.late, list-count inner, length-map (leaf_list inner) (weight is_set)) in
         record {
           late = w.late;
           same = ap (λ xs. get_or xs (n - first) 0) (map-append leaf_size (leaf_list inner) (leaf_list rest))
@@ -196,8 +192,8 @@ holds-weighs is_set rev one first (container_slot tag kids inner rest) n h =
     at false is below more h =
         let w = more h in
         let k = n - (first + leaf_count inner) in
-        let by_sizes : n - first ≡ length (sizes inner) + k = omega (arith, w.late, list-count inner, map-length leaf_size (leaf_list inner)) in
-        let by_weights : n - first ≡ length (weights is_set inner) + k = omega (arith, w.late, list-count inner, map-length (weight is_set) (leaf_list inner)) in
+        let by_sizes : n - first ≡ length (sizes inner) + k = omega (arith, w.late, list-count inner, length-map (leaf_list inner) leaf_size) in
+        let by_weights : n - first ≡ length (weights is_set inner) + k = omega (arith, w.late, list-count inner, length-map (leaf_list inner) (weight is_set)) in
         record {
           late = omega (arith, w.late);
           same = ap (λ xs. get_or xs (n - first) 0) (map-append leaf_size (leaf_list inner) (leaf_list rest))
@@ -228,11 +224,11 @@ sizes-chosen : (is_set : ℕ → Bool) (slots : Slots) (ns : List ℕ) → ((n :
     → sizes_of (ways slots) slots ns ≡ chosen (weights is_set slots) 0 ns
 sizes-chosen is_set slots [] all = refl
 sizes-chosen is_set slots (n ∷ later) all =
-    let here = all n (or-left (n == n) (is_touched later n) (eq-eqb n n refl)) in
+    let here = all n (or_left (n == n) (is_touched later n) (eq-eqb n n refl)) in
     let is : n - 0 ≡ n = omega arith in
     sum_by-cons (λ leaf. size_at (leaf_at (get_or (ways slots) leaf []) slots)) n later
     ∙ ap (λ m. m + sizes_of (ways slots) slots later) (size-numbered slots n here.1 ∙ ap (λ k. get_or (sizes slots) k 0) (sym is) ∙ here.0.same)
-    ∙ ap (λ m. get_or (weights is_set slots) (n - 0) 0 + m) (sizes-chosen is_set slots later (λ m e. all m (or-right (n == m) (is_touched later m) e)))
+    ∙ ap (λ m. get_or (weights is_set slots) (n - 0) 0 + m) (sizes-chosen is_set slots later (λ m e. all m (or_right (n == m) (is_touched later m) e)))
 
 -- The law: making each leaf once that some revisions touch takes no more than setting them may cost.
 pub touched-cost : (held : List Held) (revs leaves : List ℕ) → ((leaf : ℕ) → is_touched leaves leaf ≡ some_held held revs leaf) → IsStrictlyIncreasing leaves

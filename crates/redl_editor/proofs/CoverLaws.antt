@@ -1,7 +1,8 @@
 -- The ways to the leaves that some revisions touch are those that setting takes.
 use Rattle.std.proofs.Common.{◌≡◌, ◌<◌, ◌≤◌, ◌+◌, ◌==◌, ℕ, zero, suc, List, [], ◌∷◌, length, get_or, drop, Bool, true, false, true≢false, ◌&&◌, ◌||◌, not, refl, sym, ap, ◌∙◌, arith}
 use Rattle.std.proofs.lemmas.List.{drop_all}
-use Rattle.std.proofs.lemmas.Bool.{eqb-true, eq-eqb, ne_eqb}
+use Rattle.std.proofs.lemmas.Bool.{eqb-true, eq-eqb, ne_eqb, or_left, or_right}
+use Rattle.std.proofs.Math.Bool.{or-false}
 use Rattle.redl_laws.proofs.Leaves.Places.{ways-numbered, ways-count}
 use Rattle.redl_tree.specs.Leaves.Leaf.{leaf_count}
 use Rattle.redl_tree.specs.Leaves.Pending.{Covers}
@@ -12,14 +13,6 @@ use Rattle.redl_tree.specs.Model.Nodes.{Nodes, no_nodes, bytes, element}
 use Rattle.redl_editor.specs.Holdings.{HoldsOf, is_rev, is_held, is_touched, nodes_hold, slots_hold, some_held}
 use Rattle.redl_editor.specs.Inside.Makes.{AreWithin, ways_of}
 use Rattle.redl_editor.specs.declared.holding.Held.{Held}
-
-pub or-left : (a b : Bool) → a ≡ true → (a || b) ≡ true
-or-left true b e = refl
-or-left false b e = absurd (true≢false (sym e))
-
-pub or-right : (a b : Bool) → b ≡ true → (a || b) ≡ true
-or-right true b e = refl
-or-right false b e = e
 
 -- ---- a member that is set is one of a revision that is set
 
@@ -42,21 +35,21 @@ member-named is_set none (element tag kids rest) e =
     at true here b below c after h = record {
       rev = tag.rev;
       one = here;
-      member = or-left (is_rev tag.rev tag.rev || has_member (is_rev tag.rev) kids) (has_member (is_rev tag.rev) rest)
-          (or-left (is_rev tag.rev tag.rev) (has_member (is_rev tag.rev) kids) (own-rev tag.rev (λ zero_is. absurd (true≢false (sym here ∙ ap is_set zero_is ∙ none)))));
+      member = or_left (is_rev tag.rev tag.rev || has_member (is_rev tag.rev) kids) (has_member (is_rev tag.rev) rest)
+          (or_left (is_rev tag.rev tag.rev) (has_member (is_rev tag.rev) kids) (own-rev tag.rev (λ zero_is. absurd (true≢false (sym here ∙ ap is_set zero_is ∙ none)))));
     }
     at false here true below c after h =
         let more = below refl in record {
           rev = more.rev;
           one = more.one;
-          member = or-left (is_rev more.rev tag.rev || has_member (is_rev more.rev) kids) (has_member (is_rev more.rev) rest)
-              (or-right (is_rev more.rev tag.rev) (has_member (is_rev more.rev) kids) more.member);
+          member = or_left (is_rev more.rev tag.rev || has_member (is_rev more.rev) kids) (has_member (is_rev more.rev) rest)
+              (or_right (is_rev more.rev tag.rev) (has_member (is_rev more.rev) kids) more.member);
         }
     at false here false below c after h =
         let more = after h in record {
           rev = more.rev;
           one = more.one;
-          member = or-right (is_rev more.rev tag.rev || has_member (is_rev more.rev) kids) (has_member (is_rev more.rev) rest) more.member;
+          member = or_right (is_rev more.rev tag.rev || has_member (is_rev more.rev) kids) (has_member (is_rev more.rev) rest) more.member;
         }
 
 -- ---- each leaf that holds one is pending
@@ -67,7 +60,7 @@ covers-held pending is_set none first no_slots h = tt
 covers-held pending is_set none first (leaf_slot leaf rest) h = (
   λ free. at (has_member is_set leaf.nodes) refl free,
   covers-held pending is_set none (first + 1) rest
-      (λ rev n one holds. h rev n one (or-right (nodes_hold first leaf.nodes rev n) (slots_hold (first + 1) rest rev n) holds)),
+      (λ rev n one holds. h rev n one (or_right (nodes_hold first leaf.nodes rev n) (slots_hold (first + 1) rest rev n) holds)),
 )
   where
     at : (b : Bool) → has_member is_set leaf.nodes ≡ b → pending first ≡ false → b ≡ false
@@ -75,12 +68,12 @@ covers-held pending is_set none first (leaf_slot leaf rest) h = (
     at true is free =
         let named = member-named is_set none leaf.nodes is in
         let holds : nodes_hold first leaf.nodes named.rev first ≡ true = ap (λ b. b && first == first) named.member ∙ eq-eqb first first refl in
-        absurd (true≢false (sym (h named.rev first named.one (or-left (nodes_hold first leaf.nodes named.rev first) (slots_hold (first + 1) rest named.rev first) holds)) ∙ free))
+        absurd (true≢false (sym (h named.rev first named.one (or_left (nodes_hold first leaf.nodes named.rev first) (slots_hold (first + 1) rest named.rev first) holds)) ∙ free))
 covers-held pending is_set none first (container_slot tag kids inner rest) h = (
   covers-held pending is_set none first inner
-      (λ rev n one holds. h rev n one (or-left (slots_hold first inner rev n) (slots_hold (first + leaf_count inner) rest rev n) holds)),
+      (λ rev n one holds. h rev n one (or_left (slots_hold first inner rev n) (slots_hold (first + leaf_count inner) rest rev n) holds)),
   covers-held pending is_set none (first + leaf_count inner) rest
-      (λ rev n one holds. h rev n one (or-right (slots_hold first inner rev n) (slots_hold (first + leaf_count inner) rest rev n) holds)),
+      (λ rev n one holds. h rev n one (or_right (slots_hold first inner rev n) (slots_hold (first + leaf_count inner) rest rev n) holds)),
 )
 
 -- ---- ways by their numbers
@@ -99,23 +92,23 @@ way-numbered slots k within = numbered-at 0 (ways slots) slots (ways-numbered sl
 pub ways-lead : (slots : Slots) (leaves : List ℕ) → ((k : ℕ) → is_touched leaves k ≡ true → k < leaf_count slots) → AreWays (ways_of (ways slots) leaves) slots
 ways-lead slots [] within = tt
 ways-lead slots (k ∷ leaves) within = (
-  (way-numbered slots k (within k (or-left (k == k) (is_touched leaves k) (eq-eqb k k refl)))).0,
-  ways-lead slots leaves (λ n e. within n (or-right (k == n) (is_touched leaves n) e)),
+  (way-numbered slots k (within k (or_left (k == k) (is_touched leaves k) (eq-eqb k k refl)))).0,
+  ways-lead slots leaves (λ n e. within n (or_right (k == n) (is_touched leaves n) e)),
 )
 
 pub ways-end : (slots : Slots) (leaves : List ℕ) → ((k : ℕ) → is_touched leaves k ≡ true → k < leaf_count slots) → (n : ℕ)
     → is_touched leaves n ≡ true → is_end slots (ways_of (ways slots) leaves) n ≡ true
 ways-end slots [] within n e = absurd (true≢false (sym e))
 ways-end slots (k ∷ leaves) within n e =
-    at (k == n) refl (ways-end slots leaves (λ m f. within m (or-right (k == m) (is_touched leaves m) f)) n) e
+    at (k == n) refl (ways-end slots leaves (λ m f. within m (or_right (k == m) (is_touched leaves m) f)) n) e
   where
     at : (b : Bool) → (k == n) ≡ b → (is_touched leaves n ≡ true → is_end slots (ways_of (ways slots) leaves) n ≡ true) → (b || is_touched leaves n) ≡ true → is_end slots (ways_of (ways slots) (k ∷ leaves)) n ≡ true
     at true same later h =
-        let here = (way-numbered slots k (within k (or-left (k == k) (is_touched leaves k) (eq-eqb k k refl)))).1 in
-        or-left (n == number_at (get_or (ways slots) k []) slots) (is_end slots (ways_of (ways slots) leaves) n)
+        let here = (way-numbered slots k (within k (or_left (k == k) (is_touched leaves k) (eq-eqb k k refl)))).1 in
+        or_left (n == number_at (get_or (ways slots) k []) slots) (is_end slots (ways_of (ways slots) leaves) n)
         (eq-eqb n (number_at (get_or (ways slots) k []) slots) (omega (arith, here, eqb-true k n same)))
     at false other later h =
-        or-right (n == number_at (get_or (ways slots) k []) slots) (is_end slots (ways_of (ways slots) leaves) n) (later h)
+        or_right (n == number_at (get_or (ways slots) k []) slots) (is_end slots (ways_of (ways slots) leaves) n) (later h)
 
 -- what is noted of slots is noted of leaves that are there
 pub holds-within : (first : ℕ) (slots : Slots) (rev n : ℕ) → slots_hold first slots rev n ≡ true → n < first + leaf_count slots
@@ -159,18 +152,18 @@ some-holder held [] leaf e = absurd (true≢false (sym e))
 some-holder held (rev ∷ later) leaf e = at (is_held held rev leaf) refl (some-holder held later leaf) e
   where
     at : (b : Bool) → is_held held rev leaf ≡ b → (some_held held later leaf ≡ true → Holder held later leaf) → (b || some_held held later leaf) ≡ true → Holder held (rev ∷ later) leaf
-    at true is more h = record { rev = rev; listed = or-left (rev == rev) (is_touched later rev) (eq-eqb rev rev refl); holds = is }
+    at true is more h = record { rev = rev; listed = or_left (rev == rev) (is_touched later rev) (eq-eqb rev rev refl); holds = is }
     at false is more h =
         let one = more h in
-        record { rev = one.rev; listed = or-right (rev == one.rev) (is_touched later one.rev) one.listed; holds = one.holds }
+        record { rev = one.rev; listed = or_right (rev == one.rev) (is_touched later one.rev) one.listed; holds = one.holds }
 
 listed-held : (held : List Held) (revs : List ℕ) (rev leaf : ℕ) → is_touched revs rev ≡ true → is_held held rev leaf ≡ true → some_held held revs leaf ≡ true
 listed-held held [] rev leaf one holds = absurd (true≢false (sym one))
 listed-held held (first ∷ later) rev leaf one holds = at (first == rev) refl (λ h. listed-held held later rev leaf h holds) one
   where
     at : (b : Bool) → (first == rev) ≡ b → (is_touched later rev ≡ true → some_held held later leaf ≡ true) → (b || is_touched later rev) ≡ true → some_held held (first ∷ later) leaf ≡ true
-    at true is more h = or-left (is_held held first leaf) (some_held held later leaf) (ap (λ n. is_held held n leaf) (eqb-true first rev is) ∙ holds)
-    at false is more h = or-right (is_held held first leaf) (some_held held later leaf) (more h)
+    at true is more h = or_left (is_held held first leaf) (some_held held later leaf) (ap (λ n. is_held held n leaf) (eqb-true first rev is) ∙ holds)
+    at false is more h = or_right (is_held held first leaf) (some_held held later leaf) (more h)
 
 pub listed-within : (held : List Held) (revs leaves : List ℕ) → ((leaf : ℕ) → is_touched leaves leaf ≡ some_held held revs leaf) → (slots : Slots) → HoldsOf held slots
     → AreWithin (ways slots) leaves
@@ -190,11 +183,7 @@ listed-covers held revs leaves touched slots of is_set none listed =
     omega (arith, within))
     (λ rev leaf one holds. touched leaf ∙ listed-held held revs rev leaf (listed rev one) (of.holds rev leaf ∙ holds))
 
-or-none : (b : Bool) → (b || false) ≡ b
-or-none true = refl
-or-none false = refl
-
 pub listed-ended : (held : List Held) (revs leaves : List ℕ) (i leaf : ℕ) → length revs ≤ i
     → (is_touched leaves leaf || some_held held (drop i revs) leaf) ≡ some_held held revs leaf → is_touched leaves leaf ≡ some_held held revs leaf
 listed-ended held revs leaves i leaf past so_far =
-    sym (or-none (is_touched leaves leaf)) ∙ ap (λ rs. is_touched leaves leaf || some_held held rs leaf) (sym (drop_all i revs past)) ∙ so_far
+    sym (or-false (is_touched leaves leaf)) ∙ ap (λ rs. is_touched leaves leaf || some_held held rs leaf) (sym (drop_all i revs past)) ∙ so_far

@@ -1,11 +1,12 @@
 -- The former says of changes: what they undo, and which revisions they tell apart.
-use Rattle.std.proofs.Common.{◌≡◌, ◌<◌, ◌≤◌, ◌+◌, ◌==◌, ◌&&◌, ◌||◌, not, ℕ, zero, suc, List, [], ◌∷◌, ◌++◌, length, get_or, drop, map, Bool, true, false, true≢false, ◌⊎◌, inl, inr, refl, sym, ap, ◌∙◌, arith, append_assoc, if◌then◌else◌}
-use Rattle.std.proofs.lemmas.List.{ext_get_or, drop_more, drop_all, map-append}
+use Rattle.std.proofs.Common.{◌≡◌, ◌<◌, ◌≤◌, ◌+◌, ◌==◌, ◌&&◌, ◌||◌, not, ℕ, zero, suc, List, [], ◌∷◌, ◌++◌, length, get_or, drop, map, Bool, true, false, ◌⊎◌, inl, inr, refl, sym, ap, ◌∙◌, arith, append_assoc, if◌then◌else◌}
+use Rattle.std.proofs.lemmas.List.{ext_get_or, drop_more, drop_all, map-append, append-nil}
 use Rattle.std.proofs.lemmas.List.Folds.{list_any-append}
 use Rattle.std.proofs.lemmas.Option.{unwrap_or-slice_get}
 use Rattle.std.proofs.lemmas.Bool.Decides.{eqb_tells}
+use Rattle.std.proofs.lemmas.Bool.{not-false, and_right, or_parts}
+use Rattle.std.proofs.Math.Bool.{or_assoc, or-false}
 use Rattle.redl_laws.proofs.Leaves.Says.{set_say-length, set_each-length, set_say-same, set_say-other, set_say-own, same_say-is, same_say-refl}
-use Rattle.redl_tree.proofs.NameLaws.{or-left, or-right}
 use Rattle.redl_tree.specs.Decisions.Fates.{say_of}
 use Rattle.redl_tree.specs.Leaves.Settings.{Setting, set_say, set_each, is_among, same_say, SameBut}
 use Rattle.redl_tree.specs.declared.kinds.Say.{Say}
@@ -13,10 +14,6 @@ use Rattle.redl_tree.specs.declared.kinds.Say.TheVariants.{Keep}
 use Rattle.redl_editor.specs.Changes.{setting_of, is_changed, former_of, differ}
 use Rattle.redl_editor.specs.Holdings.{is_touched}
 use Rattle.redl_editor.specs.declared.changing.Change.{Change}
-
-not-true : (b : Bool) → not b ≡ false → b ≡ true
-not-true true h = refl
-not-true false h = absurd (true≢false h)
 
 -- ---- a revision that no former say is of has its say in the end
 
@@ -47,9 +44,9 @@ former-same says mid (setting ∷ later) n out same =
         → (is_among (former_of says later) n ≡ false → say_of next n ≡ say_of says n → say_of (set_each next later) n ≡ say_of says n)
         → say_of (set_each next later) n ≡ say_of says n
     at true is h more =
-        more (or-right (n == setting.rev) (is_among (former_of says later) n) h)
-        (apart (or-left (n == setting.rev) (is_among (former_of says later) n) h))
-    at false is h more = more h (kept (not-true (same_say (say_of says setting.rev) setting.say) is) (eqb_tells n setting.rev))
+        more (or_parts (n == setting.rev) (is_among (former_of says later) n) h).1
+        (apart (or_parts (n == setting.rev) (is_among (former_of says later) n) h).0)
+    at false is h more = more h (kept (not-false (same_say (say_of says setting.rev) setting.say) is) (eqb_tells n setting.rev))
 
 -- ---- former says are those
 
@@ -169,7 +166,7 @@ former-differ says settings rev =
 
 -- all other revisions have the says that they had
 pub changed-same : (old new : List Say) → SameBut (is_changed old new) old new
-changed-same old new n h = sym (same_say-is (say_of new n) (say_of old n) (not-true (same_say (say_of new n) (say_of old n)) h))
+changed-same old new n h = sym (same_say-is (say_of new n) (say_of old n) (not-false (same_say (say_of new n) (say_of old n)) h))
 
 -- ---- a loop over changes
 
@@ -198,14 +195,10 @@ former-passed says changes i one so_far all lt is same before =
     ∙ ap (λ cs. so_far ++ former_of says (map setting_of cs)) (sym (drop_more changes i one lt))
     ∙ before
 
-append-none : {X : Type 0} (xs : List X) → xs ++ [] ≡ xs
-append-none [] = refl
-append-none (x ∷ xs) = ap (λ more. x ∷ more) (append-none xs)
-
 pub former-done : (says : List Say) (changes : List Change) (i : ℕ) (so_far all : List Setting) → length changes ≤ i
     → so_far ++ former_of says (map setting_of (drop i changes)) ≡ all → so_far ≡ all
 former-done says changes i so_far all past before =
-    sym (append-none so_far) ∙ ap (λ cs. so_far ++ former_of says (map setting_of cs)) (sym (drop_all i changes past)) ∙ before
+    sym (append-nil so_far) ∙ ap (λ cs. so_far ++ former_of says (map setting_of cs)) (sym (drop_all i changes past)) ∙ before
 
 -- ---- a loop over former says
 
@@ -216,30 +209,18 @@ differ-here says former i one rev lt is =
     ap (λ cs. differ says (map setting_of cs) rev) (drop_more former i one lt)
     ∙ ap (λ x. x.rev == rev && not (same_say (say_of says x.rev) x.say) || differ says (map setting_of (drop (i + 1) former)) rev) (sym is)
 
-or-assoc : (a b c : Bool) → ((a || b) || c) ≡ (a || (b || c))
-or-assoc true b c = refl
-or-assoc false b c = refl
-
 and-true : (a b : Bool) → b ≡ true → (a && b) ≡ a
 and-true true b e = e
 and-true false b e = refl
-
-and-false : (a b : Bool) → b ≡ false → (a && b) ≡ false
-and-false true b e = e
-and-false false b e = refl
-
-or-none : (a : Bool) → (a || false) ≡ a
-or-none true = refl
-or-none false = refl
 
 pub differ-pushed : (says : List Say) (former : List Change) (i : ℕ) (one : Change) (revs : List ℕ) (rev : ℕ) (all : Bool) → i < length former → one ≡ get_or former i one
     → not (same_say (say_of says one.rev) one.say) ≡ true → (is_touched revs rev || differ says (map setting_of (drop i former)) rev) ≡ all
     → (is_touched (revs ++ one.rev ∷ []) rev || differ says (map setting_of (drop (i + 1) former)) rev) ≡ all
 differ-pushed says former i one revs rev all lt is other before =
     ap (λ b. b || differ says (map setting_of (drop (i + 1) former)) rev) (list_any-append (λ n. n == rev) revs (one.rev ∷ []))
-    ∙ or-assoc (is_touched revs rev) (one.rev == rev || false) (differ says (map setting_of (drop (i + 1) former)) rev)
+    ∙ or_assoc (is_touched revs rev) (one.rev == rev || false) (differ says (map setting_of (drop (i + 1) former)) rev)
     ∙ ap (λ b. is_touched revs rev || (b || differ says (map setting_of (drop (i + 1) former)) rev))
-    (or-none (one.rev == rev) ∙ sym (and-true (one.rev == rev) (not (same_say (say_of says one.rev) one.say)) other))
+    (or-false (one.rev == rev) ∙ sym (and-true (one.rev == rev) (not (same_say (say_of says one.rev) one.say)) other))
     ∙ ap (λ b. is_touched revs rev || b) (sym (differ-here says former i one rev lt is))
     ∙ before
 
@@ -248,11 +229,11 @@ pub differ-passed : (says : List Say) (former : List Change) (i : ℕ) (one : Ch
     → (is_touched revs rev || differ says (map setting_of (drop (i + 1) former)) rev) ≡ all
 differ-passed says former i one revs rev all lt is same before =
     ap (λ b. is_touched revs rev || (b || differ says (map setting_of (drop (i + 1) former)) rev))
-    (sym (and-false (one.rev == rev) (not (same_say (say_of says one.rev) one.say)) same))
+    (sym (and_right (one.rev == rev) (not (same_say (say_of says one.rev) one.say)) same))
     ∙ ap (λ b. is_touched revs rev || b) (sym (differ-here says former i one rev lt is))
     ∙ before
 
 pub differ-done : (says : List Say) (former : List Change) (i : ℕ) (revs : List ℕ) (rev : ℕ) (all : Bool) → length former ≤ i
     → (is_touched revs rev || differ says (map setting_of (drop i former)) rev) ≡ all → is_touched revs rev ≡ all
 differ-done says former i revs rev all past before =
-    sym (or-none (is_touched revs rev)) ∙ ap (λ cs. is_touched revs rev || differ says (map setting_of cs) rev) (sym (drop_all i former past)) ∙ before
+    sym (or-false (is_touched revs rev)) ∙ ap (λ cs. is_touched revs rev || differ says (map setting_of cs) rev) (sym (drop_all i former past)) ∙ before

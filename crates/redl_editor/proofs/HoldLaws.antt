@@ -1,5 +1,6 @@
 -- What leaves hold, a node and a slot at a time.
 use Rattle.std.proofs.Common.{◌≡◌, ◌<◌, ◌≤◌, ◌+◌, ◌==◌, ℕ, List, length, get_or, drop, Bool, true, false, ◌&&◌, ◌||◌, refl, sym, ap, ◌∙◌}
+use Rattle.std.proofs.Math.Bool.{or_assoc, or-false}
 use Rattle.redl_tree.proofs.Laws.{nodes_here, nodes_end}
 use Rattle.redl_tree.specs.Leaves.Leaf.{leaf_count}
 use Rattle.redl_tree.specs.Leaves.Settings.{has_member}
@@ -14,14 +15,6 @@ use Rattle.redl_leaves.specs.Members.{item_member}
 use Rattle.redl_leaves.specs.View.{SlotView, leaf_view, container_view, before, view_of, states_of}
 use Rattle.redl_editor.specs.declared.holding.Held.{Held}
 use Rattle.redl_leaves.specs.declared.slots.Slot.{Slot}
-
-either-later : (a b c : Bool) → ((a || b) || c) ≡ (a || (b || c))
-either-later true b c = refl
-either-later false b c = refl
-
-either-none : (a : Bool) → (a || false) ≡ a
-either-none true = refl
-either-none false = refl
 
 spread : (a b c : Bool) → ((a || b) && c) ≡ ((a && c) || (b && c))
 spread true true true = refl
@@ -45,13 +38,13 @@ pub notes-more : (left rest here all : ℕ → ℕ → Bool) (old now new : List
     → NotesLeft left all old now → Notes here now new → NotesLeft rest all old new
 notes-more left rest here all old now new split so_far notes = λ rev leaf.
     ap (λ b. b || rest rev leaf) (notes rev leaf)
-    ∙ either-later (is_held now rev leaf) (here rev leaf) (rest rev leaf)
+    ∙ or_assoc (is_held now rev leaf) (here rev leaf) (rest rev leaf)
     ∙ ap (λ b. is_held now rev leaf || b) (sym (split rev leaf))
     ∙ so_far rev leaf
 
 pub notes-ended : (left all : ℕ → ℕ → Bool) (old now : List Held) → ((rev leaf : ℕ) → left rev leaf ≡ false) → NotesLeft left all old now → Notes all old now
 notes-ended left all old now none so_far = λ rev leaf.
-    sym (either-none (is_held now rev leaf)) ∙ ap (λ b. is_held now rev leaf || b) (sym (none rev leaf)) ∙ so_far rev leaf
+    sym (or-false (is_held now rev leaf)) ∙ ap (λ b. is_held now rev leaf || b) (sym (none rev leaf)) ∙ so_far rev leaf
 
 pub holds-here : (here : ℕ) (xs : List Node) (i : ℕ) (x : Node) → i < length xs → x ≡ get_or xs i x → (rev leaf : ℕ)
     → nodes_hold here (nodes_of (drop i xs)) rev leaf ≡ (item_holds here (item_of x) rev leaf || nodes_hold here (nodes_of (drop (i + 1) xs)) rev leaf)

@@ -226,9 +226,3 @@ ready-more revs says stories tables all one n x y as_many within there is_x is_y
     let table : get_or tables (length all) y ≡ y = ap (λ k. get_or tables k y) as_many ∙ sym is_y in
     ready-pushed revs says stories tables all one x y (omega (arith, as_many, within)) (omega (arith, as_many, there))
     (subst (λ (s : Story). IsReady revs says s (get_or tables (length all) y) one.items) (sym story) (subst (λ (t : Table). IsReady revs says x t one.items) (sym table) ready)) are
-
--- what stands in a list, whatever stands for what doesn't
-pub any-item : {X : Type 0} (xs : List X) (i : ℕ) (d e : X) → i < length xs → get_or xs i d ≡ get_or xs i e
-any-item [] i d e lt = absurd (omega (arith, lt))
-any-item (x ∷ xs) zero d e lt = refl
-any-item (x ∷ xs) (suc i) d e lt = any-item xs i d e (omega (arith, lt))

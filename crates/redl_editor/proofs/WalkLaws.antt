@@ -1,5 +1,6 @@
 -- The ways to the leaves of slots, a slot at a time.
 use Rattle.std.proofs.Common.{◌≡◌, ◌<◌, ◌≤◌, ◌+◌, ℕ, suc, List, [], ◌∷◌, ◌++◌, length, get_or, map, drop, refl, sym, ap, subst, ◌∙◌, arith}
+use Rattle.std.proofs.lemmas.List.{append-nil}
 use Rattle.redl_tree.specs.Leaves.States.{States, slots_of}
 use Rattle.redl_tree.specs.Leaves.Ways.{ways_from}
 use Rattle.redl_leaves.proofs.ViewLaws.{states_here, states_end}
@@ -12,10 +13,6 @@ use Rattle.redl_leaves.specs.declared.slots.Slot.{Slot}
 append-assoc : {X : Type 0} (xs ys zs : List X) → (xs ++ ys) ++ zs ≡ xs ++ (ys ++ zs)
 append-assoc [] ys zs = refl
 append-assoc (x ∷ xs) ys zs = ap (λ more. x ∷ more) (append-assoc xs ys zs)
-
-append-none : {X : Type 0} (xs : List X) → xs ++ [] ≡ xs
-append-none [] = refl
-append-none (x ∷ xs) = ap (λ more. x ∷ more) (append-none xs)
 
 fronted-slot : (front : List ℕ) (at : ℕ) (ways : List (List ℕ)) → fronted (front ++ at ∷ []) ways ≡ fronted front (map (λ rest. at ∷ rest) ways)
 fronted-slot front at [] = refl
@@ -49,7 +46,7 @@ pub record Walked (slots : List Slot) (front left : List ℕ) (old now : Kept) (
 pub walk-begun : (slots : List Slot) (front : List ℕ) (old : Kept) → Walked slots front front old old 0
 walk-begun slots front old = record {
   done = [];
-  adds = record { same = refl; ways = λ ways has. subst (λ (w : List (List ℕ)). HasWays old w) (sym (append-none ways)) has };
+  adds = record { same = refl; ways = λ ways has. subst (λ (w : List (List ℕ)). HasWays old w) (sym (append-nil ways)) has };
   whole = refl;
 }
 
@@ -79,7 +76,7 @@ pub walk-ended : (slots : List Slot) (front left : List ℕ) (old now : Kept) (i
     → AddsWays (ways_from 0 (slots_of (states_of slots))) front left old now
 walk-ended slots front left old now i past h =
     subst (λ (w : List (List ℕ)). AddsWays w front left old now)
-    (sym (append-none h.done) ∙ ap (λ s. h.done ++ ways_from i (slots_of s)) (sym (states_end slots i past)) ∙ h.whole)
+    (sym (append-nil h.done) ∙ ap (λ s. h.done ++ ways_from i (slots_of s)) (sym (states_end slots i past)) ∙ h.whole)
     h.adds
 
 fronted-none : (ways : List (List ℕ)) → fronted [] ways ≡ ways

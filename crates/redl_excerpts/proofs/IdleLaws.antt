@@ -1,12 +1,12 @@
 -- Idle elements that a list keeps as text: what they say is what the walk over their text says, and none of them is a member.
 use Rattle.std.proofs.Common.{◌≡◌, ◌∙◌, refl, sym, ap, ℕ, List, [], ◌∷◌, ◌++◌, append-nil, Bool, true, false, ◌&&◌, ◌||◌, not, ◌==◌, codes, bytes_eq, if◌then◌else◌}
+use Rattle.std.proofs.Math.Bool.{or-false, and-false}
 use Rattle.redl_tree.specs.Model.Nodes.{Tag, Nodes, no_nodes, bytes, element, ◌⊕◌}
 use Rattle.redl_tree.specs.Model.IdleTexts.{idle_nodes}
 use Rattle.redl_tree.specs.Roles.Names.{is, of_w}
 use Rattle.redl_tree.specs.Roles.Places.{is_quiet}
 use Rattle.redl_tree.specs.Roles.Idle.{is_idle_in}
 use Rattle.redl_tree.specs.declared.kinds.Kind.TheVariants.{Plain}
-use Rattle.redl_tree.proofs.NameLaws.{and-false}
 use Rattle.redl_tree.proofs.Named.{by_name}
 use Rattle.redl_tree.proofs.Idle.Tags.{Idle, idle_parts, has-not}
 use Rattle.redl_tree.proofs.Idle.Items.{nodes_are_idle}
@@ -21,10 +21,6 @@ use Rattle.redl_excerpts.proofs.SaidLaws.{mentions-⊕}
 
 -- ---- one element
 
-or_none : (b : Bool) → (b || false) ≡ b
-or_none true = refl
-or_none false = refl
-
 -- it says at its start tag what any element with its local name says
 start_same : (in_run : Bool) (tag : Tag) → Idle in_run tag → start_said tag ≡ start_said (of_w tag.local)
 start_same in_run tag i =
@@ -35,13 +31,13 @@ start_same in_run tag i =
 silent_same : (in_line in_run : Bool) (tag : Tag) → Idle in_run tag → is_silent in_line tag ≡ is "rPr" (of_w tag.local)
 silent_same in_line in_run tag i =
     ap (λ p. is_quiet tag || (in_line && p)) (has-not "p" in_run tag i refl)
-    ∙ ap (λ n. is_quiet tag || n) (and-false in_line) ∙ or_none (is_quiet tag) ∙ quiet_same in_run tag i
+    ∙ ap (λ n. is_quiet tag || n) (and-false in_line) ∙ or-false (is_quiet tag) ∙ quiet_same in_run tag i
 
 -- it holds text only as a `t`
 text_same : (in_run : Bool) (tag : Tag) → Idle in_run tag → holds_text tag ≡ is "t" (of_w tag.local)
 text_same in_run tag i =
     ap (λ d. is "t" tag || (d || false)) (has-not "delText" in_run tag i refl)
-    ∙ or_none (is "t" tag) ∙ name_same in_run tag i (codes "t")
+    ∙ or-false (is "t" tag) ∙ name_same in_run tag i (codes "t")
 
 -- ---- what is said
 

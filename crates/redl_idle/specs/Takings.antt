@@ -1,15 +1,12 @@
 -- What takes text in pieces: a sink, and what has a state that each text changes.
-use Rattle.std.specs.Prelude.{◌≡◌, ℕ, List, [], ◌++◌, Option, Result, Ok, Err, OnOk, refl}
+use Rattle.std.specs.Prelude.{◌≡◌, ℕ, List, [], ◌++◌, Option, OnOk, refl}
 use Rattle.std.proofs.Common.{sym, ap, ◌∙◌}
 use Rattle.std.specs.Borrow.{GName}
+use Rattle.std.proofs.lemmas.Result.{on_ok_weaker}
 use Rattle.redl_io.specs.Sink.{Puts}
 use Rattle.redl_io.specs.declared.sink.Failed.{Failed}
 use Rattle.redl_io.proofs.Puts.{puts_nothing, puts_then, puts_fails}
 use Rattle.redl_idle.specs.Takes.{Taking}
-
-pub on_ok : {T E A B : Type 0} (r : Result T E) → (A → B) → OnOk r A → OnOk r B
-on_ok (Ok x) step h = step h
-on_ok (Err e) step h = tt
 
 -- a sink with these members
 abbrev pub by_puts : {K : Type 0} → (K → Option (List ℕ)) → (K → ℕ) → (K → ℕ) → (K → List GName) → Taking K Failed
@@ -26,6 +23,6 @@ abbrev pub by_state : {K E : Type 0} (after : K → List ℕ → K) → ((taker 
 by_state after after_nothing after_more = record {
   Takes = λ T old new text result. OnOk result (new ≡ after old text);
   nothing = λ T taker x. sym (after_nothing taker);
-  then = λ T U old mid new first rest x r p q. on_ok r (λ e. e ∙ ap (λ taker. after taker rest) p ∙ after_more old first rest) q;
+  then = λ T U old mid new first rest x r p q. on_ok_weaker r (λ e. e ∙ ap (λ taker. after taker rest) p ∙ after_more old first rest) q;
   stops = λ T U old new first rest e p. tt;
 }

@@ -1,9 +1,9 @@
 -- Each named kind is found by its name, and no name is that of two kinds.
 use Rattle.std.proofs.Common.{◌≡◌, ◌↔◌, ℕ, Bool, true, false, cond, List, [], ◌∷◌, Option, Some, IsTrue, find, refl, sym, ap, subst, ◌∙◌}
-use Rattle.std.specs.Prelude.{◌&&◌}
 use Rattle.std.specs.List.{list_all}
 use Rattle.std.proofs.lemmas.Option.{same_Some}
 use Rattle.std.proofs.lemmas.Slice.Eq.{bytes_eq-Decides}
+use Rattle.std.proofs.lemmas.Bool.{and_parts}
 use Rattle.redl_tree.specs.declared.kinds.Trace.TheVariants.{Ins, Del, From, To}
 use Rattle.redl_tree.specs.declared.kinds.Prop.TheVariants as props
 use Rattle.redl_index.specs.declared.revision.RevKind.{RevKind}
@@ -11,10 +11,6 @@ use Rattle.redl_index.specs.declared.revision.RevKind.TheVariants.{Content, Move
 use Rattle.redl_index.specs.Kinds.{is_named}
 use Rattle.redl_index.specs.KindNames.{kind_name, is_name_of, kind_named}
 use Rattle.redl_index.specs.declared.kind_names.TheConstants.{NAMED}
-
-and-true : (s t : Bool) → (s && t) ≡ true → (s ≡ true) × (t ≡ true)
-and-true true t e = (refl, e)
-and-true false t e = absurd cc
 
 -- each named kind is in the list, and before it no kind with the same name
 found : (kind : RevKind) → IsTrue (is_named kind) → find (is_name_of (kind_name kind)) NAMED ≡ Some kind
@@ -47,7 +43,7 @@ found (Change props.Cell) named = refl
 takes_among : (kinds : List RevKind) → IsTrue (list_all is_named kinds) → (name : List ℕ) (kind : RevKind) → find (is_name_of name) kinds ≡ Some kind → IsTrue (is_named kind) × (kind_name kind ≡ name)
 takes_among [] all name kind e = absurd cc
 takes_among (other ∷ kinds) all name kind e =
-    let both = and-true (is_named other) (list_all is_named kinds) all in
+    let both = and_parts (is_named other) (list_all is_named kinds) all in
     step other (find (is_name_of name) kinds) name kind (is_name_of name other) refl both.0 (takes_among kinds both.1 name kind) e where
       step : (other : RevKind) (later : Option RevKind) (name : List ℕ) (kind : RevKind) (t : Bool) → is_name_of name other ≡ t → IsTrue (is_named other)
           → (later ≡ Some kind → IsTrue (is_named kind) × (kind_name kind ≡ name))

@@ -2,6 +2,7 @@
 use Rattle.std.proofs.Common.{◌≡◌, ◌∙◌, refl, ap, sym, subst, ℕ, zero, suc, ◌+◌, ◌<◌, ◌==◌, List, [], ◌∷◌, Bool, true, false, true≢false, inl, inr, is_some, find, filter, get_or, set, length, replicate, Option, Some, None, IfSome, option_map, unwrap_or, arith, if◌then◌else◌, nat_lt}
 use Rattle.std.proofs.lemmas.List.{length-set, get_or-set_same, get_or-set_other}
 use Rattle.std.proofs.lemmas.Option.{slice_get_within}
+use Rattle.std.proofs.lemmas.Bool.{eq-eqb, eqb-true}
 use Rattle.redl_tree.specs.Model.Seen.{Seen}
 use Rattle.redl_tree.specs.Revisions.Markers.{move_at, move_of_member, move_of_marker, move_of, either, own_role}
 use Rattle.redl_tree.specs.Revisions.Moves.{Marking, Range, Pair, pairs, pair_at, latest, later, is_open_at, place_of}
@@ -82,9 +83,6 @@ placed-move marks rises x =
 
 -- ---- places
 
-same : (a b : ℕ) → (a == b) ≡ true → a ≡ b
-same a b e = grind arith
-
 -- positions of markers with the same place are the same
 one_place : (marks : List Marking) (a b : ℕ) → place_of marks a < length marks → place_of marks a ≡ place_of marks b → a ≡ b
 one_place [] a b within is = absurd (omega (arith, within))
@@ -93,7 +91,7 @@ one_place (mark ∷ marks) a b within is = by (mark.at == a) (mark.at == b) refl
     by : (p q : Bool) → (mark.at == a) ≡ p → (mark.at == b) ≡ q → (if p then 0 else 1 + place_of marks a) < length (mark ∷ marks)
         → (if p then 0 else 1 + place_of marks a) ≡ (if q then 0 else 1 + place_of marks b)
         → (place_of marks a < length marks → place_of marks a ≡ place_of marks b → a ≡ b) → a ≡ b
-    by true true at_a at_b within is later = sym (same mark.at a at_a) ∙ same mark.at b at_b
+    by true true at_a at_b within is later = sym (eqb-true mark.at a at_a) ∙ eqb-true mark.at b at_b
     by true false at_a at_b within is later = absurd (omega (arith, is))
     by false true at_a at_b within is later = absurd (omega (arith, is))
     by false false at_a at_b within is later = later (omega (arith, within)) (omega (arith, is))
@@ -106,7 +104,7 @@ some-number (suc n) e = refl
 
 no-number : (n : ℕ) → (n == 0) ≡ true → number_in n ≡ None
 no-number zero e = refl
-no-number (suc n) e = absurd (omega (arith, same (suc n) 0 e))
+no-number (suc n) e = absurd (omega (arith, eqb-true (suc n) 0 e))
 
 positive-number : (n : ℕ) → 0 < n → number_in n ≡ Some n
 positive-number zero h = absurd (omega (arith, h))
@@ -207,17 +205,14 @@ module _ (marks : List Marking) (numbers : NumbersView) (so_far : Numbering) (ha
         ∙ ap Some (sym had.next)
         ∙ sym (positive-number numbers.next (omega (arith, had.begun, had.next)))
         ∙ ap number_in (sym (get_or-set_same numbers.moves (place_of marks start) numbers.next 0 (omega (arith, within, had.places))))
-        ∙ ap (λ n. number_in (get_or First.moves (place_of marks n) 0)) (same start other e)
+        ∙ ap (λ n. number_in (get_or First.moves (place_of marks n) 0)) (eqb-true start other e)
     first-moves other there false e =
         ap (λ b. if b then Some so_far.next else number_of_move so_far.moves other) e
         ∙ had.moves other there
         ∙ ap number_in (sym (get_or-set_other numbers.moves (place_of marks start) (place_of marks other) numbers.next 0 apart))
       where
-        itself : (n : ℕ) → (n == n) ≡ true
-        itself n = grind arith
-
         apart : place_of marks other ≡ place_of marks start → ⊥
-        apart is = true≢false (sym (ap (λ n. start == n) (sym (one_place marks start other within (sym is))) ∙ itself start) ∙ e)
+        apart is = true≢false (sym (ap (λ n. start == n) (sym (one_place marks start other within (sym is))) ∙ eq-eqb start start refl) ∙ e)
 
     numbering-first : IsNumbering marks First (counted_move start None so_far)
     numbering-first = record {

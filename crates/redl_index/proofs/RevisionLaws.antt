@@ -2,6 +2,8 @@
 use Rattle.std.proofs.Common.{◌≡◌, ◌∙◌, refl, ap, sym, subst, ℕ, suc, ◌+◌, ◌-◌, ◌^◌, ◌<◌, ◌≤◌, ◌==◌, ◌&&◌, ◌||◌, not, nat_lt, List, [], ◌∷◌, ◌++◌, Bool, true, false, true≢false, drop, filter, filter_map, map, length, slice_get, Option, Some, None, is_some, option_map, option_to_list, append_assoc, length-append, arith, if◌then◌else◌}
 use Rattle.std.specs.List.{cons_option, list_any}
 use Rattle.std.proofs.lemmas.List.{append-nil}
+use Rattle.std.proofs.Math.Bool.{or-false, or-true}
+use Rattle.std.proofs.lemmas.Bool.{not-true, and_right, eq-eqb, eqb-true}
 use Rattle.redl_tree.specs.Model.Nodes.{Tag, Nodes}
 use Rattle.redl_tree.specs.Model.Count.{count}
 use Rattle.redl_tree.specs.Revisions.Markers.{whole_role, move_of}
@@ -31,9 +33,6 @@ use Rattle.redl_index.proofs.TallyLaws.{move_number-insert}
 
 -- ---- equal starts
 
-same : (a b : ℕ) → (a == b) ≡ true → a ≡ b
-same a b e = grind arith
-
 other : (a b : ℕ) → (a == b) ≡ false → (b == a) ≡ false
 other a b e = grind arith
 
@@ -48,12 +47,8 @@ any-append s (x ∷ xs) ys = by (is_of s x) (any-append s xs ys)
     by true ih = refl
     by false ih = ih
 
-or-no : (b : Bool) → (b || false) ≡ b
-or-no true = refl
-or-no false = refl
-
 any-more : (s : ℕ) (xs : List Mention) (m : Mention) → list_any (is_of s) (xs ++ m ∷ []) ≡ (list_any (is_of s) xs || is_of s m)
-any-more s xs m = any-append s xs (m ∷ []) ∙ ap (λ b. list_any (is_of s) xs || b) (or-no (is_of s m))
+any-more s xs m = any-append s xs (m ∷ []) ∙ ap (λ b. list_any (is_of s) xs || b) (or-false (is_of s m))
 
 abbrev pub first-of : Bool → Mention → List Mention
 first-of b m = if b then m ∷ [] else []
@@ -84,11 +79,11 @@ is_some-suc (Some n) = refl
 
 is-new : (s : ℕ) (before : List Mention) (o : Option ℕ) → starts_at s o ≡ true → list_any (is_of s) before ≡ false → is_new before o ≡ true
 is-new s before None e none = absurd (true≢false (sym e))
-is-new s before (Some t) e none = ap not (ap (λ k. list_any (is_of k) before) (same t s e) ∙ none)
+is-new s before (Some t) e none = ap not (ap (λ k. list_any (is_of k) before) (eqb-true t s e) ∙ none)
 
 is-old : (s : ℕ) (before : List Mention) (o : Option ℕ) → starts_at s o ≡ true → list_any (is_of s) before ≡ true → is_new before o ≡ false
 is-old s before None e some = absurd (true≢false (sym e))
-is-old s before (Some t) e some = ap not (ap (λ k. list_any (is_of k) before) (same t s e) ∙ some)
+is-old s before (Some t) e some = ap not (ap (λ k. list_any (is_of k) before) (eqb-true t s e) ∙ some)
 
 module _ (s : ℕ) where
   -- among the first mentions there is one of the move exactly where there is one at all
@@ -212,14 +207,10 @@ no-members s (x ∷ done) none = by (is_of s x) x.counts none (no-members s done
 members-first : (done : List Mention) (m : Mention) → is_new done m.move ≡ true → members_of (done ++ m ∷ []) m.move ≡ members_of (m ∷ []) m.move
 members-first done m new = by m.move new
   where
-    none : (b : Bool) → not b ≡ true → b ≡ false
-    none true e = absurd (true≢false (sym e))
-    none false e = refl
-
     by : (o : Option ℕ) → is_new done o ≡ true → members_of (done ++ m ∷ []) o ≡ members_of (m ∷ []) o
     by None new = refl
     by (Some s) new =
-        members-more done m (Some s) ∙ ap (λ n. n + one_if (joins m (Some s))) (no-members s done (none (list_any (is_of s) done) new))
+        members-more done m (Some s) ∙ ap (λ n. n + one_if (joins m (Some s))) (no-members s done (not-true (list_any (is_of s) done) new))
         ∙ sym (length-filter-more (λ x. x.counts && is_of s x) [] m)
 
 -- ---- numbers
@@ -278,11 +269,7 @@ module _ (part : ℕ) (done : List Mention) (m : Mention) where
     where
       by : (o : Option ℕ) → starts_at s o ≡ false → joins m o ≡ false
       by None e = refl
-      by (Some t) e = and-no m.counts (starts_at t m.move) (ap (starts_at t) is ∙ other t s e)
-        where
-          and-no : (c b : Bool) → b ≡ false → (c && b) ≡ false
-          and-no true b e = e
-          and-no false b e = refl
+      by (Some t) e = and_right m.counts (starts_at t m.move) (ap (starts_at t) is ∙ other t s e)
 
   all-apart : (s : ℕ) → m.move ≡ Some s → (ms : List Mention) → None_of s ms → Every (λ (f : Mention). joins m f.move ≡ false) ms
   all-apart s is [] none = tt
@@ -294,11 +281,7 @@ module _ (part : ℕ) (done : List Mention) (m : Mention) where
     where
       by : (o : Option ℕ) → joins m o ≡ false
       by None = refl
-      by (Some t) = and-no m.counts (starts_at t m.move) (ap (starts_at t) is)
-        where
-          and-no : (c b : Bool) → b ≡ false → (c && b) ≡ false
-          and-no true b e = e
-          and-no false b e = refl
+      by (Some t) = and_right m.counts (starts_at t m.move) (ap (starts_at t) is)
 
   uncounted-apart : m.counts ≡ false → (ms : List Mention) → Every (λ (f : Mention). joins m f.move ≡ false) ms
   uncounted-apart is [] = tt
@@ -344,10 +327,7 @@ module _ (part : ℕ) (done : List Mention) (m : Mention) where
     where
       by : (o : Option ℕ) → starts_at s o ≡ true → joins m o ≡ true
       by None e = absurd (true≢false (sym e))
-      by (Some t) e = ap (λ c. c && is_of t m) counts ∙ ap (starts_at t) is ∙ ap (λ k. k == t) (sym (same t s e)) ∙ itself t
-        where
-          itself : (n : ℕ) → (n == n) ≡ true
-          itself n = grind arith
+      by (Some t) e = ap (λ c. c && is_of t m) counts ∙ ap (starts_at t) is ∙ ap (λ k. k == t) (sym (eqb-true t s e)) ∙ eq-eqb t t refl
 
   abbrev later : ℕ → List Mention → List Revision
   later k ms = numbered (k + 1) (map (revision_of part done) ms)
@@ -447,7 +427,7 @@ module _ (part : ℕ) (base : List Revision) (done : List Mention) (t : Tally) (
       by : (x : ℕ) (b : Bool) → (s == x) ≡ b → None_of s fs →
           (if s == x then Some (next_number t) else move_number t.moves x) ≡ option_map (λ p. number + p) (place_of x (fs ++ m ∷ []))
       by x true e none =
-          let at : s ≡ x = same s x e in
+          let at : s ≡ x = eqb-true s x e in
           ap (λ b. if b then Some (next_number t) else move_number t.moves x) e ∙ ap Some next-is
           ∙ ap (option_map (λ p. number + p)) (sym (ap (λ y. place_of y (fs ++ m ∷ [])) (sym at) ∙ place-new s fs m none (ap (starts_at s) is ∙ ap (λ y. s == y) at ∙ e)))
       by x false e none =
@@ -540,10 +520,6 @@ mention-in marks tails tail Marker (Some pair) = refl
 abbrev IsKnown : Numbering → List Mention → Type 0
 IsKnown s done = (k : ℕ) → is_some (number_of_move s.moves k) ≡ list_any (is_of k) done
 
-or-true : (b : Bool) → (b || true) ≡ true
-or-true true = refl
-or-true false = refl
-
 -- one mention more
 record IsOneMore (s after : Numbering) (done : List Mention) (m : Mention) : Type 0 where
   pub next : after.next ≡ s.next + length (first-of (is_new done m.move) m)
@@ -552,7 +528,7 @@ record IsOneMore (s after : Numbering) (done : List Mention) (m : Mention) : Typ
 counted-own : (s : Numbering) (done : List Mention) (m : Mention) → IsKnown s done → m.move ≡ None → IsOneMore s (counted in_own s) done m
 counted-own s done m known is = record {
   next = ap (λ o. s.next + length (first-of (is_new done o) m)) (sym is);
-  known = λ k. known k ∙ sym (any-more k done m ∙ ap (λ o. list_any (is_of k) done || starts_at k o) is ∙ or-no (list_any (is_of k) done));
+  known = λ k. known k ∙ sym (any-more k done m ∙ ap (λ o. list_any (is_of k) done || starts_at k o) is ∙ or-false (list_any (is_of k) done));
 }
 
 counted-again : (s : Numbering) (done : List Mention) (m : Mention) (t n : ℕ) → IsKnown s done → m.move ≡ Some t → number_of_move s.moves t ≡ Some n → IsOneMore s s done m
@@ -566,8 +542,8 @@ counted-again s done m t n known is had = record {
 
     by : (k : ℕ) (b : Bool) → (t == k) ≡ b → (list_any (is_of k) done || t == k) ≡ list_any (is_of k) done
     by k true e = ap (λ b. list_any (is_of k) done || b) e ∙ or-true (list_any (is_of k) done)
-        ∙ sym (ap (λ x. list_any (is_of x) done) (sym (same t k e)) ∙ sym (known t) ∙ ap is_some had)
-    by k false e = ap (λ b. list_any (is_of k) done || b) e ∙ or-no (list_any (is_of k) done)
+        ∙ sym (ap (λ x. list_any (is_of x) done) (sym (eqb-true t k e)) ∙ sym (known t) ∙ ap is_some had)
+    by k false e = ap (λ b. list_any (is_of k) done || b) e ∙ or-false (list_any (is_of k) done)
 
 counted-new : (s : Numbering) (done : List Mention) (m : Mention) (t : ℕ) → IsKnown s done → m.move ≡ Some t → number_of_move s.moves t ≡ None →
     IsOneMore s (record { next = s.next + 1; moves = record { start = t; number = s.next } ∷ s.moves }) done m
@@ -578,7 +554,7 @@ counted-new s done m t known is had = record {
   where
     by : (k : ℕ) (b : Bool) → is_some (if b then Some s.next else number_of_move s.moves k) ≡ (list_any (is_of k) done || b)
     by k true = sym (or-true (list_any (is_of k) done))
-    by k false = known k ∙ sym (or-no (list_any (is_of k) done))
+    by k false = known k ∙ sym (or-false (list_any (is_of k) done))
 
 counted-mention : (s : Numbering) (done : List Mention) (m : Mention) → IsKnown s done → IsOneMore s (counted (in_its m.move) s) done m
 counted-mention s done m known = by m.move refl

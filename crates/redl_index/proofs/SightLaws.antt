@@ -1,5 +1,7 @@
 -- What is handed down to an element tells the same of it as its ancestors do.
-use Rattle.std.proofs.Common.{◌≡◌, ◌∙◌, refl, ap, sym, subst, ℕ, ◌+◌, List, [], ◌∷◌, ◌++◌, Bool, true, false, is_some, drop, get_or, Option, option_map, if◌then◌else◌, ◌&&◌, ◌||◌, true≢false, find, Some, None}
+use Rattle.std.proofs.Common.{◌≡◌, ◌∙◌, refl, ap, sym, subst, ℕ, ◌+◌, List, [], ◌∷◌, ◌++◌, Bool, true, false, is_some, drop, get_or, Option, option_map, if◌then◌else◌, ◌&&◌, true≢false, find, Some, None}
+use Rattle.std.proofs.Math.Bool.{or-false}
+use Rattle.std.specs.Cmp.{first_so, second_so}
 use Rattle.redl_tree.specs.Model.Nodes.{Tag, Nodes}
 use Rattle.redl_tree.specs.Roles.Names.{is}
 use Rattle.redl_tree.specs.Roles.Arounds.{around_of, inside_of, role_in}
@@ -21,7 +23,7 @@ use Rattle.redl_index.specs.declared.story.Sight.{Sight}
 use Rattle.redl_tree.specs.Roles.Places.{is_open, within, role, placed, first_role, change_at, in_mark_props, in_row_props, in_cell_props, in_props, trace_of, row_trace_of, cell_trace_of, prop_of}
 use Rattle.redl_tree.specs.declared.kinds.Trace.{Trace}
 use Rattle.redl_tree.specs.declared.kinds.Prop.{Prop}
-use Rattle.redl_tree.proofs.NameLaws.{and-left, and-right, is-other, is_any-apart}
+use Rattle.redl_tree.proofs.NameLaws.{is-other, is_any-apart}
 use Rattle.redl_moves.specs.Standing.{IsApart}
 use Rattle.redl_index.proofs.MarkerLaws.Free.{content-apart, mark-apart}
 
@@ -29,17 +31,17 @@ use Rattle.redl_index.proofs.MarkerLaws.Free.{content-apart, mark-apart}
 
 mark-end : (start : ℕ) (ancestors : List Spot) → in_mark_props (tags_of ancestors) ≡ true → mark_end start ancestors ≡ para_end ancestors
 mark-end start [] e = absurd (true≢false (sym e))
-mark-end start (r ∷ []) e = absurd (true≢false (sym (and-right (is "rPr" r.tag) false e)))
+mark-end start (r ∷ []) e = absurd (true≢false (sym (second_so (is "rPr" r.tag) false e)))
 mark-end start (r ∷ q ∷ []) e =
-    absurd (true≢false (sym (and-right (is "pPr" q.tag) false (and-right (is "rPr" r.tag) (is "pPr" q.tag && false) e))))
+    absurd (true≢false (sym (second_so (is "pPr" q.tag) false (second_so (is "rPr" r.tag) (is "pPr" q.tag && false) e))))
 mark-end start (r ∷ q ∷ p ∷ ancestors) e =
     let below = within ("pPr" ∷ "p" ∷ []) (q.tag ∷ p.tag ∷ tags_of ancestors) in
     let last = within ("p" ∷ []) (p.tag ∷ tags_of ancestors) in
-    let in_q = and-right (is "rPr" r.tag) below e in
-    let in_p = and-right (is "pPr" q.tag) last in_q in
-    sym (ap (λ b. if b then r.end else para_end (q ∷ p ∷ ancestors)) (is-other "rPr" "p" r.tag (and-left (is "rPr" r.tag) below e) refl)
-    ∙ ap (λ b. if b then q.end else para_end (p ∷ ancestors)) (is-other "pPr" "p" q.tag (and-left (is "pPr" q.tag) last in_q) refl)
-    ∙ ap (λ b. if b then p.end else para_end ancestors) (and-left (is "p" p.tag) (is_open (tags_of ancestors)) in_p))
+    let in_q = second_so (is "rPr" r.tag) below e in
+    let in_p = second_so (is "pPr" q.tag) last in_q in
+    sym (ap (λ b. if b then r.end else para_end (q ∷ p ∷ ancestors)) (is-other "rPr" "p" r.tag (first_so (is "rPr" r.tag) below e) refl)
+    ∙ ap (λ b. if b then q.end else para_end (p ∷ ancestors)) (is-other "pPr" "p" q.tag (first_so (is "pPr" q.tag) last in_q) refl)
+    ∙ ap (λ b. if b then p.end else para_end ancestors) (first_so (is "p" p.tag) (is_open (tags_of ancestors)) in_p))
 
 -- what holds of each kind of role, and of a mark's where its properties are, holds of the role of an element
 module _ (P : Kind → Type 0) (ancestors : List Tag) (tag : Tag) (plain : P Plain) (content : (t : Trace) → P (Content t)) (mark : in_mark_props ancestors ≡ true → (t : Trace) → P (Mark t))
@@ -207,12 +209,8 @@ around-inside at tag kids spots = sym (around_of-∷ tag (tags_of spots))
 -- the root of a story is no paragraph
 root-no_p : (tag : Tag) → is_story_root tag ≡ true → is "p" tag ≡ false
 root-no_p tag root =
-    sym (or-none (is "p" tag))
+    sym (or-false (is "p" tag))
     ∙ is_any-apart ("document" ∷ "hdr" ∷ "ftr" ∷ "footnotes" ∷ "endnotes" ∷ "comments" ∷ []) ("p" ∷ []) tag root refl
-  where
-    or-none : (b : Bool) → (b || false) ≡ b
-    or-none true = refl
-    or-none false = refl
 
 pub para_end-root : (tag : Tag) (kids : Nodes) → is_story_root tag ≡ true → para_end (root_spots tag kids) ≡ 0
 para_end-root tag kids root = ap (λ b. if b then 0 + 1 + tags kids else 0) (root-no_p tag root)

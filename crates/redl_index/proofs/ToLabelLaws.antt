@@ -1,5 +1,6 @@
 -- What is known of the stories of a package serves for all of them, and labels them as the definition does.
 use Rattle.std.proofs.Common.{◌≡◌, ◌∙◌, refl, ap, sym, subst, ℕ, ◌+◌, ◌^◌, ◌<◌, ◌≤◌, List, [], ◌∷◌, ◌++◌, map, Bool, true, false, arith, if◌then◌else◌}
+use Rattle.std.specs.Cmp.{second_so}
 use Rattle.redl_tree.specs.Model.Count.{count}
 use Rattle.redl_tree.specs.Model.Nodes.{Tag, Nodes, no_nodes, bytes, element}
 use Rattle.redl_tree.specs.Model.Seen.{seen, root_spots}
@@ -8,7 +9,6 @@ use Rattle.redl_tree.specs.Decisions.Packages.{is_data_level, level_of, is_story
 use Rattle.redl_tree.specs.Decisions.Taken.{TakesAll}
 use Rattle.redl_tree.specs.Revisions.Markers.{moves_among}
 use Rattle.redl_tree.specs.Revisions.Numbers.{start_with, next_after_story, number_rule}
-use Rattle.redl_tree.proofs.NameLaws.{and-right}
 use Rattle.redl_tree.proofs.NumberLaws.{unlabelled-story}
 use Rattle.redl_tree.proofs.StoryLaws.{Agree, changed_in-agree}
 use Rattle.redl_opc.specs.Labels.{SetsLabels}
@@ -61,7 +61,7 @@ roots-in ancestors (element tag kids rest) =
   where
     by : (b : Bool) → is_root ancestors tag ≡ b → Every HasRoot (stories_in (tag ∷ ancestors) kids)
         → Every HasRoot (if b then record { tag = tag; kids = kids } ∷ [] else stories_in (tag ∷ ancestors) kids)
-    by true is below = (and-right (is_data_level (level_of ancestors)) (is_story_root tag) is, tt)
+    by true is below = (second_so (is_data_level (level_of ancestors)) (is_story_root tag) is, tt)
     by false is below = below
 
 size-in : (ancestors : List Tag) (nodes : Nodes) → size (stories_in ancestors nodes) ≤ count nodes

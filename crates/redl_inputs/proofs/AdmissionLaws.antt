@@ -1,5 +1,5 @@
 -- Entries that a session admits and refuses, one list after the other.
-use Rattle.std.proofs.Common.{◌≡◌, ℕ, List, [], ◌++◌, filter, Bool, Result, Ok, Err, OnOk, is_none, refl, sym, ap, ◌∙◌}
+use Rattle.std.proofs.Common.{◌≡◌, ℕ, List, [], ◌++◌, filter, Bool, is_none, refl, sym, ap, ◌∙◌}
 use Rattle.std.proofs.lemmas.List.Elements.{filter-append, filter_map-append}
 use Rattle.redl_index.specs.Numbers.{package_revisions, numbered_package}
 use Rattle.redl_index.specs.Revisions.{revisions_of}
@@ -63,11 +63,6 @@ admitted_all before entries state given kept is were added =
     ap (λ s. with_parts before.document s kept before.remarks.second before.remarks.idle) is
     ∙ ap (λ rs. with_parts before.document (record before.state { book = union before.state.book (admitted before.state.revisions before.state.locks entries) }) rs before.remarks.second before.remarks.idle)
     (added ∙ ap (with_refusals before.remarks.refused) were)
-
--- what holds of a result that is Ok follows from what holds of it
-pub on_ok : {T E : Type 0} {P Q : Type 0} (r : Result T E) → (P → Q) → OnOk r P → OnOk r Q
-on_ok (Ok x) step h = step h
-on_ok (Err e) step h = h
 
 -- a session over a package, before any entry
 pub starts : (whole : List ℕ) (pkg : Nodes) (locks : List Lock) (nodes : Nodes) (revisions : List Revision) (held : List Lock) (state : State) (refused second : RefusedEntries) (idle : List Lock) (count : ℕ)

@@ -1,23 +1,17 @@
 -- Files that are fetched up to one byte more than a limit.
-use Rattle.std.proofs.Common.{◌≡◌, inl, inr, take, length-take, ◌<◌, ◌≤◌, ◌+◌, ℕ, List, length, nat_lt, Bool, true, false, Result, Ok, Err, refl, sym, ap, ◌∙◌, arith, if◌then◌else◌}
-use Rattle.std.proofs.lemmas.Bool.{lt-ltb, le-ltb}
+use Rattle.std.proofs.Common.{◌≡◌, inl, inr, take, length-take, ◌<◌, ◌≤◌, ◌+◌, ℕ, List, length, nat_lt, Result, Ok, Err, sym, ap, ◌∙◌, arith}
+use Rattle.std.proofs.lemmas.Bool.{lt-ltb, le-ltb, cond-true, cond-false}
 use Rattle.std.proofs.lemmas.List.{take_all}
 use Rattle.redl_inputs.specs.Reading.{IsMade, front_of}
 use Rattle.redl_inputs.specs.Steps.{within, ◌>>=◌}
 use Rattle.redl_lines.specs.Failures.{Failure, caused, unread, no_memory, over}
 use Rattle.redl_lines.specs.declared.failure.Limit.{Limit}
 
-pub if_true : {X : Type 0} (test : Bool) (x y : X) → test ≡ true → (if test then x else y) ≡ x
-if_true test x y is = rw is refl
-
-pub if_false : {X : Type 0} (test : Bool) (x y : X) → test ≡ false → (if test then x else y) ≡ y
-if_false test x y is = rw is refl
-
 too_long : (most : ℕ) (limit : Limit) (whole : List ℕ) → most < length whole → within most limit whole ≡ Err (caused (over limit))
-too_long most limit whole longer = if_true (nat_lt most (length whole)) _ _ (lt-ltb most (length whole) longer)
+too_long most limit whole longer = cond-true (nat_lt most (length whole)) _ _ (lt-ltb most (length whole) longer)
 
 short_enough : (most : ℕ) (limit : Limit) (whole : List ℕ) → length whole ≤ most → within most limit whole ≡ Ok whole
-short_enough most limit whole short = if_false (nat_lt most (length whole)) _ _ (le-ltb most (length whole) short)
+short_enough most limit whole short = cond-false (nat_lt most (length whole)) _ _ (le-ltb most (length whole) short)
 
 -- where more than the limit came, the file is over it
 pub front_too_long : (most : ℕ) (limit : Limit) (found : Result (List ℕ) Failure) (bytes : List ℕ) → front_of (most + 1) found ≡ Ok bytes → most < length bytes

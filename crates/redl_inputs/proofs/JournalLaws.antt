@@ -1,8 +1,7 @@
 -- What a reader reads, by what the code read, and the entries of journals.
 use Rattle.std.proofs.Common.{◌≡◌, ◌≢◌, ℕ, List, true, false, not, ◌==◌, Option, None, Some, Ok, Err, refl, ap, ◌∙◌}
-use Rattle.std.proofs.lemmas.Bool.{false_from_ne_true, eqb-true, eq-eqb}
+use Rattle.std.proofs.lemmas.Bool.{false_from_ne_true, eqb-true, eq-eqb, cond-true, cond-false}
 use Rattle.std.specs.Str.{bytes_eq}
-use Rattle.redl_inputs.proofs.FetchLaws.{if_true, if_false}
 use Rattle.redl_inputs.specs.Journals.{DocumentId, entries_in}
 use Rattle.redl_inputs.specs.Readers.{Reader, IsReader, IsJournalOf}
 use Rattle.redl_lines.specs.Failures.{caused, other_document, other_count}
@@ -29,16 +28,16 @@ reads_no_journal reader text is none = no_journal_by text (reader.journal text) 
 
 pub entries_other_document : (document : DocumentId) (name : List ℕ) (journal : Journal) → not (bytes_eq journal.digest document.digest) ≡ true
     → entries_in document name journal ≡ Err (caused (other_document name journal.digest document.digest))
-entries_other_document document name journal differs = if_true (not (bytes_eq journal.digest document.digest)) _ _ differs
+entries_other_document document name journal differs = cond-true (not (bytes_eq journal.digest document.digest)) _ _ differs
 
 pub entries_other_count : (document : DocumentId) (name : List ℕ) (journal : Journal) → not (bytes_eq journal.digest document.digest) ≡ false
     → journal.count ≢ document.count → entries_in document name journal ≡ Err (caused (other_count name journal.count document.count))
 entries_other_count document name journal same differs =
-    if_false (not (bytes_eq journal.digest document.digest)) _ _ same
-    ∙ if_true (not (journal.count == document.count)) _ _ (ap not (false_from_ne_true (journal.count == document.count) (λ e. differs (eqb-true journal.count document.count e))))
+    cond-false (not (bytes_eq journal.digest document.digest)) _ _ same
+    ∙ cond-true (not (journal.count == document.count)) _ _ (ap not (false_from_ne_true (journal.count == document.count) (λ e. differs (eqb-true journal.count document.count e))))
 
 pub entries_of_it : (document : DocumentId) (name : List ℕ) (journal : Journal) → not (bytes_eq journal.digest document.digest) ≡ false
     → journal.count ≡ document.count → entries_in document name journal ≡ Ok journal.entries
 entries_of_it document name journal same one =
-    if_false (not (bytes_eq journal.digest document.digest)) _ _ same
-    ∙ if_false (not (journal.count == document.count)) _ _ (ap not (ap (λ n. n == document.count) one ∙ eq-eqb document.count document.count refl))
+    cond-false (not (bytes_eq journal.digest document.digest)) _ _ same
+    ∙ cond-false (not (journal.count == document.count)) _ _ (ap not (ap (λ n. n == document.count) one ∙ eq-eqb document.count document.count refl))

@@ -1,7 +1,6 @@
 -- The package of a text, by what the code read.
 use Rattle.std.proofs.Common.{◌≡◌, ◌<◌, ◌≤◌, ℕ, List, nat_lt, Option, None, Some, Result, Err, Ok, IsErrAnd, IsErrOf, subst, refl, sym, ap, ◌∙◌}
-use Rattle.std.proofs.lemmas.Bool.{lt-ltb, le-ltb}
-use Rattle.redl_inputs.proofs.FetchLaws.{if_true, if_false}
+use Rattle.std.proofs.lemmas.Bool.{lt-ltb, le-ltb, cond-true, cond-false}
 use Rattle.redl_inputs.proofs.StepLaws.{same_ok}
 use Rattle.redl_inputs.specs.Packages.{limited, sound_unless, tree_in}
 use Rattle.redl_inputs.specs.Readers.{Reader, IsReader, IsTreeOf}
@@ -41,16 +40,16 @@ reads_no_tree reader text is none = no_tree_by text (reader.tree text) (is.trees
 
 limited_ok : (nodes : Nodes) → depth_of nodes ≤ depth_limit → count nodes ≤ node_limit → limited nodes ≡ Ok nodes
 limited_ok nodes shallow few =
-    if_false (nat_lt depth_limit (depth_of nodes)) _ _ (le-ltb depth_limit (depth_of nodes) shallow)
-    ∙ if_false (nat_lt node_limit (count nodes)) _ _ (le-ltb node_limit (count nodes) few)
+    cond-false (nat_lt depth_limit (depth_of nodes)) _ _ (le-ltb depth_limit (depth_of nodes) shallow)
+    ∙ cond-false (nat_lt node_limit (count nodes)) _ _ (le-ltb node_limit (count nodes) few)
 
 limited_depth : (nodes : Nodes) → depth_limit < depth_of nodes → limited nodes ≡ Err (caused (over Depth))
-limited_depth nodes deep = if_true (nat_lt depth_limit (depth_of nodes)) _ _ (lt-ltb depth_limit (depth_of nodes) deep)
+limited_depth nodes deep = cond-true (nat_lt depth_limit (depth_of nodes)) _ _ (lt-ltb depth_limit (depth_of nodes) deep)
 
 limited_nodes : (nodes : Nodes) → depth_of nodes ≤ depth_limit → node_limit < count nodes → limited nodes ≡ Err (caused (over TooManyNodes))
 limited_nodes nodes shallow many =
-    if_false (nat_lt depth_limit (depth_of nodes)) _ _ (le-ltb depth_limit (depth_of nodes) shallow)
-    ∙ if_true (nat_lt node_limit (count nodes)) _ _ (lt-ltb node_limit (count nodes) many)
+    cond-false (nat_lt depth_limit (depth_of nodes)) _ _ (le-ltb depth_limit (depth_of nodes) shallow)
+    ∙ cond-true (nat_lt node_limit (count nodes)) _ _ (lt-ltb node_limit (count nodes) many)
 
 pub tree_read : (reader : Reader) (text : List ℕ) (nodes : Nodes) → IsReader reader → IsReading text nodes
     → depth_of nodes ≤ depth_limit → count nodes ≤ node_limit → tree_in (reader.tree text) ≡ Ok nodes

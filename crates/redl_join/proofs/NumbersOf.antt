@@ -7,11 +7,13 @@ use Rattle.std.specs.BTreeMap.{insert_entry}
 use Rattle.std.specs.Cmp.Lexicographic.{slice_cmp}
 use Rattle.std.specs.Ordering.{is_eq, nat_cmp, match_ordering}
 use Rattle.std.specs.Str.{bytes_eq}
-use Rattle.std.proofs.lemmas.Bool.{eqb-true}
+use Rattle.std.proofs.lemmas.Bool.{eqb-true, and_parts, or_cases, or_parts, eq-eqb}
 use Rattle.std.proofs.lemmas.Cmp.{nat_list_cmp_total, tied_itself}
-use Rattle.std.proofs.lemmas.Bool.Decides.{nat_tests}
 use Rattle.std.proofs.lemmas.Map.Lookups.{exact_bytes}
 use Rattle.std.proofs.lemmas.Slice.Eq.{bytes_eq-Decides}
+use Rattle.std.proofs.Math.Bool.{or-true}
+use Rattle.std.specs.Cmp.{Equal-is}
+use Rattle.redl_join.proofs.Lists.{or_swap}
 use Rattle.redl_join.specs.Inside.Numbers.{Numbered, AreNumbers, has_number, is_numbered, is_taken}
 
 -- the order of names
@@ -22,31 +24,11 @@ name_order name other = slice_cmp nat_cmp name.items other.items
 abbrev is_name : List ℕ → Vec ℕ → Bool
 is_name name other = is_eq (slice_cmp nat_cmp name other.items)
 
-equal : (r : Ordering) → is_eq r ≡ true → r ≡ Equal
-equal Equal h = refl
-equal Less h = absurd cc
-equal Greater h = absurd cc
-
-pub both : (a b : Bool) → (a && b) ≡ true → (a ≡ true) × (b ≡ true)
-both true b h = (refl, h)
-both false b h = absurd cc
-
-pub one_of : (a b : Bool) → (a || b) ≡ true → (a ≡ true) ⊎ (b ≡ true)
-one_of true b h = inl refl
-one_of false b h = inr h
-
 pub same_bytes : (a b : List ℕ) → bytes_eq a b ≡ true → a ≡ b
 same_bytes a b h = (bytes_eq-Decides a b).0 h
 
 pub bytes_same : (a b : List ℕ) → a ≡ b → bytes_eq a b ≡ true
 bytes_same a b h = (bytes_eq-Decides a b).1 h
-
-eqb_same : (n : ℕ) → eqb n n ≡ true
-eqb_same n = grind (arith, nat_tests)
-
-or_true : (a : Bool) → (a || true) ≡ true
-or_true true = refl
-or_true false = refl
 
 -- ---- names and numbers
 
@@ -55,7 +37,7 @@ number_of [] name h = absurd cc
 number_of (e ∷ es) name h = by (bytes_eq e.0.items name) refl h (number_of es name) where
   by : (b : Bool) → bytes_eq e.0.items name ≡ b → (b || is_numbered es name) ≡ true → (is_numbered es name ≡ true → (n : ℕ) × (has_number es name n ≡ true))
       → (n : ℕ) × (has_number (e ∷ es) name n ≡ true)
-  by true is h rec = (e.1, rw (is, eqb_same e.1) refl)
+  by true is h rec = (e.1, rw (is, eq-eqb e.1 e.1 refl) refl)
   by false is h rec = let rest = rec h in (rest.0, rw is rest.1)
 
 pub name_of : (es : List Numbered) (n : ℕ) → is_taken es n ≡ true → (name : List ℕ) × (has_number es name n ≡ true)
@@ -64,22 +46,22 @@ name_of (e ∷ es) n h = by (eqb e.1 n) refl h (name_of es n) where
   by : (b : Bool) → eqb e.1 n ≡ b → (b || is_taken es n) ≡ true → (is_taken es n ≡ true → (name : List ℕ) × (has_number es name n ≡ true))
       → (name : List ℕ) × (has_number (e ∷ es) name n ≡ true)
   by true is h rec = (e.0.items, rw (is, bytes_same e.0.items e.0.items refl) refl)
-  by false is h rec = let rest = rec h in (rest.0, rw rest.1 (or_true (bytes_eq e.0.items rest.0 && eqb e.1 n)))
+  by false is h rec = let rest = rec h in (rest.0, rw rest.1 (or-true (bytes_eq e.0.items rest.0 && eqb e.1 n)))
 
 pub is_numbered-by : (es : List Numbered) (name : List ℕ) (n : ℕ) → has_number es name n ≡ true → is_numbered es name ≡ true
 is_numbered-by [] name n h = absurd cc
-is_numbered-by (e ∷ es) name n h = by (is_numbered-by es name n) (one_of (bytes_eq e.0.items name && eqb e.1 n) (has_number es name n) h) where
+is_numbered-by (e ∷ es) name n h = by (is_numbered-by es name n) (or_cases (bytes_eq e.0.items name && eqb e.1 n) (has_number es name n) h) where
   by : (has_number es name n ≡ true → is_numbered es name ≡ true) → ((bytes_eq e.0.items name && eqb e.1 n) ≡ true) ⊎ (has_number es name n ≡ true)
       → (bytes_eq e.0.items name || is_numbered es name) ≡ true
-  by rec (inl own) = let is = both (bytes_eq e.0.items name) (eqb e.1 n) own in rw is.0 refl
-  by rec (inr rest) = rw (rec rest) (or_true (bytes_eq e.0.items name))
+  by rec (inl own) = let is = and_parts (bytes_eq e.0.items name) (eqb e.1 n) own in rw is.0 refl
+  by rec (inr rest) = rw (rec rest) (or-true (bytes_eq e.0.items name))
 
 pub is_taken-by : (es : List Numbered) (name : List ℕ) (n : ℕ) → has_number es name n ≡ true → is_taken es n ≡ true
 is_taken-by [] name n h = absurd cc
-is_taken-by (e ∷ es) name n h = by (is_taken-by es name n) (one_of (bytes_eq e.0.items name && eqb e.1 n) (has_number es name n) h) where
+is_taken-by (e ∷ es) name n h = by (is_taken-by es name n) (or_cases (bytes_eq e.0.items name && eqb e.1 n) (has_number es name n) h) where
   by : (has_number es name n ≡ true → is_taken es n ≡ true) → ((bytes_eq e.0.items name && eqb e.1 n) ≡ true) ⊎ (has_number es name n ≡ true) → (eqb e.1 n || is_taken es n) ≡ true
-  by rec (inl own) = let is = both (bytes_eq e.0.items name) (eqb e.1 n) own in rw is.1 refl
-  by rec (inr rest) = rw (rec rest) (or_true (eqb e.1 n))
+  by rec (inl own) = let is = and_parts (bytes_eq e.0.items name) (eqb e.1 n) own in rw is.1 refl
+  by rec (inr rest) = rw (rec rest) (or-true (eqb e.1 n))
 
 -- ---- a look-up
 
@@ -89,10 +71,10 @@ found (e ∷ es) name n h = by (is_name name e.0) refl h (found es name n) where
   by : (b : Bool) → is_name name e.0 ≡ b → cond b (Some e.1) (lookup (is_name name) es) ≡ Some n → (lookup (is_name name) es ≡ Some n → has_number es name n ≡ true)
       → has_number (e ∷ es) name n ≡ true
   by true is h rec =
-      let same : name ≡ e.0.items = exact_bytes name e.0.items (equal (slice_cmp nat_cmp name e.0.items) is) in
+      let same : name ≡ e.0.items = exact_bytes name e.0.items ((Equal-is (slice_cmp nat_cmp name e.0.items)).0 is) in
       let number : e.1 ≡ n = cc in
-      rw (bytes_same e.0.items name (sym same), number, eqb_same n) refl
-  by false is h rec = rw (rec h) (or_true (bytes_eq e.0.items name && eqb e.1 n))
+      rw (bytes_same e.0.items name (sym same), number, eq-eqb n n refl) refl
+  by false is h rec = rw (rec h) (or-true (bytes_eq e.0.items name && eqb e.1 n))
 
 missing : (es : List Numbered) (name : List ℕ) → lookup (is_name name) es ≡ None → is_numbered es name ≡ false
 missing [] name h = refl
@@ -120,22 +102,12 @@ find_none es name (Some n) h = tt
 
 -- ---- a new number
 
-or_swap : (a b c : Bool) → (a || (b || c)) ≡ (b || (a || c))
-or_swap true true c = refl
-or_swap true false c = refl
-or_swap false true c = refl
-or_swap false false c = refl
-
 pub given : (es : List Numbered) (key : Vec ℕ) (v : ℕ) (name : List ℕ) (n : ℕ) → is_numbered es key.items ≡ false
     → has_number (insert_entry name_order es key v) name n ≡ ((bytes_eq key.items name && eqb v n) || has_number es name n)
 given [] key v name n lacks = refl
 given (e ∷ es) key v name n lacks = by (name_order key e.0) refl (given es key v name n) where
-  not_first : (a b : Bool) → (a || b) ≡ false → (a ≡ false) × (b ≡ false)
-  not_first true b h = absurd cc
-  not_first false b h = (refl, h)
-
   rest : (bytes_eq e.0.items key.items ≡ false) × (is_numbered es key.items ≡ false)
-  rest = not_first (bytes_eq e.0.items key.items) (is_numbered es key.items) lacks
+  rest = or_parts (bytes_eq e.0.items key.items) (is_numbered es key.items) lacks
 
   by : (r : Ordering) → name_order key e.0 ≡ r
       → (is_numbered es key.items ≡ false → has_number (insert_entry name_order es key v) name n ≡ ((bytes_eq key.items name && eqb v n) || has_number es name n))
@@ -164,14 +136,14 @@ longer (e ∷ es) key v lacks = by (name_order key e.0) refl (bytes_eq e.0.items
 pub are_more : (es : List Numbered) (key : Vec ℕ) (v : ℕ) → AreNumbers es → is_numbered es key.items ≡ false → v ≡ length es → AreNumbers (insert_entry name_order es key v)
 are_more es key v are lacks counts = record {
   one_number = λ name m n h g.
-      one name m n (one_of (bytes_eq key.items name && eqb v m) (has_number es name m) (sym (given es key v name m lacks) ∙ h))
-      (one_of (bytes_eq key.items name && eqb v n) (has_number es name n) (sym (given es key v name n lacks) ∙ g));
+      one name m n (or_cases (bytes_eq key.items name && eqb v m) (has_number es name m) (sym (given es key v name m lacks) ∙ h))
+      (or_cases (bytes_eq key.items name && eqb v n) (has_number es name n) (sym (given es key v name n lacks) ∙ g));
   one_name = λ name other n h g.
-      only name other n (one_of (bytes_eq key.items name && eqb v n) (has_number es name n) (sym (given es key v name n lacks) ∙ h))
-      (one_of (bytes_eq key.items other && eqb v n) (has_number es other n) (sym (given es key v other n lacks) ∙ g));
+      only name other n (or_cases (bytes_eq key.items name && eqb v n) (has_number es name n) (sym (given es key v name n lacks) ∙ h))
+      (or_cases (bytes_eq key.items other && eqb v n) (has_number es other n) (sym (given es key v other n lacks) ∙ g));
   below = λ n h.
       let owner = name_of (insert_entry name_order es key v) n h in
-      low n owner.0 (one_of (bytes_eq key.items owner.0 && eqb v n) (has_number es owner.0 n) (sym (given es key v owner.0 n lacks) ∙ owner.1));
+      low n owner.0 (or_cases (bytes_eq key.items owner.0 && eqb v n) (has_number es owner.0 n) (sym (given es key v owner.0 n lacks) ∙ owner.1));
 } where
   unknown : (name : List ℕ) (n : ℕ) → bytes_eq key.items name ≡ true → has_number es name n ≡ true → ⊥
   unknown name n own h =
@@ -187,22 +159,22 @@ are_more es key v are lacks counts = record {
   one : (name : List ℕ) (m n : ℕ) → ((bytes_eq key.items name && eqb v m) ≡ true) ⊎ (has_number es name m ≡ true)
       → ((bytes_eq key.items name && eqb v n) ≡ true) ⊎ (has_number es name n ≡ true) → m ≡ n
   one name m n (inl h) (inl g) =
-      sym (eqb-true v m (both (bytes_eq key.items name) (eqb v m) h).1) ∙ eqb-true v n (both (bytes_eq key.items name) (eqb v n) g).1
-  one name m n (inl h) (inr g) = absurd (unknown name n (both (bytes_eq key.items name) (eqb v m) h).0 g)
-  one name m n (inr h) (inl g) = absurd (unknown name m (both (bytes_eq key.items name) (eqb v n) g).0 h)
+      sym (eqb-true v m (and_parts (bytes_eq key.items name) (eqb v m) h).1) ∙ eqb-true v n (and_parts (bytes_eq key.items name) (eqb v n) g).1
+  one name m n (inl h) (inr g) = absurd (unknown name n (and_parts (bytes_eq key.items name) (eqb v m) h).0 g)
+  one name m n (inr h) (inl g) = absurd (unknown name m (and_parts (bytes_eq key.items name) (eqb v n) g).0 h)
   one name m n (inr h) (inr g) = are.one_number name m n h g
 
   only : (name other : List ℕ) (n : ℕ) → ((bytes_eq key.items name && eqb v n) ≡ true) ⊎ (has_number es name n ≡ true)
       → ((bytes_eq key.items other && eqb v n) ≡ true) ⊎ (has_number es other n ≡ true) → name ≡ other
   only name other n (inl h) (inl g) =
-      sym (same_bytes key.items name (both (bytes_eq key.items name) (eqb v n) h).0) ∙ same_bytes key.items other (both (bytes_eq key.items other) (eqb v n) g).0
-  only name other n (inl h) (inr g) = absurd (fresh other n (both (bytes_eq key.items name) (eqb v n) h).1 g)
-  only name other n (inr h) (inl g) = absurd (fresh name n (both (bytes_eq key.items other) (eqb v n) g).1 h)
+      sym (same_bytes key.items name (and_parts (bytes_eq key.items name) (eqb v n) h).0) ∙ same_bytes key.items other (and_parts (bytes_eq key.items other) (eqb v n) g).0
+  only name other n (inl h) (inr g) = absurd (fresh other n (and_parts (bytes_eq key.items name) (eqb v n) h).1 g)
+  only name other n (inr h) (inl g) = absurd (fresh name n (and_parts (bytes_eq key.items other) (eqb v n) g).1 h)
   only name other n (inr h) (inr g) = are.one_name name other n h g
 
   low : (n : ℕ) (name : List ℕ) → ((bytes_eq key.items name && eqb v n) ≡ true) ⊎ (has_number es name n ≡ true) → n < length (insert_entry name_order es key v)
   low n name (inl h) =
-      let same : v ≡ n = eqb-true v n (both (bytes_eq key.items name) (eqb v n) h).1 in
+      let same : v ≡ n = eqb-true v n (and_parts (bytes_eq key.items name) (eqb v n) h).1 in
       let more = longer es key v lacks in
       omega arith
   low n name (inr h) =

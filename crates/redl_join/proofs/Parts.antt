@@ -8,6 +8,7 @@ use Rattle.std.specs.Ordering.{is_eq, match_ordering, ordering_index, ordering_r
 use Rattle.std.specs.Set.{remove_key}
 use Rattle.std.specs.BTreeSet.{insert_key}
 use Rattle.std.proofs.lemmas.Cmp.{tied_back, alike_right}
+use Rattle.std.proofs.Math.Bool.{or-true}
 
 -- ---- what holds of all
 
@@ -156,10 +157,7 @@ module _ {K : Type 0} {R : K → K → Ordering} (o : IsTotalOrder R) where
   pub has : (xs : List K) (i : ℕ) (e : K) → i < length xs → HoldsAt (λ y. R y e ≡ Equal) xs i → list_any (λ y. is_eq (R e y)) xs ≡ true
   has [] i e within h = absurd (omega arith)
   has (x ∷ xs) zero e within h = rw (tied_back o x e (h e)) refl
-  has (x ∷ xs) (suc i) e within h = rw (has xs i e (omega arith) h) (or_true (is_eq (R e x))) where
-    or_true : (b : Bool) → (b || true) ≡ true
-    or_true true = refl
-    or_true false = refl
+  has (x ∷ xs) (suc i) e within h = rw (has xs i e (omega arith) h) (or-true (is_eq (R e x)))
 
   -- at the place that a search gives, a removal is the one of the element
   pub removes : (xs : List K) (i : ℕ) (e : K) → IsStrictlySortedBy R xs → i < length xs → HoldsAt (λ y. R y e ≡ Equal) xs i → remove xs i ≡ remove_key (λ y. is_eq (R e y)) xs

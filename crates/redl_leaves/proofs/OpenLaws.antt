@@ -1,6 +1,6 @@
 -- Idle nodes are thin siblings, each by itself, and what is read of their text is closed as its tags say.
 use Rattle.std.proofs.Common.{◌≡◌, ◌∙◌, ℕ, List, [], ◌∷◌, ◌++◌, Bool, false, true, ◌&&◌, ◌||◌, if◌then◌else◌, refl, ap, subst}
-use Rattle.std.proofs.lemmas.Bool.{or_from}
+use Rattle.std.proofs.lemmas.Bool.{or_from, and_right}
 use Rattle.redl_tree.specs.Leaves.Containers.{opens, opens_outer, is_control}
 use Rattle.redl_tree.specs.Leaves.Slots.{Slots, Sibling, thin_sibling, thick_sibling, para_sibling, open_sibling, has_mark, sibling, siblings, slots_in}
 use Rattle.redl_tree.specs.Model.Firsts.{first_item}
@@ -15,7 +15,6 @@ use Rattle.redl_tree.specs.declared.kinds.Space.TheVariants.{W}
 use Rattle.redl_tree.specs.declared.laid.First.{First}
 use Rattle.redl_tree.specs.declared.laid.First.TheVariants.{Bytes, Elem}
 use Rattle.redl_tree.proofs.FoldLaws.{always_laid}
-use Rattle.redl_tree.proofs.NameLaws.{and-false}
 use Rattle.redl_tree.proofs.Idle.Tags.{Idle, idle_parts, has-not}
 use Rattle.redl_tree.proofs.Idle.Lists.{names_none, thick_none}
 use Rattle.redl_leaves.specs.Inside.Opens.{IsClosed}
@@ -23,19 +22,16 @@ use Rattle.redl_leaves.specs.Inside.Splits.{thin_siblings}
 
 -- ---- idle elements are no containers
 
-both_false : (a b : Bool) → b ≡ false → (a && b) ≡ false
-both_false a b h = ap (λ c. a && c) h ∙ and-false a
-
 no_outer : (ancestors : List Tag) (tag : Tag) → Idle false tag → opens_outer ancestors tag ≡ false
 no_outer [] tag i = refl
 no_outer (root ∷ []) tag i =
     or_from ((is "document" root && is "body" tag) || (is "footnotes" root && is "footnote" tag) || (is "endnotes" root && is "endnote" tag)) (is "comments" root && is "comment" tag)
     (or_from ((is "document" root && is "body" tag) || (is "footnotes" root && is "footnote" tag)) (is "endnotes" root && is "endnote" tag)
     (or_from (is "document" root && is "body" tag) (is "footnotes" root && is "footnote" tag)
-    (both_false (is "document" root) (is "body" tag) (has-not "body" false tag i refl))
-    (both_false (is "footnotes" root) (is "footnote" tag) (has-not "footnote" false tag i refl)))
-    (both_false (is "endnotes" root) (is "endnote" tag) (has-not "endnote" false tag i refl)))
-    (both_false (is "comments" root) (is "comment" tag) (has-not "comment" false tag i refl))
+    (and_right (is "document" root) (is "body" tag) (has-not "body" false tag i refl))
+    (and_right (is "footnotes" root) (is "footnote" tag) (has-not "footnote" false tag i refl)))
+    (and_right (is "endnotes" root) (is "endnote" tag) (has-not "endnote" false tag i refl)))
+    (and_right (is "comments" root) (is "comment" tag) (has-not "comment" false tag i refl))
 no_outer (root ∷ other ∷ ancestors) tag i = refl
 
 no_wrapper : (tag : Tag) → Idle false tag → is_wrapper tag ≡ false
@@ -50,11 +46,11 @@ never_opens ancestors tag i =
     (or_from (opens_outer ancestors tag || (in_blocks ancestors && (is "tbl" tag || is_wrapper tag)) || (in_rows ancestors && is "tr" tag)) (in_cells ancestors && is "tc" tag)
     (or_from (opens_outer ancestors tag || (in_blocks ancestors && (is "tbl" tag || is_wrapper tag))) (in_rows ancestors && is "tr" tag)
     (or_from (opens_outer ancestors tag) (in_blocks ancestors && (is "tbl" tag || is_wrapper tag)) (no_outer ancestors tag i)
-    (both_false (in_blocks ancestors) (is "tbl" tag || is_wrapper tag) (or_from (is "tbl" tag) (is_wrapper tag) (has-not "tbl" false tag i refl) (no_wrapper tag i))))
-    (both_false (in_rows ancestors) (is "tr" tag) (has-not "tr" false tag i refl)))
-    (both_false (in_cells ancestors) (is "tc" tag) (has-not "tc" false tag i refl)))
+    (and_right (in_blocks ancestors) (is "tbl" tag || is_wrapper tag) (or_from (is "tbl" tag) (is_wrapper tag) (has-not "tbl" false tag i refl) (no_wrapper tag i))))
+    (and_right (in_rows ancestors) (is "tr" tag) (has-not "tr" false tag i refl)))
+    (and_right (in_cells ancestors) (is "tc" tag) (has-not "tc" false tag i refl)))
     (ap (λ b. b && (in_rows ancestors || in_cells ancestors)) (no_wrapper tag i)))
-    (both_false (is_control (place ancestors).reach) (is "sdtContent" tag) (has-not "sdtContent" false tag i refl))
+    (and_right (is_control (place ancestors).reach) (is "sdtContent" tag) (has-not "sdtContent" false tag i refl))
 
 is_thin : (ancestors : List Tag) (tag : Tag) (kids : Nodes) (inner : Slots) → Idle false tag → sibling opens ancestors tag kids inner ≡ thin_sibling (element tag kids no_nodes)
 is_thin ancestors tag kids inner i =

@@ -1,10 +1,11 @@
 -- The invariant of a session with an editor, after entries.
 use Rattle.std.proofs.Common.{◌≡◌, ◌∙◌, sym, ap, subst, ℕ, zero, suc, ◌-◌, ◌<◌, ◌≤◌, true, List, [], None, replicate, set, length, arith}
 use Rattle.std.specs.Prelude.{not}
+use Rattle.std.proofs.lemmas.Bool.{not-true}
 use Rattle.redl_editor.specs.Documents.{Document}
 use Rattle.redl_index.specs.Numbers.{numbered_package}
 use Rattle.redl_index.specs.declared.revision.Revision.{Revision}
-use Rattle.redl_join.proofs.Unions.{book-none, book-union, not_true, without-with}
+use Rattle.redl_join.proofs.Unions.{book-none, book-union, without-with}
 use Rattle.redl_join.specs.Books.{has_entry, union, with_entry, without_entry}
 use Rattle.redl_join.specs.Verdicts.{verdict_at}
 use Rattle.redl_journal.specs.declared.entry.Entry.{Entry}
@@ -57,7 +58,7 @@ live-with old new revisions book later entry say kept some within is said made =
 pub book-back : (book added removed : List Entry) (entry : Entry) → added ≡ with_entry book entry → true ≡ not (has_entry book entry)
     → removed ≡ without_entry added entry → removed ≡ book
 book-back book added removed entry is new gone =
-    gone ∙ ap (λ (b : List Entry). without_entry b entry) is ∙ without-with book entry (not_true (has_entry book entry) new)
+    gone ∙ ap (λ (b : List Entry). without_entry b entry) is ∙ without-with book entry (not-true (has_entry book entry) (sym new))
 
 -- another book, whose verdicts have been set
 pub live-turned : (old new : Document) (revisions : List Revision) (locks : List Lock) (book later entries : List Entry)

@@ -1,8 +1,9 @@
 -- A book of admitted entries says nothing of a revision that a lock holds.
-use Rattle.std.proofs.Common.{◌≡◌, ◌∙◌, refl, ap, sym, ℕ, zero, suc, ◌+◌, ◌-◌, ◌==◌, ◌&&◌, ◌||◌, nat_lt, Bool, true, false, true≢false, List, [], ◌∷◌, All, map, slice_get, length, is_none, Option, Some, None, option_map, unwrap_or, arith, if◌then◌else◌}
+use Rattle.std.proofs.Common.{◌≡◌, ◌∙◌, refl, ap, sym, ℕ, zero, suc, ◌+◌, ◌-◌, ◌&&◌, ◌||◌, nat_lt, Bool, true, false, true≢false, List, [], ◌∷◌, All, map, slice_get, length, is_none, Option, Some, None, option_map, unwrap_or, arith, if◌then◌else◌}
 use Rattle.std.specs.List.{list_any, range_with_len}
 use Rattle.std.proofs.lemmas.List.Elements.{All-head, All-tail}
 use Rattle.std.proofs.lemmas.Map.Views.{All-insert_key}
+use Rattle.std.proofs.lemmas.Bool.{and_left, eqb-true}
 use Rattle.redl_index.specs.declared.revision.Revision.{Revision}
 use Rattle.redl_join.specs.Books.{is_on, with_entry}
 use Rattle.redl_join.specs.Verdicts.{counts, speaks, decides, is_accept, is_reject, verdict_of, verdict_at}
@@ -28,20 +29,16 @@ AreElsewhere rev entries = All (λ (entry : Entry). is_on rev entry ≡ false) e
 
 -- ---- the verdict
 
-none-and : (b c : Bool) → b ≡ false → (b && c) ≡ false
-none-and true c e = absurd (true≢false e)
-none-and false c e = refl
-
 module _ (entries : List Entry) (rev : ℕ) where
   decides-none : (entry : Entry) → is_on rev entry ≡ false → decides entries rev entry ≡ false
   decides-none entry e =
-      none-and (speaks entries rev entry) _ (none-and (counts entries rev entry) _ (none-and (is_on rev entry) _ e))
+      and_left (speaks entries rev entry) _ (and_left (counts entries rev entry) _ (and_left (is_on rev entry) _ e))
 
   any-none : (test : Entry → Bool) (xs : List Entry) → AreElsewhere rev xs → list_any (λ entry. decides entries rev entry && test entry) xs ≡ false
   any-none test [] none = refl
   any-none test (x ∷ xs) none =
       ap (λ b. b || list_any (λ entry. decides entries rev entry && test entry) xs)
-      (none-and (decides entries rev x) (test x) (decides-none x (All-head (λ (entry : Entry). is_on rev entry ≡ false) x xs none)))
+      (and_left (decides entries rev x) (test x) (decides-none x (All-head (λ (entry : Entry). is_on rev entry ≡ false) x xs none)))
       ∙ any-none test xs (All-tail (λ (entry : Entry). is_on rev entry ≡ false) x xs none)
 
   undecided : AreElsewhere rev entries → verdict_at entries rev ≡ Undecided
@@ -68,9 +65,6 @@ kept-elsewhere book count place none =
 
 -- ---- admissions
 
-same : (a b : ℕ) → (a == b) ≡ true → a ≡ b
-same a b e = grind arith
-
 -- a lock that holds the revision bars it
 pub barred : (locks : List Lock) (revision : Revision) → list_any (holds revision) locks ≡ true → (bar : Bar) × (bar_of locks revision ≡ Some bar)
 barred locks revision e =
@@ -86,7 +80,7 @@ module _ (locks : List Lock) (revisions : List Revision) (place : ℕ) (revision
     (is : bar_of locks revision ≡ Some bar) where
   cause-there : (entry : Entry) → is_on (suc place) entry ≡ true → cause_of revisions locks entry ≡ Some (Locked bar)
   cause-there entry e =
-      let there : entry.rev ≡ suc place = same entry.rev (suc place) e in
+      let there : entry.rev ≡ suc place = eqb-true entry.rev (suc place) e in
       let begun : nat_lt 0 (suc place) ≡ true = grind arith in
       let less : suc place - 1 ≡ place = omega arith in
       ap (λ n. cause_on locks (revision_at revisions n)) there

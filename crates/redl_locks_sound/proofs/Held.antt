@@ -2,7 +2,7 @@
 use Rattle.std.proofs.Common.{◌≡◌, ◌∙◌, refl, ap, sym, subst, ℕ, zero, suc, ◌+◌, ◌≤◌, ◌||◌, Bool, true, false, List, [], ◌∷◌, slice_get, Option, Some, None, bytes_eq, arith}
 use Rattle.std.specs.List.{list_any}
 use Rattle.std.proofs.lemmas.List.Elements.{All-nil}
-use Rattle.std.proofs.lemmas.Slice.Eq.{bytes_eq-Decides}
+use Rattle.redl_tree.proofs.SameBytes.{bytes_same}
 use Rattle.redl_index.specs.Revisions.{revisions_of}
 use Rattle.redl_index.specs.declared.revision.Revision.{Revision}
 use Rattle.redl_join.specs.Books.{is_on}
@@ -80,16 +80,13 @@ one-there at (z ∷ xs) (suc k) zero x y rise e f same =
 one-there at (z ∷ xs) (suc k) (suc l) x y rise e f same = one-there (z.own.start + 1) xs k l x y rise.1 e f same
 
 -- a lock on this author is among the locks
-bytes-same : (bs : List ℕ) → bytes_eq bs bs ≡ true
-bytes-same bs = (bytes_eq-Decides bs bs).1 refl
-
 any-holds : (revision : Revision) (name : List ℕ) (locks : List Lock) (k : ℕ) → slice_get locks k ≡ Some (Author name) → revision.author ≡ name
     → list_any (holds revision) locks ≡ true
 any-holds revision name [] k at is = absurd (cc)
 any-holds revision name (lock ∷ locks) zero at is =
     let same : lock ≡ Author name = cc in
     ap (λ l. holds revision l || list_any (holds revision) locks) same
-    ∙ ap (λ b. b || list_any (holds revision) locks) (ap (λ a. bytes_eq a name) is ∙ bytes-same name)
+    ∙ ap (λ b. b || list_any (holds revision) locks) (ap (λ a. bytes_eq a name) is ∙ bytes_same name)
 any-holds revision name (lock ∷ locks) (suc k) at is = by (holds revision lock) (any-holds revision name locks k at is)
   where
     by : (b : Bool) → list_any (holds revision) locks ≡ true → (b || list_any (holds revision) locks) ≡ true

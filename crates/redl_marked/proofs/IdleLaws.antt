@@ -1,5 +1,6 @@
 -- Idle elements show what they show by themselves, and have no sign of a mark.
 use Rattle.std.proofs.Common.{◌≡◌, ◌∙◌, refl, ap, ℕ, List, [], ◌∷◌, ◌++◌, Bool, true, false, ◌&&◌, ◌||◌, not, codes, bytes_eq, if◌then◌else◌}
+use Rattle.std.proofs.Math.Bool.{or-false}
 use Rattle.redl_tree.specs.Model.Nodes.{Tag, Nodes, no_nodes, bytes, element, ◌⊕◌}
 use Rattle.redl_tree.specs.Model.IdleTexts.{idle_nodes}
 use Rattle.redl_tree.specs.Roles.Names.{is, is_any, of_w}
@@ -42,11 +43,7 @@ inside_same : (above : Summary) (in_run : Bool) (tag : Tag) → Idle in_run tag 
 inside_same above in_run tag i =
     ap (λ q. record { quiet = q || above.quiet; text = is_any ("t" ∷ "delText" ∷ []) tag && not above.quiet }) (quiet_same in_run tag i)
     ∙ ap (λ d. record { quiet = is "rPr" (of_w tag.local) || above.quiet; text = (is "t" tag || (d || false)) && not above.quiet }) (has-not "delText" in_run tag i refl)
-    ∙ ap (λ t. record { quiet = is "rPr" (of_w tag.local) || above.quiet; text = t && not above.quiet }) (or_none (is "t" tag) ∙ name_same in_run tag i (codes "t"))
-  where
-    or_none : (b : Bool) → (b || false) ≡ b
-    or_none true = refl
-    or_none false = refl
+    ∙ ap (λ t. record { quiet = is "rPr" (of_w tag.local) || above.quiet; text = t && not above.quiet }) (or-false (is "t" tag) ∙ name_same in_run tag i (codes "t"))
 
 -- ---- nodes
 

@@ -6,7 +6,7 @@ use Rattle.std.specs.Cmp.{IsTotalOrder, IsEquivalence, eq_by_cmp_equiv}
 use Rattle.std.specs.Cmp.Lexicographic.{slice_cmp}
 use Rattle.std.specs.Ordering.{eq_by_cmp, is_eq, ordering_then, nat_cmp}
 use Rattle.std.specs.BTreeSet.{BTreeSet, btree_set_len, IsFromIterResult}
-use Rattle.std.proofs.lemmas.Bool.{eqb-true, and_parts, and_from, not-true}
+use Rattle.std.proofs.lemmas.Bool.{eqb-true, and_parts, and_from, not-true, eq-eqb}
 use Rattle.std.proofs.lemmas.Bool.Decides.{nat_tests, same_from_decides}
 use Rattle.std.proofs.lemmas.Map.Made.{IsDistinct-from_count, distinct_count-from_IsDistinct}
 use Rattle.std.proofs.lemmas.Map.Views.{btree_set_len-from_list}
@@ -16,7 +16,6 @@ use Rattle.redl_markup.specs.contracts.name.NameOrd.TheImpl.Laws as laws
 use Rattle.redl_markup.specs.declared.name.Name as code
 use Rattle.redl_markup.specs.Names.{name_eq, are_distinct}
 use Rattle.redl_markup.specs.Views.{name_view}
-use Rattle.redl_reading.proofs.Words.{eqb_same}
 
 abbrev pub compare : code.Name → code.Name → Ordering
 compare = (order.cmp-value).it
@@ -70,7 +69,7 @@ distinct_from_test (x ∷ xs) h =
     (unlike_from_test x xs both.0, distinct_from_test xs both.1)
 
 equal_is : (m n : ℕ) → m ≡ n → eqb m n ≡ true
-equal_is m n e = rw e (eqb_same n)
+equal_is m n e = rw e (eq-eqb n n refl)
 
 pub count_test : (xs : List code.Name) (set : BTreeSet code.Name) → IsFromIterResult compare xs set → eqb (btree_set_len set) (length xs) ≡ are_distinct (map name_view xs)
 count_test xs set made =

@@ -5,7 +5,7 @@ use Rattle.std.specs.List.{list_all, AllByRecursion}
 use Rattle.std.proofs.lemmas.Bool.Decides.{nat_tests}
 use Rattle.std.proofs.lemmas.Bool.{eqb-true, and_parts, cases_Bool}
 use Rattle.std.proofs.lemmas.List.{append-nil}
-use Rattle.std.proofs.lemmas.Option.{same_Some, cond_some}
+use Rattle.std.proofs.lemmas.Option.{same_Some, cond_some, none-some}
 use Rattle.redl_markup.specs.Characters.{is_space}
 use Rattle.redl_reading.specs.Lists.{behind, front, after, is_filled, is_other, field_at}
 use Rattle.redl_reading.specs.Steps.{◌>>=◌, done, next, turn, turns}
@@ -179,10 +179,8 @@ first_takes bs x e =
       | inl filled ↦
           let t = attribute_takes (front is_space bs) (after is_space bs) x (is_filled-some (front is_space bs) filled) (front_passes is_space bs) (rw filled at e) in
           (t.0, sym (front-after is_space bs) ∙ t.1, t.2, t.3)
-      | inr lacks ↦ absurd (none_some x (rw lacks at e))
-    ] where
-      none_some : (x : (Name × List ℕ) × List ℕ) → None ≡ Some x → ⊥
-      none_some x e = cc
+      | inr lacks ↦ absurd (none-some x (rw lacks at e))
+    ]
 
 pub first_again : (a : Attribute) (rest : List ℕ) → IsAttribute a → attribute_in (attribute_then a rest) ≡ Some (named_value a, rest)
 unfolding attribute_in
@@ -260,9 +258,6 @@ reads_more s x a e r =
       end = r.end;
     }
 
-none_some : (x : Tail) → None ≡ Some x → ⊥
-none_some x e = cc
-
 pub tail_takes_turns : (n : ℕ) (s x : Tail) → turns tail_step n s ≡ Some x → Reads s x
 tail_takes_turns zero s x e = absurd cc
 tail_takes_turns (suc n) s x e =
@@ -271,7 +266,7 @@ tail_takes_turns (suc n) s x e =
       | inr other ↦ by_attribute n s x other (attribute_in s.1) refl e (tail_takes_turns n)
     ] where
       by_attribute : (n : ℕ) (s x : Tail) → ends_tag (after is_space s.1) ≡ false → (o : Option ((Name × List ℕ) × List ℕ)) → attribute_in s.1 ≡ o → turn (tail_step s) (turns tail_step n) ≡ Some x → ((t y : Tail) → turns tail_step n t ≡ Some y → Reads t y) → Reads s x
-      by_attribute n s x other None g e more = absurd (none_some x (rw (step_fails s other g) at e))
+      by_attribute n s x other None g e more = absurd (none-some x (rw (step_fails s other g) at e))
       by_attribute n s x other (Some a) g e more = reads_more s x a g (more (s.0 ++ a.0.0 ∷ [], a.1) x (rw (step_goes s a other g) at e))
 
 pub tail_again_turns : (attrs : List Attribute) (n : ℕ) (names : List Name) (space rest : List ℕ) → length attrs < n → AllByRecursion IsAttribute attrs → IsSpace space → ends_tag rest ≡ true

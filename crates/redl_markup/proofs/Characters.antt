@@ -1,5 +1,5 @@
 -- The test of a whole text.
-use Rattle.std.proofs.Common.{◌≡◌, ◌≢◌, ℕ, ◌<◌, ◌≤◌, ◌+◌, ◌/◌, ◌%◌, Bool, true, false, ltb, eqb, List, [], ◌∷◌, ◌++◌, refl, sym, ap, ◌∙◌, arith, IsTrue, ◌⊎◌, inl, inr}
+use Rattle.std.proofs.Common.{◌≡◌, ◌≢◌, ℕ, ◌<◌, ◌≤◌, ◌+◌, ◌/◌, ◌%◌, Bool, true, false, ltb, eqb, List, [], ◌∷◌, refl, sym, ap, ◌∙◌, arith, IsTrue, ◌⊎◌, inl, inr}
 use Rattle.std.specs.Prelude.{encode_utf8}
 use Rattle.std.proofs.lemmas.Bool.{ltb-true, ltb-false, eqb-false, and_parts, and_from, cases_Bool}
 use Rattle.std.specs.List.{list_all}
@@ -7,6 +7,7 @@ use Rattle.std.specs.Str.{IsUtf8, chars, encode_utf8_all}
 use Rattle.std.proofs.lemmas.Bool.Decides.{nat_tests}
 use Rattle.std.proofs.lemmas.Str.{chars-encodes, encodes-chars}
 use lib.Utf8.{scalar, scalars, encode}
+use Rattle.redl_reading.proofs.Runs.{passes-parts}
 use Rattle.redl_markup.specs.Characters.{is_character, is_plain_byte, IsText}
 
 pub character_scalar : (c : ℕ) → is_character c ≡ true → scalar c ≡ true
@@ -67,18 +68,11 @@ plain_char c s h =
         | inr h ↦ absurd (other (let low = ltb-false c 61440 h in omega (arith, low, lt)))
       ]
 
-all_append : (p : ℕ → Bool) (xs ys : List ℕ) → list_all p (xs ++ ys) ≡ true → (list_all p xs ≡ true) × (list_all p ys ≡ true)
-all_append p [] ys h = (refl, h)
-all_append p (x ∷ xs) ys h =
-    let both = and_parts (p x) (list_all p (xs ++ ys)) h in
-    let more = all_append p xs ys both.1 in
-    (and_from _ _ both.0 more.0, more.1)
-
 plain_chars : (cs : List ℕ) → scalars cs ≡ true → list_all is_plain_byte (encode_utf8_all cs) ≡ true → list_all is_character cs ≡ true
 plain_chars [] s h = refl
 plain_chars (c ∷ cs) s h =
     let are = and_parts (scalar c) (scalars cs) s in
-    let parts = all_append is_plain_byte (encode_utf8 c) (encode_utf8_all cs) h in
+    let parts = passes-parts is_plain_byte (encode_utf8 c) (encode_utf8_all cs) h in
     and_from _ _ (plain_char c are.0 parts.0) (plain_chars cs are.1 parts.1)
 
 pub plain_text : (bs : List ℕ) → IsUtf8 bs → list_all is_plain_byte bs ≡ true → IsText bs

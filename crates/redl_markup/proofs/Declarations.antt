@@ -1,10 +1,10 @@
 -- The head of a text is read exactly if the bytes begin with it.
 use Rattle.std.proofs.Common.{◌≡◌, ℕ, Bool, true, false, cond, eqb, List, [], ◌∷◌, ◌++◌, Option, Some, None, refl, sym, ap, ◌∙◌, append_assoc, arith, inl, inr}
-use Rattle.std.specs.Prelude.{not, ◌||◌, codes}
+use Rattle.std.specs.Prelude.{not, codes}
 use Rattle.std.specs.List.{list_all, AllByRecursion}
-use Rattle.std.proofs.lemmas.Bool.{eqb-true, and_parts, cases_Bool, not-true}
+use Rattle.std.proofs.lemmas.Bool.{eqb-true, and_parts, cases_Bool, not-true, or_parts}
 use Rattle.std.proofs.lemmas.Bool.Decides.{nat_tests}
-use Rattle.std.proofs.lemmas.Option.{same_Some, cond_some, some_pair_parts}
+use Rattle.std.proofs.lemmas.Option.{same_Some, cond_some, some_pair_parts, none-some}
 use lib.Utf8.{encode}
 use Rattle.redl_markup.specs.declared.place.Place.{Place}
 use Rattle.redl_markup.specs.declared.place.Place.TheVariants.{BeforeRoot, InElement, AfterRoot}
@@ -37,11 +37,8 @@ unfolding setting_at
 setting_takes word bs x e =
     elim (cases_Bool (is_filled (front is_space bs))) [
       | inl filled ↦ of x filled (rw filled at e)
-      | inr lacks ↦ absurd (none_some x (rw lacks at e))
+      | inr lacks ↦ absurd (none-some x (rw lacks at e))
     ] where
-      none_some : (x : List ℕ × List ℕ) → None ≡ Some x → ⊥
-      none_some x e = cc
-
       of : (x : List ℕ × List ℕ) → is_filled (front is_space bs) ≡ true → (behind word (after is_space bs) >>= equated_at) ≡ Some x → Sets word bs x.0 x.1
       of x filled e =
           let m = bind_some (behind word (after is_space bs)) equated_at x e in
@@ -228,10 +225,6 @@ item_no_head (comment text) rest h = record { no_mark = refl; no_declaration = n
 item_no_head (instruction name text) rest h = record { no_mark = refl; no_declaration = instruction_no_declaration name text rest h }
 item_no_head (cdata text) rest h = record { no_mark = refl; no_declaration = none_declared (item_then (cdata text) rest) refl }
 
-or-right : (s t : Bool) → (s || t) ≡ false → t ≡ false
-or-right true t e = absurd cc
-or-right false t e = e
-
 rest_no_head : (rest : List ℕ) → ends_stretch rest ≡ true → NoHead rest
 rest_no_head [] end = record { no_mark = refl; no_declaration = none_declared [] refl }
 rest_no_head (b ∷ rest) end =
@@ -240,7 +233,7 @@ rest_no_head (b ∷ rest) end =
     let no_mark : eqb b 239 ≡ false = ap (λ (n : ℕ). eqb n 239) (eqb-true b 60 both.0) in
     record {
       no_mark = rw no_mark refl;
-      no_declaration = none_declared (b ∷ rest) (behind_longer (codes "<?") (codes "xml") (b ∷ rest) (or-right (begins (codes "<!") (b ∷ rest)) (begins (codes "<?") (b ∷ rest)) no_item));
+      no_declaration = none_declared (b ∷ rest) (behind_longer (codes "<?") (codes "xml") (b ∷ rest) ((or_parts (begins (codes "<!") (b ∷ rest)) (begins (codes "<?") (b ∷ rest)) no_item).1));
     }
 
 pub content_no_head : (first : List ℕ) (more : List (Item × List ℕ)) (rest : List ℕ) → IsRun BeforeRoot first → AllByRecursion (λ i. IsItem BeforeRoot i.0 × IsRun BeforeRoot i.1) more → ends_stretch rest ≡ true → NoHead (first ++ items_then more rest)

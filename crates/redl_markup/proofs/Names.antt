@@ -1,6 +1,6 @@
 -- A name is read exactly if the bytes begin with it.
 use Rattle.std.proofs.Common.{◌≡◌, ℕ, zero, suc, nat_le, slice_get, ◌<◌, ◌≤◌, ◌+◌, ◌/◌, ◌%◌, Bool, true, false, cond, ltb, eqb, List, [], ◌∷◌, ◌++◌, length, drop, Option, Some, None, refl, sym, ap, subst, ◌∙◌, append_assoc, length-append, arith, inl, inr, ◌⊎◌}
-use Rattle.std.specs.Prelude.{◌&&◌, ◌||◌, not, codes, encode_utf8}
+use Rattle.std.specs.Prelude.{◌||◌, not, codes, encode_utf8}
 use Rattle.std.specs.List.{list_all}
 use Rattle.std.specs.Str.{encode_utf8_all, all_scalars}
 use Rattle.std.specs.Char.{IsScalar, is_ascii, is_ascii_alphabetic}
@@ -9,6 +9,7 @@ use Rattle.std.proofs.lemmas.Bool.Decides.{nat_tests}
 use Rattle.std.proofs.lemmas.Option.{same_Some, cond_some}
 use Rattle.std.proofs.lemmas.List.{drop_at}
 use Rattle.std.proofs.lemmas.Str.{encode_ascii}
+use Rattle.std.proofs.Math.Bool.{and-false}
 use lib.Utf8.{scalar, encode, low_scalar}
 use Rattle.bstr.specs.Utf8.{decoded}
 use Rattle.bstr.proofs.lemmas.SoundLemmas.{SpellsChar-decoded}
@@ -119,10 +120,7 @@ stops_name colons (b ∷ rest) h = let low = delimiter_low b h in stops_ascii co
 
 stops_colon : (rest : List ℕ) → Stops false (58 ∷ rest)
 unfolding may_follow
-stops_colon rest = stops_ascii false 58 rest (omega arith) (false-right (is_name_character 58)) where
-  false-right : (t : Bool) → (t && false) ≡ false
-  false-right true = refl
-  false-right false = refl
+stops_colon rest = stops_ascii false 58 rest (omega arith) (and-false (is_name_character 58))
 
 no_colon : (rest : List ℕ) → ends_name rest ≡ true → behind (codes ":") rest ≡ None
 no_colon [] h = refl

@@ -1,11 +1,11 @@
 -- The number that digits write, counted up to a bound.
 use Rattle.std.proofs.Common.{◌≡◌, ℕ, ◌+◌, ◌*◌, ◌<◌, ◌≤◌, List, [], ◌∷◌, min, refl, sym, ◌∙◌, arith, inl, inr}
 use Rattle.std.specs.Int.Digits.{number_from_digits_after}
-use Rattle.std.proofs.Common.{Bool, true, false, None, subst}
-use Rattle.std.specs.Prelude.{◌&&◌}
+use Rattle.std.proofs.Common.{None, subst}
 use Rattle.std.specs.Char.{IsScalar, digit_value}
 use Rattle.std.specs.Prelude.{map}
 use Rattle.std.proofs.lemmas.Bool.{cases_lt, cases_Bool}
+use Rattle.std.proofs.Math.Bool.{and-false}
 use lib.Utf8.{scalar_cases}
 use Rattle.redl_markup.specs.declared.reference.TheConstants.{BEYOND}
 use Rattle.redl_markup.specs.Characters.{is_character}
@@ -46,7 +46,4 @@ number_refused base n bs digits e f other =
           let same : n ≡ v = f ∙ rw e (omega arith) in
           absurd (other (let P : ℕ → Type 0 = λ m. IsScalar m in subst P (sym same) (character_scalar v character)))
       | inr none ↦ rw (none, and-false (is_filled (front (is_digit_in base) bs))) refl
-    ] where
-      and-false : (t : Bool) → (t && false) ≡ false
-      and-false true = refl
-      and-false false = refl
+    ]

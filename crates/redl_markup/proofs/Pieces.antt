@@ -4,7 +4,7 @@ use Rattle.std.specs.Prelude.{not, ◌&&◌, ◌||◌, codes, IfOk, IsErrOf}
 use Rattle.std.specs.List.{list_all}
 use Rattle.std.proofs.lemmas.Bool.Decides.{nat_tests}
 use Rattle.std.proofs.lemmas.Bool.{eqb-true, and_parts, cases_Bool, not-true}
-use Rattle.std.proofs.lemmas.Option.{some_pair_parts}
+use Rattle.std.proofs.lemmas.Option.{some_pair_parts, none-some}
 use Rattle.redl_markup.specs.declared.error.MarkupError.{MarkupError}
 use Rattle.redl_markup.specs.declared.error.MarkupError.TheVariants.{Unreadable, NoMemory}
 use Rattle.redl_markup.specs.declared.place.Place.{Place}
@@ -155,9 +155,6 @@ end_ends_stretch rest = refl
 
 -- ---- what the code answers
 
-none_some : (x : Piece × List ℕ) → None ≡ Some x → ⊥
-none_some x e = cc
-
 pub is_found : {X : Type 0} (view : X → Piece × List ℕ) (place : Place) (bs : List ℕ) (r : Result X MarkupError) → Finds view r (piece_at place bs) → IfOk r (λ x. Stands place bs (view x).0 (view x).1)
 is_found view place bs (Ok x) e = piece_takes place bs (view x) e
 is_found view place bs (Err f) e = tt
@@ -165,4 +162,4 @@ is_found view place bs (Err f) e = tt
 pub is_unreadable : {X : Type 0} (view : X → Piece × List ℕ) (place : Place) (bs : List ℕ) (r : Result X MarkupError) → Finds view r (piece_at place bs) → IsErrOf r Unreadable → HasNoPiece place bs
 is_unreadable view place bs (Ok x) e h p rest stands = absurd cc
 is_unreadable view place bs (Err NoMemory) e h p rest stands = absurd cc
-is_unreadable view place bs (Err Unreadable) e h p rest stands = none_some (p, rest) (sym e ∙ stands_is_read place bs p rest stands)
+is_unreadable view place bs (Err Unreadable) e h p rest stands = none-some (p, rest) (sym e ∙ stands_is_read place bs p rest stands)

@@ -2,7 +2,7 @@
 use Rattle.std.proofs.Common.{◌≡◌, ◌≢◌, ℕ, zero, suc, ◌<◌, ◌≤◌, Bool, true, false, cond, eqb, List, [], ◌∷◌, ◌++◌, length, Option, Some, None, refl, sym, ap, ◌∙◌, append_assoc, length-append, arith, inl, inr}
 use Rattle.std.specs.Prelude.{not}
 use Rattle.std.specs.List.{AllByRecursion}
-use Rattle.std.proofs.lemmas.Option.{same_Some, cond_some}
+use Rattle.std.proofs.lemmas.Option.{same_Some, cond_some, none-some}
 use Rattle.redl_markup.specs.declared.place.Place.{Place}
 use Rattle.redl_markup.specs.declared.place.Place.TheVariants.{BeforeRoot, InElement, AfterRoot}
 use Rattle.redl_reading.specs.Lists.{front, after, before, is_filled, is_other}
@@ -96,9 +96,6 @@ reads_more place bs next_bs rest r e reads =
       end = reads.end;
     }
 
-none_some : {A : Type 0} (x : A) → None ≡ Some x → ⊥
-none_some x e = cc
-
 take_turns : (place : Place) (n : ℕ) (bs rest : List ℕ) → turns (stretch_step place) n bs ≡ Some rest → Reads place bs rest
 take_turns place zero bs rest e = absurd cc
 take_turns place (suc n) bs rest e =
@@ -107,10 +104,10 @@ take_turns place (suc n) bs rest e =
         | inl begun ↦ by_item n bs rest r begun (item_at place (after no_tag bs)) refl e (take_turns place n)
         | inr lacks ↦ reads_end place bs rest r lacks (same_Some (after no_tag bs) rest (rw (step_ends place bs r lacks) at e))
       ]
-      | inr r ↦ absurd (none_some rest (rw (step_refuses place bs r) at e))
+      | inr r ↦ absurd (none-some rest (rw (step_refuses place bs r) at e))
     ] where
       by_item : (n : ℕ) (bs rest : List ℕ) → is_run place (front no_tag bs) ≡ true → begins_item (after no_tag bs) ≡ true → (o : Option (List ℕ)) → item_at place (after no_tag bs) ≡ o → turn (stretch_step place bs) (turns (stretch_step place) n) ≡ Some rest → ((b y : List ℕ) → turns (stretch_step place) n b ≡ Some y → Reads place b y) → Reads place bs rest
-      by_item n bs rest r begun None i e go = absurd (none_some rest (rw (step_fails place bs r begun i) at e))
+      by_item n bs rest r begun None i e go = absurd (none-some rest (rw (step_fails place bs r begun i) at e))
       by_item n bs rest r begun (Some next_bs) i e go = reads_more place bs next_bs rest r i (go next_bs rest (rw (step_goes place bs next_bs r begun i) at e))
 
 again_turns : (place : Place) (more : List (Item × List ℕ)) (n : ℕ) (first rest : List ℕ) → length more < n → IsRun place first → AllByRecursion (λ i. IsItem place i.0 × IsRun place i.1) more → ends_stretch rest ≡ true

@@ -2,10 +2,10 @@
 use Rattle.std.proofs.Common.{◌≡◌, ◌∙◌, refl, ap, sym, subst, cond, ℕ, ◌+◌, ◌≤◌, ◌<◌, ◌⊎◌, inl, inr, List, [], ◌∷◌, Bool, true, false, true≢false, ◌&&◌, nat_lt, bytes_eq, Option, Some, None, option_and_then, filter, filter_map, arith, if◌then◌else◌}
 use Rattle.std.specs.List.{cons_option}
 use Rattle.std.specs.Prelude.{not}
-use Rattle.std.proofs.lemmas.Slice.Eq.{bytes_eq-Decides}
+use Rattle.std.proofs.lemmas.Bool.{and_from}
+use Rattle.std.specs.Cmp.{first_so, second_so}
 use Rattle.redl_tree.specs.Revisions.Moves.{Edge, from_start, from_end, to_start, to_end, Marking, Range, Pair, same_edge, has_name, only_one, with_name, with_id, range_from, range_with_id, range_with_name, pair_with_name, pair_of, pairs, is_open_at, later, latest, pair_at}
-use Rattle.redl_tree.proofs.NameLaws.{and-left, and-right}
-use Rattle.redl_tree.proofs.SameBytes.{same_bytes}
+use Rattle.redl_tree.proofs.SameBytes.{same_bytes, bytes_same}
 use Rattle.redl_moves.specs.Marks.{RisesFrom}
 use Rattle.redl_moves.specs.Opens.{start_of, or_this, find_last}
 use Rattle.redl_moves.specs.Standing.{range_on, pair_begun, pair_open}
@@ -196,12 +196,6 @@ range_from-start (Some start) (Some end) range e = by (nat_lt start.at end.at &&
     by true e = let is : record { start = start; end = end } ≡ range = cc in ap (λ (r : Range). Some r.start) is
     by false e = absurd (cc)
 
-bytes-own : (xs : List ℕ) → bytes_eq xs xs ≡ true
-bytes-own xs = (bytes_eq-Decides xs xs).1 refl
-
-both-true : (a b : Bool) → a ≡ true → b ≡ true → (a && b) ≡ true
-both-true a b p q = ap (λ x. x && b) p ∙ q
-
 rises-in : (from : ℕ) (ms : List Marking) (m : Marking) → RisesFrom from ms → In m ms → from ≤ m.at
 rises-in from [] m r i = absurd i
 rises-in from (x ∷ ms) m r (inl is) = omega (arith, r.0, ap (λ (y : Marking). y.at) is)
@@ -215,7 +209,7 @@ module _ (marks : List Marking) where
       let start = range_from-start (only_one (with_id s m.id marks)) (only_one (with_id e m.id marks)) range named.2 in
       let has = filter-in (λ x. same_edge x.edge s && has_name name x.name) marks m (only-in (with_name s name marks) m named.1) in
       let there = in-filter (λ x. same_edge x.edge s && bytes_eq x.id m.id) marks m has.0
-      (both-true (same_edge m.edge s) (bytes_eq m.id m.id) (and-left (same_edge m.edge s) (has_name name m.name) has.1) (bytes-own m.id)) in
+      (and_from (same_edge m.edge s) (bytes_eq m.id m.id) (first_so (same_edge m.edge s) (has_name name m.name) has.1) (bytes_same m.id)) in
       named.1 ∙ ap Some (only-all (with_id s m.id marks) range.start m start there)
 
   range_of-start : (side : Side) (name : List ℕ) (pair : Pair) → pair_with_name marks name ≡ Some pair →
@@ -249,14 +243,14 @@ module _ (marks : List Marking) where
       let st = (range_on side pair).start in
       let edge = start_of side in
       let has = filter-in (λ x. same_edge x.edge edge && has_name name x.name) marks st (only-in (with_name edge name marks) st (range_of-start side name pair e)) in
-      (has.0, begun-again edge st name pair (and-left (same_edge st.edge edge) (has_name name st.name) has.1) (and-right (same_edge st.edge edge) (has_name name st.name) has.1) e)
+      (has.0, begun-again edge st name pair (first_so (same_edge st.edge edge) (has_name name st.name) has.1) (second_so (same_edge st.edge edge) (has_name name st.name) has.1) e)
 
   start-is : (side : Side) (m : Marking) (pair : Pair) → In m marks → pair_begun (start_of side) marks m ≡ Some pair → m ≡ (range_on side pair).start
   start-is side m pair i e =
       let edge = start_of side in
       let n = named edge m pair e in
       let there = in-filter (λ x. same_edge x.edge edge && has_name n.0 x.name) marks m i
-      (both-true (same_edge m.edge edge) (has_name n.0 m.name) n.1 (ap (has_name n.0) n.2 ∙ bytes-own n.0)) in
+      (and_from (same_edge m.edge edge) (has_name n.0 m.name) n.1 (ap (has_name n.0) n.2 ∙ bytes_same n.0)) in
       only-all (with_name edge n.0 marks) (range_on side pair).start m (range_of-start side n.0 pair n.3) there
 
   rising : (side : Side) (f : Marking → Bool) (from : ℕ) (ms : List Marking) → RisesFrom from ms → ((m : Marking) → In m ms → In m marks) →
@@ -304,8 +298,8 @@ module _ (marks : List Marking) where
       let name = named from_start own.0 x own.2 in
       let start = start-again side name.0 x name.3 in (
         in-map (pair_begun edge marks) (filter before marks) (range_of x).start x
-            (in-filter before marks (range_of x).start start.0 (and-left (nat_lt (range_of x).start.at at) (nat_lt at (range_of x).end.at) has.1)) start.1,
-        and-right (nat_lt (range_of x).start.at at) (nat_lt at (range_of x).end.at) has.1,
+            (in-filter before marks (range_of x).start start.0 (first_so (nat_lt (range_of x).start.at at) (nat_lt at (range_of x).end.at) has.1)) start.1,
+        second_so (nat_lt (range_of x).start.at at) (nat_lt at (range_of x).end.at) has.1,
       ))
       (λ y i t.
       let own = map-in (pair_begun edge marks) (filter before marks) y i in
@@ -313,5 +307,5 @@ module _ (marks : List Marking) where
       let name = named edge own.0 y own.2 in
       let source = start-again Source name.0 y name.3 in
       in-filter opened (pairs marks) y (in-map (pair_of marks) marks y.source.start y source.0 source.1)
-      (both-true (nat_lt (range_of y).start.at at) (nat_lt at (range_of y).end.at)
+      (and_from (nat_lt (range_of y).start.at at) (nat_lt at (range_of y).end.at)
       (sym (ap before (start-is side own.0 y there.0 own.2)) ∙ there.1) t))

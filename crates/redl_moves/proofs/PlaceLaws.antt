@@ -1,6 +1,7 @@
 -- Paired moves by places are those of the definitions.
 use Rattle.std.specs.List.{cons_option}
 use Rattle.std.proofs.Common.{◌≡◌, ◌∙◌, refl, ap, sym, cond, ℕ, zero, suc, ◌+◌, ◌≤◌, ◌<◌, ◌==◌, List, [], ◌∷◌, Bool, true, false, Option, Some, None, option_map, option_and_then, slice_get, filter, filter_map, map, arith, if◌then◌else◌}
+use Rattle.std.proofs.lemmas.Bool.{eq-eqb}
 use Rattle.redl_tree.specs.Revisions.Moves.{Edge, from_start, from_end, to_start, to_end, Marking, Range, same_edge, only_one, with_name, with_id, range_from, range_with_id, range_with_name, pair_from, pair_with_name, pair_of, place_of, by_places, paired_moves}
 use Rattle.redl_moves.specs.Marks.{RisesFrom}
 use Rattle.redl_moves.specs.Keys.{has_key}
@@ -66,9 +67,6 @@ only_one-place test marks =
 
 -- ---- positions that rise
 
-same_at : (n : ℕ) → (n == n) ≡ true
-same_at n = grind arith
-
 other_at : (m n : ℕ) → m < n → (m == n) ≡ false
 other_at m n h = grind arith
 
@@ -82,7 +80,7 @@ place-at at [] i mark rises e = absurd (cc)
 place-at at (own ∷ marks) zero mark rises e =
     let is : own ≡ mark = cc in (
       omega (arith, rises.0, ap (λ (m : Marking). m.at) is),
-      ap (λ (m : Marking). place_of (own ∷ marks) m.at) (sym is) ∙ ap (λ b. if b then 0 else 1 + place_of marks own.at) (same_at own.at),
+      ap (λ (m : Marking). place_of (own ∷ marks) m.at) (sym is) ∙ ap (λ b. if b then 0 else 1 + place_of marks own.at) (eq-eqb own.at own.at refl),
     )
 place-at at (own ∷ marks) (suc i) mark rises e =
     let later = place-at (own.at + 1) marks i mark rises.1 e in (

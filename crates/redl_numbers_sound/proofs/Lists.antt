@@ -17,10 +17,6 @@ placed-at (y ∷ xs) x (suc k) within at = placed-at xs x k (omega (arith, withi
 pub placed : {X : Type 0} (xs : List X) (x : X) → Contains xs x → IsPlaced xs x
 placed xs x c = (c.0, placed-at xs x c.0 c.1 c.2)
 
--- what two options hold is the same
-pub some-same : {X : Type 0} (x y : X) → Some x ≡ Some y → x ≡ y
-some-same x y e = cc
-
 -- behind a list stands the first of what follows
 pub at-end : {X : Type 0} (xs ys : List X) (x : X) → slice_get (xs ++ x ∷ ys) (length xs) ≡ Some x
 at-end [] ys x = refl

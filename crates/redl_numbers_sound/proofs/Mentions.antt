@@ -1,6 +1,7 @@
 -- The mention that an element makes, and the attributes at the start of a move's source.
 use Rattle.std.proofs.Common.{◌≡◌, ◌∙◌, refl, sym, subst, ℕ, suc, ◌+◌, ◌<◌, ◌==◌, List, [], ◌∷◌, Bool, true, false, filter_map, length, get_or, Option, Some, None, option_map, arith, if◌then◌else◌}
 use Rattle.std.specs.List.{cons_option}
+use Rattle.std.proofs.lemmas.Bool.{eqb-true}
 use Rattle.redl_tree.specs.Model.Seen.{Seen}
 use Rattle.redl_tree.specs.Revisions.Markers.{marker_of}
 use Rattle.redl_tree.specs.Revisions.Moves.{Marking, Pair, place_of}
@@ -81,9 +82,6 @@ pub record Tail (xs : List Seen) (position : ℕ) (attributes : List ℕ) : Type
   pub start : element.own.start ≡ position
   pub tail : attributes ≡ element.own.tag.tail
 
-same : (a b : ℕ) → (a == b) ≡ true → a ≡ b
-same a b e = grind arith
-
 one-more : (x : Seen) (xs : List Seen) (position : ℕ) (tail : List ℕ) → Tail xs position tail → Tail (x ∷ xs) position tail
 one-more x xs position tail t = record { element = t.element; among = (suc t.among.0, t.among.1); start = t.start; tail = t.tail }
 
@@ -109,7 +107,7 @@ tail-at (x ∷ xs) position within = by (marker_of attribute_value x) refl withi
         at : (b : Bool) → (mark.at == position) ≡ b → (if b then 0 else 1 + place_of (marks_in xs) position) < suc (length (marks_in xs))
             → Tail (x ∷ xs) position (get_or (x.own.tag.tail ∷ tails_in xs) (if b then 0 else 1 + place_of (marks_in xs) position) [])
         at true e within =
-            record { element = x; among = (0, refl); start = sym (marker-at attribute_value x mark is) ∙ same mark.at position e; tail = refl }
+            record { element = x; among = (0, refl); start = sym (marker-at attribute_value x mark is) ∙ eqb-true mark.at position e; tail = refl }
         at false e within =
             let next : 1 + place_of (marks_in xs) position ≡ suc (place_of (marks_in xs) position) = omega arith in
             let P : ℕ → Type 0 = λ n. Tail (x ∷ xs) position (get_or (x.own.tag.tail ∷ tails_in xs) n []) in

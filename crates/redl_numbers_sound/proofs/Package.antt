@@ -1,7 +1,7 @@
 -- The numbers in a package that is numbered already, a part after the other.
 use Rattle.std.proofs.Common.{◌≡◌, ◌∙◌, ◌⊎◌, inl, inr, refl, ap, sym, subst, ℕ, zero, suc, ◌+◌, ◌-◌, ◌<◌, ◌≤◌, nat_lt, Bool, true, false, List, [], ◌∷◌, ◌++◌, map, filter_map, length, slice_get, Option, Some, None, option_and_then, append_assoc, length-append, arith}
 use Rattle.std.specs.List.{cons_option}
-use Rattle.std.proofs.lemmas.Option.{slice_get_within}
+use Rattle.std.proofs.lemmas.Option.{slice_get_within, same_Some}
 use Rattle.redl_tree.specs.Decisions.Packages.{stories, changed_stories}
 use Rattle.redl_tree.specs.Model.Nodes.{Nodes, no_nodes}
 use Rattle.redl_tree.specs.Model.Seen.{Seen, seen}
@@ -20,7 +20,7 @@ use Rattle.redl_index.specs.declared.revision.Revision.{Revision}
 use Rattle.redl_index.proofs.AgainLaws.{revisions-numbered}
 use Rattle.redl_index.proofs.RevisionLaws.{length-numbered, numbered-append, length-in}
 use Rattle.redl_numbers_sound.specs.Names.{Names, HasNumber, StandsBefore, NumbersNameIn, NumbersName}
-use Rattle.redl_numbers_sound.proofs.Lists.{IsPlaced, contains, placed, some-same, at-left, at-right, there-is}
+use Rattle.redl_numbers_sound.proofs.Lists.{IsPlaced, contains, placed, at-left, at-right, there-is}
 use Rattle.redl_numbers_sound.proofs.Story.{IsNone, IsNamed, story-named, story-each}
 
 lt-true : (a b : ℕ) → nat_lt a b ≡ true → a < b
@@ -287,7 +287,7 @@ module _ (nodes : Nodes) (shape : refusal nodes ≡ None) (is : numbered_package
             by true in_front =
                 let there = there-is has.front lower (lt-true lower (length has.front) in_front) in
                 let at_front : slice_get (revisions_of nodes) lower ≡ Some there.0 = ap (λ l. slice_get l lower) has.splits ∙ at-left has.front (here ++ has.back) lower there.0 there.1 in
-                let same = some-same there.0 revision (sym at_front ∙ at) in
+                let same = same_Some there.0 revision (sym at_front ∙ at) in
                 let lower_part = below-at part has.front lower there.0 has.apart there.1 in
                 absurd (omega (arith, lower_part, ap (λ (r : Revision). r.part) same, in_part))
             by false behind =
@@ -314,7 +314,7 @@ module _ (nodes : Nodes) (shape : refusal nodes ≡ None) (is : numbered_package
       let found = story-each owner.has.base (0 + owner.at) owner.root.tag owner.root.kids owner.has.labelled owner.place owner.within in
       let number : found.0.own.tag.rev ≡ suc place = omega (arith, found.2, owner.number) in
       let names = (numbers-here (0 + owner.at) owner.root owner.has found.0 found.1).named place number in
-      let same = some-same names.revision revision (sym names.listed ∙ at) in
+      let same = same_Some names.revision revision (sym names.listed ∙ at) in
       let part : 0 + owner.at ≡ revision.part = sym names.is_part ∙ ap (λ (r : Revision). r.part) same in
       record {
         root = owner.root;

@@ -3,6 +3,8 @@
 use Rattle.std.proofs.Common.{◌≡◌, ◌∙◌, refl, ap, sym, subst, ℕ, zero, suc, ◌+◌, ◌<◌, ◌≤◌, ◌==◌, ◌||◌, not, List, [], ◌∷◌, ◌++◌, Bool, true, false, filter_map, map, length, get_or, slice_get, Option, Some, None, is_some, unwrap_or, append-nil, append_assoc, length-append, arith, if◌then◌else◌}
 use Rattle.std.specs.List.{cons_option, list_any}
 use Rattle.std.proofs.lemmas.Option.{slice_get_within}
+use Rattle.std.proofs.Math.Bool.{or-true, or-false}
+use Rattle.std.proofs.lemmas.Bool.{eqb-true}
 use Rattle.redl_tree.specs.Model.Seen.{Seen}
 use Rattle.redl_tree.specs.Revisions.Markers.{move_of, whole_role}
 use Rattle.redl_tree.specs.Revisions.Moves.{Marking, Pair, pairs, place_of}
@@ -57,19 +59,8 @@ pub record IsSoFar (marks : List Marking) (tails : List (List ℕ)) (base : ℕ)
 
 -- ---- small laws
 
-same : (a b : ℕ) → (a == b) ≡ true → a ≡ b
-same a b e = grind arith
-
 other : (a b : ℕ) → (a == b) ≡ false → a < b + 1 → a < b
 other a b e h = grind (arith, e, h)
-
-or-true : (b : Bool) → (b || true) ≡ true
-or-true true = refl
-or-true false = refl
-
-or-false : (b : Bool) → (b || false) ≡ b
-or-false true = refl
-or-false false = refl
 
 any-more : (s : ℕ) (xs : List Mention) (m : Mention) → list_any (is_of s) (xs ++ m ∷ []) ≡ (list_any (is_of s) xs || is_of s m)
 any-more s [] m = or-false (is_of s m)
@@ -118,7 +109,7 @@ module _ (marks : List Marking) (tails : List (List ℕ)) (base : ℕ) (story : 
         by true e = record {
           element = x;
           among = there;
-          number = number ∙ had.next ∙ ap (λ n. base + n) (sym (same place (length got) e));
+          number = number ∙ had.next ∙ ap (λ n. base + n) (sym (eqb-true place (length got) e));
           before = omega arith;
         }
         by false e = still-earlier place (other place (length got) e (omega (arith, within, one-longer got m)))
@@ -151,7 +142,7 @@ module _ (marks : List Marking) (tails : List (List ℕ)) (base : ℕ) (story : 
 
         moves : (k n : ℕ) (b : Bool) → (t == k) ≡ b → (if b then Some s.next else number_of_move s.moves k) ≡ Some n → IsMove marks tails base (got ++ m ∷ []) k n
         moves k n true e h =
-            let at : t ≡ k = same t k e in
+            let at : t ≡ k = eqb-true t k e in
             let is_n : s.next ≡ n = cc in
             record {
               place = length got;
@@ -173,7 +164,7 @@ module _ (marks : List Marking) (tails : List (List ℕ)) (base : ℕ) (story : 
     }
       where
         known : (k : ℕ) (b : Bool) → (t == k) ≡ b → is_some (number_of_move s.moves k) ≡ (list_any (is_of k) done || t == k)
-        known k true e = ap (λ y. is_some (number_of_move s.moves y)) (sym (same t k e)) ∙ ap is_some named
+        known k true e = ap (λ y. is_some (number_of_move s.moves y)) (sym (eqb-true t k e)) ∙ ap is_some named
             ∙ sym (ap (λ b. list_any (is_of k) done || b) e ∙ or-true (list_any (is_of k) done))
         known k false e = had.known k ∙ sym (ap (λ b. list_any (is_of k) done || b) e ∙ or-false (list_any (is_of k) done))
 

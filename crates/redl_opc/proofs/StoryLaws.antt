@@ -1,10 +1,11 @@
 -- The stories that are found by ancestors are the stories of the parts.
 use Rattle.std.proofs.Common.{◌≡◌, ◌<◌, ℕ, zero, suc, List, [], ◌∷◌, ◌++◌, map, filter_map, length, slice_get, slice_index_or, Contains, Option, Some, None, is_some, option_map, option_and_then, Bool, true, false, true≢false, ◌&&◌, ◌||◌, not, if◌then◌else◌, refl, sym, ap, ◌∙◌, codes, bytes_eq, arith, append-nil, subst}
 use Rattle.std.specs.List.{list_all, list_any, cons_option}
+use Rattle.std.specs.Cmp.{first_so, second_so}
+use Rattle.std.proofs.Math.Bool.{and-false}
 use Rattle.redl_tree.specs.Model.Nodes.{Tag, Nodes, no_nodes, bytes, element}
 use Rattle.redl_tree.specs.Decisions.Packages.{is_pkg, named_pkg, level_below, level_of, is_data_level, is_story_root, is_root, stories_in, stories}
 use Rattle.redl_tree.specs.declared.level.Level.TheVariants.{Package, Part, Data, Below}
-use Rattle.redl_tree.proofs.NameLaws.{and-left, and-right, and-false}
 use Rattle.redl_tree.proofs.SameBytes.{same_bytes}
 use Rattle.redl_opc.specs.Elements.{Element, elements_of, only, only_element}
 use Rattle.redl_opc.specs.Shape.{has_attribute, is_data, is_data_alone, is_part, root_in, story_root, story_of, is_document, package_in, package_of, elements_in, parts_of, refusal_of, refusal}
@@ -73,7 +74,7 @@ in_data_alone ancestors (root ∷ other ∷ more) h one = absurd (true≢false (
 is-no_binary : (tag : Tag) → named_pkg (codes "xmlData") tag ≡ true → named_pkg (codes "binaryData") tag ≡ false
 is-no_binary tag h =
     ap (λ local. is_pkg tag.space && bytes_eq local (codes "binaryData"))
-    (same_bytes tag.local (codes "xmlData") (and-right (is_pkg tag.space) (bytes_eq tag.local (codes "xmlData")) h))
+    (same_bytes tag.local (codes "xmlData") (second_so (is_pkg tag.space) (bytes_eq tag.local (codes "xmlData")) h))
     ∙ and-false (is_pkg tag.space)
 
 -- the data of a part
@@ -111,16 +112,16 @@ in_package ancestors part h is =
     let held = is_data_alone (only_element part.kids) in
     let level : level_of (part.tag ∷ ancestors) ≡ Part =
     ap (λ level. level_below level part.tag) h
-    ∙ ap (λ is_part. if is_part then Part else Below) (and-left named name (and-left (named && name) content_type (and-left (named && name && content_type) held is))) in
-    let held_alone : held ≡ true = and-right (named && name && content_type) held is in
+    ∙ ap (λ is_part. if is_part then Part else Below) (first_so named name (first_so (named && name) content_type (first_so (named && name && content_type) held is))) in
+    let held_alone : held ≡ true = second_so (named && name && content_type) held is in
     above_data ancestors part (ap is_data_level h) ∙ in_part_alone (part.tag ∷ ancestors) (elements_of part.kids) level held_alone
 
 in_parts : (ancestors : List Tag) (parts : List Element) → level_of ancestors ≡ Package → list_all is_part parts ≡ true
     → stories_among ancestors parts ≡ filter_map story_of parts
 in_parts ancestors [] h all = refl
 in_parts ancestors (part ∷ parts) h all =
-    ap (λ xs. xs ++ stories_among ancestors parts) (in_package ancestors part h (and-left (is_part part) (list_all is_part parts) all))
-    ∙ ap (λ xs. listed (story_of part) ++ xs) (in_parts ancestors parts h (and-right (is_part part) (list_all is_part parts) all))
+    ap (λ xs. xs ++ stories_among ancestors parts) (in_package ancestors part h (first_so (is_part part) (list_all is_part parts) all))
+    ∙ ap (λ xs. listed (story_of part) ++ xs) (in_parts ancestors parts h (second_so (is_part part) (list_all is_part parts) all))
     ∙ onto (story_of part)
   where
     onto : (o : Option Element) → listed o ++ filter_map story_of parts ≡ cons_option o (filter_map story_of parts)

@@ -1,6 +1,7 @@
 -- Idle elements are nothing that a package is told by: no package, no part, no data and no root of a story.
 use Rattle.std.proofs.Common.{Bor, ◌≡◌, ◌∙◌, ◌<◌, ◌+◌, ℕ, length, get_or, drop, List, [], ◌∷◌, ◌++◌, Option, Some, None, Bool, true, false, true≢false, ◌&&◌, ◌||◌, not, is_some, if◌then◌else◌, codes, bytes_eq, refl, sym, ap, subst, IfSome, IsNone}
 use Rattle.std.specs.List.{list_all, list_any}
+use Rattle.std.specs.Cmp.{second_so}
 use Rattle.redl_tree.specs.Model.Kids.{has_element}
 use Rattle.redl_tree.specs.Model.Nodes.{Tag, Nodes, no_nodes, bytes, element, Item, bytes_item, element_item, idle_item, in_front, from_items, items_of, ◌⊕◌}
 use Rattle.redl_tree.specs.Model.IdleTexts.{idle_nodes}
@@ -14,7 +15,6 @@ use Rattle.redl_tree.specs.declared.node.Node.{Node}
 use Rattle.redl_tree.specs.declared.node.Elem.{Elem}
 use Rattle.redl_tree.specs.declared.node.Node as node
 use Rattle.redl_tree.proofs.Laws.{in_front-⊕, item_of-Elem, item_of-Bytes, item_of-Plain, nodes_here}
-use Rattle.redl_tree.proofs.NameLaws.{and-right}
 use Rattle.redl_tree.proofs.Idle.Items.{nodes_are_idle, element_among}
 use Rattle.redl_tree.proofs.Idle.Lists.{names_none}
 use Rattle.redl_tree.proofs.Idle.Tags.{idle_parts}
@@ -105,7 +105,7 @@ pub items_of-parts : (xs : List Item) → list_all is_part (elements_of (from_it
 items_of-parts [] h = refl
 items_of-parts (bytes_item b ∷ xs) h = ap (λ (ys : List Item). bytes_item b ∷ ys) (items_of-parts xs h)
 items_of-parts (element_item tag kids ∷ xs) h =
-    ap (λ (ys : List Item). element_item tag kids ∷ ys) (items_of-parts xs (and-right (is_part (record { tag = tag; kids = kids })) (list_all is_part (elements_of (from_items xs))) h))
+    ap (λ (ys : List Item). element_item tag kids ∷ ys) (items_of-parts xs (second_so (is_part (record { tag = tag; kids = kids })) (list_all is_part (elements_of (from_items xs))) h))
 items_of-parts (idle_item t ∷ xs) h = absurd (true≢false (sym h ∙ no_parts t (from_items xs)))
 
 -- of nodes that begin with an element or with bytes
@@ -121,7 +121,7 @@ elements-bytes nodes i x b within is text =
 
 parts-item : (x : Item) (rest : Nodes) → list_all is_part (elements_of (in_front x rest)) ≡ true → list_all is_part (elements_of rest) ≡ true
 parts-item (bytes_item b) rest h = h
-parts-item (element_item tag kids) rest h = and-right (is_part (record { tag = tag; kids = kids })) (list_all is_part (elements_of rest)) h
+parts-item (element_item tag kids) rest h = second_so (is_part (record { tag = tag; kids = kids })) (list_all is_part (elements_of rest)) h
 parts-item (idle_item t) rest h = absurd (true≢false (sym h ∙ no_parts t rest))
 
 pub parts-more : (nodes : List Node) (i : ℕ) (x : Node) → i < length nodes → x ≡ get_or nodes i x → list_all is_part (elements_of (nodes_of (drop i nodes))) ≡ true

@@ -3,6 +3,7 @@ use Rattle.std.proofs.Common.{◌≡◌, ℕ, ◌+◌, ◌<◌, ◌≤◌, List,
 use Rattle.std.specs.Prelude.{decimal}
 use Rattle.std.specs.List.{flat_map, AllByRecursion}
 use Rattle.std.proofs.lemmas.List.{drop_more, drop_all}
+use Rattle.std.proofs.lemmas.Bool.{or_left, and_from}
 use Rattle.redl_index.specs.KindNames.{kind_name}
 use Rattle.redl_index.specs.declared.revision.Revision.{Revision}
 use Rattle.redl_journal.specs.declared.entry.Entry.{Entry}
@@ -13,7 +14,7 @@ use Rattle.redl_listing.specs.Dates.{date_text}
 use Rattle.redl_page.specs.Changes.{change, change_head, change_state, changes, saying, verdict_before, locked_before, reviewer_item, reviewers_after, is_last}
 use Rattle.redl_page.specs.Escaping.{escaped}
 use Rattle.redl_page.specs.Pieces.{own, opens_item, has_item, pieces_text}
-use Rattle.redl_page.proofs.NumberLaws.{or_left, and_both, has-left, has-right}
+use Rattle.redl_page.proofs.NumberLaws.{has-left, has-right}
 use Rattle.redl_page.proofs.PieceLaws.{pieces_text-append}
 
 -- ---- what is written
@@ -65,7 +66,7 @@ reviewers-more book last entry entries =
 
 change-has : (revision : Revision) (verdict : Verdict) (locked : Bool) (words : List Entry) → has_item revision.number (change revision verdict locked words) ≡ true
 change-has revision verdict locked words =
-    or_left (opens_item (own "<li id=\"revision-") && eqb revision.number revision.number) _ (and_both (opens_item (own "<li id=\"revision-")) (eqb revision.number revision.number) refl (eq-eqb revision.number revision.number refl))
+    or_left (opens_item (own "<li id=\"revision-") && eqb revision.number revision.number) _ (and_from (opens_item (own "<li id=\"revision-")) (eqb revision.number revision.number) refl (eq-eqb revision.number revision.number refl))
 
 all-map : (P Q : Revision → Type 0) → ((x : Revision) → P x → Q x) → (xs : List Revision) → AllByRecursion P xs → AllByRecursion Q xs
 all-map P Q f [] h = tt

@@ -1,6 +1,6 @@
 -- What is noted of the names of the properties that are on.
 use Rattle.std.proofs.Common.{◌≡◌, ◌∙◌, refl, sym, ap, ℕ, List, [], ◌++◌, Bool, true, false, ◌&&◌, ◌||◌, ◌==◌, not, codes, bytes_eq, if◌then◌else◌}
-use Rattle.std.proofs.Math.Bool.{or_assoc}
+use Rattle.std.proofs.Math.Bool.{or_assoc, or-false}
 use Rattle.std.proofs.lemmas.List.Folds.{list_any-append}
 use Rattle.redl_tree.specs.Model.Nodes.{Tag, Nodes, no_nodes, bytes, element}
 use Rattle.redl_tree.specs.Model.Laid.{AreLaid}
@@ -46,10 +46,6 @@ below_shows no_nodes = refl
 below_shows (bytes b rest) = below_shows rest
 below_shows (element tag kids rest) = ap (λ (l : List ℕ). (l ++ []) ++ shows emphasis_rule Below rest) (below_shows kids) ∙ below_shows rest
 
-or_none : (b : Bool) → (b || false) ≡ b
-or_none true = refl
-or_none false = refl
-
 -- a name, by its byte
 module _ (byte : ℕ) (name : List ℕ) (noted : (tag : Tag) → has_byte byte (names_on Properties tag) ≡ switches name tag) where
   has-append : (xs ys : List ℕ) → has_byte byte (xs ++ ys) ≡ (has_byte byte xs || has_byte byte ys)
@@ -63,7 +59,7 @@ module _ (byte : ℕ) (name : List ℕ) (noted : (tag : Tag) → has_byte byte (
       let later = shows emphasis_rule Properties rest in
       ap (λ (l : List ℕ). has_byte byte ((own ++ (l ++ [])) ++ later)) (below_shows kids)
       ∙ has-append (own ++ []) later
-      ∙ ap (λ b. b || has_byte byte later) (has-append own [] ∙ or_none (has_byte byte own) ∙ noted (tag_with tag.local tag.tail) ∙ sym (switches_same name tag h.0.of_space))
+      ∙ ap (λ b. b || has_byte byte later) (has-append own [] ∙ or-false (has_byte byte own) ∙ noted (tag_with tag.local tag.tail) ∙ sym (switches_same name tag h.0.of_space))
       ∙ ap (λ b. switches name tag || b) (properties_note rest h.3)
 
   held_note : (props : Bool) (kids : Nodes) → AreLaid W kids → has_byte byte (shows emphasis_rule (if props then Properties else Below) kids) ≡ (props && switched_on name kids)
@@ -78,7 +74,7 @@ module _ (byte : ℕ) (name : List ℕ) (noted : (tag : Tag) → has_byte byte (
       let inner = shows emphasis_rule (if props then Properties else Below) kids in
       let later = shows emphasis_rule Kids rest in
       has-append (inner ++ []) later
-      ∙ ap (λ b. b || has_byte byte later) (has-append inner [] ∙ or_none (has_byte byte inner) ∙ held_note props kids h.2)
+      ∙ ap (λ b. b || has_byte byte later) (has-append inner [] ∙ or-false (has_byte byte inner) ∙ held_note props kids h.2)
       ∙ ap (λ p. (p && switched_on name kids) || has_byte byte later) (sym (is_same tag h.0.of_space))
       ∙ ap (λ b. (is "rPr" tag && switched_on name kids) || b) (run_notes rest h.3)
 

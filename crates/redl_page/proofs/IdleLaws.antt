@@ -1,6 +1,7 @@
 -- What the page shows of idle nodes is what they show by themselves.
 use Rattle.std.proofs.Common.{◌≡◌, ◌∙◌, refl, sym, ap, ℕ, List, [], ◌∷◌, ◌++◌, Bool, true, false, ◌&&◌, ◌||◌, not, codes, bytes_eq, if◌then◌else◌}
 use Rattle.std.specs.Prelude.{is_some}
+use Rattle.std.proofs.Math.Bool.{or-false}
 use Rattle.redl_tree.specs.Model.Nodes.{Tag, Nodes, no_nodes, bytes, element}
 use Rattle.redl_tree.specs.Model.IdleTexts.{idle_nodes}
 use Rattle.redl_tree.specs.Roles.Names.{is, of_w}
@@ -26,10 +27,6 @@ use Rattle.redl_page.proofs.PieceLaws.{element_text-by, pieces_text-append, shap
 
 -- ---- one idle element
 
-or_none : (b : Bool) → (b || false) ≡ b
-or_none true = refl
-or_none false = refl
-
 reference_same : (in_run : Bool) (tag : Tag) → Idle in_run tag → is_reference tag ≡ is_reference (of_w tag.local)
 reference_same in_run tag i = by_local (λ w local. (w && bytes_eq local (codes "footnoteReference")) || (w && bytes_eq local (codes "endnoteReference"))) in_run tag i
 
@@ -39,7 +36,7 @@ note_same in_run tag i =
     let kept = not (is_some (attribute_value tag.tail (codes "type"))) in
     ap (λ f. is_reference tag || ((f || is "endnote" tag) && kept)) (has-not "footnote" in_run tag i refl)
     ∙ ap (λ e. is_reference tag || ((false || e) && kept)) (has-not "endnote" in_run tag i refl)
-    ∙ or_none (is_reference tag) ∙ reference_same in_run tag i
+    ∙ or-false (is_reference tag) ∙ reference_same in_run tag i
 
 inline_same : (note : Bool) (in_run : Bool) (tag : Tag) → Idle in_run tag → inline_shape note tag ≡ inline_shape note (of_w tag.local)
 inline_same note in_run tag i =
@@ -120,7 +117,7 @@ place_same : (place : Place) (in_run : Bool) (tag : Tag) → Idle in_run tag →
 place_same place in_run tag i =
     ap (λ (q : Bool). record { loud = place.loud && not q; shows = place.loud && (is "t" tag || is "delText" tag) }) (quiet_same in_run tag i)
     ∙ ap (λ (t : Bool). record { loud = place.loud && not (is "rPr" (of_w tag.local)); shows = place.loud && t })
-    (ap (λ d. is "t" tag || d) (has-not "delText" in_run tag i refl) ∙ or_none (is "t" tag) ∙ name_same in_run tag i (codes "t"))
+    (ap (λ d. is "t" tag || d) (has-not "delText" in_run tag i refl) ∙ or-false (is "t" tag) ∙ name_same in_run tag i (codes "t"))
 
 -- ---- what is shown
 

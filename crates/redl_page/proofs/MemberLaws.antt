@@ -1,6 +1,6 @@
 -- Each member of a revision has an element with the number of the revision.
 use Rattle.std.proofs.Common.{◌≡◌, ℕ, List, [], ◌∷◌, ◌++◌, map, filter_map, Bool, true, false, ◌&&◌, ◌||◌, not, ◌⊎◌, inl, inr, Option, Some, None, option_map, refl, sym, ap, ◌∙◌, subst, eqb, if◌then◌else◌}
-use Rattle.std.proofs.lemmas.Bool.{and_parts}
+use Rattle.std.proofs.lemmas.Bool.{and_parts, or_left, or_cases, and_from}
 use Rattle.std.specs.List.{list_any, cons_option}
 use Rattle.redl_tree.specs.Model.Nodes.{Tag, Nodes, no_nodes, bytes, element}
 use Rattle.redl_tree.specs.Roles.Names.{is}
@@ -26,7 +26,7 @@ use Rattle.redl_page.specs.declared.marks.Depth.TheVariants.{Kids, Properties, R
 use Rattle.redl_page.specs.declared.place.Place.{Place}
 use Rattle.redl_page.specs.declared.shape.Shape.TheVariants.{Division, Paragraph}
 use Rattle.redl_page.specs.Pieces.{own, opens_number, has_element}
-use Rattle.redl_page.proofs.NumberLaws.{or_left, or_cases, and_both, has-left, has-right}
+use Rattle.redl_page.proofs.NumberLaws.{has-left, has-right}
 use Rattle.redl_page.specs.Shapes.{shape_of, holds_blocks}
 use Rattle.redl_page.specs.Signs.{before, member, is_member, has_member}
 use Rattle.redl_page.specs.Document.{marks_in, bytes_pieces, start_as, end_as, inside, element_pieces, nodes_pieces, in_story, section_head, section, section_in, sections, is_first_after}
@@ -63,7 +63,7 @@ opens_before Marker h = cc
 
 member-has : (revisions : List Revision) (kind : Kind) (rev v : ℕ) → is_member kind ≡ true → eqb rev v ≡ true → has_element v (member revisions kind rev) ≡ true
 member-has revisions kind rev v h e =
-    or_left (opens_number (own (before kind)) && eqb rev v) _ (and_both (opens_number (own (before kind))) (eqb rev v) (opens_before kind h) e)
+    or_left (opens_number (own (before kind)) && eqb rev v) _ (and_from (opens_number (own (before kind))) (eqb rev v) (opens_before kind h) e)
 
 -- ---- roles
 

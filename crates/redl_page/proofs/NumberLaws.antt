@@ -1,21 +1,7 @@
 -- Numbers in lists of pieces.
-use Rattle.std.proofs.Common.{◌≡◌, ℕ, List, [], ◌∷◌, ◌++◌, Bool, true, false, ◌&&◌, ◌||◌, ◌⊎◌, inl, inr, refl, ap}
-use Rattle.std.proofs.lemmas.Bool.{and_parts}
+use Rattle.std.proofs.Common.{◌≡◌, ℕ, List, [], ◌∷◌, ◌++◌, Bool, true, ◌&&◌, ◌⊎◌, inl, inr}
+use Rattle.std.proofs.lemmas.Bool.{and_parts, or_left, or_right, or_cases, and_from}
 use Rattle.redl_page.specs.Pieces.{Piece, starts_with_number, has_number}
-
-pub or_left : (a b : Bool) → a ≡ true → (a || b) ≡ true
-or_left a b e = ap (λ x. x || b) e
-
-pub or_right : (a b : Bool) → b ≡ true → (a || b) ≡ true
-or_right true b e = refl
-or_right false b e = e
-
-pub or_cases : (a b : Bool) → (a || b) ≡ true → (a ≡ true) ⊎ (b ≡ true)
-or_cases true b e = inl refl
-or_cases false b e = inr e
-
-pub and_both : (a b : Bool) → a ≡ true → b ≡ true → (a && b) ≡ true
-and_both a b e f = rw (e, f) refl
 
 starts-left : (rev : ℕ) (xs ys : List Piece) → starts_with_number rev xs ≡ true → starts_with_number rev (xs ++ ys) ≡ true
 starts-left rev [] ys h = cc
@@ -33,5 +19,5 @@ has-left opens rev (x ∷ xs) ys h = at (or_cases (opens x && starts_with_number
         has_number opens rev (x ∷ xs ++ ys) ≡ true
     at (inl here) ih =
         let both = and_parts (opens x) (starts_with_number rev xs) here in
-        or_left (opens x && starts_with_number rev (xs ++ ys)) (has_number opens rev (xs ++ ys)) (and_both (opens x) (starts_with_number rev (xs ++ ys)) both.0 (starts-left rev xs ys both.1))
+        or_left (opens x && starts_with_number rev (xs ++ ys)) (has_number opens rev (xs ++ ys)) (and_from (opens x) (starts_with_number rev (xs ++ ys)) both.0 (starts-left rev xs ys both.1))
     at (inr later) ih = or_right (opens x && starts_with_number rev (xs ++ ys)) (has_number opens rev (xs ++ ys)) (ih later)

@@ -1,6 +1,7 @@
 -- What a group ends with: a paragraph, where one is left.
 use Rattle.std.proofs.Common.{◌≡◌, List, [], ◌∷◌, Bool, true, false, ◌&&◌, ◌||◌, not, Option, Some, None, refl, sym, ap, ◌∙◌, true≢false, if◌then◌else◌}
-use Rattle.std.proofs.lemmas.Bool.{and_parts, or_parts}
+use Rattle.std.proofs.lemmas.Bool.{and_parts, or_parts, not-true, and_right}
+use Rattle.std.proofs.Math.Bool.{or-true}
 use Rattle.redl_tree.specs.Model.Nodes.{Tag, Nodes, no_nodes, bytes, element, ◌⊕◌}
 use Rattle.redl_tree.specs.Roles.Names.{is}
 use Rattle.redl_tree.specs.Model.Kids.{some_element, has_element, without}
@@ -10,7 +11,7 @@ use Rattle.redl_tree.specs.Rules.CellEnds.{or_before, end_of_one, end_of}
 use Rattle.redl_tree.specs.declared.lists.Reach.TheVariants.{Direct}
 use Rattle.redl_tree.proofs.Named.{by_names}
 use Rattle.redl_tree.proofs.PassLaws.{next-thick}
-use Rattle.redl_laws.proofs.Soundness.Walk.{some-⊕, and_no}
+use Rattle.redl_laws.proofs.Soundness.Walk.{some-⊕}
 use Rattle.redl_paras.specs.Ends.{is_chain, keeps_last}
 
 -- Blocks that are no paragraphs
@@ -24,7 +25,7 @@ no_block test (bytes b rest) e = no_block test rest e
 no_block test (element tag kids rest) e = absurd (true≢false e)
 
 para_no_other : (tag : Tag) → is "p" tag ≡ true → is_other_block tag ≡ false
-para_no_other tag e = and_no (is_thick tag) (not (is "p" tag)) (ap not e)
+para_no_other tag e = and_right (is_thick tag) (not (is "p" tag)) (ap not e)
 
 thin_no_other : (xs : Nodes) → some_element is_thick xs ≡ false → some_element is_other_block xs ≡ false
 thin_no_other no_nodes e = refl
@@ -32,10 +33,6 @@ thin_no_other (bytes b rest) e = thin_no_other rest e
 thin_no_other (element tag kids rest) e =
     let both = or_parts (is_thick tag) (some_element is_thick rest) e in
     ap (λ t. (t && not (is "p" tag)) || some_element is_other_block rest) both.0 ∙ thin_no_other rest both.1
-
-not_true : (b : Bool) → not b ≡ true → b ≡ false
-not_true true e = absurd (true≢false (sym e))
-not_true false e = refl
 
 joined_p : (held : Option Nodes) (tag : Tag) → is "p" tag ≡ true → is "p" (joined_tag held tag) ≡ true
 joined_p None tag e = e
@@ -46,14 +43,14 @@ settled-other ends tag kids e = at (ends && not (has_element (without (is "pPr")
   where
     at : (b : Bool) → (ends && not (has_element (without (is "pPr") kids))) ≡ b
         → some_element is_other_block (if b then without (is "pPr") kids else element tag kids no_nodes) ≡ false
-    at true h = no_block is_other_block (without (is "pPr") kids) (not_true _ (and_parts ends _ h).1)
+    at true h = no_block is_other_block (without (is "pPr") kids) (not-true _ (and_parts ends _ h).1)
     at false h = ap (λ b. b || false) (para_no_other tag e)
 
 given-other : (p : Piece) (held : Option Nodes) (joining followed : Bool) → is_chain (p ∷ []) ≡ true → some_element is_other_block (given p held joining followed) ≡ false
 given-other (para tag cut kids) held true followed c = refl
 given-other (para tag cut kids) held false followed c =
     settled-other (cut && followed) (joined_tag held tag) (joined_kids held kids) (joined_p held tag (and_parts (is "p" tag) true c).0)
-given-other (thin nodes) None joining followed c = thin_no_other nodes (not_true _ (and_parts (not (some_element is_thick nodes)) true c).0)
+given-other (thin nodes) None joining followed c = thin_no_other nodes (not-true _ (and_parts (not (some_element is_thick nodes)) true c).0)
 given-other (thin nodes) (Some held) joining followed c = refl
 given-other (thick nodes) held joining followed c = absurd (true≢false (sym c))
 
@@ -105,10 +102,6 @@ grouped-end followed ps c = (para_end (grouped followed ps) (from-other followed
 
 -- The last paragraph
 
-or_true : (b : Bool) → (b || true) ≡ true
-or_true true = refl
-or_true false = refl
-
 some-either : (test : Tag → Bool) (xs ys : Nodes) → some_element test (xs ⊕ ys) ≡ (some_element test xs || some_element test ys)
 some-either test no_nodes ys = refl
 some-either test (bytes b rest) ys = some-either test rest ys
@@ -120,7 +113,7 @@ some-either test (element tag kids rest) ys = at (test tag) (some-either test re
     at false ih = ih
 
 some_later : (xs ys : Nodes) → some_element (is "p") ys ≡ true → some_element (is "p") (xs ⊕ ys) ≡ true
-some_later xs ys e = some-either (is "p") xs ys ∙ ap (λ b. some_element (is "p") xs || b) e ∙ or_true (some_element (is "p") xs)
+some_later xs ys e = some-either (is "p") xs ys ∙ ap (λ b. some_element (is "p") xs || b) e ∙ or-true (some_element (is "p") xs)
 
 left-from : (followed : Bool) (held : Option Nodes) (ps : List Piece) → is_chain ps ≡ true → keeps_last followed ps ≡ true → some_element (is "p") (grouped_from followed held ps) ≡ true
 left-from followed held [] c e = absurd (true≢false (sym e))
@@ -142,8 +135,8 @@ left-from followed held (para tag cut kids ∷ ps) c e =
     at true h k q ih = some_later (given p held (cut && paragraph_next ps) true) (grouped_from followed (held_by p held (cut && paragraph_next ps)) ps) (ih k)
     at false h k q ih =
         let rest = grouped_from followed None ps in
-        ap (λ j. some_element (is "p") (given p held j followed ⊕ grouped_from followed (held_by p held j) ps)) (and_no cut (paragraph_next ps) (next-thick ps h))
-        ∙ ap (λ b. some_element (is "p") ((if b && not (has_element (without (is "pPr") (joined_kids held kids))) then without (is "pPr") (joined_kids held kids) else element (joined_tag held tag) (joined_kids held kids) no_nodes) ⊕ rest)) (not_true (cut && followed) k)
+        ap (λ j. some_element (is "p") (given p held j followed ⊕ grouped_from followed (held_by p held j) ps)) (and_right cut (paragraph_next ps) (next-thick ps h))
+        ∙ ap (λ b. some_element (is "p") ((if b && not (has_element (without (is "pPr") (joined_kids held kids))) then without (is "pPr") (joined_kids held kids) else element (joined_tag held tag) (joined_kids held kids) no_nodes) ⊕ rest)) (not-true (cut && followed) k)
         ∙ ap (λ b. b || some_element (is "p") rest) (joined_p held tag q)
 
 -- a group has a paragraph, where the last one of the chain is kept

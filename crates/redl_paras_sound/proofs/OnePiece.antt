@@ -1,5 +1,7 @@
 -- The walk over the pieces puts a whole group together.
 use Rattle.std.proofs.Common.{◌≡◌, ◌∙◌, refl, ap, sym, List, [], ◌∷◌, ◌++◌, Bool, true, false, ◌&&◌, ◌||◌, true≢false, Option, Some, None}
+use Rattle.std.specs.Cmp.{first_so, second_so}
+use Rattle.std.proofs.lemmas.Bool.{and_from}
 use Rattle.redl_paras_sound.specs.Groups.{BeginsGroup, are_before_last, bare_content, content, one_para, own_tag}
 use Rattle.redl_tree.specs.Decisions.Groups.{Piece, para, thin, thick, paragraph_next, has_thick, joins, given, held_by, grouped_from, grouped, settled, joined_tag, joined_kids}
 use Rattle.redl_tree.specs.Model.Kids.{only, without}
@@ -8,17 +10,6 @@ use Rattle.redl_tree.specs.Roles.Names.{is}
 use Rattle.redl_tree.proofs.Laws.{⊕_assoc, ⊕-no_nodes}
 
 -- ---- tests
-
-and-left : (a b : Bool) → (a && b) ≡ true → a ≡ true
-and-left true b e = refl
-and-left false b e = e
-
-and-right : (a b : Bool) → (a && b) ≡ true → b ≡ true
-and-right true b e = e
-and-right false b e = absurd (true≢false (sym e))
-
-both : (a b : Bool) → a ≡ true → b ≡ true → (a && b) ≡ true
-both a b e f = ap (λ x. x && b) e ∙ f
 
 -- ---- one group
 
@@ -48,11 +39,11 @@ module _ (tag : Tag) (cut : Bool) (kids : Nodes) (rest : List Piece) where
         → grouped_from followed (Some held) (between ++ para tag cut kids ∷ rest) ≡ whole (held ⊕ bare_content between)
     held-so-far held [] before = last-piece (Some held) ∙ ap whole (sym (⊕-no_nodes held))
     held-so-far held (para t c k ∷ more) before =
-        let is_cut = and-left c (are_before_last more) before in
-        let after = and-right c (are_before_last more) before in
+        let is_cut = first_so c (are_before_last more) before in
+        let after = second_so c (are_before_last more) before in
         let behind = more ++ para tag cut kids ∷ rest in
         ap (λ b. given (para t c k) (Some held) b (has_thick behind || followed) ⊕ grouped_from followed (held_by (para t c k) (Some held) b) behind)
-        (both c (paragraph_next behind) is_cut (paragraph-next more after))
+        (and_from c (paragraph_next behind) is_cut (paragraph-next more after))
         ∙ held-so-far (held ⊕ without (is "pPr") k) more after ∙ one-more held (para t c k) more
     held-so-far held (thin nodes ∷ more) before = held-so-far (held ⊕ without (is "pPr") nodes) more before ∙ one-more held (thin nodes) more
     held-so-far held (thick nodes ∷ more) before = absurd (true≢false (sym before))
@@ -88,7 +79,7 @@ run-of (para t c k ∷ more) next = by (joins (para t c k) more) refl (run-of mo
     by : (b : Bool) → (c && paragraph_next more) ≡ b → (paragraph_next more ≡ true → IsRun more) → IsRun (para t c k ∷ more)
     by false e ih = record { between = []; last = t; last_cut = c; last_kids = k; later = more; splits = refl; are_before = refl; is_last = e }
     by true e ih =
-        let run = ih (and-right c (paragraph_next more) e) in
+        let run = ih (second_so c (paragraph_next more) e) in
         record {
           between = para t c k ∷ run.between;
           last = run.last;
@@ -96,7 +87,7 @@ run-of (para t c k ∷ more) next = by (joins (para t c k) more) refl (run-of mo
           last_kids = run.last_kids;
           later = run.later;
           splits = ap (λ ps. para t c k ∷ ps) run.splits;
-          are_before = both c (are_before_last run.between) (and-left c (paragraph_next more) e) run.are_before;
+          are_before = and_from c (are_before_last run.between) (first_so c (paragraph_next more) e) run.are_before;
           is_last = run.is_last;
         }
 run-of (thin nodes ∷ more) next =
@@ -115,9 +106,9 @@ run-of (thick nodes ∷ more) next = absurd (true≢false (sym next))
 
 pub begins-group : (tag : Tag) (cut : Bool) (kids : Nodes) (rest : List Piece) → joins (para tag cut kids) rest ≡ true → BeginsGroup cut rest
 begins-group tag cut kids rest e =
-    let run = run-of rest (and-right cut (paragraph_next rest) e) in
+    let run = run-of rest (second_so cut (paragraph_next rest) e) in
     record {
-      is_cut = and-left cut (paragraph_next rest) e;
+      is_cut = first_so cut (paragraph_next rest) e;
       between = run.between;
       last = run.last;
       last_cut = run.last_cut;

@@ -2,10 +2,11 @@
 use Rattle.std.proofs.Common.{◌≡◌, ℕ, true, List, ◌∷◌, [], ◌++◌, Some, refl, sym, ap, subst, ◌∙◌}
 use Rattle.std.specs.List.{list_all}
 use Rattle.std.proofs.lemmas.Option.{same_Some}
+use Rattle.std.proofs.lemmas.Bool.{eq-eqb}
 use Rattle.redl_reading.specs.Lists.{front, after, behind, is_other, field_at}
 use Rattle.redl_reading.proofs.Steps.{bind_some}
 use Rattle.redl_reading.proofs.Runs.{stops, front-after, front_passes, front_again, after_again}
-use Rattle.redl_reading.proofs.Words.{behind_takes, behind_again, eqb_same}
+use Rattle.redl_reading.proofs.Words.{behind_takes, behind_again}
 
 pub field_takes : (end : ℕ) (bs : List ℕ) (x : List ℕ × List ℕ) → field_at end bs ≡ Some x → bs ≡ x.0 ++ (end ∷ x.1)
 unfolding field_at
@@ -19,7 +20,7 @@ field_takes end bs x e =
 pub field_again : (end : ℕ) (a rest : List ℕ) → list_all (is_other end) a ≡ true → field_at end (a ++ (end ∷ rest)) ≡ Some (a, rest)
 unfolding field_at
 field_again end a rest h =
-    let stop : stops (is_other end) (end ∷ rest) ≡ true = rw (eqb_same end) refl in
+    let stop : stops (is_other end) (end ∷ rest) ≡ true = rw (eq-eqb end end refl) refl in
     rw (front_again (is_other end) a (end ∷ rest) h stop, after_again (is_other end) a (end ∷ rest) h stop, behind_again (end ∷ []) rest) refl
 
 -- the field has no such byte

@@ -3,3 +3,4 @@ pub mod Turns
 pub mod Runs
 pub mod Words
 pub mod Fields
+pub mod Options

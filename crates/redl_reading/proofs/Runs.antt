@@ -1,10 +1,10 @@
 -- The longest leading run that passes a test, and what follows it.
-use Rattle.std.proofs.Common.{◌≡◌, ℕ, zero, suc, ◌<◌, ◌≤◌, Bool, true, false, cond, List, [], ◌∷◌, ◌++◌, length, get_or, take, drop, refl, ap, eqb, inl, inr, arith}
+use Rattle.std.proofs.Common.{◌≡◌, ℕ, zero, suc, ◌<◌, ◌≤◌, Bool, true, false, cond, List, [], ◌∷◌, ◌++◌, length, get_or, take, drop, refl, sym, ap, ◌∙◌, eqb, inl, inr, arith}
 use Rattle.std.specs.Prelude.{not, ◌==◌, Option, Some, None, is_some}
 use Rattle.std.specs.Option.{unwrap_or}
 use Rattle.std.specs.List.{list_all}
 use Rattle.std.proofs.lemmas.Bool.{not-true, and_parts, and_from, cases_Bool}
-use Rattle.std.proofs.lemmas.List.Folds.{list_all_at}
+use Rattle.std.proofs.lemmas.List.Folds.{list_all_at, list_all-append}
 use Rattle.bstr.specs.Find.{IsFirstByte, is_byte}
 use Rattle.redl_reading.specs.Lists.{AnswersAs, front, after, is_other}
 
@@ -58,6 +58,10 @@ passes-append p [] ys h g = g
 passes-append p (x ∷ xs) ys h g =
     let both = and_parts (p x) (list_all p xs) h in
     and_from (p x) (list_all p (xs ++ ys)) both.0 (passes-append p xs ys both.1 g)
+
+-- the two parts of a list that passes
+pub passes-parts : (p : ℕ → Bool) (xs ys : List ℕ) → list_all p (xs ++ ys) ≡ true → (list_all p xs ≡ true) × (list_all p ys ≡ true)
+passes-parts p xs ys h = and_parts (list_all p xs) (list_all p ys) (sym (list_all-append p xs ys) ∙ h)
 
 -- the longest leading run, by index
 pub front_at : (p : ℕ → Bool) (bs : List ℕ) (n : ℕ) → n ≤ length bs → ((k : ℕ) → k < n → p (get_or bs k 0) ≡ true) → (n < length bs → p (get_or bs n 0) ≡ false) → take n bs ≡ front p bs

@@ -1,6 +1,6 @@
 -- A leading word of a list.
 use Rattle.std.proofs.Common.{◌≡◌, ℕ, Bool, true, false, cond, eqb, List, [], ◌∷◌, ◌++◌, length, length-append, ◌-◌, take, drop, Option, Some, None, refl, sym, ap, ◌∙◌, MatchOption, arith, inl, inr}
-use Rattle.std.proofs.lemmas.Bool.{eqb-true, not-true, and_parts, and_from, cases_Bool}
+use Rattle.std.proofs.lemmas.Bool.{eqb-true, not-true, and_parts, and_from, cases_Bool, eq-eqb}
 use lib.Pointwise.{pointwise}
 use Rattle.redl_reading.specs.Lists.{behind, begins, before, lacks, past, after, is_other}
 use Rattle.redl_reading.proofs.Runs.{after_here}
@@ -33,12 +33,9 @@ behind_takes (w ∷ ws) (b ∷ bs) rest e =
       | inr other ↦ absurd (let h : behind (w ∷ ws) (b ∷ bs) ≡ None = rw other refl in cc)
     ]
 
-pub eqb_same : (n : ℕ) → eqb n n ≡ true
-eqb_same n = grind arith
-
 pub behind_again : (word rest : List ℕ) → behind word (word ++ rest) ≡ Some rest
 behind_again [] rest = refl
-behind_again (w ∷ ws) rest = rw (eqb_same w) (behind_again ws rest)
+behind_again (w ∷ ws) rest = rw (eq-eqb w w refl) (behind_again ws rest)
 
 -- what the call of `strip_prefix` says
 pub behind_is : (word bs : List ℕ) (o : Option (List ℕ)) → MatchOption o (pointwise eqb (take (length word) bs) word ≡ false) (λ x. (pointwise eqb (take (length word) bs) word ≡ true) × (x ≡ drop (length word) bs)) → behind word bs ≡ o
@@ -77,7 +74,7 @@ begins_some (w ∷ ws) (b ∷ bs) e =
 
 pub begins_again : (word rest : List ℕ) → begins word (word ++ rest) ≡ true
 begins_again [] rest = refl
-begins_again (w ∷ ws) rest = rw (eqb_same w) (begins_again ws rest)
+begins_again (w ∷ ws) rest = rw (eq-eqb w w refl) (begins_again ws rest)
 
 -- what begins with a word still does with more after it
 begins_more : (word t more : List ℕ) → begins word t ≡ true → begins word (t ++ more) ≡ true

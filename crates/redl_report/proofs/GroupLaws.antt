@@ -1,6 +1,5 @@
 -- A thing more in its group.
 use Rattle.std.proofs.Common.{◌≡◌, ◌∙◌, ◌≤◌, ℕ, Bool, true, false, cond, List, [], ◌∷◌, ◌++◌, map, filter, length, arith, Ordering, Less, Equal, Greater, refl, sym, ap, true≢false}
-use Rattle.std.specs.Prelude.{◌||◌}
 use Rattle.std.specs.BTreeSet.{insert_key}
 use Rattle.std.specs.Cmp.Lexicographic.{slice_cmp}
 use Rattle.std.specs.List.{AllByRecursion, fold, list_any}
@@ -8,10 +7,11 @@ use Rattle.std.specs.List.Sorted.{IsStrictlySortedBy}
 use Rattle.std.specs.Cmp.{IsTotalOrder}
 use Rattle.std.specs.Ordering.{is_eq, match_ordering, nat_cmp}
 use Rattle.std.specs.Str.{bytes_eq}
-use Rattle.std.proofs.lemmas.List.{map_push}
+use Rattle.std.proofs.lemmas.List.{map_push, append-nil}
 use Rattle.std.proofs.lemmas.Cmp.{nat_list_cmp_total}
 use Rattle.std.proofs.lemmas.Map.Lookups.{exact_bytes}
 use Rattle.std.proofs.lemmas.Map.Text.{is_eq-slice_cmp}
+use Rattle.std.proofs.lemmas.Bool.{or_parts, or_from}
 use Rattle.redl_join.proofs.Lists.{any_insert, below, sorted_insert}
 use Rattle.redl_join.proofs.NumbersOf.{bytes_same, same_bytes}
 use Rattle.redl_report.specs.Groups.{Group, group_of, group_with, grouped, named, names_in_order, with_item}
@@ -32,10 +32,6 @@ filter-more p (y ∷ ys) x = by (p y) (filter-more p ys x) where
       → cond b (y ∷ filter p (ys ++ x ∷ [])) (filter p (ys ++ x ∷ [])) ≡ cond b (y ∷ filter p ys) (filter p ys) ++ cond (p x) (x ∷ []) []
   by true rest = ap (λ zs. y ∷ zs) rest
   by false rest = rest
-
-append-none : {A : Type 0} (xs : List A) → xs ++ [] ≡ xs
-append-none [] = refl
-append-none (x ∷ xs) = ap (λ rest. x ∷ rest) (append-none xs)
 
 -- ---- names in order
 
@@ -61,21 +57,14 @@ module _ {K : Type 0} (R : K → K → Ordering) where
   keys-all P acc [] all others = all
   keys-all P acc (key ∷ keys) all others = keys-all P (insert_key R acc key) keys (keys-insert P acc key all others.0) others.1
 
-pub both_false : (a b : Bool) → (a || b) ≡ false → (a ≡ false) × (b ≡ false)
-both_false true b h = absurd (true≢false h)
-both_false false b h = (refl, h)
-
-neither : (a b : Bool) → a ≡ false → b ≡ false → (a || b) ≡ false
-neither a b h g = rw (h, g) refl
-
 -- a name that the names in order don't have isn't one of the names
 absent : (acc names : List (List ℕ)) (name : List ℕ) → list_any (λ n. is_eq (order name n)) (fold (insert_key order) acc names) ≡ false
     → (list_any (λ n. is_eq (order name n)) acc ≡ false) × (list_any (λ n. is_eq (order name n)) names ≡ false)
 absent acc [] name none = (none, refl)
 absent acc (other ∷ names) name none =
     let rest = absent (insert_key order acc other) names name none in
-    let parts = both_false (is_eq (order name other)) (list_any (λ n. is_eq (order name n)) acc) (sym (any_insert nat_list_cmp_total name acc other) ∙ rest.0) in
-    (parts.1, neither (is_eq (order name other)) (list_any (λ n. is_eq (order name n)) names) parts.0 rest.1)
+    let parts = or_parts (is_eq (order name other)) (list_any (λ n. is_eq (order name n)) acc) (sym (any_insert nat_list_cmp_total name acc other) ∙ rest.0) in
+    (parts.1, or_from (is_eq (order name other)) (list_any (λ n. is_eq (order name n)) names) parts.0 rest.1)
 
 -- another name, seen from the other side
 pub other_name : (a b : List ℕ) → is_eq (order a b) ≡ false → bytes_eq b a ≡ false
@@ -92,7 +81,7 @@ module _ {T : Type 0} (name_of : T → List ℕ) where
   none_named [] name none = refl
   none_named (item ∷ items) name none = by (bytes_eq (name_of item) name) own (none_named items name parts.1) where
     parts : (is_eq (order name (name_of item)) ≡ false) × (list_any (λ n. is_eq (order name n)) (map name_of items) ≡ false)
-    parts = both_false (is_eq (order name (name_of item))) (list_any (λ n. is_eq (order name n)) (map name_of items)) none
+    parts = or_parts (is_eq (order name (name_of item))) (list_any (λ n. is_eq (order name n)) (map name_of items)) none
 
     own : bytes_eq (name_of item) name ≡ false
     own = other_name name (name_of item) parts.0
@@ -108,7 +97,7 @@ module _ {T : Type 0} (name_of : T → List ℕ) where
     -- the group of another name
     other_group : (n : List ℕ) → bytes_eq name n ≡ false → group_of name_of (items ++ item ∷ []) n ≡ group_of name_of items n
     other_group n other =
-        ap (λ (xs : List T). group_with n xs) (filter-more (λ i. bytes_eq (name_of i) n) items item ∙ ap (λ b. named name_of items n ++ cond b (item ∷ []) []) other ∙ append-none (named name_of items n))
+        ap (λ (xs : List T). group_with n xs) (filter-more (λ i. bytes_eq (name_of i) n) items item ∙ ap (λ b. named name_of items n ++ cond b (item ∷ []) []) other ∙ append-nil (named name_of items n))
 
     other_groups : (ns : List (List ℕ)) → AllByRecursion (λ n. order name n ≡ Less) ns → map (group_of name_of (items ++ item ∷ [])) ns ≡ map (group_of name_of items) ns
     other_groups [] h = refl

@@ -5,7 +5,7 @@ use Rattle.std.specs.List.{AllByRecursion, flat_map, fold}
 use Rattle.std.specs.List.Sorted.{IsStrictlySortedBy}
 use Rattle.std.specs.Ordering.{is_eq}
 use Rattle.std.specs.Str.{bytes_eq}
-use Rattle.std.proofs.lemmas.Bool.{leb-false}
+use Rattle.std.proofs.lemmas.Bool.{leb-false, or_parts}
 use Rattle.std.proofs.lemmas.Cmp.{nat_list_cmp_total}
 use Rattle.std.proofs.lemmas.List.{append-nil}
 use Rattle.std.proofs.lemmas.List.Concat.{flat_map-cons}
@@ -31,7 +31,7 @@ use Rattle.redl_report.specs.Groups.{Group, group_of, grouped, names_in_order}
 use Rattle.redl_report.specs.Reports.{author_line, author_lines, author_of, is_accept, is_disputed, is_reject, is_undecided, kind_line, kind_lines, of_kind, report_lines_by_kind, reviewer_line, reviewer_of}
 use Rattle.redl_report.specs.Sums.{KindsAddUp, is_kind, kinds_of}
 use Rattle.redl_report.specs.Tables.{no_revisions, with_counts}
-use Rattle.redl_report.proofs.GroupLaws.{both_false, keys-sorted, none-sorted, order, other_name}
+use Rattle.redl_report.proofs.GroupLaws.{keys-sorted, none-sorted, order, other_name}
 
 -- ---- each kind once
 
@@ -172,9 +172,9 @@ module _ (book : List Entry) (own : Group Revision) where
         (added totals.undecided (number_of decide is_undecided (of_kind one own.items)) (by_kinds decide is_undecided kinds own.items))
     by false is rest =
         let counts = kind_line book own one in
-        let first = both_false (nat_le 1 counts.accept) (nat_le 1 counts.reject || (nat_le 1 counts.disputed || nat_le 1 counts.undecided)) is in
-        let second = both_false (nat_le 1 counts.reject) (nat_le 1 counts.disputed || nat_le 1 counts.undecided) first.1 in
-        let third = both_false (nat_le 1 counts.disputed) (nat_le 1 counts.undecided) second.1 in
+        let first = or_parts (nat_le 1 counts.accept) (nat_le 1 counts.reject || (nat_le 1 counts.disputed || nat_le 1 counts.undecided)) is in
+        let second = or_parts (nat_le 1 counts.reject) (nat_le 1 counts.disputed || nat_le 1 counts.undecided) first.1 in
+        let third = or_parts (nat_le 1 counts.disputed) (nat_le 1 counts.undecided) second.1 in
         rest totals
         ∙ same_totals _ _ _ _ _ _ _ _
         (passed totals.accept counts.accept (by_kinds decide is_accept kinds own.items) (zero-of counts.accept first.0))

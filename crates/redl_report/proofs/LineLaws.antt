@@ -1,5 +1,6 @@
 -- Lines that count one by one, and lists of lines.
-use Rattle.std.proofs.Common.{◌≡◌, ◌∙◌, ◌+◌, ◌≤◌, ◌<◌, ℕ, suc, Bool, true, false, cond, List, [], ◌∷◌, ◌++◌, map, filter, length, length-append, refl, sym, ap, arith}
+use Rattle.std.proofs.Common.{◌≡◌, ◌∙◌, ◌+◌, ◌≤◌, ◌<◌, ℕ, Bool, true, false, cond, List, [], ◌∷◌, ◌++◌, map, filter, length, length-append, refl, sym, ap, arith}
+use Rattle.std.proofs.lemmas.List.{length-map}
 use Rattle.redl_join.specs.declared.verdict.Verdict.{Verdict}
 use Rattle.redl_join.specs.declared.verdict.Verdict.TheVariants.{Undecided, Accept, Reject, Disputed}
 use Rattle.redl_report.specs.declared.line.ReportLine.{ReportLine}
@@ -52,14 +53,10 @@ line-more role who verdicts Undecided =
 
 -- ---- room for a verdict more
 
-pub length-map : {A B : Type 0} (f : A → B) (xs : List A) → length (map f xs) ≡ length xs
-length-map f [] = refl
-length-map f (x ∷ xs) = ap (λ n. suc n) (length-map f xs)
-
 -- while one thing more is to be counted, fewer are counted than there are
 pub room : {X : Type 0} (verdict_of : X → Verdict) (role : Role) (who : List ℕ) (line : ReportLine) (before rest all : List X) (x : X) (limit : ℕ)
     → line ≡ line_of role who (map verdict_of before) → all ≡ before ++ (x ∷ rest) → length all ≤ limit → sum_of line < limit
 room verdict_of role who line before rest all x limit is whole few =
-    let sum : sum_of line ≡ length before = ap sum_of is ∙ counts-add_up role who (map verdict_of before) ∙ length-map verdict_of before in
+    let sum : sum_of line ≡ length before = ap sum_of is ∙ counts-add_up role who (map verdict_of before) ∙ length-map before verdict_of in
     let long : length all ≡ length before + length (x ∷ rest) = ap length whole ∙ length-append before (x ∷ rest) in
     omega (arith, sum, long, few)

@@ -1,7 +1,7 @@
 -- Lists that are gone through, one thing after the other.
 use Rattle.std.proofs.Common.{◌≡◌, ◌∙◌, ◌<◌, ◌+◌, ℕ, suc, List, [], ◌∷◌, ◌++◌, length, map, take, drop, get_or, All, refl, sym, ap, arith, add-one, append_assoc}
 use Rattle.std.proofs.Math.Seq.{drop-cons, take-suc}
-use Rattle.std.proofs.lemmas.List.{map_push, take-append-drop}
+use Rattle.std.proofs.lemmas.List.{map_push, take-append-drop, map-append}
 use Rattle.std.proofs.lemmas.List.Concat.{flat_map-cons}
 use Rattle.std.specs.List.{flat_map}
 
@@ -17,10 +17,6 @@ pub split-at : {A : Type 0} (xs : List A) (i : ℕ) (x : A) → i < length xs �
 split-at xs i x inside at =
     let next : drop i xs ≡ x ∷ drop (i + 1) xs = rw (add-one, drop-cons xs i x inside, ← at) refl in
     sym (take-append-drop i xs) ∙ ap (λ rest. take i xs ++ rest) next
-
-map-append : {A B : Type 0} (f : A → B) (xs ys : List A) → map f (xs ++ ys) ≡ map f xs ++ map f ys
-map-append f [] ys = refl
-map-append f (x ∷ xs) ys = ap (λ rest. f x ∷ rest) (map-append f xs ys)
 
 pub map-split-at : {A B : Type 0} (f : A → B) (xs : List A) (i : ℕ) (x : A) → i < length xs → x ≡ get_or xs i x → map f xs ≡ map f (take i xs) ++ (f x ∷ map f (drop (i + 1) xs))
 map-split-at f xs i x inside at = ap (map f) (split-at xs i x inside at) ∙ map-append f (take i xs) (x ∷ drop (i + 1) xs)

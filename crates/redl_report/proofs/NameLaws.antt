@@ -1,11 +1,12 @@
 -- The names of all lines are UTF-8.
-use Rattle.std.proofs.Common.{◌≡◌, ◌&&◌, ℕ, Bool, true, false, true≢false, IsTrue, List, [], ◌∷◌, All, map, length, refl, sym}
+use Rattle.std.proofs.Common.{◌≡◌, ℕ, Bool, true, IsTrue, List, [], ◌∷◌, All, map, length, refl}
 use Rattle.std.specs.Cmp.Lexicographic.{slice_cmp}
 use Rattle.std.specs.List.{AllByRecursion, flat_map, list_all}
 use Rattle.std.specs.Ordering.{nat_cmp}
 use Rattle.std.specs.Str.{IsUtf8}
 use Rattle.std.proofs.lemmas.List.Elements.{All-append, All-filter, All-from_recursion, All-map, All-same, All-weaker, recursion_from_All}
 use Rattle.std.proofs.lemmas.List.Concat.{flat_map-cons}
+use Rattle.std.proofs.lemmas.Bool.{and_parts}
 use Rattle.redl_index.specs.declared.revision.Revision.{Revision}
 use Rattle.redl_index.specs.Revisions.{IsListable}
 use Rattle.redl_journal.specs.declared.entry.Entry.{Entry}
@@ -24,13 +25,9 @@ names-utf8 : {T : Type 0} (name_of : T → List ℕ) (things : List T) → All (
 names-utf8 name_of things all =
     keys-all (slice_cmp nat_cmp) IsUtf8 [] (map name_of things) tt (recursion_from_All IsUtf8 (map name_of things) (All-map IsUtf8 name_of things all))
 
-both : (a b : Bool) → (a && b) ≡ true → (a ≡ true) × (b ≡ true)
-both true b is = (refl, is)
-both false b is = absurd (true≢false (sym is))
-
 tests-all : {A : Type 0} (p : A → Bool) (xs : List A) → list_all p xs ≡ true → AllByRecursion (λ x. IsTrue (p x)) xs
 tests-all p [] all = tt
-tests-all p (x ∷ xs) all = let parts = both (p x) (list_all p xs) all in (parts.0, tests-all p xs parts.1)
+tests-all p (x ∷ xs) all = let parts = and_parts (p x) (list_all p xs) all in (parts.0, tests-all p xs parts.1)
 
 -- lines that are named as their groups
 named : {T : Type 0} (name_of : T → List ℕ) (line_of : Group T → ReportLine) → ((group : Group T) → IsUtf8 group.name → IsLine (line_of group)) → (things : List T)

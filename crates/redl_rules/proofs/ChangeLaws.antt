@@ -1,8 +1,8 @@
 -- Changes of properties stand in properties alone.
 use Rattle.std.proofs.Common.{◌≡◌, Bool, true, false, List, [], ◌∷◌, Option, Some, None, refl, sym, ap, ◌∙◌}
-use Rattle.std.specs.Prelude.{◌||◌}
 use Rattle.std.specs.List.{list_any}
 use Rattle.std.specs.Option.{option_map}
+use Rattle.std.proofs.lemmas.Bool.{or_parts}
 use Rattle.redl_tree.specs.Model.Nodes.{Tag, Nodes, no_nodes, bytes, element}
 use Rattle.redl_tree.specs.Roles.Names.{is}
 use Rattle.redl_tree.specs.Roles.Kinds.{is_change}
@@ -16,10 +16,6 @@ use Rattle.redl_tree.specs.declared.kinds.Prop.TheVariants.{Run, Para, Sect, Tab
 use Rattle.redl_tree.specs.declared.kinds.Kind.{Kind}
 use Rattle.redl_tree.specs.declared.kinds.Kind.TheVariants.{Content, Mark, Row, Cell}
 
-or-false : (s t : Bool) → (s || t) ≡ false → (s ≡ false) × (t ≡ false)
-or-false true t e = absurd cc
-or-false false t e = (refl, e)
-
 -- an element other than the properties that may hold a change
 record IsNoProps (tag : Tag) : Type 0 where
   para : is "pPr" tag ≡ false
@@ -32,13 +28,13 @@ record IsNoProps (tag : Tag) : Type 0 where
 
 no_props : (tag : Tag) → is_quiet tag ≡ false → IsNoProps tag
 no_props tag h =
-    let para = or-false (is "pPr" tag) _ (or-false _ _ h).0 in
-    let run = or-false (is "rPr" tag) _ para.1 in
-    let sect = or-false (is "sectPr" tag) _ run.1 in
-    let table = or-false (is "tblPr" tag) _ sect.1 in
-    let except = or-false (is "tblPrEx" tag) _ table.1 in
-    let row = or-false (is "trPr" tag) _ except.1 in
-    let cell = or-false (is "tcPr" tag) _ row.1 in
+    let para = or_parts (is "pPr" tag) _ (or_parts _ _ h).0 in
+    let run = or_parts (is "rPr" tag) _ para.1 in
+    let sect = or_parts (is "sectPr" tag) _ run.1 in
+    let table = or_parts (is "tblPr" tag) _ sect.1 in
+    let except = or_parts (is "tblPrEx" tag) _ table.1 in
+    let row = or_parts (is "trPr" tag) _ except.1 in
+    let cell = or_parts (is "tcPr" tag) _ row.1 in
     record { para = para.0; run = run.0; sect = sect.0; table = table.0; except = except.0; row = row.0; cell = cell.0 }
 
 -- where no ancestor is quiet, no change has its place
@@ -50,7 +46,7 @@ holds_none [] h Table = refl
 holds_none [] h Except = refl
 holds_none [] h RowProp = refl
 holds_none [] h CellProp = refl
-holds_none (tag ∷ ancestors) h prop = of prop (no_props tag (or-false (is_quiet tag) (list_any is_quiet ancestors) h).0) where
+holds_none (tag ∷ ancestors) h prop = of prop (no_props tag (or_parts (is_quiet tag) (list_any is_quiet ancestors) h).0) where
   of : (prop : Prop) → IsNoProps tag → in_props prop (tag ∷ ancestors) ≡ false
   of Run no_one = rw no_one.run refl
   of Para no_one = rw no_one.para refl

@@ -1,11 +1,12 @@
 -- A tail without an `x`, or without an `n`, declares nothing.
-use Rattle.std.proofs.Common.{◌≡◌, ◌∙◌, ap, sym, ℕ, Bool, true, false, true≢false, List, [], ◌∷◌, refl}
-use Rattle.std.specs.Prelude.{◌&&◌, bytes_eq, codes}
+use Rattle.std.proofs.Common.{◌≡◌, ◌∙◌, ap, sym, ℕ, true, false, true≢false, List, [], ◌∷◌, refl}
+use Rattle.std.specs.Prelude.{bytes_eq, codes}
 use Rattle.std.specs.List.{list_all, list_any}
 use Rattle.redl_markup.specs.Names.{Name}
 use Rattle.redl_reading.specs.Lists.{is_other}
 use Rattle.redl_markup.specs.Attributes.{attributes_of}
 use Rattle.std.proofs.lemmas.Bool.{and_parts, false_from_ne_true}
+use Rattle.std.proofs.Math.Bool.{and-false}
 use Rattle.redl_tree.proofs.SameBytes.{same_bytes}
 use Rattle.redl_markup.proofs.Listing.{name_passes, names_pass}
 use Rattle.redl_rules.specs.Attributes.{is_declaration, declares}
@@ -21,10 +22,7 @@ module _ (byte : ℕ) (is_in : list_all (is_other byte) (codes "xmlns") ≡ fals
   is_no_declaration attribute h =
       let name = attribute.0 in
       let both = and_parts (list_all (is_other byte) name.prefix) (list_all (is_other byte) name.local) h in
-      rw (is_not_xmlns name.prefix both.0, is_not_xmlns name.local both.1) (and-false (bytes_eq name.prefix [])) where
-        and-false : (t : Bool) → (t && false) ≡ false
-        and-false true = refl
-        and-false false = refl
+      rw (is_not_xmlns name.prefix both.0, is_not_xmlns name.local both.1) (and-false (bytes_eq name.prefix []))
 
   none_declares : (attributes : List (Name × List ℕ)) → list_all (λ a. name_passes (is_other byte) a.0) attributes ≡ true → list_any is_declaration attributes ≡ false
   none_declares [] h = refl

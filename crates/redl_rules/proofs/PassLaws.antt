@@ -2,6 +2,7 @@
 use Rattle.std.proofs.Common.{◌≡◌, ◌∙◌, refl, sym, ap, ℕ, List, [], ◌∷◌, Bool, true, false, true≢false, ◌&&◌, ◌||◌, not, is_some, if◌then◌else◌}
 use Rattle.std.specs.List.{list_all}
 use Rattle.std.proofs.lemmas.Bool.{or_from, and_from}
+use Rattle.std.proofs.Math.Bool.{or-true, and-false}
 use Rattle.redl_tree.specs.Model.Nodes.{Tag, Nodes, no_nodes, bytes, element}
 use Rattle.redl_tree.specs.Model.IdleTexts.{idle_nodes}
 use Rattle.redl_tree.specs.Model.Kids.{some_element, has_element}
@@ -16,7 +17,7 @@ use Rattle.redl_tree.specs.declared.around.Around.{Around}
 use Rattle.redl_tree.specs.declared.around.Parent.{Parent}
 use Rattle.redl_tree.specs.declared.around.Parent.TheVariants.{Other, Para as InPara, Row as InRow, Cell as InCell, Body as InBody, Table as InTable, Run as InRun, ParaProps, MarkProps, RunProps, RowProps, CellProps}
 use Rattle.redl_tree.specs.declared.kinds.Kind.{Kind}
-use Rattle.redl_tree.proofs.NameLaws.{and-false, is-other}
+use Rattle.redl_tree.proofs.NameLaws.{is-other}
 use Rattle.redl_tree.proofs.Idle.Items.{nodes_are_idle}
 use Rattle.redl_tree.proofs.Idle.Lists.{names_none, last_idle}
 use Rattle.redl_tree.proofs.Idle.Roles.{no_trace, no_prop, no_range_edge}
@@ -35,10 +36,6 @@ use Rattle.redl_rules.specs.declared.round.Round.{Round}
 use Rattle.redl_rules.proofs.IdleLaws.{no_role_in}
 use Rattle.redl_rules.proofs.KidLaws.{none_changes}
 use Rattle.redl_rules.proofs.KeptLaws.{where_all_hold}
-
-or-true : (b : Bool) → (b || true) ≡ true
-or-true true = refl
-or-true false = refl
 
 implies-true : (b : Bool) → implies b true ≡ true
 implies-true true = refl

@@ -1,5 +1,6 @@
 -- The rules by what the ancestors are to an element are the rules.
 use Rattle.std.proofs.Common.{◌≡◌, refl, ap, ◌∙◌, List, [], ◌∷◌, Bool, true, false, ◌&&◌, ◌||◌, not}
+use Rattle.std.proofs.Math.Bool.{and-true}
 use Rattle.redl_tree.specs.Model.Nodes.{Tag, Nodes, no_nodes, bytes, element}
 use Rattle.redl_tree.specs.Model.Kids.{has_element}
 use Rattle.redl_tree.specs.Rules.Tests.{implies, open_one, once, each_once, only_first, only_last}
@@ -13,7 +14,7 @@ use Rattle.redl_tree.specs.Roles.Arounds.{parent_of, around_of, role_in}
 use Rattle.redl_tree.specs.Roles.Places.{role, in_para_props, in_mark_props, in_row_props, in_cell_props}
 use Rattle.redl_tree.specs.declared.around.Parent.{Parent}
 use Rattle.redl_tree.specs.declared.around.Parent.TheVariants.{Para as InPara, Row as InRow, Cell as InCell, Body as InBody, ParaProps, MarkProps, RowProps, CellProps}
-use Rattle.redl_tree.proofs.AroundLaws.{and-true, same, fits-same, role-in}
+use Rattle.redl_tree.proofs.AroundLaws.{same, fits-same, role-in}
 use Rattle.redl_rules.proofs.ChangeLaws.{no_change_in_content}
 use Rattle.redl_rules.specs.Attributes.{has_id, declares}
 use Rattle.redl_rules.specs.Rounds.{round_of}

@@ -6,6 +6,8 @@ use Rattle.std.proofs.lemmas.List.Elements.{filter_map-append}
 use Rattle.std.proofs.lemmas.Slice.Eq.{bytes_eq-Decides}
 use Rattle.std.specs.List.{filter, filter_map, cons_option, flat_map, range_with_len}
 use Rattle.std.specs.Prelude.{bytes_eq, option_and_then}
+use Rattle.std.proofs.Math.Bool.{or-true, and-false}
+use Rattle.redl_tree.proofs.SameBytes.{bytes_same}
 use Rattle.redl_sample_sound.proofs.Blocks.{Form, Plain, Insertion, Deletion, Mark, Both, Properties, Table, Move, form_of}
 use Rattle.redl_sample_sound.proofs.Moved.{block_of, second, start_at, content_at, end_at, start_mark, end_mark, marks_of, move_with, moves_of, IsAlone}
 use Rattle.redl_sample_sound.proofs.Own.{past, past_later}
@@ -45,21 +47,17 @@ move_before j k less is =
 four_false : (p a b c d : ℕ) → p ≢ a → p ≢ b → p ≢ c → p ≢ d → (((p == a || p == b) || p == c) || p == d) ≡ false
 four_false p a b c d e f g h = rw (ne_eqb p a e, ne_eqb p b f, ne_eqb p c g, ne_eqb p d h) refl
 
-or_true : (b : Bool) → (b || true) ≡ true
-or_true true = refl
-or_true false = refl
-
 first_true : (p b c d : ℕ) → (((p == p || p == b) || p == c) || p == d) ≡ true
 first_true p b c d = ap (λ x. ((x || p == b) || p == c) || p == d) (eq-eqb p p refl)
 
 second_true : (p a c d : ℕ) → (((p == a || p == p) || p == c) || p == d) ≡ true
-second_true p a c d = ap (λ x. ((p == a || x) || p == c) || p == d) (eq-eqb p p refl) ∙ ap (λ x. (x || p == c) || p == d) (or_true (p == a))
+second_true p a c d = ap (λ x. ((p == a || x) || p == c) || p == d) (eq-eqb p p refl) ∙ ap (λ x. (x || p == c) || p == d) (or-true (p == a))
 
 third_true : (p a b d : ℕ) → (((p == a || p == b) || p == p) || p == d) ≡ true
-third_true p a b d = ap (λ x. ((p == a || p == b) || x) || p == d) (eq-eqb p p refl) ∙ ap (λ x. x || p == d) (or_true (p == a || p == b))
+third_true p a b d = ap (λ x. ((p == a || p == b) || x) || p == d) (eq-eqb p p refl) ∙ ap (λ x. x || p == d) (or-true (p == a || p == b))
 
 fourth_true : (p a b c : ℕ) → (((p == a || p == b) || p == c) || p == p) ≡ true
-fourth_true p a b c = ap (λ x. ((p == a || p == b) || p == c) || x) (eq-eqb p p refl) ∙ or_true ((p == a || p == b) || p == c)
+fourth_true p a b c = ap (λ x. ((p == a || p == b) || p == c) || x) (eq-eqb p p refl) ∙ or-true ((p == a || p == b) || p == c)
 
 -- a position outside a block with a move
 abbrev IsOutside : ℕ → ℕ → Type 0
@@ -73,13 +71,9 @@ of_none position at digits (inr high) =
     four_false position (start_at at) (end_at at) (start_at (second at)) (end_at (second at))
     (λ e. omega (arith, high, e)) (λ e. omega (arith, high, e)) (λ e. omega (arith, high, e)) (λ e. omega (arith, high, e))
 
-and_false : (b : Bool) → (b && false) ≡ false
-and_false true = refl
-and_false false = refl
-
 not_open : (position a b : ℕ) → (position ≤ a) ⊎ (b ≤ position) → (nat_lt a position && nat_lt position b) ≡ false
 not_open position a b (inl low) = ap (λ x. x && nat_lt position b) (le-ltb a position low)
-not_open position a b (inr high) = ap (λ x. nat_lt a position && x) (le-ltb position b high) ∙ and_false (nat_lt a position)
+not_open position a b (inr high) = ap (λ x. nat_lt a position && x) (le-ltb position b high) ∙ and-false (nat_lt a position)
 
 source_closed : (position at : ℕ) (digits : List ℕ) → IsOutside position at → is_open_at position (move_with digits at).source ≡ false
 source_closed position at digits (inl low) = not_open position (start_at at) (end_at at) (inl (omega (arith, low)))
@@ -149,9 +143,6 @@ alone size k within is =
 
 -- ---- names and identifiers
 
-same_bytes : (bs : List ℕ) → bytes_eq bs bs ≡ true
-same_bytes bs = (bytes_eq-Decides bs bs).1 refl
-
 other_digits : (j k : ℕ) → j < 2 ^ 64 → k < 2 ^ 64 → j ≢ k → bytes_eq (decimal j) (decimal k) ≡ false
 other_digits j k small_j small_k other = by (bytes_eq (decimal j) (decimal k)) refl
   where
@@ -175,7 +166,7 @@ module _ (size : ℕ) (few : size ≤ 20000) where
       (λ j below other. others (form_of j) (decimal j) (start j) (other_digits j k (omega (arith, few, below)) (omega (arith, few, within)) other))
       ∙ ap (λ f. filter test (marks_of f (decimal k) (start k))) is
       ∙ passes (decimal k) (start k)
-      ∙ ap (λ b. cond b (mark (decimal k) (start k) ∷ []) []) (same_bytes (decimal k))
+      ∙ ap (λ b. cond b (mark (decimal k) (start k) ∷ []) []) (bytes_same (decimal k))
     where
       others : (form : Form) (digits : List ℕ) (at : ℕ) → bytes_eq digits (decimal k) ≡ false → filter test (marks_of form digits at) ≡ []
       others Plain digits at e = refl

@@ -2,9 +2,10 @@
 use Rattle.std.proofs.Common.{◌≡◌, ℕ, ◌-◌, ◌<◌, ◌≤◌, false, List, Result, Ok, Err, set, sym, ap, ◌∙◌}
 use Rattle.std.specs.Prelude.{length, not}
 use Rattle.std.specs.Result.{OnErr, OnOk}
+use Rattle.std.proofs.lemmas.Bool.{not-false}
 use Rattle.redl_index.specs.declared.revision.Revision.{Revision}
 use Rattle.redl_join.proofs.Lists.{sorted_insert}
-use Rattle.redl_join.proofs.Unions.{book-union, kept-present, not_false}
+use Rattle.redl_join.proofs.Unions.{book-union, kept-present}
 use Rattle.redl_join.specs.Books.{IsBook, has_entry, union, with_entry}
 use Rattle.redl_join.specs.Verdicts.{verdict_at}
 use Rattle.redl_journal.proofs.EntryOrder.{entry_order-total}
@@ -37,7 +38,7 @@ consistent-with nodes revisions book new says entry say kept some within is said
 
 -- a repeat
 pub book-repeat : (book new : List Entry) (entry : Entry) → IsBook book → new ≡ with_entry book entry → false ≡ not (has_entry book entry) → new ≡ book
-book-repeat book new entry sorted is before = is ∙ kept-present book entry sorted (not_false (has_entry book entry) before)
+book-repeat book new entry sorted is before = is ∙ kept-present book entry sorted (not-false (has_entry book entry) (sym before))
 
 -- many entries, all of them or a first part
 pub ordered-taken : {T E : Type 0} (result : Result T E) (revisions : List Revision) (locks : List Lock) (book new entries : List Entry) → IsBook book

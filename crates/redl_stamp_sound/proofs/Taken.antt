@@ -2,7 +2,8 @@
 use Rattle.std.proofs.Common.{◌≡◌, ◌∙◌, refl, ap, sym, subst, ℕ, ◌+◌, ◌-◌, ◌*◌, ◌≤◌, ◌==◌, ◌&&◌, nat_le, Bool, true, false, List, [], ◌∷◌, ◌++◌, length, append_assoc, Option, Some, None, ℤ, pos, neg_ℤ, ◌≤ℤ◌, ◌+ℤ◌, ◌-ℤ◌, int_le, codes, arith, if◌then◌else◌}
 use lib.Signed.{le_z_yes}
 use lib.Dec.{T}
-use Rattle.std.proofs.lemmas.Bool.{and_parts, and_from}
+use Rattle.std.proofs.lemmas.Bool.{and_parts, and_from, eqb-true}
+use Rattle.std.proofs.lemmas.Option.{same_Some}
 use Rattle.jiff_core.specs.Calendar.{days_from_civil}
 use Rattle.redl_markup.specs.Characters.{between}
 use Rattle.redl_reading.specs.Lists.{behind, front, after}
@@ -12,9 +13,6 @@ use Rattle.redl_reading.proofs.Steps.{bind_some}
 use Rattle.redl_reading.proofs.Words.{behind_takes}
 use Rattle.redl_stamp.specs.Moment.{is_decimal, digit_at, two_digits_at, four_digits_at, marked_digits_at, is_date, seconds_to, date_at, is_time, time_at, behind_digits, behind_fraction, is_at_end, offset_in, ahead, back, zone_in, first_moment, last_moment, is_moment, IsMoment, within_years, moment_of}
 use Rattle.redl_stamp_sound.specs.Form.{Writes, NamesDay, NamesTime, IsFraction, nothing, dotted, NamesOffset, NamesZone, none, utc, east, west, Names}
-
-some-same : (x y : ℕ × List ℕ) → Some x ≡ Some y → x ≡ y
-some-same x y e = cc
 
 -- ---- digits
 
@@ -52,7 +50,7 @@ two-taken bs x e =
     let second = bind_some (digit_at first.0.1) (both_of first.0) x first.2 in
     let tens = digit-taken bs first.0 first.1 in
     let ones = digit-taken first.0.1 second.0 second.1 in
-    let is = some-same (first.0.0 * 10 + second.0.0, second.0.1) x second.2 in
+    let is = same_Some (first.0.0 * 10 + second.0.0, second.0.1) x second.2 in
     record {
       a = tens.digit;
       b = ones.digit;
@@ -84,7 +82,7 @@ four-taken bs x e =
     let second = bind_some (two_digits_at first.0.1) (hundreds first.0) x first.2 in
     let high = two-taken bs first.0 first.1 in
     let low = two-taken first.0.1 second.0 second.1 in
-    let is = some-same (first.0.0 * 100 + second.0.0, second.0.1) x second.2 in
+    let is = same_Some (first.0.0 * 100 + second.0.0, second.0.1) x second.2 in
     record {
       text = high.a ∷ high.b ∷ low.a ∷ low.b ∷ [];
       splits = high.splits ∙ ap (λ r. high.a ∷ high.b ∷ r) low.splits ∙ ap (λ (y : ℕ × List ℕ). high.a ∷ high.b ∷ low.a ∷ low.b ∷ y.1) is;
@@ -292,9 +290,6 @@ offset-taken bs seconds e =
           value = sym done;
         }
 
-same-byte : (a b : ℕ) → (a == b) ≡ true → a ≡ b
-same-byte a b e = grind (arith, e)
-
 ahead-taken : (o : Option ℕ) (z : ℤ) → ahead o ≡ Some z → (seconds : ℕ) × (o ≡ Some seconds) × (z ≡ pos seconds)
 ahead-taken None z e = absurd (cc)
 ahead-taken (Some seconds) z e = let same : pos seconds ≡ z = cc in (seconds, refl, sym same)
@@ -311,13 +306,13 @@ zone-taken (b ∷ bs) z e = utc_or (b == 90 && is_at_end bs) refl e
     west_or : (t : Bool) → (b == 45) ≡ t → (if t then back (offset_in bs) else None) ≡ Some z → NamesZone (b ∷ bs) z
     west_or true is e =
         let found = back-taken (offset_in bs) z e in
-        west bs found.0 (ap (λ c. c ∷ bs) (same-byte b 45 is)) (offset-taken bs found.0 found.1) found.2
+        west bs found.0 (ap (λ c. c ∷ bs) (eqb-true b 45 is)) (offset-taken bs found.0 found.1) found.2
     west_or false is e = absurd (cc)
 
     east_or : (t : Bool) → (b == 43) ≡ t → (if t then ahead (offset_in bs) else if b == 45 then back (offset_in bs) else None) ≡ Some z → NamesZone (b ∷ bs) z
     east_or true is e =
         let found = ahead-taken (offset_in bs) z e in
-        east bs found.0 (ap (λ c. c ∷ bs) (same-byte b 43 is)) (offset-taken bs found.0 found.1) found.2
+        east bs found.0 (ap (λ c. c ∷ bs) (eqb-true b 43 is)) (offset-taken bs found.0 found.1) found.2
     east_or false is e = west_or (b == 45) refl e
 
     utc_or : (t : Bool) → (b == 90 && is_at_end bs) ≡ t
@@ -325,7 +320,7 @@ zone-taken (b ∷ bs) z e = utc_or (b == 90 && is_at_end bs) refl e
     utc_or true is e =
         let parts = and_parts (b == 90) (is_at_end bs) is in
         let same : pos 0 ≡ z = cc in
-        utc (ap (λ c. c ∷ bs) (same-byte b 90 parts.0) ∙ ap (λ r. 90 ∷ r) (at-end bs parts.1)) (sym same)
+        utc (ap (λ c. c ∷ bs) (eqb-true b 90 parts.0) ∙ ap (λ r. 90 ∷ r) (at-end bs parts.1)) (sym same)
     utc_or false is e = east_or (b == 43) refl e
 
 -- ---- a moment

@@ -1,10 +1,10 @@
 -- A text of one space is the text of its nodes; what is the text of such nodes is read as them; two texts, one after the other.
 use Rattle.std.proofs.Common.{◌≡◌, ◌≢◌, ℕ, zero, suc, Bool, true, false, eqb, List, [], ◌∷◌, ◌++◌, length, Option, Some, None, refl, sym, ap, subst, ◌∙◌, arith}
-use Rattle.std.specs.Prelude.{◌&&◌}
 use Rattle.std.specs.List.{list_all}
-use Rattle.std.proofs.lemmas.Bool.{and_parts, and_from, not-true}
+use Rattle.std.proofs.lemmas.Bool.{and_parts, and_from, not-true, both_ways}
 use Rattle.std.proofs.lemmas.List.{append-nil}
-use Rattle.std.proofs.lemmas.Option.{same_Some, cond_some}
+use Rattle.std.proofs.lemmas.Option.{same_Some, cond_some, none-some}
+use Rattle.std.proofs.Math.Bool.{and-false}
 use Rattle.redl_tree.specs.Model.Nodes.{Tag, Nodes, no_nodes, bytes, element, ◌⊕◌}
 use Rattle.redl_tree.specs.Model.Nodes.{Close, Empty, End}
 use Rattle.redl_tree.specs.Model.Text.{text}
@@ -31,13 +31,10 @@ use Rattle.redl_tree.specs.Model.Folds.{plain_tag, one_element}
 use Rattle.redl_tree.specs.Model.Folds.{Open, Level, level, shut, put, all_shut, Spot, level_step, nodes_at, nodes_in, Reads}
 use Rattle.redl_tree.specs.Model.Laid.{last_is_bytes, ends_with_bytes, Fits}
 use Rattle.redl_tree.specs.Model.Laid.{IsLaidTag, AreLaid}
-use Rattle.redl_tree.proofs.FoldSteps.{left, none_some, level_goes, level_ends, level_fails, level_refuses, level_shrinks}
+use Rattle.redl_tree.proofs.FoldSteps.{left, level_goes, level_ends, level_fails, level_refuses, level_shrinks}
 use Rattle.redl_tree.proofs.SameBytes.{same_name}
 use Rattle.redl_tree.proofs.TreeTexts.{close_then, tree_then, tree-then, tree_then-⊕}
 use Rattle.redl_tree.proofs.SameBytes.{bytes_same}
-
-not_both : (b : Bool) → b ≡ true → b ≡ false → ⊥
-not_both b p q = cc
 
 -- ---- the text so far
 
@@ -56,7 +53,7 @@ shut_some space f fs kids name white s' e =
     (same_name f.name name c.0, c.1)
 
 shut_text : (space : Space) (fs : List Open) (kids : Nodes) (name : Name) (white : List ℕ) (s' : Level) (rest : List ℕ) → shut space fs kids name white ≡ Some s' → level_then s' rest ≡ opens_then fs (tree_then kids (piece_then (end_tag name white) rest))
-shut_text space [] kids name white s' rest e = absurd (none_some s' e)
+shut_text space [] kids name white s' rest e = absurd (none-some s' e)
 shut_text space (f ∷ fs) kids name white s' rest e =
     let c = shut_some space f fs kids name white s' e in
     let P : Level → Type 0 = λ s. level_then s rest ≡ opens_then (f ∷ fs) (tree_then kids (piece_then (end_tag name white) rest)) in
@@ -105,13 +102,9 @@ pub record IsLaidAt (space : Space) (s : Level) (rest : List ℕ) : Type 0 where
   pub kids_laid : AreLaid space s.kids
   pub follows : ends_with_bytes s.kids ≡ true → ends_stretch rest ≡ true
 
-none_and : (t : Bool) → (t && false) ≡ false
-none_and true = refl
-none_and false = refl
-
 item_goes_on : (bs : List ℕ) → begins_item bs ≡ true → ends_stretch bs ≡ false
 item_goes_on [] e = absurd cc
-item_goes_on (b ∷ bs) e = rw e (none_and (eqb b 60))
+item_goes_on (b ∷ bs) e = rw e (and-false (eqb b 60))
 
 content_goes_on : (first : List ℕ) (more : List (Item × List ℕ)) (rest : List ℕ) → list_all (is_other 60) first ≡ true → (first ++ items_then more [] ≢ []) → ends_stretch (first ++ items_then more rest) ≡ false
 content_goes_on [] [] rest h filled = absurd (filled refl)
@@ -129,11 +122,11 @@ put_element : (space : Space) (fs : List Open) (before : Nodes) (name : Name) (t
 put_element space fs before name tail close kids rest opens b n t c k = record {
   opens_laid = opens;
   kids_laid = laid-⊕ space before (one_element name space tail close kids) b (record { name = n; tail = t; of_space = refl; kind = refl; rev = refl }, c, k, tt) (λ e. refl);
-  follows = λ h. absurd (not_both _ h (ends-⊕_element false before (plain_tag name space tail close) kids));
+  follows = λ h. absurd (both_ways _ (ends-⊕_element false before (plain_tag name space tail close) kids) h);
 }
 
 shut_laid : (space : Space) (fs : List Open) (kids : Nodes) (name : Name) (white : List ℕ) (s' : Level) (rest : List ℕ) → shut space fs kids name white ≡ Some s' → AreLaidOpen space fs → AreLaid space kids → ClosesBy (End white) kids → IsLaidAt space s' rest
-shut_laid space [] kids name white s' rest e hf hk c = absurd (none_some s' e)
+shut_laid space [] kids name white s' rest e hf hk c = absurd (none-some s' e)
 shut_laid space (f ∷ fs) kids name white s' rest e hf hk c =
     let r = shut_some space f fs kids name white s' e in
     let P : Level → Type 0 = λ s. IsLaidAt space s rest in
@@ -154,7 +147,7 @@ put_laid space (empty_tag name tail) s s' rest e h f laid =
     subst P (same_Some (level s.open_elements (s.kids ⊕ one_element name space tail Empty no_nodes)) s' e)
     (put_element space s.open_elements s.kids name tail Empty no_nodes rest laid.opens_laid laid.kids_laid h.0 h.1 refl tt)
 put_laid space (stretch b) s s' rest e h f laid =
-    let apart : ends_with_bytes s.kids ≡ true → ⊥ = λ yes. not_both _ (laid.follows yes) (stretch_goes_on b rest h) in
+    let apart : ends_with_bytes s.kids ≡ true → ⊥ = λ yes. both_ways _ (stretch_goes_on b rest h) (laid.follows yes) in
     let P : Level → Type 0 = λ t. IsLaidAt space t rest in
     subst P (same_Some (level s.open_elements (s.kids ⊕ bytes b no_nodes)) s' e) (record {
       opens_laid = laid.opens_laid;
@@ -170,17 +163,17 @@ pub record IsRead (space : Space) (s : Level) (bs : List ℕ) (u : Nodes) : Type
   pub laid : AreLaid space u
 
 end_read : (space : Space) (fs : List Open) (kids u : Nodes) → all_shut fs kids ≡ Some u → AreLaid space kids → IsRead space (level fs kids) [] u
-end_read space (f ∷ fs) kids u e l = absurd (none_some u e)
+end_read space (f ∷ fs) kids u e l = absurd (none-some u e)
 end_read space [] kids u e l =
     let P : Nodes → Type 0 = λ v. IsRead space (level [] kids) [] v in
     subst P (same_Some kids u e) (record { whole = refl; laid = l })
 
 read_turns : (n : ℕ) (space : Space) (bs : List ℕ) (s : Level) (u : Nodes) → turns (level_step space) n (bs, s) ≡ Some u → IsLaidAt space s bs → IsRead space s bs u
-read_turns zero space bs s u e l = absurd (none_some u e)
+read_turns zero space bs s u e l = absurd (none-some u e)
 read_turns (suc n) space [] s u e l = end_read space s.open_elements s.kids u (rw (level_ends space s) at e) l.kids_laid
 read_turns (suc n) space (b ∷ bs) s u e l = by_piece (piece_at InElement (b ∷ bs)) refl (λ cs t. read_turns n space cs t u) where
   by_put : (x : Piece × List ℕ) → piece_at InElement (b ∷ bs) ≡ Some x → (o : Option Level) → put space x.0 s ≡ o → ((cs : List ℕ) (t : Level) → turns (level_step space) n (cs, t) ≡ Some u → IsLaidAt space t cs → IsRead space t cs u) → IsRead space s (b ∷ bs) u
-  by_put x g None p go = absurd (none_some u (rw (level_refuses space s (b ∷ bs) x g p) at e))
+  by_put x g None p go = absurd (none-some u (rw (level_refuses space s (b ∷ bs) x g p) at e))
   by_put x g (Some s') p go =
       let k = piece_takes InElement (b ∷ bs) x g in
       let P : List ℕ → Type 0 = λ cs. IsLaidAt space s cs in
@@ -189,7 +182,7 @@ read_turns (suc n) space (b ∷ bs) s u e l = by_piece (piece_at InElement (b �
       record { whole = more.whole ∙ put_text space x.0 s s' x.1 p ∙ ap (level_then s) (sym k.whole); laid = more.laid }
 
   by_piece : (o : Option (Piece × List ℕ)) → piece_at InElement (b ∷ bs) ≡ o → ((cs : List ℕ) (t : Level) → turns (level_step space) n (cs, t) ≡ Some u → IsLaidAt space t cs → IsRead space t cs u) → IsRead space s (b ∷ bs) u
-  by_piece None g go = absurd (none_some u (rw (level_fails space s b bs g) at e))
+  by_piece None g go = absurd (none-some u (rw (level_fails space s b bs g) at e))
   by_piece (Some x) g go = by_put x g (put space x.0 s) refl go
 
 pub nodes_sound : (space : Space) (t : List ℕ) (u : Nodes) → nodes_at space t ≡ Some u → IsRead space (level [] no_nodes) t u
@@ -289,7 +282,7 @@ nodes_again space u h =
 
 begins_apart : (space : Space) (v : Nodes) → AreLaid space v → ends_stretch (tree_then v []) ≡ true → begins_with_bytes v ≡ false
 begins_apart space no_nodes h e = refl
-begins_apart space (bytes b rest) h e = absurd (not_both _ e (stretch_goes_on b (tree_then rest []) h.0))
+begins_apart space (bytes b rest) h e = absurd (both_ways _ (stretch_goes_on b (tree_then rest []) h.0) e)
 begins_apart space (element tag kids rest) h e = refl
 
 -- Two texts, one after the other, have the nodes of the one and of the other, unless a stretch would go on.

@@ -12,9 +12,6 @@ use Rattle.redl_tree.specs.Model.Folds.{Level, Spot, put, from_level, from_read,
 abbrev pub left : Spot → ℕ
 left p = length p.0
 
-pub none_some : {A : Type 0} (x : A) → None ≡ Some x → ⊥
-none_some x e = cc
-
 -- no piece is read where there is nothing
 not_short : (x : Piece × List ℕ) → piece_at InElement [] ≡ Some x → ⊥
 not_short x e = let h = piece_shorter InElement [] x e in absurd (omega (arith, h))

@@ -1,14 +1,14 @@
 -- Laws of joined paragraphs: no byte outside their properties is lost, and all of them keep their order.
 use Rattle.std.proofs.Common.{◌≡◌, ℕ, List, [], ◌∷◌, ◌++◌, append_assoc, Bool, true, false, ◌&&◌, ◌||◌, not, Option, Some, None, refl, sym, ap, ◌∙◌, true≢false, if◌then◌else◌}
 use Rattle.std.proofs.lemmas.List.{append-nil}
-use Rattle.std.proofs.lemmas.Bool.{and_parts}
+use Rattle.std.proofs.lemmas.Bool.{and_parts, cond-true, cond-false}
 use Rattle.redl_tree.specs.Model.Nodes.{Tag, Nodes, no_nodes, bytes, element, ◌⊕◌}
 use Rattle.redl_tree.specs.Roles.Names.{is}
 use Rattle.redl_tree.specs.Model.Kids.{only, without, has_element}
 use Rattle.redl_tree.specs.Decisions.Groups.{Piece, para, thin, thick, has_thick, joins, taken, joined_tag, joined_kids, settled, given, held_by, grouped_from, grouped}
 use Rattle.redl_tree.specs.Decisions.Beside.{bytes_beside, bytes_of_each, are_named}
 use Rattle.redl_tree.proofs.Named.{by_name}
-use Rattle.redl_tree.proofs.PassLaws.{if_true, if_false, Takes, takes-next}
+use Rattle.redl_tree.proofs.PassLaws.{Takes, takes-next}
 
 beside-⊕ : (xs ys : Nodes) → bytes_beside (xs ⊕ ys) ≡ bytes_beside xs ++ bytes_beside ys
 beside-⊕ no_nodes ys = refl
@@ -25,7 +25,7 @@ beside-without (element tag kids rest) = at (is "pPr" tag) refl (beside-without 
     at : (b : Bool) → is "pPr" tag ≡ b → bytes_beside (without (is "pPr") rest) ≡ bytes_beside rest →
         bytes_beside (if b then without (is "pPr") rest else element tag kids (without (is "pPr") rest))
         ≡ (if is "pPr" tag then [] else bytes_beside kids) ++ bytes_beside rest
-    at true e ih = ih ∙ ap (λ ts. ts ++ bytes_beside rest) (sym (if_true (is "pPr" tag) [] (bytes_beside kids) e))
+    at true e ih = ih ∙ ap (λ ts. ts ++ bytes_beside rest) (sym (cond-true (is "pPr" tag) [] (bytes_beside kids) e))
     at false e ih = ap (λ ts. (if is "pPr" tag then [] else bytes_beside kids) ++ ts) ih
 
 beside-only : (xs : Nodes) → bytes_beside (only (is "pPr") xs) ≡ []
@@ -35,7 +35,7 @@ beside-only (element tag kids rest) = at (is "pPr" tag) refl (beside-only rest)
   where
     at : (b : Bool) → is "pPr" tag ≡ b → bytes_beside (only (is "pPr") rest) ≡ [] →
         bytes_beside (if b then element tag kids (only (is "pPr") rest) else only (is "pPr") rest) ≡ []
-    at true e ih = ap (λ ts. ts ++ bytes_beside (only (is "pPr") rest)) (if_true (is "pPr" tag) [] (bytes_beside kids) e) ∙ ih
+    at true e ih = ap (λ ts. ts ++ bytes_beside (only (is "pPr") rest)) (cond-true (is "pPr" tag) [] (bytes_beside kids) e) ∙ ih
     at false e ih = ih
 
 abbrev beside_held : Option Nodes → List (List ℕ)
@@ -49,7 +49,7 @@ beside-settled ends tag kids q = at (ends && not (has_element (without (is "pPr"
     at true = beside-without kids
     at false =
         append-nil (if is "pPr" tag then [] else bytes_beside kids)
-        ∙ if_false (is "pPr" tag) [] (bytes_beside kids) (by_name (λ t. is "pPr" t ≡ false) "p" tag q refl)
+        ∙ cond-false (is "pPr" tag) [] (bytes_beside kids) (by_name (λ t. is "pPr" t ≡ false) "p" tag q refl)
 
 beside-joined : (held : Option Nodes) (kids : Nodes) → bytes_beside (joined_kids held kids) ≡ beside_held held ++ bytes_beside kids
 beside-joined None kids = refl

@@ -1,6 +1,9 @@
 -- Laws of names: an element with one name has no other, and is no element of mathematics.
 use Prim.Native.String.{String}
 use Rattle.std.proofs.Common.{◌≡◌, ◌∙◌, refl, sym, ap, List, [], ◌∷◌, Bool, true, false, true≢false, ◌&&◌, ◌||◌, not, codes, bytes_eq}
+use Rattle.std.specs.Cmp.{first_so, second_so}
+use Rattle.std.proofs.Math.Bool.{and-false, or-false, or-true}
+use Rattle.std.proofs.lemmas.Bool.{not-true}
 use Rattle.redl_tree.specs.Model.Nodes.{Tag}
 use Rattle.redl_tree.specs.Roles.Names.{is, is_any, is_w, is_m, is_math}
 use Rattle.redl_tree.specs.Roles.Places.{is_quiet}
@@ -9,40 +12,12 @@ use Rattle.redl_tree.specs.declared.kinds.Space.{Space}
 use Rattle.redl_tree.specs.declared.kinds.Space.TheVariants.{W, M, Pkg, Other}
 use Rattle.redl_tree.proofs.SameBytes.{same_bytes}
 
-pub and-left : (a b : Bool) → (a && b) ≡ true → a ≡ true
-and-left false b h = h
-and-left true b h = refl
-
-pub and-right : (a b : Bool) → (a && b) ≡ true → b ≡ true
-and-right false b h = absurd (true≢false (sym h))
-and-right true b h = h
-
-pub and-false : (a : Bool) → (a && false) ≡ false
-and-false false = refl
-and-false true = refl
-
-pub or-false : (a : Bool) → (a || false) ≡ a
-or-false false = refl
-or-false true = refl
-
-pub or-left : (a b : Bool) → (a || b) ≡ false → a ≡ false
-or-left false b h = refl
-or-left true b h = h
-
-pub or-right : (a b : Bool) → (a || b) ≡ false → b ≡ false
-or-right false b h = h
-or-right true b h = absurd (true≢false h)
-
-pub or-true : (a : Bool) → (a || true) ≡ true
-or-true false = refl
-or-true true = refl
-
 -- an element with one name has no other
 pub is-other : (name other : String) (tag : Tag) → is name tag ≡ true → bytes_eq (codes name) (codes other) ≡ false →
     is other tag ≡ false
 is-other name other tag h e =
     ap (λ bs. is_w tag.space && bytes_eq bs (codes other))
-    (same_bytes tag.local (codes name) (and-right (is_w tag.space) (bytes_eq tag.local (codes name)) h))
+    (same_bytes tag.local (codes name) (second_so (is_w tag.space) (bytes_eq tag.local (codes name)) h))
     ∙ ap (λ b. is_w tag.space && b) e
     ∙ and-false (is_w tag.space)
 
@@ -56,7 +31,7 @@ w-no_m Other h = refl
 pub is-no_math : (name other : String) (tag : Tag) → is name tag ≡ true → is_math other tag ≡ false
 is-no_math name other tag h =
     ap (λ b. b && bytes_eq tag.local (codes other))
-    (w-no_m tag.space (and-left (is_w tag.space) (bytes_eq tag.local (codes name)) h))
+    (w-no_m tag.space (first_so (is_w tag.space) (bytes_eq tag.local (codes name)) h))
 
 abbrev pub differs : String → List String → Bool
 differs name [] = true
@@ -67,10 +42,6 @@ abbrev pub all_differ : List String → List String → Bool
 all_differ [] others = true
 all_differ (name ∷ names) others = differs name others && all_differ names others
 
-not-true : (b : Bool) → not b ≡ true → b ≡ false
-not-true false h = refl
-not-true true h = sym h
-
 is_any-others : (name : String) (others : List String) (tag : Tag) → is name tag ≡ true → differs name others ≡ true →
     is_any others tag ≡ false
 is_any-others name [] tag h d = refl
@@ -78,8 +49,8 @@ is_any-others name (other ∷ others) tag h d =
     ap (λ b. b || is_any others tag)
     (is-other name other tag h
     (not-true (bytes_eq (codes name) (codes other))
-    (and-left (not (bytes_eq (codes name) (codes other))) (differs name others) d)))
-    ∙ is_any-others name others tag h (and-right (not (bytes_eq (codes name) (codes other))) (differs name others) d)
+    (first_so (not (bytes_eq (codes name) (codes other))) (differs name others) d)))
+    ∙ is_any-others name others tag h (second_so (not (bytes_eq (codes name) (codes other))) (differs name others) d)
 
 any-step : (a b : Bool) (P : Bool → Type 0) → (a || b) ≡ true → (a ≡ true → P true) → (a ≡ false → b ≡ true → P true) → P true
 any-step true b P h f g = f refl
@@ -91,8 +62,8 @@ pub is_any-apart : (names others : List String) (tag : Tag) → is_any names tag
 is_any-apart [] others tag h d = absurd (true≢false (sym h))
 is_any-apart (name ∷ names) others tag h d =
     any-step (is name tag) (is_any names tag) (λ b. is_any others tag ≡ false) h
-    (λ e. is_any-others name others tag e (and-left (differs name others) (all_differ names others) d))
-    (λ _ e. is_any-apart names others tag e (and-right (differs name others) (all_differ names others) d))
+    (λ e. is_any-others name others tag e (first_so (differs name others) (all_differ names others) d))
+    (λ _ e. is_any-apart names others tag e (second_so (differs name others) (all_differ names others) d))
 
 pub is_any-no_math : (names : List String) (other : String) (tag : Tag) → is_any names tag ≡ true → is_math other tag ≡ false
 is_any-no_math [] other tag h = absurd (true≢false (sym h))
@@ -158,8 +129,8 @@ pub is_any-among : (names others : List String) (tag : Tag) → is_any names tag
 is_any-among [] others tag h d = absurd (true≢false (sym h))
 is_any-among (name ∷ names) others tag h d =
     any-step (is name tag) (is_any names tag) (λ b. is_any others tag ≡ true) h
-    (λ e. is_any-one name others tag e (and-left (among name others) (all_among names others) d))
-    (λ _ e. is_any-among names others tag e (and-right (among name others) (all_among names others) d))
+    (λ e. is_any-one name others tag e (first_so (among name others) (all_among names others) d))
+    (λ _ e. is_any-among names others tag e (second_so (among name others) (all_among names others) d))
 
 -- the same from one name
 pub is-among : (name : String) (others : List String) (tag : Tag) → is name tag ≡ true → all_among (name ∷ []) others ≡ true →

@@ -1,7 +1,8 @@
 -- The steps of the pass over a list: a first node that is joined with no later one gives its part by itself, and a list is
 -- put together from the left.
 use Rattle.std.proofs.Common.{◌≡◌, ◌∙◌, refl, sym, ap, List, [], ◌∷◌, ◌++◌, Bool, true, false, true≢false, ◌&&◌, ◌||◌, Option, Some, None, if◌then◌else◌}
-use Rattle.std.proofs.lemmas.Bool.{and_parts}
+use Rattle.std.proofs.lemmas.Bool.{and_parts, and_left, and_right, cond-false}
+use Rattle.std.proofs.Math.Bool.{or_assoc}
 use Rattle.redl_tree.specs.Model.Nodes.{Tag, Nodes, no_nodes, bytes, element, ◌⊕◌}
 use Rattle.redl_tree.specs.Roles.Names.{is}
 use Rattle.redl_tree.specs.Model.Kids.{without}
@@ -28,14 +29,6 @@ leave_of Clear ic passed stays e = absurd (true≢false (sym e))
 leave_of Restore ic passed stays e = absurd (true≢false (sym e))
 leave_of Drop ic passed stays e = absurd (true≢false (sym e))
 
-pub if_false : {X : Type 0} (b : Bool) (x y : X) → b ≡ false → (if b then x else y) ≡ y
-if_false true x y e = absurd (true≢false e)
-if_false false x y e = refl
-
-pub if_true : {X : Type 0} (b : Bool) (x y : X) → b ≡ true → (if b then x else y) ≡ x
-if_true true x y e = refl
-if_true false x y e = absurd (true≢false (sym e))
-
 -- a paragraph that is left gives itself
 pub para_pass : (says : List Say) (ancestors : List Tag) (tag : Tag) (kids passed : Nodes) → is_block_para says ancestors tag ≡ true →
     element_pass says ancestors tag kids passed ≡ element (renamed says ancestors tag) (kept_kids says ancestors tag kids passed) no_nodes
@@ -44,7 +37,7 @@ para_pass says ancestors tag kids passed e =
     let b = and_parts (is "p" tag) (in_blocks ancestors) a.0 in
     let stays = element (renamed says ancestors tag) (kept_kids says ancestors tag kids passed) no_nodes in
     leave_of (fate_of says tag) (is_content tag.kind) passed (if goes_at says ancestors tag kids then no_nodes else stays) a.1
-    ∙ if_false (goes_at says ancestors tag kids) no_nodes stays (by_name (λ t. goes_at says ancestors t kids ≡ false) "p" tag b.0 refl)
+    ∙ cond-false (goes_at says ancestors tag kids) no_nodes stays (by_name (λ t. goes_at says ancestors t kids ≡ false) "p" tag b.0 refl)
 
 -- a paragraph that may be joined with another one is a `p`
 pub block_p : (says : List Say) (ancestors : List Tag) (tag : Tag) → is_block_para says ancestors tag ≡ true → is "p" tag ≡ true
@@ -103,21 +96,13 @@ pass-apart says ancestors tag kids rest e =
     step_apart false (is_block_para says ancestors tag) (is_thick tag) (para_is_cut says kids) (renamed says ancestors tag) (kept_kids says ancestors tag kids passed)
     (element_pass says ancestors tag kids passed) (pieces says ancestors rest) e (para_pass says ancestors tag kids passed)
 
-no_and : (a b : Bool) → a ≡ false → (a && b) ≡ false
-no_and true b e = absurd (true≢false e)
-no_and false b e = refl
-
-and_no : (a b : Bool) → b ≡ false → (a && b) ≡ false
-and_no true b e = e
-and_no false b e = refl
-
 -- outside of block lists all nodes are passed one by one
 pub pass-outside : (says : List Say) (ancestors : List Tag) (tag : Tag) (kids rest : Nodes) → in_blocks ancestors ≡ false →
     pass says ancestors (element tag kids rest) ≡ element_pass says ancestors tag kids (pass says (tag ∷ ancestors) kids) ⊕ pass says ancestors rest
 pass-outside says ancestors tag kids rest e =
     pass-apart says ancestors tag kids rest
-    (no_and (is_block_para says ancestors tag) (para_is_cut says kids)
-    (no_and (is "p" tag && in_blocks ancestors) (is_leave (fate_of says tag)) (and_no (is "p" tag) (in_blocks ancestors) e)))
+    (and_left (is_block_para says ancestors tag) (para_is_cut says kids)
+    (and_left (is "p" tag && in_blocks ancestors) (is_leave (fate_of says tag)) (and_right (is "p" tag) (in_blocks ancestors) e)))
 
 -- a list that is no block list is passed node by node
 pub pass-each : (says : List Say) (ancestors : List Tag) (nodes : Nodes) → in_blocks ancestors ≡ false → pass says ancestors nodes ≡ each says ancestors nodes
@@ -165,10 +150,6 @@ ends_cut (para tag cut kids ∷ ps) = if has_thick ps then ends_cut ps else cut
 ends_cut (thin nodes ∷ ps) = ends_cut ps
 ends_cut (thick nodes ∷ ps) = ends_cut ps
 
-or_assoc : (a b c : Bool) → ((a || b) || c) ≡ (a || (b || c))
-or_assoc true b c = refl
-or_assoc false b c = refl
-
 pub thick-append : (xs ys : List Piece) → has_thick (xs ++ ys) ≡ (has_thick xs || has_thick ys)
 thick-append [] ys = refl
 thick-append (para tag cut kids ∷ xs) ys = refl
@@ -204,7 +185,7 @@ joins-append (para tag cut kids) xs ys e = at (has_thick xs) refl e
   where
     at : (t : Bool) → has_thick xs ≡ t → ((if t then ends_cut xs else cut) && paragraph_next ys) ≡ false → (cut && paragraph_next (xs ++ ys)) ≡ (cut && paragraph_next xs)
     at true h e = ap (λ b. cut && b) (next-append xs ys h)
-    at false h e = ap (λ b. cut && b) (next-thin xs ys h) ∙ e ∙ sym (and_no cut (paragraph_next xs) (next-thick xs h))
+    at false h e = ap (λ b. cut && b) (next-thin xs ys h) ∙ e ∙ sym (and_right cut (paragraph_next xs) (next-thick xs h))
 joins-append (thin nodes) xs ys e = refl
 joins-append (thick nodes) xs ys e = refl
 

@@ -1,7 +1,8 @@
 -- Names by their numbers: an element has a name that is asked for exactly if it has the name's number.
-use Rattle.std.proofs.Common.{◌≡◌, ◌∙◌, refl, sym, ap, subst, ℕ, ◌==◌, List, [], ◌∷◌, Bool, true, false, true≢false, ◌&&◌, ◌||◌, not, codes, bytes_eq, arith}
+use Rattle.std.proofs.Common.{◌≡◌, ◌∙◌, refl, sym, ap, subst, ℕ, ◌==◌, List, [], ◌∷◌, Bool, true, false, true≢false, ◌&&◌, ◌||◌, not, codes, bytes_eq}
 use Rattle.std.specs.Prelude.{if◌then◌else◌}
-use Rattle.std.proofs.lemmas.Bool.{and_parts, eqb-true}
+use Rattle.std.proofs.lemmas.Bool.{and_parts, eqb-true, not-true, eq-eqb}
+use Rattle.std.proofs.Math.Bool.{and-false}
 use Rattle.redl_tree.specs.Roles.Names.{is_w}
 use Rattle.redl_tree.specs.Roles.Words.{name_of, number, words, number_among, number_in, place, number_by_place}
 use Rattle.redl_tree.specs.declared.kinds.Space.{Space}
@@ -9,7 +10,6 @@ use Rattle.redl_tree.specs.declared.kinds.Space.TheVariants.{W, M, Pkg, Other}
 use Rattle.redl_tree.specs.declared.word.Word.{Word}
 use Rattle.redl_tree.specs.declared.word.Word.TheVariants.{P, R, Tr, Tc, Tbl, Ins, Del, Sdt, Hdr, Ftr, PPr, RPr, Body, TrPr, TcPr, TblPr, SdtPr, TblGrid, SectPr, TblPrEx, MoveFrom, MoveTo, CustomXml, SdtContent, SdtEndPr, TxbxContent, AltChunk, Comment, Comments, Footnote, Footnotes, Endnote, Endnotes, Document, CellIns, CellDel, CellMerge, DelText, DelInstrText, HeaderReference, FooterReference, RPrChange, PPrChange, SectPrChange, TblPrChange, TblPrExChange, TrPrChange, TcPrChange, MoveFromRangeStart, MoveFromRangeEnd, MoveToRangeStart, MoveToRangeEnd}
 use Rattle.redl_tree.specs.Model.Cuts.{name_now, is_live}
-use Rattle.redl_tree.proofs.NameLaws.{and-false}
 use Rattle.redl_tree.proofs.SameBytes.{same_bytes}
 
 -- no other of these has the number of this one
@@ -88,10 +88,6 @@ pub record IsApart (word : Word) : Type 0 where
   pub no_text : bytes_eq (codes "t") (name_of word) ≡ false
   pub no_instruction : bytes_eq (codes "instrText") (name_of word) ≡ false
 
-not_true : (b : Bool) → not b ≡ true → b ≡ false
-not_true false h = refl
-not_true true h = sym h
-
 pub apart : (word : Word) → IsApart word
 apart word = parts (number_among words (name_of word) == number word) (is_only word words) (0 == number word) (254 == number word) (255 == number word)
     (bytes_eq (codes "t") (name_of word)) (bytes_eq (codes "instrText") (name_of word)) refl refl refl refl refl refl refl (told_apart word) where
@@ -107,9 +103,6 @@ apart word = parts (number_among words (name_of word) == number word) (is_only w
       parts true true false false true _ _ a b c d e f g h = absurd (true≢false (sym h))
       parts true true false false false true _ a b c d e f g h = absurd (true≢false (sym h))
       parts true true false false false false true a b c d e f g h = absurd (true≢false (sym h))
-
-same_as_itself : (n : ℕ) → (n == n) ≡ true
-same_as_itself n = grind arith
 
 another : (word : Word) (others : List Word) (local : List ℕ) → is_only word others ≡ true → (0 == number word) ≡ false
     → bytes_eq local (name_of word) ≡ false → (number_among others local == number word) ≡ false
@@ -177,11 +170,11 @@ elsewhere : (those : List Word) (name : List ℕ) → is_away (place name) those
 elsewhere [] name away = refl
 elsewhere (word ∷ those) name away =
     let both = and_parts (not (place name == place (name_of word))) (is_away (place name) those) away in
-    by_case (bytes_eq name (name_of word)) refl (not_true (place name == place (name_of word)) both.0) (elsewhere those name both.1) where
+    by_case (bytes_eq name (name_of word)) refl (not-true (place name == place (name_of word)) both.0) (elsewhere those name both.1) where
       by_case : (b : Bool) → bytes_eq name (name_of word) ≡ b → (place name == place (name_of word)) ≡ false → number_among those name ≡ 0
           → (if b then number word else number_among those name) ≡ 0
       by_case true same differs later =
-          absurd (true≢false (sym (same_as_itself (place (name_of word))) ∙ ap (λ x. place x == place (name_of word)) (sym (same_bytes name (name_of word) same)) ∙ differs))
+          absurd (true≢false (sym (eq-eqb (place (name_of word)) (place (name_of word)) refl) ∙ ap (λ x. place x == place (name_of word)) (sym (same_bytes name (name_of word) same)) ∙ differs))
       by_case false other differs later = later
 
 found_by_place : (those : List Word) (name : List ℕ) → are_apart those ≡ true → number_by_place those (place name) name ≡ number_among those name
@@ -196,7 +189,7 @@ found_by_place (word ∷ those) name apart =
       by_case true false here differs away later =
           sym (elsewhere those name (subst (λ at. is_away at those ≡ true) (sym (eqb-true (place name) (place (name_of word)) here)) away))
       by_case false true there same away later =
-          absurd (true≢false (sym (same_as_itself (place (name_of word))) ∙ ap (λ x. place x == place (name_of word)) (sym (same_bytes name (name_of word) same)) ∙ there))
+          absurd (true≢false (sym (eq-eqb (place (name_of word)) (place (name_of word)) refl) ∙ ap (λ x. place x == place (name_of word)) (sym (same_bytes name (name_of word) same)) ∙ there))
       by_case false false there differs away later = later
 
 pub by_place : (name : List ℕ) → number_by_place words (place name) name ≡ number_among words name

@@ -1,5 +1,6 @@
 -- What the walk shows of idle nodes is what they show by themselves.
 use Rattle.std.proofs.Common.{◌≡◌, ◌∙◌, refl, sym, ap, ℕ, List, [], ◌∷◌, ◌++◌, append-nil, append_assoc, Bool, true, false, ◌&&◌, ◌||◌, not, Option, Some, None, option_map, codes, bytes_eq, if◌then◌else◌}
+use Rattle.std.proofs.Math.Bool.{or-false, and-false}
 use Rattle.redl_tree.specs.Model.Nodes.{Tag, Nodes, no_nodes, bytes, element, ◌⊕◌}
 use Rattle.redl_tree.specs.Model.Kids.{has_element}
 use Rattle.redl_tree.specs.Model.IdleTexts.{idle_nodes}
@@ -13,7 +14,6 @@ use Rattle.redl_tree.specs.Decisions.Tables.{goes, para_is_cut}
 use Rattle.redl_tree.specs.declared.kinds.Say.{Say}
 use Rattle.redl_tree.specs.declared.lists.Place.{Place}
 use Rattle.redl_tree.proofs.Laws.{⊕-no_nodes}
-use Rattle.redl_tree.proofs.NameLaws.{and-false}
 use Rattle.redl_tree.proofs.Named.{by_name}
 use Rattle.redl_tree.proofs.Idle.Tags.{Idle, idle_parts, has-not}
 use Rattle.redl_tree.proofs.Idle.Lists.{thick_none}
@@ -136,11 +136,7 @@ text_one : (says : List Say) (above : Summary) (in_run : Bool) (tag : Tag) → I
 text_one says above in_run tag i =
     ap (λ k. if is_content k && is_free (fate k (say_of says tag.rev)) then above.shown else is_text above tag) i.kind
     ∙ ap (λ d. is "t" tag || (revives above.ancestors && d)) (has-not "delText" in_run tag i refl)
-    ∙ ap (λ b. is "t" tag || b) (and-false (revives above.ancestors)) ∙ or_none (is "t" tag) ∙ name_same in_run tag i (codes "t")
-  where
-    or_none : (b : Bool) → (b || false) ≡ b
-    or_none true = refl
-    or_none false = refl
+    ∙ ap (λ b. is "t" tag || b) (and-false (revives above.ancestors)) ∙ or-false (is "t" tag) ∙ name_same in_run tag i (codes "t")
 
 module _ (says : List Say) (above : Summary) (in_run : Bool) (tag : Tag) (kids : Nodes) (i : Idle in_run tag) where
   -- given what its kids show

@@ -2,6 +2,7 @@
 use Rattle.std.proofs.Common.{◌≡◌, ℕ, ◌-◌, arith, length, take, drop, List, [], ◌∷◌, ◌++◌, Bool, true, false, ◌&&◌, ◌||◌, not, Option, Some, None, option_map, refl, sym, ap, ◌∙◌, true≢false, codes, if◌then◌else◌}
 use Rattle.std.proofs.lemmas.Bool.{and_parts}
 use Rattle.std.proofs.lemmas.List.{take_all, length-drop}
+use Rattle.std.proofs.Math.Bool.{or-false, or-true, or_assoc}
 use Rattle.redl_tree.specs.Model.Nodes.{Tag, Nodes, no_nodes, bytes, element, Item, bytes_item, element_item, idle_item, in_front}
 use Rattle.redl_tree.specs.Model.Kids.{some_element}
 use Rattle.redl_tree.specs.Roles.Names.{is}
@@ -31,26 +32,18 @@ use Rattle.redl_views.specs.Walks.{summary_of, inside_of, is_cut_para, or_next, 
 use Rattle.redl_views.proofs.IdleLaws.{view_idle, gives_idle, next_idle}
 use Rattle.redl_views.proofs.ViewLaws.{alike, freed_content, content_loud, p_thick}
 
-or_none : (b : Bool) → (b || false) ≡ b
-or_none true = refl
-or_none false = refl
-
-or_true : (b : Bool) → (b || true) ≡ true
-or_true true = refl
-or_true false = refl
-
 -- a `t` after the pass
 text-renamed : (tag : Tag) (b : Bool) → is "t" (if b then live_name tag else tag) ≡ (is "t" tag || (b && is "delText" tag))
-text-renamed tag false = sym (or_none (is "t" tag))
+text-renamed tag false = sym (or-false (is "t" tag))
 text-renamed tag true = at_text (is "delText" tag) refl
   where
     at_instr : (c : Bool) → is "delInstrText" tag ≡ c → is "t" (if c then record tag { local = codes "instrText" } else tag) ≡ (is "t" tag || false)
     at_instr true e = by_name (λ t. is "t" (record t { local = codes "instrText" }) ≡ (is "t" t || false)) "delInstrText" tag e refl
-    at_instr false e = sym (or_none (is "t" tag))
+    at_instr false e = sym (or-false (is "t" tag))
 
     at_text : (c : Bool) → is "delText" tag ≡ c →
         is "t" (if c then record tag { local = codes "t" } else if is "delInstrText" tag then record tag { local = codes "instrText" } else tag) ≡ (is "t" tag || c)
-    at_text true e = by_name (λ t. is "t" (record t { local = codes "t" }) ≡ true) "delText" tag e refl ∙ sym (or_true (is "t" tag))
+    at_text true e = by_name (λ t. is "t" (record t { local = codes "t" }) ≡ true) "delText" tag e refl ∙ sym (or-true (is "t" tag))
     at_text false e = at_instr (is "delInstrText" tag) refl
 
 pub inside-summary : (says : List Say) (ancestors : List Tag) (tag : Tag) → inside_of says tag (summary_of says ancestors) ≡ summary_of says (tag ∷ ancestors)
@@ -283,17 +276,10 @@ next-in_front says above (bytes_item b) rest = refl
 next-in_front says above (element_item tag kids) rest = refl
 next-in_front says above (idle_item t) rest = next_idle says above t rest
 
-or_assoc : (a b c : Bool) → ((a || b) || c) ≡ (a || (b || c))
-or_assoc true b c = refl
-or_assoc false b c = refl
-
 pub gives-more : (says : List Say) (above : Summary) (x : Item) (left rest : Nodes) (a own whole : Bool) → left ≡ in_front x rest → own ≡ item_gives says above x → (a || gives says above left) ≡ whole →
     ((a || own) || gives says above rest) ≡ whole
 gives-more says above x left rest a own whole e o h =
     or_assoc a own (gives says above rest) ∙ ap (λ b. a || (b || gives says above rest)) o ∙ ap (λ b. a || b) (sym (gives-in_front says above x rest)) ∙ ap (λ n. a || gives says above n) (sym e) ∙ h
-
-pub or-none : (b : Bool) → (b || false) ≡ b
-or-none b = or_none b
 
 -- the same with the summary, the kids and the end that the code has
 pub walked-text : (says : List Say) (above : Summary) (tag : Tag) (kids : Nodes) (inside : Summary) (nodes : Nodes) (loses own : Bool) →

@@ -7,6 +7,7 @@ use Rattle.std.proofs.lemmas.Option.{same_Some, cond_some}
 use Rattle.std.proofs.lemmas.List.Sums.{AllPass-from_list_all, list_all-from_AllPass}
 use Rattle.std.proofs.lemmas.List.Elements.{recursion_from_All, All-from_recursion}
 use Rattle.std.proofs.lemmas.Str.{IsUtf8-from_ascii}
+use Rattle.redl_reading.proofs.Options.{map_some}
 use Rattle.redl_journal.specs.declared.entry.Word.{Word}
 use Rattle.redl_journal.specs.Reading.{number_in, is_reviewer}
 use Rattle.redl_reading.specs.Steps.{◌>>=◌}
@@ -32,7 +33,7 @@ use Rattle.redl_words.specs.Views.{command_of}
 use Rattle.redl_words.specs.Reading.Answers.{Finds}
 use Rattle.redl_words.specs.Reading.Items.{Gathered, nothing, gathered}
 use Rattle.redl_words.specs.Reading.Commands.{verb_in, say_in, settle_in, view_in, text_with, text_in, format_or_text, rank_or_0, Asked, asked_of, asked_in, as_list, as_report, list_in, report_in, page_in, write_in, decide_with, decide_in, resume_in, names_in, join_in, check_in, sample_in, command_with, command_in}
-use Rattle.redl_words.proofs.SelectionLaws.{bytes_same, map_some, pick}
+use Rattle.redl_words.proofs.SelectionLaws.{bytes_same, pick}
 use Rattle.redl_words.proofs.LockLaws.{lock_utf8}
 use Rattle.redl_words.proofs.ItemLaws.{form_of, items_take, read_again}
 use Rattle.redl_words.proofs.SittingLaws.{sittings_take, sittings_again, firsts_utf8, seconds_utf8}

@@ -715,7 +715,3 @@ later_utf8 word later words e h =
 pub no_words_left : (form : Form) (items : Gathered) (words : List (List ℕ)) → length words ≡ 0 → gathered form items words ≡ Some items
 no_words_left form items [] e = no_words form items
 no_words_left form items (word ∷ words) e = absurd (omega arith)
-
-pub empty_list : {A : Type 0} (xs : List A) → length xs ≡ 0 → xs ≡ []
-empty_list [] e = refl
-empty_list (x ∷ xs) e = absurd (omega arith)

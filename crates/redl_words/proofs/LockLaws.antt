@@ -2,6 +2,7 @@
 use Rattle.std.proofs.Common.{◌≡◌, ℕ, List, Some, refl, sym, ap, subst, ◌∙◌, IsUtf8, false}
 use Rattle.std.specs.Prelude.{ℤ, codes, option_map}
 use Rattle.std.proofs.lemmas.Option.{same_Some}
+use Rattle.redl_reading.proofs.Options.{map_some}
 use Rattle.redl_index.specs.KindNames.{kind_named}
 use Rattle.redl_index.proofs.KindNameLaws.{kind_named-exact}
 use Rattle.redl_select.specs.declared.lock.Lock.{Lock}
@@ -13,7 +14,7 @@ use Rattle.redl_words.specs.Reading.Locks.{lock_in}
 use Rattle.redl_words.specs.Reading.Selections.{moments_in}
 use Rattle.redl_words.specs.declared.options.Locked.{Locked}
 use Rattle.redl_words.specs.declared.options.Locked.TheVariants as locked
-use Rattle.redl_words.proofs.SelectionLaws.{map_some, dates_take, dates_again}
+use Rattle.redl_words.proofs.SelectionLaws.{dates_take, dates_again}
 
 -- what a lock is on, and the option of that
 abbrev pub lock_on : Lock → Locked

@@ -3,7 +3,7 @@ use Rattle.std.proofs.Common.{◌≡◌, ◌≢◌, ℕ, ◌+◌, ◌^◌, ◌<�
 use Rattle.std.specs.Prelude.{ℤ, codes, decimal, nat_le, option_map}
 use Rattle.std.specs.List.{list_all, join_with_byte, slice_split, count_by, AllByRecursion}
 use Rattle.std.specs.Str.{bytes_eq}
-use Rattle.std.proofs.lemmas.Bool.{eqb-true, le-leb, leb-true, and_parts, and_from, cases_Bool}
+use Rattle.std.proofs.lemmas.Bool.{eqb-true, le-leb, leb-true, and_parts, and_from, cases_Bool, eq-eqb}
 use Rattle.std.proofs.lemmas.List.{at_drop_more, at_drop_all}
 use Rattle.std.proofs.lemmas.Option.{same_Some, cond_some}
 use Rattle.std.proofs.lemmas.List.Splits.{join_with_byte-slice_split, length-slice_split, slice_split_none, slice_split_at}
@@ -11,6 +11,7 @@ use Rattle.std.proofs.lemmas.List.Folds.{list_all-append}
 use Rattle.std.proofs.lemmas.List.Elements.{All-from_recursion, recursion_from_All}
 use Rattle.std.proofs.lemmas.Slice.Eq.{bytes_eq-Decides}
 use Rattle.std.proofs.lemmas.Str.Pattern.{IsSplitOnceResult, split_parts}
+use Rattle.redl_reading.proofs.Options.{map_some}
 use Rattle.redl_stamp.specs.Moment.{moment_of}
 use Rattle.redl_journal.specs.Reading.{number_in}
 use Rattle.redl_reading.specs.Steps.{Gives}
@@ -18,7 +19,6 @@ use Rattle.redl_reading.specs.Lists.{field_at, is_other}
 use Rattle.redl_journal.proofs.Parts.{number_takes, number_again, decimal_lacks}
 use Rattle.redl_reading.proofs.Steps.{bind_some}
 use Rattle.redl_reading.proofs.Fields.{field_takes, field_again}
-use Rattle.redl_reading.proofs.Words.{eqb_same}
 use Rattle.redl_index.specs.declared.revision.RevKind.{RevKind}
 use Rattle.redl_index.specs.Kinds.{is_named}
 use Rattle.redl_index.specs.KindNames.{kind_name, kind_named}
@@ -34,10 +34,6 @@ use Rattle.redl_words.proofs.DateLaws.{date_has_no_slash}
 
 pub bytes_same : (xs ys : List ℕ) → bytes_eq xs ys ≡ true → xs ≡ ys
 bytes_same xs ys e = (bytes_eq-Decides xs ys).0 e
-
-pub map_some : {A B : Type 0} (f : A → B) (o : Option A) (y : B) → option_map f o ≡ Some y → (x : A) × (o ≡ Some x) × (f x ≡ y)
-map_some f None y e = absurd cc
-map_some f (Some x) y e = (x, refl, same_Some (f x) y e)
 
 -- the first of several tests that holds
 pub pick : {A : Type 0} (P : A → Type 0) (t : Bool) (x : A) (rest : Option A) (y : A) → cond t (Some x) rest ≡ Some y → (t ≡ true → P x) → (rest ≡ Some y → P y) → P y
@@ -83,7 +79,7 @@ split_field c bs r h small = of r (split_parts c bs r h small) where
 has_no_other : (c : ℕ) (xs ys : List ℕ) → list_all (is_other c) (xs ++ (c ∷ ys)) ≡ true → ⊥
 has_no_other c [] ys h =
     let both = and_parts (is_other c c) (list_all (is_other c) ys) h in
-    let same : is_other c c ≡ false = rw (eqb_same c) refl in
+    let same : is_other c c ≡ false = rw (eq-eqb c c refl) refl in
     cc
 has_no_other c (x ∷ xs) ys h = has_no_other c xs ys (and_parts (is_other c x) (list_all (is_other c) (xs ++ (c ∷ ys))) h).1
 

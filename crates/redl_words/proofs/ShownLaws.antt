@@ -3,6 +3,7 @@ use Rattle.std.proofs.Common.{◌≡◌, ℕ, List, Option, Some, None, refl, sy
 use Rattle.std.specs.Prelude.{codes, option_map}
 use Rattle.std.specs.Str.{bytes_eq}
 use Rattle.std.proofs.lemmas.Option.{same_Some}
+use Rattle.redl_reading.proofs.Options.{map_some}
 use Rattle.redl_join.specs.declared.verdict.Verdict.{Verdict}
 use Rattle.redl_join.specs.declared.verdict.Verdict.TheVariants.{Undecided, Accept, Reject, Disputed}
 use Rattle.redl_select.specs.Selections.{Selection}
@@ -11,7 +12,7 @@ use Rattle.redl_words.specs.Selections.{Means}
 use Rattle.redl_words.specs.Shown.{Only, chosen, decided, verdict_text, MeansOnly}
 use Rattle.redl_words.specs.Reading.Selections.{selection_in}
 use Rattle.redl_words.specs.Reading.Shown.{verdict_in, decided_or, only_in}
-use Rattle.redl_words.proofs.SelectionLaws.{bytes_same, map_some, pick, selection_takes, selection_again}
+use Rattle.redl_words.proofs.SelectionLaws.{bytes_same, pick, selection_takes, selection_again}
 
 verdict_takes : (word : List ℕ) (v : Verdict) → verdict_in word ≡ Some v → word ≡ verdict_text v
 unfolding verdict_in

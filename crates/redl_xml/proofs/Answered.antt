@@ -1,5 +1,5 @@
 -- The answer for a text that is read: its nodes, or that it goes too deep or has too many of them.
-use Rattle.std.proofs.Common.{◌≡◌, ℕ, ◌<◌, ◌≤◌, Bool, true, false, List, [], ◌∷◌, ◌++◌, Option, Some, None, Result, Err, refl, sym, ap, subst, ◌∙◌, arith, inl, inr, ◌⊎◌}
+use Rattle.std.proofs.Common.{◌≡◌, ℕ, ◌<◌, ◌≤◌, true, false, List, [], ◌∷◌, ◌++◌, Option, Some, None, Result, Err, refl, sym, ap, subst, ◌∙◌, arith, inl, inr, ◌⊎◌}
 use Rattle.std.specs.Prelude.{IsErrOf, ◌^◌}
 use Rattle.std.specs.List.{list_all}
 use Rattle.std.specs.Str.{IsUtf8, chars, is_utf8}
@@ -19,7 +19,7 @@ use Rattle.redl_markup.specs.Stretches.{IsStretch, ends_stretch}
 use Rattle.redl_markup.specs.Pieces.{start_tag, empty_tag, end_tag, stretch}
 use Rattle.redl_markup.proofs.Characters.{text_is_utf8, tests_text}
 use Rattle.redl_markup.proofs.Pieces.{start_ends_stretch, end_ends_stretch}
-use Rattle.std.proofs.lemmas.Bool.{cases_Bool}
+use Rattle.std.proofs.lemmas.Bool.{cases_Bool, both_ways}
 use Rattle.redl_markup.proofs.Utf8.{piece_is_utf8}
 use Rattle.redl_xml.specs.declared.error.XmlError.{XmlError}
 use Rattle.redl_xml.specs.declared.error.XmlError.TheVariants.{Unreadable}
@@ -59,11 +59,8 @@ text_or_none : (bs : List ℕ) → IsText bs ⊎ (IsText bs → ⊥)
 text_or_none bs =
     elim (cases_Bool (is_utf8 bs)) [
       | inl utf8 ↦ by_characters (IsUtf8-from_is_utf8 bs utf8) (cases_Bool (list_all is_character (chars bs)))
-      | inr other ↦ inr (λ t. not_both _ (is_utf8-from_IsUtf8 bs (text_is_utf8 bs t)) other)
+      | inr other ↦ inr (λ t. both_ways _ other (is_utf8-from_IsUtf8 bs (text_is_utf8 bs t)))
     ] where
-      not_both : (b : Bool) → b ≡ true → b ≡ false → ⊥
-      not_both b p q = cc
-
       by_characters : IsUtf8 bs → ((list_all is_character (chars bs) ≡ true) ⊎ (list_all is_character (chars bs) ≡ false)) → IsText bs ⊎ (IsText bs → ⊥)
       by_characters u (inl all) = inl ((tests_text bs true u (sym all)).0 refl)
       by_characters u (inr other) = inr (λ t. let e = (tests_text bs false u (sym other)).1 t in absurd cc)

@@ -2,7 +2,7 @@
 use Rattle.std.proofs.Common.{◌≡◌, Bool, true, false, cond, List, [], ◌∷◌, length, drop, map, ℕ, Option, Some, None, refl, sym, ap, ◌∙◌}
 use Rattle.std.specs.Option.{option_map}
 use Rattle.std.proofs.lemmas.List.{length-map}
-use Rattle.std.proofs.lemmas.Option.{same_Some}
+use Rattle.redl_reading.proofs.Options.{map_some, map_none}
 use Rattle.redl_tree.specs.Model.Nodes.{Nodes, no_nodes, Empty, End, ◌⊕◌}
 use Rattle.redl_reading.specs.Steps.{◌>>=◌}
 use Rattle.redl_markup.specs.Names.{Name, name_eq}
@@ -55,20 +55,12 @@ placed_alike p s t e = sym (placed_bare p s) ∙ ap (λ (r : State). option_map 
 
 -- ---- states that are alike
 
-pub some_of : {A B : Type 0} (f : A → B) (o : Option A) (y : B) → option_map f o ≡ Some y → (x : A) × (o ≡ Some x) × (f x ≡ y)
-some_of f None y e = absurd cc
-some_of f (Some x) y e = (x, refl, same_Some (f x) y e)
-
-pub none_of : {A B : Type 0} (f : A → B) (o : Option A) → option_map f o ≡ None → o ≡ None
-none_of f None e = refl
-none_of f (Some x) e = absurd cc
-
 -- what a piece makes of the one, it makes of the other
 pub next_alike : (p : Piece) (s t s' : State) → without_nodes s ≡ without_nodes t → placed p s ≡ Some s' → (t' : State) × (placed p t ≡ Some t') × (without_nodes t' ≡ without_nodes s')
-next_alike p s t s' e h = some_of without_nodes (placed p t) (without_nodes s') (sym (placed_alike p s t e) ∙ ap (option_map without_nodes) h)
+next_alike p s t s' e h = map_some without_nodes (placed p t) (without_nodes s') (sym (placed_alike p s t e) ∙ ap (option_map without_nodes) h)
 
 pub refused_alike : (p : Piece) (s t : State) → without_nodes s ≡ without_nodes t → placed p s ≡ None → placed p t ≡ None
-refused_alike p s t e h = none_of without_nodes (placed p t) (sym (placed_alike p s t e) ∙ ap (option_map without_nodes) h)
+refused_alike p s t e h = map_none without_nodes (placed p t) (sym (placed_alike p s t e) ∙ ap (option_map without_nodes) h)
 
 pub open_alike : (s t : State) → without_nodes s ≡ without_nodes t → length s.open_elements ≡ length t.open_elements
 open_alike s t e = sym (length-map s.open_elements bare) ∙ ap (λ (r : State). length r.open_elements) e ∙ length-map t.open_elements bare

@@ -1,9 +1,8 @@
 -- What a push or a pop on nodes and on the open elements is, as plain data.
-use Rattle.std.proofs.Common.{◌≡◌, ℕ, suc, Bool, true, false, List, [], ◌∷◌, ◌++◌, length, drop, map, reverse, Option, Some, None, unwrap_or, option_to_list, refl, sym, ap, ◌∙◌}
-use Rattle.std.specs.Prelude.{not}
+use Rattle.std.proofs.Common.{◌≡◌, ℕ, suc, true, List, [], ◌∷◌, ◌++◌, length, drop, map, reverse, Option, Some, None, unwrap_or, option_to_list, refl, sym, ap, ◌∙◌}
 use Rattle.std.specs.Option.{MatchOption}
 use Rattle.std.specs.Global.{Vec}
-use Rattle.std.proofs.lemmas.List.{append-nil, reverse-append, length-reverse}
+use Rattle.std.proofs.lemmas.List.{append-nil, reverse-append, length-reverse, nil_from_length}
 use Rattle.redl_tree.specs.declared.kinds.Space.{Space}
 use Rattle.redl_tree.specs.Model.Nodes.{Empty, End}
 use Rattle.redl_tree.specs.declared.kinds.Kind.{Kind}
@@ -38,10 +37,6 @@ is_plain_start s k r =
       made : Kind → ℕ → Start
       made kind rev = record { prefix = s.prefix; local = s.local; space = s.space; tail = s.tail; kind = kind; rev = rev }
 
-pub not-false : (t : Bool) → not t ≡ false → t ≡ true
-not-false true e = refl
-not-false false e = absurd cc
-
 abbrev pub state : List Frame → Nodes → Scope → State
 state fs kids scope = record { open_elements = fs; kids = kids; scope = scope }
 
@@ -61,15 +56,11 @@ reverse-push xs x = reverse-append xs (x ∷ [])
 pub frames-push : (fs : List OpenElement) (bs : List (Vec Node)) (f : OpenElement) (b : Vec Node) → frames (reverse (fs ++ f ∷ [])) (reverse (bs ++ b ∷ [])) ≡ frame_view f (nodes_of b.items) ∷ frames (reverse fs) (reverse bs)
 frames-push fs bs f b = ap (λ (gs : List OpenElement). frames gs (reverse (bs ++ b ∷ []))) (reverse-push fs f) ∙ ap (frames (f ∷ reverse fs)) (reverse-push bs b)
 
-no_length : {A : Type 0} (xs : List A) → length xs ≡ 0 → xs ≡ []
-no_length [] e = refl
-no_length (x ∷ xs) e = absurd cc
-
 -- the innermost element, and the list before it, or none where nodes were dropped
 pub frames-pop : (fs rest : List OpenElement) (f : OpenElement) (bs left : List (Vec Node)) (o : Option (Vec Node)) (d : Vec Node) (n m : ℕ) (P : Vec Node → Type 0) → fs ≡ rest ++ f ∷ [] → bs ≡ left ++ option_to_list o
     → MatchOption o ((n ≡ 0) × (m ≡ 0)) P → length left ≡ m → d.items ≡ [] → frames (reverse fs) (reverse bs) ≡ frame_view f (nodes_of (unwrap_or o d).items) ∷ frames (reverse rest) (reverse left)
 frames-pop fs rest f bs left None d n m P e h none size empty =
-    let gone : left ≡ [] = no_length left (size ∙ none.1) in
+    let gone : left ≡ [] = nil_from_length left (size ∙ none.1) in
     ap (λ (gs : List OpenElement). frames (reverse gs) (reverse bs)) e ∙ ap (λ (gs : List OpenElement). frames gs (reverse bs)) (reverse-push rest f)
     ∙ ap (λ (l : List (Vec Node)). frames (f ∷ reverse rest) (reverse l)) (h ∙ append-nil left ∙ gone)
     ∙ ap (λ (l : List (Vec Node)). frame_view f no_nodes ∷ frames (reverse rest) (reverse l)) (sym gone)

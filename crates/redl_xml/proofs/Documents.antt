@@ -1,7 +1,8 @@
 -- A document that is read is a reading of the bytes, and each reading is read.
 use Rattle.std.proofs.Common.{◌≡◌, ◌≢◌, ℕ, Bool, true, false, cond, List, [], ◌∷◌, ◌++◌, Option, Some, None, refl, sym, ap, subst, ◌∙◌, arith, inl, inr, ◌⊎◌}
 use Rattle.std.proofs.lemmas.List.{append-nil}
-use Rattle.std.proofs.lemmas.Option.{same_Some}
+use Rattle.std.proofs.lemmas.Option.{same_Some, none-some}
+use Rattle.redl_reading.proofs.Options.{map_some, map_none}
 use Rattle.redl_tree.specs.Model.Nodes.{Tag, Nodes, no_nodes, bytes, element, ◌⊕◌}
 use Rattle.redl_tree.specs.Model.Text.{text}
 use Rattle.redl_tree.specs.Model.Count.{count}
@@ -24,11 +25,7 @@ use Rattle.redl_tree.proofs.TreeTexts.{close_then, tree_then, tree-then, tree_th
 use Rattle.redl_xml.proofs.Sound.{element_sound}
 use Rattle.redl_xml.proofs.Complete.{element_again}
 use Rattle.redl_xml.specs.Inside.Sizes.{capped, sizes_of}
-use Rattle.redl_xml.proofs.Bare.{some_of, none_of}
 use Rattle.redl_xml.proofs.Parts.{document_is}
-
-none_some : {A : Type 0} (x : A) → None ≡ Some x → ⊥
-none_some x e = cc
 
 -- ---- an optional stretch
 
@@ -113,7 +110,7 @@ unfilled [] e = refl
 unfilled (b ∷ bs) e = absurd cc
 
 cond_none : {A : Type 0} (t : Bool) (x y : A) → cond t None (Some x) ≡ Some y → (t ≡ false) × (x ≡ y)
-cond_none true x y e = absurd (none_some y e)
+cond_none true x y e = absurd (none-some y e)
 cond_none false x y e = (refl, same_Some x y e)
 
 document_sound : (bs : List ℕ) (u : Nodes) (rest : List ℕ) (b a : List ℕ × List ℕ) → IsText bs → TakesStretch BeforeRoot bs b → element_at b.1 ≡ Some (u, rest) → TakesStretch AfterRoot rest a → a.1 ≡ [] → IsReading bs (whole_nodes b.0 u a.0)
@@ -173,12 +170,12 @@ pub one_tree : (bs : List ℕ) (u v : Nodes) → IsReading bs u → IsReading bs
 one_tree bs u v hu hv = same_Some u v (sym (document_of_reading bs u hu) ∙ document_of_reading bs v hv)
 
 pub no_document : (bs : List ℕ) → document_at bs ≡ None → (u : Nodes) → IsReading bs u → ⊥
-no_document bs e u h = none_some u (sym e ∙ document_of_reading bs u h)
+no_document bs e u h = none-some u (sym e ∙ document_of_reading bs u h)
 
 -- ---- sizes
 
 pub no_sizes : (limit : ℕ) (bs : List ℕ) → sizes_at limit bs ≡ None → document_at bs ≡ None
-no_sizes limit bs e = none_of (sizes_of limit) (document_at bs) e
+no_sizes limit bs e = map_none (sizes_of limit) (document_at bs) e
 
 -- the sizes are those of a reading
 pub record HasSizes (limit : ℕ) (bs : List ℕ) (x : ℕ × ℕ) : Type 0 where
@@ -189,7 +186,7 @@ pub record HasSizes (limit : ℕ) (bs : List ℕ) (x : ℕ × ℕ) : Type 0 wher
 
 pub has_sizes : (limit : ℕ) (bs : List ℕ) (x : ℕ × ℕ) → IsText bs → sizes_at limit bs ≡ Some x → HasSizes limit bs x
 has_sizes limit bs x t e =
-    let m = some_of (sizes_of limit) (document_at bs) x e in
+    let m = map_some (sizes_of limit) (document_at bs) x e in
     record {
       read = m.0;
       reading = reading_of_document bs m.0 t m.1;

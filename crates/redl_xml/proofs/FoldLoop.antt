@@ -4,7 +4,7 @@ use Rattle.std.proofs.lemmas.List.{length-map, length-reverse, reverse-append}
 use Rattle.redl_markup.specs.Views.{name_view}
 use Rattle.std.specs.Prelude.{◌==◌, IfSome, if◌then◌else◌}
 use Rattle.std.proofs.lemmas.Bool.{eqb-true}
-use Rattle.std.proofs.lemmas.Option.{same_Some, cond_some}
+use Rattle.std.proofs.lemmas.Option.{same_Some, cond_some, none-some}
 use Rattle.redl_tree.specs.Model.Nodes.{Tag, Nodes, no_nodes, bytes, element, ◌⊕◌}
 use Rattle.redl_tree.specs.Model.Nodes.{Empty, End}
 use Rattle.redl_tree.specs.Model.Text.{text}
@@ -28,7 +28,6 @@ use Rattle.redl_xml.proofs.Complete.{name_same}
 use Rattle.redl_xml.proofs.Measures.{count-⊕, depth-⊕}
 use Rattle.redl_tree.proofs.TreeTexts.{tree-then}
 use Rattle.redl_tree.proofs.Idle.Texts.{tags-⊕}
-use Rattle.redl_tree.proofs.FoldSteps.{none_some}
 use Rattle.redl_tree.proofs.FoldLaws.{level_then, put_text, put_laid, shut_some, AreLaidOpen, IsLaidAt, nodes_again, tree-text}
 
 -- ---- the names of the open elements are all that the code keeps
@@ -47,7 +46,7 @@ record Puts (space : Space) (p : Piece) (s : Level) (ns : List Name) : Type 0 wh
   names : names_open next.open_elements ≡ ns
 
 shut_by_name : (space : Space) (fs : List Open) (kids : Nodes) (name : Name) (white : List ℕ) (ns : List Name) → shut_name (names_open fs) name ≡ Some ns → (s' : Level) × (shut space fs kids name white ≡ Some s') × (names_open s'.open_elements ≡ ns)
-shut_by_name space [] kids name white ns e = absurd (none_some ns e)
+shut_by_name space [] kids name white ns e = absurd (none-some ns e)
 shut_by_name space (f ∷ fs) kids name white ns e =
     let c = cond_some (name_eq f.name name) (names_open fs) ns e in
     (level fs (f.before ⊕ one_element f.name space f.tail (End white) kids), rw c.0 refl, c.1)
@@ -85,7 +84,7 @@ abbrev LevelTags : (Bool → Tag → Type 0) → Space → Level → Type 0
 LevelTags T space s = OpenTags T space s.open_elements × AllTags T (run_open space s.open_elements) s.kids
 
 shut_tags : (T : Bool → Tag → Type 0) (space : Space) (fs : List Open) (kids : Nodes) (name : Name) (white : List ℕ) (s' : Level) → shut space fs kids name white ≡ Some s' → OpenTags T space fs → AllTags T (run_open space fs) kids → LevelTags T space s'
-shut_tags T space [] kids name white s' e o k = absurd (none_some s' e)
+shut_tags T space [] kids name white s' e o k = absurd (none-some s' e)
 shut_tags T space (f ∷ fs) kids name white s' e o k =
     let r = shut_some space f fs kids name white s' e in
     let P : Level → Type 0 = λ s. LevelTags T space s in
@@ -113,7 +112,7 @@ abbrev pub level_count : Level → ℕ
 level_count s = open_count s.open_elements + count s.kids
 
 shut_count : (space : Space) (fs : List Open) (kids : Nodes) (name : Name) (white : List ℕ) (s' : Level) → shut space fs kids name white ≡ Some s' → level_count s' ≡ open_count fs + count kids
-shut_count space [] kids name white s' e = absurd (none_some s' e)
+shut_count space [] kids name white s' e = absurd (none-some s' e)
 shut_count space (f ∷ fs) kids name white s' e =
     let r = shut_some space f fs kids name white s' e in
     omega (arith, ap level_count r.1, count-⊕ f.before (one_element f.name space f.tail (End white) kids))
@@ -142,7 +141,7 @@ abbrev pub level_elements : Level → ℕ
 level_elements s = open_elements_count s.open_elements + elements s.kids
 
 shut_elements : (space : Space) (fs : List Open) (kids : Nodes) (name : Name) (white : List ℕ) (s' : Level) → shut space fs kids name white ≡ Some s' → level_elements s' ≡ open_elements_count fs + elements kids
-shut_elements space [] kids name white s' e = absurd (none_some s' e)
+shut_elements space [] kids name white s' e = absurd (none-some s' e)
 shut_elements space (f ∷ fs) kids name white s' e =
     let r = shut_some space f fs kids name white s' e in
     omega (arith, ap level_elements r.1, elements-⊕ f.before (one_element f.name space f.tail (End white) kids))
@@ -166,7 +165,7 @@ abbrev pub level_depth : Level → ℕ
 level_depth s = max (open_depth s.open_elements) (length s.open_elements + depth_of s.kids)
 
 shut_depth : (space : Space) (fs : List Open) (kids : Nodes) (name : Name) (white : List ℕ) (s' : Level) → shut space fs kids name white ≡ Some s' → level_depth s' ≡ max (open_depth fs) (length fs + depth_of kids)
-shut_depth space [] kids name white s' e = absurd (none_some s' e)
+shut_depth space [] kids name white s' e = absurd (none-some s' e)
 shut_depth space (f ∷ fs) kids name white s' e =
     let r = shut_some space f fs kids name white s' e in
     omega (arith, ap level_depth r.1, depth-⊕ f.before (one_element f.name space f.tail (End white) kids))

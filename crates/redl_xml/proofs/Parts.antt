@@ -1,6 +1,7 @@
 -- The parts of a document, as the code finds them.
 use Rattle.std.proofs.Common.{◌≡◌, ℕ, ◌+◌, true, false, List, [], ◌∷◌, length, ◌≤◌, Some, None, refl, sym, ap, subst, ◌∙◌, arith}
 use Rattle.std.proofs.lemmas.Option.{same_Some}
+use Rattle.redl_reading.proofs.Options.{map_some, map_none}
 use Rattle.redl_tree.specs.Model.Nodes.{Nodes, no_nodes, bytes, ◌⊕◌}
 use Rattle.redl_tree.proofs.Laws.{⊕-no_nodes}
 use Rattle.redl_markup.specs.declared.place.Place.TheVariants.{BeforeRoot, AfterRoot}
@@ -13,7 +14,6 @@ use Rattle.redl_xml.specs.Inside.Sizes.{capped, sizes_of, found_sizes, element_s
 use Rattle.redl_xml.specs.Shapes.{depth_of}
 use Rattle.redl_tree.specs.Model.Count.{count}
 use Rattle.std.specs.Option.{option_map}
-use Rattle.redl_xml.proofs.Bare.{some_of, none_of}
 use Rattle.redl_xml.proofs.Measures.{depth-⊕, count-⊕, one_more-capped, one_more_grows}
 use Rattle.redl_xml.specs.Inside.Documents.{stretch_in, bytes_or_none, whole_nodes, document_at, counted, sizes_at}
 
@@ -61,7 +61,7 @@ document_goes_on bs before root u rest after end b e a some = rw (same_Some _ _ 
 pub sizes_are : (limit : ℕ) (bs before root : List ℕ) (d n : ℕ) (rest after end : List ℕ) (few many : ℕ) → Some (stretch_in BeforeRoot bs) ≡ Some (before, root) → element_sizes limit root ≡ Some ((d, n), rest) → Some (stretch_in AfterRoot rest) ≡ Some (after, end) → is_filled end ≡ false → few ≡ counted limit before n → many ≡ counted limit after few
     → sizes_at limit bs ≡ Some (d, many)
 sizes_are limit bs before root d n rest after end few many b e a none f m =
-    let r = some_of (found_sizes limit) (element_at root) ((d, n), rest) e in
+    let r = map_some (found_sizes limit) (element_at root) ((d, n), rest) e in
     let u = r.0.0 in
     let P : List ℕ → Type 0 = λ x. element_at root ≡ Some (u, x) in
     let is = document_is bs before root u rest after end b (subst P (ap (λ (x : (ℕ × ℕ) × List ℕ). x.1) r.2) r.1) a none in
@@ -71,12 +71,12 @@ sizes_are limit bs before root d n rest after end few many b e a none f m =
 
 pub sizes_fail : (limit : ℕ) (bs before root : List ℕ) (found : (ℕ × ℕ) × List ℕ) (after end : List ℕ) → Some (stretch_in BeforeRoot bs) ≡ Some (before, root) → element_sizes limit root ≡ Some found → Some (stretch_in AfterRoot found.1) ≡ Some (after, end) → is_filled end ≡ true → sizes_at limit bs ≡ None
 sizes_fail limit bs before root found after end b e a some =
-    let r = some_of (found_sizes limit) (element_at root) found e in
+    let r = map_some (found_sizes limit) (element_at root) found e in
     let behind = ap (λ (x : (ℕ × ℕ) × List ℕ). Some (stretch_in AfterRoot x.1)) r.2 ∙ a in
     ap (option_map (sizes_of limit)) (document_goes_on bs before root r.0.0 r.0.1 after end b r.1 behind some)
 
 pub root_fails : (limit : ℕ) (bs before root : List ℕ) (e : MarkupError) → Some (stretch_in BeforeRoot bs) ≡ Some (before, root) → Fails e (element_sizes limit root) → Fails e (sizes_at limit bs)
-root_fails limit bs before root Unreadable b e = ap (option_map (sizes_of limit)) (document_fails bs before root b (none_of (found_sizes limit) (element_at root) e))
+root_fails limit bs before root Unreadable b e = ap (option_map (sizes_of limit)) (document_fails bs before root b (map_none (found_sizes limit) (element_at root) e))
 root_fails limit bs before root NoMemory b e = tt
 
 -- a count never falls

@@ -1,8 +1,7 @@
 -- An element that is read is legal, and the bytes are its text.
 use Rattle.std.proofs.Common.{◌≡◌, ◌≢◌, ℕ, zero, suc, Bool, true, false, eqb, List, [], ◌∷◌, ◌++◌, length, drop, Option, Some, None, refl, sym, ap, subst, ◌∙◌}
-use Rattle.std.specs.Prelude.{◌&&◌}
 use Rattle.std.specs.List.{list_all}
-use Rattle.std.proofs.lemmas.Option.{same_Some, cond_some, some_pair_parts}
+use Rattle.std.proofs.lemmas.Option.{same_Some, cond_some, some_pair_parts, none-some}
 use Rattle.redl_tree.specs.Model.Nodes.{Tag, Nodes, no_nodes, bytes, element, ◌⊕◌}
 use Rattle.redl_tree.specs.declared.kinds.Space.{Space}
 use Rattle.redl_tree.specs.Model.Nodes.{Close, Empty, End}
@@ -14,7 +13,8 @@ use Rattle.redl_markup.specs.Tails.{IsTail}
 use Rattle.redl_markup.specs.Stretches.{Item, items_then, Head, head_then, IsStretch, begins_item, ends_stretch}
 use Rattle.redl_markup.specs.Pieces.{Piece, start_tag, empty_tag, end_tag, stretch, piece_then, IsPiece, Follows}
 use Rattle.redl_markup.specs.ScanPieces.{piece_at}
-use Rattle.std.proofs.lemmas.Bool.{and_parts, not-true}
+use Rattle.std.proofs.lemmas.Bool.{and_parts, not-true, both_ways}
+use Rattle.std.proofs.Math.Bool.{and-false}
 use Rattle.redl_reading.proofs.Steps.{bind_some}
 use Rattle.redl_markup.proofs.Items.{item_begins}
 use Rattle.redl_markup.proofs.Stretches.{whole_then}
@@ -29,12 +29,6 @@ use Rattle.redl_xml.proofs.Buildings.{state}
 use Rattle.redl_xml.proofs.Loops.{step_goes, step_ends, step_fails, step_refuses}
 use Rattle.redl_tree.proofs.TreeTexts.{tree_then, tree_then-⊕}
 use Rattle.redl_tree.proofs.SameBytes.{same_name}
-
-none_some : {A : Type 0} (x : A) → None ≡ Some x → ⊥
-none_some x e = cc
-
-not_both : (b : Bool) → b ≡ true → b ≡ false → ⊥
-not_both b p q = cc
 
 -- ---- the text so far
 
@@ -51,7 +45,7 @@ closed_some f fs kids scope name space s' e =
     (same_name f.name name c.0, c.1)
 
 closed_text : (fs : List Frame) (kids : Nodes) (scope : Scope) (name : Name) (space : List ℕ) (s' : State) (rest : List ℕ) → closed fs kids scope name space ≡ Some s' → so_far_then s' rest ≡ frames_then fs (tree_then kids (piece_then (end_tag name space) rest))
-closed_text [] kids scope name space s' rest e = absurd (none_some s' e)
+closed_text [] kids scope name space s' rest e = absurd (none-some s' e)
 closed_text (f ∷ fs) kids scope name space s' rest e =
     let c = closed_some f fs kids scope name space s' e in
     let P : State → Type 0 = λ s. so_far_then s rest ≡ frames_then (f ∷ fs) (tree_then kids (piece_then (end_tag name space) rest)) in
@@ -62,7 +56,7 @@ added_text : (s : State) (x : Nodes) (rest : List ℕ) → so_far_then (added s 
 added_text s x rest = ap (frames_then s.open_elements) (tree_then-⊕ s.kids x rest)
 
 stretched_some : (fs : List Frame) (s s' : State) (b : List ℕ) → stretched fs s b ≡ Some s' → added s (bytes b no_nodes) ≡ s'
-stretched_some [] s s' b e = absurd (none_some s' e)
+stretched_some [] s s' b e = absurd (none-some s' e)
 stretched_some (f ∷ fs) s s' b e = same_Some (added s (bytes b no_nodes)) s' e
 
 placed_text : (p : Piece) (s s' : State) (rest : List ℕ) → placed p s ≡ Some s' → so_far_then s' rest ≡ so_far_then s (piece_then p rest)
@@ -107,13 +101,9 @@ record IsLegalAt (s : State) (rest : List ℕ) : Type 0 where
   kids_legal : AreLegal s.scope s.kids
   follows : ends_with_bytes s.kids ≡ true → ends_stretch rest ≡ true
 
-none_and : (t : Bool) → (t && false) ≡ false
-none_and true = refl
-none_and false = refl
-
 item_goes_on : (bs : List ℕ) → begins_item bs ≡ true → ends_stretch bs ≡ false
 item_goes_on [] e = absurd cc
-item_goes_on (b ∷ bs) e = rw e (none_and (eqb b 60))
+item_goes_on (b ∷ bs) e = rw e (and-false (eqb b 60))
 
 -- where a stretch is, none ends
 content_goes_on : (first : List ℕ) (more : List (Item × List ℕ)) (rest : List ℕ) → list_all (is_other 60) first ≡ true → (first ++ items_then more [] ≢ []) → ends_stretch (first ++ items_then more rest) ≡ false
@@ -147,11 +137,11 @@ add_element fs scope before name tail close kids x rest frames b n t m e c k =
     record {
       frames_legal = frames;
       kids_legal = legal-⊕ scope before (one_element name x.0 tail close kids) b (is_tag scope name tail close x n t m e, c, subst P (sym e) k, tt) (λ e. refl);
-      follows = λ h. absurd (not_both _ h (ends-⊕_element false before (plain_tag name x.0 tail close) kids));
+      follows = λ h. absurd (both_ways _ (ends-⊕_element false before (plain_tag name x.0 tail close) kids) h);
     }
 
 closed_legal : (fs : List Frame) (kids : Nodes) (scope : Scope) (name : Name) (space : List ℕ) (s' : State) (rest : List ℕ) → closed fs kids scope name space ≡ Some s' → AreLegalFrames fs scope → AreLegal scope kids → ClosesBy (End space) kids → IsLegalAt s' rest
-closed_legal [] kids scope name space s' rest e hf hk c = absurd (none_some s' e)
+closed_legal [] kids scope name space s' rest e hf hk c = absurd (none-some s' e)
 closed_legal (f ∷ fs) kids scope name space s' rest e hf hk c =
     let r = closed_some f fs kids scope name space s' e in
     let P : State → Type 0 = λ s. IsLegalAt s rest in
@@ -177,7 +167,7 @@ placed_legal (empty_tag name tail) s s' rest e h f legal =
     subst P (same_Some (added s (one_element name r.0.0 tail Empty no_nodes)) s' r.2)
     (add_element s.open_elements s.scope s.kids name tail Empty no_nodes r.0 rest legal.frames_legal legal.kids_legal h.0 h.1 t.0 t.1 refl tt)
 placed_legal (stretch b) s s' rest e h f legal =
-    let apart : ends_with_bytes s.kids ≡ true → ⊥ = λ yes. not_both _ (legal.follows yes) (stretch_goes_on b rest h) in
+    let apart : ends_with_bytes s.kids ≡ true → ⊥ = λ yes. both_ways _ (stretch_goes_on b rest h) (legal.follows yes) in
     let P : State → Type 0 = λ t. IsLegalAt t rest in
     subst P (stretched_some s.open_elements s s' b e) (record {
       frames_legal = legal.frames_legal;
@@ -215,14 +205,14 @@ added_holds [] before tag kids scope e = one_after before tag kids e
 added_holds (f ∷ fs) before tag kids scope e = e
 
 closed_holds : (fs : List Frame) (kids : Nodes) (scope : Scope) (name : Name) (space : List ℕ) (s' : State) → closed fs kids scope name space ≡ Some s' → top fs kids ≡ no_nodes → Holds s'
-closed_holds [] kids scope name space s' e t = absurd (none_some s' e)
+closed_holds [] kids scope name space s' e t = absurd (none-some s' e)
 closed_holds (f ∷ fs) kids scope name space s' e t =
     let r = closed_some f fs kids scope name space s' e in
     let P : State → Type 0 = Holds in
     subst P r.1 (added_holds fs f.before (plain_tag f.name f.space f.tail (End space)) kids (drop f.declared scope) t)
 
 stretched_holds : (fs : List Frame) (kids : Nodes) (scope : Scope) (s' : State) (b : List ℕ) → stretched fs (state fs kids scope) b ≡ Some s' → top fs kids ≡ no_nodes → Holds s'
-stretched_holds [] kids scope s' b e t = absurd (none_some s' e)
+stretched_holds [] kids scope s' b e t = absurd (none-some s' e)
 stretched_holds (f ∷ fs) kids scope s' b e t = let P : State → Type 0 = Holds in subst P (same_Some _ s' e) t
 
 placed_holds : (p : Piece) (s s' : State) → placed p s ≡ Some s' → top_of s ≡ no_nodes → Holds s'
@@ -245,18 +235,18 @@ pub record IsSound (s : State) (bs : List ℕ) (u : Nodes) (rest : List ℕ) : T
   pub one : IsOne u
 
 finish_sound : (fs : List Frame) (kids : Nodes) (scope : Scope) (u : Nodes) (rest : List ℕ) → finished_by fs kids ≡ Some u → IsLegalAt (state fs kids scope) rest → Holds (state fs kids scope) → IsSound (state fs kids scope) rest u rest
-finish_sound (f ∷ fs) kids scope u rest e l h = absurd (none_some u e)
+finish_sound (f ∷ fs) kids scope u rest e l h = absurd (none-some u e)
 finish_sound [] kids scope u rest e l h =
     let P : Nodes → Type 0 = λ v. IsSound (state [] kids scope) rest v rest in
     let Q : Scope → Type 0 = λ sc. AreLegal sc kids in
     subst P (same_Some kids u e) (record { whole = refl; legal = subst Q l.frames_legal l.kids_legal; one = h })
 
 unfinished_top : (fs : List Frame) (kids : Nodes) (scope : Scope) → finished_by fs kids ≡ None → Holds (state fs kids scope) → top fs kids ≡ no_nodes
-unfinished_top [] kids scope e h = absurd (none_some kids (sym e))
+unfinished_top [] kids scope e h = absurd (none-some kids (sym e))
 unfinished_top (f ∷ fs) kids scope e h = h
 
 sound_turns : (n : ℕ) (bs : List ℕ) (s : State) (u : Nodes) (rest : List ℕ) → turns element_step n (bs, s) ≡ Some (u, rest) → IsLegalAt s bs → top_of s ≡ no_nodes → IsSound s bs u rest
-sound_turns zero bs s u rest e l t = absurd (none_some (u, rest) e)
+sound_turns zero bs s u rest e l t = absurd (none-some (u, rest) e)
 sound_turns (suc n) bs s u rest e l t = by_piece n bs s u rest (piece_at InElement bs) refl e l t (sound_turns n) where
   by_finish : (n : ℕ) (bs : List ℕ) (s s' : State) (u : Nodes) (rest : List ℕ) (x : Piece × List ℕ) → piece_at InElement bs ≡ Some x → placed x.0 s ≡ Some s' → (o : Option Nodes) → finished s' ≡ o → turn (element_step (bs, s)) (turns element_step n) ≡ Some (u, rest) → IsLegalAt s bs → top_of s ≡ no_nodes
       → ((cs : List ℕ) (t : State) (v : Nodes) (r : List ℕ) → turns element_step n (cs, t) ≡ Some (v, r) → IsLegalAt t cs → top_of t ≡ no_nodes → IsSound t cs v r) → IsSound s bs u rest
@@ -279,12 +269,12 @@ sound_turns (suc n) bs s u rest e l t = by_piece n bs s u rest (piece_at InEleme
 
   by_place : (n : ℕ) (bs : List ℕ) (s : State) (u : Nodes) (rest : List ℕ) (x : Piece × List ℕ) → piece_at InElement bs ≡ Some x → (o : Option State) → placed x.0 s ≡ o → turn (element_step (bs, s)) (turns element_step n) ≡ Some (u, rest) → IsLegalAt s bs → top_of s ≡ no_nodes
       → ((cs : List ℕ) (t : State) (v : Nodes) (r : List ℕ) → turns element_step n (cs, t) ≡ Some (v, r) → IsLegalAt t cs → top_of t ≡ no_nodes → IsSound t cs v r) → IsSound s bs u rest
-  by_place n bs s u rest x g None p e l t go = absurd (none_some (u, rest) (rw (step_refuses bs s x g p) at e))
+  by_place n bs s u rest x g None p e l t go = absurd (none-some (u, rest) (rw (step_refuses bs s x g p) at e))
   by_place n bs s u rest x g (Some s') p e l t go = by_finish n bs s s' u rest x g p (finished s') refl e l t go
 
   by_piece : (n : ℕ) (bs : List ℕ) (s : State) (u : Nodes) (rest : List ℕ) → (o : Option (Piece × List ℕ)) → piece_at InElement bs ≡ o → turn (element_step (bs, s)) (turns element_step n) ≡ Some (u, rest) → IsLegalAt s bs → top_of s ≡ no_nodes
       → ((cs : List ℕ) (t : State) (v : Nodes) (r : List ℕ) → turns element_step n (cs, t) ≡ Some (v, r) → IsLegalAt t cs → top_of t ≡ no_nodes → IsSound t cs v r) → IsSound s bs u rest
-  by_piece n bs s u rest None g e l t go = absurd (none_some (u, rest) (rw (step_fails bs s g) at e))
+  by_piece n bs s u rest None g e l t go = absurd (none-some (u, rest) (rw (step_fails bs s g) at e))
   by_piece n bs s u rest (Some x) g e l t go = by_place n bs s u rest x g (placed x.0 s) refl e l t go
 
 -- The element that is read is legal, and the bytes begin with it.

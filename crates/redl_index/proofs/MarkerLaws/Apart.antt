@@ -2,6 +2,7 @@
 use Rattle.std.proofs.Common.{◌≡◌, ◌∙◌, refl, ap, sym, subst, ℕ, zero, suc, ◌+◌, ◌≤◌, ◌<◌, List, [], ◌∷◌, ◌++◌, Option, Some, None, filter_map, arith}
 use Rattle.std.specs.List.{cons_option}
 use Rattle.std.proofs.lemmas.List.Elements.{filter_map-append}
+use Rattle.std.proofs.lemmas.Option.{none-some}
 use Rattle.redl_tree.specs.Model.Nodes.{Nodes, no_nodes, bytes, element}
 use Rattle.redl_tree.specs.Model.Seen.{Spot, spot, Seen, seen_one, seen_from, tags}
 use Rattle.redl_tree.specs.Revisions.Moves.{Marking}
@@ -69,7 +70,7 @@ module _ (value : Value) where
           low = omega arith;
           order = omega arith;
           high = omega arith;
-          start = λ none. whole at (λ m e i. absurd (none_some m (sym none ∙ e)))
+          start = λ none. whole at (λ m e i. absurd (none-some m (sym none ∙ e)))
               (apart-below at (at + 1) (at + 1 + tags kids) (find inner) in_kids (omega arith))
               (apart-below at (at + 2 + tags kids) (at + 2 + tags kids + tags rest) (find outer) in_rest (omega arith));
           end = whole (at + 1 + tags kids) (λ m e i. absurd (omega (arith, marker-at value it m e, i)))
@@ -100,6 +101,3 @@ module _ (value : Value) where
             })
             (seen-free ancestors (at + 2 + tags kids) rest)),
       )
-    where
-      none_some : {A : Type 0} (x : A) → None ≡ Some x → ⊥
-      none_some x e = cc

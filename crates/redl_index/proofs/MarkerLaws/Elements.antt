@@ -1,6 +1,7 @@
 -- What one element adds to what is found, and what it is to those in it.
 use Rattle.std.proofs.Common.{◌≡◌, ◌∙◌, refl, ap, sym, ℕ, List, [], ◌∷◌, ◌++◌, Bool, true, false, Option, Some, None, length, option_to_list, set, append_assoc, ◌&&◌, ◌||◌, if◌then◌else◌}
 use Rattle.std.specs.List.{cons_option}
+use Rattle.std.proofs.Math.Bool.{or_comm}
 use Rattle.redl_tree.specs.Model.Nodes.{Tag, Nodes, element, Item, bytes_item, element_item, idle_item, in_front, ◌⊕◌}
 use Rattle.redl_tree.specs.Model.IdleTexts.{idle_nodes}
 use Prim.Native.String.{String}
@@ -41,12 +42,6 @@ element-more had (Some x) below = append_assoc had (x ∷ []) below
 
 -- ---- trails
 
-or-turned : (a b : Bool) → (a || b) ≡ (b || a)
-or-turned true true = refl
-or-turned true false = refl
-or-turned false true = refl
-or-turned false false = refl
-
 -- the trail of the kids of an element
 pub trail-inside : (at : ℕ) (tag : Tag) (kids : Nodes) (ancestors : List Spot) →
     inside_trail tag kids (ancestors_of (tags_of ancestors)) (trail_of ancestors) ≡ trail_of (spot at tag kids ∷ ancestors)
@@ -54,8 +49,8 @@ trail-inside at tag kids ancestors =
     let here = trail_of ancestors in
     let Told : Bool → Bool → Trail = λ revised astray. record { revised = revised; astray = astray } in
     let leaves = leaves_grid_at (ancestors_of (tags_of ancestors)).place tag in
-    ap (λ revised. Told revised (here.astray || leaves)) (or-turned here.revised (is_revised_by tag kids))
-    ∙ ap (Told (is_revised_by tag kids || here.revised)) (or-turned here.astray leaves)
+    ap (λ revised. Told revised (here.astray || leaves)) (or_comm here.revised (is_revised_by tag kids))
+    ∙ ap (Told (is_revised_by tag kids || here.revised)) (or_comm here.astray leaves)
 
 -- ---- rows and cells that are revisions themselves
 

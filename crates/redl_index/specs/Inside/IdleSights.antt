@@ -1,6 +1,7 @@
 -- What an idle element is to a walk of a story: it is in no revision, and so it keeps its label.
 use Rattle.std.proofs.Common.{◌≡◌, ◌∙◌, refl, sym, ap, ℕ, List, Bool, true, ◌&&◌, not, codes, find, is_some, Option, None, option_map, if◌then◌else◌}
 use Rattle.std.proofs.lemmas.Bool.{and_from}
+use Rattle.std.proofs.Math.Bool.{and-false}
 use Rattle.redl_tree.specs.Model.Nodes.{Tag, no_nodes}
 use Rattle.redl_tree.specs.Revisions.Moves.{Marking, pairs, is_of_pair}
 use Rattle.redl_tree.specs.Roles.Arounds.{role_in}
@@ -8,7 +9,6 @@ use Rattle.redl_tree.specs.Roles.Idle.{is_idle_tag}
 use Rattle.redl_tree.specs.declared.around.Around.{Around}
 use Rattle.redl_tree.specs.declared.kinds.Kind.{Kind}
 use Rattle.redl_tree.specs.declared.kinds.Kind.TheVariants.{Plain, Marker}
-use Rattle.redl_tree.proofs.NameLaws.{and-false}
 use Rattle.redl_tree.proofs.Idle.Roles.{no_range_edge}
 use Rattle.redl_tree.proofs.Idle.Tags.{Idle, idle_parts}
 use Rattle.redl_moves.specs.Starts.{start_in}

@@ -1,6 +1,7 @@
 -- What setting says may cost: a walk over slots, and a list of settings against single ones.
 use Rattle.std.proofs.Common.{◌≡◌, ◌∙◌, refl, ap, ℕ, suc, ◌+◌, ◌*◌, ◌≤◌, List, [], ◌∷◌, length, length-append, sum_by, Bool, true, false, ◌||◌, ◌==◌, if◌then◌else◌, arith, true≢false}
 use Rattle.std.proofs.lemmas.List.Sums.{sum_by-cons, sum_by-append}
+use Rattle.std.proofs.lemmas.Bool.{or_from, or_parts}
 use Rattle.redl_tree.specs.Model.Nodes.{Tag, Nodes, no_nodes, bytes, element}
 use Rattle.redl_tree.specs.Model.View.{Element}
 use Rattle.redl_tree.specs.Model.Count.{count}
@@ -12,8 +13,6 @@ use Rattle.redl_tree.specs.Decisions.Fates.{say_of}
 use Rattle.redl_tree.specs.declared.kinds.Say.{Say}
 use Rattle.redl_tree.proofs.Laws.{count-⊕}
 use Rattle.redl_laws.proofs.Leaves.Says.{altered-none}
-use Rattle.redl_tree.proofs.NameLaws.{or-left, or-right}
-use Rattle.redl_laws.proofs.Leaves.Locality.{both-false}
 
 -- ---- the list of leaves, and a walk over slots
 
@@ -43,13 +42,13 @@ cost-walk is_set containers (container_slot tag kids inner rest) =
 pub cost-none : (is_set : ℕ → Bool) (depth : ℕ) (slots : Slots) → leaf_holds is_set slots ≡ false → slots_cost is_set depth slots ≡ 0
 cost-none is_set depth no_slots h = refl
 cost-none is_set depth (leaf_slot leaf rest) h =
-    let here = ap (λ b. if b then leaf_size leaf + 4 * depth else 0) (or-left (has_member is_set leaf.nodes) (leaf_holds is_set rest) h) in
-    omega (arith, here, cost-none is_set depth rest (or-right (has_member is_set leaf.nodes) (leaf_holds is_set rest) h))
+    let here = ap (λ b. if b then leaf_size leaf + 4 * depth else 0) (or_parts (has_member is_set leaf.nodes) (leaf_holds is_set rest) h).0 in
+    omega (arith, here, cost-none is_set depth rest (or_parts (has_member is_set leaf.nodes) (leaf_holds is_set rest) h).1)
 cost-none is_set depth (container_slot tag kids inner rest) h =
     omega (
       arith,
-      cost-none is_set (suc depth) inner (or-left (leaf_holds is_set inner) (leaf_holds is_set rest) h),
-      cost-none is_set depth rest (or-right (leaf_holds is_set inner) (leaf_holds is_set rest) h),
+      cost-none is_set (suc depth) inner (or_parts (leaf_holds is_set inner) (leaf_holds is_set rest) h).0,
+      cost-none is_set depth rest (or_parts (leaf_holds is_set inner) (leaf_holds is_set rest) h).1,
     )
 
 pub cost-joined : (is_set : ℕ → Bool) (depth : ℕ) (xs ys : Slots) → slots_cost is_set depth (joined_slots xs ys) ≡ slots_cost is_set depth xs + slots_cost is_set depth ys
@@ -63,11 +62,11 @@ member-fewer : (a b : ℕ → Bool) → ((n : ℕ) → b n ≡ false → a n ≡
 member-fewer a b fewer no_nodes h = refl
 member-fewer a b fewer (bytes bs rest) h = member-fewer a b fewer rest h
 member-fewer a b fewer (element tag kids rest) h =
-    let both = or-left (b tag.rev || has_member b kids) (has_member b rest) h in
-    both-false (a tag.rev || has_member a kids) (has_member a rest)
-    (both-false (a tag.rev) (has_member a kids) (fewer tag.rev (or-left (b tag.rev) (has_member b kids) both))
-    (member-fewer a b fewer kids (or-right (b tag.rev) (has_member b kids) both)))
-    (member-fewer a b fewer rest (or-right (b tag.rev || has_member b kids) (has_member b rest) h))
+    let both = (or_parts (b tag.rev || has_member b kids) (has_member b rest) h).0 in
+    or_from (a tag.rev || has_member a kids) (has_member a rest)
+    (or_from (a tag.rev) (has_member a kids) (fewer tag.rev (or_parts (b tag.rev) (has_member b kids) both).0)
+    (member-fewer a b fewer kids (or_parts (b tag.rev) (has_member b kids) both).1))
+    (member-fewer a b fewer rest (or_parts (b tag.rev || has_member b kids) (has_member b rest) h).1)
 
 fewer-le : (p q : Bool) (n : ℕ) → (q ≡ false → p ≡ false) → (if p then n else 0) ≤ (if q then n else 0)
 fewer-le p true n h = at p

@@ -1,5 +1,6 @@
 -- States that are siblings: what holds of the earlier and of the later ones, and one of them that is replaced.
 use Rattle.std.proofs.Common.{◌≡◌, ◌∙◌, refl, sym, ap, ℕ, ◌+◌, List, ◌∷◌, ◌++◌, append_assoc, Bool, ◌||◌, if◌then◌else◌, arith}
+use Rattle.std.proofs.Math.Bool.{or_assoc}
 use Rattle.redl_tree.specs.Model.Nodes.{Tag, no_nodes, element, ◌⊕◌}
 use Rattle.redl_tree.specs.Leaves.Slots.{Slots, no_slots, leaf_slot, container_slot, joined_slots}
 use Rattle.redl_tree.specs.Leaves.Rebuilt.{original}
@@ -8,7 +9,6 @@ use Rattle.redl_tree.specs.Leaves.Settings.{has_member, leaf_holds, IsUnheld}
 use Rattle.redl_tree.specs.Leaves.States.{Tally, States, no_states, leaf_state, container_state, joined_states, slots_of, shown, lent, states_owned, states_living, IsTally, AreTallied, ArePassed}
 use Rattle.redl_tree.specs.declared.kinds.Say.{Say}
 use Rattle.redl_tree.proofs.Laws.{⊕_assoc}
-use Rattle.redl_laws.proofs.Leaves.Locality.{or_assoc}
 
 -- ---- slots
 

@@ -2,6 +2,9 @@
 use Prim.Native.String.{String}
 use Rattle.std.proofs.Common.{◌≡◌, ◌∙◌, refl, sym, ap, ℕ, suc, ◌+◌, List, [], ◌∷◌, ◌++◌, Bool, true, false, true≢false, ◌&&◌, ◌||◌, not, ◌==◌, None, if◌then◌else◌, arith, rules}
 use Rattle.std.specs.List.{list_any, list_all}
+use Rattle.std.proofs.lemmas.Bool.{false_from_ne_true, or_right, and_right}
+use Rattle.std.proofs.Math.Bool.{and-true, and-false, or-false}
+use Rattle.std.specs.Cmp.{first_so, second_so}
 use Rattle.redl_tree.specs.Model.Nodes.{Tag, Nodes, no_nodes, bytes, element}
 use Rattle.redl_tree.specs.Roles.Names.{is, is_any}
 use Rattle.redl_tree.specs.Roles.Places.{is_quiet, is_open}
@@ -17,7 +20,7 @@ use Rattle.redl_tree.specs.declared.lists.Reach.TheVariants.{Direct, Control, Be
 use Rattle.redl_tree.specs.declared.lists.Lot.{Lot}
 use Rattle.redl_tree.specs.declared.lists.Lot.TheVariants.{Blocks, Rows, Cells}
 use Rattle.redl_tree.specs.declared.kinds.Say.{Say}
-use Rattle.redl_tree.proofs.NameLaws.{all_differ, and-left, and-right, and-false, or-false, is_any-apart, is-other, is_frame, frame_names, frame-quiet, is-among, is_any-among}
+use Rattle.redl_tree.proofs.NameLaws.{all_differ, is_any-apart, is-other, is_frame, frame_names, frame-quiet, is-among, is_any-among}
 use Rattle.redl_laws.proofs.Leaves.Openings.{opens-named, outer_names, outer-named, outer-root, root-nowhere, place-choice, into-direct}
 use Rattle.redl_laws.proofs.Leaves.Containers.{AllContainers, Carries, all-containers}
 
@@ -58,10 +61,6 @@ own-beyond name (bytes b rest) = own-beyond name rest
 own-beyond name (element tag kids rest) =
     ap (λ xs. xs ++ own name Beyond rest) (own-beyond name kids) ∙ own-beyond name rest
 
-absurd-true : (b : Bool) → (b ≡ true → ⊥) → b ≡ false
-absurd-true false h = refl
-absurd-true true h = absurd (h refl)
-
 abbrev at_place : Lot → Reach → Place
 at_place l r = record { lot = l; reach = r }
 
@@ -70,7 +69,7 @@ not-outer : (ancestors : List Tag) (tag : Tag) → ((place ancestors ≡ nowhere
 not-outer [] tag h = refl
 not-outer (root ∷ other ∷ ancestors) tag h = refl
 not-outer (root ∷ []) tag h =
-    absurd-true (opens_outer (root ∷ []) tag) (λ e. h (root-nowhere root (outer-root root tag e)))
+    false_from_ne_true (opens_outer (root ∷ []) tag) (λ e. h (root-nowhere root (outer-root root tag e)))
 
 direct-no_control : (ancestors : List Tag) (tag : Tag) → is_direct (place ancestors).reach ≡ true → is_control_content ancestors tag ≡ false
 direct-no_control ancestors tag h = at (place ancestors).reach h
@@ -95,10 +94,6 @@ opens_by below content p tag =
 
 opens-by : (ancestors : List Tag) (tag : Tag) → opens ancestors tag ≡ opens_by (opens_outer ancestors tag) (is_control_content ancestors tag) (place ancestors) tag
 opens-by ancestors tag = refl
-
-and-true : (a : Bool) → (a && true) ≡ a
-and-true false = refl
-and-true true = refl
 
 reach-rows : {l : Lot} {r : Reach} → at_place l r ≡ nowhere → r ≡ Beyond
 reach-rows e = ap (λ p. p.reach) e
@@ -142,10 +137,6 @@ own_by p tag = (is_direct p.reach && is_rows p.lot) && is "tr" tag || (is_direct
 
 abbrev shell_by : Place → Tag → Bool
 shell_by p tag = is_wrapper tag && ((is_direct p.reach && is_rows p.lot) || (is_direct p.reach && is_cells p.lot))
-
-or-last : (a b : Bool) → b ≡ true → (a || b) ≡ true
-or-last true b h = refl
-or-last false b h = h
 
 rows-grid : IsGrid Rows "tr"
 rows-grid = record {
@@ -204,12 +195,8 @@ sum-front : (w : List Tag → Tag → Nodes → ℕ) (ancestors : List Tag) (tag
     own_sum w ancestors (slots_from false None (sibling opens ancestors tag kids inner ∷ later))
     ≡ (if opens ancestors tag then share w ancestors tag kids inner + own_sum w ancestors (slots_from false None later)
     else own_sum w ancestors (slots_from false None later))
-sum-front w ancestors tag kids inner later e = at (opens ancestors tag) (is "p" tag && in_blocks ancestors) (no_second (is "p" tag) (in_blocks ancestors) e) (is_thick tag)
+sum-front w ancestors tag kids inner later e = at (opens ancestors tag) (is "p" tag && in_blocks ancestors) (and_right (is "p" tag) (in_blocks ancestors) e) (is_thick tag)
   where
-    no_second : (x y : Bool) → y ≡ false → (x && y) ≡ false
-    no_second true y e = e
-    no_second false y e = refl
-
     at : (o p : Bool) → p ≡ false → (t : Bool) →
         own_sum w ancestors (slots_from false None ((if o then open_sibling tag kids inner else if p then para_sibling (has_mark kids) (element tag kids no_nodes)
         else if t then thick_sibling (element tag kids no_nodes) else thin_sibling (element tag kids no_nodes)) ∷ later))
@@ -298,7 +285,7 @@ sum-grid l name grid w v weigh ancestors (element tag kids rest) Control k o e =
     (opens-control ancestors tag l e)
     ∙ grid-control name w v ancestors tag kids inner after
     (own name Control rest) (is "sdtContent" tag) (ap (λ p. own_by p tag) e)
-    (λ s. or-last (is_shell ancestors tag) (is_control_content ancestors tag) (control-content ancestors tag (ap (λ p. p.reach) e) ∙ s))
+    (λ s. or_right (is_shell ancestors tag) (is_control_content ancestors tag) (control-content ancestors tag (ap (λ p. p.reach) e) ∙ s))
     (λ s.
     let named : is_any shell_names tag ≡ true = is-among "sdtContent" shell_names tag s refl in
     let here : place (tag ∷ ancestors) ≡ at_place l Direct =
@@ -441,12 +428,12 @@ shell-choice : (says : List Say) (ancestors : List Tag) (tag : Tag) (kids : Node
     (if b then cells_go says (into Direct tag) kids else rows_go says (into Direct tag) kids)
     ≡ all_gone (own_number ancestors tag kids) (live_number says ancestors tag kids)
 shell-choice says ancestors tag kids o h true e =
-    gone-shell_of_cells says ancestors tag kids o (and-left (is_wrapper tag) (in_rows ancestors || in_cells ancestors) h) (cells-here (place ancestors) e)
+    gone-shell_of_cells says ancestors tag kids o (first_so (is_wrapper tag) (in_rows ancestors || in_cells ancestors) h) (cells-here (place ancestors) e)
 shell-choice says ancestors tag kids o h false e =
-    gone-shell_of_rows says ancestors tag kids o (and-left (is_wrapper tag) (in_rows ancestors || in_cells ancestors) h)
+    gone-shell_of_rows says ancestors tag kids o (first_so (is_wrapper tag) (in_rows ancestors || in_cells ancestors) h)
     (rows-here (place ancestors)
     (sym (or-false (in_rows ancestors)) ∙ sym (ap (λ b. in_rows ancestors || b) e)
-    ∙ and-right (is_wrapper tag) (in_rows ancestors || in_cells ancestors) h))
+    ∙ second_so (is_wrapper tag) (in_rows ancestors || in_cells ancestors) h))
 
 choose-counts : (c r t s : Bool) (cell row tab sh cut spent : Bool) →
     (r ≡ true → row ≡ (cut || spent)) → (t ≡ true → tab ≡ spent) → (s ≡ true → sh ≡ spent) →

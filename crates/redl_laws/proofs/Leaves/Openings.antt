@@ -1,6 +1,9 @@
 -- The containers of a story, all of them or the outer ones alone, and what their names and places are.
 use Prim.Native.String.{String}
 use Rattle.std.proofs.Common.{◌≡◌, ◌∙◌, refl, sym, ap, List, [], ◌∷◌, Bool, true, false, true≢false, ◌&&◌, ◌||◌, not, if◌then◌else◌, ◌⊎◌, inl, inr}
+use Rattle.std.specs.Cmp.{first_so, second_so}
+use Rattle.std.proofs.Math.Bool.{and-false, or-false, and-true}
+use Rattle.std.proofs.lemmas.Bool.{or_parts}
 use Rattle.redl_tree.specs.Model.Nodes.{Tag, Nodes}
 use Rattle.redl_tree.specs.Roles.Names.{is, is_any, is_w, is_m}
 use Rattle.redl_tree.specs.Roles.Places.{is_quiet, is_open}
@@ -17,7 +20,7 @@ use Rattle.redl_tree.specs.declared.lists.Reach.TheVariants.{Direct, Control, Be
 use Rattle.redl_tree.specs.declared.lists.Lot.{Lot}
 use Rattle.redl_tree.specs.declared.lists.Lot.TheVariants.{Blocks, Rows, Cells}
 use Rattle.redl_tree.specs.declared.kinds.Say.{Say}
-use Rattle.redl_tree.proofs.NameLaws.{and-left, and-right, and-false, or-left, or-right, or-false, is_any-apart, is_frame, frame_names, frame-quiet, is-among, is_any-among, all_among}
+use Rattle.redl_tree.proofs.NameLaws.{is_any-apart, is_frame, frame_names, frame-quiet, is-among, is_any-among, all_among}
 use Rattle.redl_laws.proofs.Leaves.StandIns.{IsPlain, IsAlike}
 use Rattle.redl_laws.proofs.Leaves.Rebuilt.{IsOpening, rebuilt-kids}
 use Rattle.redl_tree.proofs.Fits.{AllFit}
@@ -52,10 +55,10 @@ outer-named (root ∷ []) tag h =
     (is_any outer_names tag ≡ true) h
     (λ h. either (is "document" root && is "body" tag) (is "footnotes" root && is "footnote" tag)
     (is_any outer_names tag ≡ true) h
-    (λ h. is-among "body" outer_names tag (and-right (is "document" root) (is "body" tag) h) refl)
-    (λ h. is-among "footnote" outer_names tag (and-right (is "footnotes" root) (is "footnote" tag) h) refl))
-    (λ h. is-among "endnote" outer_names tag (and-right (is "endnotes" root) (is "endnote" tag) h) refl))
-    (λ h. is-among "comment" outer_names tag (and-right (is "comments" root) (is "comment" tag) h) refl)
+    (λ h. is-among "body" outer_names tag (second_so (is "document" root) (is "body" tag) h) refl)
+    (λ h. is-among "footnote" outer_names tag (second_so (is "footnotes" root) (is "footnote" tag) h) refl))
+    (λ h. is-among "endnote" outer_names tag (second_so (is "endnotes" root) (is "endnote" tag) h) refl))
+    (λ h. is-among "comment" outer_names tag (second_so (is "comments" root) (is "comment" tag) h) refl)
 
 abbrev pub list_roots : List String
 list_roots = "document" ∷ "footnotes" ∷ "endnotes" ∷ "comments" ∷ []
@@ -68,10 +71,10 @@ outer-root root tag h =
     (is_any list_roots root ≡ true) h
     (λ h. either (is "document" root && is "body" tag) (is "footnotes" root && is "footnote" tag)
     (is_any list_roots root ≡ true) h
-    (λ h. is-among "document" list_roots root (and-left (is "document" root) (is "body" tag) h) refl)
-    (λ h. is-among "footnotes" list_roots root (and-left (is "footnotes" root) (is "footnote" tag) h) refl))
-    (λ h. is-among "endnotes" list_roots root (and-left (is "endnotes" root) (is "endnote" tag) h) refl))
-    (λ h. is-among "comments" list_roots root (and-left (is "comments" root) (is "comment" tag) h) refl)
+    (λ h. is-among "document" list_roots root (first_so (is "document" root) (is "body" tag) h) refl)
+    (λ h. is-among "footnotes" list_roots root (first_so (is "footnotes" root) (is "footnote" tag) h) refl))
+    (λ h. is-among "endnotes" list_roots root (first_so (is "endnotes" root) (is "endnote" tag) h) refl))
+    (λ h. is-among "comments" list_roots root (first_so (is "comments" root) (is "comment" tag) h) refl)
 
 pub outer-frame : (ancestors : List Tag) (tag : Tag) → opens_outer ancestors tag ≡ true → is_frame tag ≡ true
 outer-frame ancestors tag h =
@@ -102,19 +105,19 @@ outer-no_blocks (root ∷ []) tag h b =
     true≢false (sym b ∙ ap (λ p. is_direct p.reach && is_blocks p.lot) (root-nowhere root (outer-root root tag h)))
 
 control_content-named : (ancestors : List Tag) (tag : Tag) → is_control_content ancestors tag ≡ true → is "sdtContent" tag ≡ true
-control_content-named ancestors tag h = and-right (is_control (place ancestors).reach) (is "sdtContent" tag) h
+control_content-named ancestors tag h = second_so (is_control (place ancestors).reach) (is "sdtContent" tag) h
 
 pub opens-named : (ancestors : List Tag) (tag : Tag) → opens ancestors tag ≡ true → is_frame tag ≡ true
 opens-named ancestors tag h =
     six (opens_outer ancestors tag) (in_blocks ancestors && (is "tbl" tag || is_wrapper tag)) (in_rows ancestors && is "tr" tag)
     (in_cells ancestors && is "tc" tag) (is_shell ancestors tag) (is_control_content ancestors tag) (is_frame tag ≡ true) h
     (λ h. is_any-among outer_names frame_names tag (outer-named ancestors tag h) refl)
-    (λ h. either (is "tbl" tag) (is_wrapper tag) (is_frame tag ≡ true) (and-right (in_blocks ancestors) (is "tbl" tag || is_wrapper tag) h)
+    (λ h. either (is "tbl" tag) (is_wrapper tag) (is_frame tag ≡ true) (second_so (in_blocks ancestors) (is "tbl" tag || is_wrapper tag) h)
     (λ e. is-among "tbl" frame_names tag e refl)
     (λ e. is_any-among ("sdt" ∷ "customXml" ∷ []) frame_names tag e refl))
-    (λ h. is-among "tr" frame_names tag (and-right (in_rows ancestors) (is "tr" tag) h) refl)
-    (λ h. is-among "tc" frame_names tag (and-right (in_cells ancestors) (is "tc" tag) h) refl)
-    (λ h. is_any-among ("sdt" ∷ "customXml" ∷ []) frame_names tag (and-left (is_wrapper tag) (in_rows ancestors || in_cells ancestors) h) refl)
+    (λ h. is-among "tr" frame_names tag (second_so (in_rows ancestors) (is "tr" tag) h) refl)
+    (λ h. is-among "tc" frame_names tag (second_so (in_cells ancestors) (is "tc" tag) h) refl)
+    (λ h. is_any-among ("sdt" ∷ "customXml" ∷ []) frame_names tag (first_so (is_wrapper tag) (in_rows ancestors || in_cells ancestors) h) refl)
     (λ h. is-among "sdtContent" frame_names tag (control_content-named ancestors tag h) refl)
 
 thick-named : (tag : Tag) → is_any ("p" ∷ "tbl" ∷ "sdt" ∷ "customXml" ∷ "altChunk" ∷ []) tag ≡ true → is_thick tag ≡ true
@@ -143,32 +146,28 @@ control-not_direct Beyond h = absurd (true≢false (sym h))
 control_content-no_blocks : (ancestors : List Tag) (tag : Tag) → is_control_content ancestors tag ≡ true → in_blocks ancestors ≡ true → ⊥
 control_content-no_blocks ancestors tag h b =
     true≢false (sym b ∙ ap (λ d. d && is_blocks (place ancestors).lot)
-    (control-not_direct (place ancestors).reach (and-left (is_control (place ancestors).reach) (is "sdtContent" tag) h)))
+    (control-not_direct (place ancestors).reach (first_so (is_control (place ancestors).reach) (is "sdtContent" tag) h)))
 
 pub opens-thick : (ancestors : List Tag) (tag : Tag) → opens ancestors tag ≡ true → in_blocks ancestors ≡ true → is_thick tag ≡ true
 opens-thick ancestors tag h b =
     six (opens_outer ancestors tag) (in_blocks ancestors && (is "tbl" tag || is_wrapper tag)) (in_rows ancestors && is "tr" tag)
     (in_cells ancestors && is "tc" tag) (is_shell ancestors tag) (is_control_content ancestors tag) (is_thick tag ≡ true) h
     (λ h. absurd (outer-no_blocks ancestors tag h b))
-    (λ h. either (is "tbl" tag) (is_wrapper tag) (is_thick tag ≡ true) (and-right (in_blocks ancestors) (is "tbl" tag || is_wrapper tag) h)
+    (λ h. either (is "tbl" tag) (is_wrapper tag) (is_thick tag ≡ true) (second_so (in_blocks ancestors) (is "tbl" tag || is_wrapper tag) h)
     (λ e. thick-named tag (is-among "tbl" ("p" ∷ "tbl" ∷ "sdt" ∷ "customXml" ∷ "altChunk" ∷ []) tag e refl))
     (λ e. thick-named tag (is_any-among ("sdt" ∷ "customXml" ∷ []) ("p" ∷ "tbl" ∷ "sdt" ∷ "customXml" ∷ "altChunk" ∷ []) tag e refl)))
-    (λ h. absurd (true≢false (sym (and-left (in_rows ancestors) (is "tr" tag) h) ∙ (lot-one (place ancestors).lot (is_direct (place ancestors).reach) b).0)))
-    (λ h. absurd (true≢false (sym (and-left (in_cells ancestors) (is "tc" tag) h) ∙ (lot-one (place ancestors).lot (is_direct (place ancestors).reach) b).1)))
+    (λ h. absurd (true≢false (sym (first_so (in_rows ancestors) (is "tr" tag) h) ∙ (lot-one (place ancestors).lot (is_direct (place ancestors).reach) b).0)))
+    (λ h. absurd (true≢false (sym (first_so (in_cells ancestors) (is "tc" tag) h) ∙ (lot-one (place ancestors).lot (is_direct (place ancestors).reach) b).1)))
     (λ h. thick-named tag (is_any-among ("sdt" ∷ "customXml" ∷ []) ("p" ∷ "tbl" ∷ "sdt" ∷ "customXml" ∷ "altChunk" ∷ []) tag
-    (and-left (is_wrapper tag) (in_rows ancestors || in_cells ancestors) h) refl))
+    (first_so (is_wrapper tag) (in_rows ancestors || in_cells ancestors) h) refl))
     (λ h. absurd (control_content-no_blocks ancestors tag h b))
 
 -- an element that is no container: its kids are the same list as in a body, or nowhere
 pub into-direct : (tag : Tag) → is_wrapper tag ≡ false → into Direct tag ≡ Beyond
 into-direct tag h =
-    ap (λ b. if b then Control else if is "customXml" tag then Direct else Beyond) (or-left (is "sdt" tag) (is "customXml" tag || false) h)
+    ap (λ b. if b then Control else if is "customXml" tag then Direct else Beyond) (or_parts (is "sdt" tag) (is "customXml" tag || false) h).0
     ∙ ap (λ b. if b then Direct else Beyond)
-    (or-left (is "customXml" tag) false (or-right (is "sdt" tag) (is "customXml" tag || false) h))
-
-and-true-false : (a : Bool) → (a && true) ≡ false → a ≡ false
-and-true-false false h = refl
-and-true-false true h = h
+    (or_parts (is "customXml" tag) false ((or_parts (is "sdt" tag) (is "customXml" tag || false) h).1)).0
 
 abbrev inside_at : Tag → Place → Place
 inside_at tag l =
@@ -183,9 +182,9 @@ inside-alike : (l : Lot) (r : Reach) (tag : Tag) →
     inside tag (record { lot = l; reach = r }) ≡ inside tag (place (stand_ins (is_direct r && is_blocks l)))
 inside-alike Blocks Direct tag h c = refl
 inside-alike Rows Direct tag h c =
-    ap (λ reach. inside_at tag (still Rows reach)) (into-direct tag (and-true-false (is_wrapper tag) h))
+    ap (λ reach. inside_at tag (still Rows reach)) (into-direct tag (sym (and-true (is_wrapper tag)) ∙ h))
 inside-alike Cells Direct tag h c =
-    ap (λ reach. inside_at tag (still Cells reach)) (into-direct tag (and-true-false (is_wrapper tag) h))
+    ap (λ reach. inside_at tag (still Cells reach)) (into-direct tag (sym (and-true (is_wrapper tag)) ∙ h))
 inside-alike l Control tag h c =
     ap (λ b. inside_at tag (still l (if b then Direct else Beyond))) (c refl)
 inside-alike l Beyond tag h c = refl
@@ -197,8 +196,8 @@ control-owner ancestors tag h e = sym (ap (λ r. is_control r && is "sdtContent"
 pub opens-alike : (ancestors : List Tag) (tag : Tag) → opens ancestors tag ≡ false → IsAlike ancestors tag
 opens-alike ancestors tag h =
     let upto = opens_outer ancestors tag || in_blocks ancestors && (is "tbl" tag || is_wrapper tag) || in_rows ancestors && is "tr" tag || in_cells ancestors && is "tc" tag in
-    let shell : is_shell ancestors tag ≡ false = or-right upto (is_shell ancestors tag) (or-left (upto || is_shell ancestors tag) (is_control_content ancestors tag) h) in
-    let content : is_control_content ancestors tag ≡ false = or-right (upto || is_shell ancestors tag) (is_control_content ancestors tag) h in
+    let shell : is_shell ancestors tag ≡ false = (or_parts upto (is_shell ancestors tag) (or_parts (upto || is_shell ancestors tag) (is_control_content ancestors tag) h).0).1 in
+    let content : is_control_content ancestors tag ≡ false = (or_parts (upto || is_shell ancestors tag) (is_control_content ancestors tag) h).1 in
     (shell, inside-alike (place ancestors).lot (place ancestors).reach tag shell (control-owner ancestors tag content))
 
 -- any ancestors do

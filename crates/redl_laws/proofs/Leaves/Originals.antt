@@ -1,5 +1,6 @@
 -- A split loses nothing: the containers round their leaves are the original nodes.
 use Rattle.std.proofs.Common.{◌≡◌, ◌∙◌, refl, sym, ap, List, [], ◌∷◌, Bool, true, false, true≢false, ◌&&◌, Option, Some, None, if◌then◌else◌}
+use Rattle.std.specs.Cmp.{second_so}
 use Rattle.redl_tree.specs.Model.Nodes.{Tag, Nodes, no_nodes, bytes, element, ◌⊕◌}
 use Rattle.redl_tree.specs.Roles.Names.{is}
 use Rattle.redl_tree.specs.Roles.Lists.{in_blocks, is_thick}
@@ -26,10 +27,6 @@ slots-original b (Some chain) [] g = absurd (true≢false (sym g))
 slots-original b chain (para_sibling marked nodes ∷ later) g =
     at (marked && chain_next later) refl (λ h. slots-original b (Some (chained chain nodes)) later h) (slots-original b None later tt)
   where
-    right : (a b : Bool) → (a && b) ≡ true → b ≡ true
-    right true b h = h
-    right false b h = absurd (true≢false (sym h))
-
     more : (chain : Option Nodes) (rest : Nodes) → chained chain nodes ⊕ rest ≡ chained chain (nodes ⊕ rest)
     more None rest = refl
     more (Some c) rest = ⊕_assoc c nodes rest
@@ -39,7 +36,7 @@ slots-original b chain (para_sibling marked nodes ∷ later) g =
         original (slots_from b None later) ≡ all_whole later →
         original (slot_of b (para_sibling marked nodes) chain on (thick_next later) (slots_from b (chain_after (para_sibling marked nodes) chain on) later))
         ≡ chained chain (nodes ⊕ all_whole later)
-    at true w ih ends = ih (right marked (chain_next later) w) ∙ more chain (all_whole later)
+    at true w ih ends = ih (second_so marked (chain_next later) w) ∙ more chain (all_whole later)
     at false w ih ends = ap (λ n. chained chain nodes ⊕ n) ends ∙ more chain (all_whole later)
 slots-original b None (thin_sibling nodes ∷ later) g = ap (λ n. nodes ⊕ n) (slots-original b None later tt)
 slots-original b (Some chain) (thin_sibling nodes ∷ later) g = slots-original b (Some (chain ⊕ nodes)) later g ∙ ⊕_assoc chain nodes (all_whole later)

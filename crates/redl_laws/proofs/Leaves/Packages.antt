@@ -1,6 +1,6 @@
 -- A package whose stories are rebuilt from their leaves is the passed package.
 use Rattle.std.proofs.Common.{◌≡◌, refl, List, [], ◌∷◌, ◌++◌, Bool, true, false, if◌then◌else◌, ◌&&◌, ◌∙◌, sym, ap}
-use Rattle.std.proofs.lemmas.Bool.{and_parts}
+use Rattle.std.proofs.lemmas.Bool.{and_parts, and_from}
 use Rattle.redl_tree.specs.Model.Nodes.{Tag, Nodes, no_nodes, bytes, element}
 use Rattle.redl_tree.specs.Model.View.{Element}
 use Rattle.redl_tree.specs.Decisions.Pass.{pass}
@@ -109,12 +109,9 @@ roots-unlabelled ancestors no_nodes e = refl
 roots-unlabelled ancestors (bytes b rest) e = roots-unlabelled ancestors rest cc
 roots-unlabelled ancestors (element tag kids rest) e =
     let same : unlabelled_tag tag ≡ tag = cc in
-    and_both (if is_root ancestors tag then is_plain tag.kind else roots_are_plain (tag ∷ ancestors) kids) (roots_are_plain ancestors rest)
+    and_from (if is_root ancestors tag then is_plain tag.kind else roots_are_plain (tag ∷ ancestors) kids) (roots_are_plain ancestors rest)
     (at (is_root ancestors tag) (ap (λ t. is_plain t.kind) (sym same)) (roots-unlabelled (tag ∷ ancestors) kids cc)) (roots-unlabelled ancestors rest cc)
   where
-    and_both : (a b : Bool) → a ≡ true → b ≡ true → (a && b) ≡ true
-    and_both a b p q = ap (λ x. x && b) p ∙ q
-
     at : (b : Bool) → is_plain tag.kind ≡ true → roots_are_plain (tag ∷ ancestors) kids ≡ true
         → (if b then is_plain tag.kind else roots_are_plain (tag ∷ ancestors) kids) ≡ true
     at true here below = here

@@ -1,6 +1,7 @@
 -- States while says are being set: at first all leaves that hold a member or a marker of the revisions that are set are pending,
 -- one after the other is made anew, and in the end all are passed.
 use Rattle.std.proofs.Common.{◌≡◌, ◌∙◌, refl, sym, ap, subst, ℕ, ◌+◌, ◌<◌, List, Bool, false, arith}
+use Rattle.std.proofs.lemmas.Bool.{or_from}
 use Rattle.redl_tree.specs.Leaves.Slots.{Slots, no_slots, leaf_slot, container_slot}
 use Rattle.redl_tree.specs.Leaves.Leaf.{leaf_count}
 use Rattle.redl_tree.specs.Leaves.Rebuilt.{original}
@@ -8,7 +9,7 @@ use Rattle.redl_tree.specs.Leaves.Settings.{SameBut, has_member, leaf_holds, IsU
 use Rattle.redl_tree.specs.Leaves.States.{States, no_states, leaf_state, container_state, joined_states, slots_of, ArePassed}
 use Rattle.redl_tree.specs.Leaves.Pending.{states_count, NonePending, ArePassedBut, Covers}
 use Rattle.redl_tree.specs.declared.kinds.Say.{Say}
-use Rattle.redl_laws.proofs.Leaves.Locality.{both-false, pass_leaf-same}
+use Rattle.redl_laws.proofs.Leaves.Locality.{pass_leaf-same}
 use Rattle.redl_laws.proofs.Leaves.Settings.{held-original}
 use Rattle.redl_laws.proofs.Leaves.States.{cut_at-same}
 
@@ -32,10 +33,10 @@ pub covered-none : (pending is_set : ℕ → Bool) (first : ℕ) (slots : Slots)
     → NonePending pending first (leaf_count slots) → leaf_holds is_set slots ≡ false
 covered-none pending is_set first no_slots covers none = refl
 covered-none pending is_set first (leaf_slot leaf rest) covers none =
-    both-false (has_member is_set leaf.nodes) (leaf_holds is_set rest) (covers.0 (first-none pending first (leaf_count rest) none))
+    or_from (has_member is_set leaf.nodes) (leaf_holds is_set rest) (covers.0 (first-none pending first (leaf_count rest) none))
     (covered-none pending is_set (first + 1) rest covers.1 (later-none pending first 1 (leaf_count rest) none))
 covered-none pending is_set first (container_slot tag kids inner rest) covers none =
-    both-false (leaf_holds is_set inner) (leaf_holds is_set rest)
+    or_from (leaf_holds is_set inner) (leaf_holds is_set rest)
     (covered-none pending is_set first inner covers.0 (earlier-none pending first (leaf_count inner) (leaf_count rest) none))
     (covered-none pending is_set (first + leaf_count inner) rest covers.1 (later-none pending first (leaf_count inner) (leaf_count rest) none))
 

@@ -1,5 +1,8 @@
 -- What is rebuilt from containers and leaves is the pass.
 use Rattle.std.proofs.Common.{◌≡◌, ◌∙◌, refl, sym, ap, subst, List, [], ◌∷◌, ◌++◌, append_assoc, Bool, true, false, true≢false, ◌&&◌, ◌||◌, if◌then◌else◌, Option, Some, None, is_some}
+use Rattle.std.specs.Cmp.{second_so}
+use Rattle.std.proofs.lemmas.Bool.{and_right, or_parts}
+use Rattle.std.proofs.Math.Bool.{or-false}
 use Rattle.redl_tree.specs.Model.Nodes.{Tag, Nodes, no_nodes, bytes, element, ◌⊕◌}
 use Rattle.redl_tree.specs.Roles.Names.{is}
 use Rattle.redl_tree.specs.Model.Kids.{some_element, kids_of_all}
@@ -19,7 +22,7 @@ use Rattle.redl_tree.specs.declared.kinds.Kind.TheVariants.{Plain}
 use Rattle.redl_tree.proofs.Laws.{⊕-no_nodes}
 use Rattle.redl_tree.proofs.PassLaws.{alone, alone-piece, each, pass-each, pass-outside, ends_cut, grouped-append, pieces-⊕}
 use Rattle.redl_tree.proofs.Named.{by_name}
-use Rattle.redl_tree.proofs.NameLaws.{is_frame, frame-not, frame-apart, frame-quiet, or-left, or-right, or-false}
+use Rattle.redl_tree.proofs.NameLaws.{is_frame, frame-not, frame-apart, frame-quiet}
 use Rattle.redl_laws.proofs.Leaves.Following.{grouped-next}
 use Rattle.redl_laws.proofs.Leaves.StandIns.{IsPlain, AllPlain, IsAlike, plain-open, plain-renamed, closed-piece}
 use Rattle.redl_tree.proofs.Fits.{Fits, AllFit, OpenKind, plain, content, marker, open_fits, open_none_rejected, open_∷, true_false}
@@ -61,8 +64,8 @@ some-less : (test more : Tag → Bool) (nodes : Nodes) → some_element test nod
 some-less test more no_nodes h = refl
 some-less test more (bytes b rest) h = some-less test more rest h
 some-less test more (element tag kids rest) h =
-    ap (λ b. (b && more tag) || some_element (λ tag. test tag && more tag) rest) (or-left (test tag) (some_element test rest) h)
-    ∙ some-less test more rest (or-right (test tag) (some_element test rest) h)
+    ap (λ b. (b && more tag) || some_element (λ tag. test tag && more tag) rest) (or_parts (test tag) (some_element test rest) h).0
+    ∙ some-less test more rest (or_parts (test tag) (some_element test rest) h).1
 
 -- a paragraph that is cut has a mark member
 pub mark-cut : (says : List Say) (kids : Nodes) → has_mark kids ≡ false → para_is_cut says kids ≡ false
@@ -158,17 +161,13 @@ slots-rebuilt says ancestors (Some chain) later ps none_left g = absurd (true≢
 slots-rebuilt says ancestors chain later ps (one_more {later = s} {ps = q} (match_para marked nodes tag cut kids e l) m) g =
     at (marked && chain_next s) refl (λ h. slots-rebuilt says ancestors (Some (chained chain nodes)) s q m h) (slots-rebuilt says ancestors None s q m tt)
   where
-    right : (a b : Bool) → (a && b) ≡ true → b ≡ true
-    right true b h = h
-    right false b h = absurd (true≢false (sym h))
-
     at : (on : Bool) → (marked && chain_next s) ≡ on →
         (chain_next s ≡ true → rebuilt says ancestors (slots_from true (Some (chained chain nodes)) s) ≡ grouped false (pieces says (stand_ins true) (chained chain nodes) ++ q)) →
         rebuilt says ancestors (slots_from true None s) ≡ grouped false q →
         rebuilt says ancestors (slot_of true (para_sibling marked nodes) chain on (thick_next s) (slots_from true (chain_after (para_sibling marked nodes) chain on) s))
         ≡ grouped false (chain_pieces says chain ++ (para tag cut kids ∷ q))
     at true w more alone =
-        more (right marked (chain_next s) w)
+        more (second_so marked (chain_next s) w)
         ∙ ap (λ qs. grouped false (qs ++ q)) (chained-pieces says chain nodes (para tag cut kids) e)
         ∙ ap (grouped false) (append_assoc (chain_pieces says chain) (para tag cut kids ∷ []) q)
     at false w more alone =
@@ -272,10 +271,6 @@ sibling-closed opens ancestors tag kids inner o =
     ap (λ b. if b then open_sibling tag kids inner else if is "p" tag && in_blocks ancestors then para_sibling (has_mark kids) (element tag kids no_nodes)
     else if is_thick tag then thick_sibling (element tag kids no_nodes) else thin_sibling (element tag kids no_nodes)) o
 
-and_no : (a b : Bool) → b ≡ false → (a && b) ≡ false
-and_no true b e = e
-and_no false b e = refl
-
 -- an element that is no container, outside lists of blocks, is a leaf by itself
 lone-frame : (p t marked : Bool) (node : Nodes) (later : List Sibling) → p ≡ false →
     slots_from false None ((if p then para_sibling marked node else if t then thick_sibling node else thin_sibling node) ∷ later)
@@ -338,7 +333,7 @@ knows opens IsPath opening says ancestors (element tag kids rest) path h fit =
               (one_more (closed-match says ancestors tag kids h alike e fit.0) (k.blocks e));
           others = λ e.
               ap (λ s. rebuilt says ancestors (slots_from false None (s ∷ siblings opens ancestors rest))) (sibling-closed opens ancestors tag kids inner w)
-              ∙ ap (rebuilt says ancestors) (lone-frame (is "p" tag && in_blocks ancestors) (is_thick tag) (has_mark kids) (element tag kids no_nodes) (siblings opens ancestors rest) (and_no (is "p" tag) (in_blocks ancestors) e))
+              ∙ ap (rebuilt says ancestors) (lone-frame (is "p" tag && in_blocks ancestors) (is_thick tag) (has_mark kids) (element tag kids no_nodes) (siblings opens ancestors rest) (and_right (is "p" tag) (in_blocks ancestors) e))
               ∙ ap (λ n. n ⊕ rebuilt says ancestors (slots_from false None (siblings opens ancestors rest))) (closed-element says ancestors tag kids h alike e)
               ∙ ap (λ n. element_pass says ancestors tag kids (pass says (tag ∷ ancestors) kids) ⊕ n) (k.others e);
         }

@@ -1,6 +1,7 @@
 -- What stays as it was where says are set: the numbers and leaves of containers none of whose leaves holds a member or a marker
 -- of the revisions that are set.
 use Rattle.std.proofs.Common.{◌≡◌, ◌∙◌, refl, ap, sym, ℕ, ◌+◌, List, ◌∷◌, ◌++◌, Bool, false, ◌||◌, if◌then◌else◌}
+use Rattle.std.proofs.lemmas.Bool.{or_parts}
 use Rattle.redl_tree.specs.Model.Nodes.{Tag, Nodes, no_nodes}
 use Rattle.redl_tree.specs.Revisions.Markers.{is_own}
 use Rattle.redl_tree.specs.Decisions.Tables.{goes_at}
@@ -10,7 +11,6 @@ use Rattle.redl_tree.specs.Leaves.Present.{pass_leaf, present_leaves}
 use Rattle.redl_tree.specs.Leaves.Living.{is_between, one_living, living}
 use Rattle.redl_tree.specs.Leaves.Rebuilt.{original}
 use Rattle.redl_tree.specs.declared.kinds.Say.{Say}
-use Rattle.redl_tree.proofs.NameLaws.{or-left, or-right}
 use Rattle.redl_laws.proofs.Leaves.Containers.{AllContainers}
 use Rattle.redl_laws.proofs.Leaves.Locality.{has_member-⊕, goes_at-same, pass_leaf-same}
 use Rattle.redl_laws.proofs.Leaves.Originals.{IsSplit}
@@ -37,15 +37,15 @@ module _ (is_set : ℕ → Bool) (old new : List Say) (same : SameBut is_set old
       living old ancestors slots ≡ living new ancestors slots
   living-unheld ancestors no_slots f u h = refl
   living-unheld ancestors (leaf_slot leaf rest) f u h =
-      living-unheld ancestors rest f u (or-right (has_member is_set leaf.nodes) (leaf_holds is_set rest) h)
+      living-unheld ancestors rest f u (or_parts (has_member is_set leaf.nodes) (leaf_holds is_set rest) h).1
   living-unheld ancestors (container_slot tag kids inner rest) f u h =
-      let below = or-left (leaf_holds is_set inner) (leaf_holds is_set rest) h in
+      let below = (or_parts (leaf_holds is_set inner) (leaf_holds is_set rest) h).0 in
       ap (λ b. (if is_own ancestors tag then (if b then 0 else 1) else if is_between ancestors tag then living old (tag ∷ ancestors) inner else 0) + living old ancestors rest)
       (container-same ancestors tag kids inner f.0 u.1 below)
       ∙ ap (λ n. (if is_own ancestors tag then one_living new ancestors tag kids else if is_between ancestors tag then n else 0) + living old ancestors rest)
       (living-unheld (tag ∷ ancestors) inner f.1 u.1 below)
       ∙ ap (λ n. (if is_own ancestors tag then one_living new ancestors tag kids else if is_between ancestors tag then living new (tag ∷ ancestors) inner else 0) + n)
-      (living-unheld ancestors rest f.2 u.2 (or-right (leaf_holds is_set inner) (leaf_holds is_set rest) h))
+      (living-unheld ancestors rest f.2 u.2 (or_parts (leaf_holds is_set inner) (leaf_holds is_set rest) h).1)
 
   -- The present leaves of slots that hold none stay, but where a container round all of them goes or stays again.
   pub present-unheld : (gone : Bool) (ancestors : List Tag) (slots : Slots) →
@@ -54,14 +54,14 @@ module _ (is_set : ℕ → Bool) (old new : List Say) (same : SameBut is_set old
   present-unheld gone ancestors no_slots f u h = refl
   present-unheld gone ancestors (leaf_slot leaf rest) f u h =
       ap (λ ns. (if gone then no_nodes else ns) ∷ present_leaves old gone ancestors rest)
-      (pass_leaf-same is_set old new same leaf (or-left (has_member is_set leaf.nodes) (leaf_holds is_set rest) h))
+      (pass_leaf-same is_set old new same leaf (or_parts (has_member is_set leaf.nodes) (leaf_holds is_set rest) h).0)
       ∙ ap (λ ls. (if gone then no_nodes else pass_leaf new leaf) ∷ ls)
-      (present-unheld gone ancestors rest f u (or-right (has_member is_set leaf.nodes) (leaf_holds is_set rest) h))
+      (present-unheld gone ancestors rest f u (or_parts (has_member is_set leaf.nodes) (leaf_holds is_set rest) h).1)
   present-unheld gone ancestors (container_slot tag kids inner rest) f u h =
-      let below = or-left (leaf_holds is_set inner) (leaf_holds is_set rest) h in
+      let below = (or_parts (leaf_holds is_set inner) (leaf_holds is_set rest) h).0 in
       ap (λ b. present_leaves old (b || gone) (tag ∷ ancestors) inner ++ present_leaves old gone ancestors rest)
       (container-same ancestors tag kids inner f.0 u.1 below)
       ∙ ap (λ ls. ls ++ present_leaves old gone ancestors rest)
       (present-unheld (goes_at new ancestors tag kids || gone) (tag ∷ ancestors) inner f.1 u.1 below)
       ∙ ap (λ ls. present_leaves new (goes_at new ancestors tag kids || gone) (tag ∷ ancestors) inner ++ ls)
-      (present-unheld gone ancestors rest f.2 u.2 (or-right (leaf_holds is_set inner) (leaf_holds is_set rest) h))
+      (present-unheld gone ancestors rest f.2 u.2 (or_parts (leaf_holds is_set inner) (leaf_holds is_set rest) h).1)

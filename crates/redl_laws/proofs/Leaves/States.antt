@@ -1,6 +1,7 @@
 -- What an editor keeps of a story gives the pass and the present leaves, and states that hold none of the revisions that are set
 -- are current under the new says too.
 use Rattle.std.proofs.Common.{◌≡◌, ◌∙◌, refl, sym, ap, subst, ℕ, ◌+◌, List, ◌∷◌, ◌++◌, Bool, true, false, ◌||◌, if◌then◌else◌}
+use Rattle.std.proofs.lemmas.Bool.{or_parts}
 use Rattle.redl_tree.specs.Model.Nodes.{Tag, Nodes, no_nodes, element, ◌⊕◌}
 use Rattle.redl_tree.specs.Roles.Names.{is}
 use Rattle.redl_tree.specs.Roles.Places.{is_open}
@@ -15,7 +16,6 @@ use Rattle.redl_tree.specs.Leaves.Living.{is_between, one_living, owned, living,
 use Rattle.redl_tree.specs.Leaves.Settings.{SameBut, has_member, leaf_holds, IsUnheld}
 use Rattle.redl_tree.specs.Leaves.States.{States, no_states, leaf_state, container_state, slots_of, shown, lent, one_left, states_owned, states_living, AreTallied, ArePassed, AreCurrent}
 use Rattle.redl_tree.specs.declared.kinds.Say.{Say}
-use Rattle.redl_tree.proofs.NameLaws.{or-left, or-right}
 use Rattle.redl_tree.proofs.Fits.{AllFit}
 use Rattle.redl_laws.proofs.Leaves.StandIns.{AllPlain, plain-open}
 use Rattle.redl_laws.proofs.Leaves.Rebuilt.{IsOpening, rebuilt-kids}
@@ -150,12 +150,12 @@ module _ (is_set : ℕ → Bool) (old new : List Say) (same : SameBut is_set old
       → ArePassed old states → ArePassed new states
   passed-unheld no_states u k p = tt
   passed-unheld (leaf_state leaf present rest) u k p = (
-    p.0 ∙ pass_leaf-same is_set old new same leaf (or-left (has_member is_set leaf.nodes) (leaf_holds is_set (slots_of rest)) k),
-    passed-unheld rest u (or-right (has_member is_set leaf.nodes) (leaf_holds is_set (slots_of rest)) k) p.1,
+    p.0 ∙ pass_leaf-same is_set old new same leaf (or_parts (has_member is_set leaf.nodes) (leaf_holds is_set (slots_of rest)) k).0,
+    passed-unheld rest u (or_parts (has_member is_set leaf.nodes) (leaf_holds is_set (slots_of rest)) k).1 p.1,
   )
   passed-unheld (container_state tag tally inner rest) u k p =
-      let below = or-left (leaf_holds is_set (slots_of inner)) (leaf_holds is_set (slots_of rest)) k in (
+      let below = (or_parts (leaf_holds is_set (slots_of inner)) (leaf_holds is_set (slots_of rest)) k).0 in (
         p.0 ∙ cut_at-same tag (original (slots_of inner)) (held-original is_set (slots_of inner) u.1 ∙ below),
         passed-unheld inner u.1 below p.1,
-        passed-unheld rest u.2 (or-right (leaf_holds is_set (slots_of inner)) (leaf_holds is_set (slots_of rest)) k) p.2,
+        passed-unheld rest u.2 (or_parts (leaf_holds is_set (slots_of inner)) (leaf_holds is_set (slots_of rest)) k).1 p.2,
       )

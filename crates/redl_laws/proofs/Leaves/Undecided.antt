@@ -2,6 +2,7 @@
 -- marker of a decided revision.
 use Rattle.std.proofs.Common.{◌≡◌, ◌∙◌, refl, sym, ap, ℕ, zero, suc, List, [], ◌∷◌, Bool, true, false, true≢false, ◌&&◌, ◌||◌, not, ◌==◌, None, if◌then◌else◌}
 use Rattle.std.specs.List.{list_any, list_all}
+use Rattle.std.proofs.Math.Bool.{and-false}
 use Rattle.redl_tree.specs.Model.Nodes.{Tag, Nodes, no_nodes, bytes, element, ◌⊕◌}
 use Rattle.redl_tree.specs.Model.Kids.{kids_of_all}
 use Rattle.redl_tree.specs.Roles.Names.{is}
@@ -24,7 +25,6 @@ use Rattle.redl_tree.specs.declared.kinds.Kind.TheVariants.{Plain, Content, Mark
 use Rattle.redl_tree.specs.declared.kinds.Fate.TheVariants.{Leave}
 use Rattle.redl_tree.specs.declared.kinds.Say.{Say}
 use Rattle.redl_tree.specs.declared.kinds.Say.TheVariants.{Keep, Accept, Reject}
-use Rattle.redl_tree.proofs.NameLaws.{and-false}
 use Rattle.redl_laws.proofs.Leaves.Locality.{pass_leaf-same, goes_at-same}
 
 -- ---- no says

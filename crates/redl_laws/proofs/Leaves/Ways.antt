@@ -2,6 +2,7 @@
 -- the new ones once each leaf that holds a member or a marker of the revisions that are set is made anew.
 use Rattle.std.proofs.Common.{◌≡◌, ◌∙◌, refl, sym, ap, subst, ℕ, zero, suc, ◌+◌, ◌<◌, ◌==◌, List, [], ◌∷◌, Bool, true, false, ◌&&◌, ◌||◌, not, arith}
 use Rattle.std.proofs.lemmas.Bool.{ne_eqb}
+use Rattle.std.proofs.Math.Bool.{and-true}
 use Rattle.redl_tree.specs.Model.Nodes.{Tag}
 use Rattle.redl_tree.specs.Leaves.Slots.{Slots, no_slots, leaf_slot, container_slot, slots_in}
 use Rattle.redl_tree.specs.Leaves.Leaf.{leaf_count}
@@ -54,11 +55,8 @@ way-within (suc n ∷ way) (container_slot tag kids inner rest) is = omega (arit
 
 -- the others are pending as before
 other-pending : (pending : ℕ → Bool) (number n : ℕ) → ((n ≡ number) → ⊥) → made number pending n ≡ false → pending n ≡ false
-other-pending pending number n apart free = at (pending n) (ap (λ b. pending n && not b) (sym (ne_eqb n number apart)) ∙ free)
-  where
-    at : (b : Bool) → (b && true) ≡ false → b ≡ false
-    at true h = h
-    at false h = refl
+other-pending pending number n apart free =
+    sym (and-true (pending n)) ∙ ap (λ b. pending n && not b) (sym (ne_eqb n number apart)) ∙ free
 
 same-made : (pending : ℕ → Bool) (says : List Say) (first a b : ℕ) (states : States) → a ≡ b
     → ArePassedBut (made a pending) says first states → ArePassedBut (made b pending) says first states

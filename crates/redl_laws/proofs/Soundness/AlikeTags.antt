@@ -1,7 +1,7 @@
 -- Alike tags, which every rule treats alike: they have the same local name and namespace, or are deleted text and live text.
 use Prim.Native.String.{String}
-use Rattle.std.proofs.Common.{◌≡◌, List, [], ◌∷◌, Bool, true, false, ◌&&◌, ◌||◌, not, refl, sym, ap, ◌∙◌, true≢false, codes, bytes_eq, if◌then◌else◌}
-use Rattle.std.proofs.lemmas.Bool.{and_parts, or_parts, not-true}
+use Rattle.std.proofs.Common.{◌≡◌, List, [], ◌∷◌, Bool, true, false, ◌||◌, not, refl, sym, ap, ◌∙◌, true≢false, codes, bytes_eq, if◌then◌else◌}
+use Rattle.std.proofs.lemmas.Bool.{and_parts, or_parts, not-true, and_right}
 use Rattle.std.specs.List.{list_all}
 use Rattle.redl_tree.specs.Model.Nodes.{Tag}
 use Rattle.redl_tree.specs.Roles.Names.{is, is_math, is_any, is_w, is_m}
@@ -61,12 +61,8 @@ module _ (a : Tag) (old new : String) where
         local = λ k. absurd (true≢false (sym k ∙ q));
       }
     where
-      and_no : (b c : Bool) → c ≡ false → (b && c) ≡ false
-      and_no true c e = e
-      and_no false c e = refl
-
       at_new : (n : String) → bytes_eq (codes new) (codes n) ≡ false → is n changed ≡ false
-      at_new n h = and_no (is_w a.space) (bytes_eq (codes new) (codes n)) h
+      at_new n h = and_right (is_w a.space) (bytes_eq (codes new) (codes n)) h
 
 not_ordinary : (n : String) → ordinary n ≡ true →
     (bytes_eq (codes "delText") (codes n) ≡ false) × (bytes_eq (codes "delInstrText") (codes n) ≡ false)

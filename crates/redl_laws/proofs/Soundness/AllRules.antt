@@ -1,6 +1,6 @@
 -- The law of soundness: each of the nine rules holds of a passed package where all nine hold of the original.
 use Rattle.std.proofs.Common.{◌≡◌, ℕ, List, [], ◌∷◌, map, Bool, true, false, ◌&&◌, not, is_some, refl, sym, ap, ◌∙◌, true≢false}
-use Rattle.std.proofs.lemmas.Bool.{and_parts, and_from, or_parts, or_from}
+use Rattle.std.proofs.lemmas.Bool.{and_parts, and_from, or_parts, or_from, false_from_ne_true}
 use Rattle.redl_tree.specs.Model.Nodes.{Tag, Nodes, no_nodes, bytes, element}
 use Rattle.redl_tree.specs.Model.View.{Element}
 use Rattle.redl_tree.specs.Roles.Names.{is}
@@ -20,7 +20,7 @@ use Rattle.redl_tree.proofs.Build.{one}
 use Rattle.redl_tree.proofs.Named.{by_names}
 use Rattle.redl_tree.proofs.Fits.{AllFit, true_false, open_∷, open_none_rejected}
 use Rattle.redl_laws.proofs.Soundness.AlikeTags.{Own, like_self}
-use Rattle.redl_laws.proofs.Soundness.Ancestors.{Came, top, kept, past_content, among-past, past_open, blocks_open, kid_3, free3, content_role, implies_from, implies_of, not_of, not_to, false_of}
+use Rattle.redl_laws.proofs.Soundness.Ancestors.{Came, top, kept, past_content, among-past, past_open, blocks_open, kid_3, free3, content_role, implies_from, implies_of, not_of, not_to}
 use Rattle.redl_laws.proofs.Survival.Indexed.{AreStories, indexed_stories, stories-pass, passed}
 use Rattle.redl_laws.proofs.Soundness.Walk.{Holds, Ground, Kept, walked, settled_kept, everywhere-one}
 use Rattle.redl_laws.proofs.Soundness.Rules.{kept_3, kept_7, kept_8, kept_9}
@@ -56,7 +56,7 @@ to_kid_3 ancestors (element tag kids rest) h e =
     in
     and_from _ _ (and_from _ _ own (to_kid_3 (tag ∷ ancestors) kids (λ i a.
     let among = sym (among_on tag ancestors i) ∙ a in
-    false_of (some_element is_thick kids) (not_to (some_element is_thick kids)
+    false_from_ne_true (some_element is_thick kids) (not_to (some_element is_thick kids)
     (implies_of _ _ z.1 (and_from (is_content (role ancestors tag)) (among_blocks ancestors) (content_role ancestors tag ∙ and_from (is_open ancestors) (is_some (trace_of tag)) (open_among ancestors among) i) among))))
     y.1))
     (to_kid_3 ancestors rest (λ i a. (or_parts (is_thick tag) (some_element is_thick rest) (h i a)).1) x.1)
@@ -68,7 +68,7 @@ no_thick ancestors (element tag kids rest) e i a =
     let x = and_parts (kid_3 ancestors tag kids && everywhere kid_3 (tag ∷ ancestors) kids) (everywhere kid_3 ancestors rest) e in
     let y = and_parts (kid_3 ancestors tag kids) (everywhere kid_3 (tag ∷ ancestors) kids) x.0 in
     or_from (is_thick tag) (some_element is_thick rest)
-    (false_of (is_thick tag) (λ t. (free3 ancestors tag kids y.0).blocks t i (sym (among-past ancestors) ∙ a)))
+    (false_from_ne_true (is_thick tag) (λ t. (free3 ancestors tag kids y.0).blocks t i (sym (among-past ancestors) ∙ a)))
     (no_thick ancestors rest x.1 i a)
 
 from_kid_3 : (ancestors : List Tag) (nodes : Nodes) → everywhere kid_3 ancestors nodes ≡ true → everywhere test_3 ancestors nodes ≡ true

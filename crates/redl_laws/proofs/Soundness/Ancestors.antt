@@ -3,7 +3,7 @@
 -- A joined paragraph is the ancestor in place of each paragraph that was joined into it.
 use Prim.Native.String.{String}
 use Rattle.std.proofs.Common.{◌≡◌, List, [], ◌∷◌, Bool, true, false, ◌&&◌, ◌||◌, not, ◌⊎◌, inl, inr, Option, Some, None, is_some, option_map, refl, sym, ap, ◌∙◌, true≢false, if◌then◌else◌}
-use Rattle.std.proofs.lemmas.Bool.{and_parts, and_from, or_left, or_right}
+use Rattle.std.proofs.lemmas.Bool.{and_parts, and_from, or_left, or_right, false_from_ne_true}
 use Rattle.std.specs.List.{list_any, list_all}
 use Rattle.redl_tree.specs.Model.Nodes.{Tag, Nodes}
 use Rattle.redl_tree.specs.Roles.Names.{is, is_any}
@@ -26,16 +26,13 @@ use Rattle.redl_tree.proofs.Named.{AllNames, by_name, by_names, by_trace}
 use Rattle.redl_tree.proofs.Fits.{open_∷, open_head, open_tail, true_false}
 use Rattle.redl_laws.proofs.Soundness.AlikeTags.{Like, ordinary, like_quiet, like_trace, like_prop, like_thick, like_any, like_has_blocks, like_into, like_run_props}
 
-implied : (a b : Bool) → implies a b ≡ true → a ≡ true → b ≡ true
-implied true b h e = h
-implied false b h e = absurd (true≢false (sym e))
-
 pub implies_from : (a b : Bool) → (a ≡ true → b ≡ true) → implies a b ≡ true
 implies_from true b h = h refl
 implies_from false b h = refl
 
 pub implies_of : (a b : Bool) → implies a b ≡ true → a ≡ true → b ≡ true
-implies_of a b h e = implied a b h e
+implies_of true b h e = h
+implies_of false b h e = absurd (true≢false (sym e))
 
 pub not_to : (b : Bool) → not b ≡ true → b ≡ true → ⊥
 not_to true e h = true≢false (sym e)
@@ -44,10 +41,6 @@ not_to false e h = true≢false (sym h)
 pub not_of : (b : Bool) → (b ≡ true → ⊥) → not b ≡ true
 not_of true h = absurd (h refl)
 not_of false h = refl
-
-pub false_of : (b : Bool) → (b ≡ true → ⊥) → b ≡ false
-false_of true h = absurd (h refl)
-false_of false h = refl
 
 -- the ancestors behind the content revisions that come first
 abbrev pub past_content : List Tag → List Tag
@@ -124,10 +117,6 @@ pub data Came : List Tag → List Tag → Type 0 where
 trace_loud : (a : Tag) → is_some (trace_of a) ≡ true → is_quiet a ≡ false
 trace_loud a e = by_trace (λ t. is_quiet t ≡ false) a e (refl, (refl, (refl, (refl, tt))))
 
-pub any_drop : (a : Bool) (b : Bool) → b ≡ true → (a || b) ≡ true
-any_drop true b e = refl
-any_drop false b e = e
-
 -- openness
 
 came_loud : (old new : List Tag) → Came old new → list_any is_quiet new ≡ list_any is_quiet old
@@ -135,14 +124,14 @@ came_loud old new top = refl
 came_loud old new (kept {old = o} {new = n} a b c l t pr) = rw (like_quiet a b l, came_loud o n c) refl
 came_loud old new (freed {old = o} {new = n} a c e p) = came_loud o n c ∙ sym (rw (trace_loud a e) refl)
 came_loud old new (restored {old = o} {new = n} a b ch f c l q r) =
-    rw (like_quiet a b l, q) (sym (any_drop (is_quiet f) (is_quiet ch || true) (any_drop (is_quiet ch) true refl)))
+    rw (like_quiet a b l, q) (sym (or_right (is_quiet f) (is_quiet ch || true) (or_right (is_quiet ch) true refl)))
 came_loud old new (joins {old = o} {new = n} b c e) = rw (by_name (λ t. is_quiet t ≡ false) "p" b e refl) (came_loud o n c)
 
 pub came_open : (old new : List Tag) → Came old new → is_open new ≡ is_open old
 came_open old new c = ap not (came_loud old new c)
 
 restored_shut : (a ch f : Tag) (o : List Tag) → is_quiet a ≡ true → is_open (f ∷ ch ∷ a ∷ o) ≡ false
-restored_shut a ch f o q = rw q (ap not (any_drop (is_quiet f) (is_quiet ch || true) (any_drop (is_quiet ch) true refl)))
+restored_shut a ch f o q = rw q (ap not (or_right (is_quiet f) (is_quiet ch || true) (or_right (is_quiet ch) true refl)))
 
 -- content revisions round an element
 
@@ -301,7 +290,7 @@ thick_wrapper a (inl e) = by_name (λ t. is_thick t ≡ true) "sdt" a e refl
 thick_wrapper a (inr e) = by_name (λ t. is_thick t ≡ true) "customXml" a e refl
 
 in_false : (old new : List Tag) → Came old new → is_open old ≡ true → in_content old ≡ false → in_content new ≡ false
-in_false old new c o e = false_of (in_content new) (λ h. true_false (in_content old) (came_in old new c o h) e)
+in_false old new c o e = false_from_ne_true (in_content new) (λ h. true_false (in_content old) (came_in old new c o h) e)
 
 -- the same, or nothing among Blocks
 abbrev pub Less : Reach → Reach → Type 0
@@ -345,7 +334,7 @@ into_here old new a c o f h = at (in_content old) refl (in_content new) refl
         into_same (reach_of new) (reach_of old) a
         (λ w. not_thick (inl w) e g ∙ ap (λ r. into r a) (sym (beyond_head old e)))
         (λ w. not_thick (inr w) e g ∙ ap (λ r. into r a) (sym (beyond_head old e)))
-        (λ w. absurd (f.inside (and_from _ _ (any_drop (is "rPr" a) (is "sdtContent" a || false) (rw w refl)) o) e)))
+        (λ w. absurd (f.inside (and_from _ _ (or_right (is "rPr" a) (is "sdtContent" a || false) (rw w refl)) o) e)))
 
 less_step : (o h b r : Bool) (x y : Reach) → Less x y →
     Less (if o then (if h then Direct else if b then Beyond else if r then Beyond else x) else Beyond)
@@ -552,7 +541,7 @@ within-owned name (tag ∷ ancestors) = refl
 
 pub restored_change : (a ch f : Tag) (o : List Tag) → is_change (role (a ∷ o) ch) ≡ true → below_change (f ∷ ch ∷ a ∷ o) ≡ true
 restored_change a ch f o e =
-    any_drop (is_change (role (ch ∷ a ∷ o) f)) (is_change (role (a ∷ o) ch) || below_change (a ∷ o)) (rw e refl)
+    or_right (is_change (role (ch ∷ a ∷ o) f)) (is_change (role (a ∷ o) ch) || below_change (a ∷ o)) (rw e refl)
 
 owner_came : (test : Tag → Bool) → ((a b : Tag) → Like a b → test b ≡ test a) → ((b : Tag) → is "p" b ≡ true → test b ≡ false) → (old new : List Tag) → Came old new →
     (is_open old ≡ true → in_content old ≡ true → ⊥) → owned test new ≡ true → Stood old (owned test old)
@@ -588,7 +577,7 @@ stood_and x y z old e (inr h) = inr h
 
 stood_more : (a : Tag) (old : List Tag) (b : Bool) → Stood old b → Stood (a ∷ old) b
 stood_more a old b (inl h) = inl h
-stood_more a old b (inr h) = inr (any_drop (is_change (role old a)) (below_change old) h)
+stood_more a old b (inr h) = inr (or_right (is_change (role old a)) (below_change old) h)
 
 -- how the owner of a property element is found
 abbrev Owner : String → String → Type 0
@@ -730,7 +719,7 @@ came_change old new (kept {old = p} {new = n} a b c l f pr) e =
     at : (x y : Bool) → (x || y) ≡ true → (x ≡ true → Stood p (is_change (role p a))) → (y ≡ true → below_change p ≡ true) → below_change (a ∷ p) ≡ true
     at true y e h k = from_stood (h refl)
     at false y e h k = or_right (is_change (role p a)) (below_change p) (k e)
-came_change old new (freed {old = p} {new = n} a c t q) e = any_drop (is_change (role p a)) (below_change p) (came_change p new c e)
+came_change old new (freed {old = p} {new = n} a c t q) e = or_right (is_change (role p a)) (below_change p) (came_change p new c e)
 came_change old new (restored {old = p} {new = n} a b ch f c l k r) e = restored_change a ch f p r
 came_change old new (joins {old = p} {new = n} b c h) e =
     came_change p n c (rw (change_role n b ∙ ap (at_props n) (by_name (λ t. prop_of t ≡ None) "p" b h refl)) at e)

@@ -1,7 +1,7 @@
 -- Rule 1 holds again after a pass: a cell that ends with a paragraph does so still.
 use Prim.Native.String.{String}
 use Rattle.std.proofs.Common.{◌≡◌, List, [], ◌∷◌, Bool, true, false, ◌&&◌, ◌||◌, not, Option, Some, None, is_some, refl, sym, ap, ◌∙◌, subst, true≢false, codes, if◌then◌else◌}
-use Rattle.std.proofs.lemmas.Bool.{and_from, or_parts, or_from}
+use Rattle.std.proofs.lemmas.Bool.{and_from, or_parts, or_from, false_from_ne_true, and_right, and_left}
 use Rattle.redl_tree.specs.Model.Nodes.{Tag, Nodes, no_nodes, bytes, element, ◌⊕◌}
 use Rattle.redl_tree.specs.Roles.Names.{is, is_any, is_w, is_m}
 use Rattle.redl_tree.specs.Model.Kids.{only, some_element}
@@ -25,8 +25,8 @@ use Rattle.redl_tree.proofs.EndLaws.{two_none}
 use Rattle.redl_tree.proofs.Named.{by_name, by_names, by_trace}
 use Rattle.redl_tree.proofs.Fits.{Fits, OpenKind, plain, content, marker, open_fits, open_∷, true_false}
 use Rattle.redl_laws.proofs.Soundness.AlikeTags.{Like, like_thick, like_any, own_renamed, like_into}
-use Rattle.redl_laws.proofs.Soundness.Ancestors.{Came, past_content, free3, came_open, implies_from, implies_of, false_of, in_blocks-reach, reach_trace, past_self}
-use Rattle.redl_laws.proofs.Soundness.Walk.{Holds, Stands, Ground, Kept, made, change_shut, content_fits, and_no, no_and, some-⊕}
+use Rattle.redl_laws.proofs.Soundness.Ancestors.{Came, past_content, free3, came_open, implies_from, implies_of, in_blocks-reach, reach_trace, past_self}
+use Rattle.redl_laws.proofs.Soundness.Walk.{Holds, Stands, Ground, Kept, made, change_shut, content_fits, some-⊕}
 use Rattle.redl_laws.proofs.Soundness.TopLaws.{one_pass, From, content_each, some_one}
 use Rattle.redl_laws.proofs.Soundness.Properties.{made_open, open_came, no_p, shut_one}
 use Rattle.redl_laws.proofs.Soundness.RowLaws.{plain_stays}
@@ -220,7 +220,7 @@ foreign_thick ext says ancestors (element a kids rest) i p o g =
     let w = content_fits ancestors a g.0.fits e in
     ap (some_element is_thick) (content_each says (a ∷ ancestors) kids w.1)
     ∙ foreign_thick ext says (a ∷ ancestors) kids w.1 (rw w.1 p) (open_∷ a ancestors (by_trace (λ t. is_quiet t ≡ false) a w.1 (refl, (refl, (refl, (refl, tt))))) ∙ o) g.1))
-    (false_of (is_thick a) (λ t. (free3 ancestors a kids g.0.rules.rule_3).blocks t i p)))
+    (false_from_ne_true (is_thick a) (λ t. (free3 ancestors a kids g.0.rules.rule_3).blocks t i p)))
     (foreign_thick ext says ancestors rest i p o g.2)
 
 -- one element of a block list
@@ -261,8 +261,8 @@ end_one reach t kids = two_last reach (end_of_one reach t (end_of (into reach t)
 
 shell_no : (says : List Say) (ancestors : List Tag) (a : Tag) (kids : Nodes) (reach : Reach) → AtBlocks reach ancestors → is "tc" a ≡ false → is "tr" a ≡ false → is "tbl" a ≡ false → goes_at says ancestors a kids ≡ false
 shell_no says ancestors a kids reach h p q r =
-    no_and (is "tc" a || is "tr" a || is "tbl" a || is_shell ancestors a) (goes says (in_cells ancestors) a kids)
-    (or_from _ _ (or_from _ _ (or_from _ _ p q) r) (and_no (is_wrapper a) (in_rows ancestors || in_cells ancestors) (no_grid reach ancestors h.0)))
+    and_left (is "tc" a || is "tr" a || is "tbl" a || is_shell ancestors a) (goes says (in_cells ancestors) a kids)
+    (or_from _ _ (or_from _ _ (or_from _ _ p q) r) (and_right (is_wrapper a) (in_rows ancestors || in_cells ancestors) (no_grid reach ancestors h.0)))
   where
     no_grid : (reach : Reach) (ancestors : List Tag) → place ancestors ≡ record { lot = Blocks; reach = reach } → (in_rows ancestors || in_cells ancestors) ≡ false
     no_grid Direct ancestors e = rw e refl
@@ -305,7 +305,7 @@ thin_piece ext says ancestors a kids h fit g e =
     past_here : (ancestors : List Tag) (a : Tag) → AtBlocks Direct ancestors → is_some (trace_of a) ≡ true → in_blocks (past_content (a ∷ ancestors)) ≡ true
     past_here ancestors a h t =
         let b : in_blocks ancestors ≡ true = rw h.0 refl in
-        rw (t, past_self ancestors (false_of (in_content ancestors) (not_content ancestors b))) b
+        rw (t, past_self ancestors (false_from_ne_true (in_content ancestors) (not_content ancestors b))) b
 
 -- where the kids of a part of a shell stand
 inside_blocks : (name : String) (reach inner : Reach) (ancestors : List Tag) (a : Tag) → AtBlocks reach ancestors → is name a ≡ true → is_quiet a ≡ false →

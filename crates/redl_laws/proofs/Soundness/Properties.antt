@@ -1,7 +1,7 @@
 -- Rules 4, 5 and 6, on properties, hold again after a pass: they look at the top of a list.
 use Prim.Native.String.{String}
 use Rattle.std.proofs.Common.{◌≡◌, ℕ, suc, ◌≤◌, List, [], ◌∷◌, Bool, true, false, ◌&&◌, not, ◌⊎◌, inl, inr, Option, Some, None, is_some, refl, sym, ap, ◌∙◌, true≢false, arith, ⊎_elim, if◌then◌else◌}
-use Rattle.std.proofs.lemmas.Bool.{and_parts, and_from, or_parts, or_left, or_from, not-true}
+use Rattle.std.proofs.lemmas.Bool.{and_parts, and_from, or_parts, or_left, or_from, not-true, false_from_ne_true, or_right, or_cases}
 use Rattle.redl_tree.specs.Model.Nodes.{Tag, Nodes, no_nodes, bytes, element, ◌⊕◌}
 use Rattle.redl_tree.specs.Roles.Names.{is, is_any}
 use Rattle.redl_tree.specs.Model.Kids.{only, without, some_element}
@@ -18,8 +18,8 @@ use Rattle.redl_tree.proofs.PassLaws.{each}
 use Rattle.redl_tree.proofs.Named.{by_name}
 use Rattle.redl_tree.proofs.Fits.{AllFit, true_false, open_∷, open_none_rejected}
 use Rattle.redl_laws.proofs.Soundness.AlikeTags.{Like, like_quiet, like_prop, ordinary}
-use Rattle.redl_laws.proofs.Soundness.Ancestors.{Came, kept, Para, Stood, banned, free3, came_open, change_came, mark_came, para_came, row_came, cell_came, implies_from, implies_of, false_of, by_prop, in_below, any_drop}
-use Rattle.redl_laws.proofs.Soundness.Walk.{Holds, Ground, Kept, NoMarkBelow, made, change_shut, change_name, change_parent, or_either, rejected_found, rejected_former, owner_of, props_owner, change_props, some-⊕}
+use Rattle.redl_laws.proofs.Soundness.Ancestors.{Came, kept, Para, Stood, banned, free3, came_open, change_came, mark_came, para_came, row_came, cell_came, implies_from, implies_of, by_prop, in_below}
+use Rattle.redl_laws.proofs.Soundness.Walk.{Holds, Ground, Kept, NoMarkBelow, made, change_shut, change_name, change_parent, rejected_found, rejected_former, owner_of, props_owner, change_props, some-⊕}
 use Rattle.redl_laws.proofs.Soundness.ShutLists.{rule_8_of, shut_pass}
 use Rattle.redl_laws.proofs.Soundness.TopLaws.{first_none, add_if, count_named, count-⊕, count_none, From, Foreign, tops, sub_some, sub_last, sub_first, sub_once, sub_count, once_less, last_none, foreign_shut}
 
@@ -70,11 +70,11 @@ only_none n names h (element t k rest) =
 -- RULE 6
 
 foreign_below : (name : String) → ((a : Tag) → is name a ≡ true → is_any banned a ≡ true) → Foreign (is name)
-foreign_below name h ancestors a f o i = false_of (is name a) (λ e. f.below (and_from _ _ (h a e) o) (in_below ancestors i))
+foreign_below name h ancestors a f o i = false_from_ne_true (is name a) (λ e. f.below (and_from _ _ (h a e) o) (in_below ancestors i))
 
 pub foreign_inside : Foreign (is "sdtContent")
 foreign_inside ancestors a f o i =
-    false_of (is "sdtContent" a) (λ e. f.inside (and_from _ _ (by_name (λ t. is_any ("rPr" ∷ "sdtContent" ∷ []) t ≡ true) "sdtContent" a e refl) o) i)
+    false_from_ne_true (is "sdtContent" a) (λ e. f.inside (and_from _ _ (by_name (λ t. is_any ("rPr" ∷ "sdtContent" ∷ []) t ≡ true) "sdtContent" a e refl) o) i)
 
 -- of an element among the content no change is rejected
 pub made_open : (ext : Test) → (says : List Say) (old : List Tag) (a : Tag) (kids : Nodes) → is_open old ≡ true → is_quiet a ≡ false → Ground ext (a ∷ old) kids → made says old a kids ≡ pass says (a ∷ old) kids
@@ -211,21 +211,21 @@ some_less n m h no_nodes e = refl
 some_less n m h (bytes b rest) e = some_less n m h rest e
 some_less n m h (element t k rest) e =
     let both = or_parts (n t) (some_element n rest) e in
-    or_from (m t) _ (false_of (m t) (λ w. true_false (n t) (h t w) both.0)) (some_less n m h rest both.1)
+    or_from (m t) _ (false_from_ne_true (m t) (λ w. true_false (n t) (h t w) both.0)) (some_less n m h rest both.1)
 
 abbrev change_at : List Tag → Tag → Bool
 change_at ancestors t = is_change (role ancestors t)
 
 no_change_named : (ancestors : List Tag) (names : Tag → Bool) →
     ((t : Tag) → is_some (prop_of t) ≡ true → names t ≡ false) → (t : Tag) → names t ≡ true → change_at ancestors t ≡ false
-no_change_named ancestors names h t e = false_of (change_at ancestors t) (λ w. true_false (names t) e (h t (change_name ancestors t w)))
+no_change_named ancestors names h t e = false_from_ne_true (change_at ancestors t) (λ w. true_false (names t) e (h t (change_name ancestors t w)))
 
 module _ (ext : Test) (ancestors old : List Tag) (ch : Tag) (below : below_change (ch ∷ old) ≡ true) where
   former_none : (former : Nodes) → ((former ≡ no_nodes) ⊎ ((f : Tag) × Ground ext (f ∷ ch ∷ old) former)) → some_element (change_at ancestors) former ≡ false
   former_none former (inl e) = rw e refl
   former_none former (inr (f, g)) =
       some_less (λ t. is_some (prop_of t)) (change_at ancestors) (λ t w. change_name ancestors t w) former
-      (no_props ext (f ∷ ch ∷ old) former (any_drop (change_at (ch ∷ old) f) (below_change (ch ∷ old)) below) g)
+      (no_props ext (f ∷ ch ∷ old) former (or_right (change_at (ch ∷ old) f) (below_change (ch ∷ old)) below) g)
 
   -- a restored list holds no change
   restored_none : (prop : Prop) (current former : Nodes) → ((former ≡ no_nodes) ⊎ ((f : Tag) × Ground ext (f ∷ ch ∷ old) former)) →
@@ -261,7 +261,7 @@ some_never n h (element t k rest) = or_from (n t) _ (h t) (some_never n h rest)
 -- no kid of what is no property element is a change
 loud_last : (ancestors : List Tag) (b : Tag) → is_quiet b ≡ false → (xs : Nodes) → only_last (change_at (b ∷ ancestors)) xs ≡ true
 loud_last ancestors b q xs =
-    last_none (change_at (b ∷ ancestors)) xs (some_never (change_at (b ∷ ancestors)) (λ t. false_of (change_at (b ∷ ancestors) t) (λ w. true_false (is_quiet b) (change_parent ancestors b t w) q)) xs)
+    last_none (change_at (b ∷ ancestors)) xs (some_never (change_at (b ∷ ancestors)) (λ t. false_from_ne_true (change_at (b ∷ ancestors) t) (λ w. true_false (is_quiet b) (change_parent ancestors b t w) q)) xs)
 
 shut_head : (a : Tag) (old : List Tag) → is_quiet a ≡ true → is_open (a ∷ old) ≡ false
 shut_head a old q = rw q refl
@@ -315,7 +315,7 @@ kept_4 ext says = record {
   former = λ old new a kids c e h g m.
       last_none (change_at (a ∷ new)) kids
       (some_less (λ t. is_some (prop_of t)) (change_at (a ∷ new)) (λ t w. change_name (a ∷ new) t w) kids
-      (no_props ext (a ∷ old) kids (any_drop (is_change (role old a)) (below_change old) e) g));
+      (no_props ext (a ∷ old) kids (or_right (is_change (role old a)) (below_change old) e) g));
 }
 
 -- RULE 5
@@ -478,7 +478,7 @@ each_less (n ∷ ns) xs ys h e =
 shut_within : (name : String) → ((t : Tag) → is name t ≡ true → is_quiet t ≡ false) → (ancestors : List Tag) → is_open ancestors ≡ false → within (name ∷ []) ancestors ≡ false
 shut_within name h [] e = refl
 shut_within name h (t ∷ ancestors) e =
-    false_of (is name t && is_open ancestors) (λ w.
+    false_from_ne_true (is name t && is_open ancestors) (λ w.
     let both = and_parts (is name t) (is_open ancestors) w in
     true≢false (sym (open_∷ t ancestors (h t both.0) ∙ both.1) ∙ e))
 
@@ -500,7 +500,7 @@ p_five ancestors a kids e =
 
 stood_or_not : {X : Type 0} (old : List Tag) (a : Tag) (b : Bool) → Stood (a ∷ old) b → (b ≡ true → X) → (is_change (role old a) ≡ true → X) → (below_change old ≡ true → X) → X
 stood_or_not old a b (inl s) f g h = f s
-stood_or_not old a b (inr s) f g h = ⊎_elim g h (or_either (is_change (role old a)) (below_change old) s)
+stood_or_not old a b (inr s) f g h = ⊎_elim g h (or_cases (is_change (role old a)) (below_change old) s)
 
 stays_5 : (ext : Test) → (says : List Say) (old new : List Tag) (a b : Tag) (kids : Nodes) → Came old new → Para old new a → NoMarkBelow old new → Holds ext old a kids → Ground ext (a ∷ old) kids → Like a b →
     Rule5 new b (made says old a kids)

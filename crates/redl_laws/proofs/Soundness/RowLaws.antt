@@ -1,8 +1,9 @@
 -- Rule 2 holds again after a pass: a row that stays has a cell that stays.
 use Prim.Native.String.{String}
 use Rattle.std.proofs.Common.{◌≡◌, List, [], ◌∷◌, ◌++◌, append_assoc, Bool, true, false, ◌&&◌, ◌||◌, not, ◌⊎◌, inl, inr, is_some, refl, sym, ap, ◌∙◌, true≢false, ⊎_elim, if◌then◌else◌}
-use Rattle.std.proofs.lemmas.Bool.{and_from, or_parts}
+use Rattle.std.proofs.lemmas.Bool.{and_from, or_parts, and_right, false_from_ne_true}
 use Rattle.std.specs.List.{list_all}
+use Rattle.std.proofs.Math.Bool.{and-true}
 use Rattle.redl_tree.specs.Model.Nodes.{Tag, Nodes, no_nodes, bytes, element, ◌⊕◌}
 use Rattle.redl_tree.specs.Roles.Names.{is}
 use Rattle.redl_tree.specs.Model.Kids.{only}
@@ -26,8 +27,8 @@ use Rattle.redl_tree.proofs.PassLaws.{each, pass-each}
 use Rattle.redl_tree.proofs.Named.{by_name}
 use Rattle.redl_tree.proofs.Fits.{Fits, true_false, open_∷, open_fits, OpenKind, plain, content, marker, open_none_rejected}
 use Rattle.redl_laws.proofs.Soundness.AlikeTags.{Like, own_renamed, like_into}
-use Rattle.redl_laws.proofs.Soundness.Ancestors.{Came, came_open, implies_from, implies_of, not_to, false_of}
-use Rattle.redl_laws.proofs.Soundness.Walk.{Holds, Ground, Kept, made, change_shut, and_no}
+use Rattle.redl_laws.proofs.Soundness.Ancestors.{Came, came_open, implies_from, implies_of, not_to}
+use Rattle.redl_laws.proofs.Soundness.Walk.{Holds, Ground, Kept, made, change_shut}
 use Rattle.redl_laws.proofs.Soundness.Properties.{fits_of, made_open, open_came, no_p, shut_one}
 
 -- the list is empty
@@ -148,7 +149,7 @@ not_all_some test (x ∷ xs) e = e
 shell_goes : (says : List Say) (ancestors : List Tag) (a : Tag) (kids : Nodes) (x : Reach) → in_cells ancestors ≡ true → is "tc" a ≡ false → is "tr" a ≡ false → is "tbl" a ≡ false → into Direct a ≡ x →
     list_all (cell_is_cut says) (own "tc" x kids) ≡ false → goes_at says ancestors a kids ≡ false
 shell_goes says ancestors a kids x c p q r e h =
-    and_no (is "tc" a || is "tr" a || is "tbl" a || is_shell ancestors a) (goes says (in_cells ancestors) a kids)
+    and_right (is "tc" a || is "tr" a || is "tbl" a || is_shell ancestors a) (goes says (in_cells ancestors) a kids)
     (rw (p, q, r, c, e) (not_all_some (cell_is_cut says) (own "tc" x kids) h))
 
 shell_part : (says : List Say) (ancestors : List Tag) (a : Tag) (kids : Nodes) (reach inner : Reach) → AtCells reach ancestors → Part_of reach a inner → list_all (cell_is_cut says) (own "tc" inner kids) ≡ false →
@@ -201,12 +202,8 @@ cell_left ext says ancestors a kids o fit g e c passed =
     ∙ ap is_empty (own_one "tc" Direct (renamed says ancestors a) passed)
     ∙ here (is "tc" (renamed says ancestors a)) ((own_renamed says ancestors a).like.name "tc" refl ∙ e)
   where
-    goes_not : (x g : Bool) → g ≡ false → (x && g) ≡ false
-    goes_not true g e = e
-    goes_not false g e = refl
-
     cell_goes_not : (a : Tag) → is "tc" a ≡ true → cell_is_cut says kids ≡ false → goes_at says ancestors a kids ≡ false
-    cell_goes_not a e c = goes_not (is "tc" a || is "tr" a || is "tbl" a || is_shell ancestors a) (goes says (in_cells ancestors) a kids) (rw e c)
+    cell_goes_not a e c = and_right (is "tc" a || is "tr" a || is "tbl" a || is_shell ancestors a) (goes says (in_cells ancestors) a kids) (rw e c)
 
     here : (b : Bool) → b ≡ true → is_empty ((if b then passed ∷ [] else own "tc" (into Direct (renamed says ancestors a)) passed) ++ []) ≡ false
     here true h = refl
@@ -223,23 +220,19 @@ shell_left ext says ancestors a kids passed reach inner o fit g sp e all full =
     let l = (own_renamed says ancestors a).like in
     ap (λ n. is_empty (own "tc" reach n)) (plain_stays ext says ancestors a kids passed o fit sp.quiet g sp.no_trace sp.no_edge (sp.stays all))
     ∙ ap is_empty (own_one "tc" reach t passed)
-    ∙ ap (λ x. is_empty (x ++ [])) (if_first (is_direct reach && is "tc" t) (passed ∷ []) (own "tc" (into reach t) passed) (and_no (is_direct reach) (is "tc" t) (l.name "tc" refl ∙ sp.no_cell)))
+    ∙ ap (λ x. is_empty (x ++ [])) (if_first (is_direct reach && is "tc" t) (passed ∷ []) (own "tc" (into reach t) passed) (and_right (is_direct reach) (is "tc" t) (l.name "tc" refl ∙ sp.no_cell)))
     ∙ ap (λ r. is_empty (own "tc" r passed ++ [])) (like_into reach a t l ∙ e)
     ∙ full_left (own "tc" inner passed) [] full
 
 abbrev first_of : List Say → List Tag → Tag → Nodes → Nodes
 first_of says ancestors a kids = element_pass says ancestors a kids (pass says (a ∷ ancestors) kids)
 
-and_true : (b : Bool) → (b && true) ≡ false → b ≡ false
-and_true true e = e
-and_true false e = refl
-
 first_left : (ext : Test) → (says : List Say) (ancestors : List Tag) (a : Tag) (kids : Nodes) (reach : Reach) → AtCells reach ancestors → Fits ancestors a → Ground ext (a ∷ ancestors) kids → (b : Bool) → (is_direct reach && is "tc" a) ≡ b →
     list_all (cell_is_cut says) (if b then kids ∷ [] else own "tc" (into reach a) kids) ≡ false →
     (AtCells (into reach a) (a ∷ ancestors) → list_all (cell_is_cut says) (own "tc" (into reach a) kids) ≡ false → is_empty (own "tc" (into reach a) (each says (a ∷ ancestors) kids)) ≡ false) →
     is_empty (own "tc" reach (first_of says ancestors a kids)) ≡ false
 first_left ext says ancestors a kids Direct h fit g true w x ih =
-    cell_left ext says ancestors a kids h.1 fit g w (and_true (cell_is_cut says kids) x) (pass says (a ∷ ancestors) kids)
+    cell_left ext says ancestors a kids h.1 fit g w (sym (and-true (cell_is_cut says kids)) ∙ x) (pass says (a ∷ ancestors) kids)
 first_left ext says ancestors a kids Control h fit g true w x ih = absurd (true≢false (sym w))
 first_left ext says ancestors a kids Beyond h fit g true w x ih = absurd (true≢false (sym w))
 first_left ext says ancestors a kids reach h fit g false w x ih =
@@ -280,7 +273,7 @@ row_stays_2 : (ext : Test) → (says : List Say) (old new : List Tag) (a b : Tag
 row_stays_2 ext says old new a b kids c l h g lives o =
     let w = open_came "tr" refl old new a b c l o in
     let quiet = by_name (λ t. is_quiet t ≡ false) "tr" a w.0 refl in
-    let full = false_of (is_empty (own "tc" Direct kids)) (not_to (is_empty (own "tc" Direct kids)) (sym (own-has "tc" Direct kids) ∙ implies_of _ _ h.rule_2 (and_from (is "tr" a) (is_open old) w.0 w.1))) in
+    let full = false_from_ne_true (is_empty (own "tc" Direct kids)) (not_to (is_empty (own "tc" Direct kids)) (sym (own-has "tc" Direct kids) ∙ implies_of _ _ h.rule_2 (and_from (is "tr" a) (is_open old) w.0 w.1))) in
     let at : AtCells Direct (a ∷ old) =
     (rw (open_∷ a old quiet ∙ w.1) (by_name (λ t. inside t (place old) ≡ record { lot = Cells; reach = Direct }) "tr" a w.0 refl), open_∷ a old quiet ∙ w.1) in
     let left = cells_left ext says (a ∷ old) Direct kids at g (some_all (cell_is_cut says) (own "tc" Direct kids) full (row_stays says old a kids w.0 lives)) in

@@ -1,6 +1,6 @@
 -- Rules 3, 7, 8 and 9 hold again after a pass, by the law on ancestors.
 use Rattle.std.proofs.Common.{◌≡◌, ℕ, List, [], ◌∷◌, Bool, true, false, ◌&&◌, ◌||◌, not, inl, inr, Option, Some, None, is_some, refl, sym, ap, ◌∙◌, true≢false}
-use Rattle.std.proofs.lemmas.Bool.{and_parts, and_from, or_left, or_right}
+use Rattle.std.proofs.lemmas.Bool.{and_parts, and_from, or_left, or_right, false_from_ne_true}
 use Rattle.redl_tree.specs.Model.Nodes.{Tag, Nodes, no_nodes, bytes, element, ◌⊕◌}
 use Rattle.redl_tree.specs.Roles.Names.{is}
 use Rattle.redl_tree.specs.Model.Kids.{only, has_element}
@@ -17,7 +17,7 @@ use Rattle.redl_tree.specs.declared.kinds.Kind.TheVariants.{Plain, Content, Mark
 use Rattle.redl_tree.proofs.Named.{by_name}
 use Rattle.redl_tree.proofs.Fits.{true_false}
 use Rattle.redl_laws.proofs.Soundness.AlikeTags.{Like, Own, like_self, like_edge, like_trace, like_prop}
-use Rattle.redl_laws.proofs.Soundness.Ancestors.{Came, Stood, free3, kid_3, kid_3_from, came_3, came_8, came_open, change_came, content_role, change_role, change_first, at_props, implies_from, implies_of, not_of, not_to, false_of}
+use Rattle.redl_laws.proofs.Soundness.Ancestors.{Came, Stood, free3, kid_3, kid_3_from, came_3, came_8, came_open, change_came, content_role, change_role, change_first, at_props, implies_from, implies_of, not_of, not_to}
 use Rattle.redl_laws.proofs.Soundness.Walk.{Holds, Ground, Kept, made, change_shut, grouped_good, GoodPieces, change_name}
 use Rattle.redl_laws.proofs.Soundness.ShutLists.{rule_8_of, below_none_rejected, shut_pass, former_pass}
 
@@ -82,7 +82,7 @@ module _ (has_id : List ℕ → Bool) where
   pub kept_7 : (says : List Say) → Kept (test_7 has_id) says (test_7 has_id)
   kept_7 says = record {
     stays = λ old new a b kids c pr mk h g s o. implies_from _ _ (λ m.
-        let bare : has_element kids ≡ false = false_of (has_element kids) (not_to (has_element kids) (implies_of _ _ h.own (sym (marker_came old new a b c o) ∙ m))) in
+        let bare : has_element kids ≡ false = false_from_ne_true (has_element kids) (not_to (has_element kids) (implies_of _ _ h.own (sym (marker_came old new a b c o) ∙ m))) in
         not_of (has_element (made says old a kids)) (λ w. true≢false (sym w ∙ bare_made says old a kids bare)));
     alone = λ old new a b kids c pr h g e o. implies_from _ _ (λ m. absurd (p_no_marker new b (o.like.name "p" refl ∙ e) m));
     joined = λ new a cl kids more e h none. implies_from _ _ (λ m. absurd (p_no_marker new a e m));
@@ -104,7 +104,7 @@ module _ (ext : Test) (old new : List Tag) (a b : Tag) (kids : Nodes) (c : Came 
   -- a change of the result was one
   was_change : is_change (role new b) ≡ true → (is_change (role old a) ≡ true) × (below_change old ≡ false)
   was_change e =
-      let up : below_change old ≡ false = false_of (below_change old) (λ w.
+      let up : below_change old ≡ false = false_from_ne_true (below_change old) (λ w.
       true_false (is_some (prop_of a)) (ap is_some (sym (like_prop a b l)) ∙ change_name new b e) (rule_8_of old a kids h.rule_8 w).prop) in
       (at up (change_came old new a b c l e), up)
     where
@@ -163,7 +163,7 @@ no_former ext declares says old new a b kids c l h g own =
     let w = was_change ext old new a b kids c l h (ap is_change e) in
     let below : below_change (a ∷ old) ≡ true = or_left (is_change (role old a)) (below_change old) w.0 in
     let old_role : role old a ≡ Change prop = prop_role old a prop w.0 (sym (like_prop a b l) ∙ role_prop new b prop e) in
-    let none : change_declares declares (role old a) kids ≡ false = false_of (change_declares declares (role old a) kids) (not_to (change_declares declares (role old a) kids) own) in
+    let none : change_declares declares (role old a) kids ≡ false = false_from_ne_true (change_declares declares (role old a) kids) (not_to (change_declares declares (role old a) kids) own) in
     ap (λ u. former_declares declares (props_name prop) (after_change old a u (pass says (a ∷ old) kids))) (below_none_rejected ext says (a ∷ old) kids below g)
     ∙ ap (former_declares declares (props_name prop)) (shut_pass says (a ∷ old) kids (change_shut (a ∷ old) below))
     ∙ former_pass ext declares says a old (props_name prop) kids w.0 below g

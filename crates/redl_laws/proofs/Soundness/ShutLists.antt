@@ -1,6 +1,6 @@
 -- Lists in properties and below changes, where nothing is freed: what the pass leaves of them.
 use Rattle.std.proofs.Common.{◌≡◌, ℕ, List, [], ◌∷◌, Bool, true, false, ◌&&◌, ◌||◌, inl, inr, Option, Some, None, is_some, option_map, refl, ap, ◌∙◌, true≢false, if◌then◌else◌}
-use Rattle.std.proofs.lemmas.Bool.{or_parts}
+use Rattle.std.proofs.lemmas.Bool.{or_parts, false_from_ne_true, and_right, and_left}
 use Rattle.redl_tree.specs.Model.Nodes.{Tag, Nodes, no_nodes, bytes, element, ◌⊕◌}
 use Rattle.redl_tree.specs.Roles.Names.{named, is, is_any}
 use Rattle.redl_tree.specs.Roles.Places.{is_open, trace_of, row_trace_of, cell_trace_of, prop_of, role, in_mark_props, in_row_props, in_cell_props, placed, first_role, change_at}
@@ -20,18 +20,18 @@ use Rattle.redl_tree.specs.declared.kinds.Fate.{Fate}
 use Rattle.redl_tree.specs.declared.kinds.Fate.TheVariants.{Leave}
 use Rattle.redl_tree.proofs.PassLaws.{each, pass-each}
 use Rattle.redl_tree.proofs.Fits.{Fits, true_false}
-use Rattle.redl_laws.proofs.Soundness.Ancestors.{by_prop, implies_of, not_to, false_of, blocks_open}
-use Rattle.redl_laws.proofs.Soundness.Walk.{Ground, rejected_found, change_shut, no_and, and_no, change_name}
+use Rattle.redl_laws.proofs.Soundness.Ancestors.{by_prop, implies_of, not_to, blocks_open}
+use Rattle.redl_laws.proofs.Soundness.Walk.{Ground, rejected_found, change_shut, change_name}
 
 pub shut_blocks : (ancestors : List Tag) → is_open ancestors ≡ false → in_blocks ancestors ≡ false
-shut_blocks ancestors e = false_of (in_blocks ancestors) (λ b. true_false (is_open ancestors) (blocks_open ancestors b) e)
+shut_blocks ancestors e = false_from_ne_true (in_blocks ancestors) (λ b. true_false (is_open ancestors) (blocks_open ancestors b) e)
 
 pub shut_place : (ancestors : List Tag) → is_open ancestors ≡ false → place ancestors ≡ nowhere
 shut_place [] e = absurd (true≢false e)
 shut_place (tag ∷ ancestors) e = rw e refl
 
 pub shut_shell : (ancestors : List Tag) (tag : Tag) → is_open ancestors ≡ false → is_shell ancestors tag ≡ false
-shut_shell ancestors tag e = and_no (is_wrapper tag) (in_rows ancestors || in_cells ancestors) (rw (shut_place ancestors e) refl)
+shut_shell ancestors tag e = and_right (is_wrapper tag) (in_rows ancestors || in_cells ancestors) (rw (shut_place ancestors e) refl)
 
 -- a list in properties is passed node by node
 pub shut_pass : (says : List Say) (ancestors : List Tag) (nodes : Nodes) → is_open ancestors ≡ false → pass says ancestors nodes ≡ each says ancestors nodes
@@ -47,7 +47,7 @@ pub record NoChange (tag : Tag) : Type 0 where
 pub rule_8_of : (ancestors : List Tag) (tag : Tag) (kids : Nodes) → test_8 ancestors tag kids ≡ true → below_change ancestors ≡ true → NoChange tag
 rule_8_of ancestors tag kids h e =
     let both = or_parts (is_some (prop_of tag)) (is_any ("p" ∷ "tbl" ∷ "tr" ∷ "tc" ∷ "txbxContent" ∷ []) tag)
-    (false_of _ (λ p. not_to (below_change ancestors) (implies_of _ _ h p) e)) in
+    (false_from_ne_true _ (λ p. not_to (below_change ancestors) (implies_of _ _ h p) e)) in
     record { prop = both.0; names = both.1 }
 
 none_of_some : {X : Type 0} (o : Option X) → is_some o ≡ false → o ≡ None
@@ -74,9 +74,9 @@ pub change_plain : (ch : Tag) (ancestors : List Tag) (tag : Tag) → is_change (
 change_plain ch ancestors tag r o n =
     let p = change_name ancestors ch r in
     plain_role (is_open (ch ∷ ancestors)) (in_mark_props (ch ∷ ancestors)) (in_row_props (ch ∷ ancestors)) (in_cell_props (ch ∷ ancestors)) (trace_of tag) (row_trace_of tag) (cell_trace_of tag) (change_at (ch ∷ ancestors) (prop_of tag)) o
-    (no_and (is "rPr" ch) _ (by_prop (λ t. is "rPr" t ≡ false) ch p (refl, (refl, (refl, (refl, (refl, (refl, (refl, tt)))))))))
-    (no_and (is "trPr" ch) _ (by_prop (λ t. is "trPr" t ≡ false) ch p (refl, (refl, (refl, (refl, (refl, (refl, (refl, tt)))))))))
-    (no_and (is "tcPr" ch) _ (by_prop (λ t. is "tcPr" t ≡ false) ch p (refl, (refl, (refl, (refl, (refl, (refl, (refl, tt)))))))))
+    (and_left (is "rPr" ch) _ (by_prop (λ t. is "rPr" t ≡ false) ch p (refl, (refl, (refl, (refl, (refl, (refl, (refl, tt)))))))))
+    (and_left (is "trPr" ch) _ (by_prop (λ t. is "trPr" t ≡ false) ch p (refl, (refl, (refl, (refl, (refl, (refl, (refl, tt)))))))))
+    (and_left (is "tcPr" ch) _ (by_prop (λ t. is "tcPr" t ≡ false) ch p (refl, (refl, (refl, (refl, (refl, (refl, (refl, tt)))))))))
     (ap (change_at (ch ∷ ancestors)) (none_of_some (prop_of tag) n.prop))
 
 -- the first name of a list

@@ -2,7 +2,7 @@
 -- result.
 use Prim.Native.String.{String}
 use Rattle.std.proofs.Common.{◌≡◌, ℕ, zero, suc, ◌+◌, ◌≤◌, List, [], ◌∷◌, Bool, true, false, ◌&&◌, ◌||◌, not, Option, Some, None, refl, sym, ap, ◌∙◌, true≢false, arith, if◌then◌else◌}
-use Rattle.std.proofs.lemmas.Bool.{and_parts, and_from, or_parts, or_from, not-true}
+use Rattle.std.proofs.lemmas.Bool.{and_parts, and_from, or_parts, or_from, not-true, false_from_ne_true}
 use Rattle.redl_tree.specs.Model.Nodes.{Tag, Nodes, no_nodes, bytes, element, ◌⊕◌}
 use Rattle.redl_tree.specs.Roles.Names.{is}
 use Rattle.redl_tree.specs.Model.Kids.{without, some_element, has_element}
@@ -23,7 +23,7 @@ use Rattle.redl_tree.proofs.PassLaws.{alone, all_alone, each, all_alone-each, pa
 use Rattle.redl_tree.proofs.Fits.{true_false, open_∷}
 use Rattle.redl_tree.proofs.Named.{by_trace}
 use Rattle.redl_laws.proofs.Soundness.AlikeTags.{Like, ordinary, like_self, like_close, own_renamed}
-use Rattle.redl_laws.proofs.Soundness.Ancestors.{Free3, free3, implies_from, implies_of, not_of, not_to, false_of, reach_trace, in_blocks-reach}
+use Rattle.redl_laws.proofs.Soundness.Ancestors.{Free3, free3, implies_from, implies_of, not_of, not_to, reach_trace, in_blocks-reach}
 use Rattle.redl_laws.proofs.Soundness.Walk.{Ground, content_fits, some-⊕}
 
 -- the first list at the top: its elements in order, with other kids and like tags, or in place of one some foreign nodes
@@ -39,7 +39,7 @@ abbrev pub From : (Tag → Bool) → (Tag → Bool) → Type 0
 From n m = (a b : Tag) → Like a b → m b ≡ true → n a ≡ true
 
 from_false : (n m : Tag → Bool) → From n m → (a b : Tag) → Like a b → n a ≡ false → m b ≡ false
-from_false n m f a b l e = false_of (m b) (λ h. true_false (n a) (f a b l h) e)
+from_false n m f a b l e = false_from_ne_true (m b) (λ h. true_false (n a) (f a b l h) e)
 
 pub sub_some : (n m : Tag → Bool) → From n m → (xs ys : Nodes) → Sub m xs ys → some_element n xs ≡ false → some_element m ys ≡ false
 sub_some n m f xs ys done e = refl
@@ -75,7 +75,7 @@ sub_last n m f xs ys (more {xs = x} {ys = y} b s) e = sub_last n m f x y s e
 sub_last n m f xs ys (keeps {xs = x} {ys = y} a b ka kb l s) e =
     let both = and_parts (implies (n a) (not (has_element x))) (only_last n x) e in
     and_from _ _ (implies_from (m b) (not (has_element y)) (λ h.
-    not_of (has_element y) (λ w. true_false (has_element y) w (sub_none m x y s (false_of (has_element x) (not_to (has_element x) (implies_of _ _ both.0 (f a b l h))))))))
+    not_of (has_element y) (λ w. true_false (has_element y) w (sub_none m x y s (false_from_ne_true (has_element x) (not_to (has_element x) (implies_of _ _ both.0 (f a b l h))))))))
     (sub_last n m f x y s both.1)
 sub_last n m f xs ys (spills {xs = x} a ka z y r fo s eq) e =
     ap (only_last m) (sym eq) ∙ last-⊕ m z y fo (sub_last n m f x y s (and_parts (implies (n a) (not (has_element x))) (only_last n x) e).1)

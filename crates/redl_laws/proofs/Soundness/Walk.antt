@@ -1,7 +1,7 @@
 -- The one induction over the pass: a test holds of all elements of a passed story where it is kept at each kind of step.
 use Prim.Native.String.{String}
 use Rattle.std.proofs.Common.{◌≡◌, ℕ, List, [], ◌∷◌, Bool, true, false, ◌&&◌, ◌||◌, not, ◌⊎◌, inl, inr, Option, Some, None, is_some, refl, sym, ap, ◌∙◌, true≢false, if◌then◌else◌}
-use Rattle.std.proofs.lemmas.Bool.{and_parts, and_from, or_parts, or_from}
+use Rattle.std.proofs.lemmas.Bool.{and_parts, and_from, or_parts, or_from, and_right, and_left, or_cases, false_from_ne_true, or_right}
 use Rattle.redl_tree.specs.Model.Nodes.{Tag, Nodes, no_nodes, bytes, element, ◌⊕◌}
 use Rattle.redl_tree.specs.Roles.Names.{named, is, is_any}
 use Rattle.redl_tree.specs.Model.Kids.{only, without, some_element, has_element}
@@ -27,7 +27,7 @@ use Rattle.redl_tree.proofs.Build.{one}
 use Rattle.redl_tree.proofs.Named.{by_name, by_trace}
 use Rattle.redl_tree.proofs.Fits.{Fits, open_∷, open_tail, true_false, not_props}
 use Rattle.redl_laws.proofs.Soundness.AlikeTags.{Like, Own, ordinary, like_self, like_p, own_renamed}
-use Rattle.redl_laws.proofs.Soundness.Ancestors.{Came, kept, freed, restored as restored_came, joins, Para, Free3, free3, kid_3, banned, came_open, in_below, by_prop, content_role, change_role, change_first, at_props, false_of, any_drop, restored_change}
+use Rattle.redl_laws.proofs.Soundness.Ancestors.{Came, kept, freed, restored as restored_came, joins, Para, Free3, free3, kid_3, banned, came_open, in_below, by_prop, content_role, change_role, change_first, at_props, restored_change}
 use Rattle.redl_tree.proofs.PassLaws.{block_p}
 
 -- What the rules say of an element of the original. `ext` is one rule more, of attributes.
@@ -122,7 +122,7 @@ pub record Kept (ext : Test) (says : List Say) (test : Test) : Type 0 where
 
 -- no place below a change is open
 props_shut : (prop : Prop) (ancestors : List Tag) → in_props prop ancestors ≡ true → is_open ancestors ≡ false
-props_shut prop ancestors e = false_of (is_open ancestors) (λ o. true≢false (sym e ∙ not_props prop ancestors o))
+props_shut prop ancestors e = false_from_ne_true (is_open ancestors) (λ o. true≢false (sym e ∙ not_props prop ancestors o))
 
 role_shut : (ancestors : List Tag) (tag : Tag) → is_change (role ancestors tag) ≡ true → is_open ancestors ≡ false
 role_shut ancestors tag e = at (prop_of tag) (sym (change_role ancestors tag) ∙ e)
@@ -132,7 +132,7 @@ role_shut ancestors tag e = at (prop_of tag) (sym (change_role ancestors tag) �
     at (Some prop) e = props_shut prop ancestors e
 
 shut_more : (tag : Tag) (ancestors : List Tag) → is_open ancestors ≡ false → is_open (tag ∷ ancestors) ≡ false
-shut_more tag ancestors e = false_of (is_open (tag ∷ ancestors)) (λ o. true≢false (sym (open_tail tag ancestors o) ∙ e))
+shut_more tag ancestors e = false_from_ne_true (is_open (tag ∷ ancestors)) (λ o. true≢false (sym (open_tail tag ancestors o) ∙ e))
 
 pub change_shut : (ancestors : List Tag) → below_change ancestors ≡ true → is_open ancestors ≡ false
 change_shut [] e = absurd (true≢false (sym e))
@@ -150,23 +150,15 @@ NoMark new no_nodes = Unit {0}
 NoMark new (bytes b rest) = NoMark new rest
 NoMark new (element tag kids rest) = ((is "rPr" tag && within ("pPr" ∷ "p" ∷ []) new) ≡ false) × NoMark new rest
 
-pub and_no : (a b : Bool) → b ≡ false → (a && b) ≡ false
-and_no true b e = e
-and_no false b e = refl
-
-pub no_and : (a b : Bool) → a ≡ false → (a && b) ≡ false
-no_and true b e = absurd (true≢false e)
-no_and false b e = refl
-
 no_mark : (new : List Tag) (nodes : Nodes) → within ("pPr" ∷ "p" ∷ []) new ≡ false → NoMark new nodes
 no_mark new no_nodes e = tt
 no_mark new (bytes b rest) e = no_mark new rest e
-no_mark new (element tag kids rest) e = (and_no (is "rPr" tag) (within ("pPr" ∷ "p" ∷ []) new) e, no_mark new rest e)
+no_mark new (element tag kids rest) e = (and_right (is "rPr" tag) (within ("pPr" ∷ "p" ∷ []) new) e, no_mark new rest e)
 
 pub shut_para : (new : List Tag) → is_open new ≡ false → within ("p" ∷ []) new ≡ false
 shut_para [] e = refl
 shut_para (tag ∷ ancestors) e =
-    false_of (is "p" tag && is_open ancestors) (λ h.
+    false_from_ne_true (is "p" tag && is_open ancestors) (λ h.
     let both = and_parts (is "p" tag) (is_open ancestors) h in
     true≢false (sym (open_∷ tag ancestors (by_name (λ t. is_quiet t ≡ false) "p" tag both.0 refl) ∙ both.1) ∙ e))
 
@@ -177,8 +169,8 @@ former_walk ext says test k old new (bytes b rest) c e g m = former_walk ext say
 former_walk ext says test k old new (element tag kids rest) c e g m =
     and_from _ _ (and_from _ _ (k.former old new tag kids c e g.0.rules g.1 m.0)
     (former_walk ext says test k (tag ∷ old) (tag ∷ new) kids (kept tag tag c (like_self tag) (free3 old tag kids g.0.rules.rule_3) (λ p q. inr e))
-    (any_drop (is_change (role old tag)) (below_change old) e) g.1
-    (no_mark (tag ∷ new) kids (and_no (is "pPr" tag) (within ("p" ∷ []) new) (shut_para new (came_open old new c ∙ change_shut old e))))))
+    (or_right (is_change (role old tag)) (below_change old) e) g.1
+    (no_mark (tag ∷ new) kids (and_right (is "pPr" tag) (within ("p" ∷ []) new) (shut_para new (came_open old new c ∙ change_shut old e))))))
     (former_walk ext says test k old new rest c e g.2 m.1)
 
 Ground-if : (ext : Test) → (ancestors : List Tag) (b : Bool) (x y : Nodes) → Ground ext ancestors x → Ground ext ancestors y → Ground ext ancestors (if b then x else y)
@@ -201,7 +193,7 @@ NoMark-without new (element tag kids rest) = at (is "rPr" tag) refl (is "sectPr"
         NoMark new (if x || y then without (is_uncovered ParaProp) rest else element tag kids (without (is_uncovered ParaProp) rest))
     at true e y ih = ih
     at false e true ih = ih
-    at false e false ih = (no_and (is "rPr" tag) (within ("pPr" ∷ "p" ∷ []) new) e, ih)
+    at false e false ih = (and_left (is "rPr" tag) (within ("pPr" ∷ "p" ∷ []) new) e, ih)
 
 -- the change that is rejected, and its kids
 pub record Found (ext : Test) (ancestors : List Tag) (u : Rejected) : Type 0 where
@@ -334,7 +326,7 @@ module _ (ext : Test) (says : List Say) (test : Test) (k : Kept ext says test) (
       former_walk ext says test k (f ∷ ch ∷ a ∷ old) (b ∷ new) former (restored_came a b ch f c l q r) (restored_change a ch f old r) g m
 
   not_para : (o : String) → ordinary o ≡ true → is o a ≡ true → ((t : Tag) → is o t ≡ true → is "pPr" t ≡ false) → (x : Nodes) → NoMark (b ∷ new) x
-  not_para o oo e h x = no_mark (b ∷ new) x (no_and (is "pPr" b) (within ("p" ∷ []) new) (h b (l.name o oo ∙ e)))
+  not_para o oo e h x = no_mark (b ∷ new) x (and_left (is "pPr" b) (within ("p" ∷ []) new) (h b (l.name o oo ∙ e)))
 
   restored_all : (prop : Prop) → is (owner_of prop) a ≡ true → (current former : Nodes) → everywhere test (b ∷ new) current ≡ true →
       ((former ≡ no_nodes) ⊎ ((f : Tag) × Ground ext (f ∷ ch ∷ a ∷ old) former)) → everywhere test (b ∷ new) (restored prop current former) ≡ true
@@ -493,20 +485,16 @@ change_name ancestors a e = at (prop_of a) (sym (change_role ancestors a) ∙ e)
     at None h = h
     at (Some p) h = refl
 
-pub or_either : (x y : Bool) → (x || y) ≡ true → (x ≡ true) ⊎ (y ≡ true)
-or_either true y e = inl refl
-or_either false y e = inr e
-
 pub settled_kept : (old new : List Tag) (a b : Tag) → Came old new → Like a b → Settled (a ∷ old) (b ∷ new)
 settled_kept old new a b c l = record {
   para = λ x f e o. inl (rw (l.name "p" refl, came_open old new c) at o);
-  mark = λ e. at (or_either (is_change (role old a)) (below_change old) e);
+  mark = λ e. at (or_cases (is_change (role old a)) (below_change old) e);
 }
   where
     at : (is_change (role old a) ≡ true) ⊎ (below_change old ≡ true) → within ("pPr" ∷ "p" ∷ []) (b ∷ new) ≡ false
-    at (inl e) = no_and (is "pPr" b) (within ("p" ∷ []) new)
+    at (inl e) = and_left (is "pPr" b) (within ("p" ∷ []) new)
         (l.name "pPr" refl ∙ by_prop (λ t. is "pPr" t ≡ false) a (change_name old a e) (refl, (refl, (refl, (refl, (refl, (refl, (refl, tt))))))))
-    at (inr e) = and_no (is "pPr" b) (within ("p" ∷ []) new) (shut_para new (came_open old new c ∙ change_shut old e))
+    at (inr e) = and_right (is "pPr" b) (within ("p" ∷ []) new) (shut_para new (came_open old new c ∙ change_shut old e))
 
 pub settled_freed : (old new : List Tag) (a : Tag) → is_some (trace_of a) ≡ true → is_open old ≡ true → Settled (a ∷ old) new
 settled_freed old new a t o = record {
@@ -515,7 +503,7 @@ settled_freed old new a t o = record {
       (and_from _ _ (by_name (λ t. is_any banned t ≡ true) "pPr" x e refl)
       (open_∷ a old (by_trace (λ t. is_quiet t ≡ false) a t (refl, (refl, (refl, (refl, tt))))) ∙ o))
       (in_below (a ∷ old) t));
-  mark = λ e. at (or_either (is_change (role old a)) (below_change old) e);
+  mark = λ e. at (or_cases (is_change (role old a)) (below_change old) e);
 }
   where
     at : (is_change (role old a) ≡ true) ⊎ (below_change old ≡ true) → within ("pPr" ∷ "p" ∷ []) new ≡ false
@@ -523,7 +511,7 @@ settled_freed old new a t o = record {
     at (inr e) = absurd (true_false (is_open old) o (change_shut old e))
 
 settled_mark_joins : (old new : List Tag) (b : Tag) → is "p" b ≡ true → NoMarkBelow old (b ∷ new)
-settled_mark_joins old new b e h = no_and (is "pPr" b) (within ("p" ∷ []) new) (by_name (λ t. is "pPr" t ≡ false) "p" b e refl)
+settled_mark_joins old new b e h = and_left (is "pPr" b) (within ("p" ∷ []) new) (by_name (λ t. is "pPr" t ≡ false) "p" b e refl)
 
 pub content_fits : (old : List Tag) (a : Tag) → Fits old a → is_content a.kind ≡ true → (is_open old ≡ true) × (is_some (trace_of a) ≡ true)
 content_fits old a (inl k) e = and_parts (is_open old) (is_some (trace_of a)) (sym (content_role old a) ∙ ap is_content (sym k) ∙ e)
@@ -583,7 +571,7 @@ module _ (ext : Test) (says : List Say) (test : Test) (k : Kept ext says test) w
   pPr_gives_none old a kids passed fit e =
       none_fate (fate_of says a) (is_content a.kind) passed
       (if goes_at says old a kids then no_nodes else element (renamed says old a) (kept_kids says old a kids passed) no_nodes)
-      (false_of (is_content a.kind) (λ w. true_false (is_some (trace_of a)) (content_fits old a fit w).1 (by_name (λ t. is_some (trace_of t) ≡ false) "pPr" a e refl)))
+      (false_from_ne_true (is_content a.kind) (λ w. true_false (is_some (trace_of a)) (content_fits old a fit w).1 (by_name (λ t. is_some (trace_of t) ≡ false) "pPr" a e refl)))
       (none_if (goes_at says old a kids) (element (renamed says old a) (kept_kids says old a kids passed) no_nodes)
       (none_of (renamed says old a) (kept_kids says old a kids passed) ((own_renamed says old a).like.name "pPr" refl ∙ e)))
 

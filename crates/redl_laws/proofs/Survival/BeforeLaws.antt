@@ -2,7 +2,8 @@
 -- passed kids, and content that is cut gives nothing. Joined paragraphs, tables, moves and former properties don't come in.
 use Prim.Native.String.{String}
 use Rattle.std.proofs.Common.{◌≡◌, ◌∙◌, refl, sym, ap, List, [], ◌∷◌, ◌++◌, Bool, true, false, true≢false, ◌&&◌, ◌||◌, Option, None, if◌then◌else◌}
-use Rattle.std.proofs.lemmas.Bool.{and_parts, and_from}
+use Rattle.std.proofs.lemmas.Bool.{and_parts, and_from, cond-false}
+use Rattle.std.proofs.Math.Bool.{and-false}
 use Rattle.redl_tree.specs.Model.Nodes.{Tag, Nodes, no_nodes, bytes, element, ◌⊕◌}
 use Rattle.redl_tree.specs.Roles.Names.{is}
 use Rattle.redl_tree.specs.Model.Kids.{kids_of_all}
@@ -17,7 +18,7 @@ use Rattle.redl_tree.specs.declared.kinds.Kind.TheVariants.{Plain, Content, Mark
 use Rattle.redl_tree.specs.declared.kinds.Say.{Say}
 use Rattle.redl_tree.specs.declared.lists.Reach.{Reach}
 use Rattle.redl_tree.specs.declared.lists.Reach.TheVariants.{Direct}
-use Rattle.redl_tree.proofs.PassLaws.{pass-apart, if_false}
+use Rattle.redl_tree.proofs.PassLaws.{pass-apart}
 
 -- the pass that goes node by node
 abbrev pub element_before : List Say → List Tag → Tag → Nodes → Nodes
@@ -179,7 +180,7 @@ element-before : (says : List Say) (ancestors : List Tag) (tag : Tag) (kids pass
     element_pass says ancestors tag kids passed ≡ element_before says ancestors tag passed
 element-before says ancestors tag kids passed h =
     ap (by_fate (fate_of says tag) (is_content tag.kind) passed)
-    (if_false (goes_at says ancestors tag kids) no_nodes (element (renamed says ancestors tag) (after_change ancestors tag (rejected says kids) passed) no_nodes) (nothing_goes says ancestors tag kids h)
+    (cond-false (goes_at says ancestors tag kids) no_nodes (element (renamed says ancestors tag) (after_change ancestors tag (rejected says kids) passed) no_nodes) (nothing_goes says ancestors tag kids h)
     ∙ ap (λ r. element (renamed says ancestors tag) (after_change ancestors tag r passed) no_nodes) (none_rejected says kids h))
 
 -- the pass is the plain recursion where all members among the nodes are run content
@@ -189,11 +190,7 @@ pass-before says ancestors (bytes b rest) h = ap (bytes b) (pass-before says anc
 pass-before says ancestors (element tag kids rest) h =
     let a = and_parts (is_simple tag.kind) (are_simple kids && are_simple rest) h in
     let b = and_parts (are_simple kids) (are_simple rest) a.1 in
-    pass-apart says ancestors tag kids rest (rw (no_para_cut says kids b.0) (and_false (is_block_para says ancestors tag)))
+    pass-apart says ancestors tag kids rest (rw (no_para_cut says kids b.0) (and-false (is_block_para says ancestors tag)))
     ∙ ap (λ p. element_pass says ancestors tag kids p ⊕ pass says ancestors rest) (pass-before says (tag ∷ ancestors) kids b.0)
     ∙ ap (λ n. n ⊕ pass says ancestors rest) (element-before says ancestors tag kids (pass_before says (tag ∷ ancestors) kids) b.0)
     ∙ ap (λ n. element_before says ancestors tag (pass_before says (tag ∷ ancestors) kids) ⊕ n) (pass-before says ancestors rest b.1)
-  where
-    and_false : (b : Bool) → (b && false) ≡ false
-    and_false true = refl
-    and_false false = refl

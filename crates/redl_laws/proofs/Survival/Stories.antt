@@ -3,6 +3,7 @@ use Rattle.std.proofs.Common.{◌≡◌, ℕ, List, [], ◌∷◌, ◌++◌, map
 use Rattle.std.proofs.lemmas.List.{append-nil, map-append}
 use Rattle.std.proofs.lemmas.List.Elements.{filter-append}
 use Rattle.std.specs.List.{list_any}
+use Rattle.std.proofs.lemmas.Bool.{and_right, cond-true, cond-false}
 use Rattle.redl_tree.specs.Model.Nodes.{Tag, Nodes, no_nodes, bytes, element, ◌⊕◌}
 use Rattle.redl_tree.specs.Model.View.{Element}
 use Rattle.redl_tree.specs.Roles.Names.{is}
@@ -26,7 +27,7 @@ use Rattle.redl_tree.specs.declared.kinds.Fate.{Fate}
 use Rattle.redl_tree.specs.declared.kinds.Fate.TheVariants.{Leave, Free, Cut, Clear, Restore, Drop}
 use Rattle.redl_tree.proofs.Named.{by_name, by_trace}
 use Rattle.redl_tree.proofs.Fits.{Fits, AllFit, OpenKind, plain, content as content_kind, marker, open_fits, open_none_rejected, open_∷}
-use Rattle.redl_tree.proofs.PassLaws.{if_true, if_false, alone, alone-piece, block_p, Takes, takes-next}
+use Rattle.redl_tree.proofs.PassLaws.{alone, alone-piece, block_p, Takes, takes-next}
 
 -- the bytes of nodes that have no quiet ancestor among them, in order
 abbrev pub texts : Nodes → List (List ℕ)
@@ -55,7 +56,7 @@ texts-without (element tag kids rest) = at (is "pPr" tag) refl (texts-without re
     at : (b : Bool) → is "pPr" tag ≡ b → texts (without (is "pPr") rest) ≡ texts rest →
         texts (if b then without (is "pPr") rest else element tag kids (without (is "pPr") rest))
         ≡ (if is_quiet tag then [] else texts kids) ++ texts rest
-    at true e ih = ih ∙ ap (λ ts. ts ++ texts rest) (sym (if_true (is_quiet tag) [] (texts kids) (pPr_quiet tag e)))
+    at true e ih = ih ∙ ap (λ ts. ts ++ texts rest) (sym (cond-true (is_quiet tag) [] (texts kids) (pPr_quiet tag e)))
     at false e ih = ap (λ ts. (if is_quiet tag then [] else texts kids) ++ ts) ih
 
 texts-only : (xs : Nodes) → texts (only (is "pPr") xs) ≡ []
@@ -65,7 +66,7 @@ texts-only (element tag kids rest) = at (is "pPr" tag) refl (texts-only rest)
   where
     at : (b : Bool) → is "pPr" tag ≡ b → texts (only (is "pPr") rest) ≡ [] →
         texts (if b then element tag kids (only (is "pPr") rest) else only (is "pPr") rest) ≡ []
-    at true e ih = ap (λ ts. ts ++ texts (only (is "pPr") rest)) (if_true (is_quiet tag) [] (texts kids) (pPr_quiet tag e)) ∙ ih
+    at true e ih = ap (λ ts. ts ++ texts (only (is "pPr") rest)) (cond-true (is_quiet tag) [] (texts kids) (pPr_quiet tag e)) ∙ ih
     at false e ih = ih
 
 -- Lists that are put together
@@ -98,7 +99,7 @@ texts-settled ends tag kids q = at (ends && not (has_element (without (is "pPr")
   where
     at : (b : Bool) → texts (if b then without (is "pPr") kids else element tag kids no_nodes) ≡ texts kids
     at true = texts-without kids
-    at false = texts-one tag kids ∙ if_false (is_quiet tag) [] (texts kids) q
+    at false = texts-one tag kids ∙ cond-false (is_quiet tag) [] (texts kids) q
 
 texts-joined : (held : Option Nodes) (kids : Nodes) → texts (joined_kids held kids) ≡ held_texts held ++ texts kids
 texts-joined None kids = refl
@@ -182,11 +183,11 @@ texts-stays says ancestors tag kids passed goes inner h = at (is_quiet tag) refl
     at true e false =
         let made = after_change ancestors tag (rejected says kids) passed in
         texts-one (renamed says ancestors tag) made
-        ∙ if_true (is_quiet (renamed says ancestors tag)) [] (texts made) (quiet_renamed says ancestors tag ∙ e)
+        ∙ cond-true (is_quiet (renamed says ancestors tag)) [] (texts made) (quiet_renamed says ancestors tag ∙ e)
     at false e false =
         let made = after_change ancestors tag (rejected says kids) passed in
         texts-one (renamed says ancestors tag) made
-        ∙ if_false (is_quiet (renamed says ancestors tag)) [] (texts made) (quiet_renamed says ancestors tag ∙ e)
+        ∙ cond-false (is_quiet (renamed says ancestors tag)) [] (texts made) (quiet_renamed says ancestors tag ∙ e)
         ∙ ap (λ u. texts (after_change ancestors tag u passed)) (h e).0 ∙ (h e).1
 
 -- the fates of a trace
@@ -286,7 +287,7 @@ element_texts says ancestors tag kids passed inner o fit below ih =
 -- what a node of a list leaves of the text pieces is what it gives by itself
 
 texts-alone : (p : Piece) → IsLoudPiece p → piece_texts p ≡ texts (alone p)
-texts-alone (para tag cut kids) q = sym (texts-one tag kids ∙ if_false (is_quiet tag) [] (texts kids) q)
+texts-alone (para tag cut kids) q = sym (texts-one tag kids ∙ cond-false (is_quiet tag) [] (texts kids) q)
 texts-alone (thin nodes) q = refl
 texts-alone (thick nodes) q = refl
 
@@ -342,15 +343,11 @@ left_by ends ancestors (element tag kids rest) =
 module _ (live : List Element → Bool) (ends : List Element → Tag → Nodes → Bool)
     (step : (ancestors : List Element) (tag : Tag) (kids : Nodes) → live (record { tag = tag; kids = kids } ∷ ancestors) ≡ (not (ends ancestors tag kids) && live ancestors)) where
   dead_below : (ancestors : List Element) (tag : Tag) (kids : Nodes) → live ancestors ≡ false → live (record { tag = tag; kids = kids } ∷ ancestors) ≡ false
-  dead_below ancestors tag kids d = step ancestors tag kids ∙ at (not (ends ancestors tag kids)) (live ancestors) d
-    where
-      at : (a b : Bool) → b ≡ false → (a && b) ≡ false
-      at true b e = e
-      at false b e = refl
+  dead_below ancestors tag kids d = step ancestors tag kids ∙ and_right (not (ends ancestors tag kids)) (live ancestors) d
 
   dead_stretches : (ancestors : List Element) (nodes : Nodes) → live ancestors ≡ false → filter (λ s. live s.ancestors) (stretches_in ancestors nodes) ≡ []
   dead_stretches ancestors no_nodes d = refl
-  dead_stretches ancestors (bytes b rest) d = if_false (live ancestors) (record { text = b; ancestors = ancestors } ∷ filter (λ s. live s.ancestors) (stretches_in ancestors rest)) (filter (λ s. live s.ancestors) (stretches_in ancestors rest)) d ∙ dead_stretches ancestors rest d
+  dead_stretches ancestors (bytes b rest) d = cond-false (live ancestors) (record { text = b; ancestors = ancestors } ∷ filter (λ s. live s.ancestors) (stretches_in ancestors rest)) (filter (λ s. live s.ancestors) (stretches_in ancestors rest)) d ∙ dead_stretches ancestors rest d
   dead_stretches ancestors (element tag kids rest) d =
       let below = record { tag = tag; kids = kids } ∷ ancestors in
       filter-append (λ s. live s.ancestors) (stretches_in below kids) (stretches_in ancestors rest)
@@ -361,7 +358,7 @@ module _ (live : List Element → Bool) (ends : List Element → Tag → Nodes �
       map (λ s. s.text) (filter (λ s. live s.ancestors) (stretches_in ancestors nodes)) ≡ left_by ends ancestors nodes
   stretches_left ancestors no_nodes l = refl
   stretches_left ancestors (bytes b rest) l =
-      ap (λ ss. map (λ s. s.text) ss) (if_true (live ancestors) (record { text = b; ancestors = ancestors } ∷ filter (λ s. live s.ancestors) (stretches_in ancestors rest)) (filter (λ s. live s.ancestors) (stretches_in ancestors rest)) l)
+      ap (λ ss. map (λ s. s.text) ss) (cond-true (live ancestors) (record { text = b; ancestors = ancestors } ∷ filter (λ s. live s.ancestors) (stretches_in ancestors rest)) (filter (λ s. live s.ancestors) (stretches_in ancestors rest)) l)
       ∙ ap (λ ts. b ∷ ts) (stretches_left ancestors rest l)
   stretches_left ancestors (element tag kids rest) l =
       let below = record { tag = tag; kids = kids } ∷ ancestors in

@@ -2,6 +2,7 @@
 use Prim.Native.String.{String}
 use Rattle.std.proofs.Common.{◌≡◌, ◌≢◌, ◌∙◌, refl, sym, ap, ℕ, List, [], ◌∷◌, ◌++◌, Bool, true, false, true≢false, ◌&&◌, ◌||◌, not, Option, None, codes, bytes_eq, if◌then◌else◌}
 use Rattle.std.proofs.lemmas.Bool.{and_parts, or_from, not-true, eqb-true}
+use Rattle.std.proofs.Math.Bool.{and-false}
 use Rattle.redl_tree.specs.Model.Nodes.{Tag, Nodes, no_nodes, bytes, element, ◌⊕◌}
 use Rattle.redl_tree.specs.Model.Elements.{elements}
 use Rattle.redl_tree.specs.Model.Kids.{some_element, has_element, only, without, kids_of_all}
@@ -17,7 +18,6 @@ use Rattle.redl_tree.specs.Rules.CellEnds.{end_of_one, end_of_two, end_of}
 use Rattle.redl_tree.specs.Leaves.Settings.{has_member}
 use Rattle.redl_tree.specs.declared.lists.Reach.{Reach}
 use Rattle.redl_tree.specs.declared.lists.Reach.TheVariants.{Direct, Control, Beyond}
-use Rattle.redl_tree.proofs.NameLaws.{and-false}
 use Rattle.redl_tree.proofs.SameBytes.{same_bytes}
 use Rattle.redl_tree.proofs.WordLaws.{apart}
 use Rattle.redl_tree.proofs.EndLaws.{two_none}

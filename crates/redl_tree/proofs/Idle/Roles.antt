@@ -1,5 +1,6 @@
 -- An idle element has no role, wherever it is: it marks nothing, changes no properties, and is no marker of a move.
 use Rattle.std.proofs.Common.{◌≡◌, ◌∙◌, refl, ap, ℕ, List, [], ◌∷◌, Bool, true, false, ◌&&◌, Option, None, option_map}
+use Rattle.std.proofs.Math.Bool.{and-false}
 use Rattle.redl_tree.specs.Model.Nodes.{Tag}
 use Rattle.redl_tree.specs.Roles.Places.{trace_of, row_trace_of, cell_trace_of, prop_of, is_range_edge, is_open, in_mark_props, in_row_props, in_cell_props, placed, change_at, first_role, role}
 use Rattle.redl_tree.specs.Revisions.Markers.{edge_of}
@@ -8,7 +9,6 @@ use Rattle.redl_tree.specs.declared.kinds.Trace.{Trace}
 use Rattle.redl_tree.specs.declared.kinds.Prop.{Prop}
 use Rattle.redl_tree.specs.declared.kinds.Kind.{Kind}
 use Rattle.redl_tree.specs.declared.kinds.Kind.TheVariants.{Plain, Content, Mark, Row, Cell}
-use Rattle.redl_tree.proofs.NameLaws.{and-false}
 use Rattle.redl_tree.proofs.Idle.Tags.{Idle, has-not}
 use Rattle.redl_tree.proofs.Idle.Lists.{names_none}
 

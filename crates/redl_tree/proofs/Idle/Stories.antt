@@ -1,11 +1,11 @@
 -- Among idle nodes no story begins, and a change of stories leaves them as they are.
 use Rattle.std.proofs.Common.{◌≡◌, ◌∙◌, refl, ap, List, [], ◌∷◌, ◌++◌, Bool, true, false, ◌&&◌, if◌then◌else◌}
+use Rattle.std.proofs.Math.Bool.{and-false}
 use Rattle.redl_tree.specs.Model.Nodes.{Tag, Nodes, no_nodes, bytes, element, ◌⊕◌}
 use Rattle.redl_tree.specs.Model.View.{Element}
 use Rattle.redl_tree.specs.Roles.Names.{is}
 use Rattle.redl_tree.specs.Roles.Idle.{is_idle_in}
 use Rattle.redl_tree.specs.Decisions.Packages.{level_of, is_data_level, is_root, stories_in, element_stories, StoryRule, left_after, changed_in}
-use Rattle.redl_tree.proofs.NameLaws.{and-false}
 use Rattle.redl_tree.proofs.Idle.Tags.{Idle, idle_parts}
 use Rattle.redl_tree.proofs.Idle.Lists.{names_none}
 

@@ -1,5 +1,5 @@
 use Rattle.std.proofs.Common.{◌≡◌, ◌∷◌, ◌+◌, ◌<◌, [], suc, length, List, Vec, sym, subst, ap, ◌∙◌, arith, refl, get_or, set, map}
-use Rattle.std.proofs.lemmas.List.{nil_from_length, length-set, with_items_is}
+use Rattle.std.proofs.lemmas.List.{nil_from_length, length-set, with_items_is, get_or_default}
 use Rattle.std.specs.Global.{Global}
 use Rattle.std.specs.Vec.{vec_len, with_items}
 use Rattle.std.specs.Vec.Iter.{into_iter_items}
@@ -9,7 +9,7 @@ use Rattle.redl_leaves.specs.declared.slots.Slot.{Slot}
 use Rattle.redl_tree.specs.Leaves.Containers.{opens}
 use Rattle.redl_tree.specs.Leaves.Shown.{AreStatesOf}
 use Rattle.redl_leaves.specs.declared.stepping.Made.{Made}
-use Rattle.redl_editor.proofs.KeptLaws.{AreSet, SetsStory, set-more, set-done, any-item}
+use Rattle.redl_editor.proofs.KeptLaws.{AreSet, SetsStory, set-more, set-done}
 use Rattle.redl_editor.specs.declared.story.Story.{Story}
 use Rattle.redl_editor.proofs.bulk.set_stories.Goals as goal
 
@@ -22,8 +22,8 @@ loop-made-preserved c =
     let here : into_iter_items c.loop-made.made-iterator ≡ c.in-Some.made ∷ later = c.in-Some.ensures.steps.0 in
     let lt : at < length stories = omega (arith, ap length here, c.loop-made.invariant.count) in
     let x : Story = get_or stories at c.index-stories-at-in-loop-made.result in
-    let spot_is : get_or stories at c.index-stories-at.result ≡ x = any-item stories at c.index-stories-at.result c.index-stories-at-in-loop-made.result lt in
-    let is : x ≡ get_or stories at x = any-item stories at c.index-stories-at-in-loop-made.result x lt in
+    let spot_is : get_or stories at c.index-stories-at.result ≡ x = get_or_default stories at c.index-stories-at.result c.index-stories-at-in-loop-made.result lt in
+    let is : x ≡ get_or stories at x = get_or_default stories at c.index-stories-at-in-loop-made.result x lt in
     let new : Story = record { spot = x.spot; slots = with_items x.slots c.set_story.new.slots } in
     let as_many : length c.set_story.new.slots ≡ vec_len x.slots = omega (arith, c.set_story.auto.slots, c.deref_mut.ensures.len) in
     let slots_new : new.slots.items ≡ c.set_story.new.slots = with_items_is x.slots c.set_story.new.slots as_many in

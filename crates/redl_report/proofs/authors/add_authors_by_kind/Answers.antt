@@ -1,6 +1,6 @@
 -- An author's lines more, for a group that is no longer than all revisions.
 use Rattle.std.proofs.Common.{◌≡◌, ◌∙◌, ◌++◌, ◌≤◌, ℕ, List, map, length, sym, ap, subst, arith}
-use Rattle.std.proofs.lemmas.List.{append-nil}
+use Rattle.std.proofs.lemmas.List.{append-nil, length-map}
 use Rattle.std.specs.List.{AllByRecursion, flat_map}
 use Rattle.std.specs.Map.Iter.{deref}
 use Rattle.redl_index.specs.declared.revision.Revision.{Revision}
@@ -8,7 +8,6 @@ use Rattle.redl_report.specs.Groups.{Group, group_at, group_with}
 use Rattle.redl_report.specs.Reports.{author_lines, author_of}
 use Rattle.redl_report.proofs.ListLaws.{all-made-more}
 use Rattle.redl_report.proofs.GroupLaws.{no-longer}
-use Rattle.redl_report.proofs.LineLaws.{length-map}
 use Rattle.redl_report.proofs.authors.add_authors_by_kind.Goals as goal
 
 abbrev IsShort : List Revision → Group Revision → Type 0
@@ -27,7 +26,7 @@ add_author-requires c =
     let all = subst (AllByRecursion (IsShort c.args.revisions.now)) (ap (map group_at) c.in-Some.ensures.steps) c.loop-name.invariant.few in
     let short : length (map deref c.deref-in-loop-name.result.now) ≤ length c.args.revisions.now =
     subst (λ (items : List Revision). length items ≤ length c.args.revisions.now) (ap (map deref) (sym c.deref-in-loop-name.ensures.value)) all.0 in
-    let same : length (map deref c.deref-in-loop-name.result.now) ≡ length c.deref-in-loop-name.result.now = length-map deref c.deref-in-loop-name.result.now in
+    let same : length (map deref c.deref-in-loop-name.result.now) ≡ length c.deref-in-loop-name.result.now = length-map c.deref-in-loop-name.result.now deref in
     omega (arith, short, same, c.requires)
 
 pub loop-name-preserved : goal.loop-name-preserved

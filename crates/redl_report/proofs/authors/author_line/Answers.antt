@@ -1,6 +1,6 @@
 -- A revision more is counted, and there is room for it.
 use Rattle.std.proofs.Common.{◌≤◌, ◌∙◌, ◌+◌, map, take, drop, length, sym, ap, arith}
-use Rattle.std.proofs.lemmas.List.{map_push}
+use Rattle.std.proofs.lemmas.List.{length-map, map_push}
 use Rattle.std.specs.Map.Iter.{deref}
 use Rattle.redl_index.specs.declared.revision.Revision.{Revision}
 use Rattle.redl_join.specs.declared.verdict.Verdict.{Verdict}
@@ -9,7 +9,7 @@ use Rattle.redl_report.specs.declared.line.ReportLine.{ReportLine}
 use Rattle.redl_report.specs.declared.line.Role.TheVariants.{Author}
 use Rattle.redl_report.specs.Counts.{with_verdict}
 use Rattle.redl_report.specs.Reports.{line_of}
-use Rattle.redl_report.proofs.LineLaws.{length-map, line-more, room}
+use Rattle.redl_report.proofs.LineLaws.{line-more, room}
 use Rattle.redl_report.proofs.ListLaws.{map-split-at, map-take-more}
 use Rattle.redl_report.proofs.authors.author_line.Goals as goal
 
@@ -17,7 +17,7 @@ pub count-requires : goal.count-requires
 count-requires c =
     let place = c.loop-revision.revision-index in
     let own = c.args.own.now in
-    let few : length (map deref own) ≤ 4294967295 = omega (arith, length-map deref own, c.requires) in
+    let few : length (map deref own) ≤ 4294967295 = omega (arith, length-map own deref, c.requires) in
     room (λ (revision : Revision). verdict_at c.args.book.now revision.number) Author c.args.name.now c.loop-revision.line (map deref (take place own)) (map deref (drop (place + 1) own)) (map deref own)
     c.revision-item.result.now 4294967295 c.loop-revision.invariant (map-split-at deref own place c.revision-item.result c.loop-revision-test.true c.revision-item.is) few
 

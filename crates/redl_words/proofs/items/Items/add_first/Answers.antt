@@ -1,7 +1,8 @@
 use Rattle.std.proofs.Common.{◌≡◌, ◌∷◌, ℕ, true, false, List, sym, ap, ◌∙◌}
+use Rattle.std.proofs.lemmas.List.{nil_from_length}
 use Rattle.redl_words.specs.Items.{is_name}
 use Rattle.redl_words.specs.Reading.Items.{gathered, items_view}
-use Rattle.redl_words.proofs.ItemLaws.{goes_plain, goes_pair, stops_short, fails_plain, fails_pair, goes_fails, later_utf8, empty_list}
+use Rattle.redl_words.proofs.ItemLaws.{goes_plain, goes_pair, stops_short, fails_plain, fails_pair, goes_fails, later_utf8}
 use Rattle.redl_words.proofs.items.Items.add_first.Goals as goal
 
 pub returns-in_err-add_plain_journal-clause-gathered : goal.returns-in_err-add_plain_journal-clause-gathered
@@ -35,5 +36,5 @@ returns-in_ok-add_pair-in-Some-clause-utf8 c = later_utf8 c.in-Some.value.now c.
 pub returns-in-None-clause-gathered : goal.returns-in-None-clause-gathered
 returns-in-None-clause-gathered c =
     let name : is_name c.args.word.now ≡ false = ap is_name (sym c.as_bytes.ensures) ∙ sym c.is_file_name.ensures ∙ c.if-is_file_name.false in
-    ap (λ (later : List (List ℕ)). gathered c.args.form (items_view c.args.self.now) (c.args.word.now ∷ later)) (empty_list c.args.later.now c.in-None.ensures.cases)
+    ap (λ (later : List (List ℕ)). gathered c.args.form (items_view c.args.self.now) (c.args.word.now ∷ later)) (nil_from_length c.args.later.now c.in-None.ensures.cases)
     ∙ stops_short c.args.form (items_view c.args.self.now) c.args.word.now name

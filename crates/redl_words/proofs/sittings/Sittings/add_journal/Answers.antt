@@ -1,7 +1,7 @@
 use Rattle.std.proofs.Common.{◌≡◌, ◌∷◌, ℕ, true, false, List, sym, ap, ◌∙◌}
+use Rattle.std.proofs.lemmas.List.{nil_from_length}
 use Rattle.redl_words.specs.Items.{is_name}
 use Rattle.redl_words.specs.Reading.Sittings.{sittings_in, sittings_view}
-use Rattle.redl_words.proofs.ItemLaws.{empty_list}
 use Rattle.redl_words.proofs.SittingLaws.{first_read, second_read, stops_pair, stops_short}
 use Rattle.redl_words.proofs.sittings.Sittings.add_journal.Goals as goal
 use Rattle.redl_words.proofs.sittings.Sittings.add_journal.Goals.{in_default-via-in-Some+else-names_first, in_default-via-in_default}
@@ -26,6 +26,6 @@ returns-in_default-clause-read c =
           ap (λ (later : List (List ℕ)). sittings_in (sittings_view c.args.self.now) (c.args.word.now ∷ later)) w.in-Some.ensures.cases.0
           ∙ stops_pair (sittings_view c.args.self.now) c.args.word.now w.in-Some.name.now w.in-Some.after.now name (sym w.names_first.ensures ∙ w.if-names_first.false)
       | in_default-via-in_default w ↦
-          ap (λ (later : List (List ℕ)). sittings_in (sittings_view c.args.self.now) (c.args.word.now ∷ later)) (empty_list c.args.later.now w.in_default.ensures.cases)
+          ap (λ (later : List (List ℕ)). sittings_in (sittings_view c.args.self.now) (c.args.word.now ∷ later)) (nil_from_length c.args.later.now w.in_default.ensures.cases)
           ∙ stops_short (sittings_view c.args.self.now) c.args.word.now name
     ]

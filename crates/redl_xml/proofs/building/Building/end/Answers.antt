@@ -1,5 +1,6 @@
 use Rattle.std.proofs.Common.{◌≡◌, ◌∙◌, ap, sym, true, ◌∷◌, drop, length, reverse, Some, arith}
 use Rattle.std.specs.Global.{Vec}
+use Rattle.std.proofs.lemmas.Bool.{not-false}
 use Rattle.redl_tree.specs.Model.Nodes.{Nodes, Item, End, no_nodes, in_front, ◌⊕◌}
 use Rattle.redl_tree.specs.Model.View.{nodes_of}
 use Rattle.redl_tree.specs.declared.node.Node.{Node}
@@ -8,7 +9,7 @@ use Rattle.redl_markup.specs.Views.{name_view}
 use Rattle.redl_xml.specs.Scopes.{Scope}
 use Rattle.redl_xml.specs.Inside.Elements.{one_element}
 use Rattle.redl_xml.specs.Inside.Buildings.{frame_view, frames, building_view}
-use Rattle.redl_xml.proofs.Buildings.{elem_is, is_plain_start, not-false, state, frames-pop, closed_at}
+use Rattle.redl_xml.proofs.Buildings.{elem_is, is_plain_start, state, frames-pop, closed_at}
 use Rattle.redl_xml.proofs.building.Building.end.Goals as goal
 
 pub returns-clause-ok : goal.returns-clause-ok
