@@ -264,6 +264,7 @@ is_told reader files p q firsts journals d =
     ∙ ap (λ (m : Result (Admission × ℕ) Failure). m >>= (λ two. resumption d.sittings.one.0 two.0)) d.sittings.second
     ∙ resumption-differs d.sittings.one.0 d.sittings.two.0 d.texts
 
+-- a call for one journal of two sittings has the status 12 exactly where the sittings come to different texts
 pub differ_exactly : (reader : Reader) (words : List (List ℕ)) (files : Files) (brought : Brought) → DifferExactly reader words files brought
 differ_exactly reader words files brought p q firsts journals e = (
   λ is. differs reader files p q firsts journals (ap (λ (m : Result Writing Failure). (outcome_of m).status) (sym (made_is reader words files brought p q firsts journals e)) ∙ is),

@@ -20,6 +20,7 @@ AreFresh is_closed items_of formats = All (λ format. (is_closed format ≡ fals
 
 -- ---- the format that a command asks for
 
+-- the format that was found, or the failure that there is none with this name
 abbrev pub found_format : {I : Type 0} → List ℕ → Option (Format I) → Result (Format I) Failure
 found_format name None = Err (caused (no_format name))
 found_format name (Some format) = Ok format

@@ -58,6 +58,7 @@ second_failure (caused cause) = caused (second_cause cause)
 second_failure (unread name) = unread name
 second_failure no_memory = no_memory
 
+-- a result that was made of the second package: its failure says so
 abbrev pub of_second : {X : Type 0} → Result X Failure → Result X Failure
 of_second (Ok x) = Ok x
 of_second (Err failure) = Err (second_failure failure)

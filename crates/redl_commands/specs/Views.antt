@@ -26,6 +26,7 @@ output_text (output.Journal document book) = book_text (document_view document) 
 output_text (output.Listing text) = text.items
 output_text (output.Summary summary) = summary_text summary
 
+-- a command's output and remarks as plain data
 abbrev pub writing_view : DeclaredWriting → Writing
 writing_view writing = record { bytes = output_text writing.output; remarks = remarks_view writing.remarks }
 

@@ -15,6 +15,7 @@ use Rattle.redl_tree.specs.Model.Text.{text}
 abbrev pub left_text : State → List ℕ
 left_text state = text (pass_package (says state) state.nodes)
 
+-- the package after the verdicts, with the remarks of the session
 abbrev pub resolved : Admission → Writing
 resolved admission = record { bytes = left_text admission.state; remarks = admission.remarks }
 

@@ -6,6 +6,7 @@ use Rattle.redl_tree.specs.Leaves.Settings.{Setting, same_say}
 use Rattle.redl_tree.specs.declared.kinds.Say.{Say}
 use Rattle.redl_editor.specs.declared.changing.Change.{Change}
 
+-- a change as the definitions see it
 abbrev pub setting_of : Change → Setting
 setting_of change = record { rev = change.rev; say = change.say }
 

@@ -195,6 +195,7 @@ run_laid = (
   tt,
 )
 
+-- the nodes of an idle text are laid out as their text says
 pub idle_laid : (t : List ℕ) → AreLaid W (idle_nodes t)
 unfolding idle_nodes
 idle_laid t = by (is_idle_text t) refl where

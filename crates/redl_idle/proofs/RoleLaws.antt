@@ -13,6 +13,7 @@ use Rattle.redl_tree.proofs.Idle.Lists.{names_none}
 pub by_local : {X : Type 0} (says : Bool → List ℕ → X) (in_run : Bool) (tag : Tag) → Idle in_run tag → says (is_w tag.space) tag.local ≡ says true tag.local
 by_local says in_run tag i = ap (λ w. says w tag.local) i.space
 
+-- an idle tag is in the namespace of WordprocessingML, so its local name alone tells what it is
 pub name_same : (in_run : Bool) (tag : Tag) → Idle in_run tag → (name : List ℕ) → (is_w tag.space && bytes_eq tag.local name) ≡ bytes_eq tag.local name
 name_same in_run tag i name = by_local (λ w local. w && bytes_eq local name) in_run tag i
 

@@ -76,6 +76,7 @@ module _ (P : Pair → Type 0) where
     holds-move x =
         holds-either (move_of_marker attribute_value moves x) (move_of_member moves (own_role x) x) (holds-find _ moves each) (holds-member (own_role x) x)
 
+-- the move that an element is in starts at one of these markers
 pub placed-move : (marks : List Marking) → RisesFrom 0 marks → (x : Seen) → IsPlaced marks (move_of attribute_value (pairs marks) x)
 placed-move marks rises x =
     holds-move (λ pair. place_of marks pair.source.start.at < length marks) (pairs marks)

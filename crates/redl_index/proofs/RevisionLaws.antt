@@ -215,10 +215,12 @@ members-first done m new = by m.move new
 
 -- ---- numbers
 
+-- numbering revisions leaves none out and adds none
 pub length-numbered : (n : ℕ) (rs : List (ℕ → Revision)) → length (numbered n rs) ≡ length rs
 length-numbered n [] = refl
 length-numbered n (r ∷ rs) = ap suc (length-numbered (n + 1) rs)
 
+-- two lists of revisions are numbered one after the other
 pub numbered-append : (n : ℕ) (xs ys : List (ℕ → Revision)) → numbered n (xs ++ ys) ≡ numbered n xs ++ numbered (n + length xs) ys
 numbered-append n [] ys = let is : n ≡ n + 0 = omega arith in ap (λ k. numbered k ys) is
 numbered-append n (x ∷ xs) ys =

@@ -34,6 +34,7 @@ abbrev pub starts_at : ℕ → Option ℕ → Bool
 starts_at start None = false
 starts_at start (Some other) = other == start
 
+-- a mention is of the move with this start
 abbrev pub is_of : ℕ → Mention → Bool
 is_of start mention = starts_at start mention.move
 

@@ -70,6 +70,7 @@ one_list reader files document name entries others is other =
 nothing_in : {X : Type 0} (x : X) → Contains [] x → ⊥
 nothing_in x (k, within_, is) = absurd (omega (arith, within_))
 
+-- a list of one element contains no other
 pub only_one : {X : Type 0} (x y : X) → Contains (x ∷ []) y → x ≡ y
 only_one x y (zero, within_, is) = is
 only_one x y (suc k, within_, is) = absurd (omega (arith, within_))
@@ -107,6 +108,7 @@ pub record IsGathered (reader : Reader) (files : Files) (document : DocumentId) 
   pub has : HasEntries reader files document name entries
   pub among : (entry : Entry) → Contains entries entry → Contains all entry
 
+-- each named journal of a call that read all of them was read by itself
 pub name_is_gathered : (reader : Reader) (files : Files) (document : DocumentId) (left : ℕ) (names : List (List ℕ)) (entries : List Entry) (name : List ℕ)
     → gathered reader files document left names ≡ Ok entries → Contains names name → IsGathered reader files document name entries
 name_is_gathered reader files document left [] entries name is among = absurd (nothing_in name among)

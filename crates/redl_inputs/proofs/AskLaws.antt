@@ -9,6 +9,7 @@ use Rattle.redl_lines.specs.Failures.{Failure, caused, unread, no_memory}
 
 -- ---- names
 
+-- to ask for no more files changes nothing
 pub ask_more-nothing : (asked : Option (List (List ℕ))) → asked ≡ ask_more asked []
 ask_more-nothing None = refl
 ask_more-nothing (Some before) = ap Some (sym (append-nil before))

@@ -36,6 +36,7 @@ entries_other_count document name journal same differs =
     cond-false (not (bytes_eq journal.digest document.digest)) _ _ same
     ∙ cond-true (not (journal.count == document.count)) _ _ (ap not (false_from_ne_true (journal.count == document.count) (λ e. differs (eqb-true journal.count document.count e))))
 
+-- a journal with the digest and the count of a document gives its entries
 pub entries_of_it : (document : DocumentId) (name : List ℕ) (journal : Journal) → not (bytes_eq journal.digest document.digest) ≡ false
     → journal.count ≡ document.count → entries_in document name journal ≡ Ok journal.entries
 entries_of_it document name journal same one =

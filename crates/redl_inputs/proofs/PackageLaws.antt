@@ -51,6 +51,7 @@ limited_nodes nodes shallow many =
     cond-false (nat_lt depth_limit (depth_of nodes)) _ _ (le-ltb depth_limit (depth_of nodes) shallow)
     ∙ cond-true (nat_lt node_limit (count nodes)) _ _ (lt-ltb node_limit (count nodes) many)
 
+-- a readable text within the limits of depth and nodes gives its nodes
 pub tree_read : (reader : Reader) (text : List ℕ) (nodes : Nodes) → IsReader reader → IsReading text nodes
     → depth_of nodes ≤ depth_limit → count nodes ≤ node_limit → tree_in (reader.tree text) ≡ Ok nodes
 tree_read reader text nodes is found shallow few = ap tree_in (reads_tree reader text nodes is found) ∙ limited_ok nodes shallow few

@@ -115,6 +115,7 @@ pub both : {P Q R : Files → Type 0} (told : Option Files) (names : List (List 
     → Known told names P → Known told names Q → Known told names R
 both told names step p q = λ files may. step files (p files may) (q files may)
 
+-- what holds of all files holds of those that a shelf may have
 pub always : {P : Files → Type 0} (told : Option Files) (names : List (List ℕ)) → ((files : Files) → P files) → Known told names P
 always told names all = λ files may. all files
 
@@ -247,6 +248,7 @@ takes_stops_reads {X = X} {Y = Y} {failure = failure} {due = due} next shelf nam
 
 -- ---- steps that were due by another name
 
+-- a step that reads files as one definition asks does so as any other that gives the same for those files
 pub reads_when : {S Y : Type 0} {told : S → Option Files} {faults : S → ℕ} {asked : S → Option (List (List ℕ))} {old new : S} {names : List (List ℕ)} {made : Result Y Failure} {due : Reader → Files → Result Y Failure}
     (later : Reader → Files → Result Y Failure) → Known (told old) names (λ files. (reader : Reader) → IsReader reader → later reader files ≡ due reader files)
     → ReadsFiles told faults asked old new names made due → ReadsFiles told faults asked old new names made later

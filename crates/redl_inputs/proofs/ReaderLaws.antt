@@ -61,6 +61,7 @@ same_command words None (Some v) is other = absurd (is v other)
 same_command words (Some u) None is other = absurd (other u is)
 same_command words (Some u) (Some v) is other = ap Some (at_most_one words u v is other)
 
+-- any two readers are the same: the definitions leave none of their answers open
 pub one_reader : (reader other : Reader) → IsReader reader → IsReader other → reader ≡ other
 one_reader reader other is too =
     let trees : reader.tree ≡ other.tree = fun_ext (λ text. same_tree text (reader.tree text) (other.tree text) (is.trees text) (too.trees text)) in
@@ -74,5 +75,6 @@ one_reader reader other is too =
 pub reads_command : (reader : Reader) (words : List (List ℕ)) (command : Command) → IsReader reader → IsCommand words command → reader.command words ≡ Some command
 reads_command reader words command is found = same_command words (reader.command words) (Some command) (is.commands words) found
 
+-- a reader reads no command where the words are none
 pub reads_no_command : (reader : Reader) (words : List (List ℕ)) → IsReader reader → HasNoCommand words → reader.command words ≡ None
 reads_no_command reader words is none = same_command words (reader.command words) None (is.commands words) none

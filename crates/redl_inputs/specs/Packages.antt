@@ -31,6 +31,7 @@ abbrev pub tree_in : Option Nodes → Result Nodes Failure
 tree_in None = Err (caused (no_package NotReadable))
 tree_in (Some nodes) = limited nodes
 
+-- the nodes, unless their shape was refused
 abbrev pub shaped_unless : Option OpcError → Nodes → Result Nodes Failure
 shaped_unless None nodes = Ok nodes
 shaped_unless (Some error) nodes = Err (shape_failure error)
@@ -39,6 +40,7 @@ shaped_unless (Some error) nodes = Err (shape_failure error)
 abbrev pub shaped : Nodes → Result Nodes Failure
 shaped nodes = shaped_unless (refusal nodes) nodes
 
+-- the nodes, unless they break a rule of structure
 abbrev pub sound_unless : Option ℕ → Nodes → Result Nodes Failure
 sound_unless None nodes = Ok nodes
 sound_unless (Some rule) nodes = Err (caused (no_package (Rule rule)))

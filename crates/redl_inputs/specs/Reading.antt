@@ -42,6 +42,7 @@ abbrev pub front_of : ℕ → Result (List ℕ) Failure → Result (List ℕ) Fa
 front_of cap (Ok whole) = Ok (take cap whole)
 front_of cap (Err failure) = Err failure
 
+-- a result that is no file which could not be read
 abbrev pub NeverUnread : {Y : Type 0} → Result Y Failure → Type 0
 NeverUnread (Err (unread name)) = ⊥
 NeverUnread made = Unit {0}

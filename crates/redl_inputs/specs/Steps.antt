@@ -4,6 +4,7 @@ use Rattle.redl_io.specs.Shelf.{Files}
 use Rattle.redl_lines.specs.Failures.{Failure, caused, unread, over}
 use Rattle.redl_lines.specs.declared.failure.Limit.{Limit}
 
+-- a step, and the next one if it succeeded
 infixl 10 ◌>>=◌
 abbrev pub ◌>>=◌ : {X Y : Type 0} → Result X Failure → (X → Result Y Failure) → Result Y Failure
 (Ok x) >>= next = next x

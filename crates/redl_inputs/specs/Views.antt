@@ -17,6 +17,7 @@ abbrev pub result_view : {X Y : Type 0} → (X → Y) → Result X DeclaredFailu
 result_view view (Ok x) = Ok (view x)
 result_view view (Err failure) = Err (failure_view failure)
 
+-- the digest and the count of a document as plain data
 abbrev pub document_view : DeclaredDocument → DocumentId
 document_view document = record { digest = document.digest; count = document.count }
 
@@ -29,5 +30,6 @@ digest_in (Taken digest) = digest
 abbrev pub known_view : Document → DocumentId
 known_view document = record { digest = digest_in document.digest; count = document.count }
 
+-- a session with its document and its remarks as plain data
 abbrev pub admission_view : Admitted → Admission
 admission_view admitted = record { document = known_view admitted.document; state = admitted.session; remarks = remarks_view admitted.remarks }

@@ -24,9 +24,11 @@ name_order name other = slice_cmp nat_cmp name.items other.items
 abbrev is_name : List ℕ → Vec ℕ → Bool
 is_name name other = is_eq (slice_cmp nat_cmp name other.items)
 
+-- texts whose bytes compare as equal are the same
 pub same_bytes : (a b : List ℕ) → bytes_eq a b ≡ true → a ≡ b
 same_bytes a b h = (bytes_eq-Decides a b).0 h
 
+-- equal texts compare as equal
 pub bytes_same : (a b : List ℕ) → a ≡ b → bytes_eq a b ≡ true
 bytes_same a b h = (bytes_eq-Decides a b).1 h
 

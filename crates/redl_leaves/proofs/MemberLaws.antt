@@ -15,6 +15,7 @@ member-⊕ is_set (element tag kids rest) ys =
     ap (λ b. is_set tag.rev || has_member is_set kids || b) (member-⊕ is_set rest ys)
     ∙ sym (or_assoc (is_set tag.rev || has_member is_set kids) (has_member is_set rest) (has_member is_set ys))
 
+-- a revision is in nodes that begin with this item if it is in the item or in the rest
 pub member-in_front : (is_set : ℕ → Bool) (x : Item) (ys : Nodes) → has_member is_set (in_front x ys) ≡ (item_member is_set x || has_member is_set ys)
 member-in_front is_set (bytes_item b) ys = refl
 member-in_front is_set (element_item tag kids) ys = refl

@@ -32,6 +32,7 @@ abbrev pub after_open : Tag → Close → List ℕ → List ℕ
 after_open tag Empty kids = []
 after_open tag (End space) kids = kids ++ end_text tag space
 
+-- the text of an element is its opening, and what follows that
 pub element-opened : (tag : Tag) (kids : List ℕ) → element_text tag kids ≡ open_text tag ++ after_open tag tag.close kids
 element-opened tag kids = at tag.close
   where

@@ -38,5 +38,6 @@ pub states_here : (xs : List Slot) (i : ℕ) (x : Slot) → i < length xs → x 
 states_here xs i x within is =
     ap states_of (drop_more xs i x within) ∙ ap (λ y. before (view_of y) (states_of (drop (i + 1) xs))) (sym is)
 
+-- past the last slot there are no states
 pub states_end : (xs : List Slot) (i : ℕ) → length xs ≤ i → states_of (drop i xs) ≡ no_states
 states_end xs i past = ap states_of (drop_all i xs past)

@@ -21,6 +21,7 @@ root_of [] = no_root
 root_of (tag ∷ []) = root_named tag
 root_of (tag ∷ _ ∷ _) = no_root
 
+-- the summary of these ancestors
 abbrev pub spot_of : List Tag → Spot
 spot_of ancestors = record { site = site_of ancestors; root = root_of ancestors }
 

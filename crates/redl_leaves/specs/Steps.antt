@@ -11,6 +11,7 @@ use Rattle.redl_tree.specs.declared.kinds.Say.{Say}
 use Rattle.redl_leaves.specs.Puts.{IsMade}
 use Rattle.redl_leaves.specs.declared.stepping.Made.{Made}
 
+-- the way to the leaf that was made
 abbrev pub way_of : Made → List ℕ
 way_of one = one.way.now
 

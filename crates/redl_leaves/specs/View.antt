@@ -49,9 +49,11 @@ slot_step (Slot-F.Container container) = container.value
 abbrev pub container_step : Container-F SlotView SlotView → SlotView
 container_step c = container_view (tag_of c.elem) (tally_of c.tally) (states_from c.slots.items)
 
+-- a slot as plain data
 abbrev pub view_of : Slot → SlotView
 view_of = fold-Slot SlotView SlotView slot_step container_step
 
+-- a container as plain data
 abbrev pub container_of : Container → SlotView
 container_of = fold-Container SlotView SlotView slot_step container_step
 

@@ -13,6 +13,7 @@ use Rattle.redl_lines.specs.declared.end.End.TheVariants as declared
 use Rattle.redl_lines.specs.declared.status.Status.{Status}
 use Rattle.redl_lines.specs.declared.status.Status.TheVariants as status
 
+-- how a call ends
 pub data End : Type 0 where
   -- all went out
   written : Remarks → End
@@ -32,6 +33,7 @@ abbrev pub written_status : RefusedEntries → Status
 written_status [] = status.Done
 written_status (refused ∷ more) = status.Refused
 
+-- the exit status of a call
 abbrev pub end_status : End → Status
 end_status (written remarks) = written_status (all_refused remarks)
 end_status (unwritten remarks) = status.WriteFault
@@ -41,6 +43,7 @@ end_status (failed failure) = failure_status failure
 abbrev pub remark_lines : Remarks → List ℕ
 remark_lines remarks = flat_map refused_line remarks.refused ++ (flat_map refused_line remarks.second ++ flat_map idle_line remarks.idle)
 
+-- the lines that a call writes to standard error
 abbrev pub end_lines : End → List ℕ
 end_lines (written remarks) = remark_lines remarks
 end_lines (unwritten remarks) = remark_lines remarks ++ unwritten_line

@@ -56,11 +56,13 @@ cause_view cause.NotWritten = not_written
 cause_view cause.Differ = differ
 cause_view (cause.Limit limit) = over limit
 
+-- a failure of the code as plain data
 abbrev pub failure_view : DeclaredFailure → Failure
 failure_view (failure.Cause c) = caused (cause_view c)
 failure_view (failure.Unread name) = unread name.now
 failure_view failure.NoMemory = no_memory
 
+-- the exit status for a cause
 abbrev pub cause_status : Cause → Status
 cause_status usage = status.Usage
 cause_status (no_format name) = status.Usage
@@ -74,6 +76,7 @@ cause_status not_written = status.NotWritten
 cause_status differ = status.Differ
 cause_status (over limit) = status.Limit
 
+-- the exit status for a failure
 abbrev pub failure_status : Failure → Status
 failure_status (caused cause) = cause_status cause
 failure_status (unread name) = status.ReadFault

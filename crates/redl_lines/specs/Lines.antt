@@ -16,6 +16,7 @@ use Rattle.redl_session.specs.declared.refusal.AdmitError.TheVariants.{Unknown, 
 use Rattle.redl_session.specs.declared.refusal.Bar.{Bar}
 use Rattle.redl_session.specs.declared.refusal.Bar.TheVariants.{Author, Kind, Span}
 
+-- the end of a line
 abbrev pub newline : List ℕ
 newline = 10 ∷ []
 
@@ -102,17 +103,21 @@ cause_line not_written = not_written_line
 cause_line differ = differ_line
 cause_line (over limit) = limit_line limit
 
+-- the line for a file that could not be read
 abbrev pub unread_line : List ℕ → List ℕ
 unread_line name = codes "redline: cannot read " ++ (name ++ newline)
 
+-- the line for memory that ran out
 abbrev pub no_memory_line : List ℕ
 no_memory_line = codes "redline: no memory" ++ newline
 
+-- the line for a failure
 abbrev pub failure_line : Failure → List ℕ
 failure_line (caused cause) = cause_line cause
 failure_line (unread name) = unread_line name
 failure_line no_memory = no_memory_line
 
+-- the line for output that could not be written
 abbrev pub unwritten_line : List ℕ
 unwritten_line = codes "redline: cannot write" ++ newline
 

@@ -10,6 +10,7 @@ pub record Remarks : Type 0 where
   pub second : RefusedEntries
   pub idle : List Lock
 
+-- a call without remarks
 abbrev pub no_remarks : Remarks
 no_remarks = record { refused = []; second = []; idle = [] }
 

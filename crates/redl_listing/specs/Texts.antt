@@ -18,12 +18,14 @@ verdict_name Accept = codes "accept"
 verdict_name Reject = codes "reject"
 verdict_name Disputed = codes "disputed"
 
+-- between two words
 abbrev pub space : List ℕ
 space = 32 ∷ []
 
 abbrev pub tab : List ℕ
 tab = 9 ∷ []
 
+-- the end of a line
 abbrev pub newline : List ℕ
 newline = 10 ∷ []
 

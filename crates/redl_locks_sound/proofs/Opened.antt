@@ -81,6 +81,7 @@ opened-kept reader files locks journals whole admission element is held =
     let over = opened-after reader files locks journals whole admission is in
     ap (λ s. say_of (says s) element.own.tag.rev) (sym over.is_after) ∙ held-kept over.begun over.entries element over.is_begun (over.same_held element held)
 
+-- a revision that a lock holds keeps its tags in a session that was opened with the lock
 pub opened-left : (reader : Reader) (files : Files) (locks : List Lock) (journals : List (List ℕ)) (whole : List ℕ) (admission : Admission) (element : Seen)
     → opened reader files locks journals whole ≡ Ok admission → IsHeld admission.state element → fate_of (says admission.state) element.own.tag ≡ Leave
 opened-left reader files locks journals whole admission element is held =

@@ -20,6 +20,7 @@ each_scalar (c ∷ cs) h =
     let both = and_parts (is_character c) (list_all is_character cs) h in
     and_from _ _ (character_scalar c both.0) (each_scalar cs both.1)
 
+-- a text is UTF-8
 pub text_is_utf8 : (bs : List ℕ) → IsText bs → IsUtf8 bs
 text_is_utf8 bs h = (h.characters, (each_scalar h.characters h.each, sym h.whole))
 
@@ -29,6 +30,7 @@ text_of bs u h = record { characters = chars bs; each = h; whole = sym (encodes-
 of_text : (bs : List ℕ) → IsText bs → list_all is_character (chars bs) ≡ true
 of_text bs h = rw (ap chars h.whole ∙ chars-encodes h.characters (each_scalar h.characters h.each)) h.each
 
+-- the test of the characters tells whether bytes in UTF-8 are a text
 pub tests_text : (bs : List ℕ) (r : Bool) → IsUtf8 bs → r ≡ list_all is_character (chars bs) → (IsTrue r → IsText bs) × (IsText bs → IsTrue r)
 tests_text bs r u e = (λ t. text_of bs u (sym e ∙ t), λ h. e ∙ of_text bs h)
 

@@ -198,6 +198,7 @@ item_again place (comment text) rest h = comment_again text rest h
 item_again place (instruction name text) rest h = instruction_again name text rest h
 item_again place (cdata text) rest h = cdata_again place text rest h
 
+-- an item that is written begins as an item does
 pub item_begins : (i : Item) (rest : List ℕ) → begins_item (item_then i rest) ≡ true
 item_begins (comment text) rest = refl
 item_begins (instruction name text) rest = refl

@@ -45,6 +45,7 @@ cases_take place bs x None (Some rest) ea eb e =
     ]
 cases_take place bs x None None ea eb e = stretch_stands place bs x e
 
+-- a piece that is read stands at the start of the bytes
 pub piece_takes : (place : Place) (bs : List ℕ) (x : Piece × List ℕ) → piece_at place bs ≡ Some x → Stands place bs x.0 x.1
 unfolding piece_at
 piece_takes place bs x e = cases_take place bs x (behind (codes "</") bs) (behind (codes "<") bs) refl refl e
@@ -116,6 +117,7 @@ head_begins true declaration first more rest h filled = inl refl
 head_begins false (Some d) first more rest h filled = inr refl
 head_begins false None first more rest h filled = content_begins first more rest h filled
 
+-- a piece that is written is read again
 pub piece_again : (place : Place) (p : Piece) (rest : List ℕ) → IsPiece place p → Follows p rest → piece_at place (piece_then p rest) ≡ Some (p, rest)
 piece_again place (start_tag name tail) rest h f = tag_is_read place name (tail ++ (62 ∷ rest)) h.0 ∙ start_again name tail rest h.0 h.1
 piece_again place (empty_tag name tail) rest h f = tag_is_read place name (tail ++ (47 ∷ 62 ∷ rest)) h.0 ∙ empty_again name tail rest h.0 h.1
@@ -150,6 +152,7 @@ piece_shorter place bs x e = let t = piece_takes place bs x e in omega (arith, a
 pub start_ends_stretch : (name : Name) (rest : List ℕ) → IsName name → ends_stretch (60 ∷ (name_text name ++ rest)) ≡ true
 start_ends_stretch name rest h = ap not (name_begins_tag name rest h).1
 
+-- bytes that begin as an end tag end the stretch before them
 pub end_ends_stretch : (rest : List ℕ) → ends_stretch (60 ∷ 47 ∷ rest) ≡ true
 end_ends_stretch rest = refl
 

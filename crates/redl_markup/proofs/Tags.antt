@@ -23,6 +23,7 @@ use Rattle.redl_markup.proofs.Attributes.{spaces_end_name, gap_ends_name, tail_t
 pub attribute_then-append : (a : Attribute) (x y : List ℕ) → attribute_then a x ++ y ≡ attribute_then a (x ++ y)
 attribute_then-append a x y = simp append_assoc
 
+-- text after attributes can be added in two parts
 pub attributes_then-append : (attrs : List Attribute) (x y : List ℕ) → attributes_then attrs x ++ y ≡ attributes_then attrs (x ++ y)
 attributes_then-append [] x y = refl
 attributes_then-append (a ∷ attrs) x y = attribute_then-append a (attributes_then attrs x) y ∙ ap (attribute_then a) (attributes_then-append attrs x y)

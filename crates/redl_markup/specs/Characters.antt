@@ -3,6 +3,7 @@ use Rattle.std.specs.Prelude.{◌≡◌, ℕ, Bool, true, ◌==◌, ◌&&◌, �
 use Rattle.std.specs.List.{list_all}
 use Rattle.std.specs.Str.{encode_utf8_all}
 
+-- from one code to another, both included
 abbrev pub between : ℕ → ℕ → ℕ → Bool
 between low high c = nat_le low c && nat_le c high
 

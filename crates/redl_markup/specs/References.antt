@@ -39,6 +39,7 @@ numbered_by None None = None
 unfoldable pub reference_at : List ℕ → Option (ℕ × List ℕ)
 reference_at bs = or_else (named_at bs) (numbered_by (behind (codes "#x") bs) (behind (codes "#") bs))
 
+-- there is a value
 abbrev pub is_there : {A : Type 0} → Option A → Bool
 is_there None = false
 is_there (Some x) = true

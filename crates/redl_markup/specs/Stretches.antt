@@ -142,6 +142,7 @@ abbrev pub declared_then : Option Declaration → List ℕ → List ℕ
 declared_then None rest = rest
 declared_then (Some d) rest = declaration_then d rest
 
+-- a head as written, and the bytes after it
 abbrev pub head_then : Head → List ℕ → List ℕ
 head_then h rest = mark_then h.marked (declared_then h.declaration rest)
 
@@ -149,6 +150,7 @@ abbrev pub IsDeclared : Option Declaration → Type 0
 IsDeclared None = Unit {0}
 IsDeclared (Some d) = IsDeclaration d
 
+-- no byte order mark and no declaration
 abbrev pub no_head : Head
 no_head = record { marked = false; declaration = None }
 

@@ -38,6 +38,7 @@ pub record IsAttribute (a : Attribute) : Type 0 where
   pub no_tag : list_all (is_other 60) a.value ≡ true
   pub references : has_references a.value ≡ true
 
+-- attributes as written, and the bytes after them
 abbrev pub attributes_then : List Attribute → List ℕ → List ℕ
 attributes_then [] rest = rest
 attributes_then (a ∷ more) rest = attribute_then a (attributes_then more rest)

@@ -15,6 +15,7 @@ use Rattle.redl_moves.proofs.StandingLaws.{pair_from-some}
 
 -- ---- members of lists
 
+-- an element is in a list
 abbrev pub In : {X : Type 0} → X → List X → Type 0
 In x [] = ⊥
 In x (y ∷ ys) = (x ≡ y) ⊎ In x ys
@@ -29,6 +30,7 @@ in-filter f (y ∷ ys) x i t = by (f y) refl i (λ j. in-filter f ys x j t)
     by false e (inl is) ih = absurd (true≢false (sym t ∙ ap f is ∙ e))
     by false e (inr j) ih = ih j
 
+-- an element of a filtered list is in the list and passes the test
 pub filter-in : {X : Type 0} (f : X → Bool) (xs : List X) (x : X) → In x (filter f xs) → In x xs × (f x ≡ true)
 filter-in f [] x i = absurd i
 filter-in f (y ∷ ys) x i = by (f y) refl i (filter-in f ys x)

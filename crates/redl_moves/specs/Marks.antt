@@ -7,15 +7,18 @@ use Rattle.redl_moves.specs.declared.marker.MarkerKind.{MarkerKind}
 use Rattle.redl_moves.specs.declared.marker.MarkerKind.TheVariants.{FromStart, FromEnd, ToStart, ToEnd}
 use Rattle.redl_moves.specs.declared.marker.Move.{Move}
 
+-- a marker's edge, as the definitions see it
 abbrev pub edge_of : MarkerKind → Edge
 edge_of FromStart = from_start
 edge_of FromEnd = from_end
 edge_of ToStart = to_start
 edge_of ToEnd = to_end
 
+-- a marker, as the definitions see it
 abbrev pub marking_of : Marker → Marking
 marking_of mark = record { edge = edge_of mark.kind; id = mark.id; name = mark.name; at = mark.at; loose = mark.loose }
 
+-- markers, as the definitions see them
 abbrev pub markings : List Marker → List Marking
 markings marks = map marking_of marks
 

@@ -82,5 +82,6 @@ rises : (lo hi : ℕ) (xs : List Seen) → Within lo hi xs → Rise lo xs
 rises lo hi [] b = tt
 rises lo hi (x ∷ xs) b = (b.0, rises (x.own.start + 1) hi xs b.2)
 
+-- the positions of the elements, in the order of the document, rise
 pub seen-rise : (ancestors : List Spot) (at : ℕ) (nodes : Nodes) → Rise at (seen_from ancestors at nodes)
 seen-rise ancestors at nodes = rises at (at + tags nodes) (seen_from ancestors at nodes) (seen-within ancestors at nodes)

@@ -14,6 +14,7 @@ placed-at [] x k within at = absurd (omega (arith, within))
 placed-at (y ∷ xs) x zero within at = ap Some at
 placed-at (y ∷ xs) x (suc k) within at = placed-at xs x k (omega (arith, within)) at
 
+-- an element of a list has a place in it
 pub placed : {X : Type 0} (xs : List X) (x : X) → Contains xs x → IsPlaced xs x
 placed xs x c = (c.0, placed-at xs x c.0 c.1 c.2)
 

@@ -19,6 +19,7 @@ use Rattle.redl_opc.specs.Labels.{SetsLabels}
 abbrev pub plain : Element → Element
 plain e = record { tag = record e.tag { kind = Kind.Plain; rev = 0 }; kids = unlabelled e.kids }
 
+-- the elements of nodes without labels are the elements, without theirs
 pub elements-unlabelled : (ns : Nodes) → elements_of (unlabelled ns) ≡ map plain (elements_of ns)
 elements-unlabelled no_nodes = refl
 elements-unlabelled (bytes b rest) = elements-unlabelled rest
@@ -64,6 +65,7 @@ story_root-plain : (o : Option Element) → story_root (option_map plain o) ≡ 
 story_root-plain None = refl
 story_root-plain (Some e) = by_name (is_story_root e.tag) (Some (plain e)) (Some e) refl
 
+-- taking labels away leaves the story of a part the same, but for its labels
 pub story_of-plain : (e : Element) → story_of (plain e) ≡ option_map plain (story_of e)
 story_of-plain e =
     ap (λ o. story_root (root_in o)) (only-unlabelled e.kids) ∙ ap story_root (root_in-plain (only_element e.kids)) ∙ story_root-plain (root_in (only_element e.kids))
@@ -87,6 +89,7 @@ package_in-plain : (o : Option Element) → package_in (option_map plain o) ≡ 
 package_in-plain None = refl
 package_in-plain (Some e) = by_name (named_pkg (codes "package") e.tag) (Some (plain e)) (Some e) refl
 
+-- the package of nodes without labels is the package, without its labels
 pub package_of-unlabelled : (ns : Nodes) → package_of (unlabelled ns) ≡ option_map plain (package_of ns)
 package_of-unlabelled ns = ap package_in (only-unlabelled ns) ∙ package_in-plain (only_element ns)
 
@@ -97,6 +100,7 @@ refusal_of-plain : (o : Option Element) → refusal_of (option_map plain o) ≡ 
 refusal_of-plain None = refl
 refusal_of-plain (Some e) = ap parts_refusal (elements-unlabelled e.kids) ∙ parts_refusal-plain (elements_of e.kids)
 
+-- taking labels away does not change whether a package is refused
 pub refusal-unlabelled : (ns : Nodes) → refusal (unlabelled ns) ≡ refusal ns
 refusal-unlabelled ns = ap refusal_of (package_of-unlabelled ns) ∙ refusal_of-plain (package_of ns)
 
@@ -109,6 +113,7 @@ places_in-plain : (o : Option Element) → places_in (option_map plain o) ≡ pl
 places_in-plain None = refl
 places_in-plain (Some e) = places_from-unlabelled 0 e.kids
 
+-- taking labels away leaves the places and the names of the parts
 pub places_of-unlabelled : (ns : Nodes) → places_of (unlabelled ns) ≡ places_of ns
 places_of-unlabelled ns = ap places_in (package_of-unlabelled ns) ∙ places_in-plain (package_of ns)
 

@@ -25,6 +25,7 @@ get-there [] k within = absurd (omega (arith, within))
 get-there (x ∷ xs) zero within = (x, refl, refl)
 get-there (x ∷ xs) (suc k) within = get-there xs k (omega (arith, within))
 
+-- each number below the count of parts is that of a part
 pub part-at : (nodes : Nodes) (number : ℕ) → number < length (parts_of nodes) → (part : Element) × IsPartAt nodes number part
 part-at nodes number within =
     let there = get-there (parts_of nodes) number within in
@@ -60,6 +61,7 @@ drop-past [] (suc k) past = refl
 drop-past (x ∷ xs) zero past = absurd (omega (arith, past))
 drop-past (x ∷ xs) (suc k) past = drop-past xs k (omega (arith, past))
 
+-- there are no parts past the last one
 pub parts-end : (nodes : Nodes) (number : ℕ) → length (parts_of nodes) ≤ number → drop number (parts_of nodes) ≡ []
 parts-end nodes number past = drop-past (parts_of nodes) number past
 
@@ -139,6 +141,7 @@ count_from-part nodes number within =
     let found = part-at nodes number within in
     omega (arith, ap parts_count found.1.front)
 
+-- a story has no more nodes than are counted off with its part
 pub count_from-story : (nodes : Nodes) (number : ℕ) (root : Element) → number < length (parts_of nodes) → story nodes number ≡ Some root
     → count root.kids + count_from (number + 1) nodes ≤ count_from number nodes
 count_from-story nodes number root within is =

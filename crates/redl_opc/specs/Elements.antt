@@ -5,6 +5,7 @@ use Rattle.redl_tree.specs.Model.View.{tag_of, kids_of}
 pub use Rattle.redl_tree.specs.Model.View.{Element}
 use Rattle.redl_tree.specs.declared.node.Elem.{Elem}
 
+-- an element of the code as plain data
 abbrev pub element_of : Elem → Element
 element_of e = record { tag = tag_of e; kids = kids_of e }
 

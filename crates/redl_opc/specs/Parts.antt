@@ -26,6 +26,7 @@ places_from at no_nodes = []
 places_from at (bytes b rest) = places_from (suc at) rest
 places_from at (element tag kids rest) = (at, name_in tag) ∷ places_from (suc at) rest
 
+-- the same for the kids of a root, if there is one
 abbrev pub places_in : Option Element → List (ℕ × List ℕ)
 places_in None = []
 places_in (Some root) = places_from 0 root.kids

@@ -56,6 +56,7 @@ package_in (Some root) = if named_pkg (codes "package") root.tag then Some root 
 abbrev pub package_of : Nodes → Option Element
 package_of nodes = package_in (only_element nodes)
 
+-- the child elements of this root
 abbrev pub elements_in : Option Element → List Element
 elements_in None = []
 elements_in (Some root) = elements_of root.kids
@@ -73,6 +74,7 @@ abbrev pub refusal_of : Option Element → Option OpcError
 refusal_of None = Some NotPackage
 refusal_of (Some root) = parts_refusal (elements_of root.kids)
 
+-- why nodes are no package, if they are none
 abbrev pub refusal : Nodes → Option OpcError
 refusal nodes = refusal_of (package_of nodes)
 

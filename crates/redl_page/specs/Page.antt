@@ -60,5 +60,6 @@ head_text skin = pieces_text before_policy ++ (skin.policy ++ (pieces_text befor
 abbrev pub end_text : Skin → List ℕ
 end_text skin = skin.script ++ pieces_text after_script
 
+-- the whole page: its head, its body and its end
 abbrev pub page_text : Skin → Shown → List ℕ
 page_text skin page = head_text skin ++ (pieces_text (body page) ++ end_text skin)

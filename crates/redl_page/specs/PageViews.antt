@@ -3,9 +3,11 @@ use Rattle.redl_page.specs.declared.page.Skin as code_skin
 use Rattle.redl_page.specs.declared.page.Shown as code_shown
 use Rattle.redl_page.specs.Page.{Skin, Shown}
 
+-- the fixed parts of a page as plain data
 abbrev pub skin_view : code_skin.Skin → Skin
 skin_view skin = record { policy = skin.policy.now; style = skin.style.now; script = skin.script.now }
 
+-- what a page shows as plain data
 abbrev pub shown_by : code_shown.Shown → Shown
 shown_by page = record {
   nodes = page.package.now;

@@ -8,6 +8,7 @@ use Rattle.redl_reading.proofs.Steps.{bind_some}
 use Rattle.redl_reading.proofs.Runs.{stops, front-after, front_passes, front_again, after_again}
 use Rattle.redl_reading.proofs.Words.{behind_takes, behind_again}
 
+-- a field that is read stands at the start of the bytes, before its end
 pub field_takes : (end : ℕ) (bs : List ℕ) (x : List ℕ × List ℕ) → field_at end bs ≡ Some x → bs ≡ x.0 ++ (end ∷ x.1)
 unfolding field_at
 field_takes end bs x e =
@@ -17,6 +18,7 @@ field_takes end bs x e =
     sym (front-after (is_other end) bs) ∙ ap (λ (z : List ℕ). front (is_other end) bs ++ z) (behind_takes (end ∷ []) (after (is_other end) bs) r.0 r.1) in
     whole ∙ ap (λ (y : List ℕ × List ℕ). y.0 ++ (end ∷ y.1)) made
 
+-- a field that is written is read again
 pub field_again : (end : ℕ) (a rest : List ℕ) → list_all (is_other end) a ≡ true → field_at end (a ++ (end ∷ rest)) ≡ Some (a, rest)
 unfolding field_at
 field_again end a rest h =

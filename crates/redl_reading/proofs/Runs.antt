@@ -17,6 +17,7 @@ front-after-step : (t : Bool) (b : ℕ) (f a bs : List ℕ) → f ++ a ≡ bs �
 front-after-step true b f a bs e = ap (λ (x : List ℕ). b ∷ x) e
 front-after-step false b f a bs e = refl
 
+-- the leading run and what follows are the whole
 pub front-after : (p : ℕ → Bool) (bs : List ℕ) → front p bs ++ after p bs ≡ bs
 front-after p [] = refl
 front-after p (b ∷ bs) = front-after-step (p b) b (front p bs) (after p bs) bs (front-after p bs)
@@ -25,6 +26,7 @@ front_passes_step : (p : ℕ → Bool) (t : Bool) (b : ℕ) (f : List ℕ) → p
 front_passes_step p true b f e h = rw e h
 front_passes_step p false b f e h = refl
 
+-- each byte of the leading run passes
 pub front_passes : (p : ℕ → Bool) (bs : List ℕ) → list_all p (front p bs) ≡ true
 front_passes p [] = refl
 front_passes p (b ∷ bs) = front_passes_step p (p b) b (front p bs) refl (front_passes p bs)
@@ -33,6 +35,7 @@ after_stops_step : (p : ℕ → Bool) (t : Bool) (b : ℕ) (a bs : List ℕ) →
 after_stops_step p true b a bs e h = h
 after_stops_step p false b a bs e h = rw e refl
 
+-- what follows the leading run begins with no byte that passes
 pub after_stops : (p : ℕ → Bool) (bs : List ℕ) → stops p (after p bs) ≡ true
 after_stops p [] = refl
 after_stops p (b ∷ bs) = after_stops_step p (p b) b (after p bs) bs refl (after_stops p bs)
@@ -45,6 +48,7 @@ front_again p (b ∷ bs) rest all stop =
     let both = and_parts (p b) (list_all p bs) all in
     rw both.0 (ap (λ (x : List ℕ). b ∷ x) (front_again p bs rest both.1 stop))
 
+-- bytes that pass before a stop are the leading run
 pub after_again : (p : ℕ → Bool) (a rest : List ℕ) → list_all p a ≡ true → stops p rest ≡ true → after p (a ++ rest) ≡ rest
 after_again p [] [] all stop = refl
 after_again p [] (b ∷ bs) all stop = rw (not-true (p b) stop) refl
@@ -136,6 +140,7 @@ finds byte bs (Some n) h =
 
 -- ---- from the first byte of one kind on
 
+-- what follows the leading run is no longer than the whole
 pub after_fits : (byte : ℕ) (bs : List ℕ) → length (after (is_other byte) bs) ≤ length bs
 after_fits byte [] = omega arith
 after_fits byte (b ∷ bs) =
@@ -144,5 +149,6 @@ after_fits byte (b ∷ bs) =
       | inr other ↦ rw other (omega (arith, after_fits byte bs))
     ]
 
+-- at the byte that ends it, the leading run is empty
 pub after_here : (byte b : ℕ) (bs : List ℕ) → eqb b byte ≡ true → after (is_other byte) (b ∷ bs) ≡ b ∷ bs
 after_here byte b bs same = rw same refl

@@ -24,6 +24,7 @@ behind_not_pointwise (w ∷ ws) (b ∷ bs) e =
       | inr other ↦ rw other refl
     ]
 
+-- what is found after a leading word follows that word
 pub behind_takes : (word bs rest : List ℕ) → behind word bs ≡ Some rest → bs ≡ word ++ rest
 behind_takes [] bs rest e = cc
 behind_takes (w ∷ ws) [] rest e = absurd cc
@@ -33,6 +34,7 @@ behind_takes (w ∷ ws) (b ∷ bs) rest e =
       | inr other ↦ absurd (let h : behind (w ∷ ws) (b ∷ bs) ≡ None = rw other refl in cc)
     ]
 
+-- after a leading word the rest is found
 pub behind_again : (word rest : List ℕ) → behind word (word ++ rest) ≡ Some rest
 behind_again [] rest = refl
 behind_again (w ∷ ws) rest = rw (eq-eqb w w refl) (behind_again ws rest)
@@ -64,6 +66,7 @@ none_begins (w ∷ ws) (b ∷ bs) e =
 pub before-append : (a rest : List ℕ) → before (a ++ rest) rest ≡ a
 before-append a rest = take_at a rest (length (a ++ rest) - length rest) (omega (arith, length-append a rest))
 
+-- bytes that begin with a word have a rest after it
 pub begins_some : (word bs : List ℕ) → begins word bs ≡ true → (rest : List ℕ) × (behind word bs ≡ Some rest)
 begins_some [] bs e = (bs, refl)
 begins_some (w ∷ ws) [] e = absurd cc
@@ -93,10 +96,12 @@ begins_less word t more e =
 
 -- ---- the first place of a word
 
+-- the first place of a word is at the start if the bytes begin with it
 pub past_here : (word bs rest : List ℕ) → behind word bs ≡ Some rest → (bs ≢ []) → past word bs ≡ Some rest
 past_here word [] rest e filled = absurd (filled refl)
 past_here word (b ∷ bs) rest e filled = rw e refl
 
+-- a byte at which the word does not begin is passed over
 pub past_later : (word : List ℕ) (b : ℕ) (bs : List ℕ) → begins word (b ∷ bs) ≡ false → past word (b ∷ bs) ≡ past word bs
 past_later word b bs e = rw (none_begins word (b ∷ bs) e) refl
 
@@ -104,6 +109,7 @@ past_later word b bs e = rw (none_begins word (b ∷ bs) e) refl
 abbrev pub NoBorder : List ℕ → Type 0
 NoBorder word = (b : ℕ) (t rest : List ℕ) → begins word (b ∷ t) ≡ false → begins word (b ∷ (t ++ (word ++ rest))) ≡ false
 
+-- what is found past a word follows the word and bytes that lack it
 pub past_takes : (w : ℕ) (ws bs rest : List ℕ) → past (w ∷ ws) bs ≡ Some rest → (t : List ℕ) × (bs ≡ t ++ ((w ∷ ws) ++ rest)) × (lacks (w ∷ ws) t ≡ true)
 past_takes w ws [] rest e = absurd cc
 past_takes w ws (b ∷ bs) rest e =
@@ -118,6 +124,7 @@ past_takes w ws (b ∷ bs) rest e =
           (b ∷ t.0, whole, and_from _ _ (ap not (begins_less (w ∷ ws) (b ∷ t.0) ((w ∷ ws) ++ rest) (ap (begins (w ∷ ws)) (sym whole) ∙ lacking))) t.2)
     ]
 
+-- past the first place of a word the rest is found
 pub past_again : (w : ℕ) (ws t rest : List ℕ) → NoBorder (w ∷ ws) → lacks (w ∷ ws) t ≡ true → past (w ∷ ws) (t ++ ((w ∷ ws) ++ rest)) ≡ Some rest
 past_again w ws [] rest border h = past_here (w ∷ ws) ((w ∷ ws) ++ rest) rest (behind_again (w ∷ ws) rest) (λ e. cc)
 past_again w ws (b ∷ t) rest border h =

@@ -8,6 +8,7 @@ behind [] bs = Some bs
 behind (w ∷ ws) [] = None
 behind (w ∷ ws) (b ∷ bs) = if b == w then behind ws bs else None
 
+-- the bytes begin with this word
 abbrev pub begins : List ℕ → List ℕ → Bool
 begins [] bs = true
 begins (w ∷ ws) [] = false
@@ -40,10 +41,12 @@ AnswersAs p Told = (b : ℕ) (t : Bool) → b < 256 → Told b t → p b ≡ t
 abbrev pub before : List ℕ → List ℕ → List ℕ
 before bs rest = take (length bs - length rest) bs
 
+-- there is a byte
 abbrev pub is_filled : List ℕ → Bool
 is_filled [] = false
 is_filled (b ∷ bs) = true
 
+-- another byte than this one
 abbrev pub is_other : ℕ → ℕ → Bool
 is_other a b = not (b == a)
 

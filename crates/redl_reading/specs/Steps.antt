@@ -12,6 +12,7 @@ abbrev pub or_else : {A : Type 0} → Option A → Option A → Option A
 or_else None y = y
 or_else (Some x) y = Some x
 
+-- the value of a step that succeeded, or else this one
 abbrev pub or_same : {A : Type 0} → Option A → A → A
 or_same None x = x
 or_same (Some y) x = y

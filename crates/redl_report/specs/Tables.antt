@@ -61,6 +61,7 @@ abbrev pub end_of : Bool → Totals → List ℕ
 end_of false totals = []
 end_of true totals = last_line totals
 
+-- the table of a report, with its last line where it is closed
 abbrev pub table_report : List ReportLine → Bool → List ℕ
 table_report lines closed = head ++ (flat_map table_line lines ++ end_of closed (totals_of lines))
 

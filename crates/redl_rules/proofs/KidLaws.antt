@@ -17,6 +17,7 @@ use Rattle.redl_rules.proofs.IdleLaws.{no_role_in}
 
 -- ---- idle elements pass no such test
 
+-- a test that no idle element passes does not pass an idle item
 pub is_none : (test : Tag → Bool) → NoneIs false test → (x : Item) (t : List ℕ) → x ≡ idle_item t → false ≡ item_is test x
 is_none test none x t is = sym (ap (item_is test) is ∙ none_idle test none t)
 

@@ -37,6 +37,7 @@ tally_text tally =
     ++ (number_line (codes "rejected") tally.rejected
     ++ (number_line (codes "disputed") tally.disputed ++ number_line (codes "open") tally.undecided))
 
+-- the summary of a sample, a line for each number
 abbrev pub summary_text : Summary → List ℕ
 summary_text summary =
     number_line (codes "paragraphs") summary.paragraphs

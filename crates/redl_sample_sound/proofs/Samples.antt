@@ -6,6 +6,7 @@ use Rattle.redl_sample_sound.proofs.Readings.{sample_nodes, reading_is, shallow,
 use Rattle.redl_sample_sound.proofs.Rules.{shape_is, sound_is}
 use Rattle.redl_sample_sound.specs.Sound.{HasRevisions, HasSoundPackage}
 
+-- each sample is a package that keeps the rules of structure
 pub sound_sample : (number : ℕ) → number ≤ 20000 → HasSoundPackage (package_text number)
 sound_sample number few = record {
   nodes = sample_nodes number;

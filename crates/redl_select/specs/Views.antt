@@ -3,6 +3,7 @@ use Rattle.redl_select.specs.declared.selection.Selection as code
 use Rattle.redl_select.specs.declared.selection.Selection.TheVariants as variants
 use Rattle.redl_select.specs.Selections.{Selection, all, numbers, author, span, kind, group}
 
+-- a selection of the code as plain data
 abbrev pub selection_of : code.Selection → Selection
 selection_of variants.All = all
 selection_of (variants.Numbers listed) = numbers listed.items

@@ -52,6 +52,7 @@ refusals-refuses revisions locks entries entry why is =
 
 -- ---- all of them
 
+-- entries that are admitted are added to the book, and nothing else changes
 pub after-union : (state : State) (entries : List Entry)
     → after state entries ≡ record state { book = union state.book (admitted state.revisions state.locks entries) }
 after-union state [] = refl

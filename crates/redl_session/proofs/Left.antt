@@ -34,10 +34,12 @@ none_broken number (test ∷ later) parts is = by (holds test parts) is (none_br
   by true all rest = rest all
   by false all rest = absurd (cc all)
 
+-- the texts of the stories after the verdicts are those that survive them
 pub left_survives : (says : List Say) (nodes : Nodes) → numbered_package nodes ≡ nodes
     → map text_pieces (stories (pass_package says nodes)) ≡ map (survivors says) (stories nodes)
 left_survives says nodes numbered = survival-package attribute_value says nodes numbered
 
+-- a package that keeps the rules of structure keeps them after its verdicts
 pub left_is_sound : (says : List Say) (nodes : Nodes) → numbered_package nodes ≡ nodes → broken_rule nodes ≡ None → broken_rule (pass_package says nodes) ≡ None
 left_is_sound says nodes numbered none =
     none_broken 1 rules (stories (pass_package says nodes))

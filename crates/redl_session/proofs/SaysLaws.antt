@@ -29,6 +29,7 @@ set_alike {X} f g a (suc n) (suc i) j alike place within =
     ap (λ (x : X). x ∷ set (map f (range_with_len (a + 1) n)) i (g j)) (alike a (λ same. omega (arith, place, same)))
     ∙ ap (λ (xs : List X). g a ∷ xs) (set_alike f g (a + 1) n i j alike (omega (arith, place)) (omega (arith, within)))
 
+-- there is one say for each revision
 pub length-says_of : (book : List Entry) (n : ℕ) → length (says_of book n) ≡ n
 length-says_of book n = length-map-range_with_len (λ rev. say_of_verdict (verdict_at book rev)) 1 n
 

@@ -107,6 +107,7 @@ zone_in (b ∷ bs) =
 abbrev pub first_moment : ℤ
 first_moment = neg_ℤ (pos 62_167_219_200)
 
+-- 9999-12-31T23:59:59Z
 abbrev pub last_moment : ℤ
 last_moment = pos 253_402_300_799
 

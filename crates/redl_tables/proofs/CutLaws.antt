@@ -26,6 +26,7 @@ use Rattle.redl_tables.specs.declared.owned.Unit.TheVariants as unit
 use Rattle.redl_tables.specs.declared.owned.Finding.{Finding}
 use Rattle.redl_tables.specs.declared.owned.Finding.TheVariants.{Nothing, Gone, Living}
 
+-- two lists of nodes have such a member if one of them has it
 pub has_cut-⊕ : (test : Kind → Bool) (says : List Say) (xs ys : Nodes) → has_cut test says (xs ⊕ ys) ≡ (has_cut test says xs || has_cut test says ys)
 has_cut-⊕ test says no_nodes ys = refl
 has_cut-⊕ test says (bytes b rest) ys = has_cut-⊕ test says rest ys
@@ -33,6 +34,7 @@ has_cut-⊕ test says (element tag kids rest) ys =
     let here = test tag.kind && is_cut (fate_of says tag) in
     ap (λ b. here || b) (has_cut-⊕ test says rest ys) ∙ sym (or_assoc here (has_cut test says rest) (has_cut test says ys))
 
+-- the kids of the elements with a name are those in the first list of nodes, and then those in the second
 pub kids_of_all-⊕ : (name : String) (xs ys : Nodes) → kids_of_all name (xs ⊕ ys) ≡ kids_of_all name xs ⊕ kids_of_all name ys
 kids_of_all-⊕ name no_nodes ys = refl
 kids_of_all-⊕ name (bytes b rest) ys = kids_of_all-⊕ name rest ys
@@ -104,6 +106,7 @@ then_assoc Gone Gone Nothing = refl
 then_assoc Gone Gone Gone = refl
 then_assoc Gone Gone Living = refl
 
+-- nothing found later leaves a finding as it is
 pub then-nothing : (a : Finding) → and_then a Nothing ≡ a
 then-nothing Nothing = refl
 then-nothing Living = refl

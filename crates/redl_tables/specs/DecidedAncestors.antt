@@ -16,6 +16,7 @@ frees says tag = is_old_content tag.kind && is_free (fate_of says tag)
 abbrev pub leaves : List Say → Tag → Bool
 leaves says tag = is_old_content tag.kind && is_leave (fate_of says tag)
 
+-- the summary of the ancestors under these says
 abbrev pub ancestors_of : List Say → List Tag → DecidedAncestors
 ancestors_of says ancestors = record {
   site = site_of ancestors;

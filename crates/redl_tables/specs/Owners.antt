@@ -18,6 +18,7 @@ use Rattle.redl_tables.specs.declared.owned.Unit.TheVariants as unit
 use Rattle.redl_tables.specs.declared.owned.Finding.{Finding}
 use Rattle.redl_tables.specs.declared.owned.Finding.TheVariants.{Nothing, Gone, Living}
 
+-- a revision of this kind is one of the mark, the row or the cell, as the owner is
 abbrev pub test_of : Owner → Kind → Bool
 test_of Mark kind = is_mark kind
 test_of Row kind = is_row kind
@@ -49,10 +50,12 @@ item_cuts_para says (element_item tag kids) = is "pPr" tag && has_cut is_mark sa
 
 -- ---- own rows and cells
 
+-- the element name of rows and of cells
 abbrev pub unit_name : Own → String
 unit_name unit.Row = "tr"
 unit_name unit.Cell = "tc"
 
+-- a row or a cell goes, given its kids
 abbrev pub unit_goes : Own → List Say → Nodes → Bool
 unit_goes unit.Row says kids = row_goes says kids
 unit_goes unit.Cell says kids = cell_is_cut says kids
@@ -75,6 +78,7 @@ abbrev pub found_of : (Nodes → Bool) → List Nodes → Finding
 found_of test [] = Nothing
 found_of test (x ∷ xs) = and_then (if test x then Gone else Living) (found_of test xs)
 
+-- there are some, and all of them go
 abbrev pub is_gone : Finding → Bool
 is_gone Gone = true
 is_gone Nothing = false

@@ -67,6 +67,7 @@ walk-stories says [] h = refl
 walk-stories says (x ∷ xs) h =
     ap (λ ts. ts ++ flat_map (story_walk says) xs) (walk-story says x h.0) ∙ ap (λ ts. story_view shown_text says x ++ ts) (walk-stories says xs h.1)
 
+-- a walk over the stories gives the plain text of the package after its verdicts
 pub walk-package : (value : Value) (says : List Say) (nodes : Nodes) → IsIndexed value nodes →
     flat_map (story_walk says) (stories nodes) ≡ plain_text shown_text (pass_package says nodes)
 walk-package value says nodes is = walk-stories says (stories nodes) (indexed_stories value nodes is) ∙ sym (view-package shown_text value says nodes is)

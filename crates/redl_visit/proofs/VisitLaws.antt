@@ -116,6 +116,7 @@ visited-choice inside rule here own nodes s = by (has_element nodes) refl
 
 -- ---- a visitor that needs nothing has what it needs
 
+-- a visit to no nodes needs nothing
 pub needs-nothing : {H O S : Type 0} (inside : Tag → H → H) (rule : VisitRule H O S) (here : H) (own : O) (nodes : Nodes) (s : S) → Needs inside rule no_needs here own nodes s
 needs-nothing inside rule here own no_nodes s = tt
 needs-nothing inside rule here own (bytes b rest) s = needs-nothing inside rule here own rest s

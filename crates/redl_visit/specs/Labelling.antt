@@ -21,6 +21,7 @@ pub record LabelNeeds (H O S : Type 0) : Type 1 where
 abbrev pub visit_of : {H O S : Type 0} → LabelRule H O S → VisitRule H O S
 visit_of rule = record { below = rule.below; enter = rule.enter; leave = λ here below tag kids s. rule.leave s }
 
+-- the needs of a visitor that gives labels, as of one that gives none
 abbrev pub needs_of : {H O S : Type 0} → LabelNeeds H O S → VisitNeeds H O S
 needs_of needs = record { Enter = needs.Enter; Leave = λ here below tag kids s. needs.Leave s }
 

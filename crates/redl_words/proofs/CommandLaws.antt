@@ -534,6 +534,7 @@ with_takes verbs.Join rest c e = join_takes rest c e
 with_takes verbs.Check rest c e = check_takes rest c e
 with_takes verbs.Sample rest c e = sample_takes rest c e
 
+-- words that are read as a command are a command by the forms
 pub command_takes : (words : List (List ℕ)) (c : Command) → command_in words ≡ Some c → IsCommand words c
 unfolding command_in
 command_takes [] c e = absurd cc
@@ -589,6 +590,7 @@ sample_line : (rest : List (List ℕ)) → command_in (codes "sample" ∷ rest) 
 unfolding verb_text
 sample_line rest = command_of_verb verbs.Sample rest
 
+-- a command that is written in words is read again
 pub command_again : (words : List (List ℕ)) (c : Command) → IsCommand words c → command_in words ≡ Some c
 command_again words (settle accept p) h = ap command_in h.written ∙ settle_line (say_word accept ∷ p ∷ []) ∙ settle_again accept p h.name
 command_again words (view_text p view) h = by h.written where
@@ -611,6 +613,7 @@ command_again words (join journals) h = ap command_in h.written ∙ join_line jo
 command_again words (check p) h = ap command_in h.written ∙ check_line (p ∷ []) ∙ check_again p h.name
 command_again words (sample number) h = ap command_in h.written ∙ sample_line (decimal number ∷ []) ∙ sample_again number (number_again number h.small)
 
+-- words are at most one command
 pub at_most_one : (words : List (List ℕ)) (one other : Command) → IsCommand words one → IsCommand words other → one ≡ other
 at_most_one words one other h g = same_Some one other (sym (command_again words one h) ∙ command_again words other g)
 

@@ -5,6 +5,7 @@ use Rattle.redl_join.specs.declared.verdict.Verdict.TheVariants.{Undecided, Acce
 use Rattle.redl_select.specs.Selections.{Selection}
 use Rattle.redl_words.specs.Selections.{Means}
 
+-- which revisions a listing shows
 pub data Only : Type 0 where
   -- those that this selection chooses
   chosen : Selection → Only

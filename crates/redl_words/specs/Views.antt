@@ -20,9 +20,11 @@ abbrev pub only_of : code_only.Only → Only
 only_of (onlys.Chosen selection) = chosen (selection_of selection)
 only_of (onlys.Decided verdict) = decided verdict
 
+-- the choices of a listing as plain data
 abbrev pub onlys_view : List code_only.Only → List Only
 onlys_view = map only_of
 
+-- a command of the code as plain data
 abbrev pub command_of : code.Command → Command
 command_of (variants.Settle accept p) = settle accept p
 command_of (variants.Text p view) = view_text p view

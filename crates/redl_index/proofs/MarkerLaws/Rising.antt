@@ -26,6 +26,7 @@ joined : (lo mid hi : ℕ) (xs ys : List Marking) → lo ≤ mid → mid ≤ hi 
 joined lo mid hi [] ys l h b c = lower lo mid hi ys l c
 joined lo mid hi (m ∷ xs) ys l h b c = (b.0, omega (arith, h, b.1), joined (m.at + 1) mid hi xs ys (omega (arith, b.1)) h b.2 c)
 
+-- a marker stands where its element starts
 pub marker-at : (value : Value) (seen : Seen) (m : Marking) → marker_of value seen ≡ Some m → m.at ≡ seen.own.start
 marker-at value seen m e = by (is_open (tags_of seen.ancestors)) (edge_of seen.own.tag) (value seen.own.tag.tail (codes "id")) e
   where
@@ -57,6 +58,7 @@ markers-between value ancestors at (element tag kids rest) =
     first at hi (marker_of value (seen_one ancestors at tag kids)) (find (inner ++ outer)) (marker-at value (seen_one ancestors at tag kids)) (omega arith)
     (subst P (sym (filter_map-append (marker_of value) inner outer)) both)
 
+-- markers that rise from one position to another rise from the first
 pub between-rises : (lo hi : ℕ) (ms : List Marking) → Between lo hi ms → RisesFrom lo ms
 between-rises lo hi [] b = tt
 between-rises lo hi (m ∷ ms) b = (b.0, between-rises (m.at + 1) hi ms b.2)
@@ -65,5 +67,6 @@ pub between-few : (lo hi : ℕ) (ms : List Marking) → lo ≤ hi → Between lo
 between-few lo hi [] h b = omega (arith, h)
 between-few lo hi (m ∷ ms) h b = omega (arith, b.0, b.1, between-few (m.at + 1) hi ms (omega (arith, b.1)) b.2)
 
+-- the markers of a story rise within the positions of the story
 pub story-between : (value : Value) (ancestors : List Spot) (nodes : Nodes) → Between 0 (1 + tags nodes) (filter_map (marker_of value) (seen_from ancestors 1 nodes))
 story-between value ancestors nodes = lower 0 1 (1 + tags nodes) (filter_map (marker_of value) (seen_from ancestors 1 nodes)) (omega arith) (markers-between value ancestors 1 nodes)
