@@ -41,18 +41,18 @@ fn quote(bytes: &[u8]) -> Option<(u8, &[u8])>
 fn opening(bytes: &[u8]) -> Option<(u8, &[u8])>
     ensures { Gives (λ x. (x.0, x.1.now)) result (opening_at bytes.now) }
 {
-    let (_, end) = spaces(bytes);
-    let more = skip(end, b"=")?;
-    let (_, more) = spaces(more);
-    quote(more)
+    let (_, rest) = spaces(bytes);
+    let rest = skip(rest, b"=")?;
+    let (_, rest) = spaces(rest);
+    quote(rest)
 }
 
 /// A `=` in white space, and a text between quotes.
 pub(crate) fn equated(bytes: &[u8]) -> Option<(&[u8], &[u8])>
     ensures { Gives (λ x. (x.0.now, x.1.now)) result (equated_at bytes.now) }
 {
-    let (quote, more) = opening(bytes)?;
-    field(more, quote)
+    let (quote, rest) = opening(bytes)?;
+    field(rest, quote)
 }
 
 // Whether a value has neither `<` nor `&`, and so needs no further test.
@@ -90,11 +90,11 @@ fn plain_value(bytes: &[u8], quote: u8) -> Option<(&[u8], &[u8])>
 fn value(bytes: &[u8]) -> Option<(&[u8], &[u8])>
     ensures { Gives (λ x. (x.0.now, x.1.now)) result (value_at bytes.now) }
 {
-    let (quote, more) = opening(bytes)?;
-    if let Some((value, rest)) = plain_value(more, quote) {
+    let (quote, rest) = opening(bytes)?;
+    if let Some((value, rest)) = plain_value(rest, quote) {
         return Some((value, rest));
     }
-    let (value, rest) = field(more, quote)?;
+    let (value, rest) = field(rest, quote)?;
     if is_value(value) {
         Some((value, rest))
     } else {
@@ -105,8 +105,8 @@ fn value(bytes: &[u8]) -> Option<(&[u8], &[u8])>
 fn attribute_behind_gap(bytes: &[u8]) -> Option<(Attribute<'_>, &[u8])>
     ensures { Gives (λ x. (attribute_view x.0, x.1.now)) result (attribute_at bytes.now) }
 {
-    let (name, more) = name(bytes)?;
-    let (value, rest) = value(more)?;
+    let (name, rest) = name(bytes)?;
+    let (value, rest) = value(rest)?;
     Some((Attribute { name, value }, rest))
 }
 
@@ -121,7 +121,7 @@ pub(crate) fn attribute_behind<'a>(gap: &[u8], bytes: &'a [u8]) -> Option<(Attri
     attribute_behind_gap(bytes)
 }
 
-// The first attribute of a tail with the white space before it, and what is left of the tail.
+// The first attribute of a tail with the white space before it, and the rest of the tail.
 #[tactic(auto, unfolding(crate::specs::ScanTags::attribute_in))]
 fn first_attribute(tail: &[u8]) -> Option<(Attribute<'_>, &[u8])>
     ensures { Gives (λ x. (attribute_view x.0, x.1.now)) result (attribute_in tail.now) }

@@ -93,14 +93,14 @@ fn attributes_end(bytes: &[u8]) -> Option<&[u8]>
 {
     let mut rest = bytes;
     loop {
-        let (gap, more) = spaces(rest);
-        if is_at_end(more) {
-            return Some(more);
+        let (gap, next) = spaces(rest);
+        if is_at_end(next) {
+            return Some(next);
         }
-        let Some((attribute, behind)) = attribute_behind(gap, more) else {
+        let Some((attribute, next)) = attribute_behind(gap, next) else {
             return None;
         };
-        rest = behind;
+        rest = next;
     }
 }
 

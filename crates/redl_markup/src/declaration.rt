@@ -17,12 +17,12 @@ use redl_reading::skip;
 fn setting<'a>(bytes: &'a [u8], word: &[u8]) -> Option<(&'a [u8], &'a [u8])>
     ensures { Gives (λ x. (x.0.now, x.1.now)) result (setting_at word.now bytes.now) }
 {
-    let (gap, more) = spaces(bytes);
+    let (gap, rest) = spaces(bytes);
     if gap.is_empty() {
         return None;
     }
-    let more = skip(more, word)?;
-    equated(more)
+    let rest = skip(rest, word)?;
+    equated(rest)
 }
 
 fn are_digits(bytes: &[u8]) -> bool

@@ -38,13 +38,13 @@ pub(crate) fn near_until_any(bytes: &[u8], a: u8, b: u8, c: u8) -> (&[u8], &[u8]
 fn near_rest(bytes: &[u8], a: u8, b: u8, c: u8) -> &[u8]
     ensures { result.now ≡ after (is_none_of a b c) bytes.now }
 {
-    let mut left = bytes;
-    while let Some((block, rest)) = left.split_first_chunk::<16>() {
+    let mut rest = bytes;
+    while let Some((block, next)) = rest.split_first_chunk::<16>() {
         let n = plain_front(u8x16::from_array(*block), a, b, c);
         if n < 16 {
-            return left.split_at(n).1;
+            return rest.split_at(n).1;
         }
-        left = rest;
+        rest = next;
     }
-    run(left, |x| !(x == a || x == b || x == c)).1
+    run(rest, |x| !(x == a || x == b || x == c)).1
 }

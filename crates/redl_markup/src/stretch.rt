@@ -22,12 +22,12 @@ use redl_reading::{before, far_until};
 fn has_no_close(bytes: &[u8]) -> bool
     ensures { result ≡ lacks (codes "]]>") bytes.now }
 {
-    let (_, mut left) = far_until(bytes, b']');
-    while let Some((_, rest)) = left.split_first() {
-        if left.starts_with(b"]]>") {
+    let (_, mut rest) = far_until(bytes, b']');
+    while let Some((_, next)) = rest.split_first() {
+        if rest.starts_with(b"]]>") {
             return false;
         }
-        left = far_until(rest, b']').1;
+        rest = far_until(next, b']').1;
     }
     true
 }
@@ -51,16 +51,16 @@ fn is_run(bytes: &[u8], place: Place) -> bool
 fn end_of_items(bytes: &[u8], place: Place) -> Option<&[u8]>
     ensures { Gives (λ rest. rest.now) result (items_end place bytes.now) }
 {
-    let mut left = bytes;
+    let mut rest = bytes;
     loop {
-        let (run, rest) = far_until(left, b'<');
+        let (run, next) = far_until(rest, b'<');
         if !is_run(run, place) {
             return None;
         }
-        if !begins_item(rest) {
-            return Some(rest);
+        if !begins_item(next) {
+            return Some(next);
         }
-        left = item(rest, place)?;
+        rest = item(next, place)?;
     }
 }
 

@@ -41,15 +41,15 @@ fn attributes<'a>(
     names.clear();
     let mut rest = bytes;
     loop {
-        let (gap, more) = spaces(rest);
-        if is_at_end(more) {
-            return Ok((names, more));
+        let (gap, next) = spaces(rest);
+        if is_at_end(next) {
+            return Ok((names, next));
         }
-        let Some((attribute, behind)) = attribute_behind(gap, more) else {
+        let Some((attribute, next)) = attribute_behind(gap, next) else {
             return Err(MarkupError::Unreadable);
         };
         names.push(attribute.name)?;
-        rest = behind;
+        rest = next;
     }
 }
 
@@ -110,7 +110,7 @@ pub(crate) fn end_tag(bytes: &[u8]) -> Option<(Name<'_>, &[u8], &[u8])>
     ensures { Gives (λ x. (an_end_tag (name_view x.0) x.1.now, x.2.now)) result (end_tag_at bytes.now) }
 {
     let (name, rest) = name(bytes)?;
-    let (space, end) = spaces(rest);
-    let rest = skip(end, b">")?;
+    let (space, rest) = spaces(rest);
+    let rest = skip(rest, b">")?;
     Some((name, space, rest))
 }

@@ -113,11 +113,11 @@ fn end_of_characters(bytes: &[u8], colons: bool) -> &[u8]
     ensures { name_end colons bytes.now ≡ Some result.now }
 {
     let mut rest = bytes;
-    while let Some((c, behind)) = first_char(rest) {
+    while let Some((c, next)) = first_char(rest) {
         if !may_follow(c, colons) {
             break;
         }
-        rest = behind;
+        rest = next;
     }
     rest
 }
@@ -128,8 +128,8 @@ fn end_of_characters(bytes: &[u8], colons: bool) -> &[u8]
 pub(crate) fn word(bytes: &[u8], colons: bool) -> Option<(&[u8], &[u8])>
     ensures { Gives (λ x. (x.0.now, x.1.now)) result (word_at colons bytes.now) }
 {
-    let more = behind_start(bytes, colons)?;
-    let rest = end_of_name(more, colons);
+    let rest = behind_start(bytes, colons)?;
+    let rest = end_of_name(rest, colons);
     Some((before(bytes, rest), rest))
 }
 
@@ -148,8 +148,8 @@ pub(crate) fn name(bytes: &[u8]) -> Option<(Name<'_>, &[u8])>
             },
             rest,
         )),
-        Some(more) => {
-            let (local, rest) = word(more, false)?;
+        Some(rest) => {
+            let (local, rest) = word(rest, false)?;
             Some((Name { prefix, local }, rest))
         }
     }

@@ -8,8 +8,8 @@ returns-in_err-name c = rw c.from_residual.ensures (no_name c.args.bytes.now c.i
 
 pub returns-in_err-value : goal.returns-in_err-value
 returns-in_err-value c =
-    rw c.from_residual-in_err-value.ensures (some_name c.args.bytes.now (name_view c.in_ok-name.name) c.in_ok-name.more.now None c.in_ok-name.ensures c.in_err-value.ensures)
+    rw c.from_residual-in_err-value.ensures (some_name c.args.bytes.now (name_view c.in_ok-name.name) c.in_ok-name.rest.now None c.in_ok-name.ensures c.in_err-value.ensures)
 
 pub returns : goal.returns
 returns c =
-    some_name c.args.bytes.now (name_view c.in_ok-name.name) c.in_ok-name.more.now (Some (c.in_ok-value.value.now, c.in_ok-value.rest.now)) c.in_ok-name.ensures c.in_ok-value.ensures
+    some_name c.args.bytes.now (name_view c.in_ok-name.name) c.in_ok-name.rest.now (Some (c.in_ok-value.value.now, c.in_ok-value.rest.now)) c.in_ok-name.ensures c.in_ok-value.ensures

@@ -9,5 +9,5 @@ returns-in_err-quote c = rw c.from_residual.ensures (opened_as c.args.bytes.now 
 pub returns : goal.returns
 returns c =
     let quote = c.in_ok-quote.quote in
-    let more = c.in_ok-quote.more.now in
-    rw (opened_as c.args.bytes.now (Some (quote, more)) (field_at quote more) c.in_ok-quote.ensures refl) c.field.ensures
+    let rest = c.in_ok-quote.rest.now in
+    rw (opened_as c.args.bytes.now (Some (quote, rest)) (field_at quote rest) c.in_ok-quote.ensures refl) c.field.ensures

@@ -18,11 +18,11 @@ returns-in_default c =
 
 pub loop-gap-smaller : goal.loop-gap-smaller
 loop-gap-smaller c =
-    first_shorter c.loop-gap.rest.now (attribute_view c.in-Some.attribute, c.in-Some.behind.now)
+    first_shorter c.loop-gap.rest.now (attribute_view c.in-Some.attribute, c.in-Some.next.now)
     (first_behind c.loop-gap.rest.now c.spaces.result.0.now c.spaces.result.1.now _ c.spaces.ensures.front c.spaces.ensures.rest c.in-Some.ensures)
 
 pub loop-gap-preserved : goal.loop-gap-preserved
 loop-gap-preserved c =
-    past_goes c.loop-gap.rest.now c.spaces.result.1.now c.args.bytes.now (attribute_view c.in-Some.attribute, c.in-Some.behind.now)
+    past_goes c.loop-gap.rest.now c.spaces.result.1.now c.args.bytes.now (attribute_view c.in-Some.attribute, c.in-Some.next.now)
     c.loop-gap.invariant c.spaces.ensures.rest (sym c.is_at_end.ensures ∙ c.if-is_at_end.false)
     (first_behind c.loop-gap.rest.now c.spaces.result.0.now c.spaces.result.1.now _ c.spaces.ensures.front c.spaces.ensures.rest c.in-Some.ensures)

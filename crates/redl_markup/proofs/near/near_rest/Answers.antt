@@ -7,11 +7,11 @@ pub returns-then-n-lt16 : goal.returns-then-n-lt16
 returns-then-n-lt16 c =
     let found = c.in-Some.ensures.cases in
     c.split_at.ensures.back
-    ∙ hit_in (is_none_of c.args.a c.args.b c.args.c) c.loop-block.left.now c.in-Some.block.now c.in-Some.rest.now c.plain_front-n.result found.0 found.1 found.2 c.plain_front-n.ensures (omega (arith, c.if-n-lt16.true))
+    ∙ hit_in (is_none_of c.args.a c.args.b c.args.c) c.loop-block.rest.now c.in-Some.block.now c.in-Some.next.now c.plain_front-n.result found.0 found.1 found.2 c.plain_front-n.ensures (omega (arith, c.if-n-lt16.true))
     ∙ c.loop-block.invariant
 
 pub loop-block-preserved : goal.loop-block-preserved
 loop-block-preserved c =
     let found = c.in-Some.ensures.cases in
-    miss_in (is_none_of c.args.a c.args.b c.args.c) c.loop-block.left.now c.in-Some.block.now c.in-Some.rest.now c.plain_front-n.result found.0 found.1 found.2 c.plain_front-n.ensures (omega (arith, c.if-n-lt16.false))
+    miss_in (is_none_of c.args.a c.args.b c.args.c) c.loop-block.rest.now c.in-Some.block.now c.in-Some.next.now c.plain_front-n.result found.0 found.1 found.2 c.plain_front-n.ensures (omega (arith, c.if-n-lt16.false))
     ∙ c.loop-block.invariant

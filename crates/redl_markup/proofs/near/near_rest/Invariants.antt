@@ -3,7 +3,7 @@ use Rattle.redl_reading.specs.Lists.{after, is_none_of}
 use Rattle.redl_markup.proofs.near.near_rest.Given as goal
 
 abbrev pub invariant-loop-block : goal.invariant-loop-block
-invariant-loop-block l = after (is_none_of l.a l.b l.c) l.left ≡ after (is_none_of l.a l.b l.c) l.bytes
+invariant-loop-block l = after (is_none_of l.a l.b l.c) l.rest ≡ after (is_none_of l.a l.b l.c) l.bytes
 
 abbrev pub decreases-loop-block : goal.decreases-loop-block
-decreases-loop-block l = length l.left
+decreases-loop-block l = length l.rest

@@ -2,8 +2,8 @@ use Rattle.std.proofs.Common.{◌≡◌, length}
 use Rattle.redl_markup.specs.References.{has_references}
 use Rattle.redl_markup.proofs.reference.are_references.Given as goal
 
-abbrev pub invariant-loop-rest : goal.invariant-loop-rest
-invariant-loop-rest l = has_references l.left ≡ has_references l.bytes
+abbrev pub invariant-loop-next : goal.invariant-loop-next
+invariant-loop-next l = has_references l.rest ≡ has_references l.bytes
 
-abbrev pub decreases-loop-rest : goal.decreases-loop-rest
-decreases-loop-rest l = length l.left
+abbrev pub decreases-loop-next : goal.decreases-loop-next
+decreases-loop-next l = length l.rest

@@ -7,4 +7,4 @@ pub loop-first-preserved : goal.loop-first-preserved
 loop-first-preserved c =
     let number = c.loop-first.number in
     let step = c.min-number.ensures ∙ ap (λ d. min (number * c.args.base + d) BEYOND) c.digit.ensures in
-    (omega arith, number_step c.args.base number c.in-Some.first.now c.min-number.result c.loop-first.left.now c.in-Some.rest.now c.requires.positive c.in-Some.ensures.cases.0 step ∙ c.loop-first.invariant.1)
+    (omega arith, number_step c.args.base number c.in-Some.first.now c.min-number.result c.loop-first.rest.now c.in-Some.next.now c.requires.positive c.in-Some.ensures.cases.0 step ∙ c.loop-first.invariant.1)

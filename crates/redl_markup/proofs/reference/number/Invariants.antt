@@ -6,7 +6,7 @@ use Rattle.redl_markup.specs.References.{number_of}
 use Rattle.redl_markup.proofs.reference.number.Given as goal
 
 abbrev pub invariant-loop-first : goal.invariant-loop-first
-invariant-loop-first l = (l.number ≤ BEYOND) × (min (number_from_digits_after l.base l.number (map digit_value l.left)) BEYOND ≡ min (number_of l.base l.digits) BEYOND)
+invariant-loop-first l = (l.number ≤ BEYOND) × (min (number_from_digits_after l.base l.number (map digit_value l.rest)) BEYOND ≡ min (number_of l.base l.digits) BEYOND)
 
 abbrev pub decreases-loop-first : goal.decreases-loop-first
-decreases-loop-first l = length l.left
+decreases-loop-first l = length l.rest

@@ -18,12 +18,12 @@ returns-in_default c =
 
 pub loop-gap-smaller : goal.loop-gap-smaller
 loop-gap-smaller c =
-    first_shorter c.loop-gap.rest.now (attribute_view c.in-Some.attribute, c.in-Some.behind.now)
+    first_shorter c.loop-gap.rest.now (attribute_view c.in-Some.attribute, c.in-Some.next.now)
     (first_behind c.loop-gap.rest.now c.spaces.result.0.now c.spaces.result.1.now _ c.spaces.ensures.front c.spaces.ensures.rest c.in-Some.ensures)
 
 pub loop-gap-preserved : goal.loop-gap-preserved
 loop-gap-preserved c =
     let e : map name_view c.push.new.self.items ≡ map name_view c.loop-gap.names.items ++ name_view c.in-Some.attribute.name ∷ [] = rw c.in_ok-push.ensures.items (map_push name_view c.loop-gap.names.items c.in-Some.attribute.name) in
-    rw e (loop_goes (map name_view c.loop-gap.names.items, c.loop-gap.rest.now) c.spaces.result.1.now c.args.bytes.now (attribute_view c.in-Some.attribute, c.in-Some.behind.now)
+    rw e (loop_goes (map name_view c.loop-gap.names.items, c.loop-gap.rest.now) c.spaces.result.1.now c.args.bytes.now (attribute_view c.in-Some.attribute, c.in-Some.next.now)
     c.loop-gap.invariant c.spaces.ensures.rest (sym c.is_at_end.ensures ∙ c.if-is_at_end.false)
     (first_behind c.loop-gap.rest.now c.spaces.result.0.now c.spaces.result.1.now _ c.spaces.ensures.front c.spaces.ensures.rest c.in-Some.ensures))
