@@ -6,8 +6,8 @@ use Rattle.std.proofs.lemmas.Bool.{eqb-true, and_parts, cases_Bool, not-true, or
 use Rattle.std.proofs.lemmas.Bool.Decides.{nat_tests}
 use Rattle.std.proofs.lemmas.Option.{same_Some, cond_some, some_pair_parts, none-some}
 use lib.Utf8.{encode}
-use Rattle.redl_markup.specs.declared.place.Place.{Place}
-use Rattle.redl_markup.specs.declared.place.Place.TheVariants.{BeforeRoot, InElement, AfterRoot}
+use Rattle.redl_markup.specs.declared.piece.Place.{Place}
+use Rattle.redl_markup.specs.declared.piece.Place.TheVariants.{BeforeRoot, InElement, AfterRoot}
 use Rattle.redl_markup.specs.Characters.{is_space, is_name_start, is_name_character}
 use Rattle.redl_reading.specs.Lists.{behind, begins, front, after, is_filled}
 use Rattle.redl_reading.specs.Steps.{◌>>=◌, or_same}

@@ -1,8 +1,8 @@
 -- A comment, an instruction or CDATA is read exactly if the bytes begin with it.
 use Rattle.std.proofs.Common.{◌≡◌, ◌≢◌, ℕ, Bool, true, false, cond, eqb, List, [], ◌∷◌, ◌++◌, Option, Some, None, refl, sym, ap, subst, ◌∙◌, inl, inr}
 use Rattle.std.specs.Prelude.{not, ◌||◌, codes}
-use Rattle.redl_markup.specs.declared.place.Place.{Place}
-use Rattle.redl_markup.specs.declared.place.Place.TheVariants.{BeforeRoot, InElement, AfterRoot}
+use Rattle.redl_markup.specs.declared.piece.Place.{Place}
+use Rattle.redl_markup.specs.declared.piece.Place.TheVariants.{BeforeRoot, InElement, AfterRoot}
 use Rattle.redl_markup.specs.Characters.{is_space}
 use Rattle.redl_reading.specs.Lists.{behind, begins, lacks, past}
 use Rattle.redl_markup.specs.Stretches.{is_comment, begins_other, is_xml, is_apart, IsInstruction, Item, comment, instruction, cdata, item_then, IsItem, begins_item}

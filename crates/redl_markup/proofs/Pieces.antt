@@ -7,7 +7,7 @@ use Rattle.std.proofs.lemmas.Bool.{eqb-true, and_parts, cases_Bool, not-true}
 use Rattle.std.proofs.lemmas.Option.{some_pair_parts, none-some}
 use Rattle.redl_markup.specs.declared.error.MarkupError.{MarkupError}
 use Rattle.redl_markup.specs.declared.error.MarkupError.TheVariants.{Unreadable, NoMemory}
-use Rattle.redl_markup.specs.declared.place.Place.{Place}
+use Rattle.redl_markup.specs.declared.piece.Place.{Place}
 use Rattle.redl_reading.specs.Lists.{behind, begins, is_other}
 use Rattle.redl_markup.specs.Reading.{Finds}
 use Rattle.redl_markup.specs.Names.{Name, name_text, IsName}

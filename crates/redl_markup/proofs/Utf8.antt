@@ -7,7 +7,7 @@ use Rattle.std.proofs.lemmas.Bool.{eqb-true, and_parts}
 use Rattle.std.proofs.lemmas.Bool.Decides.{nat_tests}
 use Rattle.std.proofs.lemmas.List.{take_at, drop_at, get_or_at}
 use Rattle.std.proofs.lemmas.Str.{IsUtf8-nil, IsUtf8-take, IsUtf8-drop, IsCharBoundary-before_ascii, IsCharBoundary-after_ascii}
-use Rattle.redl_markup.specs.declared.place.Place.{Place}
+use Rattle.redl_markup.specs.declared.piece.Place.{Place}
 use Rattle.redl_markup.specs.Characters.{is_space}
 use Rattle.redl_reading.specs.Steps.{Gives}
 use Rattle.redl_markup.specs.Names.{Name, name_text, IsWord}

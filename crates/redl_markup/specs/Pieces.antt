@@ -1,6 +1,6 @@
 -- The pieces of a text: a start tag, an empty tag, an end tag, and a stretch without a tag (XML 1.0, productions 39 to 44).
 use Rattle.std.specs.Prelude.{◌≡◌, ℕ, true, List, ◌∷◌, ◌++◌}
-use Rattle.redl_markup.specs.declared.place.Place.{Place}
+use Rattle.redl_markup.specs.declared.piece.Place.{Place}
 use Rattle.redl_markup.specs.Names.{Name, name_text, IsName}
 use Rattle.redl_markup.specs.Tails.{IsSpace, IsTail}
 use Rattle.redl_markup.specs.Stretches.{IsStretch, ends_stretch}

@@ -1,6 +1,6 @@
 -- Reading one piece from the left.
 use Rattle.std.specs.Prelude.{ℕ, List, Option, Some, None, if◌then◌else◌, codes}
-use Rattle.redl_markup.specs.declared.place.Place.{Place}
+use Rattle.redl_markup.specs.declared.piece.Place.{Place}
 use Rattle.redl_reading.specs.Lists.{behind}
 use Rattle.redl_markup.specs.Stretches.{begins_item}
 use Rattle.redl_markup.specs.Pieces.{Piece}

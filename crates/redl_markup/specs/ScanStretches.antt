@@ -1,7 +1,7 @@
 -- Reading a stretch from the left.
 use Rattle.std.specs.Prelude.{ℕ, suc, Bool, true, false, ◌||◌, List, [], ◌∷◌, length, Option, Some, None, if◌then◌else◌, codes}
-use Rattle.redl_markup.specs.declared.place.Place.{Place}
-use Rattle.redl_markup.specs.declared.place.Place.TheVariants.{BeforeRoot, InElement, AfterRoot}
+use Rattle.redl_markup.specs.declared.piece.Place.{Place}
+use Rattle.redl_markup.specs.declared.piece.Place.TheVariants.{BeforeRoot, InElement, AfterRoot}
 use Rattle.redl_markup.specs.Characters.{is_space}
 use Rattle.redl_reading.specs.Lists.{behind, begins, past, front, after, before, is_filled, is_other}
 use Rattle.redl_reading.specs.Steps.{◌>>=◌, or_same, Turn, done, turns, go_on}

@@ -3,8 +3,8 @@ use Rattle.std.specs.Prelude.{◌≡◌, ◌≢◌, ℕ, Bool, true, false, ◌=
 use Rattle.std.specs.List.{list_all, AllByRecursion}
 use Rattle.std.specs.Char.{is_ascii_digit}
 use Rattle.std.specs.Str.{str_eq_ignore_ascii_case, bytes_eq}
-use Rattle.redl_markup.specs.declared.place.Place.{Place}
-use Rattle.redl_markup.specs.declared.place.Place.TheVariants.{BeforeRoot, InElement, AfterRoot}
+use Rattle.redl_markup.specs.declared.piece.Place.{Place}
+use Rattle.redl_markup.specs.declared.piece.Place.TheVariants.{BeforeRoot, InElement, AfterRoot}
 use Rattle.redl_markup.specs.Characters.{is_space}
 use Rattle.redl_reading.specs.Lists.{begins, behind, lacks, is_other, is_filled}
 use Rattle.redl_markup.specs.Names.{IsWord}

@@ -9,11 +9,10 @@ ghost use Rattle.redl_reading.specs.Steps.{Gives};
 ghost use Rattle.redl_markup.specs.ScanTags.{quote_at, opening_at, equated_at, is_plain, is_value, value_at, attribute_at, attribute_behind, attribute_in};
 ghost use Rattle.redl_markup.specs.Views.{attribute_view};
 
-use crate::name::Name;
+use crate::name::{Name, whole_name};
 use crate::near::near_until_any;
 use crate::reference::are_references;
 use crate::space::spaces;
-use crate::word::name;
 use redl_reading::{field, skip};
 
 /// An attribute as it is written: its name, and its value without the quotes.
@@ -105,7 +104,7 @@ fn value(bytes: &[u8]) -> Option<(&[u8], &[u8])>
 fn attribute_behind_gap(bytes: &[u8]) -> Option<(Attribute<'_>, &[u8])>
     ensures { Gives (λ x. (attribute_view x.0, x.1.now)) result (attribute_at bytes.now) }
 {
-    let (name, rest) = name(bytes)?;
+    let (name, rest) = whole_name(bytes)?;
     let (value, rest) = value(rest)?;
     Some((Attribute { name, value }, rest))
 }

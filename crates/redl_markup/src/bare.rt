@@ -3,7 +3,7 @@
 ghost use Rattle.std.specs.Prelude.{◌≡◌, ◌++◌, true};
 ghost use Rattle.redl_reading.specs.Lists.{before};
 ghost use Rattle.redl_reading.specs.Steps.{Gives};
-ghost use Rattle.redl_markup.specs.declared.place.Place.TheVariants.{InElement};
+ghost use Rattle.redl_markup.specs.declared.piece.Place.TheVariants.{InElement};
 ghost use Rattle.redl_markup.specs.Names.{name_text};
 ghost use Rattle.redl_markup.specs.References.{is_there};
 ghost use Rattle.redl_markup.specs.ScanTags.{attributes_end, tail_at, tag_at};
@@ -13,12 +13,11 @@ ghost use Rattle.redl_markup.specs.Views.{name_view};
 
 use crate::attribute::attribute_behind;
 use crate::item::begins_item;
-use crate::name::Name;
-use crate::place::Place;
+use crate::name::{Name, whole_name};
+use crate::piece::Place;
 use crate::space::spaces;
 use crate::stretch::stretch;
 use crate::tag::{end_tag, is_at_end};
-use crate::word::name;
 use redl_reading::{before, skip};
 use std::marker::Model;
 
@@ -118,7 +117,7 @@ fn known_tag(bytes: &[u8]) -> Option<(BarePiece<'_>, &[u8])>
     requires { is_there (tag_at bytes.now) ≡ true }
     ensures { Gives (λ x. (bare_view x.0, x.1.now)) result (tag_at bytes.now) }
 {
-    let (name, rest) = name(bytes)?;
+    let (name, rest) = whole_name(bytes)?;
     let end = known_tail(rest)?;
     let tag = BareTag::new(name, before(rest, end), before(bytes, end));
     if let Some(rest) = skip(end, b">") {

@@ -8,7 +8,7 @@ ghost use Rattle.redl_markup.specs.Stretches.{is_version, is_encoding, is_standa
 ghost use Rattle.redl_markup.specs.ScanStretches.{setting_at, optional_after, version_at, declaration_at, after_mark, after_declaration, after_head};
 
 use crate::attribute::equated;
-use crate::place::Place;
+use crate::piece::Place;
 use crate::space::spaces;
 use redl_reading::skip;
 

@@ -5,9 +5,9 @@ ghost use Rattle.redl_reading.specs.Steps.{Gives};
 ghost use Rattle.redl_markup.specs.Stretches.{is_xml, begins_item};
 ghost use Rattle.redl_markup.specs.ScanStretches.{comment_at, begins_with_space, instruction_end, instruction_at, cdata_at, item_at};
 
-use crate::place::Place;
+use crate::name::word;
+use crate::piece::Place;
 use crate::space::is_space;
-use crate::word::word;
 use redl_reading::{past, skip};
 
 // The bytes after a comment, given those after its `<!--`.

@@ -4,7 +4,7 @@ ghost use Rattle.std.specs.Prelude.{◌≡◌, ℕ, List, map};
 ghost use Rattle.redl_markup.specs.Attributes.{attributes_of};
 ghost use Rattle.redl_markup.specs.Pieces.{Piece, Stands};
 ghost use Rattle.redl_markup.specs.Tails.{IsTail, named_value};
-ghost use Rattle.redl_markup.specs.declared.place.Place.{Place};
+ghost use Rattle.redl_markup.specs.declared.piece.Place.{Place};
 
 /// No bytes begin with two different pieces.
 pub fn one_piece()

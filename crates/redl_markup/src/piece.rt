@@ -1,4 +1,4 @@
-//! The pieces of a text.
+//! The pieces of a text, and where they are in it.
 
 ghost use Rattle.std.specs.Prelude.{◌≡◌, ◌++◌, map};
 ghost use Rattle.redl_markup.specs.Names.{name_text};
@@ -98,4 +98,15 @@ pub enum Piece<'a> {
     End(Name<'a>, &'a [u8]),
     /// The longest stretch without a tag.
     Stretch(&'a [u8]),
+}
+
+/// The position of a piece in a text, which decides what a stretch without a tag may be.
+#[derive(Clone, Copy, Debug, PartialEq, Eq)]
+pub enum Place {
+    /// From the start of the text to its root: a byte order mark, an XML declaration, white space, comments and instructions.
+    BeforeRoot,
+    /// In an element: character data, references, comments, instructions and CDATA.
+    InElement,
+    /// After the root: white space, comments and instructions.
+    AfterRoot,
 }

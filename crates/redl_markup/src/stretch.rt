@@ -8,12 +8,12 @@ ghost use Rattle.redl_reading.specs.Steps.{Gives};
 ghost use Rattle.redl_markup.specs.Stretches.{is_run, ends_stretch};
 ghost use Rattle.redl_markup.specs.ScanStretches.{items_end, stretch_at};
 ghost use Rattle.redl_markup.specs.Pieces.{stretch as a_stretch};
-ghost use Rattle.redl_markup.specs.declared.place.Place.TheVariants.{InElement};
+ghost use Rattle.redl_markup.specs.declared.piece.Place.TheVariants.{InElement};
 
 use crate::declaration::after_head;
 use crate::item::{begins_item, item};
 use crate::near::near_until_any;
-use crate::place::Place;
+use crate::piece::Place;
 use crate::reference::are_references;
 use crate::space::is_space;
 use redl_reading::{before, far_until};

@@ -13,10 +13,9 @@ ghost use Rattle.redl_markup.specs.Pieces.{end_tag as an_end_tag};
 use crate::attribute::attribute_behind;
 use crate::distinct::no_two_alike;
 use crate::error::MarkupError;
-use crate::name::Name;
+use crate::name::{Name, whole_name};
 use crate::piece::{Piece, StartTag};
 use crate::space::spaces;
-use crate::word::name;
 use redl_reading::{before, skip};
 use std::alloc::Global;
 use std::mem;
@@ -88,7 +87,7 @@ pub(crate) fn start_tag<'a>(
 ) -> Result<(Piece<'a>, &'a [u8]), MarkupError>
     ensures { Finds (λ x. (piece_view x.0, x.1.now)) result (tag_at bytes.entry.now) }
 {
-    let Some((name, rest)) = name(bytes) else {
+    let Some((name, rest)) = whole_name(bytes) else {
         return Err(MarkupError::Unreadable);
     };
     let list = mem::replace(list, Vec::new(alloc));
@@ -109,7 +108,7 @@ pub(crate) fn start_tag<'a>(
 pub(crate) fn end_tag(bytes: &[u8]) -> Option<(Name<'_>, &[u8], &[u8])>
     ensures { Gives (λ x. (an_end_tag (name_view x.0) x.1.now, x.2.now)) result (end_tag_at bytes.now) }
 {
-    let (name, rest) = name(bytes)?;
+    let (name, rest) = whole_name(bytes)?;
     let (space, rest) = spaces(rest);
     let rest = skip(rest, b">")?;
     Some((name, space, rest))

@@ -12,7 +12,7 @@ use Rattle.redl_tree.specs.declared.kinds.Space.{Space}
 use Rattle.redl_tree.specs.declared.kinds.Kind.{Kind}
 use Rattle.redl_tree.specs.declared.kinds.Kind.TheVariants.{Plain}
 use Rattle.redl_tree.proofs.Laws.{⊕-no_nodes, ⊕_assoc}
-use Rattle.redl_markup.specs.declared.place.Place.TheVariants.{InElement}
+use Rattle.redl_markup.specs.declared.piece.Place.TheVariants.{InElement}
 use Rattle.redl_reading.specs.Lists.{is_other}
 use Rattle.redl_reading.specs.Steps.{or_same, turns}
 use Rattle.redl_reading.proofs.Turns.{enough}

@@ -5,7 +5,7 @@ use Rattle.redl_tree.specs.Model.Nodes.{Tag, Nodes, no_nodes, bytes, element, Cl
 use Rattle.redl_tree.specs.declared.kinds.Space.{Space}
 use Rattle.redl_reading.specs.Lists.{before}
 use Rattle.redl_reading.proofs.Words.{before-append}
-use Rattle.redl_markup.specs.declared.place.Place.TheVariants.{InElement}
+use Rattle.redl_markup.specs.declared.piece.Place.TheVariants.{InElement}
 use Rattle.redl_markup.specs.References.{is_there}
 use Rattle.redl_markup.specs.Names.{Name, name_text}
 use Rattle.redl_markup.specs.Pieces.{Piece, start_tag, empty_tag, end_tag, stretch, piece_then, IsPiece}

@@ -6,7 +6,7 @@ use Rattle.redl_tree.specs.declared.kinds.Kind.{Kind}
 use Rattle.redl_tree.specs.declared.kinds.Kind.TheVariants.{Plain}
 use Rattle.redl_tree.specs.Model.Nodes.{Close, Empty, End}
 use Rattle.redl_tree.proofs.Laws.{⊕-no_nodes, ⊕_assoc}
-use Rattle.redl_markup.specs.declared.place.Place.TheVariants.{InElement}
+use Rattle.redl_markup.specs.declared.piece.Place.TheVariants.{InElement}
 use Rattle.redl_reading.specs.Steps.{turns}
 use Rattle.redl_markup.specs.Names.{Name, name_text, name_eq}
 use Rattle.redl_markup.specs.Stretches.{ends_stretch}

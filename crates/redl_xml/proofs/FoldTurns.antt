@@ -4,7 +4,7 @@ use Rattle.redl_tree.specs.Model.Nodes.{Tag, Nodes, no_nodes, bytes, element, �
 use Rattle.redl_tree.specs.Model.Nodes.{Close, Empty, End}
 use Rattle.redl_tree.specs.declared.kinds.Space.{Space}
 use Rattle.redl_tree.proofs.Laws.{⊕-no_nodes, ⊕_assoc}
-use Rattle.redl_markup.specs.declared.place.Place.TheVariants.{InElement}
+use Rattle.redl_markup.specs.declared.piece.Place.TheVariants.{InElement}
 use Rattle.redl_markup.specs.Names.{name_text}
 use Rattle.redl_markup.specs.Pieces.{Piece, start_tag, empty_tag, end_tag, stretch, piece_then, IsPiece, Follows}
 use Rattle.redl_markup.specs.ScanPieces.{piece_at}

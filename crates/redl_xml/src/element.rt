@@ -3,7 +3,7 @@
 ghost use Rattle.std.specs.Prelude.{◌≡◌, ◌≤◌, IfOk, IfSome, Some};
 ghost use Rattle.redl_tree.specs.Model.View.{nodes_of};
 ghost use Rattle.redl_markup.specs.Reading.{Finds};
-ghost use Rattle.redl_markup.specs.declared.place.Place.TheVariants.{InElement};
+ghost use Rattle.redl_markup.specs.declared.piece.Place.TheVariants.{InElement};
 ghost use Rattle.redl_markup.specs.ScanPieces.{piece_at};
 ghost use Rattle.redl_markup.specs.PieceViews.{piece_view};
 ghost use Rattle.redl_xml.specs.Inside.Buildings.{building_view};

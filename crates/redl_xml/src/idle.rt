@@ -1,7 +1,7 @@
 //! Elements that are passed over as they stand.
 
 ghost use Rattle.std.specs.Prelude.{◌≡◌, ◌==◌, length, true, false, option_map, IfOk, IfSome, IsNone, Some, if◌then◌else◌};
-ghost use Rattle.redl_markup.specs.declared.place.Place.TheVariants.{InElement};
+ghost use Rattle.redl_markup.specs.declared.piece.Place.TheVariants.{InElement};
 ghost use Rattle.redl_markup.specs.ScanPieces.{piece_at};
 ghost use Rattle.redl_tree.specs.declared.kinds.Space.TheVariants.{W};
 ghost use Rattle.redl_tree.specs.Model.Folds.{nodes_in};

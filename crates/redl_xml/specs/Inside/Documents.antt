@@ -2,8 +2,8 @@
 use Rattle.std.specs.Prelude.{ℕ, List, [], ◌∷◌, Option, Some, None, if◌then◌else◌}
 use Rattle.std.specs.Option.{option_map}
 use Rattle.redl_tree.specs.Model.Nodes.{Nodes, no_nodes, bytes, ◌⊕◌}
-use Rattle.redl_markup.specs.declared.place.Place.{Place}
-use Rattle.redl_markup.specs.declared.place.Place.TheVariants.{BeforeRoot, AfterRoot}
+use Rattle.redl_markup.specs.declared.piece.Place.{Place}
+use Rattle.redl_markup.specs.declared.piece.Place.TheVariants.{BeforeRoot, AfterRoot}
 use Rattle.redl_reading.specs.Lists.{is_filled}
 use Rattle.redl_reading.specs.Steps.{◌>>=◌}
 use Rattle.redl_markup.specs.Pieces.{Piece, start_tag, empty_tag, end_tag, stretch}

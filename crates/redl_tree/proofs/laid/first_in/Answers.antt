@@ -1,5 +1,5 @@
 use Rattle.std.proofs.Common.{◌∙◌, ℕ, ap, sym, refl, true≢false, List, [], length, arith}
-use Rattle.redl_markup.specs.declared.place.Place.TheVariants.{InElement}
+use Rattle.redl_markup.specs.declared.piece.Place.TheVariants.{InElement}
 use Rattle.redl_markup.specs.PieceViews.{bare_view}
 use Rattle.redl_markup.specs.Views.{name_view}
 use Rattle.redl_markup.specs.Pieces.{start_tag, empty_tag, end_tag, stretch}

@@ -1,6 +1,6 @@
 use Rattle.std.proofs.Common.{Some, sym}
 use Rattle.redl_markup.proofs.Names.{bytes_end, bytes_stop, bytes_go}
-use Rattle.redl_markup.proofs.word.end_of_name.Goals as goal
+use Rattle.redl_markup.proofs.name.end_of_name.Goals as goal
 
 pub returns-in_default : goal.returns-in_default
 returns-in_default c = bytes_end c.args.colons c.args.bytes.now c.after_name_bytes-rest.result.now c.after_name_bytes-rest.ensures c.in_default.ensures.value

@@ -1,6 +1,6 @@
 use Rattle.std.proofs.Common.{◌∙◌, sym}
 use Rattle.redl_markup.proofs.Names.{char_takes, loop_begins, loop_goes, loop_ends, loop_stops}
-use Rattle.redl_markup.proofs.word.end_of_characters.Goals as goal
+use Rattle.redl_markup.proofs.name.end_of_characters.Goals as goal
 
 pub loop-c-init : goal.loop-c-init
 loop-c-init c = loop_begins c.args.colons c.args.bytes.now
