@@ -45,7 +45,7 @@ use std::alloc::Global;
 ///
 /// A command that asks for a format takes the first one with the name out of its list, `list` out of `formats` and `report` out of
 /// `reports`. No format of the lists is closed or has a row or a line.
-/// `out` gains the bytes of the call's outcome with `Done` and `Refused`, a front of them with `WriteFault`, and nothing
+/// `out` gains the bytes of the call's outcome with `Done` and `Refused`, a prefix of them with `WriteFault`, and nothing
 /// with any other status. A fault of `err` changes no status. An allocation may fail wherever memory is taken, and then
 /// nothing was put on `out`.
 pub fn run<F: Shelf, O: Sink, E: Sink>(
@@ -74,8 +74,8 @@ pub fn run<F: Shelf, O: Sink, E: Sink>(
         (F.told shelf.old) (Rose (F.faults shelf.old) (F.faults shelf.new)) }
     ensures write { result ≡ Status.WriteFault → Rose (O.faults out.old) (O.faults out.new) }
 
-    // A command asks for a front of its files, in their order, each once: for all of them where its output was put. The line of a read
-    // fault tells the last name. Other words ask for none.
+    // A command asks for the first ones of its files, in their order, each once: for all of them where its output was put. The line of
+    // a read fault tells the last name. Other words ask for none.
     ensures asked { (command : CommandOf) → IsCommand words.now command → Asks (F.asked shelf.old) (F.asked shelf.new)
         (files_of (brought_by format_name text_for formats.old.items report_name report_text reports.old.items skin.now) (plan command))
         result (Tells E.told E.faults err.old err.new) }

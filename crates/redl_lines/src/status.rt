@@ -17,7 +17,7 @@ pub enum Status {
     Journal = 4,
     /// A file is missing, or couldn't be fetched.
     ReadFault = 5,
-    /// The output failed; a front of it went out.
+    /// The output failed; a prefix of it went out.
     WriteFault = 6,
     /// A quantity is over its limit.
     Limit = 7,

@@ -199,7 +199,7 @@ fn wide_shelf(alloc: Global) -> Result<MemShelf, AllocError> {
     Ok(MemShelf::new(files, Vec::new(alloc)))
 }
 
-// Each put of a call fails in turn, and takes as many bytes as its number says. What is out is a front of the whole.
+// Each put of a call fails in turn, and takes as many bytes as its number says. What is out is a prefix of the whole.
 fn expect_puts(
     rt: &impl Abort,
     alloc: Global,
