@@ -487,8 +487,9 @@ fn begins_with(
     Ok(first_piece(alloc, &text, Place::InElement).0 == want)
 }
 
+// A reading that took more than linear time would hardly end here, nor in the next test.
 #[test]
-fn long_stretches_take_linear_time(rt: HostRuntime) -> Result<(), Fail> {
+fn a_piece_may_have_megabytes(rt: HostRuntime) -> Result<(), Fail> {
     for (start, part, end, want) in [
         ("", "]]", "", "stretch"),
         ("", "&&", "", "unreadable"),
@@ -506,7 +507,7 @@ fn push_attribute(alloc: Global, tag: &mut Vec<u8>, number: u32) -> Result<(), F
 }
 
 #[test]
-fn many_attributes_take_little_more_than_linear_time(rt: HostRuntime) -> Result<(), Fail> {
+fn a_tag_may_have_a_hundred_thousand_attributes(rt: HostRuntime) -> Result<(), Fail> {
     let mut tag = b"<a".to_vec(rt.alloc())?;
     for number in 0..100_000u32 {
         push_attribute(rt.alloc(), &mut tag, number)?;
