@@ -4,7 +4,8 @@ ghost use Rattle.std.specs.Prelude.{◌≡◌, ◌+◌, ◌≤◌, ◌++◌, ◌
 
 use std::alloc::{AllocError, Global};
 
-/// The items that a format was given, the text so far, and whether it was closed.
+/// The items that a format was given, the text so far, and whether it was closed. No code reads the items: a format keeps them so
+/// that `rows_so_far` and `lines_so_far` of its clauses have a value.
 #[derive(Drop)]
 pub(crate) struct Draft<I> {
     pub(crate) items: Vec<I>,
