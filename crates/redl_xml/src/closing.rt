@@ -16,14 +16,14 @@ fn behind_word<'a>(bytes: &'a [u8], word: &[u8]) -> Option<&'a [u8]>
     ensures { Gives (λ rest. rest.now) result (behind word.now bytes.now) }
 {
     let mut rest = bytes;
-    let mut left = word;
-    while let Some((wanted, more)) = left.split_first() {
-        let (byte, behind) = rest.split_first()?;
+    let mut word_rest = word;
+    while let Some((wanted, word_next)) = word_rest.split_first() {
+        let (byte, next) = rest.split_first()?;
         if byte != wanted {
             return None;
         }
-        rest = behind;
-        left = more;
+        rest = next;
+        word_rest = word_next;
     }
     Some(rest)
 }

@@ -89,8 +89,8 @@ fn read_document(alloc: Global, limits: Limits, bytes: &[u8]) -> Result<Document
 {
     let (before, root) = stretch(alloc, bytes, Place::BeforeRoot)?;
     let element = read_element(alloc, limits, root)?;
-    let (after, end) = stretch(alloc, element.rest, Place::AfterRoot)?;
-    if !end.is_empty() {
+    let (after, rest) = stretch(alloc, element.rest, Place::AfterRoot)?;
+    if !rest.is_empty() {
         return Err(MarkupError::Unreadable);
     }
     let mut sizes = element.sizes;

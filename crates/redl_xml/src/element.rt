@@ -97,11 +97,11 @@ pub(crate) fn read_element(
     let mut tries = Tries::new(alloc, bytes);
     loop {
         let ahead = pass_over(alloc, limits, &mut building, &mut sizes, &mut tries, rest)?;
-        let (piece, behind) = piece_ahead(alloc, &mut tries.list, ahead)?;
+        let (piece, next) = piece_ahead(alloc, &mut tries.list, ahead)?;
         sizes.add_piece(limits.nodes, &piece, building.open.len() + 1);
         building.place(alloc, &mut tries.list, piece)?;
         building.keep_within(limits, sizes);
-        rest = behind;
+        rest = next;
         if building.open.is_empty() {
             return Ok(Element {
                 nodes: building.kids,

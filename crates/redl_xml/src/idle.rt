@@ -232,15 +232,15 @@ fn ended<'a>(
     idle: Option<Idle<'a>>,
     depth: usize,
     piece: Piece<'a>,
-    behind: &'a [u8],
+    rest: &'a [u8],
 ) -> Tried<'a>
     ensures idle { result.idle ≡ idle.entry }
-    ensures next { IfSome result.next (λ x. (depth ≡ 1) × (x ≡ (piece.entry, behind.entry))) }
+    ensures next { IfSome result.next (λ x. (depth ≡ 1) × (x ≡ (piece.entry, rest.entry))) }
 {
     if depth == 1 {
         return Tried {
             idle,
-            next: Some((piece, behind)),
+            next: Some((piece, rest)),
         };
     }
     give_back(list, piece);
@@ -274,7 +274,7 @@ pub(crate) fn skip_idle<'a>(
             continue;
         }
         tries.left = now.rest.len();
-        let Some((piece, behind)) = some_piece(alloc, &mut tries.list, now.rest)? else {
+        let Some((piece, rest)) = some_piece(alloc, &mut tries.list, now.rest)? else {
             return Ok(Tried {
                 idle: whole,
                 next: None,
@@ -282,10 +282,10 @@ pub(crate) fn skip_idle<'a>(
         };
         let depth = tries.names.len() + 1;
         if !pass_piece(scopes, &mut tries.names, &piece)? {
-            return Ok(ended(&mut tries.list, whole, depth, piece, behind));
+            return Ok(ended(&mut tries.list, whole, depth, piece, rest));
         }
         now = Idle {
-            rest: behind,
+            rest,
             nodes: now.nodes + nodes_of_piece(&piece),
             elems: now.elems + elems_of_piece(&piece),
             deepest: deepest_of_piece(&piece, depth, now.deepest),

@@ -131,10 +131,10 @@ fn declare_attributes<'a>(
 ) -> Result<(), MarkupError>
     ensures { Finds (λ _. scopes.new) result (with_attributes (attributes_of tail.entry.now) scopes.old) }
 {
-    let mut more = tail;
-    while let Some((attribute, rest)) = next_attribute(more) {
+    let mut rest = tail;
+    while let Some((attribute, next)) = next_attribute(rest) {
         declare_attribute(scopes, alloc, attribute)?;
-        more = rest;
+        rest = next;
     }
     Ok(())
 }
@@ -143,12 +143,12 @@ fn declare_attributes<'a>(
 fn are_known<'a>(scopes: &Spaces<'a>, tail: &'a [u8]) -> bool
     ensures { result ≡ list_all (is_known_attribute scopes.now) (attributes_of tail.now) }
 {
-    let mut more = tail;
-    while let Some((attribute, rest)) = next_attribute(more) {
+    let mut rest = tail;
+    while let Some((attribute, next)) = next_attribute(rest) {
         if !is_known_attribute(scopes, attribute.name) {
             return false;
         }
-        more = rest;
+        rest = next;
     }
     true
 }

@@ -3,7 +3,7 @@ use Rattle.redl_reading.specs.Lists.{behind}
 use Rattle.redl_xml.proofs.closing.behind_word.Given as goal
 
 abbrev pub invariant-loop-wanted : goal.invariant-loop-wanted
-invariant-loop-wanted l = behind l.left l.rest ≡ behind l.word l.bytes
+invariant-loop-wanted l = behind l.word_rest l.rest ≡ behind l.word l.bytes
 
 abbrev pub decreases-loop-wanted : goal.decreases-loop-wanted
-decreases-loop-wanted l = length l.left
+decreases-loop-wanted l = length l.word_rest

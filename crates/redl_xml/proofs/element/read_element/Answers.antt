@@ -43,7 +43,7 @@ returns-in_err-place-clause-sizes c =
     let ahead = c.in_ok-ahead.ahead.rest.now in
     let here = reading_ahead c.args.limits c.args.bytes.now l.rest.now ahead (building_view l.building) (building_view b0) l.sizes sizes l.invariant c.in_ok-ahead.ensures.ahead in
     let p = err_from_is_err_and c.from_residual-in_err-place.result c.from_residual-in_err-place.ensures.1 in
-    rw (p.1, p.2) (reading_refuses c.args.limits ahead (piece_view c.in_ok-piece.piece, c.in_ok-piece.behind.now) (building_view b0) sizes c.args.bytes.now c.in_err-place.field-0.0 here c.in_ok-piece.ensures
+    rw (p.1, p.2) (reading_refuses c.args.limits ahead (piece_view c.in_ok-piece.piece, c.in_ok-piece.next.now) (building_view b0) sizes c.args.bytes.now c.in_err-place.field-0.0 here c.in_ok-piece.ensures
     (λ e. c.in_err-place.ensures.unreadable (ap (λ (x : MarkupError). Err x) e)))
 
 pub returns-then-is_empty-clause-sizes : goal.returns-then-is_empty-clause-sizes
@@ -57,7 +57,7 @@ returns-then-is_empty-clause-sizes c =
     let len : c.len.result ≡ length b0.open.items = omega (arith, c.len.ensures, b0.open.ok.0) in
     let turn = turned c.args.limits (piece_view c.in_ok-piece.piece) b0 c.place.new.self b sizes c.add_piece.new.self c.len.result len c.in_ok-place.ensures.ok (record { deepest = c.add_piece.ensures.deepest; nodes = c.add_piece.ensures.nodes }) c.keep_within.ensures.rest c.keep_within.ensures.kept in
     let none : length (building_view b).open_elements ≡ 0 = grind (arith, c.is_empty.ensures, c.if-is_empty.true, b.open.ok.0, length-open b.open.items b.before.items) in
-    (reading_ends c.args.limits ahead (piece_view c.in_ok-piece.piece, c.in_ok-piece.behind.now) (building_view b0) (building_view b) sizes c.add_piece.new.self c.args.bytes.now here c.in_ok-piece.ensures turn none).0
+    (reading_ends c.args.limits ahead (piece_view c.in_ok-piece.piece, c.in_ok-piece.next.now) (building_view b0) (building_view b) sizes c.add_piece.new.self c.args.bytes.now here c.in_ok-piece.ensures turn none).0
 
 pub returns-then-is_empty-clause-nodes : goal.returns-then-is_empty-clause-nodes
 returns-then-is_empty-clause-nodes c =
@@ -70,13 +70,13 @@ returns-then-is_empty-clause-nodes c =
     let len : c.len.result ≡ length b0.open.items = omega (arith, c.len.ensures, b0.open.ok.0) in
     let turn = turned c.args.limits (piece_view c.in_ok-piece.piece) b0 c.place.new.self b sizes c.add_piece.new.self c.len.result len c.in_ok-place.ensures.ok (record { deepest = c.add_piece.ensures.deepest; nodes = c.add_piece.ensures.nodes }) c.keep_within.ensures.rest c.keep_within.ensures.kept in
     let none : length (building_view b).open_elements ≡ 0 = grind (arith, c.is_empty.ensures, c.if-is_empty.true, b.open.ok.0, length-open b.open.items b.before.items) in
-    (reading_ends c.args.limits ahead (piece_view c.in_ok-piece.piece, c.in_ok-piece.behind.now) (building_view b0) (building_view b) sizes c.add_piece.new.self c.args.bytes.now here c.in_ok-piece.ensures turn none).1
+    (reading_ends c.args.limits ahead (piece_view c.in_ok-piece.piece, c.in_ok-piece.next.now) (building_view b0) (building_view b) sizes c.add_piece.new.self c.args.bytes.now here c.in_ok-piece.ensures turn none).1
 
 pub loop-tries-smaller : goal.loop-tries-smaller
 loop-tries-smaller c =
     let l = c.loop-tries in
     let ahead = c.in_ok-ahead.ahead.rest.now in
-    omega (arith, piece_shorter InElement ahead (piece_view c.in_ok-piece.piece, c.in_ok-piece.behind.now) c.in_ok-piece.ensures, ahead_shorter c.args.limits l.rest.now ahead (building_view l.building) (building_view c.pass_over.new.building) l.sizes c.pass_over.new.sizes c.in_ok-ahead.ensures.ahead)
+    omega (arith, piece_shorter InElement ahead (piece_view c.in_ok-piece.piece, c.in_ok-piece.next.now) c.in_ok-piece.ensures, ahead_shorter c.args.limits l.rest.now ahead (building_view l.building) (building_view c.pass_over.new.building) l.sizes c.pass_over.new.sizes c.in_ok-ahead.ensures.ahead)
 
 pub loop-tries-preserved : goal.loop-tries-preserved
 loop-tries-preserved c =
@@ -89,4 +89,4 @@ loop-tries-preserved c =
     let len : c.len.result ≡ length b0.open.items = omega (arith, c.len.ensures, b0.open.ok.0) in
     let turn = turned c.args.limits (piece_view c.in_ok-piece.piece) b0 c.place.new.self b sizes c.add_piece.new.self c.len.result len c.in_ok-place.ensures.ok (record { deepest = c.add_piece.ensures.deepest; nodes = c.add_piece.ensures.nodes }) c.keep_within.ensures.rest c.keep_within.ensures.kept in
     let some : length (building_view b).open_elements ≢ 0 = grind (arith, c.is_empty.ensures, c.if-is_empty.false, b.open.ok.0, length-open b.open.items b.before.items) in
-    reading_goes c.args.limits ahead (piece_view c.in_ok-piece.piece, c.in_ok-piece.behind.now) (building_view b0) (building_view b) sizes c.add_piece.new.self c.args.bytes.now here c.in_ok-piece.ensures turn some
+    reading_goes c.args.limits ahead (piece_view c.in_ok-piece.piece, c.in_ok-piece.next.now) (building_view b0) (building_view b) sizes c.add_piece.new.self c.args.bytes.now here c.in_ok-piece.ensures turn some

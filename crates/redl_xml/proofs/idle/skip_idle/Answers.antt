@@ -15,23 +15,23 @@ loop-rest-init c = rw c.clear.ensures.items (record { passing = passing_begins (
 
 pub loop-rest-smaller : goal.loop-rest-smaller
 loop-rest-smaller c =
-    let read : piece_at InElement c.loop-rest.now.rest.now ≡ Some (piece_view c.in-Some-2.piece, c.in-Some-2.behind.now) = rw c.in-Some-2.is at c.in_ok-piece.ensures in
-    piece_shorter InElement c.loop-rest.now.rest.now (piece_view c.in-Some-2.piece, c.in-Some-2.behind.now) read
+    let read : piece_at InElement c.loop-rest.now.rest.now ≡ Some (piece_view c.in-Some-2.piece, c.in-Some-2.rest.now) = rw c.in-Some-2.is at c.in_ok-piece.ensures in
+    piece_shorter InElement c.loop-rest.now.rest.now (piece_view c.in-Some-2.piece, c.in-Some-2.rest.now) read
 
 pub loop-rest-preserved-in-Some : goal.loop-rest-preserved-in-Some
 loop-rest-preserved-in-Some c =
     let l = c.loop-rest in
     let was = l.now in
     let all = IsIdleIn c.args.scopes.now in
-    let behind = c.in-Some.rest.now in
+    let rest = c.in-Some.rest.now in
     let after = c.close_last.new.names.items in
-    let closed = passing_closes all W c.args.bytes.now was.rest.now l.tries.names.items after was.nodes was.elems was.deepest behind l.invariant.passing c.in-Some.ensures.closed in
+    let closed = passing_closes all W c.args.bytes.now was.rest.now l.tries.names.items after was.nodes was.elems was.deepest rest l.invariant.passing c.in-Some.ensures.closed in
     record {
       passing = closed;
       same = l.invariant.same;
       here = λ none. rw (c.last_whole-whole.ensures, c.deref.ensures.value) (last_rest c.args.bytes.now (length after) _ l.whole none);
       whole = rw (c.last_whole-whole.ensures, c.deref.ensures.value) (last_holds (λ idle. IsPassed all W c.args.bytes.now idle.rest.now idle.nodes idle.elems idle.deepest) (length after) _ l.whole
-          (λ none. passing_over all W c.args.bytes.now behind (names_view after) was.nodes was.elems was.deepest closed (no_names after none)) l.invariant.whole);
+          (λ none. passing_over all W c.args.bytes.now rest (names_view after) was.nodes was.elems was.deepest closed (no_names after none)) l.invariant.whole);
     }
 
 pub loop-rest-preserved : goal.loop-rest-preserved
@@ -40,19 +40,19 @@ loop-rest-preserved c =
     let was = l.now in
     let all = IsIdleIn c.args.scopes.now in
     let p = piece_view c.in-Some-2.piece in
-    let behind = c.in-Some-2.behind.now in
+    let rest = c.in-Some-2.rest.now in
     let before = c.close_last.new.names.items in
     let kept : before ≡ l.tries.names.items = c.close_last.ensures.none (rw c.in_default.is refl) in
     let P : List code.Name → Type 0 = λ ns. IsPassing all W c.args.bytes.now was.rest.now (names_view ns) was.nodes was.elems was.deepest in
     let after = c.pass_piece.new.names.items in
-    let read : piece_at InElement was.rest.now ≡ Some (p, behind) = rw c.in-Some-2.is at c.in_ok-piece.ensures in
-    let turn = idle_turn c.args.scopes.now l.scopes was.rest.now behind before after p l.invariant.same read (c.in_ok-pass_piece.ensures.passed c.if-not-branch.false) in
-    let turned = passing_turns all W c.args.bytes.now was.rest.now behind before after was.nodes c.nodes_of_piece.result was.elems c.elems_of_piece.result was.deepest c.deepest_of_piece.result c.len-depth.result p (subst P (sym kept) l.invariant.passing) turn c.nodes_of_piece.ensures c.elems_of_piece.ensures (omega (arith, c.len-depth.ensures, c.close_last.new.names.ok.0)) c.deepest_of_piece.ensures in
+    let read : piece_at InElement was.rest.now ≡ Some (p, rest) = rw c.in-Some-2.is at c.in_ok-piece.ensures in
+    let turn = idle_turn c.args.scopes.now l.scopes was.rest.now rest before after p l.invariant.same read (c.in_ok-pass_piece.ensures.passed c.if-not-branch.false) in
+    let turned = passing_turns all W c.args.bytes.now was.rest.now rest before after was.nodes c.nodes_of_piece.result was.elems c.elems_of_piece.result was.deepest c.deepest_of_piece.result c.len-depth.result p (subst P (sym kept) l.invariant.passing) turn c.nodes_of_piece.ensures c.elems_of_piece.ensures (omega (arith, c.len-depth.ensures, c.close_last.new.names.ok.0)) c.deepest_of_piece.ensures in
     record {
       passing = turned;
       same = c.pass_piece.ensures.same ∙ l.invariant.same;
       here = λ none. rw (c.last_whole-whole-in-loop-rest.ensures, c.deref-in-loop-rest.ensures.value) (last_rest c.args.bytes.now (length after) _ l.whole none);
       whole = rw (c.last_whole-whole-in-loop-rest.ensures, c.deref-in-loop-rest.ensures.value) (last_holds (λ idle. IsPassed all W c.args.bytes.now idle.rest.now idle.nodes idle.elems idle.deepest) (length after) _ l.whole
-          (λ none. passing_over all W c.args.bytes.now behind (names_view after) (was.nodes + c.nodes_of_piece.result) (was.elems + c.elems_of_piece.result) c.deepest_of_piece.result turned (no_names after none))
+          (λ none. passing_over all W c.args.bytes.now rest (names_view after) (was.nodes + c.nodes_of_piece.result) (was.elems + c.elems_of_piece.result) c.deepest_of_piece.result turned (no_names after none))
           l.invariant.whole);
     }

@@ -5,7 +5,7 @@ use Rattle.redl_xml.specs.Scopes.{is_known_attribute}
 use Rattle.redl_xml.proofs.namespaces.are_known.Given as goal
 
 abbrev pub invariant-loop-attribute : goal.invariant-loop-attribute
-invariant-loop-attribute l = list_all (is_known_attribute l.scopes) (attributes_of l.more) ≡ list_all (is_known_attribute l.scopes) (attributes_of l.tail)
+invariant-loop-attribute l = list_all (is_known_attribute l.scopes) (attributes_of l.rest) ≡ list_all (is_known_attribute l.scopes) (attributes_of l.tail)
 
 abbrev pub decreases-loop-attribute : goal.decreases-loop-attribute
-decreases-loop-attribute l = length l.more
+decreases-loop-attribute l = length l.rest
