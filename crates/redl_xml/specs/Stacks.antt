@@ -5,7 +5,7 @@ use Rattle.std.specs.BTreeMap.{BTreeMap, get_by}
 use Rattle.std.specs.Cmp.Lexicographic.{slice_cmp}
 use Rattle.std.specs.Ordering.{nat_cmp}
 use Rattle.redl_tree.specs.declared.kinds.Space.{Space}
-use Rattle.redl_xml.specs.declared.declaration.Declaration.{Declaration}
+use Rattle.redl_xml.specs.declared.scope.Declaration.{Declaration}
 use Rattle.redl_xml.specs.Scopes.{Scope, nearest}
 
 -- the scope of declarations, the nearest first in both

@@ -4,11 +4,18 @@ ghost use Rattle.std.specs.Prelude.{◌≡◌, [], ◌∷◌, length, drop, OnOk
 ghost use Rattle.redl_xml.specs.Scopes.{Scope, nearest};
 ghost use Rattle.redl_xml.specs.Stacks.{scope_view, Agrees};
 
-use crate::declaration::Declaration;
 use redl_tree::Space;
 use std::alloc::{AllocError, Global};
 use std::collections::BTreeMap;
 use std::marker::Model;
+
+/// A declaration in a start tag: the prefix, the space of its namespace, and the space that the prefix had before.
+#[derive(Clone, Copy)]
+pub(crate) struct Declaration<'a> {
+    pub(crate) prefix: &'a [u8],
+    pub(crate) space: Space,
+    pub(crate) former: Option<Space>,
+}
 
 /// The declarations in scope, the nearest last, and for each prefix the space of its nearest declaration.
 #[derive(Drop)]

@@ -1,5 +1,5 @@
 use Rattle.std.proofs.Common.{◌∙◌, ap, sym, subst, List}
-use Rattle.redl_xml.specs.declared.declaration.Declaration.{Declaration}
+use Rattle.redl_xml.specs.declared.scope.Declaration.{Declaration}
 use Rattle.redl_xml.specs.Stacks.{Agrees}
 use Rattle.redl_xml.specs.Scopes.{nearest}
 use Rattle.redl_xml.proofs.Nearest.{declared_agrees}

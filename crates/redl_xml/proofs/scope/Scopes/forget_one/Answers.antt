@@ -1,5 +1,5 @@
 use Rattle.std.proofs.Common.{subst, List, rules}
-use Rattle.redl_xml.specs.declared.declaration.Declaration.{Declaration}
+use Rattle.redl_xml.specs.declared.scope.Declaration.{Declaration}
 use Rattle.redl_xml.specs.Stacks.{Agrees}
 use Rattle.redl_xml.proofs.Nearest.{forgotten_agrees, declared_is_found}
 use Rattle.redl_xml.proofs.scope.Scopes.forget_one.Goals as goal
