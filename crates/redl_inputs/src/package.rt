@@ -1,6 +1,6 @@
 //! The package of a text, or why it is refused, and what a pass leaves of it.
 
-ghost use Rattle.std.specs.Prelude.{◌≡◌, ◌<◌, None, IfOk};
+ghost use Rattle.std.specs.Prelude.{◌≡◌, None, IfOk};
 ghost use Rattle.redl_inputs.specs.Packages.{tree_in, shaped, sound, package_in};
 ghost use Rattle.redl_inputs.specs.Reading.{Reads};
 ghost use Rattle.redl_inputs.specs.Views.{result_view};
@@ -13,12 +13,10 @@ ghost use Rattle.redl_tree.specs.Revisions.Labels.{unlabelled};
 use redl_index::Surveyed;
 use redl_lines::Failure;
 use redl_opc::Package;
-use redl_resolve::{Steps, into_passed};
+use redl_resolve::into_passed;
 use redl_rules::RuleError;
 use redl_tree::{Node, Say};
 use std::alloc::{AllocError, Global};
-use std::marker::Brand;
-use std::sync::ledger::{Blank, Ledger};
 
 /// The package with this text. No element of it has a label yet.
 pub fn read_package<'a, 'b>(alloc: Global, bytes: &'b [u8]) -> Result<Surveyed<'b>, Failure<'a>>
@@ -70,20 +68,5 @@ pub fn pass_nodes<'b>(
 ) -> Result<Vec<Node<'b>>, AllocError>
     ensures { IfOk result (λ passed. nodes_of passed.items ≡ pass_package says.now «package».entry) }
 {
-    pass_counted::<Brand>(alloc, package.into_nodes(), says, Blank::new(1))
-}
-
-// The pass with a counter of its own, which nobody reads.
-fn pass_counted<'b, L: Ledger>(
-    alloc: Global,
-    nodes: Vec<Node<'b>>,
-    says: &[Say],
-    blank: Blank,
-) -> Result<Vec<Node<'b>>, AllocError>
-    requires name { blank.name ≡ L.name }
-    requires parts { blank.parts ≡ L.parts }
-    requires some { 0 < L.parts }
-    ensures { IfOk result (λ passed. nodes_of passed.items ≡ pass_package says.now (nodes_of nodes.entry.items)) }
-{
-    into_passed(alloc, nodes, says, &mut Steps::<L>::new(blank))
+    into_passed(alloc, package.into_nodes(), says)
 }

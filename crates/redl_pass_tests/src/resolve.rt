@@ -1,15 +1,11 @@
 //! What no clause of `redl_resolve` says: that both calls succeed where memory is ample. One package takes each way
 //! through the pass; it is an outline, and so are the wanted ones. Other outlines are read as the body of a document. What is
 //! wanted follows from ECMA-376 Part 1, 17.13.5.
-ghost use Rattle.std.specs.Prelude.{◌≡◌, ◌<◌};
-
 use crate::documents::{package_text, read_package, says_for};
 use redl_outline::{Outline, nodes_text, outline_text};
-use redl_resolve::{Steps, into_passed, pass};
-use redl_tree::{Node, Say};
+use redl_resolve::{into_passed, pass};
+use redl_tree::Say;
 use std::alloc::{AllocError, Global};
-use std::marker::Brand;
-use std::sync::ledger::{Blank, Ledger};
 use std::test::Fail;
 
 // A package with content that was inserted and deleted, changed properties, and a deleted paragraph mark and row.
@@ -37,57 +33,14 @@ const REJECTED: &str = "pkg-package .pkg-part ..pkg-xmlData ...document ....body
     .....p ......r .......(c)
     .....tbl ......sdt .......sdtContent ........tr .........trPr ..........()";
 
-fn into_passed_counted<'a, L: Ledger>(
-    alloc: Global,
-    nodes: Vec<Node<'a>>,
-    says: &[Say],
-    blank: Blank,
-) -> Result<Vec<Node<'a>>, AllocError>
-    requires name { blank.name ≡ L.name }
-    requires parts { blank.parts ≡ L.parts }
-    requires some { 0 < L.parts }
-{
-    into_passed(alloc, nodes, says, &mut Steps::<L>::new(blank))
-}
-
-fn pass_counted<'a, L: Ledger>(
-    alloc: Global,
-    nodes: &[Node<'a>],
-    says: &[Say],
-    blank: Blank,
-) -> Result<Vec<Node<'a>>, AllocError>
-    requires name { blank.name ≡ L.name }
-    requires parts { blank.parts ≡ L.parts }
-    requires some { 0 < L.parts }
-{
-    pass(alloc, nodes, says, &mut Steps::<L>::new(blank))
-}
-
-// The passes with a counter that nobody reads.
-fn passed<'a>(
-    alloc: Global,
-    nodes: Vec<Node<'a>>,
-    says: &[Say],
-) -> Result<Vec<Node<'a>>, AllocError> {
-    into_passed_counted::<Brand>(alloc, nodes, says, Blank::new(1))
-}
-
-fn passed_copy<'a>(
-    alloc: Global,
-    nodes: &[Node<'a>],
-    says: &[Say],
-) -> Result<Vec<Node<'a>>, AllocError> {
-    pass_counted::<Brand>(alloc, nodes, says, Blank::new(1))
-}
-
 // The text of the package under one say, passed itself or as a copy.
 fn passed_text(alloc: Global, say: Say, is_copied: bool) -> Result<String, AllocError> {
     let outline = Outline::read(alloc, PACKAGE, &[])?;
     let nodes = outline.nodes(alloc)?;
     if is_copied {
-        return nodes_text(alloc, &passed_copy(alloc, &nodes, &[say])?);
+        return nodes_text(alloc, &pass(alloc, &nodes, &[say])?);
     }
-    nodes_text(alloc, &passed(alloc, nodes, &[say])?)
+    nodes_text(alloc, &into_passed(alloc, nodes, &[say])?)
 }
 
 #[test]
@@ -110,7 +63,7 @@ fn passed_body(alloc: Global, body: &str, say: Say) -> Result<String, Fail> {
     let text = package_text(alloc, &[body], &[])?;
     let mut package = read_package(alloc, text.as_bytes())?;
     let says = says_for(alloc, &mut package, say)?;
-    let nodes = passed_copy(alloc, package.nodes(), &says)?;
+    let nodes = pass(alloc, package.nodes(), &says)?;
     Ok(nodes_text(alloc, &nodes)?)
 }
 

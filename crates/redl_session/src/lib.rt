@@ -7,7 +7,6 @@
 mod admission;
 mod laws;
 mod locks;
-mod passing;
 mod refusal;
 mod says;
 mod session;

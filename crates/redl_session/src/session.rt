@@ -18,7 +18,6 @@ ghost use Rattle.redl_tree.specs.Model.View.{nodes_of};
 
 use crate::admission::{add_copy, cause, take_in};
 use crate::locks::Locks;
-use crate::passing::{pass_on, passed};
 use crate::refusal::{AdmitError, Refusal, SessionWriteError, Taken};
 use crate::says::{decide, say_of, verdicts};
 use redl_index::Index;
@@ -26,6 +25,7 @@ use redl_io::Sink;
 use redl_join::{Book, Verdict};
 use redl_journal::Entry;
 use redl_opc::Package;
+use redl_resolve::{into_passed, pass};
 use redl_tree::{Node, Say, write_nodes};
 use std::alloc::{AllocError, Global};
 use std::marker::Model;
@@ -196,7 +196,7 @@ impl<'a> Session<'a> {
     pub fn write<K: Sink>(&self, out: &mut K) -> Result<(), SessionWriteError>
         ensures { Writes K.told K.faults K.settled K.lenders out.old out.new (text (pass_package (says self.now) self.now.nodes)) result }
     {
-        let Ok(nodes) = passed(self.alloc, self.original.nodes(), &self.says) else {
+        let Ok(nodes) = pass(self.alloc, self.original.nodes(), &self.says) else {
             return Err(SessionWriteError::NoMemory);
         };
         match write_nodes(&nodes, out) {
@@ -214,6 +214,6 @@ impl<'a> Session<'a> {
         ensures survival { IfOk result (λ passed. map text_pieces (stories (nodes_of passed.items)) ≡ map (survivors (says self.entry)) (stories self.entry.nodes)) }
         ensures soundness { IfOk result (λ passed. broken_rule (nodes_of passed.items) ≡ None) }
     {
-        pass_on(self.alloc, self.original.into_nodes(), &self.says)
+        into_passed(self.alloc, self.original.into_nodes(), &self.says)
     }
 }

@@ -6,8 +6,8 @@ ghost use Rattle.redl_sittings.specs.Inside.Filling.{with_number, with_pairs};
 ghost use Rattle.redl_sittings.specs.SecondNumbers.{beside, first_numbers, numbers_beside, parts_beside};
 
 use crate::parts::numbers_by_part;
-use crate::passing::passed;
 use redl_opc::Package;
+use redl_resolve::pass;
 use redl_tree::Say;
 use std::alloc::{AllocError, Global};
 
@@ -27,7 +27,7 @@ pub fn map_back(
     ensures { IfOk result (λ back. back.items ≡ first_numbers (pass_package says.now first.now) second.now count) }
 {
     let firsts = {
-        let left = passed(alloc, first.nodes(), says)?;
+        let left = pass(alloc, first.nodes(), says)?;
         numbers_by_part(alloc, &left)?
     };
     let seconds = numbers_by_part(alloc, second.nodes())?;

@@ -11,7 +11,6 @@ mod along;
 mod back;
 mod book;
 mod parts;
-mod passing;
 
 pub use back::{first_numbers, map_back};
 pub use book::{add_second, decided, joined};

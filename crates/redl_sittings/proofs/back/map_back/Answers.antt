@@ -12,7 +12,7 @@ returns c =
     ap (map items_of_vec) c.deref-2.ensures.value
     ∙ c.in_ok-firsts.ensures
     ∙ ap (λ nodes. part_numbers (nodes_of nodes)) c.deref.ensures.value
-    ∙ ap part_numbers (c.in_ok-left.ensures ∙ ap (pass_package c.args.says.now) c.nodes.ensures.nodes) in
+    ∙ ap part_numbers (c.in_ok-left.ensures.passed ∙ ap (pass_package c.args.says.now) c.nodes.ensures.nodes) in
     let seconds : map items_of_vec c.deref-3.result.now ≡ part_numbers c.args.second.now =
     ap (map items_of_vec) c.deref-3.ensures.value ∙ c.in_ok-seconds.ensures ∙ ap part_numbers c.nodes-2.ensures.nodes in
     rw (firsts, seconds) at c.first_numbers.ensures

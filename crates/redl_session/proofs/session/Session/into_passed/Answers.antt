@@ -19,11 +19,11 @@ returns-clause-survival c =
     ap (λ (ns : Nodes). pass_package c.deref.result.now ns) c.into_nodes.ensures.nodes
     ∙ ap (λ (ss : List Say). pass_package ss c.self.inside.original) (c.deref.ensures.value ∙ c.self.invariant.decided)
     ∙ ap (λ (s : State). pass_package (says s) s.nodes) c.self.view_is in
-    IfOk-weaker c.pass_on.result
+    IfOk-weaker c.into_passed.result
     (λ (passed : Vec Node Global). nodes_of passed.items ≡ pass_package c.deref.result.now (nodes_of c.into_nodes.result.items))
     (λ (passed : Vec Node Global). map text_pieces (stories (nodes_of passed.items)) ≡ map (survivors (says c.args.self)) (stories c.args.self.nodes))
     (λ passed is. ap (λ (ns : Nodes). map text_pieces (stories ns)) (is ∙ all) ∙ left_survives (says c.args.self) c.args.self.nodes numbered)
-    c.pass_on.ensures
+    c.into_passed.ensures.passed
 
 pub returns-clause-soundness : goal.returns-clause-soundness
 returns-clause-soundness c =
@@ -33,8 +33,8 @@ returns-clause-soundness c =
     ap (λ (ns : Nodes). pass_package c.deref.result.now ns) c.into_nodes.ensures.nodes
     ∙ ap (λ (ss : List Say). pass_package ss c.self.inside.original) (c.deref.ensures.value ∙ c.self.invariant.decided)
     ∙ ap (λ (s : State). pass_package (says s) s.nodes) c.self.view_is in
-    IfOk-weaker c.pass_on.result
+    IfOk-weaker c.into_passed.result
     (λ (passed : Vec Node Global). nodes_of passed.items ≡ pass_package c.deref.result.now (nodes_of c.into_nodes.result.items))
     (λ (passed : Vec Node Global). broken_rule (nodes_of passed.items) ≡ None)
     (λ passed is. ap broken_rule (is ∙ all) ∙ left_is_sound (says c.args.self) c.args.self.nodes numbered sound)
-    c.pass_on.ensures
+    c.into_passed.ensures.passed

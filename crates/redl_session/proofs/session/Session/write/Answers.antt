@@ -13,7 +13,7 @@ returns-in-Ok-write_nodes g c =
     let state : State = record { nodes = c.self.inside.original; revisions = c.self.inside.index; locks = c.self.inside.locks; book = c.self.inside.book } in
     let whole : nodes_of c.deref-2.result.now ≡ pass_package (says c.args.self.now) c.args.self.now.nodes =
     ap nodes_of c.deref-2.ensures.value
-    ∙ c.in-Ok.ensures
+    ∙ c.in-Ok.ensures.passed
     ∙ ap (λ (ns : Nodes). pass_package c.deref.result.now ns) c.nodes.ensures.nodes
     ∙ ap (λ (ss : List Say). pass_package ss c.self.inside.original) (c.deref.ensures.value ∙ c.self.invariant.decided)
     ∙ ap (λ (s : State). pass_package (says s) s.nodes) c.self.view_is in

@@ -4,7 +4,7 @@ use Rattle.redl_resolve.proofs.KeepsLaws.{keeps_text, keeps_rules}
 use Rattle.redl_tree.specs.Decisions.Packages.{stories, pass_rule, pass_package}
 use Rattle.redl_tree.specs.Model.View.{nodes_of}
 use Rattle.redl_tree.proofs.TakenLaws.{takes-every}
-use Rattle.redl_resolve.proofs.stories.into_passed.Goals as goal
+use Rattle.redl_resolve.proofs.stories.into_passed_counted.Goals as goal
 
 pub change_stories-requires : goal.change_stories-requires
 change_stories-requires g c = record { taken = takes-every pass_rule (λ given tag kids. Unit {0}) (λ given tag kids. tt) c.args.says.now (stories (nodes_of c.deref_mut.result.now)) }

@@ -1,4 +1,0 @@
-use Rattle.redl_inputs.proofs.package.pass_nodes.Given as goal
-
-abbrev pub ghosts-pass_counted : goal.ghosts-pass_counted
-ghosts-pass_counted a = record { name = a.blank.name; parts = a.blank.parts }
