@@ -1,6 +1,6 @@
 //! The editor.
 
-ghost use Rattle.std.specs.Prelude.{◌≡◌, ◌≤◌, ◌+◌, ◌∷◌, [], length, map, replicate, true, IfOk, OnOk, OnErr, IsOk};
+ghost use Rattle.std.specs.Prelude.{◌≡◌, ◌<◌, ◌≤◌, ◌+◌, ◌∷◌, [], length, map, replicate, true, IfOk, OnOk, OnErr, IsOk};
 ghost use Rattle.redl_editor.specs.Changes.{setting_of, is_changed, former_of};
 ghost use Rattle.redl_editor.specs.Costs.{parts_cost};
 ghost use Rattle.redl_editor.specs.Documents.{IsNumbered, count_at, present_at};
@@ -24,8 +24,8 @@ use redl_opc::Package;
 use redl_resolve::Steps;
 use redl_tree::{Node, Say};
 use std::alloc::{AllocError, Global};
-use std::marker::Model;
-use std::sync::ledger::Ledger;
+use std::marker::{Brand, Model};
+use std::sync::ledger::{Blank, Ledger};
 
 /// A package and a say for each of its revisions, which contracts see as its original nodes and these says. Its stories are kept leaf by
 /// leaf, each as it is at present.
@@ -104,7 +104,30 @@ impl<'a> Editor<'a> {
     }
 
     /// Sets what is said of a revision. See `set_many`.
-    pub fn set<L: Ledger>(
+    pub fn set(&mut self, rev: u32, say: Say) -> Result<(), AllocError>
+        ensures says { OnOk result (self.new ≡ record self.old { says = set_say self.old.says rev say }) }
+        ensures untouched { OnErr result (self.new ≡ self.old) }
+        ensures own { say_of self.old.says rev ≡ say → IsOk result }
+    {
+        self.set_many(&[Change { rev, say }])
+    }
+
+    /// Sets what is said of revisions, one after the other. Each leaf that holds a member or a marker of a revision of which something
+    /// else is said then is made anew once. Revisions that the package does not have are passed over.
+    ///
+    /// `Err` means out of memory, and nothing is changed.
+    pub fn set_many(&mut self, changes: &[Change]) -> Result<(), AllocError>
+        ensures says { OnOk result (self.new ≡ record self.old { says = set_each self.old.says (map setting_of changes.now) }) }
+        ensures untouched { OnErr result (self.new ≡ self.old) }
+
+        // Where all of it is said already it takes no memory.
+        ensures own { former_of self.old.says (map setting_of changes.now) ≡ [] → IsOk result }
+    {
+        self.set_many_by::<Brand>(changes, Blank::new(1))
+    }
+
+    /// The same as `set`, with the steps counted.
+    pub fn set_counted<L: Ledger>(
         &mut self,
         rev: u32,
         say: Say,
@@ -115,22 +138,17 @@ impl<'a> Editor<'a> {
         ensures own { say_of self.old.says rev ≡ say → IsOk result }
         ensures steps { steps.new ≤ steps.old + parts_cost (is_changed self.old.says (set_say self.old.says rev say)) (stories self.old.nodes) }
     {
-        self.set_many(&[Change { rev, say }], steps)
+        self.set_many_counted(&[Change { rev, say }], steps)
     }
 
-    /// Sets what is said of revisions, one after the other. Each leaf that holds a member or a marker of a revision of which something
-    /// else is said then is made anew once. Revisions that the package does not have are passed over.
-    ///
-    /// `Err` means out of memory, and nothing is changed.
-    pub fn set_many<L: Ledger>(
+    /// The same as `set_many`, with the steps counted: one for each node that is looked at in these leaves and on their paths.
+    pub fn set_many_counted<L: Ledger>(
         &mut self,
         changes: &[Change],
         steps: &mut Steps<L>,
     ) -> Result<(), AllocError>
         ensures says { OnOk result (self.new ≡ record self.old { says = set_each self.old.says (map setting_of changes.now) }) }
         ensures untouched { OnErr result (self.new ≡ self.old) }
-
-        // Where all of it is said already it takes no memory.
         ensures own { former_of self.old.says (map setting_of changes.now) ≡ [] → IsOk result }
 
         // At most the sizes of these leaves and the lengths of their paths, also with an error.
@@ -152,5 +170,16 @@ impl<'a> Editor<'a> {
         ensures { Puts K.told K.faults K.settled K.lenders out.old out.new (text (pass_package self.now.says self.now.nodes)) result }
     {
         write_package(&self.nodes, &self.stories, out)
+    }
+    // The same as `set_many`, with a counter by this blank, which nobody reads.
+    fn set_many_by<L: Ledger>(&mut self, changes: &[Change], blank: Blank) -> Result<(), AllocError>
+        requires name { blank.name ≡ L.name }
+        requires parts { blank.parts ≡ L.parts }
+        requires some { 0 < L.parts }
+        ensures says { OnOk result (self.new ≡ record self.old { says = set_each self.old.says (map setting_of changes.now) }) }
+        ensures untouched { OnErr result (self.new ≡ self.old) }
+        ensures own { former_of self.old.says (map setting_of changes.now) ≡ [] → IsOk result }
+    {
+        self.set_many_counted(changes, &mut Steps::<L>::new(blank))
     }
 }

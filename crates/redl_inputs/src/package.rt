@@ -63,10 +63,10 @@ fn check_rules<'a>(package: &Surveyed) -> Result<(), Failure<'a>>
 /// What is left of a numbered package. Its own nodes go while it is made.
 pub fn pass_nodes<'b>(
     alloc: Global,
-    package: Package<'b>,
+    pkg: Package<'b>,
     says: &[Say],
 ) -> Result<Vec<Node<'b>>, AllocError>
-    ensures { IfOk result (λ passed. nodes_of passed.items ≡ pass_package says.now «package».entry) }
+    ensures { IfOk result (λ passed. nodes_of passed.items ≡ pass_package says.now pkg.entry) }
 {
-    into_passed(alloc, package.into_nodes(), says)
+    into_passed(alloc, pkg.into_nodes(), says)
 }

@@ -6,7 +6,6 @@
 
 mod admission;
 mod live_session;
-mod setting;
 mod turning;
 
 pub use admission::admit_each;

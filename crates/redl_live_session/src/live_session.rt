@@ -16,7 +16,6 @@ ghost use Rattle.redl_tree.specs.Decisions.Packages.{pass_package, roots_are_pla
 ghost use Rattle.redl_tree.specs.Decisions.Survivors.{survivors, text_pieces};
 ghost use Rattle.redl_tree.specs.Model.Text.{text};
 
-use crate::setting::{set, set_many};
 use crate::turning::{changes_to, copy_of};
 use redl_editor::Editor;
 use redl_index::Index;
@@ -101,7 +100,7 @@ impl<'a> LiveSession<'a> {
         match add_copy(self.alloc, &mut self.book, &entry) {
             Ok(true) => {
                 let say = say_of(self.book.verdict(entry.rev));
-                match set(&mut self.editor, entry.rev, say) {
+                match self.editor.set(entry.rev, say) {
                     Ok(()) => Ok(Taken::New),
                     Err(_) => {
                         self.book.remove(&entry);
@@ -134,7 +133,7 @@ impl<'a> LiveSession<'a> {
         let mut book = copy_of(self.alloc, &self.book)?;
         let refused = take_in(self.alloc, &self.index, &self.locks, &mut book, entries)?;
         let changes = changes_to(self.alloc, &book, self.editor.says(), self.index.count())?;
-        set_many(&mut self.editor, &changes)?;
+        self.editor.set_many(&changes)?;
         self.book = book;
         Ok(refused)
     }

@@ -3,8 +3,8 @@ use Rattle.std.proofs.Common.{◌≡◌, ◌≢◌, ℕ, zero, suc, ◌<◌, ◌
 use Rattle.std.specs.Prelude.{not}
 use Rattle.std.specs.List.{AllByRecursion}
 use Rattle.std.proofs.lemmas.Option.{same_Some, cond_some, none-some}
-use Rattle.redl_markup.specs.declared.place.Place.{Place}
-use Rattle.redl_markup.specs.declared.place.Place.TheVariants.{BeforeRoot, InElement, AfterRoot}
+use Rattle.redl_markup.specs.declared.piece.Place.{Place}
+use Rattle.redl_markup.specs.declared.piece.Place.TheVariants.{BeforeRoot, InElement, AfterRoot}
 use Rattle.redl_reading.specs.Lists.{front, after, before, is_filled, is_other}
 use Rattle.redl_reading.specs.Steps.{done, next, turn, turns}
 use Rattle.redl_markup.specs.Stretches.{is_run, IsRun, Item, comment, instruction, cdata, item_then, IsItem, items_then, Head, head_then, IsStretch, begins_item, ends_stretch}

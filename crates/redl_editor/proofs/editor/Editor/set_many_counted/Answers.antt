@@ -13,7 +13,7 @@ use Rattle.redl_editor.specs.Documents.{Document, IsConsistent}
 use Rattle.redl_editor.specs.Stories.{original_package}
 use Rattle.redl_editor.specs.declared.story.Story.{Story}
 use Rattle.redl_editor.specs.declared.table.Table.{Table}
-use Rattle.redl_editor.proofs.editor.Editor.set_many.Goals as goal
+use Rattle.redl_editor.proofs.editor.Editor.set_many_counted.Goals as goal
 
 pub set_all-requires-clause-rises : goal.set_all-requires-clause-rises
 set_all-requires-clause-rises g c =
