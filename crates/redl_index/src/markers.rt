@@ -9,7 +9,7 @@ ghost use Rattle.redl_index.specs.Markers.Ends.{ends_from};
 ghost use Rattle.redl_index.specs.Markers.Found.{markers_of, marker_tails};
 ghost use Rattle.redl_index.specs.Inside.Markers.Finding.{marker_by, tail_by};
 
-use redl_moves::{Marker, MarkerKind};
+use redl_moves::{Edge, Marker};
 use redl_stamp::attribute;
 use redl_tree::{Elem, Word, is_word};
 use redl_visit::{Ancestors, visit_kids};
@@ -97,7 +97,7 @@ fn marker(
     if here.around.is_quiet() {
         return Ok(None);
     }
-    let Some(kind) = kind_of(elem) else {
+    let Some(edge) = edge_of(elem) else {
         return Ok(None);
     };
     let Some(id) = attribute(alloc, elem.tail(), b"id")? else {
@@ -105,7 +105,7 @@ fn marker(
     };
     let name = attribute(alloc, elem.tail(), b"name")?;
     Ok(Some(Marker {
-        kind,
+        edge,
         id,
         name,
         at,
@@ -114,17 +114,17 @@ fn marker(
 }
 
 // Which end of which range an element is by its name.
-fn kind_of(elem: &Elem) -> Option<MarkerKind>
+fn edge_of(elem: &Elem) -> Option<Edge>
     ensures { option_map edge_of result ≡ edge_of_tag (tag_of elem.now) }
 {
     if is_word(elem, Word::MoveFromRangeStart) {
-        Some(MarkerKind::FromStart)
+        Some(Edge::FromStart)
     } else if is_word(elem, Word::MoveFromRangeEnd) {
-        Some(MarkerKind::FromEnd)
+        Some(Edge::FromEnd)
     } else if is_word(elem, Word::MoveToRangeStart) {
-        Some(MarkerKind::ToStart)
+        Some(Edge::ToStart)
     } else if is_word(elem, Word::MoveToRangeEnd) {
-        Some(MarkerKind::ToEnd)
+        Some(Edge::ToEnd)
     } else {
         None
     }

@@ -5,7 +5,8 @@ use Rattle.std.proofs.lemmas.Bool.{eq-eqb}
 use Rattle.redl_tree.specs.Revisions.Moves.{Edge, from_start, from_end, to_start, to_end, Marking, Range, same_edge, only_one, with_name, with_id, range_from, range_with_id, range_with_name, pair_from, pair_with_name, pair_of, place_of, by_places, paired_moves}
 use Rattle.redl_moves.specs.Marks.{RisesFrom}
 use Rattle.redl_moves.specs.Keys.{has_key}
-use Rattle.redl_moves.specs.Places.{places_from, only_place, Span, are_range, span_between, span_from, span_with_id, span_with_name, move_from, move_with_name, move_begun, moves_by_place}
+use Rattle.redl_moves.specs.declared.range_index.Span.{Span}
+use Rattle.redl_moves.specs.Places.{places_from, only_place, are_range, span_between, span_from, span_with_id, span_with_name, move_from, move_with_name, move_begun, moves_by_place}
 use Rattle.redl_moves.specs.declared.marker_index.Key.TheVariants.{Id, Name}
 
 -- ---- lists

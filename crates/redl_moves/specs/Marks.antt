@@ -1,14 +1,14 @@
 -- Markers as the definitions of moves see them.
 use Rattle.std.specs.Prelude.{ℕ, ◌+◌, ◌≤◌, List, [], ◌∷◌, map}
-use Rattle.redl_tree.specs.Revisions.Moves.{Edge, from_start, from_end, to_start, to_end, Marking}
+use Rattle.redl_tree.specs.Revisions.Moves.{from_start, from_end, to_start, to_end, Marking}
 use Rattle.redl_tree.specs.Revisions.Moves as moves
 use Rattle.redl_moves.specs.declared.marker.Marker.{Marker}
-use Rattle.redl_moves.specs.declared.marker.MarkerKind.{MarkerKind}
-use Rattle.redl_moves.specs.declared.marker.MarkerKind.TheVariants.{FromStart, FromEnd, ToStart, ToEnd}
+use Rattle.redl_moves.specs.declared.marker.Edge.{Edge}
+use Rattle.redl_moves.specs.declared.marker.Edge.TheVariants.{FromStart, FromEnd, ToStart, ToEnd}
 use Rattle.redl_moves.specs.declared.marker.Move.{Move}
 
--- a marker's edge, as the definitions see it
-abbrev pub edge_of : MarkerKind → Edge
+-- an edge as the definitions see it
+abbrev pub edge_of : Edge → moves.Edge
 edge_of FromStart = from_start
 edge_of FromEnd = from_end
 edge_of ToStart = to_start
@@ -16,7 +16,7 @@ edge_of ToEnd = to_end
 
 -- a marker, as the definitions see it
 abbrev pub marking_of : Marker → Marking
-marking_of mark = record { edge = edge_of mark.kind; id = mark.id; name = mark.name; at = mark.at; loose = mark.loose }
+marking_of mark = record { edge = edge_of mark.edge; id = mark.id; name = mark.name; at = mark.at; loose = mark.loose }
 
 -- markers, as the definitions see them
 abbrev pub markings : List Marker → List Marking

@@ -4,6 +4,7 @@ use Rattle.std.specs.Prelude.{ℕ, ◌+◌, List, [], ◌∷◌, Bool, ◌&&◌,
 use Rattle.redl_tree.specs.Revisions.Moves.{Edge, from_start, from_end, to_start, to_end, Marking, Move, only_one, same_edge}
 use Rattle.redl_moves.specs.Keys.{has_key}
 use Rattle.redl_moves.specs.declared.marker_index.Key.TheVariants.{Id, Name}
+use Rattle.redl_moves.specs.declared.range_index.Span.{Span}
 
 -- the places of the markers that pass, where the first marker has this place
 abbrev pub places_from : ℕ → (Marking → Bool) → List Marking → List ℕ
@@ -14,11 +15,6 @@ places_from place test (mark ∷ marks) =
 -- the place of the only marker that passes
 abbrev pub only_place : (Marking → Bool) → List Marking → Option ℕ
 only_place test marks = only_one (places_from 0 test marks)
-
--- the places of a start and its end
-pub record Span : Type 0 where
-  pub start : ℕ
-  pub end : ℕ
 
 -- these two as a range: the end comes after the start, and neither is loose
 abbrev pub are_range : Marking → Marking → Bool

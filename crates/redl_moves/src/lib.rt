@@ -17,7 +17,7 @@ mod pairing;
 mod range_index;
 mod start;
 
-pub use marker::{Marker, MarkerKind, Move};
+pub use marker::{Edge, Marker, Move};
 pub use moves::Moves;
 pub use opens::Side;
 pub use pairing::pair;

@@ -4,7 +4,7 @@ use redl_io::Text;
 
 /// Which end of which range a marker is (ECMA-376 Part 1, 17.13.5.23 to 17.13.5.28).
 #[derive(Clone, Copy, Debug, PartialEq, Eq)]
-pub enum MarkerKind {
+pub enum Edge {
     /// The start of a range that content moved from: `moveFromRangeStart`.
     FromStart,
     /// Its end: `moveFromRangeEnd`.
@@ -20,7 +20,7 @@ pub enum MarkerKind {
 #[derive(Drop)]
 pub struct Marker {
     /// Which end of which range it is.
-    pub kind: MarkerKind,
+    pub edge: Edge,
     /// Its id.
     pub id: Text,
     /// Its name, where it has one.

@@ -6,7 +6,7 @@ ghost use Rattle.redl_moves.specs.Keys.{key_of, has_key};
 ghost use Rattle.redl_moves.specs.Places.{only_place};
 ghost use Rattle.redl_moves.specs.Inside.MarkerIndexes.{at_key, noted, noted_key, one_place};
 
-use crate::marker::{Marker, MarkerKind};
+use crate::marker::{Edge, Marker};
 use indexmap::IndexMap;
 use std::alloc::{AllocError, Global};
 
@@ -25,10 +25,10 @@ pub(crate) struct MarkerIndex<'a> {
 
 impl Key {
     // The key of a marker of this kind; of another kind it has none.
-    fn of<'a>(self, kind: MarkerKind, mark: &'a Marker) -> Option<&'a [u8]>
-        ensures { option_map (λ key. key.now) result ≡ key_of self (edge_of kind) (marking_of mark.now) }
+    fn of<'a>(self, edge: Edge, mark: &'a Marker) -> Option<&'a [u8]>
+        ensures { option_map (λ key. key.now) result ≡ key_of self (edge_of edge) (marking_of mark.now) }
     {
-        if mark.kind != kind {
+        if mark.edge != edge {
             return None;
         }
         match (self, &mark.name) {
@@ -44,17 +44,17 @@ impl<'a> MarkerIndex<'a> {
     pub(crate) fn of(
         alloc: Global,
         marks: &'a [Marker],
-        kind: MarkerKind,
+        edge: Edge,
         by: Key,
     ) -> Result<MarkerIndex<'a>, AllocError>
         requires few { length marks.now < 2 ^ 32 }
-        ensures { IfOk result (λ index. (key : List ℕ) → one_place (at_key index key) ≡ only_place (has_key by (edge_of kind) key) (markings marks.now)) }
+        ensures { IfOk result (λ index. (key : List ℕ) → one_place (at_key index key) ≡ only_place (has_key by (edge_of edge) key) (markings marks.now)) }
     {
         let mut index = MarkerIndex {
             places: IndexMap::new(alloc),
         };
         for place in 0..marks.len() {
-            if let Some(key) = by.of(kind, &marks[place]) {
+            if let Some(key) = by.of(edge, &marks[place]) {
                 index.note(key, place as u32)?;
             }
         }

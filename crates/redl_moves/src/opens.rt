@@ -5,7 +5,7 @@ ghost use Rattle.redl_moves.specs.Marks.{markings, edge_of, move_of};
 ghost use Rattle.redl_moves.specs.Opens.{start_of, is_open_at, find_last, opens_over, OpenAlike};
 ghost use Rattle.redl_moves.specs.Inside.RangeIndexes.{AreRangeIndexes};
 
-use crate::marker::{Marker, MarkerKind, Move};
+use crate::marker::{Edge, Marker, Move};
 use crate::pairing::{add, move_begun};
 use crate::range_index::RangeIndexes;
 use std::alloc::{AllocError, Global};
@@ -20,13 +20,13 @@ pub enum Side {
 }
 
 impl Side {
-    // The kind of the starts of its ranges.
-    fn start(self) -> MarkerKind
+    // Which edge the starts of its ranges are.
+    fn start(self) -> Edge
         ensures { edge_of result ≡ start_of self }
     {
         match self {
-            Side::Source => MarkerKind::FromStart,
-            Side::Target => MarkerKind::ToStart,
+            Side::Source => Edge::FromStart,
+            Side::Target => Edge::ToStart,
         }
     }
 

@@ -6,7 +6,7 @@ ghost use Rattle.redl_moves.specs.Marks.{marking_of, markings, edge_of, move_of,
 ghost use Rattle.redl_moves.specs.Places.{move_begun, move_with_name};
 ghost use Rattle.redl_moves.specs.Inside.RangeIndexes.{AreRangeIndexes};
 
-use crate::marker::{Marker, MarkerKind, Move};
+use crate::marker::{Edge, Marker, Move};
 use crate::range_index::RangeIndexes;
 use std::alloc::{AllocError, Global};
 
@@ -40,7 +40,7 @@ pub(crate) fn paired<'a>(
 {
     let mut moves = Vec::new(alloc);
     for mark in marks {
-        let begun = move_begun(mark, MarkerKind::FromStart, ranges);
+        let begun = move_begun(mark, Edge::FromStart, ranges);
         add(&mut moves, begun)?;
     }
     Ok(moves)
@@ -62,12 +62,12 @@ pub(crate) fn add(moves: &mut Vec<Move>, found: Option<Move>) -> Result<(), Allo
 /// The move of a marker's name, where the marker is a start of this kind.
 pub(crate) fn move_begun<'a>(
     mark: &'a Marker,
-    start: MarkerKind,
+    start: Edge,
     ranges: &RangeIndexes<'a>,
 ) -> Option<Move>
     ensures { (marks : List Marking) → AreRangeIndexes marks ranges.now → option_map move_of result ≡ move_begun (edge_of start) marks (marking_of mark.now) }
 {
-    if mark.kind != start {
+    if mark.edge != start {
         return None;
     }
     match &mark.name {

@@ -1,18 +1,19 @@
 //! The ranges of moves by their ids and names: those that content moved from, and those that it moved to.
 
-ghost use Rattle.std.specs.Prelude.{◌≡◌, ◌^◌, ◌<◌, List, length, IfOk, option_map};
-ghost use Rattle.redl_tree.specs.Revisions.Moves.{Edge, Marking};
+ghost use Rattle.std.specs.Prelude.{◌≡◌, ◌^◌, ◌<◌, List, length, IfOk};
+ghost use Rattle.redl_tree.specs.Revisions.Moves as moves;
+ghost use Rattle.redl_tree.specs.Revisions.Moves.{Marking};
 ghost use Rattle.redl_moves.specs.Marks.{markings, edge_of};
 ghost use Rattle.redl_moves.specs.Places.{span_with_id, span_with_name};
-ghost use Rattle.redl_moves.specs.Inside.RangeIndexes.{IsRangeIndex, AreRangeIndexes, span_of};
+ghost use Rattle.redl_moves.specs.Inside.RangeIndexes.{IsRangeIndex, AreRangeIndexes};
 
-use crate::marker::{Marker, MarkerKind};
+use crate::marker::{Edge, Marker};
 use crate::marker_index::{Key, MarkerIndex};
 use std::alloc::{AllocError, Global};
 
 /// The places of a start and its end.
 #[derive(Clone, Copy, Debug, PartialEq, Eq)]
-pub(crate) struct Range {
+pub(crate) struct Span {
     pub(crate) start: u32,
     pub(crate) end: u32,
 }
@@ -40,8 +41,8 @@ impl<'a> RangeIndexes<'a> {
         ensures { IfOk result (AreRangeIndexes (markings marks.now)) }
     {
         Ok(RangeIndexes {
-            source: RangeIndex::of(alloc, marks, MarkerKind::FromStart, MarkerKind::FromEnd)?,
-            target: RangeIndex::of(alloc, marks, MarkerKind::ToStart, MarkerKind::ToEnd)?,
+            source: RangeIndex::of(alloc, marks, Edge::FromStart, Edge::FromEnd)?,
+            target: RangeIndex::of(alloc, marks, Edge::ToStart, Edge::ToEnd)?,
         })
     }
 }
@@ -51,8 +52,8 @@ impl<'a> RangeIndex<'a> {
     fn of(
         alloc: Global,
         marks: &'a [Marker],
-        start: MarkerKind,
-        end: MarkerKind,
+        start: Edge,
+        end: Edge,
     ) -> Result<RangeIndex<'a>, AllocError>
         requires few { length marks.now < 2 ^ 32 }
         ensures { IfOk result (IsRangeIndex (edge_of start) (edge_of end) (markings marks.now)) }
@@ -66,23 +67,23 @@ impl<'a> RangeIndex<'a> {
     }
 
     /// The range with this name.
-    pub(crate) fn range(&self, name: &'a [u8]) -> Option<Range>
-        ensures { (start end : Edge) (marks : List Marking) → IsRangeIndex start end marks self.now → option_map span_of result ≡ span_with_name start end marks name.now }
+    pub(crate) fn range(&self, name: &'a [u8]) -> Option<Span>
+        ensures { (start end : moves.Edge) (marks : List Marking) → IsRangeIndex start end marks self.now → result ≡ span_with_name start end marks name.now }
     {
         let named = self.marks.get(self.named.only(name)? as usize)?;
         self.range_with_id(named.id.as_bytes())
     }
 
     // The range with this id.
-    fn range_with_id(&self, id: &'a [u8]) -> Option<Range>
-        ensures { (start end : Edge) (marks : List Marking) → IsRangeIndex start end marks self.now → option_map span_of result ≡ span_with_id start end marks id.now }
+    fn range_with_id(&self, id: &'a [u8]) -> Option<Span>
+        ensures { (start end : moves.Edge) (marks : List Marking) → IsRangeIndex start end marks self.now → result ≡ span_with_id start end marks id.now }
     {
         let start = self.starts.only(id)?;
         let end = self.ends.only(id)?;
         let first = self.marks.get(start as usize)?;
         let last = self.marks.get(end as usize)?;
         if first.at < last.at && !first.loose && !last.loose {
-            Some(Range { start, end })
+            Some(Span { start, end })
         } else {
             None
         }

@@ -3,15 +3,11 @@ use Rattle.std.specs.Prelude.{◌≡◌, ℕ, List}
 use Rattle.redl_tree.specs.Revisions.Moves.{Edge, from_start, from_end, to_start, to_end, Marking}
 use Rattle.redl_moves.specs.Marks.{markings}
 use Rattle.redl_moves.specs.Keys.{has_key}
-use Rattle.redl_moves.specs.Places.{only_place, Span}
+use Rattle.redl_moves.specs.Places.{only_place}
 use Rattle.redl_moves.specs.Inside.MarkerIndexes.{at_key, one_place}
 use Rattle.redl_moves.specs.declared.marker_index.Key.TheVariants.{Id, Name}
-use Rattle.redl_moves.specs.declared.range_index.Range.{Range}
 use Rattle.redl_moves.specs.declared.range_index.RangeIndex.{RangeIndex}
 use Rattle.redl_moves.specs.declared.range_index.RangeIndexes.{RangeIndexes}
-
-abbrev pub span_of : Range → Span
-span_of range = record { start = range.start; end = range.end }
 
 -- the index answers for the starts and ends of these kinds among these markers
 pub record IsRangeIndex (start end : Edge) (marks : List Marking) (ranges : RangeIndex) : Type 0 where

@@ -10,7 +10,7 @@ use Rattle.redl_moves.proofs.marker_index.MarkerIndex.of.Goals as goal
 
 pub returns : goal.returns
 returns c = λ key.
-    let test = has_key c.args.by (edge_of c.args.kind) key in
+    let test = has_key c.args.by (edge_of c.args.edge) key in
     let had = at_key c.loop-place.index key in
     sym (ap (λ (ms : List Marker). one_place (noted_all had (places_from c.loop-place.place test (markings ms)))) (drop-past c.loop-place.place c.args.marks.now (omega (arith, c.loop-place-test.false))))
     ∙ ap one_place (c.loop-place.invariant key)
