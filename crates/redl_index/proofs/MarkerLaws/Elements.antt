@@ -1,16 +1,18 @@
 -- What one element adds to what is found, and what it is to those in it.
 use Rattle.std.proofs.Common.{◌≡◌, ◌∙◌, refl, ap, sym, ℕ, List, [], ◌∷◌, ◌++◌, Bool, true, false, Option, Some, None, length, option_to_list, set, append_assoc, ◌&&◌, ◌||◌, if◌then◌else◌}
-use Rattle.std.specs.List.{cons_option}
+use Rattle.std.specs.List.{cons_option, list_any}
 use Rattle.std.proofs.Math.Bool.{or_comm}
 use Rattle.redl_tree.specs.Model.Nodes.{Tag, Nodes, element, Item, bytes_item, element_item, idle_item, in_front, ◌⊕◌}
 use Rattle.redl_tree.specs.Model.IdleTexts.{idle_nodes}
 use Prim.Native.String.{String}
 use Rattle.redl_tree.specs.Roles.Names.{is}
-use Rattle.redl_tree.specs.Model.Kids.{some_element, kids_of_all}
+use Rattle.redl_tree.specs.declared.node.Node.{Node}
+use Rattle.redl_tree.specs.Model.View.{item_of, nodes_of}
+use Rattle.redl_tree.specs.Model.Kids.{some_element, item_is, kids_of_all}
 use Rattle.redl_tree.specs.Model.Seen.{Spot, spot, tags_of}
 use Rattle.redl_tree.proofs.Idle.Items.{nodes_are_idle}
 use Rattle.redl_tree.proofs.Idle.Lists.{NoneIs, kids_of_all_past}
-use Rattle.redl_tree.proofs.KeptLaws.{some-⊕}
+use Rattle.redl_tree.proofs.KeptLaws.{some-⊕, some-in_front}
 use Rattle.redl_visit.specs.Summaries.{ancestors_of}
 use Rattle.redl_index.specs.Markers.Ends.{one_end}
 use Rattle.redl_index.specs.Inside.Markers.Trails.{trail_of, makes_revised, is_revised_by, leaves_grid_at, inside_trail}
@@ -55,7 +57,7 @@ trail-inside at tag kids ancestors =
 -- ---- rows and cells that are revisions themselves
 
 -- some element among the kids of those with this name
-pub named_kids : (test : Tag → Bool) (name : String) (tag : Tag) (kids rest : Nodes) →
+named_kids : (test : Tag → Bool) (name : String) (tag : Tag) (kids rest : Nodes) →
     some_element test (kids_of_all name (element tag kids rest)) ≡ (is name tag && some_element test kids || some_element test (kids_of_all name rest))
 named_kids test name tag kids rest = by (is name tag)
   where
@@ -64,15 +66,21 @@ named_kids test name tag kids rest = by (is name tag)
     by true = some-⊕ test kids (kids_of_all name rest)
     by false = refl
 
-pub named_kids-in_front : (test : Tag → Bool) (name : String) → NoneIs false (is name) → (x : Item) (rest : Nodes) →
+named_kids-in_front : (test : Tag → Bool) (name : String) → NoneIs false (is name) → (x : Item) (rest : Nodes) →
     some_element test (kids_of_all name (in_front x rest)) ≡ (makes_revised name test x || some_element test (kids_of_all name rest))
 named_kids-in_front test name none (bytes_item b) rest = refl
 named_kids-in_front test name none (element_item tag kids) rest = named_kids test name tag kids rest
 named_kids-in_front test name none (idle_item t) rest = ap (some_element test) (kids_of_all_past false name none (idle_nodes t) rest (nodes_are_idle t))
 
--- the first of the nodes that are left makes a revision, or not
-pub revised-here : (test : Tag → Bool) (name : String) → NoneIs false (is name) → (x : Item) (rest left : Nodes) (whole b : Bool) → left ≡ in_front x rest → b ≡ makes_revised name test x →
-    some_element test (kids_of_all name left) ≡ whole → (b || some_element test (kids_of_all name rest)) ≡ whole
-revised-here test name none x rest left whole b splits is had =
-    ap (λ c. c || some_element test (kids_of_all name rest)) is ∙ sym (named_kids-in_front test name none x rest)
-    ∙ ap (λ ns. some_element test (kids_of_all name ns)) (sym splits) ∙ had
+-- some node makes a revision where some element among the kids of those with this name does
+pub any_revision : (test : Tag → Bool) (name : String) → NoneIs false (is name) → (nodes : List Node) →
+    list_any (λ node. makes_revised name test (item_of node)) nodes ≡ some_element test (kids_of_all name (nodes_of nodes))
+any_revision test name none [] = refl
+any_revision test name none (node ∷ nodes) =
+    ap (λ b. makes_revised name test (item_of node) || b) (any_revision test name none nodes)
+    ∙ sym (named_kids-in_front test name none (item_of node) (nodes_of nodes))
+
+-- some node is a mark where some element is one
+pub any_mark : (test : Tag → Bool) (nodes : List Node) → list_any (λ node. item_is test (item_of node)) nodes ≡ some_element test (nodes_of nodes)
+any_mark test [] = refl
+any_mark test (node ∷ nodes) = ap (λ b. item_is test (item_of node) || b) (any_mark test nodes) ∙ sym (some-in_front test (item_of node) (nodes_of nodes))

@@ -22,48 +22,28 @@ pub(crate) fn is_revised(elem: &Elem) -> bool
 fn is_row_revision(kids: &[Node]) -> bool
     ensures { result ≡ row_revision (nodes_of kids.now) }
 {
-    for node in kids {
-        if makes_row_revision(node) {
-            return true;
-        }
-    }
-    false
+    kids.iter().any(|node| makes_row_revision(node))
 }
 
 // Whether one of these marks its row as inserted or deleted.
 fn has_row_trace(nodes: &[Node]) -> bool
     ensures { result ≡ some_element (λ tag. is_some (row_trace_of_tag tag)) (nodes_of nodes.now) }
 {
-    for node in nodes {
-        if marks_row(node) {
-            return true;
-        }
-    }
-    false
+    nodes.iter().any(|node| marks_row(node))
 }
 
 // Whether a cell with these kids is a revision itself.
 fn is_cell_revision(kids: &[Node]) -> bool
     ensures { result ≡ cell_revision (nodes_of kids.now) }
 {
-    for node in kids {
-        if makes_cell_revision(node) {
-            return true;
-        }
-    }
-    false
+    kids.iter().any(|node| makes_cell_revision(node))
 }
 
 // Whether one of these marks its cell as inserted or deleted.
 fn has_cell_trace(nodes: &[Node]) -> bool
     ensures { result ≡ some_element (λ tag. is_some (cell_trace_of_tag tag)) (nodes_of nodes.now) }
 {
-    for node in nodes {
-        if marks_cell(node) {
-            return true;
-        }
-    }
-    false
+    nodes.iter().any(|node| marks_cell(node))
 }
 
 // Whether a node is the properties of a row, and they make the row a revision.

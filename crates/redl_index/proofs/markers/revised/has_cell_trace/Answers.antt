@@ -1,30 +1,13 @@
-use Rattle.std.proofs.Common.{◌≡◌, ◌∙◌, ◌+◌, Bool, true, false, ◌||◌, is_some, drop, sym, ap, arith}
-use Rattle.redl_tree.specs.Model.Kids.{some_element, item_is}
-use Rattle.redl_tree.specs.Model.Nodes.{Tag}
-use Rattle.redl_tree.specs.Model.View.{nodes_of, item_of}
+use Rattle.std.proofs.Common.{◌∙◌, is_some, rules, tests}
+use Rattle.std.proofs.lemmas.Iterator.{YieldsList-from_slice}
+use Rattle.std.proofs.lemmas.Iterator.Search.{any_from_yields_List}
+use Rattle.redl_tree.specs.Model.Kids.{item_is}
+use Rattle.redl_tree.specs.Model.View.{item_of}
 use Rattle.redl_tree.specs.Roles.Places.{cell_trace_of}
-use Rattle.redl_tree.proofs.KeptLaws.{some-in_front}
-use Rattle.redl_tree.proofs.Laws.{nodes_here}
+use Rattle.redl_index.proofs.MarkerLaws.Elements.{any_mark}
 use Rattle.redl_index.proofs.markers.revised.has_cell_trace.Goals as goal
 
-pub returns-then-marks_cell : goal.returns-then-marks_cell
-returns-then-marks_cell c =
-    let items = c.args.nodes.now in
-    let i = c.loop-node.node-index in
-    let x = c.node-item.result in
-    let more = nodes_of (drop (i + 1) items) in
-    let here = nodes_here items i x (omega arith) c.node-item.is in
-    let test : Tag → Bool = λ tag. is_some (cell_trace_of tag) in
-    let e : item_is test (item_of x) ≡ true = sym c.marks_cell.ensures ∙ c.if-marks_cell.true in
-    sym (ap (some_element test) here ∙ some-in_front test (item_of x) more ∙ ap (λ b. b || some_element test more) e) ∙ c.loop-node.invariant
-
-pub loop-node-preserved : goal.loop-node-preserved
-loop-node-preserved c =
-    let items = c.args.nodes.now in
-    let i = c.loop-node.node-index in
-    let x = c.node-item.result in
-    let more = nodes_of (drop (i + 1) items) in
-    let here = nodes_here items i x (omega arith) c.node-item.is in
-    let test : Tag → Bool = λ tag. is_some (cell_trace_of tag) in
-    let e : item_is test (item_of x) ≡ false = sym c.marks_cell.ensures ∙ c.if-marks_cell.false in
-    sym (ap (some_element test) here ∙ some-in_front test (item_of x) more ∙ ap (λ b. b || some_element test more) e) ∙ c.loop-node.invariant
+pub returns : goal.returns
+returns c =
+    any_from_yields_List (λ node. item_is (λ tag. is_some (cell_trace_of tag)) (item_of node)) _ _ _ c.any.ensures.ran (YieldsList-from_slice c.args.nodes.now cc) (λ x b q k. search (rules, tests))
+    ∙ any_mark (λ tag. is_some (cell_trace_of tag)) c.args.nodes.now

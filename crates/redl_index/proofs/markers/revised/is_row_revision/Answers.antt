@@ -1,32 +1,14 @@
-use Rattle.std.proofs.Common.{◌∙◌, ◌+◌, ◌||◌, refl, ap, sym, arith, drop, is_some, Bool, false}
-use Rattle.redl_tree.specs.Model.Nodes.{Tag}
-use Rattle.redl_tree.specs.Model.Kids.{some_element, kids_of_all}
-use Rattle.redl_tree.specs.Revisions.Markers.{is_row_revision}
+use Rattle.std.proofs.Common.{◌∙◌, refl, is_some, false, rules, tests}
+use Rattle.std.proofs.lemmas.Iterator.{YieldsList-from_slice}
+use Rattle.std.proofs.lemmas.Iterator.Search.{any_from_yields_List}
+use Rattle.redl_tree.specs.Model.View.{item_of}
 use Rattle.redl_tree.specs.Roles.Places.{row_trace_of}
-use Rattle.redl_tree.specs.Model.View.{nodes_of, item_of}
-use Rattle.redl_tree.proofs.Laws.{nodes_here}
 use Rattle.redl_tree.proofs.Idle.Lists.{name_none}
-use Rattle.redl_index.proofs.MarkerLaws.Elements.{revised-here}
+use Rattle.redl_index.specs.Inside.Markers.Trails.{makes_revised}
+use Rattle.redl_index.proofs.MarkerLaws.Elements.{any_revision}
 use Rattle.redl_index.proofs.markers.revised.is_row_revision.Goals as goal
 
-pub returns-then-makes_row_revision : goal.returns-then-makes_row_revision
-returns-then-makes_row_revision c =
-    let kids = c.args.kids.now in
-    let i = c.loop-node.node-index in
-    let x = c.node-item.result in
-    let rest = nodes_of (drop (i + 1) kids) in
-    let test : Tag → Bool = λ tag. is_some (row_trace_of tag) in
-    ap (λ b. b || some_element test (kids_of_all "trPr" rest)) (sym c.if-makes_row_revision.true)
-    ∙ revised-here test "trPr" (name_none "trPr" false refl) (item_of x) rest (nodes_of (drop i kids)) (is_row_revision (nodes_of kids)) c.makes_row_revision.result
-    (nodes_here kids i x (omega (arith, c.loop-node-test.true)) c.node-item.is) c.makes_row_revision.ensures c.loop-node.invariant
-
-pub loop-node-preserved : goal.loop-node-preserved
-loop-node-preserved c =
-    let kids = c.args.kids.now in
-    let i = c.loop-node.node-index in
-    let x = c.node-item.result in
-    let rest = nodes_of (drop (i + 1) kids) in
-    let test : Tag → Bool = λ tag. is_some (row_trace_of tag) in
-    ap (λ b. b || some_element test (kids_of_all "trPr" rest)) (sym c.if-makes_row_revision.false)
-    ∙ revised-here test "trPr" (name_none "trPr" false refl) (item_of x) rest (nodes_of (drop i kids)) (is_row_revision (nodes_of kids)) c.makes_row_revision.result
-    (nodes_here kids i x (omega (arith, c.loop-node-test.true)) c.node-item.is) c.makes_row_revision.ensures c.loop-node.invariant
+pub returns : goal.returns
+returns c =
+    any_from_yields_List (λ node. makes_revised "trPr" (λ tag. is_some (row_trace_of tag)) (item_of node)) _ _ _ c.any.ensures.ran (YieldsList-from_slice c.args.kids.now cc) (λ x b q k. search (rules, tests))
+    ∙ any_revision (λ tag. is_some (row_trace_of tag)) "trPr" (name_none "trPr" false refl) c.args.kids.now
