@@ -1,5 +1,5 @@
--- Each named kind is found by its name, and no name is that of two kinds.
-use Rattle.std.proofs.Common.{◌≡◌, ◌↔◌, ℕ, Bool, true, false, cond, List, [], ◌∷◌, Option, Some, IsTrue, find, refl, sym, ap, subst, ◌∙◌}
+-- Each named kind is in the table once and found by its name, and no name is that of two kinds.
+use Rattle.std.proofs.Common.{◌≡◌, ◌↔◌, ℕ, Bool, true, false, cond, List, [], ◌∷◌, Option, Some, IsTrue, filter, find, length, refl, sym, ap, subst, ◌∙◌}
 use Rattle.std.specs.List.{list_all}
 use Rattle.std.proofs.lemmas.Option.{same_Some}
 use Rattle.std.proofs.lemmas.Slice.Eq.{bytes_eq-Decides}
@@ -8,12 +8,39 @@ use Rattle.redl_tree.specs.declared.kinds.Trace.TheVariants.{Ins, Del, From, To}
 use Rattle.redl_tree.specs.declared.kinds.Prop.TheVariants as props
 use Rattle.redl_index.specs.declared.revision.RevKind.{RevKind}
 use Rattle.redl_index.specs.declared.revision.RevKind.TheVariants.{Content, Move, Mark, Row, Cell, Change}
-use Rattle.redl_index.specs.Kinds.{is_named}
+use Rattle.redl_index.specs.Kinds.{is_named, is_same_kind}
 use Rattle.redl_index.specs.KindNames.{kind_name, is_name_of, kind_named}
-use Rattle.redl_index.specs.declared.kind_names.TheConstants.{NAMED}
+use Rattle.redl_index.specs.declared.kind_names.TheConstants.{KINDS}
 
--- each named kind is in the list, and before it no kind with the same name
-found : (kind : RevKind) → IsTrue (is_named kind) → find (is_name_of (kind_name kind)) NAMED ≡ Some kind
+-- each named kind is in the table once
+pub listed_once : (kind : RevKind) → IsTrue (is_named kind) → length (filter (is_same_kind kind) KINDS) ≡ 1
+listed_once (Content Ins) named = refl
+listed_once (Content Del) named = refl
+listed_once (Content From) named = refl
+listed_once (Content To) named = refl
+listed_once Move named = refl
+listed_once (Mark Ins) named = refl
+listed_once (Mark Del) named = refl
+listed_once (Mark From) named = refl
+listed_once (Mark To) named = refl
+listed_once (Row Ins) named = refl
+listed_once (Row Del) named = refl
+listed_once (Row From) named = absurd cc
+listed_once (Row To) named = absurd cc
+listed_once (Cell Ins) named = refl
+listed_once (Cell Del) named = refl
+listed_once (Cell From) named = absurd cc
+listed_once (Cell To) named = absurd cc
+listed_once (Change props.Run) named = refl
+listed_once (Change props.Para) named = refl
+listed_once (Change props.Sect) named = refl
+listed_once (Change props.Table) named = refl
+listed_once (Change props.Except) named = refl
+listed_once (Change props.Row) named = refl
+listed_once (Change props.Cell) named = refl
+
+-- each named kind is in the table, and before it no kind with the same name
+found : (kind : RevKind) → IsTrue (is_named kind) → find (is_name_of (kind_name kind)) KINDS ≡ Some kind
 found (Content Ins) named = refl
 found (Content Del) named = refl
 found (Content From) named = refl
@@ -58,10 +85,10 @@ takes_among (other ∷ kinds) all name kind e =
 pub kind_named-exact : (name : List ℕ) (kind : RevKind) → (kind_named name ≡ Some kind) ↔ (IsTrue (is_named kind) × (kind_name kind ≡ name))
 unfolding kind_named
 kind_named-exact name kind =
-    (takes_among NAMED refl name kind, λ h. ap (λ (n : List ℕ). find (is_name_of n) NAMED) (sym h.1) ∙ found kind h.0)
+    (takes_among KINDS refl name kind, λ h. ap (λ (n : List ℕ). find (is_name_of n) KINDS) (sym h.1) ∙ found kind h.0)
 
 -- the same from the facts of the code
-pub exact : (name : List ℕ) (result : Option RevKind) → result ≡ find (is_name_of name) NAMED
+pub exact : (name : List ℕ) (result : Option RevKind) → result ≡ find (is_name_of name) KINDS
     → (kind : RevKind) → (result ≡ Some kind) ↔ (IsTrue (is_named kind) × (kind_name kind ≡ name))
 unfolding kind_named
 exact name result is kind = rw is (kind_named-exact name kind)

@@ -5,7 +5,7 @@ use Rattle.redl_tree.specs.declared.kinds.Trace.TheVariants.{Ins, Del, From, To}
 use Rattle.redl_tree.specs.declared.kinds.Prop.TheVariants as props
 use Rattle.redl_index.specs.declared.revision.RevKind.{RevKind}
 use Rattle.redl_index.specs.declared.revision.RevKind.TheVariants.{Content, Move, Mark, Row, Cell, Change}
-use Rattle.redl_index.specs.declared.kind_names.TheConstants.{NAMED}
+use Rattle.redl_index.specs.declared.kind_names.TheConstants.{KINDS}
 
 -- the name of a kind; rows and cells that are moved have none
 abbrev pub kind_name : RevKind → List ℕ
@@ -40,4 +40,4 @@ is_name_of name kind = bytes_eq (kind_name kind) name
 
 -- the kind with this name, if there is one
 unfoldable pub kind_named : List ℕ → Option RevKind
-kind_named name = find (is_name_of name) NAMED
+kind_named name = find (is_name_of name) KINDS

@@ -1,16 +1,16 @@
 //! The names of the kinds of revisions.
 
-ghost use Rattle.std.specs.Prelude.{◌≡◌, ◌↔◌, IsTrue, Some, find};
+ghost use Rattle.std.specs.Prelude.{◌≡◌, ◌↔◌, All, IsTrue, Some, filter, find, length};
 ghost use Rattle.std.specs.Option.{option_copied};
-ghost use Rattle.redl_index.specs.Kinds.{is_named};
+ghost use Rattle.redl_index.specs.Kinds.{is_named, is_same_kind};
 ghost use Rattle.redl_index.specs.KindNames.{kind_name, is_name_of};
 ghost use Rattle.redl_index.specs.declared.revision.RevKind.{RevKind};
 
 use crate::revision::RevKind;
 use redl_tree::{Prop, Trace};
 
-// The kinds that have a name.
-static NAMED: [RevKind; 20] = [
+/// The kinds that have a name, in the order of their table. Each of them is here once, and no other kind is (`kinds_are_listed_once`).
+pub static KINDS: [RevKind; 20] = [
     RevKind::Content(Trace::Ins),
     RevKind::Content(Trace::Del),
     RevKind::Content(Trace::From),
@@ -47,7 +47,7 @@ impl RevKind {
     pub fn named(name: &[u8]) -> Option<RevKind>
         ensures { (kind : RevKind) → (result ≡ Some kind) ↔ (IsTrue (is_named kind) × (kind_name kind ≡ name.now)) }
     {
-        first_with_name(&NAMED, name).copied()
+        first_with_name(&KINDS, name).copied()
     }
 
     // The name, or the empty text for a kind without one.
@@ -112,6 +112,13 @@ fn change_name(prop: Prop) -> &'static str
         Prop::Cell => "cell-props",
     }
 }
+
+/// Each kind that has a name is in `KINDS` once, and no other kind is in it.
+#[tactic(auto, using(crate::proofs::KindNameLaws::listed_once))]
+pub fn kinds_are_listed_once()
+    ensures once { (kind : RevKind) → IsTrue (is_named kind) → length (filter (is_same_kind kind) KINDS) ≡ 1 }
+    ensures others { All (λ kind. IsTrue (is_named kind)) KINDS }
+{}
 
 /// No two kinds have the same name.
 pub fn one_kind_for_a_name()

@@ -24,7 +24,7 @@ mod survey;
 mod walk;
 
 pub use index::Index;
-pub use kind_names::one_kind_for_a_name;
+pub use kind_names::{KINDS, kinds_are_listed_once, one_kind_for_a_name};
 pub use laws::{each_revision_has_a_part, numbering_keeps_revisions, revisions_are_numbered};
 pub use markers::{StoryMarkers, find_markers};
 pub use numbering::number;

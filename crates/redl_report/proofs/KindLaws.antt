@@ -3,7 +3,7 @@ use Rattle.std.proofs.Common.{◌≡◌, ◌∙◌, ◌≤◌, ℕ, Bool, true, 
 use Rattle.std.proofs.lemmas.List.Elements.{filter-append}
 use Rattle.redl_index.specs.declared.revision.RevKind.{RevKind}
 use Rattle.redl_index.specs.declared.revision.Revision.{Revision}
-use Rattle.redl_select.specs.Selections.{is_same_kind}
+use Rattle.redl_index.specs.Kinds.{is_same_kind}
 use Rattle.redl_report.specs.Reports.{of_kind}
 
 abbrev is_of : RevKind → Revision → Bool

@@ -11,19 +11,16 @@ use Rattle.std.proofs.lemmas.List.{append-nil}
 use Rattle.std.proofs.lemmas.List.Concat.{flat_map-cons}
 use Rattle.std.proofs.lemmas.List.Elements.{All-append, All-filter, All-from_recursion, All-same, All-weaker, filter-append, recursion_from_All}
 use Rattle.std.proofs.lemmas.Map.Text.{is_eq-slice_cmp}
-use Rattle.redl_tree.specs.declared.kinds.Trace.TheVariants.{Ins, Del, From, To}
-use Rattle.redl_tree.specs.declared.kinds.Prop.TheVariants as props
-use Rattle.redl_index.specs.Kinds.{is_named}
+use Rattle.redl_index.specs.Kinds.{is_named, is_same_kind}
 use Rattle.redl_index.specs.Revisions.{IsListable}
+use Rattle.redl_index.specs.declared.kind_names.TheConstants.{KINDS}
 use Rattle.redl_index.specs.declared.revision.RevKind.{RevKind}
-use Rattle.redl_index.specs.declared.revision.RevKind.TheVariants as kind
 use Rattle.redl_index.specs.declared.revision.Revision.{Revision}
+use Rattle.redl_index.proofs.KindNameLaws.{listed_once}
 use Rattle.redl_join.proofs.NumbersOf.{bytes_same}
 use Rattle.redl_join.specs.Verdicts.{verdict_at}
 use Rattle.redl_join.specs.declared.verdict.Verdict.{Verdict}
 use Rattle.redl_journal.specs.declared.entry.Entry.{Entry}
-use Rattle.redl_select.specs.Selections.{is_same_kind}
-use Rattle.redl_report.specs.declared.kinds.TheConstants.{KINDS}
 use Rattle.redl_report.specs.declared.line.ReportLine.{ReportLine}
 use Rattle.redl_report.specs.declared.totals.Totals.{Totals}
 use Rattle.redl_report.specs.Counts.{counts_any}
@@ -35,36 +32,16 @@ use Rattle.redl_report.proofs.GroupLaws.{keys-sorted, none-sorted, order, other_
 
 -- ---- each kind once
 
+-- one thing more, that is counted or not
+filter-more : {X : Type 0} (test : X → Bool) (x : X) (xs : List X) → length (filter test (x ∷ xs)) ≡ cond (test x) 1 0 + length (filter test xs)
+filter-more test x xs = by (test x) where
+  by : (b : Bool) → length (cond b (x ∷ filter test xs) (filter test xs)) ≡ cond b 1 0 + length (filter test xs)
+  by true = omega arith
+  by false = omega arith
+
 -- how often a kind is among these
 abbrev times : List RevKind → RevKind → ℕ
-times [] one = 0
-times (other ∷ kinds) one = cond (is_same_kind one other) 1 0 + times kinds one
-
-once : (one : RevKind) → IsTrue (is_named one) → times KINDS one ≡ 1
-once (kind.Content Ins) named = refl
-once (kind.Content Del) named = refl
-once (kind.Content From) named = refl
-once (kind.Content To) named = refl
-once kind.Move named = refl
-once (kind.Mark Ins) named = refl
-once (kind.Mark Del) named = refl
-once (kind.Mark From) named = refl
-once (kind.Mark To) named = refl
-once (kind.Row Ins) named = refl
-once (kind.Row Del) named = refl
-once (kind.Row From) named = absurd cc
-once (kind.Row To) named = absurd cc
-once (kind.Cell Ins) named = refl
-once (kind.Cell Del) named = refl
-once (kind.Cell From) named = absurd cc
-once (kind.Cell To) named = absurd cc
-once (kind.Change props.Run) named = refl
-once (kind.Change props.Para) named = refl
-once (kind.Change props.Sect) named = refl
-once (kind.Change props.Table) named = refl
-once (kind.Change props.Except) named = refl
-once (kind.Change props.Row) named = refl
-once (kind.Change props.Cell) named = refl
+times kinds one = length (filter (is_same_kind one) kinds)
 
 -- ---- how many revisions, kind by kind
 
@@ -91,10 +68,7 @@ module _ (decide : Revision → Verdict) (p : Verdict → Bool) where
   by_kinds (one ∷ kinds) revisions = number_of (of_kind one revisions) + by_kinds kinds revisions
 
   number-more : (revision : Revision) (revisions : List Revision) → number_of (revision ∷ revisions) ≡ cond (p (decide revision)) 1 0 + number_of revisions
-  number-more revision revisions = by (p (decide revision)) where
-    by : (b : Bool) → length (cond b (decide revision ∷ filter p (map decide revisions)) (filter p (map decide revisions))) ≡ cond b 1 0 + number_of revisions
-    by true = omega arith
-    by false = omega arith
+  number-more revision revisions = filter-more p (decide revision) (map decide revisions)
 
   of_kind-number : (one : RevKind) (revision : Revision) (revisions : List Revision)
       → number_of (of_kind one (revision ∷ revisions)) ≡ cond (is_same_kind revision.kind one) (cond (p (decide revision)) 1 0) 0 + number_of (of_kind one revisions)
@@ -112,6 +86,7 @@ module _ (decide : Revision → Verdict) (p : Verdict → Bool) where
   by_kinds-more (one ∷ kinds) revision revisions =
       more (is_same_kind revision.kind one) (p (decide revision)) (number_of (of_kind one (revision ∷ revisions))) (number_of (of_kind one revisions)) (by_kinds kinds (revision ∷ revisions)) (times kinds revision.kind) (by_kinds kinds revisions)
       (of_kind-number one revision revisions) (by_kinds-more kinds revision revisions)
+      ∙ ap (λ n. cond (p (decide revision)) n 0 + by_kinds (one ∷ kinds) revisions) (sym (filter-more (is_same_kind revision.kind) one kinds))
 
   none-counted : (kinds : List RevKind) → by_kinds kinds [] ≡ 0
   none-counted [] = refl
@@ -123,7 +98,7 @@ module _ (decide : Revision → Verdict) (p : Verdict → Bool) where
   all-counted (revision ∷ revisions) named =
       by_kinds-more KINDS revision revisions
       ∙ joined (p (decide revision)) (times KINDS revision.kind) (by_kinds KINDS revisions) (number_of revisions) (number_of (revision ∷ revisions))
-      (once revision.kind named.0) (all-counted revisions named.1) (number-more revision revisions)
+      (listed_once revision.kind named.0) (all-counted revisions named.1) (number-more revision revisions)
 
 -- ---- the lines of kinds, together
 

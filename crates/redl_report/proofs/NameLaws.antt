@@ -14,7 +14,7 @@ use Rattle.redl_journal.specs.Journals.{IsAllowed}
 use Rattle.redl_report.specs.declared.line.ReportLine.{ReportLine}
 use Rattle.redl_index.specs.Kinds.{is_named}
 use Rattle.redl_index.specs.declared.revision.RevKind.{RevKind}
-use Rattle.redl_report.specs.declared.kinds.TheConstants.{KINDS}
+use Rattle.redl_index.specs.declared.kind_names.TheConstants.{KINDS}
 use Rattle.redl_report.specs.Counts.{IsLine, counts_any}
 use Rattle.redl_report.specs.Groups.{Group, group_of, grouped, names_in_order}
 use Rattle.redl_report.specs.Reports.{author_line, author_lines, author_of, kind_line, kind_lines, report_lines, report_lines_by_kind, reviewer_line, reviewer_of}

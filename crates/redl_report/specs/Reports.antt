@@ -4,9 +4,10 @@ use Rattle.std.specs.Prelude.{◌&&◌, ℕ, nat_le, Bool, true, false, List, []
 use Rattle.std.specs.BTreeSet.{insert_key}
 use Rattle.std.specs.List.{flat_map, fold}
 use Rattle.std.specs.Ordering.{nat_cmp}
-use Rattle.redl_report.specs.declared.kinds.TheConstants.{KINDS}
+use Rattle.redl_index.specs.declared.kind_names.TheConstants.{KINDS}
 use Rattle.redl_index.specs.declared.revision.RevKind.{RevKind}
 use Rattle.redl_index.specs.declared.revision.Revision.{Revision}
+use Rattle.redl_index.specs.Kinds.{is_same_kind}
 use Rattle.redl_journal.specs.declared.entry.Entry.{Entry}
 use Rattle.redl_join.specs.Verdicts.{verdict_at}
 use Rattle.redl_join.specs.declared.verdict.Verdict.{Verdict}
@@ -16,7 +17,6 @@ use Rattle.redl_report.specs.declared.line.Role.{Role}
 use Rattle.redl_report.specs.declared.line.Role.TheVariants.{Reviewer, Author, Kind}
 use Rattle.redl_report.specs.Counts.{counts_any}
 use Rattle.redl_report.specs.Groups.{Group, grouped}
-use Rattle.redl_select.specs.Selections.{is_same_kind}
 
 -- ---- verdicts, counted
 

@@ -7,9 +7,9 @@ ghost use Rattle.redl_report.specs.Groups.{grouped, group_with};
 ghost use Rattle.redl_report.specs.Reports.{author_line, author_lines, author_of};
 
 use crate::groups::by_author;
-use crate::kinds::{KINDS, add_kinds};
+use crate::kinds::add_kinds;
 use crate::line::{ReportLine, Role};
-use redl_index::Revision;
+use redl_index::{KINDS, Revision};
 use redl_join::Book;
 use std::alloc::{AllocError, Global};
 

@@ -2,39 +2,14 @@
 
 ghost use Rattle.std.specs.Prelude.{◌≡◌, ◌≤◌, ◌++◌, length, map, IfOk, OnOk};
 ghost use Rattle.std.specs.Map.Iter.{deref};
+ghost use Rattle.redl_index.specs.Kinds.{is_same_kind};
 ghost use Rattle.redl_report.specs.Groups.{group_with};
 ghost use Rattle.redl_report.specs.Reports.{kind_line, kind_lines};
-ghost use Rattle.redl_select.specs.Selections.{is_same_kind};
 
 use crate::line::{ReportLine, Role};
 use redl_index::{RevKind, Revision};
 use redl_join::Book;
-use redl_tree::{Prop, Trace};
 use std::alloc::{AllocError, Global};
-
-/// The kinds of revisions, in the order of their table.
-pub(crate) static KINDS: [RevKind; 20] = [
-    RevKind::Content(Trace::Ins),
-    RevKind::Content(Trace::Del),
-    RevKind::Content(Trace::From),
-    RevKind::Content(Trace::To),
-    RevKind::Move,
-    RevKind::Mark(Trace::Ins),
-    RevKind::Mark(Trace::Del),
-    RevKind::Mark(Trace::From),
-    RevKind::Mark(Trace::To),
-    RevKind::Row(Trace::Ins),
-    RevKind::Row(Trace::Del),
-    RevKind::Cell(Trace::Ins),
-    RevKind::Cell(Trace::Del),
-    RevKind::Change(Prop::Run),
-    RevKind::Change(Prop::Para),
-    RevKind::Change(Prop::Sect),
-    RevKind::Change(Prop::Table),
-    RevKind::Change(Prop::Except),
-    RevKind::Change(Prop::Row),
-    RevKind::Change(Prop::Cell),
-];
 
 /// Adds a line for each of these kinds of which an author has revisions. `Err` means out of memory.
 pub(crate) fn add_kinds(

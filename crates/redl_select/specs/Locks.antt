@@ -2,9 +2,10 @@
 use Rattle.std.specs.Prelude.{Bool, true, false}
 use Rattle.std.specs.Str.{bytes_eq}
 use Rattle.redl_index.specs.declared.revision.Revision.{Revision}
+use Rattle.redl_index.specs.Kinds.{is_same_kind}
 use Rattle.redl_select.specs.declared.lock.Lock.{Lock}
 use Rattle.redl_select.specs.declared.lock.Lock.TheVariants.{Author, Kind, Span}
-use Rattle.redl_select.specs.Selections.{is_same_kind, is_within}
+use Rattle.redl_select.specs.Selections.{is_within}
 
 -- a lock on the revisions of an author
 abbrev pub is_author : Lock → Bool

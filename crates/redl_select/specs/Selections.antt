@@ -4,13 +4,9 @@ use Rattle.std.specs.List.{list_any, range_with_len}
 use Rattle.std.specs.Str.{bytes_eq}
 use Rattle.std.specs.Ordering.{nat_cmp}
 use Rattle.std.specs.BTreeSet.{insert_key}
-use Rattle.redl_tree.specs.declared.kinds.Trace.{Trace}
-use Rattle.redl_tree.specs.declared.kinds.Trace.TheVariants.{Ins, Del, From, To}
-use Rattle.redl_tree.specs.declared.kinds.Prop.{Prop}
-use Rattle.redl_tree.specs.declared.kinds.Prop.TheVariants as props
 use Rattle.redl_index.specs.declared.revision.RevKind.{RevKind}
-use Rattle.redl_index.specs.declared.revision.RevKind.TheVariants.{Content, Move, Mark, Row, Cell, Change}
 use Rattle.redl_index.specs.declared.revision.Revision.{Revision}
+use Rattle.redl_index.specs.Kinds.{is_same_kind}
 use Rattle.redl_select.specs.declared.group.Group.{Group}
 use Rattle.redl_select.specs.declared.selection.Listed.{Listed}
 use Rattle.redl_select.specs.declared.selection.Listed.TheVariants.{One, Range}
@@ -32,32 +28,6 @@ pub data Selection : Type 0 where
   group : Group → Selection
 
 -- ---- the revisions that a selection means
-
--- traces and properties, told apart by a number for each
-abbrev pub trace_rank : Trace → ℕ
-trace_rank Ins = 0
-trace_rank Del = 1
-trace_rank From = 2
-trace_rank To = 3
-
-abbrev pub prop_rank : Prop → ℕ
-prop_rank props.Run = 0
-prop_rank props.Para = 1
-prop_rank props.Sect = 2
-prop_rank props.Table = 3
-prop_rank props.Except = 4
-prop_rank props.Row = 5
-prop_rank props.Cell = 6
-
--- the two kinds are the same
-abbrev pub is_same_kind : RevKind → RevKind → Bool
-is_same_kind (Content a) (Content b) = trace_rank a == trace_rank b
-is_same_kind Move Move = true
-is_same_kind (Mark a) (Mark b) = trace_rank a == trace_rank b
-is_same_kind (Row a) (Row b) = trace_rank a == trace_rank b
-is_same_kind (Cell a) (Cell b) = trace_rank a == trace_rank b
-is_same_kind (Change a) (Change b) = prop_rank a == prop_rank b
-is_same_kind _ _ = false
 
 -- the moment is from the first on and before the second; without a moment it isn't
 abbrev pub is_within : ℤ → ℤ → Option ℤ → Bool
