@@ -17,7 +17,7 @@ use Rattle.redl_moves.specs.Starts.{start_in}
 use Rattle.redl_moves.proofs.AgainLaws.{In, filter-in}
 use Rattle.redl_moves.proofs.ThereLaws.{pair-there}
 use Rattle.redl_index.specs.Kinds.{kind_of}
-use Rattle.redl_index.specs.Inside.Numberings.{NumbersView, taken, number_at, given_at, number_in_revision, given_in_revision, number_given, given, number_in, IsPlaced, IsNumbering}
+use Rattle.redl_index.specs.Inside.Numberings.{NumbersView, one_given, number_at, given_at, number_in_revision, given_in_revision, number_given, given, number_in, IsPlaced, IsNumbering}
 use Rattle.redl_index.specs.declared.story.Sight.{Sight}
 
 -- ---- the source of each move starts with a marker
@@ -168,7 +168,7 @@ in-none Marker p is = absurd (true≢false is)
 -- ---- the number of an element, and the numbers after it
 
 module _ (marks : List Marking) (numbers : NumbersView) (so_far : Numbering) (had : IsNumbering marks numbers so_far) where
-  numbering-own : IsNumbering marks (taken numbers) (counted in_own so_far)
+  numbering-own : IsNumbering marks (one_given numbers) (counted in_own so_far)
   numbering-own = record {
     rising = had.rising;
     next = ap (λ n. n + 1) had.next;

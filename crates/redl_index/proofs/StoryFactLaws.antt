@@ -1,5 +1,5 @@
 -- What is known of the stories of a package, a part at a time, and of the next story in the list.
-use Rattle.std.proofs.Common.{◌≡◌, ◌∙◌, ◌<◌, ◌≤◌, ◌+◌, ◌++◌, ◌∷◌, [], ℕ, zero, suc, List, length, map, drop, slice_get, ap, sym, Some, None, option_map, option_to_list, append_assoc, arith}
+use Rattle.std.proofs.Common.{◌≡◌, ◌∙◌, ◌<◌, ◌≤◌, ◌+◌, ◌++◌, ◌∷◌, [], ℕ, zero, suc, List, length, map, drop, slice_get, ap, sym, Some, None, option_to_list, append_assoc, arith}
 use Rattle.std.proofs.lemmas.List.{map-append, append-nil}
 use Rattle.redl_tree.specs.Decisions.Packages.{stories}
 use Rattle.redl_tree.specs.Model.Nodes.{Nodes}

@@ -1,6 +1,6 @@
 //! The walk that labels the stories of a package: each element below a root gets its kind and the number of its revision.
 
-ghost use Rattle.std.specs.Prelude.{◌≡◌, ◌+◌, ◌^◌, ◌<◌, IsTrue, None, map};
+ghost use Rattle.std.specs.Prelude.{◌≡◌, ◌+◌, ◌^◌, ◌<◌, IfOk, IsTrue, None, OnErr, OnOk, map};
 ghost use Rattle.redl_tree.specs.Model.Count.{count};
 ghost use Rattle.redl_tree.specs.Model.Text.{text};
 ghost use Rattle.redl_tree.specs.Model.View.{tag_of, kids_of};
@@ -13,14 +13,28 @@ ghost use Rattle.redl_index.specs.Numbers.{numbered_package, package_revisions};
 
 use crate::numbers::Numbers;
 use crate::story::Sight;
-use crate::story_facts::StoryFacts;
+use crate::story_facts::{StoryFacts, known_stories};
 use crate::walk::Walk;
 use redl_moves::Moves;
 use redl_opc::Package;
 use redl_tree::{Around, Elem, Plain, StoryChange};
 use redl_visit::{Label, Labeller, label_kids};
+use std::alloc::{AllocError, Global};
 use std::convert::Infallible;
 use std::mem;
+
+/// Numbers the revisions of a package as `Index::build` does, and only counts them.
+///
+/// It reads no author and no date. All else in the package stays. `Err` means out of memory, and then the package is as before.
+pub fn number(alloc: Global, pkg: &mut Package) -> Result<u32, AllocError>
+    ensures count { IfOk result (λ count. count ≡ package_revisions pkg.old) }
+    ensures nodes { OnOk result (pkg.new ≡ numbered_package pkg.old) }
+    ensures text { OnOk result (text pkg.new ≡ text pkg.old) }
+    ensures unchanged { OnErr result (pkg.new ≡ pkg.old) }
+{
+    let known = known_stories(alloc, pkg)?;
+    Ok(label_stories(pkg, known))
+}
 
 /// Labels the stories of a package, given `known`, one for each story, and gives how many revisions there are. It takes no memory.
 pub(crate) fn label_stories(pkg: &mut Package, known: Vec<StoryFacts>) -> u32

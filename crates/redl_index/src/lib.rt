@@ -15,7 +15,6 @@ mod kind_names;
 mod label;
 mod laws;
 mod markers;
-mod numbering;
 mod numbers;
 mod revision;
 mod story;
@@ -25,8 +24,8 @@ mod walk;
 
 pub use index::Index;
 pub use kind_names::{KINDS, kinds_are_listed_once, one_kind_for_a_name};
+pub use label::number;
 pub use laws::{each_revision_has_a_part, numbering_keeps_revisions, revisions_are_numbered};
 pub use markers::{StoryMarkers, find_markers};
-pub use numbering::number;
 pub use revision::{RevKind, Revision};
 pub use survey::{Counted, Numbered, Surveyed};

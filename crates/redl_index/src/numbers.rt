@@ -2,7 +2,7 @@
 
 ghost use Rattle.std.specs.Prelude.{◌≡◌, ◌+◌, ◌^◌, ◌<◌, get_or, set, is_some};
 ghost use Rattle.redl_index.specs.Kinds.{kind_of};
-ghost use Rattle.redl_index.specs.Inside.Numberings.{numbers_view, taken, number_at, given_at, number_given, given};
+ghost use Rattle.redl_index.specs.Inside.Numberings.{numbers_view, one_given, number_at, given_at, number_given, given};
 
 use crate::story::Sight;
 use redl_tree::Kind;
@@ -51,7 +51,7 @@ impl Numbers {
     fn take(&mut self) -> u32
         requires few { self.old.next + 1 < 2 ^ 32 }
         ensures number { result ≡ self.old.next }
-        ensures taken { numbers_view self.new ≡ taken (numbers_view self.old) }
+        ensures taken { numbers_view self.new ≡ one_given (numbers_view self.old) }
     {
         let number = self.next;
         self.next += 1;

@@ -17,8 +17,8 @@ abbrev pub numbers_view : Numbers → NumbersView
 numbers_view numbers = record { next = numbers.next; moves = numbers.moves.items }
 
 -- after the next number was given
-abbrev pub taken : NumbersView → NumbersView
-taken numbers = record numbers { next = numbers.next + 1 }
+abbrev pub one_given : NumbersView → NumbersView
+one_given numbers = record numbers { next = numbers.next + 1 }
 
 -- the number of a move, which is the next one where it has none, and the numbers after that
 abbrev pub number_at : ℕ → NumbersView → ℕ
@@ -34,7 +34,7 @@ number_in_revision None numbers = numbers.next
 number_in_revision (Some start) numbers = number_at start.place numbers
 
 abbrev pub given_in_revision : Option Start → NumbersView → NumbersView
-given_in_revision None numbers = taken numbers
+given_in_revision None numbers = one_given numbers
 given_in_revision (Some start) numbers = given_at start.place numbers
 
 -- the number of an element, which is 0 where it is in no revision, and the numbers after it
