@@ -11,7 +11,7 @@ use Rattle.redl_inputs.specs.Steps.{◌>>=◌}
 use Rattle.redl_io.specs.Shelf.{Files}
 use Rattle.redl_lines.specs.Ends.{End, failed}
 use Rattle.redl_lines.specs.Failures.{Failure, caused, unread, no_memory, no_format}
-use Rattle.redl_listing.specs.Formats.{first_named}
+use Rattle.redl_formats.specs.Formats.{first_named}
 
 -- whether a format was found says no more than this
 found_whether : {I : Type 0} (name : List ℕ) (found : Option (Format I)) (failure : Failure) → whether (found_format name found) ≡ Err failure → NeverUnread {Y = Unit {0}} (Err failure)

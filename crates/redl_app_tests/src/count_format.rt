@@ -2,7 +2,8 @@
 
 ghost use Rattle.std.specs.Prelude.{◌≡◌, IfOk, [], false};
 
-use redl_listing::{Item, Row, RowError, RowFormat};
+use redl_formats::Item;
+use redl_listing::{Row, RowError, RowFormat};
 use std::alloc::{AllocError, Global};
 use std::marker::Model;
 

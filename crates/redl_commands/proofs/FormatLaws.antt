@@ -22,8 +22,8 @@ use Rattle.redl_lines.specs.Ends.{End, end_status, failed, written_status}
 use Rattle.redl_lines.specs.Refused.{RefusedEntries}
 use Rattle.redl_lines.specs.Failures.{Failure, caused, unread, no_memory, no_format, failure_status}
 use Rattle.redl_details.specs.declared.detail.Detail.{Detail}
-use Rattle.redl_listing.proofs.NameLaws.{named_here, named_later}
-use Rattle.redl_listing.specs.Formats.{IsListed, first_named}
+use Rattle.redl_formats.proofs.NameLaws.{named_here, named_later}
+use Rattle.redl_formats.specs.Formats.{IsListed, first_named}
 use Rattle.redl_index.specs.declared.revision.Revision.{Revision}
 use Rattle.redl_join.specs.Verdicts.{verdict_at}
 use Rattle.redl_join.specs.declared.verdict.Verdict.{Verdict}

@@ -3,7 +3,7 @@ use Rattle.std.specs.Prelude.{◌≡◌, ◌⊎◌, ℕ, Bool, true, false, List
 use Rattle.redl_lines.specs.Failures.{Failure, caused, no_format}
 use Rattle.redl_lines.specs.declared.status.Status.{Status}
 use Rattle.redl_lines.specs.declared.status.Status.TheVariants as status
-use Rattle.redl_listing.specs.Formats.{first_named, without_named}
+use Rattle.redl_formats.specs.Formats.{first_named, without_named}
 
 -- a format of rows or other items: its name, and the text that it gives for all of them
 pub record Format (I : Type 0) : Type 0 where

@@ -8,7 +8,7 @@ ghost use Rattle.redl_commands.specs.Views.{writing_view};
 ghost use Rattle.redl_inputs.specs.Views.{admission_view, result_view};
 ghost use Rattle.redl_commands.specs.Writing.{outcome_of};
 ghost use Rattle.redl_details.specs.Details.{IsDetail};
-ghost use Rattle.redl_listing.specs.Formats.{without_named};
+ghost use Rattle.redl_formats.specs.Formats.{without_named};
 ghost use Rattle.redl_opc.specs.Shape.{parts_of};
 ghost use Rattle.redl_words.specs.Views.{onlys_view};
 

@@ -7,7 +7,7 @@ ghost use Rattle.redl_commands.specs.Views.{writing_view};
 ghost use Rattle.redl_commands.specs.Writing.{outcome_of};
 ghost use Rattle.redl_inputs.specs.Reading.{Reads, ReadsFiles};
 ghost use Rattle.redl_inputs.specs.Views.{admission_view, result_view};
-ghost use Rattle.redl_listing.specs.Formats.{without_named};
+ghost use Rattle.redl_formats.specs.Formats.{without_named};
 ghost use Rattle.redl_report.specs.Counts.{IsLine};
 
 use crate::output::{Output, Writing};

@@ -13,7 +13,7 @@ use Rattle.redl_index.specs.KindNames.{kind_name}
 use Rattle.redl_journal.specs.Journals.{word_text}
 use Rattle.redl_listing.specs.declared.row.Row.{Row}
 use Rattle.redl_listing.specs.Full.{full_row, id_token, json_id, json_says, said_tokens}
-use Rattle.redl_listing.specs.Texts.{date_token, json_date, verdict_name}
+use Rattle.redl_formats.specs.Fields.{date_token, json_date, verdict_name}
 
 -- the tokens behind the last words
 abbrev end_tokens : Row → List Token

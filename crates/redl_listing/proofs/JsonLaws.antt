@@ -8,7 +8,8 @@ use Rattle.serde_json.specs.Data as value
 use Rattle.serde_json.specs.Written.{compact_text}
 use Rattle.redl_index.specs.KindNames.{kind_name}
 use Rattle.redl_listing.specs.declared.row.Row.{Row}
-use Rattle.redl_listing.specs.Texts.{date_token, json_date, json_row, verdict_name}
+use Rattle.redl_formats.specs.Fields.{date_token, json_date, verdict_name}
+use Rattle.redl_listing.specs.Texts.{json_row}
 
 -- the tokens of a row with this date
 abbrev tokens_with : Row → Option ℤ → List Token

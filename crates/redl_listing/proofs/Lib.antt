@@ -1,9 +1,5 @@
-pub mod ArrayLaws
-pub mod DateLaws
 pub mod FullLaws
 pub mod JsonLaws
-pub mod NameLaws
-pub mod PlainLaws
 pub mod RowLaws
 mod Rows
 pub mod WordLaws

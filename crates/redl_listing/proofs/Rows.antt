@@ -3,12 +3,12 @@ use Rattle.std.proofs.Common.{◌≡◌, true, false, [], ◌∷◌, ◌++◌, S
 use Rattle.std.specs.Fmt.{digits}
 use Rattle.redl_tree.specs.declared.kinds.Trace.TheVariants.{Ins}
 use Rattle.redl_index.specs.declared.revision.RevKind.TheVariants.{Content, Move}
-use Rattle.redl_stamp.specs.Moment.{first_moment, last_moment}
 use Rattle.redl_join.specs.declared.verdict.Verdict.TheVariants.{Undecided, Disputed}
 use Rattle.redl_details.specs.Details.{no_detail}
 use Rattle.redl_listing.specs.declared.row.Row.{Row}
-use Rattle.redl_listing.specs.Dates.{year_and_day, month_and_day, date_text}
-use Rattle.redl_listing.specs.Texts.{tab, newline, shown, escape, text_row, decided_columns, named_fields, decided_fields, tab_row, text_listing, tab_listing, json_listing}
+use Rattle.redl_formats.specs.Dates.{year_and_day, month_and_day}
+use Rattle.redl_formats.specs.Fields.{tab, newline, shown, escape}
+use Rattle.redl_listing.specs.Texts.{text_row, decided_columns, named_fields, decided_fields, tab_row, text_listing, tab_listing, json_listing}
 
 -- an insertion of Ann's
 insertion : Row
@@ -57,16 +57,3 @@ row_json_empty = refl
 
 row_json_open : json_listing [] false ≡ codes "["
 row_json_open = refl
-
--- the bounds of the years 0000 to 9999, and the day before a leap year's March
-row_first : date_text (Some first_moment) ≡ codes "0000-01-01T00:00:00Z"
-unfolding year_and_day month_and_day
-row_first = refl
-
-row_last : date_text (Some last_moment) ≡ codes "9999-12-31T23:59:59Z"
-unfolding year_and_day month_and_day
-row_last = refl
-
-row_leap : date_text (Some (pos 951_782_400)) ≡ codes "2000-02-29T00:00:00Z"
-unfolding year_and_day month_and_day
-row_leap = refl

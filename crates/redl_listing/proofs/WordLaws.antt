@@ -2,7 +2,7 @@
 use Rattle.std.proofs.Common.{◌≡◌, ◌<◌, ◌-◌, ◌++◌, ◌∙◌, ℕ, Bool, true, false, List, map, nat_le, refl, sym, ap, arith}
 use Rattle.std.proofs.lemmas.Bool.{leb-true}
 use Rattle.redl_excerpts.specs.Lines.{characters_in, without_characters}
-use Rattle.redl_listing.specs.Texts.{shown}
+use Rattle.redl_formats.specs.Fields.{shown}
 use Rattle.redl_listing.specs.Words.{dots, near_end}
 
 near_end-long : (text : List ℕ) → 11 < characters_in text → near_end text ≡ dots ++ without_characters (characters_in text - 11) text

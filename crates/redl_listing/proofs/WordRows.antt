@@ -8,7 +8,7 @@ use Rattle.redl_join.specs.declared.verdict.Verdict.TheVariants.{Accept, Dispute
 use Rattle.redl_journal.specs.declared.entry.Word.TheVariants as word
 use Rattle.redl_excerpts.specs.Phrases.{begun, heard_byte, paused}
 use Rattle.redl_listing.specs.declared.row.Row.{Row}
-use Rattle.redl_listing.specs.Texts.{newline, shown}
+use Rattle.redl_formats.specs.Fields.{newline, shown}
 use Rattle.redl_listing.specs.Words.{dots, numbered_columns, quoted, words_columns, words_row}
 
 -- a disputed deletion: both neighbours are cut, and who said what stands behind

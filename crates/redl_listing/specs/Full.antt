@@ -8,8 +8,8 @@ use Rattle.redl_details.specs.declared.last_word.LastWord.{LastWord}
 use Rattle.redl_index.specs.KindNames.{kind_name}
 use Rattle.redl_journal.specs.Journals.{word_text}
 use Rattle.redl_listing.specs.declared.row.Row.{Row}
-use Rattle.redl_listing.specs.Formats.{array_of}
-use Rattle.redl_listing.specs.Texts.{date_token, json_date, verdict_name}
+use Rattle.redl_formats.specs.Formats.{array_of}
+use Rattle.redl_formats.specs.Fields.{date_token, json_date, verdict_name}
 
 -- the own id of an element, or null
 abbrev pub json_id : Option (List ℕ) → Data

@@ -15,7 +15,7 @@ use Rattle.redl_journal.specs.Journals.{word_text}
 use Rattle.redl_tree.specs.declared.kinds.Trace.{Trace}
 use Rattle.redl_tree.specs.declared.kinds.Trace.TheVariants.{Ins, Del, From, To}
 use Rattle.redl_listing.specs.declared.row.Row.{Row}
-use Rattle.redl_listing.specs.Texts.{left_in, newline, right_in, shown, space, verdict_name}
+use Rattle.redl_formats.specs.Fields.{left_in, newline, right_in, shown, space, verdict_name}
 
 -- the signs of what was inserted, deleted, or moved
 abbrev pub opening_of : Trace → List ℕ

@@ -1,20 +1,18 @@
 //! Formats of listings.
 
 ghost use Rattle.std.specs.Prelude.{◌≡◌, ◌++◌, ◌∷◌, [], List, ℕ, Bool, true, false, OnOk, OnErr};
-ghost use Rattle.redl_listing.specs.Formats.{lines_of, array_of};
+ghost use Rattle.redl_formats.specs.Formats.{lines_of, array_of};
 ghost use Rattle.redl_listing.specs.Rows.{IsRow};
 ghost use Rattle.redl_listing.specs.declared.row.Row.{Row};
 
-use crate::array_format::ArrayFormat;
 use crate::full_rows::FullRows;
 use crate::json_rows::JsonRows;
-use crate::line_format::LineFormat;
 use crate::named::Named;
-use crate::piece::Piece;
 use crate::row::Row;
 use crate::tab_rows::TabRows;
 use crate::text_rows::TextRows;
 use crate::words_rows::WordsRows;
+use redl_formats::{ArrayFormat, LineFormat, Piece};
 use std::alloc::AllocError;
 
 /// The format `text`.

@@ -7,12 +7,10 @@ ghost use Rattle.json.specs.Token.{begin_array as begin_array_token, end_array a
 ghost use Rattle.redl_listing.specs.Rows.{IsRow};
 ghost use Rattle.redl_listing.specs.Full.{front_tokens, full_row, id_token, said_tokens};
 
-use crate::fields::{verdict_name, word_name};
-use crate::json_rows::{put_date, put_number, put_text};
-use crate::piece::Piece;
 use crate::row::Row;
 use json::Writer;
 use redl_details::LastWord;
+use redl_formats::{Piece, put_date, put_number, put_text, verdict_name, word_name};
 use redl_io::Text;
 use std::alloc::AllocError;
 

@@ -2,37 +2,26 @@
 //!
 //! Read `list` first. It takes the first format with a name out of a list of boxed formats, gives it a row for each revision,
 //! closes it and hands its text out. It rests on what `RowFormat` promises, whatever boxes the caller made.
-//! `TextFormat`, `TabFormat`, `JsonFormat`, `WordsFormat` and `FullFormat` are the formats of the program: lines or an array of any kind of
-//! `Item`, with a `Piece` for each. Formats of other items, as of a report's lines, are made of the same `LineFormat` and `ArrayFormat`.
+//! `TextFormat`, `TabFormat`, `JsonFormat`, `WordsFormat` and `FullFormat` are the formats of the program: lines or an array of rows, with a
+//! `Piece` for each.
 //! Which revisions there are and what was decided on them is left to the crates below.
 #![tactic(auto)]
 
-mod array_format;
-mod dates;
-mod draft;
-mod fields;
 mod format;
 mod full_rows;
 mod json_rows;
-mod line_format;
 mod listing;
 mod named;
-mod piece;
 mod row;
 mod tab_rows;
 mod text_rows;
 mod words_rows;
 
-pub use array_format::ArrayFormat;
-pub use dates::moment_text;
-pub use fields::{push_left, push_number, push_right, push_shown};
 pub use format::{FullFormat, JsonFormat, RowError, RowFormat, TabFormat, TextFormat, WordsFormat};
 pub use full_rows::FullRows;
-pub use json_rows::{JsonRows, put_number, put_text};
-pub use line_format::LineFormat;
+pub use json_rows::JsonRows;
 pub use listing::{add_format, list, list_told};
 pub use named::{Named, has_name, take_named};
-pub use piece::{Item, Piece};
 pub use row::Row;
 pub use tab_rows::TabRows;
 pub use text_rows::TextRows;

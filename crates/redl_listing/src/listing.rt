@@ -6,7 +6,7 @@ ghost use Rattle.redl_index.specs.Revisions.{IsListable};
 ghost use Rattle.redl_index.specs.declared.revision.Revision.{Revision};
 ghost use Rattle.redl_listing.specs.Rows.{IsRow, first_detail, first_shown, rows_of, shown_rows, told_row, told_rows};
 ghost use Rattle.redl_details.specs.Details.{IsDetail};
-ghost use Rattle.redl_listing.specs.Formats.{first_named, without_named, IsListed};
+ghost use Rattle.redl_formats.specs.Formats.{first_named, without_named, IsListed};
 ghost use Rattle.redl_listing.specs.declared.row.Row.{Row};
 
 use crate::format::{RowError, RowFormat};

@@ -6,8 +6,8 @@ ghost use Rattle.redl_index.specs.Revisions.{IsListable};
 ghost use Rattle.redl_listing.specs.Rows.{IsRow, told_row};
 ghost use Rattle.redl_details.specs.Details.{IsDetail};
 
-use crate::piece::Item;
 use redl_details::Detail;
+use redl_formats::Item;
 use redl_index::{RevKind, Revision};
 use redl_io::Text;
 use redl_join::Verdict;

@@ -4,9 +4,8 @@ ghost use Rattle.std.specs.Prelude.{◌≡◌, ◌++◌, OnOk};
 ghost use Rattle.redl_listing.specs.Rows.{IsRow};
 ghost use Rattle.redl_listing.specs.Texts.{decided_columns, text_row};
 
-use crate::fields::{push_date, push_left, push_number, push_shown, verdict_name};
-use crate::piece::Piece;
 use crate::row::Row;
+use redl_formats::{Piece, push_date, push_left, push_number, push_shown, verdict_name};
 use std::alloc::AllocError;
 
 /// A line for each row: number, kind, verdict, date and author in columns.

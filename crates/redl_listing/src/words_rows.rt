@@ -3,14 +3,15 @@
 ghost use Rattle.std.specs.Prelude.{◌≡◌, ◌++◌, OnOk, map};
 ghost use Rattle.std.specs.List.{flat_map};
 ghost use Rattle.redl_listing.specs.Rows.{IsRow};
-ghost use Rattle.redl_listing.specs.Texts.{shown};
+ghost use Rattle.redl_formats.specs.Fields.{shown};
 ghost use Rattle.redl_listing.specs.Words.{closing, closing_of, in_places, near_end, numbered_columns, opening, opening_of, quoted, said_text, says_text, shortened, words_columns, words_row};
 
-use crate::fields::{push_left, push_number, push_shown, push_spaces, verdict_name, word_name};
-use crate::piece::Piece;
 use crate::row::Row;
 use redl_details::{LastWord, Says};
 use redl_excerpts::{characters_in, shortened, without_characters};
+use redl_formats::{
+    Piece, push_left, push_number, push_shown, push_spaces, verdict_name, word_name,
+};
 use redl_index::RevKind;
 use redl_join::Verdict;
 use redl_tree::Trace;

@@ -13,7 +13,7 @@ use Rattle.redl_join.specs.LastWords.{last_words}
 use Rattle.redl_join.specs.Verdicts.{verdict_at, greatest_seq}
 use Rattle.redl_join.specs.declared.verdict.Verdict.{Verdict}
 use Rattle.redl_join.specs.declared.verdict.Verdict.TheVariants as verdict
-use Rattle.redl_listing.specs.Dates.{date_text}
+use Rattle.redl_formats.specs.Dates.{date_text}
 use Rattle.redl_page.specs.Pieces.{Piece, own, number, outside}
 
 -- ---- a revision

@@ -7,7 +7,7 @@ ghost use Rattle.redl_io.specs.Sink.{Puts};
 ghost use Rattle.redl_index.specs.KindNames.{kind_name};
 ghost use Rattle.redl_index.specs.Revisions.{IsListable};
 ghost use Rattle.redl_join.specs.LastWords.{last_words, words_on};
-ghost use Rattle.redl_listing.specs.Dates.{date_text, moment_text};
+ghost use Rattle.redl_formats.specs.Dates.{date_text, moment_text};
 ghost use Rattle.redl_stamp.specs.Moment.{IsMoment};
 ghost use Rattle.redl_page.specs.Changes.{change, change_head, change_state, changes, locked_before, saying, verdict_before, word_before};
 ghost use Rattle.redl_page.specs.Escaping.{escaped};
@@ -15,11 +15,11 @@ ghost use Rattle.redl_page.specs.Pieces.{pieces_text};
 
 use crate::escape::put_escaped;
 use itoa::Buffer;
+use redl_formats::moment_text;
 use redl_index::{Index, Revision};
 use redl_io::{Failed, Sink, put_piece, put_pieces};
 use redl_join::{Book, LastWords, Verdict};
 use redl_journal::{Entry, Word};
-use redl_listing::moment_text;
 
 /// Puts an item for each revision in the order of the numbers, with what the book decides on it, whether it is locked, and the last
 /// words on it. It takes no memory.

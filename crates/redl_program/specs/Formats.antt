@@ -2,7 +2,7 @@
 use Rattle.std.specs.Prelude.{ℕ, List, [], ◌∷◌, codes, true}
 use Rattle.redl_app.specs.Brought.{Brought}
 use Rattle.redl_commands.specs.Formats.{Format}
-use Rattle.redl_listing.specs.Formats.{lines_of, array_of}
+use Rattle.redl_formats.specs.Formats.{lines_of, array_of}
 use Rattle.redl_listing.specs.Full.{full_row}
 use Rattle.redl_listing.specs.Texts.{text_row, tab_row, json_row}
 use Rattle.redl_listing.specs.Words.{words_row}

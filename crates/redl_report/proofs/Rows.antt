@@ -10,7 +10,7 @@ use Rattle.redl_journal.specs.declared.entry.Entry.{Entry}
 use Rattle.redl_journal.specs.declared.entry.Word.{Word}
 use Rattle.redl_journal.specs.declared.entry.Word.TheVariants as word
 use Rattle.redl_join.specs.Books.{union}
-use Rattle.redl_listing.specs.Texts.{shown}
+use Rattle.redl_formats.specs.Fields.{shown}
 use Rattle.redl_report.specs.declared.line.ReportLine.{ReportLine}
 use Rattle.redl_report.specs.declared.line.Role.{Role}
 use Rattle.redl_report.specs.declared.line.Role.TheVariants.{Reviewer, Author}

@@ -1,14 +1,14 @@
 //! Formats of reports.
 
 ghost use Rattle.std.specs.Prelude.{◌≡◌, ◌++◌, ◌∷◌, [], List, ℕ, Bool, true, false, OnOk, OnErr};
-ghost use Rattle.redl_listing.specs.Formats.{lines_of, array_of};
+ghost use Rattle.redl_formats.specs.Formats.{lines_of, array_of};
 ghost use Rattle.redl_report.specs.Counts.{IsLine};
 ghost use Rattle.redl_report.specs.declared.line.ReportLine.{ReportLine};
 
 use crate::json_lines::JsonLines;
 use crate::line::ReportLine;
 use crate::text_lines::TextLines;
-use redl_listing::{ArrayFormat, LineFormat, Piece};
+use redl_formats::{ArrayFormat, LineFormat, Piece};
 use std::alloc::AllocError;
 
 /// The format `text`.

@@ -7,7 +7,7 @@ ghost use Rattle.redl_report.specs.Texts.{json_line, kind_tokens};
 use crate::line::{ReportLine, Role};
 use crate::text_lines::role_name;
 use json::Writer;
-use redl_listing::{Piece, put_number, put_text};
+use redl_formats::{Piece, put_number, put_text};
 use std::alloc::AllocError;
 
 /// An object for each line, with its fields by their names.

@@ -4,10 +4,10 @@ ghost use Rattle.std.specs.Prelude.{◌≡◌, ◌<◌, [], IfOk};
 ghost use Rattle.redl_report.specs.Reports.{line_of};
 ghost use Rattle.redl_report.specs.Counts.{counts_any, sum_of, with_verdict};
 
+use redl_formats::Item;
 use redl_index::RevKind;
 use redl_io::Text;
 use redl_join::Verdict;
-use redl_listing::Item;
 use std::alloc::{AllocError, Global};
 
 /// Whom a line of a report is about.

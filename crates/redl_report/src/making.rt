@@ -1,7 +1,7 @@
 //! Making a report in a format.
 
 ghost use Rattle.std.specs.Prelude.{◌≡◌, ◌++◌, ◌∷◌, [], All, Bool, List, true, false, IfOk, OnOk, OnErr};
-ghost use Rattle.redl_listing.specs.Formats.{first_named, without_named, IsListed};
+ghost use Rattle.redl_formats.specs.Formats.{first_named, without_named, IsListed};
 ghost use Rattle.redl_report.specs.Counts.{IsLine};
 ghost use Rattle.redl_report.specs.declared.line.ReportLine.{ReportLine};
 

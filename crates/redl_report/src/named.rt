@@ -2,7 +2,7 @@
 
 ghost use Rattle.std.specs.Prelude.{◌≡◌};
 ghost use Rattle.std.specs.Str.{bytes_eq};
-ghost use Rattle.redl_listing.specs.Formats.{first_named, without_named};
+ghost use Rattle.redl_formats.specs.Formats.{first_named, without_named};
 
 use crate::format::ReportFormat;
 

@@ -6,7 +6,7 @@ ghost use Rattle.redl_report.specs.Counts.{IsLine};
 use crate::format::{ReportError, ReportFormat};
 use crate::line::ReportLine;
 use crate::totals::{Totals, last_line, table_line};
-use redl_listing::Item;
+use redl_formats::Item;
 use std::alloc::{AllocError, Global};
 use std::marker::Model;
 
@@ -26,7 +26,7 @@ pub struct TableReport {
 }
 
 impl Model for TableReport {
-    ghost use Rattle.redl_listing.specs.Formats.{Given};
+    ghost use Rattle.redl_formats.specs.Formats.{Given};
     ghost use Rattle.redl_report.specs.declared.line.ReportLine.{ReportLine};
     ghost use Rattle.redl_report.specs.Tables.{IsTableDraft};
 

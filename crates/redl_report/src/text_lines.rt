@@ -5,7 +5,7 @@ ghost use Rattle.redl_report.specs.Counts.{IsLine};
 ghost use Rattle.redl_report.specs.Texts.{count_column, count_columns, label_of, role_name, text_line};
 
 use crate::line::{ReportLine, Role};
-use redl_listing::{Piece, push_left, push_number, push_shown};
+use redl_formats::{Piece, push_left, push_number, push_shown};
 use std::alloc::AllocError;
 
 /// A line for each: role, counts and name in columns.

@@ -7,7 +7,7 @@ ghost use Rattle.redl_report.specs.Tables.{cell, cells, last_line, no_revisions,
 use crate::line::{ReportLine, Role};
 use crate::text_lines::{label, role_name};
 use itoa::Buffer;
-use redl_listing::{push_left, push_right, push_shown};
+use redl_formats::{push_left, push_right, push_shown};
 use std::alloc::{AllocError, Global};
 
 /// How many revisions are accepted, rejected, disputed and undecided.

@@ -1,5 +1,5 @@
 use Rattle.std.proofs.Common.{◌≡◌, drop}
-use Rattle.redl_listing.specs.Formats.{first_named}
+use Rattle.redl_formats.specs.Formats.{first_named}
 use Rattle.redl_app.proofs.formats.find_report.Given as goal
 
 -- the first format with the name is among the rest

@@ -4,7 +4,7 @@ use Rattle.std.specs.List.{flat_map}
 use Rattle.json.specs.Print.{print}
 use Rattle.json.specs.Token.{begin_object, end_object, begin_array, end_array, key, string}
 use Rattle.redl_listing.specs.Full.{front_tokens, said_tokens}
-use Rattle.redl_listing.specs.Texts.{verdict_name}
+use Rattle.redl_formats.specs.Fields.{verdict_name}
 use Rattle.redl_listing.proofs.FullLaws.{full_tokens, full-printed, whole_more}
 use Rattle.redl_listing.proofs.full_rows.full_row.Goals as goal
 

@@ -2,7 +2,7 @@
 use Rattle.std.proofs.Common.{◌≡◌, [], false, All, subst, sym, ◌∙◌, refl}
 use Rattle.redl_index.specs.Revisions.{IsListable}
 use Rattle.redl_listing.specs.Rows.{shown_rows, told_rows}
-use Rattle.redl_listing.proofs.NameLaws.{named_has, nothing_named}
+use Rattle.redl_formats.proofs.NameLaws.{named_has, nothing_named}
 use Rattle.redl_listing.proofs.listing.list_told.Goals as goal
 
 pub add_rows-requires-clause-open : goal.add_rows-requires-clause-open

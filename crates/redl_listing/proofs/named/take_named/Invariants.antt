@@ -1,5 +1,5 @@
 use Rattle.std.proofs.Common.{◌≡◌, ◌++◌, take, drop}
-use Rattle.redl_listing.specs.Formats.{first_named, without_named}
+use Rattle.redl_formats.specs.Formats.{first_named, without_named}
 use Rattle.redl_listing.proofs.named.take_named.Given as goal
 
 -- the first format with the name is among the rest, and only from there one goes

@@ -1,6 +1,6 @@
 -- What the chosen format says for all lines, it says when these lines are in it and it is closed.
 use Rattle.std.proofs.Common.{◌≡◌, [], false, sym, ◌∙◌, refl}
-use Rattle.redl_listing.proofs.NameLaws.{named_has, nothing_named}
+use Rattle.redl_formats.proofs.NameLaws.{named_has, nothing_named}
 use Rattle.redl_report.proofs.making.report.Goals as goal
 
 pub add_lines-requires-clause-open : goal.add_lines-requires-clause-open

@@ -1,7 +1,7 @@
 -- The format at the place that is looked at has the name, or a later one may have it.
 use Rattle.std.proofs.Common.{Some, ◌≡◌, ap, arith, sym, ◌∙◌, ◌++◌, ◌<◌, length, take}
 use Rattle.std.proofs.lemmas.List.{get_or_default}
-use Rattle.redl_listing.proofs.NameLaws.{named_here, named_later}
+use Rattle.redl_formats.proofs.NameLaws.{named_here, named_later}
 use Rattle.redl_report.proofs.named.take_named.Goals as goal
 
 pub loop-place-preserved : goal.loop-place-preserved

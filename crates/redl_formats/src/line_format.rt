@@ -1,7 +1,7 @@
 //! Formats that give a line for each item.
 
 ghost use Rattle.std.specs.Prelude.{◌≡◌, ◌++◌, ◌∷◌, IfOk, OnOk, OnErr, [], false, true};
-ghost use Rattle.redl_listing.specs.Formats.{lines_of};
+ghost use Rattle.redl_formats.specs.Formats.{lines_of};
 
 use crate::draft::Draft;
 use crate::piece::{Item, Piece};
@@ -21,7 +21,7 @@ pub struct LineFormat<I: Item, P: Piece<I>> {
 
 impl<I: Item, P: Piece<I>> Model for LineFormat<I, P> {
     ghost use Rattle.std.specs.Prelude.{◌≡◌};
-    ghost use Rattle.redl_listing.specs.Formats.{Given, lines_of};
+    ghost use Rattle.redl_formats.specs.Formats.{Given, lines_of};
 
     ghost Value = { Given I };
 

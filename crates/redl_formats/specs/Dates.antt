@@ -1,4 +1,4 @@
--- The date of a row: `YYYY-MM-DDThh:mm:ssZ` in UTC, on the Gregorian calendar also before it was made, or `-` (our own rule).
+-- A date: `YYYY-MM-DDThh:mm:ssZ` in UTC, on the Gregorian calendar also before it was made, or `-` (our own rule).
 use Rattle.std.specs.Prelude.{ℕ, zero, suc, ◌+◌, ◌-◌, ◌/◌, ◌%◌, List, [], ◌∷◌, ◌++◌, Option, Some, None, nat_lt, if◌then◌else◌, codes, ℤ, pos, ◌-ℤ◌, unsigned_abs}
 use Rattle.jiff_core.specs.Calendar.{days_in_year, days_in_month}
 use Rattle.redl_stamp.specs.Moment.{first_moment}

@@ -2,7 +2,7 @@
 use Rattle.std.proofs.Common.{◌≡◌, ◌≤◌, ◌+◌, Global, Vec, vec_len, vec_capacity, ℕ, Bool, true, false, List, [], ◌∷◌, ◌++◌, map, refl, sym, ap, ◌∙◌, append_assoc}
 use Rattle.std.specs.List.{join_with_byte}
 use Rattle.std.proofs.lemmas.List.{append-nil}
-use Rattle.redl_listing.specs.Formats.{IsArrayDraft, array_of, array_end, comma_after}
+use Rattle.redl_formats.specs.Formats.{IsArrayDraft, array_of, array_end, comma_after}
 
 -- one item more
 joined-more : {I : Type 0} (piece_of : I → List ℕ) (items : List I) (item : I)

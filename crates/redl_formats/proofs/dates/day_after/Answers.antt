@@ -1,7 +1,7 @@
 -- The calendar has the day, since it is at most 9999-12-31.
 use Rattle.jiff_core.proofs.DateLemmas.{civil}
-use Rattle.redl_listing.proofs.DateLaws.{count-since, year-since}
-use Rattle.redl_listing.proofs.dates.day_after.Goals as goal
+use Rattle.redl_formats.proofs.DateLaws.{count-since, year-since}
+use Rattle.redl_formats.proofs.dates.day_after.Goals as goal
 
 pub returns : goal.returns
 returns c =

@@ -3,8 +3,8 @@ use Rattle.std.proofs.Common.{arith, ◌≡◌, ◌+◌, ◌∙◌, ℤ, pos, un
 use Rattle.jiff_core.specs.Calendar.{IsCivilDate, day_count}
 use Rattle.jiff_core.proofs.DateLemmas.{civil}
 use Rattle.jiff_core.proofs.SignedLemmas.{signed_arith, back_small}
-use Rattle.redl_listing.proofs.DateLaws.{day_text-is, natural_is, ymd_text-same}
-use Rattle.redl_listing.proofs.dates.day_text.Goals as goal
+use Rattle.redl_formats.proofs.DateLaws.{day_text-is, natural_is, ymd_text-same}
+use Rattle.redl_formats.proofs.dates.day_text.Goals as goal
 
 pub returns : goal.returns
 returns c =

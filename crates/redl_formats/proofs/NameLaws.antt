@@ -2,7 +2,7 @@
 use Rattle.std.proofs.Common.{◌≡◌, ℕ, suc, [], ◌+◌, ◌<◌, Bool, true, false, cond, arith, List, ◌∷◌, ◌++◌, length, All, get_or, take, drop, refl, sym, subst, add-one, append_assoc, Some, None, ap}
 use Rattle.std.proofs.Math.Seq.{take-suc, drop-cons}
 use Rattle.std.specs.Str.{bytes_eq}
-use Rattle.redl_listing.specs.Formats.{first_named, without_named}
+use Rattle.redl_formats.specs.Formats.{first_named, without_named}
 
 -- the format at this place has the name
 pub named_here : {F : Type 0} (name_of : F → List ℕ) (name : List ℕ) (formats : List F) (i : ℕ) (x : F) → i < length formats → x ≡ get_or formats i x → bytes_eq (name_of x) name ≡ true

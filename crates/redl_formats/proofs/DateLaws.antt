@@ -11,7 +11,7 @@ use Rattle.jiff_core.proofs.SignedLemmas.{signed_arith}
 use Rattle.jiff_core.proofs.MarchLemmas.{day_count-early}
 use Rattle.jiff_core.proofs.CalendarLemmas.{days_from_civil-day_count, days_of_months-zero, days_of_months_more, days_of_months_mono, day_of_year_bound, day_count-day_of_year, day_count-next_year, day_count-later_year, day_count-lt_year}
 use Rattle.redl_stamp.specs.Moment.{first_moment}
-use Rattle.redl_listing.specs.Dates.{year_and_day, month_and_day, two_digits, day_text, ymd_text, year_text, month_text, time_text, since_text, moment_text}
+use Rattle.redl_formats.specs.Dates.{year_and_day, month_and_day, two_digits, day_text, ymd_text, year_text, month_text, time_text, since_text, moment_text}
 
 -- ---- years
 

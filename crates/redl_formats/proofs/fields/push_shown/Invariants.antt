@@ -1,6 +1,6 @@
 use Rattle.std.proofs.Common.{◌≡◌, ◌++◌, take, map}
-use Rattle.redl_listing.specs.Texts.{shown}
-use Rattle.redl_listing.proofs.fields.push_shown.Given as goal
+use Rattle.redl_formats.specs.Fields.{shown}
+use Rattle.redl_formats.proofs.fields.push_shown.Given as goal
 
 -- the bytes so far are shown
 abbrev pub invariant-loop-byte : goal.invariant-loop-byte

@@ -2,7 +2,7 @@
 use Rattle.std.proofs.Common.{◌≡◌, ℕ, List, [], ◌∷◌, ◌++◌, Bool, true, false, true≢false, ◌==◌, map, refl, sym, ap, ◌∙◌, if◌then◌else◌}
 use Rattle.std.proofs.lemmas.Bool.{eqb-true}
 use Rattle.std.specs.List.{flat_map, list_all}
-use Rattle.redl_listing.specs.Texts.{shown, escape, is_shown, is_unescaped}
+use Rattle.redl_formats.specs.Fields.{shown, escape, is_shown, is_unescaped}
 
 pub shown_same : (bytes : List ℕ) → list_all is_shown bytes ≡ true → map shown bytes ≡ bytes
 shown_same [] all = refl

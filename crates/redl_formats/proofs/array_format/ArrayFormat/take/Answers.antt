@@ -1,8 +1,8 @@
 -- The array has one item more.
 use Rattle.std.proofs.Common.{◌∙◌, ap, refl}
-use Rattle.redl_listing.specs.Formats.{Given, comma_after}
-use Rattle.redl_listing.proofs.ArrayLaws.{draft-more}
-use Rattle.redl_listing.proofs.array_format.ArrayFormat.take.Goals as goal
+use Rattle.redl_formats.specs.Formats.{Given, comma_after}
+use Rattle.redl_formats.proofs.ArrayLaws.{draft-more}
+use Rattle.redl_formats.proofs.array_format.ArrayFormat.take.Goals as goal
 
 pub invariant_of-self-2 : goal.invariant_of-self-2
 invariant_of-self-2 g c =

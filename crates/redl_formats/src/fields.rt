@@ -1,11 +1,11 @@
-//! The fields of rows as texts.
+//! Fields as texts.
 
 ghost use Rattle.std.specs.Prelude.{◌≡◌, ◌≤◌, ◌++◌, OnOk, IfOk, length, map, replicate, decimal};
 ghost use Rattle.std.specs.List.{flat_map, list_all};
 ghost use Rattle.redl_journal.specs.Journals.{word_text};
 ghost use Rattle.redl_stamp.specs.Moment.{IsMoment};
-ghost use Rattle.redl_listing.specs.Dates.{date_text};
-ghost use Rattle.redl_listing.specs.Texts.{verdict_name, right_in, left_in, shown, escape, is_shown, is_unescaped};
+ghost use Rattle.redl_formats.specs.Dates.{date_text};
+ghost use Rattle.redl_formats.specs.Fields.{verdict_name, right_in, left_in, shown, escape, is_shown, is_unescaped};
 ghost use Rattle.std.specs.Prelude.{IfSome};
 
 use crate::dates::moment_text;
@@ -15,7 +15,7 @@ use redl_journal::Word;
 use std::alloc::AllocError;
 
 /// The name of what was decided.
-pub(crate) fn verdict_name(verdict: Verdict) -> &'static str
+pub fn verdict_name(verdict: Verdict) -> &'static str
     ensures { result.now ≡ verdict_name verdict }
 {
     match verdict {
@@ -27,7 +27,7 @@ pub(crate) fn verdict_name(verdict: Verdict) -> &'static str
 }
 
 /// The name of what a reviewer said.
-pub(crate) fn word_name(word: Word) -> &'static str
+pub fn word_name(word: Word) -> &'static str
     ensures { result.now ≡ word_text word }
 {
     match word {
@@ -56,7 +56,7 @@ pub fn push_left(line: &mut Vec<u8>, bytes: &[u8], width: usize) -> Result<(), A
 }
 
 /// Adds so many spaces. `Err` means out of memory.
-pub(crate) fn push_spaces(line: &mut Vec<u8>, count: usize) -> Result<(), AllocError>
+pub fn push_spaces(line: &mut Vec<u8>, count: usize) -> Result<(), AllocError>
     requires { count ≤ 20 }
     ensures { OnOk result (line.new.items ≡ line.old.items ++ replicate count 32) }
 {
@@ -74,11 +74,7 @@ pub fn push_number(line: &mut Vec<u8>, number: u32, width: usize) -> Result<(), 
 }
 
 /// Adds the date, at the left end of so many places, or more. `Err` means out of memory.
-pub(crate) fn push_date(
-    line: &mut Vec<u8>,
-    seconds: Option<i64>,
-    width: usize,
-) -> Result<(), AllocError>
+pub fn push_date(line: &mut Vec<u8>, seconds: Option<i64>, width: usize) -> Result<(), AllocError>
     requires width { width ≤ 20 }
     requires moment { IfSome seconds IsMoment }
     ensures { OnOk result (line.new.items ≡ line.old.items ++ left_in width (date_text seconds)) }
@@ -90,7 +86,7 @@ pub(crate) fn push_date(
 }
 
 /// Adds the bytes, with question marks for control characters of ASCII. `Err` means out of memory.
-#[tactic(auto, unfolding(crate::specs::Texts::shown), using(crate::proofs::PlainLaws::shown_same))]
+#[tactic(auto, unfolding(crate::specs::Fields::shown), using(crate::proofs::PlainLaws::shown_same))]
 pub fn push_shown(line: &mut Vec<u8>, bytes: &[u8]) -> Result<(), AllocError>
     ensures { OnOk result (line.new.items ≡ line.old.items ++ map shown bytes.now) }
 {
@@ -110,7 +106,7 @@ fn are_shown(bytes: &[u8]) -> bool
     bytes.iter().all(|byte| shown(*byte) == *byte)
 }
 
-#[tactic(auto, unfolding(crate::specs::Texts::shown))]
+#[tactic(auto, unfolding(crate::specs::Fields::shown))]
 fn shown(byte: u8) -> u8
     ensures { result ≡ shown byte }
 {
@@ -119,7 +115,7 @@ fn shown(byte: u8) -> u8
 
 /// Adds the bytes, with two bytes for each backslash, tab and end of a line. `Err` means out of memory.
 #[tactic(auto, using(crate::proofs::PlainLaws::escape_same))]
-pub(crate) fn push_escaped(line: &mut Vec<u8>, bytes: &[u8]) -> Result<(), AllocError>
+pub fn push_escaped(line: &mut Vec<u8>, bytes: &[u8]) -> Result<(), AllocError>
     ensures { OnOk result (line.new.items ≡ line.old.items ++ flat_map escape bytes.now) }
 {
     if are_unescaped(bytes) {
@@ -147,7 +143,7 @@ fn is_unescaped(byte: u8) -> bool
     }
 }
 
-#[tactic(auto, unfolding(crate::specs::Texts::escape))]
+#[tactic(auto, unfolding(crate::specs::Fields::escape))]
 fn push_escape(line: &mut Vec<u8>, byte: u8) -> Result<(), AllocError>
     ensures { OnOk result (line.new.items ≡ line.old.items ++ escape byte) }
 {

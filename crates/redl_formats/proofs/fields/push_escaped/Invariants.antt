@@ -1,7 +1,7 @@
 use Rattle.std.proofs.Common.{◌≡◌, ◌++◌, take}
 use Rattle.std.specs.List.{flat_map}
-use Rattle.redl_listing.specs.Texts.{escape}
-use Rattle.redl_listing.proofs.fields.push_escaped.Given as goal
+use Rattle.redl_formats.specs.Fields.{escape}
+use Rattle.redl_formats.proofs.fields.push_escaped.Given as goal
 
 -- the bytes so far are escaped
 abbrev pub invariant-loop-byte : goal.invariant-loop-byte

@@ -1,9 +1,9 @@
-//! Dates of rows.
+//! Dates as texts.
 
 ghost use Rattle.std.specs.Prelude.{◌≡◌, ◌+◌, ◌<◌, pos, ◌≤ℤ◌};
 ghost use Rattle.jiff_core.specs.Calendar.{day_count};
 ghost use Rattle.redl_stamp.specs.Moment.{IsMoment};
-ghost use Rattle.redl_listing.specs.Dates.{two_digits, ymd_text, day_text, time_text, moment_text};
+ghost use Rattle.redl_formats.specs.Dates.{two_digits, ymd_text, day_text, time_text, moment_text};
 
 use jiff_core::civil::Date;
 

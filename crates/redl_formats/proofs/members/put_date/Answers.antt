@@ -3,9 +3,9 @@ use Rattle.std.proofs.Common.{◌≡◌, refl, rules, subst, sym, w64, to_z-of_z
 use Rattle.std.specs.Int.{cast_signed, cast_unsigned}
 use Rattle.std.specs.Str.{IsUtf8}
 use Rattle.json.specs.Token.{string}
-use Rattle.redl_listing.specs.Texts.{date_token}
-use Rattle.redl_listing.proofs.DateLaws.{moment_text-utf8}
-use Rattle.redl_listing.proofs.json_rows.put_date.Goals as goal
+use Rattle.redl_formats.specs.Fields.{date_token}
+use Rattle.redl_formats.proofs.DateLaws.{moment_text-utf8}
+use Rattle.redl_formats.proofs.members.put_date.Goals as goal
 
 pub put_text-requires : goal.put_text-requires
 put_text-requires c =

@@ -1,7 +1,7 @@
 //! Formats that give an array of JSON.
 
 ghost use Rattle.std.specs.Prelude.{◌≡◌, ◌++◌, ◌∷◌, IfOk, OnOk, OnErr, [], false, true};
-ghost use Rattle.redl_listing.specs.Formats.{array_of, comma_after};
+ghost use Rattle.redl_formats.specs.Formats.{array_of, comma_after};
 
 use crate::draft::Draft;
 use crate::piece::{Item, Piece};
@@ -25,7 +25,7 @@ pub struct ArrayFormat<I: Item, P: Piece<I>> {
 
 impl<I: Item, P: Piece<I>> Model for ArrayFormat<I, P> {
     ghost use Rattle.std.specs.Prelude.{◌≡◌};
-    ghost use Rattle.redl_listing.specs.Formats.{Given, IsArrayDraft};
+    ghost use Rattle.redl_formats.specs.Formats.{Given, IsArrayDraft};
 
     ghost Value = { Given I };
 

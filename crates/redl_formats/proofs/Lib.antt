@@ -1,0 +1,5 @@
+pub mod ArrayLaws
+pub mod DateLaws
+pub mod NameLaws
+pub mod PlainLaws
+mod Rows
