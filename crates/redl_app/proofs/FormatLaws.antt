@@ -1,7 +1,7 @@
 -- The step before the package: whether the formats are there that a command asks for.
 use Rattle.std.proofs.Common.{◌≡◌, inr, ℕ, List, [], Option, None, Some, Result, Ok, Err, refl, ◌∙◌, subst}
 use Rattle.redl_app.specs.Files.{where_ok}
-use Rattle.redl_commands.specs.Finishing.{Ends}
+use Rattle.redl_commands.specs.Endings.{Ends}
 use Rattle.redl_commands.specs.Formats.{Format, found_format, has_format, whether}
 use Rattle.redl_commands.specs.Writing.{Writing}
 use Rattle.redl_inputs.proofs.ReadLaws.{fails_alone, never_as}

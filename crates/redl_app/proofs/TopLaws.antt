@@ -2,7 +2,7 @@
 use Rattle.std.proofs.Common.{◌≡◌, ◌≢◌, ◌⊎◌, inl, inr, ℕ, List, [], ◌∷◌, ◌++◌, Option, Contains, Result, Ok, Err, refl, sym, ap, ◌∙◌, subst, arith}
 use Rattle.std.specs.Io.KnownBytes.{append_known}
 use Rattle.redl_app.specs.Answers.{OfOutcome, IsAnswer, IsWritten, Writes, IsFileOf, AreLines, MayFault}
-use Rattle.redl_commands.specs.Finishing.{Ends, Finishes}
+use Rattle.redl_commands.specs.Endings.{Ends, Finishes}
 use Rattle.redl_app.specs.Brought.{Brought}
 use Rattle.redl_app.specs.Files.{asked_by}
 use Rattle.redl_inputs.specs.Readers.{Reader, IsReader}

@@ -8,7 +8,7 @@ use Rattle.redl_lines.proofs.CauseLaws.{by_cause}
 use Rattle.redl_app.specs.Answers.{Asks, AsksUpTo}
 use Rattle.redl_app.specs.Files.{asked_by, files_of}
 use Rattle.redl_app.specs.Words.{IsWanted, read_view, named_files, words_failure}
-use Rattle.redl_commands.specs.Finishing.{Ends, Finishes}
+use Rattle.redl_commands.specs.Endings.{Ends, Finishes}
 use Rattle.redl_app.specs.Brought.{Brought}
 use Rattle.redl_commands.specs.Formats.{LeavesFormats, without_asked}
 use Rattle.redl_app.specs.Outcome.{writing_of}

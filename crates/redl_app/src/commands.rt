@@ -3,23 +3,24 @@
 ghost use Rattle.std.specs.Prelude.{◌≡◌, Ok};
 ghost use Rattle.std.specs.Option.{option_copied};
 ghost use Rattle.redl_app.specs.Brought.{brought_by};
-ghost use Rattle.redl_commands.specs.Finishing.{Ends};
+ghost use Rattle.redl_commands.specs.Endings.{Ends};
 ghost use Rattle.redl_commands.specs.Formats.{AreFresh, LeavesFormats, formats_by, has_format, without_asked};
 ghost use Rattle.redl_app.specs.Plans.{IsTextFor, made_with, plan};
 ghost use Rattle.redl_lines.specs.Ends.{end_status, end_view};
 ghost use Rattle.redl_words.specs.Commands.{HasUtf8};
 ghost use Rattle.redl_words.specs.Views.{command_of};
 
-use redl_commands::{
-    check_package, decide_package, join_files, list_package, make_sample, put, put_page, put_text,
-    report_package, resume_package, settle_package, write_package,
-};
+use redl_commands::put;
 use redl_io::{Shelf, Sink};
 use redl_lines::End;
 use redl_listing::RowFormat;
 use redl_page::Skin;
 use redl_report::ReportFormat;
+use redl_show_commands::{check_package, list_package, put_page, put_text, report_package};
 use redl_words::Command;
+use redl_write_commands::{
+    decide_package, join_files, make_sample, resume_package, settle_package, write_package,
+};
 use std::alloc::Global;
 
 /// Makes what the command writes and puts it on the output. `text` is its package's, and there is one exactly if the command has

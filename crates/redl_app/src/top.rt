@@ -8,7 +8,7 @@ ghost use Rattle.std.specs.Io.KnownBytes.{append_known};
 ghost use Rattle.redl_app.specs.Answers.{AreLines, Asks, IsAnswer, MayFault, OfOutcome, TellsSome, Writes};
 ghost use Rattle.redl_app.specs.Files.{files_of};
 ghost use Rattle.redl_app.specs.Words.{IsWanted, named_files, read_view, words_failure};
-ghost use Rattle.redl_commands.specs.Finishing.{Ends};
+ghost use Rattle.redl_commands.specs.Endings.{Ends};
 ghost use Rattle.redl_app.specs.Brought.{brought_by};
 ghost use Rattle.redl_commands.specs.Formats.{AreFresh, LeavesFormats, formats_by, has_format, without_asked};
 ghost use Rattle.redl_app.specs.Left.{Leaves};

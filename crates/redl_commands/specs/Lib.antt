@@ -1,7 +1,7 @@
 pub mod Choices
 pub mod Writing
 pub mod Formats
-pub mod Finishing
+pub mod Endings
 pub mod Settle
 pub mod Text
 pub mod Shown
@@ -15,4 +15,3 @@ pub mod Decide
 pub mod Sample
 pub mod Resume
 pub mod Views
-pub mod Inside

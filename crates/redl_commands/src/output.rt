@@ -3,7 +3,7 @@
 ghost use Rattle.std.specs.Prelude.{◌≡◌, [], OnOk, OnErr};
 ghost use Rattle.std.specs.Io.KnownBytes.{append_known};
 ghost use Rattle.redl_commands.specs.Check.{sound_text};
-ghost use Rattle.redl_commands.specs.Finishing.{Finishes};
+ghost use Rattle.redl_commands.specs.Endings.{Finishes};
 ghost use Rattle.redl_commands.specs.Views.{output_text, writing_view};
 ghost use Rattle.redl_commands.specs.Writing.{only_bytes};
 ghost use Rattle.redl_inputs.specs.Views.{result_view};

@@ -1,0 +1,20 @@
+use Rattle.std.proofs.Common.{ap, sym, ◌∙◌}
+use Rattle.redl_commands.specs.Text.{text_in}
+use Rattle.redl_marked.specs.MarkedText.{marked_text}
+use Rattle.redl_tree.specs.declared.kinds.Say.TheVariants.{Accept, Reject}
+use Rattle.redl_show_commands.proofs.TextLaws.{plain_text_of}
+use Rattle.redl_show_commands.proofs.text.show_package.Goals as goal
+
+pub returns-in-Original : goal.returns-in-Original
+returns-in-Original c =
+    rw c.in-Original.is
+    (rw (plain_text_of Reject c.args.pkg c.into_counted-counted.result.«package» c.into_counted-counted.result.count c.into_counted-counted.ensures.nodes c.into_counted-counted.ensures.count) at c.show_plain.ensures)
+
+pub returns-in-Final : goal.returns-in-Final
+returns-in-Final c =
+    rw c.in-Final.is
+    (rw (plain_text_of Accept c.args.pkg c.into_counted-counted.result.«package» c.into_counted-counted.result.count c.into_counted-counted.ensures.nodes c.into_counted-counted.ensures.count) at c.show_plain-in-Final.ensures)
+
+pub returns-in-Marked : goal.returns-in-Marked
+returns-in-Marked c =
+    ap marked_text c.into_counted-counted.ensures.nodes ∙ ap (λ view. text_in view c.args.pkg) (sym c.in-Marked.is)

@@ -1,0 +1,107 @@
+//! `text P`.
+//!
+//! A text isn't made before it is put: it goes out while the package is walked over.
+
+ghost use Rattle.std.specs.Prelude.{◌≡◌, Ok, IfOk, OnErr, OnOk, replicate};
+ghost use Rattle.std.specs.Io.KnownBytes.{append_known};
+ghost use Rattle.redl_commands.specs.Text.{text_in, viewed};
+ghost use Rattle.redl_commands.specs.Endings.{EndsAlone, Finishes};
+ghost use Rattle.redl_show_commands.specs.Views.{shown_text, shown_view};
+ghost use Rattle.redl_inputs.specs.Reading.{Reads};
+ghost use Rattle.redl_inputs.specs.Views.{result_view};
+ghost use Rattle.redl_io.specs.Sink.{CountsPut, GrowsByFront, Puts};
+ghost use Rattle.redl_lines.specs.Ends.{end_view};
+ghost use Rattle.redl_views.specs.Walks.{walk_text};
+
+use redl_index::{Counted, Surveyed};
+use redl_inputs::read_package;
+use redl_io::{Failed, Sink, Staged};
+use redl_lines::{End, Failure, Remarks};
+use redl_marked::put_marked;
+use redl_opc::Package;
+use redl_tree::Say;
+use redl_words::View;
+use std::alloc::{AllocError, Global};
+
+/// A package with its numbers, and what its reader sees of it.
+#[derive(Drop)]
+pub struct Shown<'b> {
+    /// The package, whose members have their numbers.
+    pub package: Package<'b>,
+    /// A say for each revision, under which its plain text is shown; without them its text is shown with its changes marked.
+    pub says: Option<Vec<Say>>,
+}
+
+/// Puts the text of the package with this text, in a view, and gives how the call ends.
+pub fn put_text<'a, O: Sink>(alloc: Global, view: View, bytes: &[u8], out: &mut O) -> End<'a>
+    ensures { EndsAlone O.told O.faults out.old out.new (λ reader. viewed reader view bytes.now) (end_view result) }
+{
+    match show_text(alloc, view, bytes) {
+        Ok(shown) => put_shown(alloc, &shown, out),
+        Err(failure) => End::Failed(failure),
+    }
+}
+
+// The package that has this text, as it is shown in a view.
+fn show_text<'a, 'b>(alloc: Global, view: View, bytes: &'b [u8]) -> Result<Shown<'b>, Failure<'a>>
+    ensures { Reads (result_view shown_view result) (λ reader. viewed reader view bytes.now) }
+{
+    let package = read_package(alloc, bytes)?;
+    Ok(show_package(alloc, view, package)?)
+}
+
+// The numbered package, as it is shown in a view.
+fn show_package(alloc: Global, view: View, pkg: Surveyed) -> Result<Shown, AllocError>
+    ensures { IfOk result (λ shown. shown_text shown ≡ text_in view pkg.entry) }
+{
+    let counted = pkg.into_counted();
+    match view {
+        View::Original => show_plain(alloc, counted, Say::Reject),
+        View::Final => show_plain(alloc, counted, Say::Accept),
+        View::Marked => Ok(Shown {
+            package: counted.package,
+            says: None,
+        }),
+    }
+}
+
+// The plain text of what the pass leaves, under one say for all revisions.
+fn show_plain(alloc: Global, counted: Counted, say: Say) -> Result<Shown, AllocError>
+    ensures { IfOk result (λ shown. shown_text shown ≡ walk_text (replicate counted.entry.count say) counted.entry.«package») }
+{
+    let says = vec![in alloc; say; counted.count as usize]?;
+    Ok(Shown {
+        package: counted.package,
+        says: Some(says),
+    })
+}
+
+// Puts what is shown of a package, and gives how the call ends.
+fn put_shown<'a, O: Sink>(alloc: Global, shown: &Shown, out: &mut O) -> End<'a>
+    ensures { Finishes O.told O.faults out.old out.new (Ok (shown_view shown.now)) (end_view result) }
+{
+    match put_staged(shown, out) {
+        Ok(()) => End::Written(Remarks::none(alloc)),
+        Err(_) => End::Unwritten(Remarks::none(alloc)),
+    }
+}
+
+// The same through a stage. `Failed` comes only where `out` failed, which then has only a prefix of the text.
+fn put_staged<O: Sink>(shown: &Shown, out: &mut O) -> Result<(), Failed>
+    ensures all { OnOk result (O.told out.new ≡ append_known (O.told out.old) (shown_text shown.now)) }
+    ensures front { OnErr result (GrowsByFront (O.told out.old) (O.told out.new) (shown_text shown.now)) }
+    ensures cause { CountsPut (O.faults out.old) (O.faults out.new) result }
+{
+    let mut staged = Staged::new(out);
+    put_pieces(shown, &mut staged)?;
+    staged.finish()
+}
+
+fn put_pieces<K: Sink>(shown: &Shown, out: &mut K) -> Result<(), Failed>
+    ensures { Puts K.told K.faults K.settled K.lenders out.old out.new (shown_text shown.now) result }
+{
+    match &shown.says {
+        Some(says) => redl_views::view(&shown.package, says, out),
+        None => put_marked(&shown.package, out),
+    }
+}

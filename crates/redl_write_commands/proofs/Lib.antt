@@ -1,0 +1,4 @@
+pub mod ChoiceLaws
+pub mod JoinLaws
+pub mod ResumeLaws
+pub mod SampleLaws
