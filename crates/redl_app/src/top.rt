@@ -5,16 +5,16 @@
 
 ghost use Rattle.std.specs.Prelude.{◌≡◌, ◌≢◌, ◌⊎◌, [], All, IfErr, IfOk, IsOk, IsUtf8, Ok, Result};
 ghost use Rattle.std.specs.Io.KnownBytes.{append_known};
-ghost use Rattle.redl_app.specs.Answers.{AreLines, Asks, IsAnswer, MayFault, OfOutcome, TellsSome, Writes};
-ghost use Rattle.redl_app.specs.Files.{files_of};
-ghost use Rattle.redl_app.specs.Words.{IsWanted, named_files, read_view, words_failure};
+ghost use Rattle.redl_outcome.specs.Answers.{AreLines, Asks, IsAnswer, MayFault, OfOutcome, TellsSome, Writes};
+ghost use Rattle.redl_outcome.specs.Files.{files_of};
+ghost use Rattle.redl_outcome.specs.Words.{IsWanted, named_files, read_view, words_failure};
 ghost use Rattle.redl_commands.specs.Endings.{Ends};
-ghost use Rattle.redl_app.specs.Brought.{brought_by};
+ghost use Rattle.redl_outcome.specs.Brought.{brought_by};
 ghost use Rattle.redl_commands.specs.Formats.{AreFresh, LeavesFormats, formats_by, has_format, without_asked};
-ghost use Rattle.redl_app.specs.Left.{Leaves};
-ghost use Rattle.redl_app.specs.Sittings.{Resumes};
-ghost use Rattle.redl_app.specs.Outcome.{carried_out, outcome};
-ghost use Rattle.redl_app.specs.Plans.{has_asked, plan};
+ghost use Rattle.redl_outcome.specs.Left.{Leaves};
+ghost use Rattle.redl_outcome.specs.Sittings.{Resumes};
+ghost use Rattle.redl_outcome.specs.Outcome.{carried_out, outcome};
+ghost use Rattle.redl_outcome.specs.Plans.{has_asked, plan};
 ghost use Rattle.redl_commands.specs.Writing.{Writing as WritingOf};
 ghost use Rattle.redl_inputs.specs.Readers.{IsReader, Reader};
 ghost use Rattle.redl_inputs.specs.Views.{result_view};

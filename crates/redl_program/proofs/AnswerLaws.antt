@@ -1,11 +1,11 @@
 -- What a call comes to for which memory ran out before anything was done.
 use Rattle.std.proofs.Common.{inl, inr, ℕ, List, [], Option, refl}
-use Rattle.redl_app.proofs.SittingLaws.{differ_exactly}
-use Rattle.redl_app.specs.Answers.{IsWritten}
-use Rattle.redl_app.specs.Brought.{Brought}
-use Rattle.redl_app.specs.Sittings.{Resumes}
-use Rattle.redl_app.specs.Files.{files_of}
-use Rattle.redl_app.specs.Plans.{plan}
+use Rattle.redl_outcome.proofs.SittingLaws.{differ_exactly}
+use Rattle.redl_outcome.specs.Answers.{IsWritten}
+use Rattle.redl_outcome.specs.Brought.{Brought}
+use Rattle.redl_outcome.specs.Sittings.{Resumes}
+use Rattle.redl_outcome.specs.Files.{files_of}
+use Rattle.redl_outcome.specs.Plans.{plan}
 use Rattle.redl_inputs.proofs.AskLaws.{ask_more-nothing}
 use Rattle.redl_inputs.proofs.ReaderLaws.{reads_command}
 use Rattle.redl_io.specs.Shelf.{Files}

@@ -1,11 +1,11 @@
 -- What a call with words that ask for files comes to (our own rule).
 use Rattle.std.specs.Prelude.{◌≡◌, ◌≢◌, ◌⊎◌, ℕ, List, Option}
-use Rattle.redl_app.specs.Answers.{AreLines, Asks, IsAnswer, MayFault, OfOutcome, TellsSome, Writes as WritesBytes}
-use Rattle.redl_app.specs.Brought.{Brought}
-use Rattle.redl_app.specs.Files.{files_of}
-use Rattle.redl_app.specs.Left.{Leaves}
-use Rattle.redl_app.specs.Plans.{plan}
-use Rattle.redl_app.specs.Sittings.{Resumes}
+use Rattle.redl_outcome.specs.Answers.{AreLines, Asks, IsAnswer, MayFault, OfOutcome, TellsSome, Writes as WritesBytes}
+use Rattle.redl_outcome.specs.Brought.{Brought}
+use Rattle.redl_outcome.specs.Files.{files_of}
+use Rattle.redl_outcome.specs.Left.{Leaves}
+use Rattle.redl_outcome.specs.Plans.{plan}
+use Rattle.redl_outcome.specs.Sittings.{Resumes}
 use Rattle.redl_io.specs.Faults.{Rose}
 use Rattle.redl_io.specs.Shelf.{Files}
 use Rattle.redl_lines.specs.Ends.{Tells}

@@ -1,6 +1,6 @@
 -- The formats that the program brings to a call.
 use Rattle.std.specs.Prelude.{ℕ, List, [], ◌∷◌, codes, true}
-use Rattle.redl_app.specs.Brought.{Brought}
+use Rattle.redl_outcome.specs.Brought.{Brought}
 use Rattle.redl_commands.specs.Formats.{Format}
 use Rattle.redl_formats.specs.Formats.{lines_of, array_of}
 use Rattle.redl_listing.specs.Full.{full_row}

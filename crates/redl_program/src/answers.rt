@@ -1,8 +1,8 @@
 //! The answer to words: what they ask of the program itself, or of files.
 
 ghost use Rattle.std.specs.Prelude.{◌≡◌, ◌≢◌, ◌⊎◌, IfOk, IfErr, IfSome, All, IsUtf8, None};
-ghost use Rattle.redl_app.specs.Answers.{Writes};
-ghost use Rattle.redl_app.specs.Words.{words_failure};
+ghost use Rattle.redl_outcome.specs.Answers.{Writes};
+ghost use Rattle.redl_outcome.specs.Words.{words_failure};
 ghost use Rattle.redl_io.specs.Faults.{Rose};
 ghost use Rattle.redl_lines.specs.Ends.{Tells};
 ghost use Rattle.redl_lines.specs.Failures.{failure_status};

@@ -1,10 +1,10 @@
 use Rattle.std.proofs.Common.{◌≡◌, Err, None, Ok, Some, ap, refl, sym, ◌∙◌}
 use Rattle.std.specs.Option.{option_copied}
-use Rattle.redl_app.proofs.FormatLaws.{asked_is_no_file, ends_after, ends_at_once}
-use Rattle.redl_app.proofs.PlanLaws.{reads_alone, reads_no_package, reads_package}
-use Rattle.redl_app.specs.Files.{file_names}
-use Rattle.redl_app.specs.Brought.{brought_by}
-use Rattle.redl_app.specs.Plans.{has_asked, made_by, package_of, plan}
+use Rattle.redl_outcome.proofs.FormatLaws.{asked_is_no_file, ends_after, ends_at_once}
+use Rattle.redl_outcome.proofs.PlanLaws.{reads_alone, reads_no_package, reads_package}
+use Rattle.redl_outcome.specs.Files.{file_names}
+use Rattle.redl_outcome.specs.Brought.{brought_by}
+use Rattle.redl_outcome.specs.Plans.{has_asked, made_by, package_of, plan}
 use Rattle.redl_lines.specs.Failures.{failure_view}
 use Rattle.redl_words.specs.Views.{command_of}
 use Rattle.redl_app.proofs.top.end_of_command.Goals as goal

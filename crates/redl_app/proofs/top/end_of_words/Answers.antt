@@ -1,6 +1,6 @@
 use Rattle.std.proofs.Common.{ap, refl}
-use Rattle.redl_app.proofs.WordLaws.{ends_when, ends_unread}
-use Rattle.redl_app.specs.Brought.{brought_by}
+use Rattle.redl_outcome.proofs.WordLaws.{ends_when, ends_unread}
+use Rattle.redl_outcome.specs.Brought.{brought_by}
 use Rattle.redl_lines.specs.Ends.{failed}
 use Rattle.redl_app.proofs.top.end_of_words.Goals as goal
 

@@ -1,9 +1,9 @@
 use Rattle.std.proofs.Common.{◌≡◌, ◌∙◌, sym, ℕ, List}
-use Rattle.redl_app.proofs.LeftLaws.{leaves_package}
-use Rattle.redl_app.proofs.SittingLaws.{call_resumes}
-use Rattle.redl_app.proofs.TopLaws.{due_by, answers, writes, tells, read_cause, write_cause, out_stands, untouched, shelf_stands}
-use Rattle.redl_app.proofs.WordLaws.{are_named, asks_by_words, asks_for_nothing, is_wanted, ends_as_usage, leaves_by_words, leaves_all, names_asked}
-use Rattle.redl_app.specs.Brought.{brought_by}
+use Rattle.redl_outcome.proofs.LeftLaws.{leaves_package}
+use Rattle.redl_outcome.proofs.SittingLaws.{call_resumes}
+use Rattle.redl_outcome.proofs.TopLaws.{due_by, answers, writes, tells, read_cause, write_cause, out_stands, untouched, shelf_stands}
+use Rattle.redl_outcome.proofs.WordLaws.{are_named, asks_by_words, asks_for_nothing, is_wanted, ends_as_usage, leaves_by_words, leaves_all, names_asked}
+use Rattle.redl_outcome.specs.Brought.{brought_by}
 use Rattle.redl_io.specs.Faults.{Rose}
 use Rattle.redl_lines.specs.Ends.{Tells, end_view}
 use Rattle.redl_app.proofs.top.run.Goals as goal

@@ -1,5 +1,5 @@
 use Rattle.std.proofs.Common.{inl, refl}
-use Rattle.redl_app.proofs.TopLaws.{answered_surely, never_rose}
+use Rattle.redl_outcome.proofs.TopLaws.{answered_surely, never_rose}
 use Rattle.redl_io.specs.MemShelf.{file_named}
 use Rattle.redl_app.proofs.top.run_surely.Goals as goal
 

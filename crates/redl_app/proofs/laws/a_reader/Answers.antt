@@ -1,5 +1,0 @@
-use Rattle.redl_inputs.proofs.ReaderLaws.{a_reader}
-use Rattle.redl_app.proofs.laws.a_reader.Goals as goal
-
-pub returns : goal.returns
-returns c = a_reader

@@ -1,5 +1,0 @@
-use Rattle.redl_app.proofs.AnyOrderLaws.{order_does_not_count}
-use Rattle.redl_app.proofs.laws.order_does_not_count.Goals as goal
-
-pub returns : goal.returns
-returns c = order_does_not_count

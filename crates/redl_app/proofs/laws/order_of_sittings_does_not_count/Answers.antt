@@ -1,5 +1,0 @@
-use Rattle.redl_app.proofs.SittingOrderLaws.{order_of_sittings}
-use Rattle.redl_app.proofs.laws.order_of_sittings_does_not_count.Goals as goal
-
-pub returns : goal.returns
-returns c = order_of_sittings

@@ -1,5 +1,0 @@
-use Rattle.redl_app.proofs.SampleLaws.{sample_is_written}
-use Rattle.redl_app.proofs.laws.samples_are_written.Goals as goal
-
-pub returns : goal.returns
-returns c = sample_is_written

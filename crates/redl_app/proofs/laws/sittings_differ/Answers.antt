@@ -1,5 +1,0 @@
-use Rattle.redl_app.proofs.SittingLaws.{differ_exactly}
-use Rattle.redl_app.proofs.laws.sittings_differ.Goals as goal
-
-pub returns : goal.returns
-returns c = differ_exactly

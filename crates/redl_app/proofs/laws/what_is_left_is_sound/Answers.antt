@@ -1,5 +1,0 @@
-use Rattle.redl_app.proofs.LeftLaws.{leaves_sound}
-use Rattle.redl_app.proofs.laws.what_is_left_is_sound.Goals as goal
-
-pub returns : goal.returns
-returns c = leaves_sound
