@@ -17,7 +17,7 @@ use Rattle.redl_opc.specs.Parts.{name_in}
 use Rattle.redl_opc.specs.Shape.{parts_of}
 use Rattle.redl_select.specs.declared.lock.Lock.{Lock}
 use Rattle.redl_session.specs.Says.{verdicts_of}
-use Rattle.redl_session.specs.Sessions.{State}
+use Rattle.redl_session.specs.Sessions.{SessionState}
 use Rattle.redl_tree.specs.Model.Nodes.{Nodes}
 use Rattle.redl_words.specs.Shown.{Only}
 
@@ -30,16 +30,16 @@ abbrev pub shows_details : List ℕ → Bool
 shows_details name = bytes_eq name (codes "words") || bytes_eq name (codes "full")
 
 -- the details of a session's revisions, where the format shows them
-abbrev pub session_details : List ℕ → State → List Detail
+abbrev pub session_details : List ℕ → SessionState → List Detail
 session_details name state = if shows_details name then package_details state.nodes state.revisions state.book else []
 
 -- the verdicts of a session's book
-abbrev pub session_verdicts : State → List Verdict
+abbrev pub session_verdicts : SessionState → List Verdict
 session_verdicts state = verdicts_of state.book (length state.revisions)
 
 -- a row for each revision of a session's package that each of what is wanted shows, with the verdict of the session's book, for the
 -- format with this name
-abbrev pub session_rows : List ℕ → List Only → State → List Row
+abbrev pub session_rows : List ℕ → List Only → SessionState → List Row
 session_rows name wanted state =
     shown_rows (shown_revisions wanted state.revisions (session_verdicts state))
     (told_rows (part_names state.nodes) state.revisions (session_verdicts state) (session_details name state))

@@ -10,14 +10,14 @@ use Rattle.redl_lines.specs.Failures.{Failure}
 use Rattle.redl_page.specs.Page.{Shown, Skin, page_text}
 use Rattle.redl_select.specs.declared.lock.Lock.{Lock}
 use Rattle.redl_session.specs.Bars.{bar_of}
-use Rattle.redl_session.specs.Sessions.{State}
+use Rattle.redl_session.specs.Sessions.{SessionState}
 
 -- entries on the revision are refused, since a lock holds it
 abbrev pub is_locked : List Lock → Revision → Bool
 is_locked locks revision = is_some (bar_of locks revision)
 
 -- what the page of a session shows: its package and revisions, which of these are locked, the admitted entries, and the digest
-abbrev pub shown_of : State → List Bool → List ℕ → Shown
+abbrev pub shown_of : SessionState → List Bool → List ℕ → Shown
 shown_of state locked digest = record { nodes = state.nodes; revisions = state.revisions; locked = locked; book = state.book; digest = digest }
 
 -- the same under these locks

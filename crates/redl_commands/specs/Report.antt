@@ -10,10 +10,10 @@ use Rattle.redl_lines.specs.Failures.{Failure}
 use Rattle.redl_report.specs.Reports.{report_lines, report_lines_by_kind}
 use Rattle.redl_report.specs.declared.line.ReportLine.{ReportLine}
 use Rattle.redl_select.specs.declared.lock.Lock.{Lock}
-use Rattle.redl_session.specs.Sessions.{State}
+use Rattle.redl_session.specs.Sessions.{SessionState}
 
 -- the lines of a session: of the reviewers of its book, and of the authors of its revisions, with their kinds or without
-abbrev pub session_lines : Bool → State → List ReportLine
+abbrev pub session_lines : Bool → SessionState → List ReportLine
 session_lines true state = report_lines_by_kind state.revisions state.book
 session_lines false state = report_lines state.revisions state.book
 

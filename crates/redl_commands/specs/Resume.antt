@@ -14,7 +14,7 @@ use Rattle.redl_io.specs.Shelf.{Files}
 use Rattle.redl_journal.specs.declared.entry.Entry.{Entry}
 use Rattle.redl_lines.specs.Failures.{Failure, caused, unread, no_memory, Cause, no_package, no_second, not_written, differ}
 use Rattle.redl_session.specs.Says.{says_of}
-use Rattle.redl_session.specs.Sessions.{State, says}
+use Rattle.redl_session.specs.Sessions.{SessionState, says}
 use Rattle.redl_sittings.specs.JoinedBooks.{joined_book}
 use Rattle.redl_sittings.specs.SecondNumbers.{first_numbers}
 use Rattle.redl_tree.specs.Decisions.Packages.{pass_package}
@@ -23,11 +23,11 @@ use Rattle.redl_tree.specs.Model.Text.{text}
 -- ---- what two sittings come to
 
 -- the text of a session's package under the verdicts of a book
-abbrev pub text_under : State → List Entry → List ℕ
+abbrev pub text_under : SessionState → List Entry → List ℕ
 text_under state book = text (pass_package (says_of book (length state.revisions)) state.nodes)
 
 -- the joined book of two sessions
-abbrev pub book_of : State → State → List Entry
+abbrev pub book_of : SessionState → SessionState → List Entry
 book_of first second =
     joined_book first.book second.book (first_numbers (pass_package (says first) first.nodes) second.nodes (length second.revisions))
 
@@ -44,7 +44,7 @@ resumption first second =
 -- ---- the second sitting
 
 -- a text, where it is what a session leaves of its package
-abbrev pub left_by : State → List ℕ → Result (List ℕ) Failure
+abbrev pub left_by : SessionState → List ℕ → Result (List ℕ) Failure
 left_by state whole = if bytes_eq whole (left_text state) then Ok whole else Err (caused not_written)
 
 -- why the second of two files is no package

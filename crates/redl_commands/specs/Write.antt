@@ -7,12 +7,12 @@ use Rattle.redl_commands.specs.Writing.{Writing}
 use Rattle.redl_io.specs.Shelf.{Files}
 use Rattle.redl_lines.specs.Failures.{Failure}
 use Rattle.redl_select.specs.declared.lock.Lock.{Lock}
-use Rattle.redl_session.specs.Sessions.{State, says}
+use Rattle.redl_session.specs.Sessions.{SessionState, says}
 use Rattle.redl_tree.specs.Decisions.Packages.{pass_package}
 use Rattle.redl_tree.specs.Model.Text.{text}
 
 -- the text of the session's package under the says of its verdicts
-abbrev pub left_text : State → List ℕ
+abbrev pub left_text : SessionState → List ℕ
 left_text state = text (pass_package (says state) state.nodes)
 
 -- the package after the verdicts, with the remarks of the session

@@ -3,7 +3,7 @@ use Rattle.std.proofs.Common.{◌≡◌, ◌∙◌, refl, ap, ℕ, ◌+◌, ◌^
 use Rattle.redl_tree.specs.Model.Nodes.{Tag, Nodes}
 use Rattle.redl_tree.specs.Model.IdleTexts.{idle_nodes}
 use Rattle.redl_tree.specs.Model.Seen.{tags}
-use Rattle.redl_tree.specs.Roles.Arounds.{inside_of}
+use Rattle.redl_tree.specs.Roles.Arounds.{around_inside}
 use Rattle.redl_tree.specs.Roles.Names.{is}
 use Rattle.redl_tree.specs.declared.around.Around.{Around}
 use Rattle.redl_tree.proofs.Idle.Items.{nodes_are_idle, element_among}
@@ -31,13 +31,13 @@ seeker-enters here own in_run tag kids s i =
     is_para = is "p" tag
 
 module _ (here : Around) (own : ℕ) (t : List ℕ) (s : Seeking) where
-  pub seeker_passed : visited inside_of seeker_rule here own (idle_nodes t) s ≡ sought (s.at + tags (idle_nodes t)) s
+  pub seeker_passed : visited around_inside seeker_rule here own (idle_nodes t) s ≡ sought (s.at + tags (idle_nodes t)) s
   seeker_passed =
-      passed inside_of seeker_rule (λ s. s.at) sought (λ s. refl) (λ n s. refl) (λ m n s. refl) seeker-enters (λ here below in_run tag kids s i. refl) here own false (idle_nodes t) s (nodes_are_idle t)
+      passed around_inside seeker_rule (λ s. s.at) sought (λ s. refl) (λ n s. refl) (λ m n s. refl) seeker-enters (λ here below in_run tag kids s i. refl) here own false (idle_nodes t) s (nodes_are_idle t)
 
-  pub seeker_room : Needs inside_of seeker_rule seeker_needs here own (idle_nodes t) s → s.at + tags (idle_nodes t) < 2 ^ 64
+  pub seeker_room : Needs around_inside seeker_rule seeker_needs here own (idle_nodes t) s → s.at + tags (idle_nodes t) < 2 ^ 64
   seeker_room needed =
-      room_some inside_of seeker_rule (λ s. s.at) sought (λ s. refl) (λ n s. refl) (λ m n s. refl) seeker-enters (λ here below in_run tag kids s i. refl) seeker_needs (λ here below tag kids s h. h)
+      room_some around_inside seeker_rule (λ s. s.at) sought (λ s. refl) (λ n s. refl) (λ m n s. refl) seeker-enters (λ here below in_run tag kids s i. refl) seeker_needs (λ here below tag kids s h. h)
       here own false (idle_nodes t) s (nodes_are_idle t) (element_among t) needed
 
 -- ---- a numberer
@@ -54,11 +54,11 @@ numberer-enters here end in_run tag kids s i =
     is_para = is "p" tag
 
 module _ (here : Around) (end : ℕ) (t : List ℕ) (s : NumbererState) where
-  pub numberer_passed : visited inside_of (visit_of numberer_rule) here end (idle_nodes t) s ≡ numbered (s.at + tags (idle_nodes t)) s
+  pub numberer_passed : visited around_inside (visit_of numberer_rule) here end (idle_nodes t) s ≡ numbered (s.at + tags (idle_nodes t)) s
   numberer_passed =
-      passed inside_of (visit_of numberer_rule) (λ s. s.at) numbered (λ s. refl) (λ n s. refl) (λ m n s. refl) numberer-enters (λ here below in_run tag kids s i. refl) here end false (idle_nodes t) s (nodes_are_idle t)
+      passed around_inside (visit_of numberer_rule) (λ s. s.at) numbered (λ s. refl) (λ n s. refl) (λ m n s. refl) numberer-enters (λ here below in_run tag kids s i. refl) here end false (idle_nodes t) s (nodes_are_idle t)
 
-  pub numberer_room : Needs inside_of (visit_of numberer_rule) (needs_of numberer_needs) here end (idle_nodes t) s → s.at + tags (idle_nodes t) < 2 ^ 64
+  pub numberer_room : Needs around_inside (visit_of numberer_rule) (needs_of numberer_needs) here end (idle_nodes t) s → s.at + tags (idle_nodes t) < 2 ^ 64
   numberer_room needed =
-      room_some inside_of (visit_of numberer_rule) (λ s. s.at) numbered (λ s. refl) (λ n s. refl) (λ m n s. refl) numberer-enters (λ here below in_run tag kids s i. refl) (needs_of numberer_needs) (λ here below tag kids s h. h)
+      room_some around_inside (visit_of numberer_rule) (λ s. s.at) numbered (λ s. refl) (λ n s. refl) (λ m n s. refl) numberer-enters (λ here below in_run tag kids s i. refl) (needs_of numberer_needs) (λ here below tag kids s h. h)
       here end false (idle_nodes t) s (nodes_are_idle t) (element_among t) needed

@@ -8,7 +8,7 @@ use Rattle.redl_tree.specs.Model.Seen.{Spot, spot, Seen, seen_one, seen_from, ro
 use Rattle.redl_tree.specs.Revisions.Markers.{move_of, whole_role}
 use Rattle.redl_tree.specs.Revisions.Moves.{Marking, pairs}
 use Rattle.redl_tree.specs.Revisions.Numbers.{Numbering, Membership, revision_of, counted, labelled_tag, labelled, numbering_after, start_with}
-use Rattle.redl_tree.specs.Roles.Arounds.{around_of, inside_of}
+use Rattle.redl_tree.specs.Roles.Arounds.{around_of, around_inside}
 use Rattle.redl_tree.specs.declared.around.Around.{Around}
 use Rattle.redl_stamp.specs.Attribute.{attribute_value}
 use Rattle.redl_moves.specs.Starts.{start_in}
@@ -47,10 +47,10 @@ module _ (marks : List Marking) where
 
   -- and what the walk over them comes to
   pub record IsLabelled (ancestors : List Spot) (at : ℕ) (later : List ℕ) (so_far : Numbering) (nodes : Nodes) (here : Around) (end : ℕ) (s : NumbererState) : Type 0 where
-    pub state : visited inside_of Rule here end nodes s ≡ state_at (at + tags nodes) later (visited inside_of Rule here end nodes s).numbers
-    pub numbering : IsNumbering marks (visited inside_of Rule here end nodes s).numbers (numbering_after attribute_value (pairs marks) ancestors at so_far nodes)
-    pub labels : relabelled inside_of numberer_rule here end nodes s ≡ labelled attribute_value (pairs marks) ancestors at so_far nodes
-    pub needs : Needs inside_of Rule (needs_of numberer_needs) here end nodes s
+    pub state : visited around_inside Rule here end nodes s ≡ state_at (at + tags nodes) later (visited around_inside Rule here end nodes s).numbers
+    pub numbering : IsNumbering marks (visited around_inside Rule here end nodes s).numbers (numbering_after attribute_value (pairs marks) ancestors at so_far nodes)
+    pub labels : relabelled around_inside numberer_rule here end nodes s ≡ labelled attribute_value (pairs marks) ancestors at so_far nodes
+    pub needs : Needs around_inside Rule (needs_of numberer_needs) here end nodes s
 
   -- the same from what is the same
   from-same : (ancestors : List Spot) (at : ℕ) (later : List ℕ) (so_far : Numbering) (nodes : Nodes) (here there : Around) (end other : ℕ) (s t : NumbererState)
@@ -117,7 +117,7 @@ module _ (marks : List Marking) where
       ∙ append_assoc (one_end tag (at + 1 + tags kids)) (ends_from (at + 1) kids) left in
       let goes = counted-goes (revision_of attribute_value (pairs marks) (seen_one ancestors at tag kids)) so_far in
       let goes_in = numbering-goes (pairs marks) up (at + 1) next kids in
-      let in_kids = from-same up (at + 1) left next kids (inside_of tag here) (around_of (tags_of up)) below (para_end up) entered
+      let in_kids = from-same up (at + 1) left next kids (around_inside tag here) (around_of (tags_of up)) below (para_end up) entered
       (state_at (at + 1) (ends_from (at + 1) kids ++ left) (given own numbers))
       (around-inside at tag kids ancestors) (end-inside ancestors at tag kids ends (ends_from (at + 1) kids ++ left) split)
       (ap (λ es. state_at (at + 1) es (given own numbers)) (ends-inside ancestors at tag kids ends (ends_from (at + 1) kids ++ left) split))
@@ -128,7 +128,7 @@ module _ (marks : List Marking) where
         fits = omega (arith, ready.fits);
         few = omega (arith, ready.few, goes.at_most);
       })) in
-      let after = visited inside_of Rule (inside_of tag here) below kids entered in
+      let after = visited around_inside Rule (around_inside tag here) below kids entered in
       let moved : at + 1 + tags kids + 1 ≡ at + 2 + tags kids = omega arith in
       let behind = from-same ancestors (at + 2 + tags kids) later inner rest here here end end (numberer_rule.leave after) (state_at (at + 2 + tags kids) left after.numbers)
       refl refl (ap numberer_rule.leave in_kids.state ∙ ap (λ n. state_at n left after.numbers) moved)
@@ -141,12 +141,12 @@ module _ (marks : List Marking) where
       })) in
       let whole : at + 2 + tags kids + tags rest ≡ at + (2 + tags kids + tags rest) = omega arith in
       record {
-        state = behind.state ∙ ap (λ n. state_at n later (visited inside_of Rule here end (element tag kids rest) s).numbers) whole;
+        state = behind.state ∙ ap (λ n. state_at n later (visited around_inside Rule here end (element tag kids rest) s).numbers) whole;
         numbering = behind.numbering;
         labels =
-            ap (λ t. element t (relabelled inside_of numberer_rule (inside_of tag here) below kids entered) (relabelled inside_of numberer_rule here end rest (numberer_rule.leave after)))
+            ap (λ t. element t (relabelled around_inside numberer_rule (around_inside tag here) below kids entered) (relabelled around_inside numberer_rule here end rest (numberer_rule.leave after)))
             (own-label ancestors at so_far tag kids ends numbers ready.numbering)
-            ∙ ap (λ ns. element (labelled_tag attribute_value (pairs marks) so_far (seen_one ancestors at tag kids)) ns (relabelled inside_of numberer_rule here end rest (numberer_rule.leave after)))
+            ∙ ap (λ ns. element (labelled_tag attribute_value (pairs marks) so_far (seen_one ancestors at tag kids)) ns (relabelled around_inside numberer_rule here end rest (numberer_rule.leave after)))
             in_kids.labels
             ∙ ap (element (labelled_tag attribute_value (pairs marks) so_far (seen_one ancestors at tag kids)) (labelled attribute_value (pairs marks) up (at + 1) next kids)) behind.labels;
         needs = (
@@ -165,13 +165,13 @@ begun_with known next = state_at known.marks 1 known.ends (record { next = next;
 
 module _ (root : Tag) (kids : Nodes) (next : ℕ) where
   story-begun : is_story_root root ≡ true → 0 < next → next + count kids < 2 ^ 32
-      → IsLabelled (markers_of root kids) (root_spots root kids) 1 [] (start_with next) kids (inside_of root (around_of [])) 0 (begun_with (facts_in (element_by root kids)) next)
+      → IsLabelled (markers_of root kids) (root_spots root kids) 1 [] (start_with next) kids (around_inside root (around_of [])) 0 (begun_with (facts_in (element_by root kids)) next)
   story-begun is_root begun few =
       let marks = markers_of root kids in
       let spots = root_spots root kids in
       let numbers : NumbersView = record { next = next; moves = none_of (length marks) } in
       let rises = between-rises 0 _ marks (story-between attribute_value spots kids) in
-      from-same marks spots 1 [] (start_with next) kids (inside_of root (around_of [])) (around_of (tags_of spots)) 0 (para_end spots)
+      from-same marks spots 1 [] (start_with next) kids (around_inside root (around_of [])) (around_of (tags_of spots)) 0 (para_end spots)
       (state_at marks 1 (ends_from 1 kids) numbers) (state_at marks 1 (ends_from 1 kids ++ []) numbers)
       (around-inside 0 root kids []) (sym (para_end-root root kids is_root))
       (ap (λ es. state_at marks 1 es numbers) (sym (append-nil (ends_from 1 kids))))
@@ -184,8 +184,8 @@ module _ (root : Tag) (kids : Nodes) (next : ℕ) where
       }))
 
   pub story-labelled : is_story_root root ≡ true → 0 < next → next + count kids < 2 ^ 32 → (known : Facts) → known ≡ facts_in (element_by root kids)
-      → (around : Around) → around ≡ around_of [] → (here : Around) → here ≡ inside_of root around → (s : NumbererState) → s ≡ begun_with known next
+      → (around : Around) → around ≡ around_of [] → (here : Around) → here ≡ around_inside root around → (s : NumbererState) → s ≡ begun_with known next
       → IsLabelled (markers_of root kids) (root_spots root kids) 1 [] (start_with next) kids here 0 s
   story-labelled is_root begun few known is_known around top here is_here s is =
-      from-same (markers_of root kids) (root_spots root kids) 1 [] (start_with next) kids here (inside_of root (around_of [])) 0 0 s (begun_with (facts_in (element_by root kids)) next)
-      (is_here ∙ ap (inside_of root) top) refl (is ∙ ap (λ k. begun_with k next) is_known) (story-begun is_root begun few)
+      from-same (markers_of root kids) (root_spots root kids) 1 [] (start_with next) kids here (around_inside root (around_of [])) 0 0 s (begun_with (facts_in (element_by root kids)) next)
+      (is_here ∙ ap (around_inside root) top) refl (is ∙ ap (λ k. begun_with k next) is_known) (story-begun is_root begun few)

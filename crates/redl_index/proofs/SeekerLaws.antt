@@ -7,7 +7,7 @@ use Rattle.redl_tree.specs.Model.Nodes.{Tag, Nodes, no_nodes, bytes, element}
 use Rattle.redl_tree.specs.Model.Tree.{HasUtf8Tails}
 use Rattle.redl_tree.specs.Model.Seen.{Spot, spot, Seen, seen_one, seen_from, seen, root_spots, tags, tags_of}
 use Rattle.redl_tree.specs.Decisions.Packages.{is_story_root}
-use Rattle.redl_tree.specs.Roles.Arounds.{around_of, inside_of}
+use Rattle.redl_tree.specs.Roles.Arounds.{around_of, around_inside}
 use Rattle.redl_tree.specs.Revisions.Moves.{Marking}
 use Rattle.redl_tree.specs.declared.around.Around.{Around}
 use Rattle.redl_visit.specs.Visits.{visited, visited_element, Needs}
@@ -85,12 +85,12 @@ module _ (spots : List Spot) (tag : Tag) (kids rest : Nodes) (later : List ℕ) 
   below-is : next_end tag s.ends (para_end spots) ≡ para_end more
   below-is = end-inside spots s.at tag kids s.ends (ends_from (s.at + 1) kids ++ behind) split
 
-  around-is : inside_of tag (around_of (tags_of spots)) ≡ around_of (tags_of more)
+  around-is : around_inside tag (around_of (tags_of spots)) ≡ around_of (tags_of more)
   around-is = around-inside s.at tag kids spots
 
   -- what holds for its kids by their ancestors holds for what is handed down to them
   handed : (P : Around → ℕ → Seeking → Type 0) → P (around_of (tags_of more)) (para_end more) known
-      → P (inside_of tag (around_of (tags_of spots))) (next_end tag s.ends (para_end spots)) entered
+      → P (around_inside tag (around_of (tags_of spots))) (next_end tag s.ends (para_end spots)) entered
   handed P h =
       let P_around : Around → Type 0 = λ a. P a (next_end tag s.ends (para_end spots)) entered in
       let P_end : ℕ → Type 0 = λ e. P (around_of (tags_of more)) e entered in
@@ -101,10 +101,10 @@ module _ (spots : List Spot) (tag : Tag) (kids rest : Nodes) (later : List ℕ) 
   done = record s { at = s.at + 2 + tags kids; ends = behind; found = noted_all s.part s.found (sights s (one ∷ seen_from more (s.at + 1) kids)) }
 
   abbrev KidsGrow : Around → ℕ → Seeking → Type 0
-  KidsGrow here own t = visited inside_of seeker_rule here own kids t ≡ grown more kids behind known
+  KidsGrow here own t = visited around_inside seeker_rule here own kids t ≡ grown more kids behind known
 
-  element-is : visited inside_of seeker_rule (around_of (tags_of more)) (para_end more) kids known ≡ grown more kids behind known
-      → visited_element inside_of seeker_rule (around_of (tags_of spots)) (para_end spots) tag kids s ≡ done
+  element-is : visited around_inside seeker_rule (around_of (tags_of more)) (para_end more) kids known ≡ grown more kids behind known
+      → visited_element around_inside seeker_rule (around_of (tags_of spots)) (para_end spots) tag kids s ≡ done
   element-is kids_are =
       ap (seeker_rule.leave (around_of (tags_of spots)) (next_end tag s.ends (para_end spots)) tag kids) (handed KidsGrow kids_are)
       ∙ same s.part s.marks s.tails _ _ _ _ _ _ (omega arith) refl refl
@@ -117,11 +117,11 @@ module _ (spots : List Spot) (tag : Tag) (kids rest : Nodes) (later : List ℕ) 
       (sym (noted_all-append s.part s.found (sights s here) (sights s after)) ∙ ap (noted_all s.part s.found) (sym (map-append (sight_in s.marks s.tails) here after)))
 
 pub seeker-visited : (spots : List Spot) (nodes : Nodes) (later : List ℕ) (s : Seeking) → s.ends ≡ ends_from s.at nodes ++ later →
-    visited inside_of seeker_rule (around_of (tags_of spots)) (para_end spots) nodes s ≡ grown spots nodes later s
+    visited around_inside seeker_rule (around_of (tags_of spots)) (para_end spots) nodes s ≡ grown spots nodes later s
 seeker-visited spots no_nodes later s left = same s.part s.marks s.tails _ _ _ _ _ _ (omega arith) left refl
 seeker-visited spots (bytes b rest) later s left = seeker-visited spots rest later s left
 seeker-visited spots (element tag kids rest) later s left =
-    ap (visited inside_of seeker_rule (around_of (tags_of spots)) (para_end spots) rest)
+    ap (visited around_inside seeker_rule (around_of (tags_of spots)) (para_end spots) rest)
     (element-is spots tag kids rest later s left
     (seeker-visited (spot s.at tag kids ∷ spots) kids (ends_from (s.at + 2 + tags kids) rest ++ later) (known spots tag kids rest later s left) refl))
     ∙ seeker-visited spots rest later (done spots tag kids rest later s left) refl
@@ -170,7 +170,7 @@ module _ (spots : List Spot) (tag : Tag) (kids rest : Nodes) (later : List ℕ) 
   enter-ready = (omega (arith, ready.fits), omega (arith, ready.few), ready.utf8.0, ready.tails, apart-at s.marks spots s.at tag kids ready.free.0)
 
 seeker-needs : (spots : List Spot) (nodes : Nodes) (later : List ℕ) (s : Seeking) → s.ends ≡ ends_from s.at nodes ++ later → IsReady spots nodes s →
-    Needs inside_of seeker_rule seeker_needs (around_of (tags_of spots)) (para_end spots) nodes s
+    Needs around_inside seeker_rule seeker_needs (around_of (tags_of spots)) (para_end spots) nodes s
 seeker-needs spots no_nodes later s left ready = tt
 seeker-needs spots (bytes b rest) later s left ready = seeker-needs spots rest later s left (record {
   fits = ready.fits;
@@ -185,9 +185,9 @@ seeker-needs spots (element tag kids rest) later s left ready =
     let then = known spots tag kids rest later s left in
     let last = done spots tag kids rest later s left in
     let kids_are = seeker-visited more kids after then refl in
-    let NeedsKids : Around → ℕ → Seeking → Type 0 = λ here own t. Needs inside_of seeker_rule seeker_needs here own kids t in
-    let Leaves : Around → ℕ → Seeking → Type 0 = λ here own t. (visited inside_of seeker_rule here own kids t).at + 1 < 2 ^ 64 in
-    let NeedsRest : Seeking → Type 0 = λ t. Needs inside_of seeker_rule seeker_needs (around_of (tags_of spots)) (para_end spots) rest t in (
+    let NeedsKids : Around → ℕ → Seeking → Type 0 = λ here own t. Needs around_inside seeker_rule seeker_needs here own kids t in
+    let Leaves : Around → ℕ → Seeking → Type 0 = λ here own t. (visited around_inside seeker_rule here own kids t).at + 1 < 2 ^ 64 in
+    let NeedsRest : Seeking → Type 0 = λ t. Needs around_inside seeker_rule seeker_needs (around_of (tags_of spots)) (para_end spots) rest t in (
       enter-ready spots tag kids rest later s left ready,
       handed spots tag kids rest later s left NeedsKids (seeker-needs more kids after then refl (kids-ready spots tag kids rest later s left ready)),
       handed spots tag kids rest later s left Leaves (omega (arith, ap (λ (t : Seeking). t.at) kids_are, ready.fits)),
@@ -199,7 +199,7 @@ seeker-needs spots (element tag kids rest) later s left ready =
 -- a visit of the kids of a story's root
 module _ (part : ℕ) (base : List Revision) (root : Tag) (kids : Nodes) (known : Facts) (top here : Around) (begun : Seeking)
     (is_root : is_story_root root ≡ true) (few : length base + count kids < 2 ^ 32) (is_known : known ≡ facts_in (element_by root kids))
-    (is_top : top ≡ around_of []) (is_here : here ≡ inside_of root top) (is_begun : begun ≡ seeking_in part known base) where
+    (is_top : top ≡ around_of []) (is_here : here ≡ around_inside root top) (is_begun : begun ≡ seeking_in part known base) where
   abbrev first : Seeking
   first = seeking_in part (facts_in (element_by root kids)) base
 
@@ -211,18 +211,18 @@ module _ (part : ℕ) (base : List Revision) (root : Tag) (kids : Nodes) (known 
   handed-root P h =
       let P_around : Around → Type 0 = λ a. P a 0 begun in
       let P_end : ℕ → Type 0 = λ e. P (around_of (tags_of (root_spots root kids))) e begun in
-      subst P_around (sym (is_here ∙ ap (inside_of root) is_top ∙ around-inside 0 root kids []))
+      subst P_around (sym (is_here ∙ ap (around_inside root) is_top ∙ around-inside 0 root kids []))
       (subst P_end (para_end-root root kids is_root) (subst (P (around_of (tags_of (root_spots root kids))) (para_end (root_spots root kids))) (sym (is_begun ∙ ap (λ k. seeking_in part k base) is_known)) h))
 
-  pub story-sought : (visited inside_of seeker_rule here 0 kids begun).found.index ≡ base ++ numbered (1 + length base) (story_revisions part root kids)
+  pub story-sought : (visited around_inside seeker_rule here 0 kids begun).found.index ≡ base ++ numbered (1 + length base) (story_revisions part root kids)
   story-sought =
-      let Index : Around → ℕ → Seeking → Type 0 = λ here own s. (visited inside_of seeker_rule here own kids s).found.index ≡ base ++ numbered (1 + length base) (story_revisions part root kids) in
+      let Index : Around → ℕ → Seeking → Type 0 = λ here own s. (visited around_inside seeker_rule here own kids s).found.index ≡ base ++ numbered (1 + length base) (story_revisions part root kids) in
       handed-root Index (ap (λ (t : Seeking). t.found.index) (seeker-visited (root_spots root kids) kids [] first left_is) ∙ story-index part base root kids (omega (arith, few)))
 
-  pub story-few : length (visited inside_of seeker_rule here 0 kids begun).found.index ≤ length base + count kids
+  pub story-few : length (visited around_inside seeker_rule here 0 kids begun).found.index ≤ length base + count kids
   story-few =
       let xs = seen root kids in
-      let Few : Around → ℕ → Seeking → Type 0 = λ here own s. length (visited inside_of seeker_rule here own kids s).found.index ≤ length base + count kids in
+      let Few : Around → ℕ → Seeking → Type 0 = λ here own s. length (visited around_inside seeker_rule here own kids s).found.index ≤ length base + count kids in
       handed-root Few
       (omega (
         arith,
@@ -232,9 +232,9 @@ module _ (part : ℕ) (base : List Revision) (root : Tag) (kids : Nodes) (known 
         seen-count (root_spots root kids) 1 kids,
       ))
 
-  pub story-needs : HasUtf8Tails kids → Needs inside_of seeker_rule seeker_needs here 0 kids begun
+  pub story-needs : HasUtf8Tails kids → Needs around_inside seeker_rule seeker_needs here 0 kids begun
   story-needs utf8 =
-      let NeedsKids : Around → ℕ → Seeking → Type 0 = λ here own s. Needs inside_of seeker_rule seeker_needs here own kids s in
+      let NeedsKids : Around → ℕ → Seeking → Type 0 = λ here own s. Needs around_inside seeker_rule seeker_needs here own kids s in
       handed-root NeedsKids
       (seeker-needs (root_spots root kids) kids [] first left_is
       (record {

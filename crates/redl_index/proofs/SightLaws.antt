@@ -4,7 +4,7 @@ use Rattle.std.proofs.Math.Bool.{or-false}
 use Rattle.std.specs.Cmp.{first_so, second_so}
 use Rattle.redl_tree.specs.Model.Nodes.{Tag, Nodes}
 use Rattle.redl_tree.specs.Roles.Names.{is}
-use Rattle.redl_tree.specs.Roles.Arounds.{around_of, inside_of, role_in}
+use Rattle.redl_tree.specs.Roles.Arounds.{around_of, around_inside, role_in}
 use Rattle.redl_tree.specs.Decisions.Packages.{is_story_root}
 use Rattle.redl_tree.specs.Revisions.Moves.{Marking, pairs, Pair, is_of_pair}
 use Rattle.redl_tree.specs.Revisions.Markers.{move_of_marker, move_of, whole_role, own_role, mark_end, move_of_member, either}
@@ -203,7 +203,7 @@ module _ (spots : List Spot) (at : ℕ) (tag : Tag) (kids : Nodes) (ends later :
       by true left = ap (drop 1) left
       by false left = left
 
-pub around-inside : (at : ℕ) (tag : Tag) (kids : Nodes) (spots : List Spot) → inside_of tag (around_of (tags_of spots)) ≡ around_of (tags_of (spot at tag kids ∷ spots))
+pub around-inside : (at : ℕ) (tag : Tag) (kids : Nodes) (spots : List Spot) → around_inside tag (around_of (tags_of spots)) ≡ around_of (tags_of (spot at tag kids ∷ spots))
 around-inside at tag kids spots = sym (around_of-∷ tag (tags_of spots))
 
 -- the root of a story is no paragraph

@@ -7,8 +7,8 @@ use Rattle.redl_stamp.specs.Attribute.{attribute_value}
 
 -- how many revisions a package has
 abbrev pub package_revisions : Nodes → ℕ
-package_revisions nodes = numbers.package_revisions attribute_value nodes
+package_revisions nodes = numbers.package_revisions_by attribute_value nodes
 
 -- a package with the kinds and numbers of its members, and of the markers of paired moves
 abbrev pub numbered_package : Nodes → Nodes
-numbered_package nodes = numbers.numbered_package attribute_value nodes
+numbered_package nodes = numbers.numbered_package_by attribute_value nodes

@@ -27,7 +27,7 @@ use std::marker::Model;
 /// its nodes.
 #[derive(Drop)]
 pub struct Surveyed<'a> {
-    package: Package<'a>,
+    pkg: Package<'a>,
     broken: Option<u8>,
     stories: Vec<StoryFacts<'a>>,
 }
@@ -44,16 +44,16 @@ impl<'a> Model for Surveyed<'a> {
     ghost use Rattle.std.specs.Prelude.{map};
     ghost use Rattle.redl_index.specs.StoryFacts.{facts_of, IsSurvey};
 
-    ghost view = { λ surveyed. surveyed.«package» };
+    ghost view = { λ surveyed. surveyed.pkg };
 
-    ghost invariant = { λ surveyed. IsSurvey surveyed.«package» surveyed.broken (map facts_of surveyed.stories.items) };
+    ghost invariant = { λ surveyed. IsSurvey surveyed.pkg surveyed.broken (map facts_of surveyed.stories.items) };
 }
 
 /// A package with the kinds and numbers of its revisions, and the revisions.
 #[derive(Drop)]
 pub struct Numbered<'a> {
     /// The package.
-    pub package: Package<'a>,
+    pub pkg: Package<'a>,
     /// Its revisions.
     pub index: Index,
 }
@@ -62,7 +62,7 @@ pub struct Numbered<'a> {
 #[derive(Drop)]
 pub struct Counted<'a> {
     /// The package.
-    pub package: Package<'a>,
+    pub pkg: Package<'a>,
     /// How many revisions it has.
     pub count: u32,
 }
@@ -74,7 +74,7 @@ impl<'a> Surveyed<'a> {
     {
         let (kept, stories) = survey_stories(alloc, &pkg)?;
         Ok(Surveyed {
-            package: pkg,
+            pkg,
             broken: kept.least_broken(),
             stories,
         })
@@ -84,7 +84,7 @@ impl<'a> Surveyed<'a> {
     pub fn package(&self) -> &Package<'a>
         ensures { result.now ≡ self.now }
     {
-        &self.package
+        &self.pkg
     }
 
     /// The least of the nine rules of structure that the package breaks, where they count from 1.
@@ -96,26 +96,26 @@ impl<'a> Surveyed<'a> {
 
     /// Numbers the revisions as `Index::build` does, and only counts them. It takes no memory, and reads no author and no date.
     pub fn into_counted(self) -> Counted<'a>
-        ensures nodes { result.«package» ≡ numbered_package self.entry }
+        ensures nodes { result.pkg ≡ numbered_package self.entry }
         ensures count { result.count ≡ package_revisions self.entry }
-        ensures text { text result.«package» ≡ text self.entry }
+        ensures text { text result.pkg ≡ text self.entry }
     {
-        let mut package = self.package;
-        let count = label_stories(&mut package, self.stories);
-        Counted { package, count }
+        let mut pkg = self.pkg;
+        let count = label_stories(&mut pkg, self.stories);
+        Counted { pkg, count }
     }
 
     /// Numbers the revisions as `Index::build` does. `Err` means out of memory, and drops the package.
     pub fn into_numbered(self, alloc: Global) -> Result<Numbered<'a>, AllocError>
-        ensures nodes { IfOk result (λ made. made.«package» ≡ numbered_package self.entry) }
+        ensures nodes { IfOk result (λ made. made.pkg ≡ numbered_package self.entry) }
         ensures index { IfOk result (λ made. made.index ≡ revisions_of self.entry) }
         ensures count { IfOk result (λ made. length made.index ≡ package_revisions self.entry) }
-        ensures stories { IfOk result (λ made. All (IsInStory made.«package») made.index) }
-        ensures text { IfOk result (λ made. text made.«package» ≡ text self.entry) }
+        ensures stories { IfOk result (λ made. All (IsInStory made.pkg) made.index) }
+        ensures text { IfOk result (λ made. text made.pkg ≡ text self.entry) }
     {
-        let mut package = self.package;
-        let index = Index::of_known(alloc, &mut package, self.stories)?;
-        Ok(Numbered { package, index })
+        let mut pkg = self.pkg;
+        let index = Index::of_known(alloc, &mut pkg, self.stories)?;
+        Ok(Numbered { pkg, index })
     }
 }
 

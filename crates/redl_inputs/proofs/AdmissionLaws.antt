@@ -15,7 +15,7 @@ use Rattle.redl_lines.proofs.RefusedLaws.{with_refusals-append}
 use Rattle.redl_lines.specs.Refused.{RefusedEntries, with_refusals}
 use Rattle.redl_select.specs.declared.lock.Lock.{Lock}
 use Rattle.redl_session.specs.Refusals.{admitted, cause_of, refusal_of, refusals}
-use Rattle.redl_session.specs.Sessions.{State}
+use Rattle.redl_session.specs.Sessions.{SessionState}
 use Rattle.redl_session.specs.declared.refusal.Refusal.{Refusal}
 use Rattle.redl_tree.specs.Model.Nodes.{Nodes}
 use Rattle.sha2.specs.Sha256.{sha256}
@@ -50,11 +50,11 @@ pub admits_nothing : (before : Admission) → admission_with before [] ≡ befor
 admits_nothing before = refl
 
 -- an admission of these parts
-abbrev pub with_parts : DocumentId → State → RefusedEntries → RefusedEntries → List Lock → Admission
+abbrev pub with_parts : DocumentId → SessionState → RefusedEntries → RefusedEntries → List Lock → Admission
 with_parts document state refused second idle = record { document = document; state = state; remarks = record { refused = refused; second = second; idle = idle } }
 
 -- a session after these entries, and the refusals that it gave
-pub admitted_all : (before : Admission) (entries : List Entry) (state : State) (given : List Refusal) (kept : RefusedEntries)
+pub admitted_all : (before : Admission) (entries : List Entry) (state : SessionState) (given : List Refusal) (kept : RefusedEntries)
     → state ≡ record before.state { book = union before.state.book (admitted before.state.revisions before.state.locks entries) }
     → given ≡ refusals before.state.revisions before.state.locks entries
     → kept ≡ with_refusals before.remarks.refused given
@@ -65,7 +65,7 @@ admitted_all before entries state given kept is were added =
     (added ∙ ap (with_refusals before.remarks.refused) were)
 
 -- a session over a package, before any entry
-pub starts : (whole : List ℕ) (pkg : Nodes) (locks : List Lock) (nodes : Nodes) (revisions : List Revision) (held : List Lock) (state : State) (refused second : RefusedEntries) (idle : List Lock) (count : ℕ)
+pub starts : (whole : List ℕ) (pkg : Nodes) (locks : List Lock) (nodes : Nodes) (revisions : List Revision) (held : List Lock) (state : SessionState) (refused second : RefusedEntries) (idle : List Lock) (count : ℕ)
     → state ≡ record { nodes = nodes; revisions = revisions; locks = held; book = [] } → nodes ≡ numbered_package pkg → revisions ≡ revisions_of pkg → held ≡ locks
     → refused ≡ [] → second ≡ [] → idle ≡ idle_locks revisions locks → count ≡ package_revisions pkg → let document : DocumentId = record { digest = sha256 whole; count = count } in with_parts document state refused second idle ≡ no_admission whole pkg locks
 starts whole pkg locks nodes revisions held state refused second idle count is of_nodes of_revisions of_locks none nor idly counted =

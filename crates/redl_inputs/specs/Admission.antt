@@ -16,14 +16,14 @@ use Rattle.redl_lines.specs.Remarks.{Remarks}
 use Rattle.redl_lines.specs.Failures.{Failure}
 use Rattle.redl_select.specs.declared.lock.Lock.{Lock}
 use Rattle.redl_session.specs.Refusals.{admitted, refusals}
-use Rattle.redl_session.specs.Sessions.{State}
+use Rattle.redl_session.specs.Sessions.{SessionState}
 use Rattle.redl_tree.specs.Model.Nodes.{Nodes}
 
 -- A session over a package, the package as its journals know it, and what there is to remark: the entries that the session
 -- refused, with their causes, and the locks that hold nothing.
 pub record Admission : Type 0 where
   pub document : DocumentId
-  pub state : State
+  pub state : SessionState
   pub remarks : Remarks
 
 -- a session over the package with this text and these nodes, with these locks, before any entry

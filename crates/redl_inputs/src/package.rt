@@ -50,11 +50,11 @@ fn shape<'a, 'b>(alloc: Global, nodes: Vec<Node<'b>>) -> Result<Package<'b>, Fai
 }
 
 // Whether the package keeps the rules of structure.
-fn check_rules<'a>(package: &Surveyed) -> Result<(), Failure<'a>>
-    ensures read { Reads (result_view (λ _. «package».now) result) (λ _. sound «package».now) }
-    ensures sound { IfOk result (λ _. broken_rule «package».now ≡ None) }
+fn check_rules<'a>(pkg: &Surveyed) -> Result<(), Failure<'a>>
+    ensures read { Reads (result_view (λ _. pkg.now) result) (λ _. sound pkg.now) }
+    ensures sound { IfOk result (λ _. broken_rule pkg.now ≡ None) }
 {
-    match package.broken_rule() {
+    match pkg.broken_rule() {
         Some(rule) => Err(RuleError::Broken(rule).into()),
         None => Ok(()),
     }

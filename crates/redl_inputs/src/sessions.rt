@@ -40,20 +40,20 @@ pub fn open<'a, 'b, F: Shelf>(
 /// locks.
 pub fn open_package<'a, 'b, F: Shelf>(
     alloc: Global,
-    package: Surveyed<'b>,
+    pkg: Surveyed<'b>,
     locks: &[Lock],
     journals: &'a [Text],
     bytes: &'b [u8],
     shelf: &mut F,
 ) -> Result<Admitted<'b>, Failure<'a>>
     requires utf8 { All IsUtf8 journals.now }
-    requires sound { broken_rule «package» ≡ None }
+    requires sound { broken_rule pkg ≡ None }
     ensures read { ReadsFiles F.told F.faults F.asked shelf.old shelf.new journals.now
-        (result_view admission_view result) (λ reader files. opened_over reader files locks.now journals.now bytes.now «package».entry) }
-    ensures nodes { IfOk result (λ admitted. admitted.session.nodes ≡ numbered_package «package».entry) }
-    ensures revisions { IfOk result (λ admitted. admitted.session.revisions ≡ revisions_of «package».entry) }
+        (result_view admission_view result) (λ reader files. opened_over reader files locks.now journals.now bytes.now pkg.entry) }
+    ensures nodes { IfOk result (λ admitted. admitted.session.nodes ≡ numbered_package pkg.entry) }
+    ensures revisions { IfOk result (λ admitted. admitted.session.revisions ≡ revisions_of pkg.entry) }
 {
-    let mut started = start(alloc, package, locks, bytes)?;
+    let mut started = start(alloc, pkg, locks, bytes)?;
     if journals.is_empty() {
         return Ok(started);
     }
@@ -65,7 +65,7 @@ pub fn open_package<'a, 'b, F: Shelf>(
 /// bytes together, and without locks. Also how many bytes may still come of other journals.
 pub fn sit<'a, 'b, F: Shelf>(
     alloc: Global,
-    package: Surveyed<'b>,
+    pkg: Surveyed<'b>,
     limit: usize,
     journals: &'a [Text],
     bytes: &'b [u8],
@@ -73,14 +73,14 @@ pub fn sit<'a, 'b, F: Shelf>(
 ) -> Result<(Admitted<'b>, usize), Failure<'a>>
     requires utf8 { All IsUtf8 journals.now }
     requires limit { limit < 2 ^ 32 }
-    requires sound { broken_rule «package» ≡ None }
+    requires sound { broken_rule pkg ≡ None }
     ensures read { ReadsFiles F.told F.faults F.asked shelf.old shelf.new journals.now
-        (result_view (λ x. (admission_view x.0, x.1)) result) (λ reader files. sitting_over reader files limit journals.now bytes.now «package».entry) }
+        (result_view (λ x. (admission_view x.0, x.1)) result) (λ reader files. sitting_over reader files limit journals.now bytes.now pkg.entry) }
     ensures within { IfOk result (λ x. x.1 ≤ limit) }
-    ensures nodes { IfOk result (λ x. x.0.session.nodes ≡ numbered_package «package».entry) }
-    ensures revisions { IfOk result (λ x. x.0.session.revisions ≡ revisions_of «package».entry) }
+    ensures nodes { IfOk result (λ x. x.0.session.nodes ≡ numbered_package pkg.entry) }
+    ensures revisions { IfOk result (λ x. x.0.session.revisions ≡ revisions_of pkg.entry) }
 {
-    let mut started = start(alloc, package, &[], bytes)?;
+    let mut started = start(alloc, pkg, &[], bytes)?;
     let document = started.document.id();
     admit_within(alloc, document, journals, limit, started, shelf)
 }
@@ -104,7 +104,7 @@ pub fn start<'b>(
             digest: LazyDigest::Of(bytes),
             count,
         },
-        session: Session::start(alloc, numbered.package, numbered.index, locks)?,
+        session: Session::start(alloc, numbered.pkg, numbered.index, locks)?,
         remarks: Remarks {
             refused: RefusedEntries::new(alloc),
             second: RefusedEntries::new(alloc),

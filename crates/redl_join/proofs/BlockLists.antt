@@ -14,7 +14,7 @@ use native.Mathlib.Numerals.{unary_clauses}
 use Rattle.redl_journal.specs.declared.entry.Entry.{Entry}
 use Rattle.redl_journal.specs.Order.{entry_order}
 use Rattle.redl_journal.proofs.EntryOrder.{entry_order-total}
-use Rattle.redl_join.specs.Blocks.{joined, IsFilled, AreBlocks, AreCounted, ends_before, IsPlace}
+use Rattle.redl_join.specs.Blocks.{entries_in_blocks, IsFilled, AreBlocks, AreCounted, ends_before, IsPlace}
 use Rattle.redl_join.specs.Books.{IsBook}
 use Rattle.redl_join.proofs.Lists.{below, insert_present, sorted_insert}
 use Rattle.redl_join.proofs.Parts.{all_front, all_back, all_append, all_at, all_map, sorted_front, sorted_back, apart, less, insert_after, insert_before, any_after, any_before, remove_after, remove_before, remove_absent}
@@ -65,37 +65,37 @@ last-reach x e (y ∷ []) filled h lower = entry_order-total.trans x y e lower.0
 last-reach x e (y ∷ z ∷ zs) filled h lower = last-reach x e (z ∷ zs) (λ none. absurd cc) (sym (ends-tail e y z zs) ∙ h) lower.1
 
 reach : (x e : Entry) (blocks : List (Vec Entry)) (j : ℕ) (d : Vec Entry) → AllByRecursion IsFilled blocks → j < length blocks
-    → ends_before e (get_or blocks j d).items ≡ true → AllBelow x (joined blocks) → entry_order x e ≡ Less
+    → ends_before e (get_or blocks j d).items ≡ true → AllBelow x (entries_in_blocks blocks) → entry_order x e ≡ Less
 reach x e [] j d filled within h lower = absurd (omega arith)
-reach x e (b ∷ bs) zero d filled within h lower = last-reach x e b.items filled.0 h (all_front (λ y. entry_order x y ≡ Less) b.items (joined bs) lower)
-reach x e (b ∷ bs) (suc j) d filled within h lower = reach x e bs j d filled.1 (omega arith) h (all_back (λ y. entry_order x y ≡ Less) b.items (joined bs) lower)
+reach x e (b ∷ bs) zero d filled within h lower = last-reach x e b.items filled.0 h (all_front (λ y. entry_order x y ≡ Less) b.items (entries_in_blocks bs) lower)
+reach x e (b ∷ bs) (suc j) d filled within h lower = reach x e bs j d filled.1 (omega arith) h (all_back (λ y. entry_order x y ≡ Less) b.items (entries_in_blocks bs) lower)
 
 blocks-rest : (b : Vec Entry) (bs : List (Vec Entry)) → AreBlocks (b ∷ bs) → AreBlocks bs
-blocks-rest b bs h = record { ordered = sorted_back entry_order-total b.items (joined bs) h.ordered; filled = h.filled.1 }
+blocks-rest b bs h = record { ordered = sorted_back entry_order-total b.items (entries_in_blocks bs) h.ordered; filled = h.filled.1 }
 
 pub partitioned : (blocks : List (Vec Entry)) (e : Entry) → AreBlocks blocks → IsPartitionedBy (λ block. ends_before e block.items) blocks
 partitioned [] e are i j d le within h = absurd (omega arith)
 partitioned (b ∷ bs) e are zero zero d le within h = h
 partitioned (b ∷ bs) e are zero (suc j) d le within h =
     all-ends b.items e
-    (all_map (λ x. AllBelow x (joined bs)) (λ x. entry_order x e ≡ Less) b.items (λ x lower. reach x e bs j d are.filled.1 (omega arith) h lower) (apart entry_order-total b.items (joined bs) are.ordered))
+    (all_map (λ x. AllBelow x (entries_in_blocks bs)) (λ x. entry_order x e ≡ Less) b.items (λ x lower. reach x e bs j d are.filled.1 (omega arith) h lower) (apart entry_order-total b.items (entries_in_blocks bs) are.ordered))
 partitioned (b ∷ bs) e are (suc i) zero d le within h = absurd (omega arith)
 partitioned (b ∷ bs) e are (suc i) (suc j) d le within h = partitioned bs e (blocks-rest b bs are) i j d (omega arith) (omega arith) h
 
 earlier : (blocks : List (Vec Entry)) (i : ℕ) (e : Entry) → AreBlocks blocks → i ≤ length blocks
-    → ((k : ℕ) (d : Vec Entry) → k < i → ends_before e (get_or blocks k d).items ≡ true) → AllByRecursion (λ x. entry_order x e ≡ Less) (joined (take i blocks))
+    → ((k : ℕ) (d : Vec Entry) → k < i → ends_before e (get_or blocks k d).items ≡ true) → AllByRecursion (λ x. entry_order x e ≡ Less) (entries_in_blocks (take i blocks))
 earlier [] zero e are within h = tt
 earlier [] (suc i) e are within h = absurd (omega arith)
 earlier (b ∷ bs) zero e are within h = tt
 earlier (b ∷ bs) (suc i) e are within h =
-    all_append (λ x. entry_order x e ≡ Less) b.items (joined (take i bs))
-    (ends-all b.items e (sorted_front entry_order-total b.items (joined bs) are.ordered) (h 0 b (omega arith)))
+    all_append (λ x. entry_order x e ≡ Less) b.items (entries_in_blocks (take i bs))
+    (ends-all b.items e (sorted_front entry_order-total b.items (entries_in_blocks bs) are.ordered) (h 0 b (omega arith)))
     (earlier bs i e (blocks-rest b bs are) (omega arith) (λ k d low. h (suc k) d (omega arith)))
 
 later : (blocks : List (Vec Entry)) (i : ℕ) (e : Entry) → AreBlocks blocks
-    → ((k : ℕ) (d : Vec Entry) → i ≤ k → k < length blocks → ends_before e (get_or blocks k d).items ≡ false) → AllBelow e (joined (drop (suc i) blocks))
+    → ((k : ℕ) (d : Vec Entry) → i ≤ k → k < length blocks → ends_before e (get_or blocks k d).items ≡ false) → AllBelow e (entries_in_blocks (drop (suc i) blocks))
 later [] i e are h = tt
-later (b ∷ bs) zero e are h = ends-later b.items (joined bs) e (h 0 b (omega arith) (omega arith)) (apart entry_order-total b.items (joined bs) are.ordered)
+later (b ∷ bs) zero e are h = ends-later b.items (entries_in_blocks bs) e (h 0 b (omega arith) (omega arith)) (apart entry_order-total b.items (entries_in_blocks bs) are.ordered)
 later (b ∷ bs) (suc i) e are h = later bs i e (blocks-rest b bs are) (λ k d low high. h (suc k) d (omega arith) (omega arith))
 
 pub place_found : (blocks : List (Vec Entry)) (e : Entry) (i : ℕ) → AreBlocks blocks → i ≤ length blocks
@@ -124,18 +124,18 @@ place_last blocks e last are some is h =
 -- ---- one block of several
 
 pub parted : (blocks : List (Vec Entry)) (i : ℕ) (d : Vec Entry) → i < length blocks
-    → joined blocks ≡ joined (take i blocks) ++ ((get_or blocks i d).items ++ joined (drop (suc i) blocks))
+    → entries_in_blocks blocks ≡ entries_in_blocks (take i blocks) ++ ((get_or blocks i d).items ++ entries_in_blocks (drop (suc i) blocks))
 parted [] i d within = absurd (omega arith)
 parted (b ∷ bs) zero d within = refl
 parted (b ∷ bs) (suc i) d within =
-    ap (λ (l : List Entry). b.items ++ l) (parted bs i d (omega arith)) ∙ sym (append_assoc b.items (joined (take i bs)) ((get_or bs i d).items ++ joined (drop (suc i) bs)))
+    ap (λ (l : List Entry). b.items ++ l) (parted bs i d (omega arith)) ∙ sym (append_assoc b.items (entries_in_blocks (take i bs)) ((get_or bs i d).items ++ entries_in_blocks (drop (suc i) bs)))
 
 pub joined-set : (blocks : List (Vec Entry)) (i : ℕ) (b : Vec Entry) → i < length blocks
-    → joined (set blocks i b) ≡ joined (take i blocks) ++ (b.items ++ joined (drop (suc i) blocks))
+    → entries_in_blocks (set blocks i b) ≡ entries_in_blocks (take i blocks) ++ (b.items ++ entries_in_blocks (drop (suc i) blocks))
 joined-set [] i b within = absurd (omega arith)
 joined-set (x ∷ xs) zero b within = refl
 joined-set (x ∷ xs) (suc i) b within =
-    ap (λ (l : List Entry). x.items ++ l) (joined-set xs i b (omega arith)) ∙ sym (append_assoc x.items (joined (take i xs)) (b.items ++ joined (drop (suc i) xs)))
+    ap (λ (l : List Entry). x.items ++ l) (joined-set xs i b (omega arith)) ∙ sym (append_assoc x.items (entries_in_blocks (take i xs)) (b.items ++ entries_in_blocks (drop (suc i) xs)))
 
 last-tail : (x y d : Vec Entry) (ys : List (Vec Entry)) → get_or (x ∷ y ∷ ys) (length (x ∷ y ∷ ys) - 1) d ≡ get_or (y ∷ ys) (length (y ∷ ys) - 1) d
 last-tail x y d ys = simp unary_clauses
@@ -144,21 +144,21 @@ set-tail : (x y b : Vec Entry) (ys : List (Vec Entry)) → set (x ∷ y ∷ ys) 
 set-tail x y b ys = simp unary_clauses
 
 -- a block that has the entries of the one in its place
-pub joined-same : (blocks : List (Vec Entry)) (i : ℕ) (b d : Vec Entry) → i < length blocks → b.items ≡ (get_or blocks i d).items → joined (set blocks i b) ≡ joined blocks
+pub joined-same : (blocks : List (Vec Entry)) (i : ℕ) (b d : Vec Entry) → i < length blocks → b.items ≡ (get_or blocks i d).items → entries_in_blocks (set blocks i b) ≡ entries_in_blocks blocks
 joined-same blocks i b d within same =
-    joined-set blocks i b within ∙ ap (λ (l : List Entry). joined (take i blocks) ++ (l ++ joined (drop (suc i) blocks))) same ∙ sym (parted blocks i d within)
+    joined-set blocks i b within ∙ ap (λ (l : List Entry). entries_in_blocks (take i blocks) ++ (l ++ entries_in_blocks (drop (suc i) blocks))) same ∙ sym (parted blocks i d within)
 
 pub joined-push : (blocks : List (Vec Entry)) (b d : Vec Entry) (e : Entry) → 0 < length blocks → b.items ≡ (get_or blocks (length blocks - 1) d).items ++ e ∷ []
-    → joined (set blocks (length blocks - 1) b) ≡ joined blocks ++ e ∷ []
+    → entries_in_blocks (set blocks (length blocks - 1) b) ≡ entries_in_blocks blocks ++ e ∷ []
 joined-push [] b d e some is = absurd (omega arith)
 joined-push (x ∷ []) b d e some is = append-nil b.items ∙ is ∙ ap (λ (l : List Entry). l ++ e ∷ []) (sym (append-nil x.items))
 joined-push (x ∷ y ∷ ys) b d e some is =
-    ap joined (set-tail x y b ys)
+    ap entries_in_blocks (set-tail x y b ys)
     ∙ ap (λ (l : List Entry). x.items ++ l) (joined-push (y ∷ ys) b d e (omega arith) (is ∙ ap (λ (c : Vec Entry). c.items ++ e ∷ []) (last-tail x y d ys)))
-    ∙ sym (append_assoc x.items (joined (y ∷ ys)) (e ∷ []))
+    ∙ sym (append_assoc x.items (entries_in_blocks (y ∷ ys)) (e ∷ []))
 
 pub joined-push-at : (blocks : List (Vec Entry)) (n : ℕ) (b d : Vec Entry) (e : Entry) → n ≡ length blocks → 0 < n → d ≡ get_or blocks (n - 1) d → b.items ≡ d.items ++ e ∷ []
-    → joined (set blocks (n - 1) b) ≡ joined blocks ++ e ∷ []
+    → entries_in_blocks (set blocks (n - 1) b) ≡ entries_in_blocks blocks ++ e ∷ []
 joined-push-at blocks n b d e is some own more =
     let last : d ≡ get_or blocks (length blocks - 1) d = rw is at own in
     rw is (joined-push blocks b d e (omega arith) (more ∙ ap (λ (c : Vec Entry). c.items ++ e ∷ []) last))
@@ -188,10 +188,10 @@ insert-filled (x ∷ xs) e none = by (entry_order e x) none where
 
 -- an insertion into the block where the entry belongs
 pub put : (blocks : List (Vec Entry)) (place : ℕ) (b d : Vec Entry) (e : Entry) → IsPlace e blocks place → place < length blocks
-    → b.items ≡ insert_key entry_order (get_or blocks place d).items e → joined (set blocks place b) ≡ insert_key entry_order (joined blocks) e
+    → b.items ≡ insert_key entry_order (get_or blocks place d).items e → entries_in_blocks (set blocks place b) ≡ insert_key entry_order (entries_in_blocks blocks) e
 put blocks place b d e at within is =
-    let front = joined (take place blocks) in
-    let back = joined (drop (suc place) blocks) in
+    let front = entries_in_blocks (take place blocks) in
+    let back = entries_in_blocks (drop (suc place) blocks) in
     let own = (get_or blocks place d).items in
     joined-set blocks place b within
     ∙ ap (λ (l : List Entry). front ++ (l ++ back)) is
@@ -201,10 +201,10 @@ put blocks place b d e at within is =
 
 -- whether the entry is there can be seen in that block
 pub seen : (blocks : List (Vec Entry)) (place : ℕ) (d : Vec Entry) (e : Entry) → IsPlace e blocks place → place < length blocks
-    → list_any (λ y. is_eq (entry_order e y)) (joined blocks) ≡ list_any (λ y. is_eq (entry_order e y)) (get_or blocks place d).items
+    → list_any (λ y. is_eq (entry_order e y)) (entries_in_blocks blocks) ≡ list_any (λ y. is_eq (entry_order e y)) (get_or blocks place d).items
 seen blocks place d e at within =
-    let front = joined (take place blocks) in
-    let back = joined (drop (suc place) blocks) in
+    let front = entries_in_blocks (take place blocks) in
+    let back = entries_in_blocks (drop (suc place) blocks) in
     let own = (get_or blocks place d).items in
     ap (λ (l : List Entry). list_any (λ y. is_eq (entry_order e y)) l) (parted blocks place d within)
     ∙ any_after entry_order-total front (own ++ back) e at.earlier
@@ -212,10 +212,10 @@ seen blocks place d e at within =
 
 pub taken : (blocks : List (Vec Entry)) (place : ℕ) (b d : Vec Entry) (e : Entry) → IsPlace e blocks place → place < length blocks
     → b.items ≡ remove_key (λ y. is_eq (entry_order e y)) (get_or blocks place d).items
-    → joined (set blocks place b) ≡ remove_key (λ y. is_eq (entry_order e y)) (joined blocks)
+    → entries_in_blocks (set blocks place b) ≡ remove_key (λ y. is_eq (entry_order e y)) (entries_in_blocks blocks)
 taken blocks place b d e at within is =
-    let front = joined (take place blocks) in
-    let back = joined (drop (suc place) blocks) in
+    let front = entries_in_blocks (take place blocks) in
+    let back = entries_in_blocks (drop (suc place) blocks) in
     let own = (get_or blocks place d).items in
     joined-set blocks place b within
     ∙ ap (λ (l : List Entry). front ++ (l ++ back)) is
@@ -227,18 +227,18 @@ take_whole : (blocks : List (Vec Entry)) → take (length blocks) blocks ≡ blo
 take_whole [] = refl
 take_whole (b ∷ bs) = ap (λ (l : List (Vec Entry)). b ∷ l) (take_whole bs)
 
-all_earlier : (blocks : List (Vec Entry)) (e : Entry) → IsPlace e blocks (length blocks) → AllByRecursion (λ x. entry_order x e ≡ Less) (joined blocks)
-all_earlier blocks e at = subst (λ (l : List (Vec Entry)). AllByRecursion (λ x. entry_order x e ≡ Less) (joined l)) (take_whole blocks) at.earlier
+all_earlier : (blocks : List (Vec Entry)) (e : Entry) → IsPlace e blocks (length blocks) → AllByRecursion (λ x. entry_order x e ≡ Less) (entries_in_blocks blocks)
+all_earlier blocks e at = subst (λ (l : List (Vec Entry)). AllByRecursion (λ x. entry_order x e ≡ Less) (entries_in_blocks l)) (take_whole blocks) at.earlier
 
 -- an entry after all others
-pub put_last : (blocks : List (Vec Entry)) (e : Entry) → IsPlace e blocks (length blocks) → joined blocks ++ e ∷ [] ≡ insert_key entry_order (joined blocks) e
+pub put_last : (blocks : List (Vec Entry)) (e : Entry) → IsPlace e blocks (length blocks) → entries_in_blocks blocks ++ e ∷ [] ≡ insert_key entry_order (entries_in_blocks blocks) e
 put_last blocks e at =
-    sym (insert_after entry_order-total (joined blocks) [] e (all_earlier blocks e at)) ∙ ap (λ (l : List Entry). insert_key entry_order l e) (append-nil (joined blocks))
+    sym (insert_after entry_order-total (entries_in_blocks blocks) [] e (all_earlier blocks e at)) ∙ ap (λ (l : List Entry). insert_key entry_order l e) (append-nil (entries_in_blocks blocks))
 
-pub unseen : (blocks : List (Vec Entry)) (e : Entry) → IsPlace e blocks (length blocks) → list_any (λ y. is_eq (entry_order e y)) (joined blocks) ≡ false
+pub unseen : (blocks : List (Vec Entry)) (e : Entry) → IsPlace e blocks (length blocks) → list_any (λ y. is_eq (entry_order e y)) (entries_in_blocks blocks) ≡ false
 unseen blocks e at =
-    ap (λ (l : List Entry). list_any (λ y. is_eq (entry_order e y)) l) (sym (append-nil (joined blocks)))
-    ∙ any_after entry_order-total (joined blocks) [] e (all_earlier blocks e at)
+    ap (λ (l : List Entry). list_any (λ y. is_eq (entry_order e y)) l) (sym (append-nil (entries_in_blocks blocks)))
+    ∙ any_after entry_order-total (entries_in_blocks blocks) [] e (all_earlier blocks e at)
 
 -- ---- a block that is halved
 
@@ -268,14 +268,14 @@ pub block_is : (blocks more : List (Vec Entry)) (i : ℕ) (none b a : Vec Entry)
 block_is blocks more i none b a cut own = own ∙ default blocks i a b cut.within ∙ sym (inserted blocks more i none b cut)
 
 pub halved : (blocks more : List (Vec Entry)) (i : ℕ) (none b lower upper : Vec Entry) → IsCut blocks more i none b → lower.items ++ upper.items ≡ b.items
-    → joined (set (set more i lower) (i + 1) upper) ≡ joined blocks
+    → entries_in_blocks (set (set more i lower) (i + 1) upper) ≡ entries_in_blocks blocks
 halved blocks more i none b lower upper cut parts =
     let own = inserted blocks more i none b cut in
     rw (cut.more_is, add-one) (by blocks i cut.within (parts ∙ ap (λ (block : Vec Entry). block.items) own)) where
       by : (xs : List (Vec Entry)) (i : ℕ) → i < length xs → lower.items ++ upper.items ≡ (get_or xs i b).items
-          → joined (set (set (insert xs (suc i) none) i lower) (suc i) upper) ≡ joined xs
+          → entries_in_blocks (set (set (insert xs (suc i) none) i lower) (suc i) upper) ≡ entries_in_blocks xs
       by [] i within parts = absurd (omega arith)
-      by (x ∷ xs) zero within parts = sym (append_assoc lower.items upper.items (joined xs)) ∙ ap (λ (l : List Entry). l ++ joined xs) parts
+      by (x ∷ xs) zero within parts = sym (append_assoc lower.items upper.items (entries_in_blocks xs)) ∙ ap (λ (l : List Entry). l ++ entries_in_blocks xs) parts
       by (x ∷ xs) (suc i) within parts = ap (λ (l : List Entry). x.items ++ l) (by xs i (omega arith) parts)
 
 pub halved-filled : (blocks more : List (Vec Entry)) (i : ℕ) (none b lower upper : Vec Entry) → IsCut blocks more i none b → IsFilled lower → IsFilled upper
@@ -288,13 +288,13 @@ halved-filled blocks more i none b lower upper cut low high h = rw (cut.more_is,
 
 -- the block stays whole, and the empty one is removed again
 pub whole : (blocks more : List (Vec Entry)) (i : ℕ) (none b same : Vec Entry) → IsCut blocks more i none b → same.items ≡ b.items
-    → joined (remove (set more i same) (i + 1)) ≡ joined blocks
+    → entries_in_blocks (remove (set more i same) (i + 1)) ≡ entries_in_blocks blocks
 whole blocks more i none b same cut is =
     let own = inserted blocks more i none b cut in
     rw (cut.more_is, add-one) (by blocks i cut.within (is ∙ ap (λ (block : Vec Entry). block.items) own)) where
-      by : (xs : List (Vec Entry)) (i : ℕ) → i < length xs → same.items ≡ (get_or xs i b).items → joined (remove (set (insert xs (suc i) none) i same) (suc i)) ≡ joined xs
+      by : (xs : List (Vec Entry)) (i : ℕ) → i < length xs → same.items ≡ (get_or xs i b).items → entries_in_blocks (remove (set (insert xs (suc i) none) i same) (suc i)) ≡ entries_in_blocks xs
       by [] i within is = absurd (omega arith)
-      by (x ∷ xs) zero within is = ap (λ (l : List Entry). l ++ joined xs) is
+      by (x ∷ xs) zero within is = ap (λ (l : List Entry). l ++ entries_in_blocks xs) is
       by (x ∷ xs) (suc i) within is = ap (λ (l : List Entry). x.items ++ l) (by xs i (omega arith) is)
 
 -- ---- a block that may have become empty
@@ -308,9 +308,9 @@ empty_block b h = by b.items (sym b.ok.0 ∙ eqb-true b.len 0 h) where
 pub some_block : (b : Vec Entry) → eqb b.len 0 ≡ false → IsFilled b
 some_block b h none = let count : b.len ≡ 0 = b.ok.0 ∙ ap length none in let g : eqb 0 0 ≡ false = rw count at h in absurd cc
 
-pub joined-drop : (blocks : List (Vec Entry)) (i : ℕ) (b : Vec Entry) → i < length blocks → b ≡ get_or blocks i b → b.items ≡ [] → joined (remove blocks i) ≡ joined blocks
+pub joined-drop : (blocks : List (Vec Entry)) (i : ℕ) (b : Vec Entry) → i < length blocks → b ≡ get_or blocks i b → b.items ≡ [] → entries_in_blocks (remove blocks i) ≡ entries_in_blocks blocks
 joined-drop [] i b within own none = absurd (omega arith)
-joined-drop (x ∷ xs) zero b within own none = ap (λ (l : List Entry). l ++ joined xs) (sym none ∙ ap (λ (block : Vec Entry). block.items) own)
+joined-drop (x ∷ xs) zero b within own none = ap (λ (l : List Entry). l ++ entries_in_blocks xs) (sym none ∙ ap (λ (block : Vec Entry). block.items) own)
 joined-drop (x ∷ xs) (suc i) b within own none = ap (λ (l : List Entry). x.items ++ l) (joined-drop xs i b (omega arith) own none)
 
 pub filled-back : (blocks : List (Vec Entry)) (i : ℕ) (b : Vec Entry) → i < length blocks → b ≡ get_or blocks i b → IsFilled b → AllByRecursion IsFilled (remove blocks i)
@@ -335,24 +335,24 @@ pub for-book : (e : Entry) (blocks : List (Vec Entry)) (place : ℕ) (b : Vec En
 for-book e blocks place b own are =
     let within : place < length blocks = own.within in
     let own_items = (get_or blocks place b).items in
-    let parts : IsBook (joined (take place blocks) ++ (own_items ++ joined (drop (suc place) blocks))) = subst IsBook (parted blocks place b within) are.ordered in
+    let parts : IsBook (entries_in_blocks (take place blocks) ++ (own_items ++ entries_in_blocks (drop (suc place) blocks))) = subst IsBook (parted blocks place b within) are.ordered in
     subst (λ (block : Vec Entry). IsBook block.items) (sym own.is)
-    (sorted_front entry_order-total own_items (joined (drop (suc place) blocks)) (sorted_back entry_order-total (joined (take place blocks)) (own_items ++ joined (drop (suc place) blocks)) parts))
+    (sorted_front entry_order-total own_items (entries_in_blocks (drop (suc place) blocks)) (sorted_back entry_order-total (entries_in_blocks (take place blocks)) (own_items ++ entries_in_blocks (drop (suc place) blocks)) parts))
 
 pub for-put : (e : Entry) (blocks : List (Vec Entry)) (place : ℕ) (b c : Vec Entry) → IsFor e blocks place b → c.items ≡ insert_key entry_order b.items e
-    → joined (set blocks place c) ≡ insert_key entry_order (joined blocks) e
+    → entries_in_blocks (set blocks place c) ≡ insert_key entry_order (entries_in_blocks blocks) e
 for-put e blocks place b c own more = put blocks place c b e own.at own.within (more ∙ ap (λ (block : Vec Entry). insert_key entry_order block.items e) own.is)
 
 pub for-seen : (e : Entry) (blocks : List (Vec Entry)) (place : ℕ) (b : Vec Entry) → IsFor e blocks place b
-    → list_any (λ y. is_eq (entry_order e y)) (joined blocks) ≡ list_any (λ y. is_eq (entry_order e y)) b.items
+    → list_any (λ y. is_eq (entry_order e y)) (entries_in_blocks blocks) ≡ list_any (λ y. is_eq (entry_order e y)) b.items
 for-seen e blocks place b own =
     seen blocks place b e own.at own.within ∙ ap (λ (block : Vec Entry). list_any (λ y. is_eq (entry_order e y)) block.items) (sym own.is)
 
-pub for-same : (e : Entry) (blocks : List (Vec Entry)) (place : ℕ) (b c : Vec Entry) → IsFor e blocks place b → c.items ≡ b.items → joined (set blocks place c) ≡ joined blocks
+pub for-same : (e : Entry) (blocks : List (Vec Entry)) (place : ℕ) (b c : Vec Entry) → IsFor e blocks place b → c.items ≡ b.items → entries_in_blocks (set blocks place c) ≡ entries_in_blocks blocks
 for-same e blocks place b c own same = joined-same blocks place c b own.within (same ∙ ap (λ (block : Vec Entry). block.items) own.is)
 
 pub for-taken : (e : Entry) (blocks : List (Vec Entry)) (place : ℕ) (b c : Vec Entry) → IsFor e blocks place b → c.items ≡ remove_key (λ y. is_eq (entry_order e y)) b.items
-    → joined (set blocks place c) ≡ remove_key (λ y. is_eq (entry_order e y)) (joined blocks)
+    → entries_in_blocks (set blocks place c) ≡ remove_key (λ y. is_eq (entry_order e y)) (entries_in_blocks blocks)
 for-taken e blocks place b c own less =
     taken blocks place c b e own.at own.within (less ∙ ap (λ (block : Vec Entry). remove_key (λ y. is_eq (entry_order e y)) block.items) own.is)
 
@@ -368,10 +368,10 @@ for-filled_same e blocks place b c own h same =
 
 -- ---- the invariant
 
-pub blocks-with : (blocks new : List (Vec Entry)) (e : Entry) → AreBlocks blocks → joined new ≡ insert_key entry_order (joined blocks) e → AllByRecursion IsFilled new → AreBlocks new
-blocks-with blocks new e are more filled = record { ordered = subst IsBook (sym more) (sorted_insert entry_order-total (joined blocks) e are.ordered); filled = filled }
+pub blocks-with : (blocks new : List (Vec Entry)) (e : Entry) → AreBlocks blocks → entries_in_blocks new ≡ insert_key entry_order (entries_in_blocks blocks) e → AllByRecursion IsFilled new → AreBlocks new
+blocks-with blocks new e are more filled = record { ordered = subst IsBook (sym more) (sorted_insert entry_order-total (entries_in_blocks blocks) e are.ordered); filled = filled }
 
-pub blocks-same : (blocks new : List (Vec Entry)) → AreBlocks blocks → joined new ≡ joined blocks → AllByRecursion IsFilled new → AreBlocks new
+pub blocks-same : (blocks new : List (Vec Entry)) → AreBlocks blocks → entries_in_blocks new ≡ entries_in_blocks blocks → AllByRecursion IsFilled new → AreBlocks new
 blocks-same blocks new are same filled = record { ordered = subst IsBook (sym same) are.ordered; filled = filled }
 
 pub all_remove : (P : Entry → Type 0) (test : Entry → Bool) (xs : List Entry) → AllByRecursion P xs → AllByRecursion P (remove_key test xs)
@@ -389,10 +389,10 @@ sorted_remove test (x ∷ xs) h = by (test x) (sorted_remove test xs h.1) where
   by true rest = h.1
   by false rest = (all_remove (λ y. entry_order x y ≡ Less) test xs h.0, rest)
 
-pub blocks-without : (blocks new : List (Vec Entry)) (e : Entry) → AreBlocks blocks → joined new ≡ remove_key (λ y. is_eq (entry_order e y)) (joined blocks) → AllByRecursion IsFilled new
+pub blocks-without : (blocks new : List (Vec Entry)) (e : Entry) → AreBlocks blocks → entries_in_blocks new ≡ remove_key (λ y. is_eq (entry_order e y)) (entries_in_blocks blocks) → AllByRecursion IsFilled new
     → AreBlocks new
 blocks-without blocks new e are less filled =
-    record { ordered = subst IsBook (sym less) (sorted_remove (λ y. is_eq (entry_order e y)) (joined blocks) are.ordered); filled = filled }
+    record { ordered = subst IsBook (sym less) (sorted_remove (λ y. is_eq (entry_order e y)) (entries_in_blocks blocks) are.ordered); filled = filled }
 
 pub no_blocks : AreBlocks []
 unfolding IsStrictlySortedBy
@@ -432,38 +432,38 @@ module _ {K : Type 0} {R : K → K → Ordering} (o : IsTotalOrder R) where
     by false h rec = let less = rec h in omega arith
 
 -- after an insertion
-pub counted-new : (old new : List (Vec Entry)) (count : ℕ) (e : Entry) → AreCounted old count → AreBlocks new → joined new ≡ insert_key entry_order (joined old) e
-    → list_any (λ y. is_eq (entry_order e y)) (joined old) ≡ false → AreCounted new (count + 1)
+pub counted-new : (old new : List (Vec Entry)) (count : ℕ) (e : Entry) → AreCounted old count → AreBlocks new → entries_in_blocks new ≡ insert_key entry_order (entries_in_blocks old) e
+    → list_any (λ y. is_eq (entry_order e y)) (entries_in_blocks old) ≡ false → AreCounted new (count + 1)
 counted-new old new count e h are more lacks =
-    let longer = length-new entry_order-total (joined old) e lacks in
+    let longer = length-new entry_order-total (entries_in_blocks old) e lacks in
     record { are = are; counted = ap (λ (n : ℕ). n + 1) h.counted ∙ sym longer ∙ ap length (sym more) }
 
-pub counted-same : (old new : List (Vec Entry)) (count : ℕ) → AreCounted old count → AreBlocks new → joined new ≡ joined old → AreCounted new count
+pub counted-same : (old new : List (Vec Entry)) (count : ℕ) → AreCounted old count → AreBlocks new → entries_in_blocks new ≡ entries_in_blocks old → AreCounted new count
 counted-same old new count h are same = record { are = are; counted = h.counted ∙ ap length (sym same) }
 
-pub counted-removed : (old new : List (Vec Entry)) (count : ℕ) (e : Entry) → AreCounted old count → AreBlocks new → joined new ≡ remove_key (λ y. is_eq (entry_order e y)) (joined old)
-    → list_any (λ y. is_eq (entry_order e y)) (joined old) ≡ true → AreCounted new (count - 1)
+pub counted-removed : (old new : List (Vec Entry)) (count : ℕ) (e : Entry) → AreCounted old count → AreBlocks new → entries_in_blocks new ≡ remove_key (λ y. is_eq (entry_order e y)) (entries_in_blocks old)
+    → list_any (λ y. is_eq (entry_order e y)) (entries_in_blocks old) ≡ true → AreCounted new (count - 1)
 counted-removed old new count e h are less has =
-    let shorter = length-removed entry_order-total (joined old) e has in
-    let own : count ≡ length (joined old) = h.counted in
-    let here : length (joined new) ≡ length (remove_key (λ y. is_eq (entry_order e y)) (joined old)) = ap length less in
+    let shorter = length-removed entry_order-total (entries_in_blocks old) e has in
+    let own : count ≡ length (entries_in_blocks old) = h.counted in
+    let here : length (entries_in_blocks new) ≡ length (remove_key (λ y. is_eq (entry_order e y)) (entries_in_blocks old)) = ap length less in
     record { are = are; counted = omega arith }
 
-pub some_counted : (old : List (Vec Entry)) (count : ℕ) (e : Entry) → AreCounted old count → list_any (λ y. is_eq (entry_order e y)) (joined old) ≡ true → 0 < count
+pub some_counted : (old : List (Vec Entry)) (count : ℕ) (e : Entry) → AreCounted old count → list_any (λ y. is_eq (entry_order e y)) (entries_in_blocks old) ≡ true → 0 < count
 some_counted old count e h has =
-    let shorter = length-removed entry_order-total (joined old) e has in
-    let own : count ≡ length (joined old) = h.counted in
+    let shorter = length-removed entry_order-total (entries_in_blocks old) e has in
+    let own : count ≡ length (entries_in_blocks old) = h.counted in
     omega arith
 
 pub none_counted : AreCounted [] 0
 none_counted = record { are = no_blocks; counted = refl }
 
 -- after an insertion that found the entry there
-pub counted-there : (old new : List (Vec Entry)) (count : ℕ) (e : Entry) → AreCounted old count → AreBlocks new → joined new ≡ insert_key entry_order (joined old) e
-    → list_any (λ y. is_eq (entry_order e y)) (joined old) ≡ true → AreCounted new count
-counted-there old new count e h are more has = counted-same old new count h are (more ∙ insert_present entry_order-total (joined old) e h.are.ordered has)
+pub counted-there : (old new : List (Vec Entry)) (count : ℕ) (e : Entry) → AreCounted old count → AreBlocks new → entries_in_blocks new ≡ insert_key entry_order (entries_in_blocks old) e
+    → list_any (λ y. is_eq (entry_order e y)) (entries_in_blocks old) ≡ true → AreCounted new count
+counted-there old new count e h are more has = counted-same old new count h are (more ∙ insert_present entry_order-total (entries_in_blocks old) e h.are.ordered has)
 
 -- after a removal that found nothing
-pub counted-missed : (old new : List (Vec Entry)) (count : ℕ) (e : Entry) → AreCounted old count → AreBlocks new → joined new ≡ remove_key (λ y. is_eq (entry_order e y)) (joined old)
-    → list_any (λ y. is_eq (entry_order e y)) (joined old) ≡ false → AreCounted new count
-counted-missed old new count e h are less lacks = counted-same old new count h are (less ∙ remove_absent entry_order-total (joined old) e lacks)
+pub counted-missed : (old new : List (Vec Entry)) (count : ℕ) (e : Entry) → AreCounted old count → AreBlocks new → entries_in_blocks new ≡ remove_key (λ y. is_eq (entry_order e y)) (entries_in_blocks old)
+    → list_any (λ y. is_eq (entry_order e y)) (entries_in_blocks old) ≡ false → AreCounted new count
+counted-missed old new count e h are less lacks = counted-same old new count h are (less ∙ remove_absent entry_order-total (entries_in_blocks old) e lacks)

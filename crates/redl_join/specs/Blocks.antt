@@ -9,8 +9,8 @@ use Rattle.redl_journal.specs.Order.{entry_order}
 use Rattle.redl_join.specs.Books.{IsBook}
 
 -- the entries of blocks, one block after another
-abbrev pub joined : List (Vec Entry) → List Entry
-joined blocks = flat_map (λ block. block.items) blocks
+abbrev pub entries_in_blocks : List (Vec Entry) → List Entry
+entries_in_blocks blocks = flat_map (λ block. block.items) blocks
 
 -- the block has an entry
 abbrev pub IsFilled : Vec Entry → Type 0
@@ -18,7 +18,7 @@ IsFilled block = block.items ≡ [] → ⊥
 
 -- The invariant of a list in blocks: all entries are in order, each once, and no block is empty.
 pub record AreBlocks (blocks : List (Vec Entry)) : Type 0 where
-  pub ordered : IsBook (joined blocks)
+  pub ordered : IsBook (entries_in_blocks blocks)
   pub filled : AllByRecursion IsFilled blocks
 
 -- the entry comes after the last one of some entries, if there is one
@@ -34,10 +34,10 @@ ends_before entry block = is_after entry (slice_get block (length block - 1))
 -- there is none, to the end.
 pub record IsPlace (entry : Entry) (blocks : List (Vec Entry)) (place : ℕ) : Type 0 where
   pub bound : place ≤ length blocks
-  pub earlier : AllByRecursion (λ other. entry_order other entry ≡ Less) (joined (take place blocks))
-  pub later : AllByRecursion (λ other. entry_order entry other ≡ Less) (joined (drop (suc place) blocks))
+  pub earlier : AllByRecursion (λ other. entry_order other entry ≡ Less) (entries_in_blocks (take place blocks))
+  pub later : AllByRecursion (λ other. entry_order entry other ≡ Less) (entries_in_blocks (drop (suc place) blocks))
 
 -- The invariant of a list of entries, with their number.
 pub record AreCounted (blocks : List (Vec Entry)) (count : ℕ) : Type 0 where
   pub are : AreBlocks blocks
-  pub counted : count ≡ length (joined blocks)
+  pub counted : count ≡ length (entries_in_blocks blocks)

@@ -2,7 +2,7 @@
 ghost use Rattle.std.specs.Prelude.{◌≡◌, ◌<◌, ◌++◌, ◌∷◌, [], not, IfOk, OnOk, OnErr};
 ghost use Rattle.std.specs.List.{AllByRecursion, remove};
 ghost use Rattle.std.specs.Vec.{vec_len};
-ghost use Rattle.redl_join.specs.Blocks.{AreBlocks, IsFilled, IsPlace, ends_before, joined};
+ghost use Rattle.redl_join.specs.Blocks.{AreBlocks, IsFilled, IsPlace, ends_before, entries_in_blocks};
 ghost use Rattle.redl_join.specs.Books.{IsBook, has_entry, with_entry, without_entry};
 
 use redl_journal::Entry;
@@ -19,9 +19,9 @@ const BLOCK: usize = 256;
 pub(crate) fn insert(alloc: Global, blocks: &mut Blocks, entry: Entry) -> Result<bool, AllocError>
     requires { AreBlocks blocks.old.items }
     ensures blocks { AreBlocks blocks.new.items }
-    ensures added { OnOk result (joined blocks.new.items ≡ with_entry (joined blocks.old.items) entry) }
-    ensures was_new { IfOk result (λ new. new ≡ not (has_entry (joined blocks.old.items) entry)) }
-    ensures untouched { OnErr result (joined blocks.new.items ≡ joined blocks.old.items) }
+    ensures added { OnOk result (entries_in_blocks blocks.new.items ≡ with_entry (entries_in_blocks blocks.old.items) entry) }
+    ensures was_new { IfOk result (λ new. new ≡ not (has_entry (entries_in_blocks blocks.old.items) entry)) }
+    ensures untouched { OnErr result (entries_in_blocks blocks.new.items ≡ entries_in_blocks blocks.old.items) }
 {
     let place = place_of(blocks, &entry);
     if place == blocks.len() {
@@ -37,8 +37,8 @@ pub(crate) fn insert(alloc: Global, blocks: &mut Blocks, entry: Entry) -> Result
 pub(crate) fn remove(blocks: &mut Blocks, entry: &Entry) -> bool
     requires { AreBlocks blocks.old.items }
     ensures blocks { AreBlocks blocks.new.items }
-    ensures removed { joined blocks.new.items ≡ without_entry (joined blocks.old.items) entry.now }
-    ensures was_there { result ≡ has_entry (joined blocks.old.items) entry.now }
+    ensures removed { entries_in_blocks blocks.new.items ≡ without_entry (entries_in_blocks blocks.old.items) entry.now }
+    ensures was_there { result ≡ has_entry (entries_in_blocks blocks.old.items) entry.now }
 {
     let place = place_of(blocks, entry);
     if place == blocks.len() {
@@ -74,8 +74,8 @@ fn place_of(blocks: &[Vec<Entry>], entry: &Entry) -> usize
 
 // Puts the entry after all others.
 fn append(alloc: Global, blocks: &mut Blocks, entry: Entry) -> Result<(), AllocError>
-    ensures appended { OnOk result (joined blocks.new.items ≡ joined blocks.old.items ++ entry ∷ []) }
-    ensures untouched { OnErr result (joined blocks.new.items ≡ joined blocks.old.items) }
+    ensures appended { OnOk result (entries_in_blocks blocks.new.items ≡ entries_in_blocks blocks.old.items ++ entry ∷ []) }
+    ensures untouched { OnErr result (entries_in_blocks blocks.new.items ≡ entries_in_blocks blocks.old.items) }
     ensures filled { AllByRecursion IsFilled blocks.old.items → AllByRecursion IsFilled blocks.new.items }
 {
     let count = blocks.len();
@@ -123,7 +123,7 @@ fn remove_from(block: &mut Vec<Entry>, entry: &Entry) -> bool
 // Makes two blocks of this one if it is too long, where there is memory.
 fn halve_long(alloc: Global, blocks: &mut Blocks, place: usize)
     requires { place < vec_len blocks.old }
-    ensures same { joined blocks.new.items ≡ joined blocks.old.items }
+    ensures same { entries_in_blocks blocks.new.items ≡ entries_in_blocks blocks.old.items }
     ensures filled { AllByRecursion IsFilled blocks.old.items → AllByRecursion IsFilled blocks.new.items }
 {
     let count = blocks[place].len();
@@ -142,7 +142,7 @@ fn halve_long(alloc: Global, blocks: &mut Blocks, place: usize)
 // Removes this block if it is empty.
 fn drop_empty(blocks: &mut Blocks, place: usize)
     requires { place < vec_len blocks.old }
-    ensures same { joined blocks.new.items ≡ joined blocks.old.items }
+    ensures same { entries_in_blocks blocks.new.items ≡ entries_in_blocks blocks.old.items }
     ensures filled { AllByRecursion IsFilled (remove blocks.old.items place) → AllByRecursion IsFilled blocks.new.items }
 {
     if blocks[place].is_empty() {

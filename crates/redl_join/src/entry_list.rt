@@ -19,11 +19,11 @@ pub(crate) struct EntryList {
 impl Model for EntryList {
     ghost use Rattle.std.specs.Prelude.{List};
     ghost use Rattle.redl_journal.specs.declared.entry.Entry.{Entry};
-    ghost use Rattle.redl_join.specs.Blocks.{AreCounted, joined};
+    ghost use Rattle.redl_join.specs.Blocks.{AreCounted, entries_in_blocks};
 
     ghost Value = { List Entry };
 
-    ghost view = { λ list. joined list.blocks.items };
+    ghost view = { λ list. entries_in_blocks list.blocks.items };
 
     ghost invariant = { λ list. AreCounted list.blocks.items list.count };
 }
@@ -101,11 +101,11 @@ pub struct Entries<'a> {
 impl<'a> Model for Entries<'a> {
     ghost use Rattle.std.specs.Prelude.{List, ◌++◌};
     ghost use Rattle.redl_journal.specs.declared.entry.Entry.{Entry};
-    ghost use Rattle.redl_join.specs.Blocks.{joined};
+    ghost use Rattle.redl_join.specs.Blocks.{entries_in_blocks};
 
     ghost Value = { List Entry };
 
-    ghost view = { λ entries. entries.block.now ++ joined entries.rest.now };
+    ghost view = { λ entries. entries.block.now ++ entries_in_blocks entries.rest.now };
 }
 
 impl<'a> Iterator for Entries<'a> {

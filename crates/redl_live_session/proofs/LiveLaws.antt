@@ -15,14 +15,14 @@ use Rattle.redl_session.proofs.Consistency.{consistent-with}
 use Rattle.redl_session.proofs.SaysLaws.{says_of-none}
 use Rattle.redl_session.specs.Refusals.{admitted}
 use Rattle.redl_session.specs.Says.{say_of_verdict, says_of}
-use Rattle.redl_session.specs.Sessions.{IsConsistent, State}
+use Rattle.redl_session.specs.Sessions.{IsConsistent, SessionState}
 use Rattle.redl_tree.specs.Leaves.Settings.{set_say}
 use Rattle.redl_tree.specs.Model.Nodes.{Nodes}
 use Rattle.redl_tree.specs.declared.kinds.Say.{Say}
 use Rattle.redl_tree.specs.declared.kinds.Say.TheVariants.{Keep}
 
 -- what contracts see of a session with this editor
-abbrev pub state_of : Document → List Revision → List Lock → List Entry → State
+abbrev pub state_of : Document → List Revision → List Lock → List Entry → SessionState
 state_of document revisions locks book = record { nodes = document.nodes; revisions = revisions; locks = locks; book = book }
 
 -- an editor in which nothing is decided

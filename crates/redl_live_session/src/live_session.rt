@@ -40,9 +40,9 @@ pub struct LiveSession<'a> {
 
 impl<'a> Model for LiveSession<'a> {
     ghost use Rattle.std.specs.Coded.{codes};
-    ghost use Rattle.redl_session.specs.Sessions.{State, state_code, IsConsistent};
+    ghost use Rattle.redl_session.specs.Sessions.{SessionState, state_code, IsConsistent};
 
-    ghost Value = { State };
+    ghost Value = { SessionState };
 
     ghost coded = { state_code (Prim.hlevel codes) (Prim.hlevel codes) (Prim.hlevel codes) (Prim.hlevel codes) };
 

@@ -15,7 +15,7 @@ use Rattle.redl_select.specs.declared.lock.Lock.{Lock}
 use Rattle.redl_session.specs.Bars.{bar_of}
 use Rattle.redl_session.specs.Refusals.{revision_at, cause_on, cause_of}
 use Rattle.redl_session.specs.Says.{say_of_verdict, says_of}
-use Rattle.redl_session.specs.Sessions.{State, after, says}
+use Rattle.redl_session.specs.Sessions.{SessionState, after, says}
 use Rattle.redl_session.specs.declared.refusal.AdmitError.{AdmitError}
 use Rattle.redl_session.specs.declared.refusal.AdmitError.TheVariants.{Locked}
 use Rattle.redl_session.specs.declared.refusal.Bar.{Bar}
@@ -100,7 +100,7 @@ module _ (locks : List Lock) (revisions : List Revision) (place : ℕ) (revision
 -- ---- a session
 
 module _ (place : ℕ) (revision : Revision) (bar : Bar) where
-  after-one : (state : State) (entry : Entry) → slice_get state.revisions place ≡ Some revision → bar_of state.locks revision ≡ Some bar → AreElsewhere (suc place) state.book
+  after-one : (state : SessionState) (entry : Entry) → slice_get state.revisions place ≡ Some revision → bar_of state.locks revision ≡ Some bar → AreElsewhere (suc place) state.book
       → (o : Option AdmitError) → cause_of state.revisions state.locks entry ≡ o
       → AreElsewhere (suc place) (if is_none o then record state { book = with_entry state.book entry } else state).book
   after-one state entry at is none None e =
@@ -108,14 +108,14 @@ module _ (place : ℕ) (revision : Revision) (bar : Bar) where
       (admitted-elsewhere state.locks state.revisions place revision at bar is entry e)
   after-one state entry at is none (Some why) e = none
 
-  pub still-elsewhere : (state : State) (entries : List Entry) → slice_get state.revisions place ≡ Some revision → bar_of state.locks revision ≡ Some bar
+  pub still-elsewhere : (state : SessionState) (entries : List Entry) → slice_get state.revisions place ≡ Some revision → bar_of state.locks revision ≡ Some bar
       → AreElsewhere (suc place) state.book → say_of (says (after state entries)) (suc place) ≡ Keep
   still-elsewhere state [] at is none = kept-elsewhere state.book (length state.revisions) place none
   still-elsewhere state (entry ∷ entries) at is none =
       by (cause_of state.revisions state.locks entry) refl (λ later there barred_so away. still-elsewhere later entries there barred_so away)
     where
       Rest : Type 0
-      Rest = (later : State) → slice_get later.revisions place ≡ Some revision → bar_of later.locks revision ≡ Some bar → AreElsewhere (suc place) later.book
+      Rest = (later : SessionState) → slice_get later.revisions place ≡ Some revision → bar_of later.locks revision ≡ Some bar → AreElsewhere (suc place) later.book
           → say_of (says (after later entries)) (suc place) ≡ Keep
 
       by : (o : Option AdmitError) → cause_of state.revisions state.locks entry ≡ o → Rest

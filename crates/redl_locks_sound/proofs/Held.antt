@@ -16,7 +16,7 @@ use Rattle.redl_numbers_sound.proofs.Package.{numbers-name}
 use Rattle.redl_select.specs.Locks.{holds}
 use Rattle.redl_select.specs.declared.lock.Lock.{Lock}
 use Rattle.redl_select.specs.declared.lock.Lock.TheVariants.{Author}
-use Rattle.redl_session.specs.Sessions.{State, after, says}
+use Rattle.redl_session.specs.Sessions.{SessionState, after, says}
 use Rattle.redl_stamp.specs.Stamp.{author_of}
 use Rattle.redl_tree.specs.Decisions.Fates.{fate, fate_of, say_of}
 use Rattle.redl_tree.specs.Model.Seen.{Seen, seen, root_spots}
@@ -28,7 +28,7 @@ use Rattle.redl_tree.specs.declared.kinds.Say.TheVariants.{Keep}
 
 -- ---- an element that is held is kept
 
-pub held-kept : (state : State) (entries : List Entry) (element : Seen) → IsBegun state → IsHeld state element
+pub held-kept : (state : SessionState) (entries : List Entry) (element : Seen) → IsBegun state → IsHeld state element
     → say_of (says (after state entries)) element.own.tag.rev ≡ Keep
 held-kept state entries element begun held = by element.own.tag.rev refl
   where
@@ -53,7 +53,7 @@ leave-kept (Cell trace) = refl
 leave-kept (Change prop) = refl
 leave-kept Marker = refl
 
-pub held-left : (state : State) (entries : List Entry) (element : Seen) → IsBegun state → IsHeld state element
+pub held-left : (state : SessionState) (entries : List Entry) (element : Seen) → IsBegun state → IsHeld state element
     → fate_of (says (after state entries)) element.own.tag ≡ Leave
 held-left state entries element begun held = ap (fate element.own.tag.kind) (held-kept state entries element begun held) ∙ leave-kept element.own.tag.kind
 
@@ -93,7 +93,7 @@ any-holds revision name (lock ∷ locks) (suc k) at is = by (holds revision lock
     by true e = refl
     by false e = e
 
-pub locked-held : (state : State) (element : Seen) → IsLocked state element → IsHeld state element
+pub locked-held : (state : SessionState) (element : Seen) → IsLocked state element → IsHeld state element
 locked-held state element locked = record {
   part = locked.part;
   root = locked.root;

@@ -17,7 +17,7 @@ use Rattle.redl_opc.specs.Shape.{refusal}
 use Rattle.redl_opc.specs.declared.error.OpcError.{OpcError}
 use Rattle.redl_rules.specs.Attributes.{broken_rule}
 use Rattle.redl_select.specs.declared.lock.Lock.{Lock}
-use Rattle.redl_session.specs.Sessions.{State, after, says}
+use Rattle.redl_session.specs.Sessions.{SessionState, after, says}
 use Rattle.redl_session.proofs.Admissions.{after-union}
 use Rattle.redl_stamp.specs.Attribute.{attribute_value}
 use Rattle.redl_tree.proofs.NumberLaws.{numbered-indexed}
@@ -44,15 +44,15 @@ shape-read reader whole nodes is =
     ap refusal (sym (sound-same (broken_rule shape.x) shape.x nodes shape.second)) ∙ shape-of (refusal tree.x) tree.x shape.x refl shape.first
 
 -- a session that a call opened: one that was begun, after some entries
-pub record IsAfter (state : State) : Type 0 where
-  pub begun : State
+pub record IsAfter (state : SessionState) : Type 0 where
+  pub begun : SessionState
   pub is_begun : IsBegun begun
   pub entries : List Entry
   pub is_after : after begun entries ≡ state
   pub same_held : (element : Seen) → IsHeld state element → IsHeld begun element
 
 -- what is held does not depend on the book
-held-before : (state : State) (book : List Entry) (element : Seen) → IsHeld (record state { book = book }) element → IsHeld state element
+held-before : (state : SessionState) (book : List Entry) (element : Seen) → IsHeld (record state { book = book }) element → IsHeld state element
 held-before state book element h = record { part = h.part; root = h.root; is_story = h.is_story; among = h.among; held = h.held }
 
 opened-after : (reader : Reader) (files : Files) (locks : List Lock) (journals : List (List ℕ)) (whole : List ℕ) (admission : Admission)

@@ -10,7 +10,7 @@ use Rattle.redl_opc.specs.Parts.{story}
 use Rattle.redl_opc.specs.Shape.{refusal}
 use Rattle.redl_select.specs.Locks.{holds}
 use Rattle.redl_select.specs.declared.lock.Lock.TheVariants.{Author}
-use Rattle.redl_session.specs.Sessions.{State}
+use Rattle.redl_session.specs.Sessions.{SessionState}
 use Rattle.redl_stamp.specs.Attribute.{attribute_value}
 use Rattle.redl_stamp.specs.Stamp.{author_of}
 use Rattle.redl_tree.specs.Model.Seen.{Seen, seen}
@@ -18,7 +18,7 @@ use Rattle.redl_tree.specs.Revisions.Markers.{move_of, moves_among}
 use Rattle.redl_tree.specs.Revisions.Moves.{Pair}
 
 -- a session over a package with numbers and its revisions, before any entry
-pub record IsBegun (state : State) : Type 0 where
+pub record IsBegun (state : SessionState) : Type 0 where
   pub shape : refusal state.nodes ≡ None
   pub numbered : numbered_package state.nodes ≡ state.nodes
   pub index : state.revisions ≡ revisions_of state.nodes
@@ -29,7 +29,7 @@ abbrev pub move_in : List Seen → Seen → Option Pair
 move_in elements element = move_of attribute_value (moves_among attribute_value elements) element
 
 -- an element of a story of the package, of which some lock holds the revision that it tells
-pub record IsHeld (state : State) (element : Seen) : Type 0 where
+pub record IsHeld (state : SessionState) (element : Seen) : Type 0 where
   pub part : ℕ
   pub root : Element
   pub is_story : story state.nodes part ≡ Some root
@@ -43,7 +43,7 @@ IsAuthor elements element name None = name ≡ author_of element.own.tag.tail
 IsAuthor elements element name (Some pair) = (source : StandsAt elements pair.source.start.at) × (name ≡ author_of source.element.own.tag.tail)
 
 -- an element of a story of the package whose author is locked
-pub record IsLocked (state : State) (element : Seen) : Type 0 where
+pub record IsLocked (state : SessionState) (element : Seen) : Type 0 where
   pub part : ℕ
   pub root : Element
   pub is_story : story state.nodes part ≡ Some root

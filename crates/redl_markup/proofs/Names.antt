@@ -18,7 +18,7 @@ use Rattle.redl_markup.specs.Characters.{is_space, is_name_start, is_name_charac
 use Rattle.redl_reading.specs.Lists.{behind, after, before}
 use Rattle.redl_reading.specs.Steps.{◌>>=◌, done, next, turn, turns}
 use Rattle.redl_markup.specs.Names.{may_start, may_follow, IsWord, Name, name_text, IsName}
-use Rattle.redl_markup.specs.ScanNames.{taken, char_at, is_name_byte, name_step, name_end, behind_start, word_at, local_at, name_at}
+use Rattle.redl_markup.specs.ScanNames.{char_with_rest, char_at, is_name_byte, name_step, name_end, behind_start, word_at, local_at, name_at}
 use Rattle.redl_reading.proofs.Runs.{stops, after_stops}
 use Rattle.redl_reading.proofs.Words.{behind_takes, before-append}
 use Rattle.redl_reading.proofs.Steps.{bind_some}
@@ -29,7 +29,7 @@ use Rattle.redl_reading.proofs.Turns.{Going, begins, goes_on, ends}
 pub size_fits : (bs : List ℕ) (c : ℕ) → (decoded bs).char ≡ Some c → (decoded bs).size ≤ length bs
 size_fits bs c e = let s = SpellsChar-decoded bs c e in omega (arith, ap length s.bytes, s.width, length-append {A = ℕ})
 
-taken_some : (o : Option ℕ) (r : List ℕ) (x : ℕ × List ℕ) → taken o r ≡ Some x → (o ≡ Some x.0) × (r ≡ x.1)
+taken_some : (o : Option ℕ) (r : List ℕ) (x : ℕ × List ℕ) → char_with_rest o r ≡ Some x → (o ≡ Some x.0) × (r ≡ x.1)
 taken_some None r x e = absurd cc
 taken_some (Some c) r x e = let same = same_Some (c, r) x e in (ap (λ (y : ℕ × List ℕ). Some y.0) same, ap (λ (y : ℕ × List ℕ). y.1) same)
 

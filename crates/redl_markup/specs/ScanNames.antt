@@ -5,13 +5,13 @@ use Rattle.redl_reading.specs.Lists.{behind, before}
 use Rattle.redl_reading.specs.Steps.{◌>>=◌, Turn, done, next, turns}
 use Rattle.redl_markup.specs.Names.{may_start, may_follow, Name}
 
-abbrev pub taken : Option ℕ → List ℕ → Option (ℕ × List ℕ)
-taken None rest = None
-taken (Some c) rest = Some (c, rest)
+abbrev pub char_with_rest : Option ℕ → List ℕ → Option (ℕ × List ℕ)
+char_with_rest None rest = None
+char_with_rest (Some c) rest = Some (c, rest)
 
 -- the first character
 unfoldable pub char_at : List ℕ → Option (ℕ × List ℕ)
-char_at bs = taken (decoded bs).char (drop (decoded bs).size bs)
+char_at bs = char_with_rest (decoded bs).char (drop (decoded bs).size bs)
 
 abbrev pub after_char : Bool → List ℕ → Option (ℕ × List ℕ) → Turn (List ℕ) (List ℕ)
 after_char colons bs None = done (Some bs)

@@ -3,7 +3,7 @@ use Rattle.std.proofs.Common.{◌≡◌, ℕ, length, sym, ap, ◌∙◌, option
 use Rattle.redl_tree.specs.Model.Nodes.{Nodes}
 use Rattle.redl_tree.specs.Revisions.Labels.{unlabelled}
 use Rattle.redl_tree.specs.Revisions.Markers.{Value}
-use Rattle.redl_tree.specs.Revisions.Numbers.{numbered_package}
+use Rattle.redl_tree.specs.Revisions.Numbers.{numbered_package_by}
 use Rattle.redl_tree.proofs.NumberLaws.{unlabelled-numbered}
 use Rattle.redl_opc.specs.Shape.{refusal, parts_of}
 use Rattle.redl_opc.specs.Parts.{part_name, places_of}
@@ -29,11 +29,11 @@ name-labelled old new number same =
     ∙ sym (name-places_of old number)
 
 -- a numbered package differs from the original in labels alone
-pub shape-numbered : (value : Value) (nodes : Nodes) → refusal (numbered_package value nodes) ≡ refusal nodes
-shape-numbered value nodes = shape-labelled nodes (numbered_package value nodes) (unlabelled-numbered value nodes)
+pub shape-numbered : (value : Value) (nodes : Nodes) → refusal (numbered_package_by value nodes) ≡ refusal nodes
+shape-numbered value nodes = shape-labelled nodes (numbered_package_by value nodes) (unlabelled-numbered value nodes)
 
-pub parts-numbered : (value : Value) (nodes : Nodes) → length (parts_of (numbered_package value nodes)) ≡ length (parts_of nodes)
-parts-numbered value nodes = parts-labelled nodes (numbered_package value nodes) (unlabelled-numbered value nodes)
+pub parts-numbered : (value : Value) (nodes : Nodes) → length (parts_of (numbered_package_by value nodes)) ≡ length (parts_of nodes)
+parts-numbered value nodes = parts-labelled nodes (numbered_package_by value nodes) (unlabelled-numbered value nodes)
 
-pub name-numbered : (value : Value) (nodes : Nodes) (number : ℕ) → part_name (numbered_package value nodes) number ≡ part_name nodes number
-name-numbered value nodes number = name-labelled nodes (numbered_package value nodes) number (unlabelled-numbered value nodes)
+pub name-numbered : (value : Value) (nodes : Nodes) (number : ℕ) → part_name (numbered_package_by value nodes) number ≡ part_name nodes number
+name-numbered value nodes number = name-labelled nodes (numbered_package_by value nodes) number (unlabelled-numbered value nodes)

@@ -3,7 +3,7 @@
 ghost use Rattle.std.specs.Prelude.{◌≡◌, ℕ, List, length, Contains, None};
 ghost use Rattle.redl_tree.specs.Revisions.Markers.{Value};
 ghost use Rattle.redl_tree.specs.Model.Nodes.{Nodes};
-ghost use Rattle.redl_tree.specs.Revisions.Numbers.{numbered_package};
+ghost use Rattle.redl_tree.specs.Revisions.Numbers.{numbered_package_by};
 ghost use Rattle.redl_tree.specs.Decisions.Packages.{stories};
 ghost use Rattle.redl_tree.specs.Model.View.{Element};
 ghost use Rattle.redl_opc.specs.Parts.{part_name};
@@ -25,7 +25,7 @@ pub fn each_story_has_a_part()
 
 /// Numbering the revisions of a package keeps its shape, how many parts it has, and their names.
 pub fn numbering_keeps_parts()
-    ensures shape { (value : Value) (nodes : Nodes) → refusal (numbered_package value nodes) ≡ refusal nodes }
-    ensures count { (value : Value) (nodes : Nodes) → length (parts_of (numbered_package value nodes)) ≡ length (parts_of nodes) }
-    ensures names { (value : Value) (nodes : Nodes) (number : ℕ) → part_name (numbered_package value nodes) number ≡ part_name nodes number }
+    ensures shape { (value : Value) (nodes : Nodes) → refusal (numbered_package_by value nodes) ≡ refusal nodes }
+    ensures count { (value : Value) (nodes : Nodes) → length (parts_of (numbered_package_by value nodes)) ≡ length (parts_of nodes) }
+    ensures names { (value : Value) (nodes : Nodes) (number : ℕ) → part_name (numbered_package_by value nodes) number ≡ part_name nodes number }
 {}

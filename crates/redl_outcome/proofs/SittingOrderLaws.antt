@@ -18,7 +18,7 @@ use Rattle.redl_inputs.specs.Steps.{◌>>=◌}
 use Rattle.redl_io.specs.Limits.{journal_bytes}
 use Rattle.redl_io.specs.Shelf.{Files}
 use Rattle.redl_lines.specs.Failures.{Failure, caused, not_written}
-use Rattle.redl_session.specs.Sessions.{State}
+use Rattle.redl_session.specs.Sessions.{SessionState}
 use Rattle.redl_tree.specs.Model.Nodes.{Nodes}
 
 -- ---- one sitting
@@ -34,7 +34,7 @@ over_same reader files read most left names others whole one other same is too =
     (subst (λ n. sitting_over reader files left others whole n ≡ Ok other) nodes again.second)
 
 -- a text that is what a session leaves stays as it is
-left_is : (state : State) (fetched whole : List ℕ) → left_by state fetched ≡ Ok whole → fetched ≡ whole
+left_is : (state : SessionState) (fetched whole : List ℕ) → left_by state fetched ≡ Ok whole → fetched ≡ whole
 left_is state fetched whole is = by (bytes_eq fetched (left_text state)) is
   where
     by : (b : Bool) → cond b (Ok fetched) (Err (caused not_written)) ≡ Ok whole → fetched ≡ whole

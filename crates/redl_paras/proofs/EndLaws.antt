@@ -6,7 +6,7 @@ use Rattle.redl_tree.specs.Model.Nodes.{Tag, Nodes, no_nodes, bytes, element, �
 use Rattle.redl_tree.specs.Roles.Names.{is}
 use Rattle.redl_tree.specs.Model.Kids.{some_element, has_element, without}
 use Rattle.redl_tree.specs.Roles.Lists.{into, is_wrapper, is_thick}
-use Rattle.redl_tree.specs.Decisions.Groups.{Piece, para, thin, thick, paragraph_next, has_thick, joins, joined_tag, joined_kids, settled, given, held_by, grouped_from, grouped}
+use Rattle.redl_tree.specs.Decisions.Groups.{Piece, para, thin, thick, paragraph_next, has_thick, joins, joined_tag, joined_kids, unjoined_para, given, held_by, grouped_from, grouped}
 use Rattle.redl_tree.specs.Rules.CellEnds.{or_before, end_of_one, end_of}
 use Rattle.redl_tree.specs.declared.lists.Reach.TheVariants.{Direct}
 use Rattle.redl_tree.proofs.Named.{by_names}
@@ -38,7 +38,7 @@ joined_p : (held : Option Nodes) (tag : Tag) → is "p" tag ≡ true → is "p" 
 joined_p None tag e = e
 joined_p (Some held) tag e = e
 
-settled-other : (ends : Bool) (tag : Tag) (kids : Nodes) → is "p" tag ≡ true → some_element is_other_block (settled ends tag kids) ≡ false
+settled-other : (ends : Bool) (tag : Tag) (kids : Nodes) → is "p" tag ≡ true → some_element is_other_block (unjoined_para ends tag kids) ≡ false
 settled-other ends tag kids e = at (ends && not (has_element (without (is "pPr") kids))) refl
   where
     at : (b : Bool) → (ends && not (has_element (without (is "pPr") kids))) ≡ b

@@ -2,7 +2,7 @@
 
 ghost use Rattle.std.specs.Prelude.{◌≡◌, ◌&&◌, ◌||◌, ◌∷◌, [], true, Some, IfOk};
 ghost use Rattle.redl_paras.specs.Ends.{is_chain, keeps_last};
-ghost use Rattle.redl_paras.specs.Pieces.{piece_of, pieces_of, held_of, is_other, is_cut, paras_in as paras_in_piece, paras_of};
+ghost use Rattle.redl_paras.specs.Pieces.{piece_of, pieces_of, held_nodes, is_other, is_cut, paras_in as paras_in_piece, paras_of};
 ghost use Rattle.redl_tree.specs.Decisions.Beside.{are_named, bytes_beside, bytes_of_each};
 ghost use Rattle.redl_tree.specs.Decisions.Groups.{given, held_by, grouped};
 ghost use Rattle.redl_tree.specs.Model.Kids.{some_element};
@@ -82,8 +82,8 @@ fn add<'a>(
     made: &mut Vec<Node<'a>>,
 ) -> Result<Option<Vec<Node<'a>>>, AllocError>
     ensures made { IfOk result (λ _. nodes_of made.new.items ≡ nodes_of made.old.items
-        ⊕ given (piece_of piece.entry) (held_of held.entry) (is_cut (piece_of piece.entry) && more) (more || is_other next)) }
-    ensures held { IfOk result (λ later. held_of later ≡ held_by (piece_of piece.entry) (held_of held.entry) (is_cut (piece_of piece.entry) && more)) }
+        ⊕ given (piece_of piece.entry) (held_nodes held.entry) (is_cut (piece_of piece.entry) && more) (more || is_other next)) }
+    ensures held { IfOk result (λ later. held_nodes later ≡ held_by (piece_of piece.entry) (held_nodes held.entry) (is_cut (piece_of piece.entry) && more)) }
 {
     match piece {
         Piece::Thin(node) => match held {

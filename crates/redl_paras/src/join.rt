@@ -1,8 +1,8 @@
 //! What becomes of one paragraph, and what the next one takes up.
 
 ghost use Rattle.std.specs.Prelude.{◌≡◌, ◌∷◌, [], ◌&&◌, not, IfOk, OnOk, Some};
-ghost use Rattle.redl_paras.specs.Pieces.{held_of};
-ghost use Rattle.redl_tree.specs.Decisions.Groups.{taken, joined_tag, joined_kids, settled};
+ghost use Rattle.redl_paras.specs.Pieces.{held_nodes};
+ghost use Rattle.redl_tree.specs.Decisions.Groups.{taken, joined_tag, joined_kids, unjoined_para};
 ghost use Rattle.redl_tree.specs.Model.Kids.{only, without, has_element, item_is};
 ghost use Rattle.redl_tree.specs.Roles.Names.{is};
 ghost use Rattle.redl_tree.specs.Model.Nodes.{◌⊕◌};
@@ -38,7 +38,7 @@ pub(crate) fn take_up<'a>(
     held: Option<Vec<Node<'a>>>,
     nodes: Vec<Node<'a>>,
 ) -> Result<Vec<Node<'a>>, AllocError>
-    ensures { IfOk result (λ all. nodes_of all.items ≡ taken (held_of held.entry) (nodes_of nodes.entry.items)) }
+    ensures { IfOk result (λ all. nodes_of all.items ≡ taken (held_nodes held.entry) (nodes_of nodes.entry.items)) }
 {
     let mut all = match held {
         Some(all) => all,
@@ -101,8 +101,8 @@ pub(crate) fn joined<'a>(
     held: Option<Vec<Node<'a>>>,
     elem: Elem<'a>,
 ) -> Result<Elem<'a>, AllocError>
-    ensures tag { IfOk result (λ para. tag_of para ≡ joined_tag (held_of held.entry) (tag_of elem.entry)) }
-    ensures kids { IfOk result (λ para. kids_of para ≡ joined_kids (held_of held.entry) (kids_of elem.entry)) }
+    ensures tag { IfOk result (λ para. tag_of para ≡ joined_tag (held_nodes held.entry) (tag_of elem.entry)) }
+    ensures kids { IfOk result (λ para. kids_of para ≡ joined_kids (held_nodes held.entry) (kids_of elem.entry)) }
 {
     match held {
         None => Ok(elem),
@@ -152,7 +152,7 @@ pub(crate) fn settle<'a>(
     elem: Elem<'a>,
     ends: bool,
 ) -> Result<(), AllocError>
-    ensures { OnOk result (nodes_of made.new.items ≡ nodes_of made.old.items ⊕ settled ends (tag_of elem.entry) (kids_of elem.entry)) }
+    ensures { OnOk result (nodes_of made.new.items ≡ nodes_of made.old.items ⊕ unjoined_para ends (tag_of elem.entry) (kids_of elem.entry)) }
 {
     if is_emptied(&elem, ends) {
         return add_bare(made, elem.into_kids(alloc));

@@ -3,7 +3,7 @@ use Rattle.std.proofs.Common.{◌≡◌, ◌∙◌, refl, ap, sym, List, [], ◌
 use Rattle.std.specs.Cmp.{first_so, second_so}
 use Rattle.std.proofs.lemmas.Bool.{and_from}
 use Rattle.redl_paras_sound.specs.Groups.{BeginsGroup, are_before_last, bare_content, content, one_para, own_tag}
-use Rattle.redl_tree.specs.Decisions.Groups.{Piece, para, thin, thick, paragraph_next, has_thick, joins, given, held_by, grouped_from, grouped, settled, joined_tag, joined_kids}
+use Rattle.redl_tree.specs.Decisions.Groups.{Piece, para, thin, thick, paragraph_next, has_thick, joins, given, held_by, grouped_from, grouped, unjoined_para, joined_tag, joined_kids}
 use Rattle.redl_tree.specs.Model.Kids.{only, without}
 use Rattle.redl_tree.specs.Model.Nodes.{Tag, Nodes, ◌⊕◌}
 use Rattle.redl_tree.specs.Roles.Names.{is}
@@ -24,10 +24,10 @@ module _ (tag : Tag) (cut : Bool) (kids : Nodes) (rest : List Piece) where
   module _ (followed : Bool) (ends : joins (para tag cut kids) rest ≡ false) where
     abbrev whole : Nodes → Nodes
     whole held =
-        settled (cut && (has_thick rest || followed)) (own_tag tag) (only (is "pPr") kids ⊕ (held ⊕ without (is "pPr") kids)) ⊕ grouped followed rest
+        unjoined_para (cut && (has_thick rest || followed)) (own_tag tag) (only (is "pPr") kids ⊕ (held ⊕ without (is "pPr") kids)) ⊕ grouped followed rest
 
     last-piece : (held : Option Nodes) → grouped_from followed held (para tag cut kids ∷ rest)
-        ≡ settled (cut && (has_thick rest || followed)) (joined_tag held tag) (joined_kids held kids) ⊕ grouped followed rest
+        ≡ unjoined_para (cut && (has_thick rest || followed)) (joined_tag held tag) (joined_kids held kids) ⊕ grouped followed rest
     last-piece held =
         ap (λ b. given (para tag cut kids) held b (has_thick rest || followed) ⊕ grouped_from followed (held_by (para tag cut kids) held b) rest) ends
 
@@ -50,14 +50,14 @@ module _ (tag : Tag) (cut : Bool) (kids : Nodes) (rest : List Piece) where
 
     pub several-are-one : (first : Tag) (first_kids : Nodes) (between : List Piece) → are_before_last between ≡ true
         → grouped followed (para first true first_kids ∷ (between ++ para tag cut kids ∷ rest))
-        ≡ settled (cut && (has_thick rest || followed)) (own_tag tag) (one_para (para first true first_kids ∷ between) kids) ⊕ grouped followed rest
+        ≡ unjoined_para (cut && (has_thick rest || followed)) (own_tag tag) (one_para (para first true first_kids ∷ between) kids) ⊕ grouped followed rest
     several-are-one first first_kids between before =
         let behind = between ++ para tag cut kids ∷ rest in
         ap (λ b. given (para first true first_kids) None b (has_thick behind || followed) ⊕ grouped_from followed (held_by (para first true first_kids) None b) behind)
         (paragraph-next between before)
         ∙ held-so-far (without (is "pPr") first_kids) between before
 
-    pub one-is-alone : grouped followed (para tag cut kids ∷ rest) ≡ settled (cut && (has_thick rest || followed)) tag kids ⊕ grouped followed rest
+    pub one-is-alone : grouped followed (para tag cut kids ∷ rest) ≡ unjoined_para (cut && (has_thick rest || followed)) tag kids ⊕ grouped followed rest
     one-is-alone = last-piece None
 
 -- ---- where a group begins

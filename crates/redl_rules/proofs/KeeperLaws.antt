@@ -2,7 +2,7 @@
 use Rattle.std.proofs.Common.{◌≡◌, refl, ap, sym, ◌∙◌, Bool, ◌&&◌, List, [], ◌∷◌, if◌then◌else◌}
 use Rattle.redl_tree.specs.Model.Nodes.{Tag, Nodes, no_nodes, bytes, element}
 use Rattle.redl_tree.specs.Rules.Tests.{Test, everywhere}
-use Rattle.redl_tree.specs.Roles.Arounds.{around_of, inside_of, role_in}
+use Rattle.redl_tree.specs.Roles.Arounds.{around_of, around_inside, role_in}
 use Rattle.redl_tree.specs.Roles.Places.{role}
 use Rattle.redl_tree.specs.declared.around.Around.{Around}
 use Rattle.redl_tree.proofs.AroundLaws.{around_of-∷, role-in}
@@ -26,11 +26,11 @@ nine s t u v w x y z α = rw (s, t, u, v, w, x, y, z, α) refl
 -- what the rules say of an element by itself, by what its ancestors are to it
 pub here-kept : (ancestors : List Tag) (tag : Tag) (kids : Nodes) →
     let around = around_of ancestors in
-    kept_by_round around (inside_of tag around) (round_of ancestors) (role_in around tag) tag kids ≡ kept_here ancestors tag kids
+    kept_by_round around (around_inside tag around) (round_of ancestors) (role_in around tag) tag kids ≡ kept_here ancestors tag kids
 here-kept ancestors tag kids =
     let around = around_of ancestors in
     let Told : List Bool → Kept = λ rules. record { rules = rules } in
-    ap (λ k. kept_by_round around (inside_of tag around) (round_of ancestors) k tag kids) (sym (role-in ancestors tag))
+    ap (λ k. kept_by_round around (around_inside tag around) (round_of ancestors) k tag kids) (sym (role-in ancestors tag))
     ∙ ap (λ (inner : Around). kept_by_round around inner (round_of ancestors) (role ancestors tag) tag kids) (sym (around_of-∷ tag ancestors))
     ∙ sym (ap Told
     (nine (test_1-by ancestors tag kids) (test_2-by ancestors tag kids) (test_3-by ancestors tag kids) (test_4-by ancestors tag kids) (test_5-by ancestors tag kids)

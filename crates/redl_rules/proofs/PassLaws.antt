@@ -6,7 +6,7 @@ use Rattle.std.proofs.Math.Bool.{or-true, and-false}
 use Rattle.redl_tree.specs.Model.Nodes.{Tag, Nodes, no_nodes, bytes, element}
 use Rattle.redl_tree.specs.Model.IdleTexts.{idle_nodes}
 use Rattle.redl_tree.specs.Model.Kids.{some_element, has_element}
-use Rattle.redl_tree.specs.Roles.Arounds.{inside_of, role_in, props_in, opened, parent_inside}
+use Rattle.redl_tree.specs.Roles.Arounds.{around_inside, role_in, props_in, opened, parent_inside}
 use Rattle.redl_tree.specs.Roles.Idle.{is_idle_in}
 use Rattle.redl_tree.specs.Roles.Kinds.{is_content, is_change}
 use Rattle.redl_tree.specs.Roles.Lists.{is_thick}
@@ -155,8 +155,8 @@ module _ (here : Around) (round : Round) (in_run : Bool) (at : in_run ≡ true �
   abbrev kind : Kind
   kind = role_in here tag
 
-  asked : NothingAsked (inside_of tag here).parent kids
-  asked = nothing-asked (inside_of tag here).parent kids (inside-asks in_run tag here.quiet here.parent (λ e. (at e).parent) i)
+  asked : NothingAsked (around_inside tag here).parent kids
+  asked = nothing-asked (around_inside tag here).parent kids (inside-asks in_run tag here.quiet here.parent (λ e. (at e).parent) i)
 
   no_run_props : implies (open_in ("rPr" ∷ "sdtContent" ∷ []) here tag) (not round.in_content) ≡ true
   no_run_props = by in_run at i where
@@ -174,13 +174,13 @@ module _ (here : Around) (round : Round) (in_run : Bool) (at : in_run ≡ true �
       no_run_props)
       (ap (λ (k : Kind). implies (is_content k && round.among_blocks) (not (some_element is_thick kids))) (no_role_in in_run here tag i))
 
-  holds_4 : by_round_4 (inside_of tag here) kids ≡ true
+  holds_4 : by_round_4 (around_inside tag here) kids ≡ true
   holds_4 =
-      ap (λ b. not (inside_of tag here).quiet || b)
-      (last_idle (is "r" tag) (λ kid. is_change (role_in (inside_of tag here) kid)) (none_changes (is "r" tag) (inside_of tag here)) kids below)
-      ∙ or-true (not (inside_of tag here).quiet)
+      ap (λ b. not (around_inside tag here).quiet || b)
+      (last_idle (is "r" tag) (λ kid. is_change (role_in (around_inside tag here) kid)) (none_changes (is "r" tag) (around_inside tag here)) kids below)
+      ∙ or-true (not (around_inside tag here).quiet)
 
-  holds_6 : by_round_6 (inside_of tag here) here tag kids ≡ true
+  holds_6 : by_round_6 (around_inside tag here) here tag kids ≡ true
   holds_6 = and_from _ _ asked.props (ap (λ b. implies (b && not here.quiet) (once "sdtContent" kids)) (has-not "sdt" in_run tag i refl))
 
   holds_7 : by_round_7 here tag kids ≡ true
@@ -194,12 +194,12 @@ module _ (here : Around) (round : Round) (in_run : Bool) (at : in_run ≡ true �
       (or_from (is_some (prop_of tag)) (is_any ("p" ∷ "tbl" ∷ "tr" ∷ "tc" ∷ "txbxContent" ∷ []) tag)
       (ap is_some (no_prop in_run tag i)) (names_none ("p" ∷ "tbl" ∷ "tr" ∷ "tc" ∷ "txbxContent" ∷ []) in_run refl tag i))
 
-  holds_9 : by_round_9 (inside_of tag here).parent kind tag kids ≡ true
+  holds_9 : by_round_9 (around_inside tag here).parent kind tag kids ≡ true
   holds_9 =
-      ap (λ (k : Kind). by_round_9 (inside_of tag here).parent k tag kids) (no_role_in in_run here tag i)
+      ap (λ (k : Kind). by_round_9 (around_inside tag here).parent k tag kids) (no_role_in in_run here tag i)
       ∙ ap (λ b. implies ((b || false) || false) (not (declares tag.tail)) && true) asked.para
 
-  all-hold : all_hold (kept_by_round here (inside_of tag here) round kind tag kids) ≡ true
+  all-hold : all_hold (kept_by_round here (around_inside tag here) round kind tag kids) ≡ true
   all-hold = all-nine asked.cell asked.row holds_3 holds_4 asked.marks holds_6 holds_7 holds_8 holds_9
 
 -- ---- a visit of idle nodes
@@ -212,7 +212,7 @@ kept-idle here round in_run at (element tag kids rest) kept h =
     let p = idle_parts in_run tag kids rest h in
     let inner = ancestors_inside tag here in
     let within = round_inside tag (role_in here.around tag) inner round in
-    let told : Kept = kept_by_round here.around (inside_of tag here.around) round (role_in here.around tag) tag kids in
+    let told : Kept = kept_by_round here.around (around_inside tag here.around) round (role_in here.around tag) tag kids in
     let runs : is "r" tag ≡ true → InRuns inner.around within =
     λ e. record { parent = inside-run tag here.around.quiet here.around.parent e; content = ap is_some (no_trace in_run tag p.own) } in
     ap (visited ancestors_inside keeper_rule here round rest)

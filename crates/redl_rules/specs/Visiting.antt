@@ -1,7 +1,7 @@
 -- How a visit of a story tells which rules hold, element by element.
 use Rattle.std.specs.Prelude.{[], ◌∷◌}
 use Rattle.redl_tree.specs.Model.Nodes.{Tag, Nodes}
-use Rattle.redl_tree.specs.Roles.Arounds.{inside_of, role_in}
+use Rattle.redl_tree.specs.Roles.Arounds.{around_inside, role_in}
 use Rattle.redl_tree.specs.declared.around.Around.{Around}
 use Rattle.redl_tree.specs.declared.kinds.Kind.{Kind}
 use Rattle.redl_visit.specs.declared.ancestors.Ancestors.{Ancestors}
@@ -27,6 +27,6 @@ abbrev pub keeper_rule : VisitRule Ancestors Round Kept
 keeper_rule = record {
   below = λ here own tag kids s. round_below tag kids (role_in here.around tag) (ancestors_inside tag here) own;
   enter = λ here own tag kids s.
-      in_both s (kept_by_round here.around (inside_of tag here.around) own (role_in here.around tag) tag kids);
+      in_both s (kept_by_round here.around (around_inside tag here.around) own (role_in here.around tag) tag kids);
   leave = λ here below tag kids s. s;
 }

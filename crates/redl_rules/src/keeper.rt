@@ -2,7 +2,7 @@
 
 ghost use Rattle.std.specs.Prelude.{◌≡◌, ◌∷◌, []};
 ghost use Rattle.redl_tree.specs.Model.View.{tag_of, kids_of};
-ghost use Rattle.redl_tree.specs.Roles.Arounds.{inside_of};
+ghost use Rattle.redl_tree.specs.Roles.Arounds.{around_inside};
 ghost use Rattle.redl_visit.specs.Summaries.{ancestors_inside};
 ghost use Rattle.redl_visit.specs.Visits.{inner_of};
 ghost use Rattle.redl_rules.specs.Keeping.{kept_here as kept_of, all_hold};
@@ -98,7 +98,7 @@ impl<'a, X> Visitor<Elem<'a>, Ancestors> for Keeper<X> {
 #[inline(always)]
 fn around_inside(elem: &Elem, here: &Ancestors, inner: Option<Ancestors>) -> Around
     requires { inner ≡ inner_of ancestors_inside (tag_of elem.now) (kids_of elem.now) here.now }
-    ensures { result ≡ inside_of (tag_of elem.now) here.now.around }
+    ensures { result ≡ around_inside (tag_of elem.now) here.now.around }
 {
     match inner {
         Some(inner) => inner.around,

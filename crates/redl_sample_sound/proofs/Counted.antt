@@ -27,7 +27,7 @@ use Rattle.redl_tree.specs.Model.Nodes.{Nodes, no_nodes, bytes, element, ◌⊕�
 use Rattle.redl_tree.specs.Model.Seen.{Spot, spot, seen, seen_from, root_spots}
 use Rattle.redl_tree.specs.Revisions.Markers.{marker_of, moves_among}
 use Rattle.redl_tree.specs.Revisions.Moves.{Pair, pairs}
-use Rattle.redl_tree.specs.Revisions.Numbers.{Membership, Numbering, number_of_move, counted, start_with, revision_of, numbering_after, package_revisions}
+use Rattle.redl_tree.specs.Revisions.Numbers.{Membership, Numbering, number_of_move, counted, start_with, revision_of, numbering_after, package_revisions_by}
 
 -- ---- what attributes say
 
@@ -194,5 +194,5 @@ module _ (size : ℕ) (few : size ≤ 20000) where
       ∙ ap before sum
       ∙ before_is size
 
-  pub revisions_are : package_revisions attribute_value (sample_nodes size) ≡ revisions size
+  pub revisions_are : package_revisions_by attribute_value (sample_nodes size) ≡ revisions size
   revisions_are = in_document (moves_among attribute_value (seen document_tag (element body_tag whole no_nodes))) story_moves

@@ -6,7 +6,7 @@ use Rattle.redl_rules.specs.Attributes.{broken_rule}
 use Rattle.redl_tree.specs.Model.Count.{count}
 use Rattle.redl_stamp.specs.Attribute.{attribute_value}
 use Rattle.redl_tree.specs.Model.Nodes.{Nodes}
-use Rattle.redl_tree.specs.Revisions.Numbers.{package_revisions}
+use Rattle.redl_tree.specs.Revisions.Numbers.{package_revisions_by}
 use Rattle.redl_xml.specs.Readings.{IsReading}
 use Rattle.redl_xml.specs.Shapes.{depth_of}
 
@@ -23,4 +23,4 @@ pub record HasSoundPackage (text : List ℕ) : Type 0 where
 pub record HasRevisions (text : List ℕ) (count : ℕ) : Type 0 where
   pub nodes : Nodes
   pub reading : IsReading text nodes
-  pub counted : package_revisions attribute_value nodes ≡ count
+  pub counted : package_revisions_by attribute_value nodes ≡ count

@@ -9,7 +9,7 @@ use Rattle.redl_journal.specs.declared.entry.Entry.{Entry}
 use Rattle.redl_select.specs.declared.lock.Lock.{Lock}
 use Rattle.redl_session.specs.Refusals.{admitted, cause_of, refusal_of, refusals, TakesFirst}
 use Rattle.redl_session.specs.Says.{says_of}
-use Rattle.redl_session.specs.Sessions.{State, StopsAfter, after, after_entry, says}
+use Rattle.redl_session.specs.Sessions.{SessionState, StopsAfter, after, after_entry, says}
 use Rattle.redl_session.specs.declared.refusal.AdmitError.{AdmitError}
 use Rattle.redl_session.specs.declared.refusal.Refusal.{Refusal}
 
@@ -53,22 +53,22 @@ refusals-refuses revisions locks entries entry why is =
 -- ---- all of them
 
 -- entries that are admitted are added to the book, and nothing else changes
-pub after-union : (state : State) (entries : List Entry)
+pub after-union : (state : SessionState) (entries : List Entry)
     → after state entries ≡ record state { book = union state.book (admitted state.revisions state.locks entries) }
 after-union state [] = refl
 after-union state (entry ∷ entries) = by (is_none (cause_of state.revisions state.locks entry)) (λ other. after-union other entries) where
-  by : (free : Bool) → ((other : State) → after other entries ≡ record other { book = union other.book (admitted other.revisions other.locks entries) })
-      → after (cond {A = State} free (record state { book = with_entry state.book entry }) state) entries
+  by : (free : Bool) → ((other : SessionState) → after other entries ≡ record other { book = union other.book (admitted other.revisions other.locks entries) })
+      → after (cond {A = SessionState} free (record state { book = with_entry state.book entry }) state) entries
       ≡ record state { book = union state.book (cond free (entry ∷ admitted state.revisions state.locks entries) (admitted state.revisions state.locks entries)) }
   by true rest = rest (record state { book = with_entry state.book entry })
   by false rest = rest state
 
 -- first some entries, then others
-pub after-append : (state : State) (entries others : List Entry) → after state (entries ++ others) ≡ after (after state entries) others
+pub after-append : (state : SessionState) (entries others : List Entry) → after state (entries ++ others) ≡ after (after state entries) others
 after-append state [] others = refl
 after-append state (entry ∷ entries) others = after-append (after_entry state entry) entries others
 
-pub stops_after : (state : State) (book entries : List Entry) → TakesFirst state.revisions state.locks state.book book entries
+pub stops_after : (state : SessionState) (book entries : List Entry) → TakesFirst state.revisions state.locks state.book book entries
     → StopsAfter state (record state { book = book }) entries
 stops_after state book entries stopped = record {
   first = stopped.first;
@@ -79,7 +79,7 @@ stops_after state book entries stopped = record {
 
 -- ---- lists with the same entries
 
-pub says-same : (state : State) (entries others : List Entry) → IsBook state.book → ((entry : Entry) → Contains entries entry ↔ Contains others entry)
+pub says-same : (state : SessionState) (entries others : List Entry) → IsBook state.book → ((entry : Entry) → Contains entries entry ↔ Contains others entry)
     → says (after state entries) ≡ says (after state others)
 says-same state entries others sorted same =
     let free : Entry → Bool = λ e. is_none (cause_of state.revisions state.locks e) in

@@ -14,14 +14,14 @@ use Rattle.redl_tree.specs.Model.Nodes.{Nodes, Tag}
 use Rattle.redl_tree.specs.declared.kinds.Say.{Say}
 
 -- the nodes of a package, its revisions, the locks, and the entries that were admitted
-pub record State : Type 0 where
+pub record SessionState : Type 0 where
   pub nodes : Nodes
   pub revisions : List Revision
   pub locks : List Lock
   pub book : List Entry
 
 -- A code of `State`, with which a proof distinguishes two of them.
-abbrev pub state_code : Coded Tag → Coded Revision → Coded Lock → Coded Entry → Coded State
+abbrev pub state_code : Coded Tag → Coded Revision → Coded Lock → Coded Entry → Coded SessionState
 state_code tag revision lock entry =
     code_by (Nodes × (List Revision × (List Lock × List Entry)))
     (coded× (nodes_code tag) (coded× (coded_list revision) (coded× (coded_list lock) (coded_list entry))))
@@ -30,21 +30,21 @@ state_code tag revision lock entry =
     (λ _. refl)
 
 -- the say of each revision, in the order of their numbers
-abbrev pub says : State → List Say
+abbrev pub says : SessionState → List Say
 says state = says_of state.book (length state.revisions)
 
 -- a session after one entry: the book has it, unless it is refused
-abbrev pub after_entry : State → Entry → State
+abbrev pub after_entry : SessionState → Entry → SessionState
 after_entry state entry =
     if is_none (cause_of state.revisions state.locks entry) then record state { book = with_entry state.book entry } else state
 
 -- a session after entries, one after another
-abbrev pub after : State → List Entry → State
+abbrev pub after : SessionState → List Entry → SessionState
 after state [] = state
 after state (entry ∷ entries) = after (after_entry state entry) entries
 
 -- A session took a first part of the entries.
-pub record StopsAfter (old new : State) (entries : List Entry) : Type 0 where
+pub record StopsAfter (old new : SessionState) (entries : List Entry) : Type 0 where
   pub first : List Entry
   pub rest : List Entry
   pub splits : entries ≡ first ++ rest

@@ -44,9 +44,9 @@ pub struct Session<'a> {
 
 impl<'a> Model for Session<'a> {
     ghost use Rattle.std.specs.Coded.{codes};
-    ghost use Rattle.redl_session.specs.Sessions.{State, state_code, IsConsistent};
+    ghost use Rattle.redl_session.specs.Sessions.{SessionState, state_code, IsConsistent};
 
-    ghost Value = { State };
+    ghost Value = { SessionState };
 
     ghost coded = { state_code (Prim.hlevel codes) (Prim.hlevel codes) (Prim.hlevel codes) (Prim.hlevel codes) };
 

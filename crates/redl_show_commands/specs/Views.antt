@@ -15,7 +15,7 @@ text_under (Some says) nodes = walk_text says.items nodes
 
 -- what a reader sees of a package
 abbrev pub shown_text : Shown → List ℕ
-shown_text shown = text_under shown.says shown.«package»
+shown_text shown = text_under shown.says shown.pkg
 
 -- it goes out, and nothing is remarked
 abbrev pub shown_view : Shown → Writing

@@ -57,24 +57,24 @@ pub fn list_package<'a, 'b, F: Shelf>(
 }
 
 // The names of the parts of a package.
-fn part_names(alloc: Global, package: &Package) -> Result<Vec<Text>, AllocError>
-    ensures names { IfOk result (λ names. names.items ≡ part_names «package».now) }
+fn part_names(alloc: Global, pkg: &Package) -> Result<Vec<Text>, AllocError>
+    ensures names { IfOk result (λ names. names.items ≡ part_names pkg.now) }
     ensures utf8 { IfOk result (λ names. All IsUtf8 names.items) }
 {
     let mut names = Vec::new(alloc);
-    for part in 0..package.parts() {
-        names.push(Text::copy_of(alloc, part_name(package, part))?)?;
+    for part in 0..pkg.parts() {
+        names.push(Text::copy_of(alloc, part_name(pkg, part))?)?;
     }
     Ok(names)
 }
 
 // The name of one part.
-fn part_name<'n>(package: &'n Package, part: u32) -> &'n [u8]
-    requires { part < length (parts_of «package».now) }
-    ensures value { slice_get (part_names «package».now) part ≡ Some result.now }
+fn part_name<'n>(pkg: &'n Package, part: u32) -> &'n [u8]
+    requires { part < length (parts_of pkg.now) }
+    ensures value { slice_get (part_names pkg.now) part ≡ Some result.now }
     ensures utf8 { IsUtf8 result.now }
 {
-    package.part_name(part).unwrap()
+    pkg.part_name(part).unwrap()
 }
 
 // The listing of those of a session's revisions that are shown, where these are the names of the parts of its package.

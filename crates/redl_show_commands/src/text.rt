@@ -27,7 +27,8 @@ use std::alloc::{AllocError, Global};
 #[derive(Drop)]
 pub struct Shown<'b> {
     /// The package, whose members have their numbers.
-    pub package: Package<'b>,
+    /// The package.
+    pub pkg: Package<'b>,
     /// A say for each revision, under which its plain text is shown; without them its text is shown with its changes marked.
     pub says: Option<Vec<Say>>,
 }
@@ -59,7 +60,7 @@ fn show_package(alloc: Global, view: View, pkg: Surveyed) -> Result<Shown, Alloc
         View::Original => show_plain(alloc, counted, Say::Reject),
         View::Final => show_plain(alloc, counted, Say::Accept),
         View::Marked => Ok(Shown {
-            package: counted.package,
+            pkg: counted.pkg,
             says: None,
         }),
     }
@@ -67,11 +68,11 @@ fn show_package(alloc: Global, view: View, pkg: Surveyed) -> Result<Shown, Alloc
 
 // The plain text of what the pass leaves, under one say for all revisions.
 fn show_plain(alloc: Global, counted: Counted, say: Say) -> Result<Shown, AllocError>
-    ensures { IfOk result (λ shown. shown_text shown ≡ walk_text (replicate counted.entry.count say) counted.entry.«package») }
+    ensures { IfOk result (λ shown. shown_text shown ≡ walk_text (replicate counted.entry.count say) counted.entry.pkg) }
 {
     let says = vec![in alloc; say; counted.count as usize]?;
     Ok(Shown {
-        package: counted.package,
+        pkg: counted.pkg,
         says: Some(says),
     })
 }
@@ -101,7 +102,7 @@ fn put_pieces<K: Sink>(shown: &Shown, out: &mut K) -> Result<(), Failed>
     ensures { Puts K.told K.faults K.settled K.lenders out.old out.new (shown_text shown.now) result }
 {
     match &shown.says {
-        Some(says) => redl_views::view(&shown.package, says, out),
-        None => put_marked(&shown.package, out),
+        Some(says) => redl_views::view(&shown.pkg, says, out),
+        None => put_marked(&shown.pkg, out),
     }
 }

@@ -4,7 +4,7 @@ use Rattle.std.proofs.Common.{◌≡◌, ℕ, List, [], ◌∷◌, false, codes,
 use Rattle.redl_tree.specs.Model.Nodes.{Nodes, no_nodes, ◌⊕◌}
 use Rattle.redl_tree.specs.Model.Text.{text}
 use Rattle.redl_tree.specs.Decisions.Packages.{pass_package}
-use Rattle.redl_tree.specs.Revisions.Numbers.{numbered_package}
+use Rattle.redl_tree.specs.Revisions.Numbers.{numbered_package_by}
 use Rattle.redl_tree.specs.declared.kinds.Say.{Say}
 use Rattle.redl_tree.specs.declared.kinds.Say.TheVariants.{Keep, Accept, Reject}
 use Rattle.redl_tree.proofs.Build.{opened, closed, words, run, deleted_run, package_of}
@@ -17,7 +17,7 @@ use Rattle.std.specs.Prelude.{None, Some}
 
 -- a package whose members have their numbers; the rows have no markers of moves, so no attribute is looked at
 abbrev indexed : Nodes → Nodes
-indexed body = numbered_package (λ tail name. None) (package_of body)
+indexed body = numbered_package_by (λ tail name. None) (package_of body)
 
 abbrev entry : ℕ → ℕ → Word → String → Entry
 entry seq rev word who = record { reviewer = codes who; seq = seq; rev = rev; word = word; rank = 0 }
@@ -160,7 +160,7 @@ empty_gone_differs = refl
 
 -- A move whose source is in an inserted row is paired once the row is accepted: its first tag is a marker, which had no number.
 abbrev moved : Nodes → Nodes
-moved body = numbered_package (λ tail name. Some tail) (package_of body)
+moved body = numbered_package_by (λ tail name. Some tail) (package_of body)
 
 abbrev move_rest : Nodes → Nodes
 move_rest row_props =

@@ -25,8 +25,8 @@ ancestors_of says ancestors = record {
 }
 
 -- the same for the kids of an element
-abbrev pub inside_of : List Say → Tag → DecidedAncestors → DecidedAncestors
-inside_of says tag summary = record {
+abbrev pub decided_inside : List Say → Tag → DecidedAncestors → DecidedAncestors
+decided_inside says tag summary = record {
   site = site_inside tag summary.site;
   freed = frees says tag || summary.freed;
   left = leaves says tag || summary.left;

@@ -1,7 +1,7 @@
 //! What a walk over a story knows of the ancestors of some nodes.
 
 ghost use Rattle.std.specs.Prelude.{◌≡◌, ◌∷◌, ◌&&◌, ◌||◌, [], List};
-ghost use Rattle.redl_tables.specs.DecidedAncestors.{ancestors_of, inside_of, frees, leaves, revives};
+ghost use Rattle.redl_tables.specs.DecidedAncestors.{ancestors_of, decided_inside, frees, leaves, revives};
 ghost use Rattle.redl_tree.specs.Decisions.Fates.{fate_of as fate_by};
 ghost use Rattle.redl_tree.specs.Model.Nodes.{Tag};
 ghost use Rattle.redl_tree.specs.Model.View.{tag_of};
@@ -34,7 +34,7 @@ impl DecidedAncestors {
 
     /// What is known inside an element, given what is known of its own ancestors and what becomes of it.
     pub fn inside(self, elem: &Elem, fate: Fate) -> DecidedAncestors
-        ensures inside { (says : List Say) → fate ≡ fate_by says (tag_of elem.now) → result ≡ inside_of says (tag_of elem.now) self }
+        ensures inside { (says : List Say) → fate ≡ fate_by says (tag_of elem.now) → result ≡ decided_inside says (tag_of elem.now) self }
 
         // So it is what is known of the list of ancestors with the element in front.
         ensures list { (says : List Say) → fate ≡ fate_by says (tag_of elem.now) → (ancestors : List Tag) → self ≡ ancestors_of says ancestors

@@ -5,7 +5,7 @@ use Rattle.std.proofs.lemmas.Bool.{and_parts, cond-true, cond-false}
 use Rattle.redl_tree.specs.Model.Nodes.{Tag, Nodes, no_nodes, bytes, element, ◌⊕◌}
 use Rattle.redl_tree.specs.Roles.Names.{is}
 use Rattle.redl_tree.specs.Model.Kids.{only, without, has_element}
-use Rattle.redl_tree.specs.Decisions.Groups.{Piece, para, thin, thick, has_thick, joins, taken, joined_tag, joined_kids, settled, given, held_by, grouped_from, grouped}
+use Rattle.redl_tree.specs.Decisions.Groups.{Piece, para, thin, thick, has_thick, joins, taken, joined_tag, joined_kids, unjoined_para, given, held_by, grouped_from, grouped}
 use Rattle.redl_tree.specs.Decisions.Beside.{bytes_beside, bytes_of_each, are_named}
 use Rattle.redl_tree.proofs.Named.{by_name}
 use Rattle.redl_tree.proofs.PassLaws.{Takes, takes-next}
@@ -42,7 +42,7 @@ abbrev beside_held : Option Nodes → List (List ℕ)
 beside_held None = []
 beside_held (Some held) = bytes_beside held
 
-beside-settled : (ends : Bool) (tag : Tag) (kids : Nodes) → is "p" tag ≡ true → bytes_beside (settled ends tag kids) ≡ bytes_beside kids
+beside-settled : (ends : Bool) (tag : Tag) (kids : Nodes) → is "p" tag ≡ true → bytes_beside (unjoined_para ends tag kids) ≡ bytes_beside kids
 beside-settled ends tag kids q = at (ends && not (has_element (without (is "pPr") kids)))
   where
     at : (b : Bool) → bytes_beside (if b then without (is "pPr") kids else element tag kids no_nodes) ≡ bytes_beside kids
@@ -70,7 +70,7 @@ beside-given : (p : Piece) (held : Option Nodes) (joins followed : Bool) (ps : L
     bytes_beside (given p held joins followed) ++ beside_held (held_by p held joins) ≡ beside_held held ++ bytes_of_each (p ∷ [])
 beside-given (para tag cut kids) held true followed ps l t = beside-taken held kids ∙ ap (λ ts. beside_held held ++ ts) (sym (append-nil (bytes_beside kids)))
 beside-given (para tag cut kids) held false followed ps l t =
-    append-nil (bytes_beside (settled (cut && followed) (joined_tag held tag) (joined_kids held kids)))
+    append-nil (bytes_beside (unjoined_para (cut && followed) (joined_tag held tag) (joined_kids held kids)))
     ∙ beside-settled (cut && followed) (joined_tag held tag) (joined_kids held kids) (named_joined held tag (and_parts (is "p" tag) true l).0)
     ∙ beside-joined held kids ∙ ap (λ ts. beside_held held ++ ts) (sym (append-nil (bytes_beside kids)))
 beside-given (thin nodes) None joins followed ps l t = refl

@@ -17,7 +17,7 @@ use Rattle.redl_tree.specs.Rules.Sound.{is_marker, holds, tests, first_broken, b
 use Rattle.redl_tree.specs.Model.Seen.{tags, Spot, spot, Seen, seen_one, seen_from, root_spots, seen, tags_of}
 use Rattle.redl_tree.specs.Revisions.Moves.{Marking, Pair, pairs, is_of_pair}
 use Rattle.redl_tree.specs.Revisions.Markers.{Value, edge_of, is_row_revision, is_cell_revision, is_revised, is_reached, is_in_grid, is_own, leaves_grid, any_leaves_grid, is_astray, is_loose, marker_of, moves_among, own_role, mark_end, move_at, move_of_member, move_of_marker, either, move_of, whole_role}
-use Rattle.redl_tree.specs.Revisions.Numbers.{membership, Numbering, counted, number_for, revision_of, numbering_after, labelled_tag, labelled, start_with, labelled_story, next_after_story, number_rule, numbered_package, IsIndexed}
+use Rattle.redl_tree.specs.Revisions.Numbers.{membership, Numbering, counted, number_for, revision_of, numbering_after, labelled_tag, labelled, start_with, labelled_story, next_after_story, number_rule, numbered_package_by, IsIndexed}
 use Rattle.redl_tree.specs.declared.kinds.Kind.{Kind}
 use Rattle.redl_tree.specs.declared.kinds.Kind.TheVariants.{Plain, Content, Mark, Row, Cell, Change, Marker}
 use Rattle.redl_tree.proofs.StoryLaws.{unlabelled-changed, changed_in-again, stories-changed, changed-roots}
@@ -298,23 +298,23 @@ module _ (value : Value) (next : ℕ) (root : Tag) where
 -- Packages
 
 -- a numbered package is the original but for labels
-pub unlabelled-numbered : (value : Value) (nodes : Nodes) → unlabelled (numbered_package value nodes) ≡ unlabelled nodes
+pub unlabelled-numbered : (value : Value) (nodes : Nodes) → unlabelled (numbered_package_by value nodes) ≡ unlabelled nodes
 unlabelled-numbered value nodes = unlabelled-changed (number_rule value) (unlabelled-story value) 1 [] nodes
 
 -- numbering a package doesn't change its text
-pub text-numbered : (value : Value) (nodes : Nodes) → text (numbered_package value nodes) ≡ text nodes
-text-numbered value nodes = sym (text-unlabelled (numbered_package value nodes)) ∙ ap text (unlabelled-numbered value nodes) ∙ text-unlabelled nodes
+pub text-numbered : (value : Value) (nodes : Nodes) → text (numbered_package_by value nodes) ≡ text nodes
+text-numbered value nodes = sym (text-unlabelled (numbered_package_by value nodes)) ∙ ap text (unlabelled-numbered value nodes) ∙ text-unlabelled nodes
 
 -- a numbered package is indexed: numbering it again changes nothing
-pub numbered-indexed : (value : Value) (nodes : Nodes) → IsIndexed value (numbered_package value nodes)
+pub numbered-indexed : (value : Value) (nodes : Nodes) → IsIndexed value (numbered_package_by value nodes)
 numbered-indexed value nodes = changed_in-again (number_rule value) (story-again value) (story_next-again value) 1 [] nodes
 
 -- the shape of a package stays: its stories are those of the original, labelled in their order
-pub stories-numbered : (value : Value) (nodes : Nodes) → stories (numbered_package value nodes) ≡ changed_stories (number_rule value) 1 (stories nodes)
+pub stories-numbered : (value : Value) (nodes : Nodes) → stories (numbered_package_by value nodes) ≡ changed_stories (number_rule value) 1 (stories nodes)
 stories-numbered value nodes = stories-changed (number_rule value) 1 [] nodes
 
 -- the roots of its stories are those of the original
-pub roots-numbered : (value : Value) (nodes : Nodes) → map (λ story. story.tag) (stories (numbered_package value nodes)) ≡ map (λ story. story.tag) (stories nodes)
+pub roots-numbered : (value : Value) (nodes : Nodes) → map (λ story. story.tag) (stories (numbered_package_by value nodes)) ≡ map (λ story. story.tag) (stories nodes)
 roots-numbered value nodes = ap (map (λ story. story.tag)) (stories-numbered value nodes) ∙ changed-roots (number_rule value) 1 (stories nodes)
 
 -- Soundness
@@ -334,29 +334,29 @@ holds-labelled test blind value next (story ∷ later) =
     ∙ ap (λ b. everywhere test [] (element story.tag story.kids no_nodes) && b) (holds-labelled test blind value (next_after_story value next story.tag story.kids) later)
 
 -- a rule that looks at no label holds of a numbered package where it holds of the original
-pub holds-numbered : (test : Test) → Blind test → (value : Value) (nodes : Nodes) → holds test (stories (numbered_package value nodes)) ≡ holds test (stories nodes)
+pub holds-numbered : (test : Test) → Blind test → (value : Value) (nodes : Nodes) → holds test (stories (numbered_package_by value nodes)) ≡ holds test (stories nodes)
 holds-numbered test blind value nodes = ap (holds test) (stories-numbered value nodes) ∙ holds-labelled test blind value 1 (stories nodes)
 
 first_broken-numbered : (value : Value) (nodes : Nodes) (rules : List Test) → AreBlind rules → (number : ℕ) →
-    first_broken number rules (stories (numbered_package value nodes)) ≡ first_broken number rules (stories nodes)
+    first_broken number rules (stories (numbered_package_by value nodes)) ≡ first_broken number rules (stories nodes)
 first_broken-numbered value nodes [] blind number = refl
 first_broken-numbered value nodes (test ∷ rules) blind number =
-    ap (λ b. if b then first_broken (number + 1) rules (stories (numbered_package value nodes)) else Some number) (holds-numbered test blind.0 value nodes)
+    ap (λ b. if b then first_broken (number + 1) rules (stories (numbered_package_by value nodes)) else Some number) (holds-numbered test blind.0 value nodes)
     ∙ ap (λ x. if holds test (stories nodes) then x else Some number) (first_broken-numbered value nodes rules blind.1 (number + 1))
 
 all_hold-numbered : (value : Value) (nodes : Nodes) (rules : List Test) → AreBlind rules →
-    list_all (λ test. holds test (stories (numbered_package value nodes))) rules ≡ list_all (λ test. holds test (stories nodes)) rules
+    list_all (λ test. holds test (stories (numbered_package_by value nodes))) rules ≡ list_all (λ test. holds test (stories nodes)) rules
 all_hold-numbered value nodes [] blind = refl
 all_hold-numbered value nodes (test ∷ rules) blind =
-    ap (λ b. b && list_all (λ test. holds test (stories (numbered_package value nodes))) rules) (holds-numbered test blind.0 value nodes)
+    ap (λ b. b && list_all (λ test. holds test (stories (numbered_package_by value nodes))) rules) (holds-numbered test blind.0 value nodes)
     ∙ ap (λ b. holds test (stories nodes) && b) (all_hold-numbered value nodes rules blind.1)
 
 -- a numbered package breaks the same rule as the original
 pub broken-numbered : (value : Value) (has_id declares : List ℕ → Bool) (nodes : Nodes) →
-    broken (tests has_id declares) (numbered_package value nodes) ≡ broken (tests has_id declares) nodes
+    broken (tests has_id declares) (numbered_package_by value nodes) ≡ broken (tests has_id declares) nodes
 broken-numbered value has_id declares nodes = first_broken-numbered value nodes (tests has_id declares) (tests_are_blind has_id declares) 1
 
 -- a numbered package is sound where the original is
 pub sound-numbered : (value : Value) (has_id declares : List ℕ → Bool) (nodes : Nodes) →
-    is_sound (tests has_id declares) (numbered_package value nodes) ≡ is_sound (tests has_id declares) nodes
+    is_sound (tests has_id declares) (numbered_package_by value nodes) ≡ is_sound (tests has_id declares) nodes
 sound-numbered value has_id declares nodes = all_hold-numbered value nodes (tests has_id declares) (tests_are_blind has_id declares)

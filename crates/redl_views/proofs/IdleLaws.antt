@@ -29,7 +29,7 @@ use Rattle.redl_views.specs.declared.summary.Summary.{Summary}
 use Rattle.redl_views.specs.Idle.{inside_idle, idle_rule, idle_shown}
 use Rattle.redl_views.specs.PlainText.{start_shown}
 use Rattle.redl_views.specs.Ends.{by_fate_of, has_taken}
-use Rattle.redl_views.specs.Walks.{is_text, inside_of, elem_next, is_paragraph, next_of, or_next, one_gives, gives, taken_after, loses_end, elem_view, view}
+use Rattle.redl_views.specs.Walks.{is_text, summary_inside, elem_next, is_paragraph, next_of, or_next, one_gives, gives, taken_after, loses_end, elem_view, view}
 
 -- ---- one element
 
@@ -70,7 +70,7 @@ gives_past says above in_run (bytes b rest) y h some = gives_past says above in_
 gives_past says above in_run (element tag kids rest) y h some =
     let p = idle_parts in_run tag kids rest h in
     ap (λ b. b || gives says above (rest ⊕ y))
-    (gives_one says above in_run tag kids (gives says (inside_of says tag above) kids) p.own (has-not "pPr" in_run tag p.own refl))
+    (gives_one says above in_run tag kids (gives says (summary_inside says tag above) kids) p.own (has-not "pPr" in_run tag p.own refl))
 
 -- what the next paragraph takes up after idle nodes
 abbrev taken_past : Nodes → Option Bool → Option Bool
@@ -132,7 +132,7 @@ elem_one says above in_run tag kids inner loses i =
     by_case false true = refl
     by_case false false = refl
 
-text_one : (says : List Say) (above : Summary) (in_run : Bool) (tag : Tag) → Idle in_run tag → (inside_of says tag above).shown ≡ is "t" (of_w tag.local)
+text_one : (says : List Say) (above : Summary) (in_run : Bool) (tag : Tag) → Idle in_run tag → (summary_inside says tag above).shown ≡ is "t" (of_w tag.local)
 text_one says above in_run tag i =
     ap (λ k. if is_content k && is_free (fate k (say_of says tag.rev)) then above.shown else is_text above tag) i.kind
     ∙ ap (λ d. is "t" tag || (revives above.ancestors && d)) (has-not "delText" in_run tag i refl)
@@ -140,23 +140,23 @@ text_one says above in_run tag i =
 
 module _ (says : List Say) (above : Summary) (in_run : Bool) (tag : Tag) (kids : Nodes) (i : Idle in_run tag) where
   -- given what its kids show
-  one_shows : view says (inside_of says tag above) None kids ≡ shows idle_rule (beside (inside_of says tag above).shown) kids
-      → (if is_quiet tag then [] else start_shown tag ++ (view says (inside_of says tag above) None kids ++ []))
+  one_shows : view says (summary_inside says tag above) None kids ≡ shows idle_rule (beside (summary_inside says tag above).shown) kids
+      → (if is_quiet tag then [] else start_shown tag ++ (view says (summary_inside says tag above) None kids ++ []))
       ≡ start_shown (of_w tag.local) ++ (shows idle_rule (inside_idle (beside above.shown) tag.local) kids ++ [])
   one_shows inner = by_case (is "rPr" (of_w tag.local)) refl
     where
       by_case : (q : Bool) → is "rPr" (of_w tag.local) ≡ q
-          → (if is_quiet tag then [] else start_shown tag ++ (view says (inside_of says tag above) None kids ++ []))
+          → (if is_quiet tag then [] else start_shown tag ++ (view says (summary_inside says tag above) None kids ++ []))
           ≡ start_shown (of_w tag.local) ++ (shows idle_rule (inside_idle (beside above.shown) tag.local) kids ++ [])
       by_case true e =
           let none : start_shown (of_w tag.local) ≡ [] = by_name (λ t. start_shown t ≡ []) "rPr" (of_w tag.local) e refl in
           let nothing : shows idle_rule (inside_idle (beside above.shown) tag.local) kids ≡ [] =
           quiet_shows kids (inside_idle (beside above.shown) tag.local) e (ap (λ q. not q && is "t" (of_w tag.local)) e) in
-          ap (λ q. if q then [] else start_shown tag ++ (view says (inside_of says tag above) None kids ++ [])) (quiet_same in_run tag i ∙ e)
+          ap (λ q. if q then [] else start_shown tag ++ (view says (summary_inside says tag above) None kids ++ [])) (quiet_same in_run tag i ∙ e)
           ∙ sym (ap (λ (s : List ℕ). s ++ (shows idle_rule (inside_idle (beside above.shown) tag.local) kids ++ [])) none ∙ ap (λ (s : List ℕ). s ++ []) nothing)
       by_case false e =
-          ap (λ q. if q then [] else start_shown tag ++ (view says (inside_of says tag above) None kids ++ [])) (quiet_same in_run tag i ∙ e)
-          ∙ ap (λ (s : List ℕ). s ++ (view says (inside_of says tag above) None kids ++ [])) (start_same in_run tag i)
+          ap (λ q. if q then [] else start_shown tag ++ (view says (summary_inside says tag above) None kids ++ [])) (quiet_same in_run tag i ∙ e)
+          ∙ ap (λ (s : List ℕ). s ++ (view says (summary_inside says tag above) None kids ++ [])) (start_same in_run tag i)
           ∙ ap (λ (s : List ℕ). start_shown (of_w tag.local) ++ (s ++ [])) (inner ∙ ap (λ b. shows idle_rule (beside b) kids) (text_one says above in_run tag i))
           ∙ ap (λ q. start_shown (of_w tag.local) ++ (shows idle_rule (record { quiet = q; shown = not q && is "t" (of_w tag.local) }) kids ++ [])) (sym e)
 
@@ -169,7 +169,7 @@ view_past says above taken in_run (bytes b rest) y h =
     ∙ sym (append_assoc own (shows idle_rule (beside above.shown) rest) (view says above (taken_past rest taken) y))
 view_past says above taken in_run (element tag kids rest) y h =
     let p = idle_parts in_run tag kids rest h in
-    let inside = inside_of says tag above in
+    let inside = summary_inside says tag above in
     let full = gives says inside kids in
     let text = view says inside None kids in
     let inner : text ≡ shows idle_rule (beside inside.shown) kids =

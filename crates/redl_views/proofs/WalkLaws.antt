@@ -28,7 +28,7 @@ use Rattle.redl_shown.specs.Shown.{shown}
 use Rattle.redl_views.specs.Ends.{by_fate_of, gives_one, gives_element, paragraph_follows, has_taken}
 use Rattle.redl_views.specs.Ends as ends
 use Rattle.redl_views.specs.Views.{is_freed, in_shown, element_view, view_in}
-use Rattle.redl_views.specs.Walks.{summary_of, inside_of, is_cut_para, or_next, next_of, is_paragraph, is_lost, one_gives, gives, taken_after, loses_end, is_walked, elem_view, view, item_next, item_view, item_gives, item_taken}
+use Rattle.redl_views.specs.Walks.{summary_of, summary_inside, is_cut_para, or_next, next_of, is_paragraph, is_lost, one_gives, gives, taken_after, loses_end, is_walked, elem_view, view, item_next, item_view, item_gives, item_taken}
 use Rattle.redl_views.proofs.IdleLaws.{view_idle, gives_idle, next_idle}
 use Rattle.redl_views.proofs.ViewLaws.{alike, freed_content, content_loud, p_thick}
 
@@ -46,7 +46,7 @@ text-renamed tag true = at_text (is "delText" tag) refl
     at_text true e = by_name (λ t. is "t" (record t { local = codes "t" }) ≡ true) "delText" tag e refl ∙ sym (or-true (is "t" tag))
     at_text false e = at_instr (is "delInstrText" tag) refl
 
-pub inside-summary : (says : List Say) (ancestors : List Tag) (tag : Tag) → inside_of says tag (summary_of says ancestors) ≡ summary_of says (tag ∷ ancestors)
+pub inside-summary : (says : List Say) (ancestors : List Tag) (tag : Tag) → summary_inside says tag (summary_of says ancestors) ≡ summary_of says (tag ∷ ancestors)
 inside-summary says ancestors tag =
     let text = sym (text-renamed tag (is_revived says ancestors)) in
     ap (λ b. record { ancestors = ancestors_of says (tag ∷ ancestors); shown = if is_freed says tag then in_shown says ancestors else b }) text
@@ -134,7 +134,7 @@ gives-walk says ancestors no_nodes o fit = refl
 gives-walk says ancestors (bytes b rest) o fit = gives-walk says ancestors rest o fit
 gives-walk says ancestors (element tag kids rest) o fit =
     ap (λ b. b || gives says (summary_of says ancestors) rest)
-    (one-gives says ancestors tag kids (gives says (inside_of says tag (summary_of says ancestors)) kids) (gives_element says (tag ∷ ancestors) kids)
+    (one-gives says ancestors tag kids (gives says (summary_inside says tag (summary_of says ancestors)) kids) (gives_element says (tag ∷ ancestors) kids)
     (λ f.
     let q = content_loud tag (freed_content says tag (open_fits ancestors tag o fit.0) f) in
     ap (λ s. gives says s kids) (inside-summary says ancestors tag) ∙ gives-walk says (tag ∷ ancestors) kids (open_∷ tag ancestors q ∙ o) fit.1))
@@ -160,16 +160,16 @@ walk-view says ancestors taken no_nodes o fit = refl
 walk-view says ancestors taken (bytes b rest) o fit = ap (λ ts. (if in_shown says ancestors then shown b else []) ++ ts) (walk-view says ancestors taken rest o fit)
 walk-view says ancestors taken (element tag kids rest) o fit =
     let above = summary_of says ancestors in
-    let a = gives says (inside_of says tag above) kids in
+    let a = gives says (summary_inside says tag above) kids in
     let kind = open_fits ancestors tag o fit.0 in
-    let below : inside_of says tag above ≡ summary_of says (tag ∷ ancestors) = inside-summary says ancestors tag in
+    let below : summary_inside says tag above ≡ summary_of says (tag ∷ ancestors) = inside-summary says ancestors tag in
     let opened : (is_quiet tag ≡ false → is_open (tag ∷ ancestors) ≡ true) = λ q. open_∷ tag ancestors q ∙ o in
     let same : (is_quiet tag ≡ false → a ≡ gives_element says (tag ∷ ancestors) kids) = λ q. ap (λ s. gives says s kids) below ∙ gives-walk says (tag ∷ ancestors) kids (opened q) fit.1 in
-    let inner : (is_quiet tag ≡ false → view says (inside_of says tag above) None kids ≡ view_in shown says (tag ∷ ancestors) None kids) =
+    let inner : (is_quiet tag ≡ false → view says (summary_inside says tag above) None kids ≡ view_in shown says (tag ∷ ancestors) None kids) =
     λ q. ap (λ s. view says s None kids) below ∙ walk-view says (tag ∷ ancestors) None kids (opened q) fit.1 in
     let loud : (is_freed says tag ≡ true → is_quiet tag ≡ false) = λ f. content_loud tag (freed_content says tag kind f) in
     ap (λ ts. ts ++ view says above (taken_after says above taken tag kids rest a) rest)
-    (elem-view says ancestors tag kids (view says (inside_of says tag above) None kids) (view_in shown says (tag ∷ ancestors) None kids)
+    (elem-view says ancestors tag kids (view says (summary_inside says tag above) None kids) (view_in shown says (tag ∷ ancestors) None kids)
     (loses_end says above taken tag kids rest a) (ends.loses_end says ancestors taken tag kids rest) loud inner
     (loses-end says ancestors taken tag kids rest a (λ c. same (cut_loud says above tag kids c))))
     ∙ ap (λ t. element_view says ancestors tag kids (view_in shown says (tag ∷ ancestors) None kids) (ends.loses_end says ancestors taken tag kids rest) ++ view says above t rest)
@@ -283,17 +283,17 @@ gives-more says above x left rest a own whole e o h =
 
 -- the same with the summary, the kids and the end that the code has
 pub walked-text : (says : List Say) (above : Summary) (tag : Tag) (kids : Nodes) (inside : Summary) (nodes : Nodes) (loses own : Bool) →
-    is_walked says above tag kids ≡ true → inside ≡ inside_of says tag above → nodes ≡ kids → loses ≡ own →
-    elem_view says above tag kids (view says (inside_of says tag above) None kids) loses ≡ start_shown tag ++ (view says inside None nodes ++ (if own then [] else end_shown tag))
+    is_walked says above tag kids ≡ true → inside ≡ summary_inside says tag above → nodes ≡ kids → loses ≡ own →
+    elem_view says above tag kids (view says (summary_inside says tag above) None kids) loses ≡ start_shown tag ++ (view says inside None nodes ++ (if own then [] else end_shown tag))
 walked-text says above tag kids inside nodes loses own w i n l =
-    view-walked says above tag kids (view says (inside_of says tag above) None kids) loses w
+    view-walked says above tag kids (view says (summary_inside says tag above) None kids) loses w
     ∙ ap (λ s. start_shown tag ++ (view says s None kids ++ (if loses then [] else end_shown tag))) (sym i)
     ∙ ap (λ k. start_shown tag ++ (view says inside None k ++ (if loses then [] else end_shown tag))) (sym n)
     ∙ ap (λ b. start_shown tag ++ (view says inside None nodes ++ (if b then [] else end_shown tag))) l
 
 pub loses-text : (says : List Say) (above : Summary) (taken : Option Bool) (tag : Tag) (kids rest : Nodes) (inside : Summary) (nodes : Nodes) (full own : Bool) →
-    inside ≡ inside_of says tag above → nodes ≡ kids → full ≡ gives says inside nodes → own ≡ loses_end says above taken tag kids rest full →
-    loses_end says above taken tag kids rest (gives says (inside_of says tag above) kids) ≡ own
+    inside ≡ summary_inside says tag above → nodes ≡ kids → full ≡ gives says inside nodes → own ≡ loses_end says above taken tag kids rest full →
+    loses_end says above taken tag kids rest (gives says (summary_inside says tag above) kids) ≡ own
 loses-text says above taken tag kids rest inside nodes full own i n f o =
     ap (λ s. loses_end says above taken tag kids rest (gives says s kids)) (sym i)
     ∙ ap (λ k. loses_end says above taken tag kids rest (gives says inside k)) (sym n)

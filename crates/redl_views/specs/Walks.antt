@@ -35,9 +35,9 @@ abbrev pub is_text : Summary → Tag → Bool
 is_text above tag = is "t" tag || (revives above.ancestors && is "delText" tag)
 
 -- the summary for the kids of an element
-abbrev pub inside_of : List Say → Tag → Summary → Summary
-inside_of says tag above = record {
-  ancestors = known.inside_of says tag above.ancestors;
+abbrev pub summary_inside : List Say → Tag → Summary → Summary
+summary_inside says tag above = record {
+  ancestors = known.decided_inside says tag above.ancestors;
   shown = if is_freed says tag then above.shown else is_text above tag;
 }
 
@@ -87,7 +87,7 @@ abbrev pub gives : List Say → Summary → Nodes → Bool
 gives says above no_nodes = false
 gives says above (bytes b rest) = gives says above rest
 gives says above (element tag kids rest) =
-    one_gives says above tag kids (gives says (inside_of says tag above) kids) || gives says above rest
+    one_gives says above tag kids (gives says (summary_inside says tag above) kids) || gives says above rest
 
 -- what the next paragraph takes up after an element whose kids give an element or not (`full`)
 abbrev pub taken_after : List Say → Summary → Option Bool → Tag → Nodes → Nodes → Bool → Option Bool
@@ -116,9 +116,9 @@ abbrev pub view : List Say → Summary → Option Bool → Nodes → List ℕ
 view says above taken no_nodes = []
 view says above taken (bytes b rest) = (if above.shown then shown b else []) ++ view says above taken rest
 view says above taken (element tag kids rest) =
-    elem_view says above tag kids (view says (inside_of says tag above) None kids)
-    (loses_end says above taken tag kids rest (gives says (inside_of says tag above) kids))
-    ++ view says above (taken_after says above taken tag kids rest (gives says (inside_of says tag above) kids)) rest
+    elem_view says above tag kids (view says (summary_inside says tag above) None kids)
+    (loses_end says above taken tag kids rest (gives says (summary_inside says tag above) kids))
+    ++ view says above (taken_after says above taken tag kids rest (gives says (summary_inside says tag above) kids)) rest
 
 -- ---- one node of a list, which these follow
 
@@ -126,21 +126,21 @@ view says above taken (element tag kids rest) =
 abbrev pub item_view : List Say → Summary → Option Bool → Item → Nodes → List ℕ
 item_view says above taken (bytes_item b) rest = if above.shown then shown b else []
 item_view says above taken (element_item tag kids) rest =
-    elem_view says above tag kids (view says (inside_of says tag above) None kids)
-    (loses_end says above taken tag kids rest (gives says (inside_of says tag above) kids))
+    elem_view says above tag kids (view says (summary_inside says tag above) None kids)
+    (loses_end says above taken tag kids rest (gives says (summary_inside says tag above) kids))
 item_view says above taken (idle_item t) rest = idle_shown above.shown (idle_nodes t)
 
 -- whether it gives an element
 abbrev pub item_gives : List Say → Summary → Item → Bool
 item_gives says above (bytes_item b) = false
-item_gives says above (element_item tag kids) = one_gives says above tag kids (gives says (inside_of says tag above) kids)
+item_gives says above (element_item tag kids) = one_gives says above tag kids (gives says (summary_inside says tag above) kids)
 item_gives says above (idle_item t) = true
 
 -- what the next paragraph takes up after it
 abbrev pub item_taken : List Say → Summary → Option Bool → Item → Nodes → Option Bool
 item_taken says above taken (bytes_item b) rest = taken
 item_taken says above taken (element_item tag kids) rest =
-    taken_after says above taken tag kids rest (gives says (inside_of says tag above) kids)
+    taken_after says above taken tag kids rest (gives says (summary_inside says tag above) kids)
 item_taken says above taken (idle_item t) rest = option_map (λ b. b || true) taken
 
 -- a story, where it is the main one

@@ -13,7 +13,7 @@ ghost use Rattle.redl_tree.specs.Model.View.{nodes_of, item_of, tag_of, kids_of}
 ghost use Rattle.redl_views.specs.Idle.{idle_shown};
 ghost use Rattle.redl_views.specs.PlainText.{start_shown as start_shown_by, end_shown as end_shown_by};
 ghost use Rattle.redl_shown.specs.Shown.{shown};
-ghost use Rattle.redl_views.specs.Walks.{view, gives, item_view, item_gives, item_taken, elem_view, inside_of, one_gives as one_gives_by, taken_after as taken_after_by, loses_end as loses_end_by, is_lost as is_lost_by, is_walked as is_walked_by};
+ghost use Rattle.redl_views.specs.Walks.{view, gives, item_view, item_gives, item_taken, elem_view, summary_inside, one_gives as one_gives_by, taken_after as taken_after_by, loses_end as loses_end_by, is_lost as is_lost_by, is_walked as is_walked_by};
 
 use crate::idle::put_idle;
 use crate::next::{Next, next_of};
@@ -125,10 +125,10 @@ fn view_elem<K: Sink>(
     out: &mut K,
 ) -> Result<Step, Failed>
     ensures puts { Puts K.told K.faults K.settled K.lenders out.old out.new
-        (elem_view says.now above (tag_of elem.now) (kids_of elem.now) (view says.now (inside_of says.now (tag_of elem.now) above) None (kids_of elem.now))
-        (loses_end_by says.now above taken (tag_of elem.now) (kids_of elem.now) (nodes_of rest.now) (gives says.now (inside_of says.now (tag_of elem.now) above) (kids_of elem.now)))) result }
-    ensures gives { IfOk result (λ step. step.gives ≡ one_gives_by says.now above (tag_of elem.now) (kids_of elem.now) (gives says.now (inside_of says.now (tag_of elem.now) above) (kids_of elem.now))) }
-    ensures taken { IfOk result (λ step. step.taken ≡ taken_after_by says.now above taken (tag_of elem.now) (kids_of elem.now) (nodes_of rest.now) (gives says.now (inside_of says.now (tag_of elem.now) above) (kids_of elem.now))) }
+        (elem_view says.now above (tag_of elem.now) (kids_of elem.now) (view says.now (summary_inside says.now (tag_of elem.now) above) None (kids_of elem.now))
+        (loses_end_by says.now above taken (tag_of elem.now) (kids_of elem.now) (nodes_of rest.now) (gives says.now (summary_inside says.now (tag_of elem.now) above) (kids_of elem.now)))) result }
+    ensures gives { IfOk result (λ step. step.gives ≡ one_gives_by says.now above (tag_of elem.now) (kids_of elem.now) (gives says.now (summary_inside says.now (tag_of elem.now) above) (kids_of elem.now))) }
+    ensures taken { IfOk result (λ step. step.taken ≡ taken_after_by says.now above taken (tag_of elem.now) (kids_of elem.now) (nodes_of rest.now) (gives says.now (summary_inside says.now (tag_of elem.now) above) (kids_of elem.now))) }
 {
     if is_freed(says, elem) {
         let full = view_nodes(elem.kids(), says, inside(says, elem, above), out)?;

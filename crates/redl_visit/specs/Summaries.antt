@@ -2,7 +2,7 @@
 use Rattle.std.specs.Prelude.{List, ◌||◌}
 use Rattle.redl_tree.specs.Model.Nodes.{Tag}
 use Rattle.redl_tree.specs.Roles.Places.{is_quiet}
-use Rattle.redl_tree.specs.Roles.Arounds.{around_of, inside_of}
+use Rattle.redl_tree.specs.Roles.Arounds.{around_of, around_inside}
 use Rattle.redl_tree.specs.Roles.Lists.{place}
 use Rattle.redl_tree.specs.Roles.Sites.{place_below}
 use Rattle.redl_visit.specs.declared.ancestors.Ancestors.{Ancestors}
@@ -14,6 +14,6 @@ ancestors_of tags = record { around = around_of tags; place = place tags }
 -- the same with this one as the nearest
 abbrev pub ancestors_inside : Tag → Ancestors → Ancestors
 ancestors_inside tag here = record {
-  around = inside_of tag here.around;
+  around = around_inside tag here.around;
   place = place_below tag (is_quiet tag || here.around.quiet) here.place;
 }

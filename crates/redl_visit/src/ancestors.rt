@@ -3,7 +3,7 @@
 ghost use Rattle.std.specs.Prelude.{◌≡◌, []};
 ghost use Rattle.redl_tree.specs.Model.Nodes.{Tag};
 ghost use Rattle.redl_tree.specs.Model.View.{tag_of};
-ghost use Rattle.redl_tree.specs.Roles.Arounds.{inside_of};
+ghost use Rattle.redl_tree.specs.Roles.Arounds.{around_inside};
 ghost use Rattle.redl_visit.specs.Summaries.{ancestors_of, ancestors_inside};
 ghost use Rattle.redl_visit.specs.Visits.{inner_of};
 
@@ -67,7 +67,7 @@ impl<'a> Summary<Elem<'a>> for Ancestors {
 }
 
 impl<'a> Summary<Elem<'a>> for Around {
-    ghost inside = { inside_of };
+    ghost inside = { around_inside };
 
     #[inline(always)]
     fn inner(self, elem: &Elem<'a>) -> Option<Around> {

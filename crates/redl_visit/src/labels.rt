@@ -3,7 +3,7 @@
 ghost use Rattle.std.specs.Prelude.{◌≡◌};
 ghost use Rattle.redl_tree.specs.Model.View.{nodes_of, item_of, tag_of, kids_of, held_of, spaced_of};
 ghost use Rattle.redl_tree.specs.Model.IdleTexts.{idle_nodes};
-ghost use Rattle.redl_tree.specs.Roles.Arounds.{inside_of};
+ghost use Rattle.redl_tree.specs.Roles.Arounds.{around_inside};
 ghost use Rattle.redl_visit.specs.Visits.{inner_of, visited, visited_element, visited_item, Needs, NeedsElement, NeedsItem};
 ghost use Rattle.redl_visit.specs.Labelling.{LabelRule, LabelNeeds, LeavesIdle, visit_of, needs_of, with_label, relabelled, relabelled_kids, relabelled_item};
 
@@ -51,7 +51,7 @@ pub trait Labeller {
         inner: &Option<Around>,
         own: Self::Own,
     ) -> (Self::Own, Label)
-        requires inner { inner.now ≡ inner_of inside_of (tag_of elem.now) (kids_of elem.now) here }
+        requires inner { inner.now ≡ inner_of around_inside (tag_of elem.now) (kids_of elem.now) here }
         requires needs { (Self.needs).Enter here own (tag_of elem.now) (kids_of elem.now) (Self.state self.old) }
         ensures below { result.0 ≡ (Self.rule).below here own (tag_of elem.now) (kids_of elem.now) (Self.state self.old) }
         ensures label { result.1 ≡ (Self.rule).label here own (tag_of elem.now) (kids_of elem.now) (Self.state self.old) }
@@ -64,17 +64,17 @@ pub trait Labeller {
 
     /// Passes over idle elements among the kids of an element, and over all below them.
     fn pass(&mut self, plain: &Plain, here: Around, own: Self::Own)
-        requires needs { Needs inside_of (visit_of Self.rule) (needs_of Self.needs) here own (idle_nodes plain.now) (Self.state self.old) }
-        ensures state { Self.state self.new ≡ visited inside_of (visit_of Self.rule) here own (idle_nodes plain.now) (Self.state self.old) };
+        requires needs { Needs around_inside (visit_of Self.rule) (needs_of Self.needs) here own (idle_nodes plain.now) (Self.state self.old) }
+        ensures state { Self.state self.new ≡ visited around_inside (visit_of Self.rule) here own (idle_nodes plain.now) (Self.state self.old) };
 }
 
 /// Sets the labels of all elements below this one. `inner` sums up the ancestors of its kids, and `below` is handed down to them.
 #[cycle(labels)]
 pub fn label_kids<L: Labeller>(elem: &mut Elem, inner: Around, below: L::Own, labeller: &mut L)
-    requires needs { Needs inside_of (visit_of L.rule) (needs_of L.needs) inner below (kids_of elem.old) (L.state labeller.old) }
+    requires needs { Needs around_inside (visit_of L.rule) (needs_of L.needs) inner below (kids_of elem.old) (L.state labeller.old) }
     ensures tag { tag_of elem.new ≡ tag_of elem.old }
-    ensures kids { kids_of elem.new ≡ relabelled inside_of L.rule inner below (kids_of elem.old) (L.state labeller.old) }
-    ensures state { L.state labeller.new ≡ visited inside_of (visit_of L.rule) inner below (kids_of elem.old) (L.state labeller.old) }
+    ensures kids { kids_of elem.new ≡ relabelled around_inside L.rule inner below (kids_of elem.old) (L.state labeller.old) }
+    ensures state { L.state labeller.new ≡ visited around_inside (visit_of L.rule) inner below (kids_of elem.old) (L.state labeller.old) }
 {
     label_body(&mut elem.body, inner, below, labeller);
 }
@@ -82,10 +82,10 @@ pub fn label_kids<L: Labeller>(elem: &mut Elem, inner: Around, below: L::Own, la
 // Sets the labels of all elements in the body of an element.
 #[cycle(labels)]
 fn label_body<L: Labeller>(body: &mut Body, here: Around, own: L::Own, labeller: &mut L)
-    requires needs { Needs inside_of (visit_of L.rule) (needs_of L.needs) here own (held_of body.old).kids (L.state labeller.old) }
+    requires needs { Needs around_inside (visit_of L.rule) (needs_of L.needs) here own (held_of body.old).kids (L.state labeller.old) }
     ensures close { (held_of body.new).close ≡ (held_of body.old).close }
-    ensures kids { (held_of body.new).kids ≡ relabelled inside_of L.rule here own (held_of body.old).kids (L.state labeller.old) }
-    ensures state { L.state labeller.new ≡ visited inside_of (visit_of L.rule) here own (held_of body.old).kids (L.state labeller.old) }
+    ensures kids { (held_of body.new).kids ≡ relabelled around_inside L.rule here own (held_of body.old).kids (L.state labeller.old) }
+    ensures state { L.state labeller.new ≡ visited around_inside (visit_of L.rule) here own (held_of body.old).kids (L.state labeller.old) }
 {
     match body {
         Body::Empty => {}
@@ -97,10 +97,10 @@ fn label_body<L: Labeller>(body: &mut Body, here: Around, own: L::Own, labeller:
 // The same for a body in a box. Apart from `label_body`, since a write through a box in a variant is proved in two steps.
 #[cycle(labels)]
 fn label_spaced<L: Labeller>(spaced: &mut Box<Spaced>, here: Around, own: L::Own, labeller: &mut L)
-    requires needs { Needs inside_of (visit_of L.rule) (needs_of L.needs) here own (spaced_of spaced.old.value).kids (L.state labeller.old) }
+    requires needs { Needs around_inside (visit_of L.rule) (needs_of L.needs) here own (spaced_of spaced.old.value).kids (L.state labeller.old) }
     ensures close { (spaced_of spaced.new.value).close ≡ (spaced_of spaced.old.value).close }
-    ensures kids { (spaced_of spaced.new.value).kids ≡ relabelled inside_of L.rule here own (spaced_of spaced.old.value).kids (L.state labeller.old) }
-    ensures state { L.state labeller.new ≡ visited inside_of (visit_of L.rule) here own (spaced_of spaced.old.value).kids (L.state labeller.old) }
+    ensures kids { (spaced_of spaced.new.value).kids ≡ relabelled around_inside L.rule here own (spaced_of spaced.old.value).kids (L.state labeller.old) }
+    ensures state { L.state labeller.new ≡ visited around_inside (visit_of L.rule) here own (spaced_of spaced.old.value).kids (L.state labeller.old) }
 {
     label_nodes(&mut spaced.kids, here, own, labeller);
 }
@@ -108,9 +108,9 @@ fn label_spaced<L: Labeller>(spaced: &mut Box<Spaced>, here: Around, own: L::Own
 // Sets the labels of all elements among nodes, and below them.
 #[cycle(labels)]
 fn label_nodes<L: Labeller>(nodes: &mut [Node], here: Around, own: L::Own, labeller: &mut L)
-    requires needs { Needs inside_of (visit_of L.rule) (needs_of L.needs) here own (nodes_of nodes.old) (L.state labeller.old) }
-    ensures nodes { nodes_of nodes.new ≡ relabelled inside_of L.rule here own (nodes_of nodes.old) (L.state labeller.old) }
-    ensures state { L.state labeller.new ≡ visited inside_of (visit_of L.rule) here own (nodes_of nodes.old) (L.state labeller.old) }
+    requires needs { Needs around_inside (visit_of L.rule) (needs_of L.needs) here own (nodes_of nodes.old) (L.state labeller.old) }
+    ensures nodes { nodes_of nodes.new ≡ relabelled around_inside L.rule here own (nodes_of nodes.old) (L.state labeller.old) }
+    ensures state { L.state labeller.new ≡ visited around_inside (visit_of L.rule) here own (nodes_of nodes.old) (L.state labeller.old) }
 {
     for i in 0..nodes.len() {
         label_node(&mut nodes[i], here, own, labeller);
@@ -120,9 +120,9 @@ fn label_nodes<L: Labeller>(nodes: &mut [Node], here: Around, own: L::Own, label
 // Sets the labels of the element that a node is, and of all elements below it.
 #[cycle(labels)]
 fn label_node<L: Labeller>(node: &mut Node, here: Around, own: L::Own, labeller: &mut L)
-    requires needs { NeedsItem inside_of (visit_of L.rule) (needs_of L.needs) here own (item_of node.old) (L.state labeller.old) }
-    ensures node { item_of node.new ≡ relabelled_item inside_of L.rule here own (item_of node.old) (L.state labeller.old) }
-    ensures state { L.state labeller.new ≡ visited_item inside_of (visit_of L.rule) here own (item_of node.old) (L.state labeller.old) }
+    requires needs { NeedsItem around_inside (visit_of L.rule) (needs_of L.needs) here own (item_of node.old) (L.state labeller.old) }
+    ensures node { item_of node.new ≡ relabelled_item around_inside L.rule here own (item_of node.old) (L.state labeller.old) }
+    ensures state { L.state labeller.new ≡ visited_item around_inside (visit_of L.rule) here own (item_of node.old) (L.state labeller.old) }
 {
     match node {
         Node::Elem(elem) => label_elem(elem, here, own, labeller),
@@ -135,10 +135,10 @@ fn label_node<L: Labeller>(node: &mut Node, here: Around, own: L::Own, labeller:
 // down to it.
 #[cycle(labels)]
 fn label_elem<L: Labeller>(elem: &mut Elem, here: Around, own: L::Own, labeller: &mut L)
-    requires needs { NeedsElement inside_of (visit_of L.rule) (needs_of L.needs) here own (tag_of elem.old) (kids_of elem.old) (L.state labeller.old) }
+    requires needs { NeedsElement around_inside (visit_of L.rule) (needs_of L.needs) here own (tag_of elem.old) (kids_of elem.old) (L.state labeller.old) }
     ensures tag { tag_of elem.new ≡ with_label ((L.rule).label here own (tag_of elem.old) (kids_of elem.old) (L.state labeller.old)) (tag_of elem.old) }
-    ensures kids { kids_of elem.new ≡ relabelled_kids inside_of L.rule here own (tag_of elem.old) (kids_of elem.old) (L.state labeller.old) }
-    ensures state { L.state labeller.new ≡ visited_element inside_of (visit_of L.rule) here own (tag_of elem.old) (kids_of elem.old) (L.state labeller.old) }
+    ensures kids { kids_of elem.new ≡ relabelled_kids around_inside L.rule here own (tag_of elem.old) (kids_of elem.old) (L.state labeller.old) }
+    ensures state { L.state labeller.new ≡ visited_element around_inside (visit_of L.rule) here own (tag_of elem.old) (kids_of elem.old) (L.state labeller.old) }
 {
     let inner = here.inner(elem);
     let (below, label) = labeller.enter(elem, here, &inner, own);
@@ -158,11 +158,11 @@ fn label_inner<L: Labeller>(
     below: L::Own,
     labeller: &mut L,
 )
-    requires inner { inner ≡ inner_of inside_of (tag_of elem.old) (kids_of elem.old) here }
-    requires needs { Needs inside_of (visit_of L.rule) (needs_of L.needs) (inside_of (tag_of elem.old) here) below (kids_of elem.old) (L.state labeller.old) }
+    requires inner { inner ≡ inner_of around_inside (tag_of elem.old) (kids_of elem.old) here }
+    requires needs { Needs around_inside (visit_of L.rule) (needs_of L.needs) (around_inside (tag_of elem.old) here) below (kids_of elem.old) (L.state labeller.old) }
     ensures tag { tag_of elem.new ≡ tag_of elem.old }
-    ensures kids { kids_of elem.new ≡ relabelled inside_of L.rule (inside_of (tag_of elem.old) here) below (kids_of elem.old) (L.state labeller.old) }
-    ensures state { L.state labeller.new ≡ visited inside_of (visit_of L.rule) (inside_of (tag_of elem.old) here) below (kids_of elem.old) (L.state labeller.old) }
+    ensures kids { kids_of elem.new ≡ relabelled around_inside L.rule (around_inside (tag_of elem.old) here) below (kids_of elem.old) (L.state labeller.old) }
+    ensures state { L.state labeller.new ≡ visited around_inside (visit_of L.rule) (around_inside (tag_of elem.old) here) below (kids_of elem.old) (L.state labeller.old) }
 {
     match inner {
         Some(inner) => label_kids(elem, inner, below, labeller),

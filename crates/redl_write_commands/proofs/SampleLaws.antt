@@ -20,7 +20,7 @@ use Rattle.redl_sample.specs.Journals.{sample_journal}
 use Rattle.redl_sample.specs.Packages.{package_text}
 use Rattle.redl_sample.specs.Summaries.{summary_text}
 use Rattle.redl_session.proofs.Admissions.{after-union}
-use Rattle.redl_session.specs.Sessions.{State, after}
+use Rattle.redl_session.specs.Sessions.{SessionState, after}
 use Rattle.redl_tree.specs.Model.Nodes.{Nodes}
 
 -- the entries of the first reviewers
@@ -34,12 +34,12 @@ entries_more number count =
     ∙ ap (λ (es : List Entry). first_entries number count ++ es) (append-nil (sample_journal number count).entries)
 
 -- the summary of a session after the reviewers' entries, one after another
-pub summarized_after : (number : ℕ) (whole : List ℕ) (nodes : Nodes) (begun state : State)
+pub summarized_after : (number : ℕ) (whole : List ℕ) (nodes : Nodes) (begun state : SessionState)
     → begun ≡ record { nodes = numbered_package nodes; revisions = revisions_of nodes; locks = []; book = [] } → state ≡ after begun (reviewers_entries number)
     → only_bytes (summary_text (summary_of number state)) ≡ summarized number (no_admission whole nodes [])
 summarized_after number whole nodes begun state is admitted =
-    ap (λ (s : State). only_bytes (summary_text (summary_of number s)))
-    (admitted ∙ ap (λ (s : State). after s (reviewers_entries number)) is ∙ after-union (no_admission whole nodes []).state (reviewers_entries number))
+    ap (λ (s : SessionState). only_bytes (summary_text (summary_of number s)))
+    (admitted ∙ ap (λ (s : SessionState). after s (reviewers_entries number)) is ∙ after-union (no_admission whole nodes []).state (reviewers_entries number))
 
 -- what is due of a sample within the limit
 pub sampled_within : (number : ℕ) (made : Result Writing Failure) → number ≤ sample_paragraphs

@@ -315,8 +315,8 @@ fn text_under<'a>(alloc: Global, book: &Book, bytes: &[u8]) -> Result<Vec<u8>, F
 fn pass_text(alloc: Global, pkg: Surveyed, book: &Book, room: usize) -> Result<Vec<u8>, AllocError>
     ensures { IfOk result (λ bytes. bytes.items ≡ passed_text (says_of book.now (package_revisions pkg.entry)) pkg.entry) }
 {
-    let Counted { package, count } = pkg.into_counted();
+    let Counted { pkg, count } = pkg.into_counted();
     let says = book_says(alloc, book, count)?;
-    let nodes = pass_nodes(alloc, package, &says)?;
+    let nodes = pass_nodes(alloc, pkg, &says)?;
     text_of(alloc, &nodes, room)
 }

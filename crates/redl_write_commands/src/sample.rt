@@ -60,7 +60,7 @@ fn begin(alloc: Global, pkg: Surveyed) -> Result<LiveSession, AllocError>
 {
     let numbered = pkg.into_numbered(alloc)?;
     let no_locks = Locks::new(Vec::new(alloc));
-    LiveSession::start(alloc, numbered.package, numbered.index, no_locks)
+    LiveSession::start(alloc, numbered.pkg, numbered.index, no_locks)
 }
 
 // Admits the entries of the reviewers' journals. The document follows each entry.

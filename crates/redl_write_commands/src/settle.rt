@@ -37,6 +37,6 @@ fn settle_under(alloc: Global, say: Say, pkg: Surveyed) -> Result<Writing, Alloc
 {
     let counted = pkg.into_counted();
     let says = vec![in alloc; say; counted.count as usize]?;
-    let nodes = pass_nodes(alloc, counted.package, &says)?;
+    let nodes = pass_nodes(alloc, counted.pkg, &says)?;
     Ok(Writing::only(alloc, Output::Package(nodes)))
 }

@@ -6,7 +6,7 @@ use Rattle.redl_tree.specs.Model.View.{Element}
 use Rattle.redl_tree.specs.Decisions.Pass.{pass}
 use Rattle.redl_tree.specs.Decisions.Packages.{is_root, is_story_root, is_plain, roots_are_plain, stories_in, stories, element_stories, pass_rule, changed_package, pass_package, StoryRule, left_after, changed_in}
 use Rattle.redl_tree.specs.Revisions.Markers.{Value}
-use Rattle.redl_tree.specs.Revisions.Numbers.{number_rule, numbered_package, IsIndexed}
+use Rattle.redl_tree.specs.Revisions.Numbers.{number_rule, numbered_package_by, IsIndexed}
 use Rattle.redl_tree.specs.Revisions.Labels.{unlabelled_tag, unlabelled}
 use Rattle.redl_tree.specs.Leaves.Containers.{opens, opens_outer}
 use Rattle.redl_tree.specs.Leaves.Slots.{slots_in}
@@ -118,5 +118,5 @@ roots-unlabelled ancestors (element tag kids rest) e =
     at false here below = below
 
 -- So a package that was read, and then numbered, has plain roots.
-pub roots-numbered : (value : Value) (nodes : Nodes) → unlabelled nodes ≡ nodes → roots_are_plain [] (numbered_package value nodes) ≡ true
+pub roots-numbered : (value : Value) (nodes : Nodes) → unlabelled nodes ≡ nodes → roots_are_plain [] (numbered_package_by value nodes) ≡ true
 roots-numbered value nodes bare = roots-changed (number_rule value) 1 [] nodes ∙ roots-unlabelled [] nodes bare

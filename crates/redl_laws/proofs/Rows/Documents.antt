@@ -5,7 +5,7 @@ use Rattle.redl_tree.specs.Model.Nodes.{Tag, Nodes, no_nodes, bytes, element, �
 use Rattle.redl_tree.specs.Model.View.{Element}
 use Rattle.redl_tree.specs.Model.Text.{text}
 use Rattle.redl_tree.specs.Decisions.Packages.{pass_package}
-use Rattle.redl_tree.specs.Revisions.Numbers.{numbered_package, package_revisions}
+use Rattle.redl_tree.specs.Revisions.Numbers.{numbered_package_by, package_revisions_by}
 use Rattle.redl_tree.specs.Rules.Sound.{tests, broken}
 use Rattle.redl_tree.specs.Decisions.Survivors.{text_pieces, survivors}
 use Rattle.redl_tree.specs.declared.kinds.Say.{Say}
@@ -63,10 +63,10 @@ abbrev pub body_of : Nodes → Nodes
 body_of nodes = below (below (below (below (below nodes))))
 
 abbrev pub indexed : Nodes → Nodes
-indexed body = numbered_package value (package_of body)
+indexed body = numbered_package_by value (package_of body)
 
 abbrev pub revision_numbers : Nodes → ℕ
-revision_numbers body = package_revisions value (package_of body)
+revision_numbers body = package_revisions_by value (package_of body)
 
 abbrev pub written : List Say → Nodes → List ℕ
 written says body = text (body_of (pass_package says (indexed body)))

@@ -4,7 +4,7 @@ use Rattle.redl_tree.specs.Model.Nodes.{Nodes, no_nodes, ◌⊕◌}
 use Rattle.redl_tree.specs.Model.Text.{text}
 use Rattle.redl_tree.specs.Decisions.Restored.{restored}
 use Rattle.redl_tree.specs.Decisions.Packages.{pass_package}
-use Rattle.redl_tree.specs.Revisions.Numbers.{numbered_package, package_revisions}
+use Rattle.redl_tree.specs.Revisions.Numbers.{numbered_package_by, package_revisions_by}
 use Rattle.redl_laws.proofs.Rows.Tails.{value}
 use Rattle.redl_laws.proofs.Rows.Documents.{w, e, wa, ea, s, pkg, attr_A, attr_B, settled, written, revision_numbers, broken_rule}
 use Rattle.redl_tree.specs.declared.kinds.Say.TheVariants.{Keep, Accept, Reject}
@@ -193,11 +193,11 @@ two_stories =
     ⊕ s " " ⊕ pkg "part" "" (pkg "xmlData" "" (w "styles" inserted))
     ⊕ pkg "part" "" (pkg "xmlData" "" (w "footnotes" (w "footnote" inserted ⊕ w "footnote" inserted))))
 
-pub two_stories_revisions : package_revisions value two_stories ≡ 3
+pub two_stories_revisions : package_revisions_by value two_stories ≡ 3
 two_stories_revisions = refl
 
 pub two_stories_written :
-    text (pass_package (Reject ∷ Accept ∷ Reject ∷ []) (numbered_package value two_stories))
+    text (pass_package (Reject ∷ Accept ∷ Reject ∷ []) (numbered_package_by value two_stories))
     ≡ text (pkg "package" "" (pkg "part" "" (pkg "xmlData" "" (w "document" (w "body" (w "p" no_nodes))))
     ⊕ s " " ⊕ pkg "part" "" (pkg "xmlData" "" (w "styles" inserted))
     ⊕ pkg "part" "" (pkg "xmlData" "" (w "footnotes" (w "footnote" (w "p" (w "r" no_nodes)) ⊕ w "footnote" (w "p" no_nodes))))))

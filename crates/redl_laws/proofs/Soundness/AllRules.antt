@@ -12,7 +12,7 @@ use Rattle.redl_tree.specs.Decisions.Tables.{goes_at}
 use Rattle.redl_tree.specs.Decisions.Pass.{pass}
 use Rattle.redl_tree.specs.Decisions.Packages.{is_story_root, stories, pass_package}
 use Rattle.redl_tree.specs.Revisions.Markers.{Value}
-use Rattle.redl_tree.specs.Revisions.Numbers.{IsIndexed, numbered_package}
+use Rattle.redl_tree.specs.Revisions.Numbers.{IsIndexed, numbered_package_by}
 use Rattle.redl_tree.specs.Rules.Tests.{Test, everywhere}
 use Rattle.redl_tree.specs.Rules.Sound.{in_content, among_blocks, holds, tests, is_sound, test_1, test_2, test_3, test_4, test_5, test_6, test_7, test_8, test_9}
 use Rattle.redl_tree.specs.declared.kinds.Say.{Say}
@@ -237,7 +237,7 @@ pub record IsSoundPackage (value : Value) (has_id declares : List ℕ → Bool) 
 
 -- a sound package that is numbered is sound and indexed
 pub numbered_sound : (value : Value) (has_id declares : List ℕ → Bool) (nodes : Nodes) → is_sound (tests has_id declares) nodes ≡ true →
-    IsSoundPackage value has_id declares (numbered_package value nodes)
+    IsSoundPackage value has_id declares (numbered_package_by value nodes)
 numbered_sound value has_id declares nodes e = record {
   indexed = numbered-indexed value nodes;
   sound = sound-numbered value has_id declares nodes ∙ e;

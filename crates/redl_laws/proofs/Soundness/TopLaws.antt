@@ -11,7 +11,7 @@ use Rattle.redl_tree.specs.Roles.Lists.{is_direct}
 use Rattle.redl_tree.specs.Roles.Kinds.{is_content}
 use Rattle.redl_tree.specs.Decisions.Fates.{fate_of, renamed}
 use Rattle.redl_tree.specs.Decisions.Tables.{goes_at}
-use Rattle.redl_tree.specs.Decisions.Groups.{Piece, para, thin, thick, has_thick, joins, ended, joined_tag, joined_kids, settled, given, held_by, grouped_from}
+use Rattle.redl_tree.specs.Decisions.Groups.{Piece, para, thin, thick, has_thick, joins, ended, joined_tag, joined_kids, unjoined_para, given, held_by, grouped_from}
 use Rattle.redl_tree.specs.Decisions.Pass.{by_fate, kept_kids, element_pass, pieces, pass}
 use Rattle.redl_tree.specs.Rules.Tests.{Test, implies, once, only_first, only_last}
 use Rattle.redl_tree.specs.Rules.Sound.{in_content}
@@ -301,7 +301,7 @@ like_joined : (held : Option Nodes) (tag : Tag) → Like tag (joined_tag held ta
 like_joined None tag = like_self tag
 like_joined (Some held) tag = like_close tag tag (like_self tag) (ended tag.close)
 
-sub_settled : (n : Tag → Bool) (ends : Bool) (a b : Tag) (ka kb : Nodes) → Like a b → Sub n (element a ka no_nodes) (settled ends b kb)
+sub_settled : (n : Tag → Bool) (ends : Bool) (a b : Tag) (ka kb : Nodes) → Like a b → Sub n (element a ka no_nodes) (unjoined_para ends b kb)
 sub_settled n ends a b ka kb l = at (has_element (without (is "pPr") kb)) refl ends
   where
     at : (e : Bool) → has_element (without (is "pPr") kb) ≡ e → (x : Bool) → Sub n (element a ka no_nodes) (if x && not e then without (is "pPr") kb else element b kb no_nodes)

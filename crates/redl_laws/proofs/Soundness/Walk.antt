@@ -11,7 +11,7 @@ use Rattle.redl_tree.specs.Roles.Kinds.{is_content, is_change, is_restore}
 use Rattle.redl_tree.specs.Decisions.Fates.{fate_of, renamed}
 use Rattle.redl_tree.specs.Decisions.Restored.{Rejected, rejected, rejected_as, after_change, present, restored, former_kids, is_uncovered}
 use Rattle.redl_tree.specs.Decisions.Tables.{goes_at, para_is_cut}
-use Rattle.redl_tree.specs.Decisions.Groups.{Piece, para, thin, thick, has_thick, joins as joins_piece, taken, ended, joined_tag, joined_kids, settled, given, held_by, grouped_from}
+use Rattle.redl_tree.specs.Decisions.Groups.{Piece, para, thin, thick, has_thick, joins as joins_piece, taken, ended, joined_tag, joined_kids, unjoined_para, given, held_by, grouped_from}
 use Rattle.redl_tree.specs.Decisions.Pass.{by_fate, kept_kids, element_pass, is_block_para, pieces, pass}
 use Rattle.redl_tree.specs.Rules.Tests.{Test, everywhere}
 use Rattle.redl_tree.specs.Rules.Sound.{test_1, test_2, test_4, test_5, test_6, test_8, below_change}
@@ -435,7 +435,7 @@ held_good test new (thin nodes) (Some held) joining g h = taken_good test new (S
 held_good test new (thick nodes) held joining g h = tt
 
 settled_good : (test : Test) (new : List Tag) (ends : Bool) (tag : Tag) (kids : Nodes) → everywhere test (tag ∷ new) kids ≡ true → test new tag kids ≡ true →
-    everywhere test new (settled ends tag kids) ≡ true
+    everywhere test new (unjoined_para ends tag kids) ≡ true
 settled_good test new ends tag kids all own = at (has_element (without (is "pPr") kids)) refl ends
   where
     at : (b : Bool) → has_element (without (is "pPr") kids) ≡ b → (a : Bool) → everywhere test new (if a && not b then without (is "pPr") kids else element tag kids no_nodes) ≡ true
@@ -445,7 +445,7 @@ settled_good test new ends tag kids all own = at (has_element (without (is "pPr"
     at false e false = everywhere-one test new tag kids own all
 
 joined_good : (test : Test) → Joins test → (new : List Tag) (ends : Bool) (held : Option Nodes) (tag : Tag) (kids : Nodes) → GoodPiece test new (para tag ends kids) → GoodHeld test new held →
-    everywhere test new (settled ends (joined_tag held tag) (joined_kids held kids)) ≡ true
+    everywhere test new (unjoined_para ends (joined_tag held tag) (joined_kids held kids)) ≡ true
 joined_good test j new ends None tag kids g h = settled_good test new ends tag kids (g.1 tag g.0) g.2
 joined_good test j new ends (Some held) tag kids g h =
     let b = record tag { close = ended tag.close } in

@@ -14,7 +14,7 @@ use Rattle.redl_tree.specs.Roles.Kinds.{is_content, is_cut, is_drop}
 use Rattle.redl_tree.specs.Decisions.Fates.{fate, fate_of, say_of, trace_fate, renamed, live_name, is_revived}
 use Rattle.redl_tree.specs.Decisions.Restored.{rejected, after_change}
 use Rattle.redl_tree.specs.Decisions.Tables.{goes_at, para_is_cut}
-use Rattle.redl_tree.specs.Decisions.Groups.{Piece, para, thin, thick, has_thick, joins, taken, joined_tag, joined_kids, settled, given, held_by, grouped_from}
+use Rattle.redl_tree.specs.Decisions.Groups.{Piece, para, thin, thick, has_thick, joins, taken, joined_tag, joined_kids, unjoined_para, given, held_by, grouped_from}
 use Rattle.redl_tree.specs.Decisions.Pass.{by_fate, kept_kids, element_pass, is_block_para, piece, pieces, pass}
 use Rattle.redl_tree.specs.Decisions.Survivors.{Stretch, stretches_in, is_gone, any_gone, text_pieces, survivors}
 use Rattle.redl_tree.specs.declared.kinds.Trace.{Trace}
@@ -94,7 +94,7 @@ abbrev held_texts : Option Nodes → List (List ℕ)
 held_texts None = []
 held_texts (Some held) = texts held
 
-texts-settled : (ends : Bool) (tag : Tag) (kids : Nodes) → is_quiet tag ≡ false → texts (settled ends tag kids) ≡ texts kids
+texts-settled : (ends : Bool) (tag : Tag) (kids : Nodes) → is_quiet tag ≡ false → texts (unjoined_para ends tag kids) ≡ texts kids
 texts-settled ends tag kids q = at (ends && not (has_element (without (is "pPr") kids)))
   where
     at : (b : Bool) → texts (if b then without (is "pPr") kids else element tag kids no_nodes) ≡ texts kids
@@ -121,7 +121,7 @@ texts-given : (p : Piece) (held : Option Nodes) (joins followed : Bool) (ps : Li
     texts (given p held joins followed) ++ held_texts (held_by p held joins) ≡ held_texts held ++ piece_texts p
 texts-given (para tag cut kids) held true followed ps l t = texts-taken held kids
 texts-given (para tag cut kids) held false followed ps l t =
-    append-nil (texts (settled (cut && followed) (joined_tag held tag) (joined_kids held kids)))
+    append-nil (texts (unjoined_para (cut && followed) (joined_tag held tag) (joined_kids held kids)))
     ∙ texts-settled (cut && followed) (joined_tag held tag) (joined_kids held kids) (loud_joined held tag l) ∙ texts-joined held kids
 texts-given (thin nodes) None joins followed ps l t = append-nil (texts nodes)
 texts-given (thin nodes) (Some held) joins followed ps l t = texts-taken (Some held) nodes

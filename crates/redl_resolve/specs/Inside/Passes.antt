@@ -10,7 +10,7 @@ use Rattle.redl_tree.specs.declared.node.Elem.{Elem}
 use Rattle.redl_tables.specs.Asked.{answer}
 use Rattle.redl_tables.specs.declared.owned.Finding.{Finding}
 use Rattle.redl_resolve.specs.Chains.{AddsPiece, elem_answer}
-use Rattle.redl_resolve.specs.Inside.Rounds.{round_of}
+use Rattle.redl_resolve.specs.Inside.Rounds.{pass_round_of}
 use Rattle.redl_resolve.specs.declared.made.Made.{Made}
 use Rattle.redl_resolve.specs.declared.rounds.Round.{Round}
 use Rattle.redl_resolve.specs.declared.walk.Walk.{Walk}
@@ -20,7 +20,7 @@ use Rattle.redl_resolve.specs.declared.walk.Walk.{Walk}
 -- What is given becomes this under any ancestors with this summary, and `found` is what the nearest table or row has to know
 -- of it.
 pub record Passes (says : List Say) (round : Round) (Becomes : List Tag → Type 0) (found due : Finding) : Type 0 where
-  pub becomes : (ancestors : List Tag) → round ≡ round_of says ancestors → Becomes ancestors
+  pub becomes : (ancestors : List Tag) → round ≡ pass_round_of says ancestors → Becomes ancestors
   pub answer : found ≡ due
 
 -- of the nodes of a list

@@ -9,8 +9,8 @@ use Rattle.redl_tables.specs.Asked.{asked, asked_inside}
 use Rattle.redl_tree.specs.declared.kinds.Say.{Say}
 use Rattle.redl_resolve.specs.declared.rounds.Round.{Round}
 
-abbrev pub round_of : List Say → List Tag → Round
-round_of says ancestors = record {
+abbrev pub pass_round_of : List Say → List Tag → Round
+pass_round_of says ancestors = record {
   ancestors = ancestors_of says ancestors;
   para = within ("p" ∷ []) ancestors;
   para_props = in_para_props ancestors;
@@ -18,9 +18,9 @@ round_of says ancestors = record {
 }
 
 -- the same for the kids of an element
-abbrev pub inside_of : List Say → Tag → Round → Round
-inside_of says tag round = record {
-  ancestors = known.inside_of says tag round.ancestors;
+abbrev pub pass_round_inside : List Say → Tag → Round → Round
+pass_round_inside says tag round = record {
+  ancestors = known.decided_inside says tag round.ancestors;
   para = is "p" tag && not round.ancestors.site.quiet;
   para_props = is "pPr" tag && round.para;
   asked = asked_inside tag round.asked;

@@ -59,15 +59,15 @@ joined_kids (Some held) kids = only (is "pPr") kids ⊕ (held ⊕ without (is "p
 
 -- A paragraph that is joined with no later one stays. But where it is cut, another thick node follows (`ends`), and it holds
 -- no element besides its `pPr`, only its bytes stay.
-abbrev pub settled : Bool → Tag → Nodes → Nodes
-settled ends tag kids =
+abbrev pub unjoined_para : Bool → Tag → Nodes → Nodes
+unjoined_para ends tag kids =
     if ends && not (has_element (without (is "pPr") kids)) then without (is "pPr") kids else element tag kids no_nodes
 
 -- what a piece adds to the result, given what it takes up, whether it is joined with a later paragraph, and whether a thick
 -- node follows
 abbrev pub given : Piece → Option Nodes → Bool → Bool → Nodes
 given (para tag cut kids) held true followed = no_nodes
-given (para tag cut kids) held false followed = settled (cut && followed) (joined_tag held tag) (joined_kids held kids)
+given (para tag cut kids) held false followed = unjoined_para (cut && followed) (joined_tag held tag) (joined_kids held kids)
 given (thin nodes) None joins followed = nodes
 given (thin nodes) (Some held) joins followed = no_nodes
 given (thick nodes) held joins followed = nodes

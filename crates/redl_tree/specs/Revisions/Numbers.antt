@@ -107,13 +107,13 @@ abbrev pub number_rule : Value → StoryRule ℕ
 number_rule value = record { kids = labelled_story value; left = next_after_story value }
 
 -- how many revisions a package has
-abbrev pub package_revisions : Value → Nodes → ℕ
-package_revisions value nodes = left_after (number_rule value) 0 (stories nodes)
+abbrev pub package_revisions_by : Value → Nodes → ℕ
+package_revisions_by value nodes = left_after (number_rule value) 0 (stories nodes)
 
 -- a package whose members and markers have their kinds and numbers
-abbrev pub numbered_package : Value → Nodes → Nodes
-numbered_package value nodes = changed_package (number_rule value) 1 nodes
+abbrev pub numbered_package_by : Value → Nodes → Nodes
+numbered_package_by value nodes = changed_package (number_rule value) 1 nodes
 
 -- a package is indexed where its kinds and numbers are these already
 abbrev pub IsIndexed : Value → Nodes → Type 0
-IsIndexed value nodes = numbered_package value nodes ≡ nodes
+IsIndexed value nodes = numbered_package_by value nodes ≡ nodes

@@ -65,8 +65,8 @@ abbrev pub parent_inside : Tag → Bool → Parent → Parent
 parent_inside tag quiet parent = if quiet then props_in parent tag else opened tag (props_in parent tag)
 
 -- the same with this one as the nearest ancestor
-abbrev pub inside_of : Tag → Around → Around
-inside_of tag here = record {
+abbrev pub around_inside : Tag → Around → Around
+around_inside tag here = record {
   quiet = is_quiet tag || here.quiet;
   parent = parent_inside tag here.quiet here.parent;
 }

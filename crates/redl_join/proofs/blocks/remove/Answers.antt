@@ -1,6 +1,6 @@
 use Rattle.std.proofs.Common.{sym, ◌∙◌}
 use Rattle.redl_journal.proofs.EntryOrder.{entry_order-total}
-use Rattle.redl_join.specs.Blocks.{joined}
+use Rattle.redl_join.specs.Blocks.{entries_in_blocks}
 use Rattle.redl_join.proofs.Parts.{remove_absent}
 use Rattle.redl_join.proofs.BlockLists.{end_place, for_place, unseen, for-book, for-taken, for-seen, filled-others, blocks-without}
 use Rattle.redl_join.proofs.blocks.remove.Goals as goal
@@ -9,7 +9,7 @@ pub returns-then-place-len-clause-removed : goal.returns-then-place-len-clause-r
 returns-then-place-len-clause-removed c =
     let blocks = c.args.blocks.now in
     let at = end_place c.args.entry.now c.deref.result.now blocks.items c.place_of-place.result c.len.result c.place_of-place.ensures c.deref.ensures.value c.if-place-len.true (c.len.ensures ∙ blocks.ok.0) in
-    sym (remove_absent entry_order-total (joined blocks.items) c.args.entry.now (unseen blocks.items c.args.entry.now at))
+    sym (remove_absent entry_order-total (entries_in_blocks blocks.items) c.args.entry.now (unseen blocks.items c.args.entry.now at))
 
 pub returns-then-place-len-clause-was_there : goal.returns-then-place-len-clause-was_there
 returns-then-place-len-clause-was_there c =

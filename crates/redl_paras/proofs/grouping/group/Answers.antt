@@ -3,7 +3,7 @@ use Rattle.std.proofs.lemmas.List.{nil_from_length}
 use Rattle.std.specs.Vec.Iter.{into_iter_items}
 use Rattle.redl_paras.proofs.ChainLaws.{grouped-more}
 use Rattle.redl_paras.proofs.EndLaws.{grouped-end, grouped-left}
-use Rattle.redl_paras.specs.Pieces.{pieces_of, held_of, is_other, paras_of}
+use Rattle.redl_paras.specs.Pieces.{pieces_of, held_nodes, is_other, paras_of}
 use Rattle.redl_tree.proofs.GroupLaws.{beside-grouped}
 use Rattle.redl_tree.proofs.Laws.{⊕-no_nodes, built_more}
 use Rattle.redl_tree.specs.Decisions.Beside.{bytes_beside}
@@ -22,7 +22,7 @@ loop-piece-preserved c =
     let rest = into_iter_items c.next.new.self in
     let here : into_iter_items c.loop-piece.piece-iterator ≡ piece ∷ rest = c.in-Some.ensures.steps.0 in
     let followed = is_other c.args.next in
-    let held = held_of c.loop-piece.held in
+    let held = held_nodes c.loop-piece.held in
     let later = c.loop-piece.left - c.paras_in-left.result in
     let left : later ≡ paras_of rest = omega (arith, c.loop-piece.invariant.left, ap paras_of here, c.paras_in-left.ensures) in
     record {
@@ -37,7 +37,7 @@ pub returns-clause-whole : goal.returns-clause-whole
 returns-clause-whole c =
     let none : into_iter_items c.loop-piece.piece-iterator ≡ [] = nil_from_length _ (sym c.loop-piece.piece-iterator.rest.ok.0 ∙ c.in-None.ensures.steps.0) in
     let made = nodes_of c.loop-piece.made.items in
-    sym (⊕-no_nodes made) ∙ ap (λ ps. made ⊕ grouped_from (is_other c.args.next) (held_of c.loop-piece.held) (pieces_of ps)) (sym none)
+    sym (⊕-no_nodes made) ∙ ap (λ ps. made ⊕ grouped_from (is_other c.args.next) (held_nodes c.loop-piece.held) (pieces_of ps)) (sym none)
     ∙ c.loop-piece.invariant.made
 
 pub returns-clause-bytes : goal.returns-clause-bytes

@@ -1,5 +1,5 @@
 use Rattle.std.proofs.Common.{◌≡◌, Bool, true, false, List, [], refl, ap, ◌∙◌}
-use Rattle.redl_resolve.specs.Inside.Rounds.{round_of}
+use Rattle.redl_resolve.specs.Inside.Rounds.{pass_round_of}
 use Rattle.redl_resolve.specs.declared.rounds.Round.{Round}
 use Rattle.redl_tables.specs.Asked.{asked}
 use Rattle.redl_tables.specs.declared.decided_ancestors.DecidedAncestors.{DecidedAncestors}
@@ -17,7 +17,7 @@ beginning known = record { ancestors = known; para = false; para_props = false; 
 abbrev known_at : Place → DecidedAncestors
 known_at here = record { site = record { quiet = false; place = here }; freed = false; left = false }
 
-stands : (says : List Say) (among_blocks : Bool) → beginning (known_at (place (stand_ins among_blocks))) ≡ round_of says (stand_ins among_blocks)
+stands : (says : List Say) (among_blocks : Bool) → beginning (known_at (place (stand_ins among_blocks))) ≡ pass_round_of says (stand_ins among_blocks)
 stands says true = refl
 stands says false = refl
 

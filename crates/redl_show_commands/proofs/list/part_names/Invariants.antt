@@ -5,6 +5,6 @@ use Rattle.redl_show_commands.proofs.list.part_names.Given as goal
 -- the names so far
 abbrev pub invariant-loop-part : goal.invariant-loop-part
 invariant-loop-part l = record {
-  names : l.names.items ≡ take l.part (part_names l.«package»);
+  names : l.names.items ≡ take l.part (part_names l.pkg);
   utf8 : All IsUtf8 l.names.items;
 }

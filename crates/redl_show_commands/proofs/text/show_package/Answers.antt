@@ -8,12 +8,12 @@ use Rattle.redl_show_commands.proofs.text.show_package.Goals as goal
 pub returns-in-Original : goal.returns-in-Original
 returns-in-Original c =
     rw c.in-Original.is
-    (rw (plain_text_of Reject c.args.pkg c.into_counted-counted.result.«package» c.into_counted-counted.result.count c.into_counted-counted.ensures.nodes c.into_counted-counted.ensures.count) at c.show_plain.ensures)
+    (rw (plain_text_of Reject c.args.pkg c.into_counted-counted.result.pkg c.into_counted-counted.result.count c.into_counted-counted.ensures.nodes c.into_counted-counted.ensures.count) at c.show_plain.ensures)
 
 pub returns-in-Final : goal.returns-in-Final
 returns-in-Final c =
     rw c.in-Final.is
-    (rw (plain_text_of Accept c.args.pkg c.into_counted-counted.result.«package» c.into_counted-counted.result.count c.into_counted-counted.ensures.nodes c.into_counted-counted.ensures.count) at c.show_plain-in-Final.ensures)
+    (rw (plain_text_of Accept c.args.pkg c.into_counted-counted.result.pkg c.into_counted-counted.result.count c.into_counted-counted.ensures.nodes c.into_counted-counted.ensures.count) at c.show_plain-in-Final.ensures)
 
 pub returns-in-Marked : goal.returns-in-Marked
 returns-in-Marked c =

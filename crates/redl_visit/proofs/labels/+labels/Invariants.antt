@@ -1,6 +1,6 @@
 use Rattle.std.proofs.Common.{◌≡◌, take, drop}
 use Rattle.redl_tree.specs.Model.Nodes.{◌⊕◌}
-use Rattle.redl_tree.specs.Roles.Arounds.{inside_of}
+use Rattle.redl_tree.specs.Roles.Arounds.{around_inside}
 use Rattle.redl_tree.specs.Model.View.{nodes_of}
 use Rattle.redl_visit.specs.Visits.{visited, Needs}
 use Rattle.redl_visit.specs.Labelling.{visit_of, needs_of, relabelled}
@@ -10,9 +10,9 @@ use Rattle.redl_visit.proofs.labels.+labels.Given as goal
 abbrev pub invariant-label_nodes-loop-i : goal.invariant-label_nodes-loop-i
 invariant-label_nodes-loop-i g l = record {
   unvisited : goal.unvisited-label_nodes-loop-i g l;
-  needs : Needs inside_of (visit_of g.L.Labeller.rule) (needs_of g.L.Labeller.needs) l.here l.own (nodes_of (drop l.i l.nodes)) (g.L.Labeller.state l.labeller);
-  nodes : nodes_of (take l.i l.nodes) ⊕ relabelled inside_of g.L.Labeller.rule l.here l.own (nodes_of (drop l.i l.nodes)) (g.L.Labeller.state l.labeller)
-      ≡ relabelled inside_of g.L.Labeller.rule l.here l.own (nodes_of l.initial.nodes) (g.L.Labeller.state l.initial.labeller);
-  state : visited inside_of (visit_of g.L.Labeller.rule) l.here l.own (nodes_of (drop l.i l.nodes)) (g.L.Labeller.state l.labeller)
-      ≡ visited inside_of (visit_of g.L.Labeller.rule) l.here l.own (nodes_of l.initial.nodes) (g.L.Labeller.state l.initial.labeller);
+  needs : Needs around_inside (visit_of g.L.Labeller.rule) (needs_of g.L.Labeller.needs) l.here l.own (nodes_of (drop l.i l.nodes)) (g.L.Labeller.state l.labeller);
+  nodes : nodes_of (take l.i l.nodes) ⊕ relabelled around_inside g.L.Labeller.rule l.here l.own (nodes_of (drop l.i l.nodes)) (g.L.Labeller.state l.labeller)
+      ≡ relabelled around_inside g.L.Labeller.rule l.here l.own (nodes_of l.initial.nodes) (g.L.Labeller.state l.initial.labeller);
+  state : visited around_inside (visit_of g.L.Labeller.rule) l.here l.own (nodes_of (drop l.i l.nodes)) (g.L.Labeller.state l.labeller)
+      ≡ visited around_inside (visit_of g.L.Labeller.rule) l.here l.own (nodes_of l.initial.nodes) (g.L.Labeller.state l.initial.labeller);
 }

@@ -3,7 +3,7 @@ use Rattle.redl_write_commands.proofs.SampleLaws.{entries_more, first_entries}
 use Rattle.redl_journal.specs.Journals.{Journal}
 use Rattle.redl_sample.specs.Journals.{sample_journal}
 use Rattle.redl_session.proofs.Admissions.{after-append}
-use Rattle.redl_session.specs.Sessions.{State, after}
+use Rattle.redl_session.specs.Sessions.{SessionState, after}
 use Rattle.redl_write_commands.proofs.sample.admit_reviewers.Goals as goal
 
 pub loop-reviewer-preserved : goal.loop-reviewer-preserved
@@ -14,7 +14,7 @@ loop-reviewer-preserved c =
     let entries = (sample_journal number reviewer).entries in
     c.in_ok-admit_each.ensures.after
     ∙ ap (after c.loop-reviewer.session) (ap (λ (j : Journal). j.entries) c.in_ok-journal.ensures.journal)
-    ∙ ap (λ (state : State). after state entries) c.loop-reviewer.invariant
+    ∙ ap (λ (state : SessionState). after state entries) c.loop-reviewer.invariant
     ∙ sym (after-append begun (first_entries number reviewer) entries)
     ∙ ap (after begun) (sym (entries_more number reviewer))
 

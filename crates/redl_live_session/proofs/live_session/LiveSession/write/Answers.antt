@@ -2,15 +2,15 @@ use Rattle.std.proofs.Common.{◌≡◌, None, subst}
 use Rattle.redl_index.specs.Numbers.{numbered_package}
 use Rattle.redl_rules.specs.Attributes.{broken_rule}
 use Rattle.redl_session.proofs.Left.{left_is_sound, left_survives}
-use Rattle.redl_session.specs.Sessions.{State, says}
+use Rattle.redl_session.specs.Sessions.{SessionState, says}
 use Rattle.redl_live_session.proofs.live_session.LiveSession.write.Goals as goal
 
 pub returns-clause-survival : goal.returns-clause-survival
 returns-clause-survival g c =
-    left_survives (says c.args.self.now) c.args.self.now.nodes (subst (λ (s : State). numbered_package s.nodes ≡ s.nodes) c.self.view_is c.self.invariant.numbered)
+    left_survives (says c.args.self.now) c.args.self.now.nodes (subst (λ (s : SessionState). numbered_package s.nodes ≡ s.nodes) c.self.view_is c.self.invariant.numbered)
 
 pub returns-clause-soundness : goal.returns-clause-soundness
 returns-clause-soundness g c =
-    let numbered = subst (λ (s : State). numbered_package s.nodes ≡ s.nodes) c.self.view_is c.self.invariant.numbered in
-    let sound = subst (λ (s : State). broken_rule s.nodes ≡ None) c.self.view_is c.self.invariant.sound in
+    let numbered = subst (λ (s : SessionState). numbered_package s.nodes ≡ s.nodes) c.self.view_is c.self.invariant.numbered in
+    let sound = subst (λ (s : SessionState). broken_rule s.nodes ≡ None) c.self.view_is c.self.invariant.sound in
     left_is_sound (says c.args.self.now) c.args.self.now.nodes numbered sound

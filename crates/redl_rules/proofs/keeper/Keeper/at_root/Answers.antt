@@ -1,6 +1,6 @@
 use Rattle.std.proofs.Common.{◌∙◌, ap, []}
 use Rattle.redl_tree.specs.Model.View.{tag_of, kids_of}
-use Rattle.redl_tree.specs.Roles.Arounds.{inside_of, role_in}
+use Rattle.redl_tree.specs.Roles.Arounds.{around_inside, role_in}
 use Rattle.redl_visit.specs.declared.ancestors.Ancestors.{Ancestors}
 use Rattle.redl_rules.specs.Rounds.{round_of}
 use Rattle.redl_rules.specs.Visiting.{kept_by_round}
@@ -15,6 +15,6 @@ returns-clause-kept g c =
     c.kept_here.ensures
     ∙ ap (λ k. kept_by_round here.around c.inside-inner.result.around c.top-round.result k tag kids) c.role-kind.ensures.by_answers
     ∙ ap (λ (a : Ancestors). kept_by_round here.around a.around c.top-round.result (role_in here.around tag) tag kids) c.inside-inner.ensures
-    ∙ ap (λ r. kept_by_round here.around (inside_of tag here.around) r (role_in here.around tag) tag kids) c.top-round.ensures
-    ∙ ap (λ (a : Ancestors). kept_by_round a.around (inside_of tag a.around) (round_of []) (role_in a.around tag) tag kids) c.none-here.ensures
+    ∙ ap (λ r. kept_by_round here.around (around_inside tag here.around) r (role_in here.around tag) tag kids) c.top-round.ensures
+    ∙ ap (λ (a : Ancestors). kept_by_round a.around (around_inside tag a.around) (round_of []) (role_in a.around tag) tag kids) c.none-here.ensures
     ∙ here-kept [] tag kids

@@ -2,7 +2,7 @@ use Rattle.std.proofs.Common.{◌≡◌, List, length, sym, ap, ◌∙◌, arith
 use Rattle.redl_journal.specs.declared.entry.Entry.{Entry}
 use Rattle.redl_session.proofs.Consistency.{book-repeat, consistent-with}
 use Rattle.redl_session.proofs.SaysLaws.{length-says_of}
-use Rattle.redl_session.specs.Sessions.{State}
+use Rattle.redl_session.specs.Sessions.{SessionState}
 use Rattle.redl_tree.specs.declared.kinds.Say.{Say}
 use Rattle.redl_session.specs.Says.{say_of_verdict}
 use Rattle.redl_session.proofs.session.Session.admit.Goals as goal
@@ -29,5 +29,5 @@ pub returns-in-Ok-false-clause-repeat : goal.returns-in-Ok-false-clause-repeat
 returns-in-Ok-false-clause-repeat c =
     let same : c.add_copy.new.book ≡ c.self.inside.book =
     book-repeat c.self.inside.book c.add_copy.new.book c.args.entry c.self.invariant.ordered c.in-Ok-false.ensures.added (sym c.in-Ok-false.field-0-test ∙ c.in-Ok-false.ensures.was_new) in
-    let with_book : List Entry → State = λ book. record { nodes = c.self.inside.original; revisions = c.self.inside.index; locks = c.self.inside.locks; book = book } in
+    let with_book : List Entry → SessionState = λ book. record { nodes = c.self.inside.original; revisions = c.self.inside.index; locks = c.self.inside.locks; book = book } in
     λ _. ap with_book same ∙ c.self.view_is

@@ -5,7 +5,7 @@ use Rattle.redl_session.proofs.Consistency.{ordered-taken}
 use Rattle.redl_session.proofs.SaysLaws.{length-says_of}
 use Rattle.redl_session.specs.Refusals.{TakesFirst}
 use Rattle.redl_session.specs.Says.{says_of}
-use Rattle.redl_session.specs.Sessions.{State, StopsAfter}
+use Rattle.redl_session.specs.Sessions.{SessionState, StopsAfter}
 use Rattle.redl_tree.specs.declared.kinds.Say.{Say}
 use Rattle.redl_session.proofs.session.Session.admit_many.Goals as goal
 
@@ -24,8 +24,8 @@ invariant_of-self c = record {
 
 pub returns-clause-stopped : goal.returns-clause-stopped
 returns-clause-stopped c =
-    let before : State = record { nodes = c.self.inside.original; revisions = c.self.inside.index; locks = c.self.inside.locks; book = c.self.inside.book } in
-    let now : State = record { nodes = c.self.inside.original; revisions = c.self.inside.index; locks = c.self.inside.locks; book = c.take_in-refused.new.book } in
+    let before : SessionState = record { nodes = c.self.inside.original; revisions = c.self.inside.index; locks = c.self.inside.locks; book = c.self.inside.book } in
+    let now : SessionState = record { nodes = c.self.inside.original; revisions = c.self.inside.index; locks = c.self.inside.locks; book = c.take_in-refused.new.book } in
     let stops : TakesFirst c.self.inside.index c.self.inside.locks c.self.inside.book c.take_in-refused.new.book c.args.entries.items → StopsAfter c.args.self.now now c.args.entries.items =
-    λ stopped. subst (λ (s : State). StopsAfter s now c.args.entries.items) c.self.view_is (stops_after before c.take_in-refused.new.book c.args.entries.items stopped) in
+    λ stopped. subst (λ (s : SessionState). StopsAfter s now c.args.entries.items) c.self.view_is (stops_after before c.take_in-refused.new.book c.args.entries.items stopped) in
     on_err_weaker c.take_in-refused.result stops c.take_in-refused.ensures.stopped
