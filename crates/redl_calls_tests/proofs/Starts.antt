@@ -6,7 +6,7 @@ use Rattle.redl_index.specs.Revisions.{revisions_of}
 use Rattle.redl_rules.specs.Answers.{answer_of}
 use Rattle.redl_rules.specs.Attributes.{broken_rule, declares, has_id}
 use Rattle.redl_stamp.specs.Attribute.{attribute_value}
-use Rattle.redl_tree.proofs.NumberLaws.{broken-numbered, numbered-indexed}
+use Rattle.redl_tree.proofs.Revisions.NumberLaws.{broken-numbered, numbered-indexed}
 use Rattle.redl_tree.specs.Model.Nodes.{Nodes}
 
 pub unbroken : (rule : Option ℕ) → Ok tt ≡ answer_of rule → rule ≡ None

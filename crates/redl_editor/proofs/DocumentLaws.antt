@@ -7,7 +7,7 @@ use Rattle.redl_laws.proofs.Leaves.Members.{package-unheld}
 use Rattle.redl_laws.proofs.Leaves.Originals.{original-slots}
 use Rattle.redl_laws.proofs.Leaves.Shown.{IsBlind, changed-blind, shown-blind, package-shows}
 use Rattle.redl_laws.proofs.Leaves.Stories.{package-shown}
-use Rattle.redl_tree.proofs.StoryLaws.{Agree, changed_in-agree}
+use Rattle.redl_tree.proofs.Decisions.StoryLaws.{Agree, changed_in-agree}
 use Rattle.redl_tree.specs.Decisions.Packages.{is_root, roots_are_plain, stories, StoryRule, changed_in, changed_package, pass_package}
 use Rattle.redl_tree.specs.Leaves.Containers.{opens}
 use Rattle.redl_tree.specs.Leaves.Rebuilt.{original}

@@ -1,8 +1,8 @@
 -- The text of a package whose stories are kept apart, a node at a time.
 use Rattle.std.proofs.Common.{◌≡◌, ◌∙◌, ◌++◌, ◌<◌, ◌≤◌, ◌+◌, ◌&&◌, ℕ, zero, suc, List, [], ◌∷◌, length, get_or, drop, map, Bool, true, false, refl, sym, ap, arith, if◌then◌else◌}
 use Rattle.std.proofs.lemmas.List.{append-nil}
-use Rattle.redl_tree.proofs.Laws.{text-⊕, text-in_front}
-use Rattle.redl_tree.proofs.StoryLaws.{changed_in-in_front, stories_in-in_front, left_after-append}
+use Rattle.redl_tree.proofs.Model.Laws.{text-⊕, text-in_front}
+use Rattle.redl_tree.proofs.Decisions.StoryLaws.{changed_in-in_front, stories_in-in_front, left_after-append}
 use Rattle.redl_tree.specs.Decisions.Packages.{is_root, level_of, is_data_level, is_story_root, stories_in, element_stories, StoryRule, left_after, changed_in}
 use Rattle.redl_tree.specs.Decisions.StoryWalk.{changed_item, item_stories}
 use Rattle.redl_tree.specs.Leaves.Shown.{shown_rule, next_states, later_states}

@@ -7,7 +7,7 @@ use Rattle.redl_tree.specs.Roles.Idle.{is_idle_in}
 use Rattle.redl_tree.specs.Roles.Names.{is}
 use Rattle.redl_tree.proofs.Idle.Items.{nodes_are_idle}
 use Rattle.redl_tree.proofs.Idle.Tags.{idle_parts, has-not}
-use Rattle.redl_tree.proofs.Laws.{⊕-no_nodes}
+use Rattle.redl_tree.proofs.Model.Laws.{⊕-no_nodes}
 use Rattle.redl_excerpts.specs.Inside.Flat.{are_flat, is_flat}
 use Rattle.redl_excerpts.specs.Mentions.{Mention, Where, bytes_said, inside, mentions, past, told_by}
 use Rattle.redl_excerpts.specs.Said.{element_said}

@@ -7,7 +7,7 @@ use Rattle.redl_tree.specs.Roles.Names.{is, of_w}
 use Rattle.redl_tree.specs.Roles.Places.{is_quiet}
 use Rattle.redl_tree.specs.Roles.Idle.{is_idle_in}
 use Rattle.redl_tree.specs.declared.kinds.Kind.TheVariants.{Plain}
-use Rattle.redl_tree.proofs.Named.{by_name}
+use Rattle.redl_tree.proofs.Roles.Named.{by_name}
 use Rattle.redl_tree.proofs.Idle.Tags.{Idle, idle_parts, has-not}
 use Rattle.redl_tree.proofs.Idle.Items.{nodes_are_idle}
 use Rattle.redl_shown.specs.Shown.{shown}

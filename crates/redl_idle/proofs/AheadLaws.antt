@@ -20,8 +20,8 @@ use Rattle.redl_tree.specs.Model.Text.{text}
 use Rattle.redl_tree.specs.Roles.Idle.{is_idle}
 use Rattle.redl_tree.specs.Roles.Names.{of_w}
 use Rattle.redl_tree.specs.declared.kinds.Space.TheVariants.{W}
-use Rattle.redl_tree.proofs.FoldLaws.{laid_end_stretch, nodes_are_laid}
-use Rattle.redl_tree.proofs.TreeTexts.{tree_then, tree-then}
+use Rattle.redl_tree.proofs.Reading.FoldLaws.{laid_end_stretch, nodes_are_laid}
+use Rattle.redl_tree.proofs.Model.TreeTexts.{tree_then, tree-then}
 use Rattle.std.specs.Prelude.{◌&&◌, ◌==◌, not, IsSome}
 use Rattle.redl_reading.specs.Steps.{Gives}
 use Rattle.redl_idle.specs.Shows.{ShowRule, shows, element_shows}

@@ -8,7 +8,7 @@ use Rattle.redl_tree.specs.Revisions.Labels.{unlabelled_tag, unlabelled}
 use Rattle.redl_tree.specs.Revisions.Markers.{marker_of, move_of, whole_role}
 use Rattle.redl_tree.specs.Revisions.Moves.{Marking, pairs}
 use Rattle.redl_tree.specs.Revisions.Numbers.{labelled_story, next_after_story, number_rule}
-use Rattle.redl_tree.proofs.NumberLaws.{bare_seen, seen-bare, marker_of-bare, markers-bare, move_of-bare, whole_role-bare, unlabelled-story, unlabelled-numbered, story_next-bare, stories-numbered}
+use Rattle.redl_tree.proofs.Revisions.NumberLaws.{bare_seen, seen-bare, marker_of-bare, markers-bare, move_of-bare, whole_role-bare, unlabelled-story, unlabelled-numbered, story_next-bare, stories-numbered}
 use Rattle.redl_opc.specs.Elements.{Element}
 use Rattle.redl_opc.specs.Shape.{elements_in, parts_of, package_of, story_of}
 use Rattle.redl_opc.proofs.LabelLaws.{plain, elements-unlabelled, package_of-unlabelled, story_of-plain}

@@ -5,7 +5,7 @@ use Rattle.redl_tree.specs.Model.Nodes.{Nodes, no_nodes, End, ◌⊕◌}
 use Rattle.redl_tree.specs.declared.kinds.Prop.TheVariants.{Run}
 use Rattle.redl_tree.specs.declared.kinds.Space.TheVariants.{Pkg}
 use Rattle.redl_tree.specs.declared.kinds.Trace.TheVariants.{Ins, Del}
-use Rattle.redl_tree.proofs.Build.{tag_in, one, opened, words}
+use Rattle.redl_tree.proofs.Model.Build.{tag_in, one, opened, words}
 use Rattle.redl_index.specs.declared.revision.RevKind.{RevKind}
 use Rattle.redl_index.specs.declared.revision.RevKind.TheVariants.{Content, Mark, Change}
 use Rattle.redl_index.specs.declared.revision.Revision.{Revision}

@@ -7,7 +7,7 @@ use Rattle.redl_tree.specs.declared.kinds.Kind.TheVariants.{Mark, Row, Cell, Cha
 use Rattle.redl_tree.specs.declared.kinds.Prop.TheVariants.{Run, Para, Sect, Table, Except, Row as RowProp, Cell as CellProp}
 use Rattle.redl_tree.specs.declared.kinds.Space.TheVariants.{W, M, Pkg, Other}
 use Rattle.redl_tree.specs.declared.kinds.Trace.TheVariants.{Ins, Del, From, To}
-use Rattle.redl_tree.proofs.Build.{tag_in, one, opened, opened_with, content, member, words, run, deleted_run}
+use Rattle.redl_tree.proofs.Model.Build.{tag_in, one, opened, opened_with, content, member, words, run, deleted_run}
 use Rattle.redl_stamp.specs.Attribute.{attribute_value}
 use Rattle.redl_tree.specs.Revisions.Numbers.{labelled, start_with, numbering_after}
 use Rattle.redl_tree.specs.Model.Seen.{Spot, spot}

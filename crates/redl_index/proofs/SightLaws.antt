@@ -12,7 +12,7 @@ use Rattle.redl_tree.specs.Model.Seen.{Spot, spot, Seen, seen_one, root_spots, t
 use Rattle.redl_tree.specs.declared.around.Around.{Around}
 use Rattle.redl_tree.specs.declared.kinds.Kind.{Kind}
 use Rattle.redl_tree.specs.declared.kinds.Kind.TheVariants.{Marker, Content, Mark, Row, Cell, Change, Plain}
-use Rattle.redl_tree.proofs.AroundLaws.{around_of-∷, role-in}
+use Rattle.redl_tree.proofs.Roles.AroundLaws.{around_of-∷, role-in}
 use Rattle.redl_stamp.specs.Attribute.{attribute_value}
 use Rattle.redl_moves.specs.Starts.{start_in}
 use Rattle.redl_moves.specs.declared.start.Start.{Start}
@@ -23,7 +23,7 @@ use Rattle.redl_index.specs.declared.story.Sight.{Sight}
 use Rattle.redl_tree.specs.Roles.Places.{is_open, within, role, placed, first_role, change_at, in_mark_props, in_row_props, in_cell_props, in_props, trace_of, row_trace_of, cell_trace_of, prop_of}
 use Rattle.redl_tree.specs.declared.kinds.Trace.{Trace}
 use Rattle.redl_tree.specs.declared.kinds.Prop.{Prop}
-use Rattle.redl_tree.proofs.NameLaws.{is-other, is_any-apart}
+use Rattle.redl_tree.proofs.Roles.NameLaws.{is-other, is_any-apart}
 use Rattle.redl_moves.specs.Standing.{IsApart}
 use Rattle.redl_index.proofs.MarkerLaws.Free.{content-apart, mark-apart}
 

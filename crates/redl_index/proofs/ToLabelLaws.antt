@@ -9,8 +9,8 @@ use Rattle.redl_tree.specs.Decisions.Packages.{is_data_level, level_of, is_story
 use Rattle.redl_tree.specs.Decisions.Taken.{TakesAll}
 use Rattle.redl_tree.specs.Revisions.Markers.{moves_among}
 use Rattle.redl_tree.specs.Revisions.Numbers.{start_with, next_after_story, number_rule}
-use Rattle.redl_tree.proofs.NumberLaws.{unlabelled-story}
-use Rattle.redl_tree.proofs.StoryLaws.{Agree, changed_in-agree}
+use Rattle.redl_tree.proofs.Revisions.NumberLaws.{unlabelled-story}
+use Rattle.redl_tree.proofs.Decisions.StoryLaws.{Agree, changed_in-agree}
 use Rattle.redl_opc.specs.Labels.{SetsLabels}
 use Rattle.redl_stamp.specs.Attribute.{attribute_value}
 use Rattle.redl_index.specs.Inside.Markers.Free.{Every}

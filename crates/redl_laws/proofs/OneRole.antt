@@ -15,8 +15,8 @@ use Rattle.redl_tree.specs.declared.kinds.Prop.{Prop}
 use Rattle.redl_tree.specs.declared.kinds.Prop.TheVariants.{Run, Para, Sect, Table, Except, Row as RowProp, Cell as CellProp}
 use Rattle.redl_tree.specs.declared.kinds.Kind.{Kind}
 use Rattle.redl_tree.specs.declared.kinds.Kind.TheVariants.{Plain, Content, Mark, Row, Cell, Change, Marker}
-use Rattle.redl_tree.proofs.Named.{by_names}
-use Rattle.redl_tree.proofs.NameLaws.{is-other, is-among, all_among}
+use Rattle.redl_tree.proofs.Roles.Named.{by_names}
+use Rattle.redl_tree.proofs.Roles.NameLaws.{is-other, is-among, all_among}
 
 -- ---- the table
 

@@ -10,7 +10,7 @@ use Rattle.redl_tree.specs.Roles.Names.{is}
 use Rattle.redl_tree.specs.Roles.Kinds.{is_mark}
 use Rattle.redl_tree.specs.Leaves.Slots.{has_mark}
 use Rattle.redl_tree.specs.declared.node.Node.{Node}
-use Rattle.redl_tree.proofs.Laws.{⊕_assoc, nodes_here}
+use Rattle.redl_tree.proofs.Model.Laws.{⊕_assoc, nodes_here}
 use Rattle.redl_tree.proofs.Idle.Items.{nodes_are_idle}
 use Rattle.redl_tree.proofs.Idle.Lists.{NoneIs, name_none, some_past, kids_of_all_past}
 use Rattle.redl_leaves.specs.Inside.Marks.{marks_run, marks_para, item_marks, item_marks_run, item_marks_para}

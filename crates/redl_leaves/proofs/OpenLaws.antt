@@ -14,7 +14,7 @@ use Rattle.redl_tree.specs.Roles.Lists.{place, in_blocks, in_rows, in_cells, is_
 use Rattle.redl_tree.specs.declared.kinds.Space.TheVariants.{W}
 use Rattle.redl_tree.specs.declared.laid.First.{First}
 use Rattle.redl_tree.specs.declared.laid.First.TheVariants.{Bytes, Elem}
-use Rattle.redl_tree.proofs.FoldLaws.{always_laid}
+use Rattle.redl_tree.proofs.Reading.FoldLaws.{always_laid}
 use Rattle.redl_tree.proofs.Idle.Tags.{Idle, idle_parts, has-not}
 use Rattle.redl_tree.proofs.Idle.Lists.{names_none, thick_none}
 use Rattle.redl_leaves.specs.Inside.Opens.{IsClosed}

@@ -14,7 +14,7 @@ use Rattle.redl_tree.specs.Leaves.Rebuilt.{original}
 use Rattle.redl_tree.specs.Leaves.Slots.{Slots, no_slots, leaf_slot, container_slot, Sibling, thick_sibling, open_sibling, leaf_of, siblings, slots_in, slots_from}
 use Rattle.redl_tree.specs.Leaves.States.{States, no_states, leaf_state, container_state, fresh_states, fresh_tally}
 use Rattle.redl_tree.specs.Leaves.Waiting.{lone_slots, slots_left}
-use Rattle.redl_tree.proofs.Laws.{count-⊕, ⊕-no_nodes, ⊕_assoc, in_front-⊕, item_of-Plain}
+use Rattle.redl_tree.proofs.Model.Laws.{count-⊕, ⊕-no_nodes, ⊕_assoc, in_front-⊕, item_of-Plain}
 use Rattle.redl_tree.proofs.Idle.Items.{nodes_are_idle}
 use Rattle.redl_leaves.proofs.OpenLaws.{thin_past}
 use Rattle.redl_laws.proofs.Leaves.Originals.{original-slots}

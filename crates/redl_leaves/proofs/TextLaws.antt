@@ -4,7 +4,7 @@ use Rattle.std.proofs.lemmas.List.{append-nil}
 use Rattle.redl_tree.specs.Leaves.States.{States, shown}
 use Rattle.redl_tree.specs.Model.Nodes.{Tag, Close, Empty, End, ◌⊕◌}
 use Rattle.redl_tree.specs.Model.Text.{text, start_text, opened_text, open_text, end_text, rest_text, element_text}
-use Rattle.redl_tree.proofs.Laws.{text-⊕}
+use Rattle.redl_tree.proofs.Model.Laws.{text-⊕}
 use Rattle.redl_leaves.specs.Inside.Texts.{shown_view}
 use Rattle.redl_leaves.specs.View.{SlotView, leaf_view, container_view, before}
 

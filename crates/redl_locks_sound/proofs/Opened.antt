@@ -20,7 +20,7 @@ use Rattle.redl_select.specs.declared.lock.Lock.{Lock}
 use Rattle.redl_session.specs.Sessions.{SessionState, after, says}
 use Rattle.redl_session.proofs.Admissions.{after-union}
 use Rattle.redl_stamp.specs.Attribute.{attribute_value}
-use Rattle.redl_tree.proofs.NumberLaws.{numbered-indexed}
+use Rattle.redl_tree.proofs.Revisions.NumberLaws.{numbered-indexed}
 use Rattle.redl_tree.specs.Decisions.Fates.{fate_of, say_of}
 use Rattle.redl_tree.specs.Model.Nodes.{Nodes}
 use Rattle.redl_tree.specs.Model.Seen.{Seen}

@@ -12,7 +12,7 @@ use Rattle.redl_index.specs.KindNames.{kind_name}
 use Rattle.redl_index.specs.declared.revision.RevKind.TheVariants.{Change as RevChange}
 use Rattle.redl_tree.specs.Model.View.{nodes_of, item_of}
 use Rattle.redl_tree.specs.declared.node.Node.{Node}
-use Rattle.redl_tree.proofs.Laws.{nodes_of-append}
+use Rattle.redl_tree.proofs.Model.Laws.{nodes_of-append}
 use Rattle.redl_marked.specs.declared.summary.Summary.{Summary}
 use Rattle.redl_marked.specs.Signs.{sign_begin, sign_end, opening, word_sign, change_sign, para_signs}
 use Rattle.redl_marked.specs.MarkedText.{open_end, heading}

@@ -14,8 +14,8 @@ use Rattle.redl_tree.specs.Revisions.Numbers.{IsIndexed}
 use Rattle.redl_tree.specs.declared.kinds.Trace.{Trace}
 use Rattle.redl_tree.specs.declared.kinds.Kind.{Kind}
 use Rattle.redl_tree.specs.declared.kinds.Kind.TheVariants.{Plain, Content, Mark, Row, Cell, Change, Marker}
-use Rattle.redl_tree.proofs.Named.{by_names}
-use Rattle.redl_tree.proofs.Fits.{Fits, AllFit}
+use Rattle.redl_tree.proofs.Roles.Named.{by_names}
+use Rattle.redl_tree.proofs.Roles.Fits.{Fits, AllFit}
 use Rattle.redl_laws.proofs.Survival.Indexed.{AreStories, indexed_stories}
 use Rattle.redl_laws.proofs.OneRole.{fits, stand_in, names_of, fits_or_plain}
 use Rattle.redl_tree.specs.Roles.Names.{is_any}

@@ -5,7 +5,7 @@ use Rattle.std.specs.Prelude.{not}
 use Rattle.std.proofs.lemmas.Bool.{and_from}
 use Rattle.std.specs.Cmp.{first_so, second_so}
 use Rattle.redl_tree.specs.Revisions.Moves.{Edge, from_start, from_end, to_start, to_end, Marking, Range, Pair, same_edge, has_name, only_one, with_name, with_id, range_from, range_with_id, range_with_name, pair_with_name, pair_of, pairs, is_open_at, later, latest, pair_at}
-use Rattle.redl_tree.proofs.SameBytes.{same_bytes, bytes_same}
+use Rattle.redl_tree.proofs.Reading.SameBytes.{same_bytes, bytes_same}
 use Rattle.redl_moves.specs.Marks.{RisesFrom}
 use Rattle.redl_moves.specs.Opens.{start_of, or_this, find_last}
 use Rattle.redl_moves.specs.Standing.{range_on, pair_begun, pair_open}

@@ -1,7 +1,7 @@
 -- Indexes of places by keys.
 use Rattle.std.proofs.Common.{◌≡◌, ◌∙◌, refl, ap, sym, cond, ℕ, ◌+◌, List, [], ◌∷◌, Bool, true, false, ◌&&◌, Option, Some, None, bytes_eq, length, drop, ◌≤◌, suc, zero, arith, if◌then◌else◌}
 use Rattle.std.specs.Map.{update}
-use Rattle.redl_tree.proofs.SameBytes.{same_bytes}
+use Rattle.redl_tree.proofs.Reading.SameBytes.{same_bytes}
 use Rattle.redl_tree.specs.Revisions.Moves.{Edge, Marking, only_one, same_edge, has_name}
 use Rattle.redl_moves.specs.Keys.{has_key, key_of}
 use Rattle.redl_moves.specs.Places.{places_from}

@@ -6,7 +6,7 @@ use Rattle.redl_tree.specs.Decisions.Packages.{stories, changed_stories}
 use Rattle.redl_tree.specs.Model.Nodes.{Nodes, no_nodes}
 use Rattle.redl_tree.specs.Model.Seen.{Seen, seen}
 use Rattle.redl_tree.specs.Revisions.Numbers.{labelled_story, next_after_story, number_rule}
-use Rattle.redl_tree.proofs.NumberLaws.{stories-numbered, numbered-indexed, unlabelled-numbered}
+use Rattle.redl_tree.proofs.Revisions.NumberLaws.{stories-numbered, numbered-indexed, unlabelled-numbered}
 use Rattle.redl_opc.specs.Elements.{Element}
 use Rattle.redl_opc.specs.Parts.{story}
 use Rattle.redl_opc.specs.Shape.{parts_of, story_of, refusal}

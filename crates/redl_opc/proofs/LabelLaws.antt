@@ -6,8 +6,8 @@ use Rattle.redl_tree.specs.Model.Count.{count}
 use Rattle.redl_tree.specs.Model.Text.{text}
 use Rattle.redl_tree.specs.Revisions.Labels.{unlabelled}
 use Rattle.redl_tree.specs.declared.kinds.Kind.{Kind}
-use Rattle.redl_tree.proofs.LabelLaws.{text-unlabelled}
-use Rattle.redl_tree.proofs.StoryLaws.{unlabelled-changed}
+use Rattle.redl_tree.proofs.Revisions.LabelLaws.{text-unlabelled}
+use Rattle.redl_tree.proofs.Decisions.StoryLaws.{unlabelled-changed}
 use Rattle.redl_opc.specs.Elements.{Element, elements_of, only, only_element}
 use Rattle.redl_tree.specs.Decisions.Packages.{named_pkg, is_story_root, StoryRule, changed_package}
 use Rattle.redl_opc.specs.Shape.{has_attribute, is_data, is_data_alone, is_part, root_in, story_root, story_of, is_document_root, is_document, package_in, package_of, parts_refusal, refusal_of, refusal}

@@ -4,7 +4,7 @@ use Rattle.redl_tree.specs.Model.Nodes.{Nodes}
 use Rattle.redl_tree.specs.Revisions.Labels.{unlabelled}
 use Rattle.redl_tree.specs.Revisions.Markers.{Value}
 use Rattle.redl_tree.specs.Revisions.Numbers.{numbered_package_by}
-use Rattle.redl_tree.proofs.NumberLaws.{unlabelled-numbered}
+use Rattle.redl_tree.proofs.Revisions.NumberLaws.{unlabelled-numbered}
 use Rattle.redl_opc.specs.Shape.{refusal, parts_of}
 use Rattle.redl_opc.specs.Parts.{part_name, places_of}
 use Rattle.redl_opc.proofs.LabelLaws.{refusal-unlabelled, places_of-unlabelled}

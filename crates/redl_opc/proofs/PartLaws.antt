@@ -7,7 +7,7 @@ use Rattle.redl_tree.specs.Model.View.{item_of, nodes_of, tag_of, kids_of}
 use Rattle.redl_tree.specs.declared.node.Node.{Node}
 use Rattle.redl_tree.specs.declared.node.Node as node
 use Rattle.redl_tree.specs.declared.node.Elem.{Elem}
-use Rattle.redl_tree.proofs.Laws.{item_of-Elem, item_of-Bytes, nodes_here}
+use Rattle.redl_tree.proofs.Model.Laws.{item_of-Elem, item_of-Bytes, nodes_here}
 use Rattle.std.specs.List.{list_all, list_any}
 use Rattle.std.specs.Str.{IsUtf8}
 use Rattle.redl_reading.specs.Steps.{◌>>=◌, Gives}

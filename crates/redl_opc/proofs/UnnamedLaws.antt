@@ -14,7 +14,7 @@ use Rattle.redl_tree.specs.Model.View.{item_of, nodes_of}
 use Rattle.redl_tree.specs.declared.node.Node.{Node}
 use Rattle.redl_tree.specs.declared.node.Elem.{Elem}
 use Rattle.redl_tree.specs.declared.node.Node as node
-use Rattle.redl_tree.proofs.Laws.{in_front-⊕, item_of-Elem, item_of-Bytes, item_of-Plain, nodes_here}
+use Rattle.redl_tree.proofs.Model.Laws.{in_front-⊕, item_of-Elem, item_of-Bytes, item_of-Plain, nodes_here}
 use Rattle.redl_tree.proofs.Idle.Items.{nodes_are_idle, element_among}
 use Rattle.redl_tree.proofs.Idle.Lists.{names_none}
 use Rattle.redl_tree.proofs.Idle.Tags.{idle_parts}

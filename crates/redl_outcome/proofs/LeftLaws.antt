@@ -32,7 +32,7 @@ use Rattle.redl_select.specs.declared.lock.Lock.{Lock}
 use Rattle.redl_session.specs.Sessions.{says}
 use Rattle.redl_stamp.specs.Attribute.{attribute_value}
 use Rattle.redl_laws.proofs.Survival.Indexed.{survival-package}
-use Rattle.redl_tree.proofs.NumberLaws.{numbered-indexed}
+use Rattle.redl_tree.proofs.Revisions.NumberLaws.{numbered-indexed}
 use Rattle.redl_laws.proofs.Soundness.AllRules.{numbered_sound, soundness}
 use Rattle.redl_tree.specs.Model.Nodes.{Nodes}
 use Rattle.redl_tree.specs.Decisions.Packages.{stories, pass_package}

@@ -5,7 +5,7 @@ use Rattle.redl_tree.specs.Model.Nodes.{Nodes, no_nodes, Empty, ◌⊕◌}
 use Rattle.redl_tree.specs.declared.kinds.Trace.TheVariants.{Ins, Del, From}
 use Rattle.redl_tree.specs.declared.kinds.Prop.TheVariants as props
 use Rattle.redl_tree.specs.declared.kinds.Kind.TheVariants.{Mark, Row, Cell, Change, Marker}
-use Rattle.redl_tree.proofs.Build.{opened, opened_with, closed, member, content, words, run, deleted_run}
+use Rattle.redl_tree.proofs.Model.Build.{opened, opened_with, closed, member, content, words, run, deleted_run}
 use Rattle.redl_index.specs.declared.revision.RevKind.TheVariants as revisions
 use Rattle.redl_index.specs.declared.revision.Revision.{Revision}
 use Rattle.redl_markup.specs.Attributes.{attributes_of}

@@ -7,7 +7,7 @@ use Rattle.redl_markup.specs.ScanNames.{name_at, word_at, char_at, name_end, nam
 use Rattle.redl_markup.specs.ScanTags.{attribute_in, attribute_at, equated_at, quoted_at, quote_at, is_value}
 use Rattle.redl_reading.specs.Lists.{field_at}
 use Rattle.redl_tree.specs.Model.Nodes.{Nodes, ◌⊕◌}
-use Rattle.redl_tree.proofs.Build.{opened, closed, words}
+use Rattle.redl_tree.proofs.Model.Build.{opened, closed, words}
 use Rattle.redl_idle.specs.Shows.{shows}
 use Rattle.redl_page.specs.Inside.Emphasis.{emphasis_rule}
 use Rattle.redl_page.specs.Inside.Idle.{idle_text}

@@ -14,8 +14,8 @@ use Rattle.redl_tree.specs.declared.kinds.Prop.{Prop}
 use Rattle.redl_tree.specs.declared.kinds.Prop.TheVariants as props
 use Rattle.redl_tree.specs.declared.kinds.Kind.{Kind}
 use Rattle.redl_tree.specs.declared.kinds.Kind.TheVariants.{Plain, Content, Mark, Row, Cell, Change, Marker}
-use Rattle.redl_tree.proofs.Named.{by_name, by_names}
-use Rattle.redl_tree.proofs.Fits.{Fits, AllFit, OpenKind, plain, content, marker, open_fits}
+use Rattle.redl_tree.proofs.Roles.Named.{by_name, by_names}
+use Rattle.redl_tree.proofs.Roles.Fits.{Fits, AllFit, OpenKind, plain, content, marker, open_fits}
 use Rattle.redl_laws.proofs.Survival.Indexed.{IsStory, AreStories, indexed_stories}
 use Rattle.redl_index.specs.declared.revision.Revision.{Revision}
 use Rattle.redl_opc.specs.Elements.{Element}

@@ -1,7 +1,7 @@
 -- What a chain is put together from, a piece at a time.
 use Rattle.std.proofs.Common.{◌≡◌, ◌≤◌, Bool, true, false, List, [], ◌∷◌, length, refl, sym, ap, ◌∙◌, arith, not, ◌||◌, ◌&&◌, nat_lt, Option, if◌then◌else◌}
-use Rattle.redl_tree.proofs.Laws.{in_front-⊕}
-use Rattle.redl_tree.proofs.PassLaws.{without-⊕}
+use Rattle.redl_tree.proofs.Model.Laws.{in_front-⊕}
+use Rattle.redl_tree.proofs.Decisions.PassLaws.{without-⊕}
 use Rattle.redl_tree.specs.Decisions.Groups.{paragraph_next, has_thick, joins, given, held_by, grouped_from}
 use Rattle.redl_tree.specs.Model.Kids.{without, has_element, some_element}
 use Rattle.redl_tree.specs.Model.Nodes.{Tag, Nodes, no_nodes, bytes, element, Item, in_front, ◌⊕◌}

@@ -9,8 +9,8 @@ use Rattle.redl_tree.specs.Roles.Lists.{into, is_wrapper, is_thick}
 use Rattle.redl_tree.specs.Decisions.Groups.{Piece, para, thin, thick, paragraph_next, has_thick, joins, joined_tag, joined_kids, unjoined_para, given, held_by, grouped_from, grouped}
 use Rattle.redl_tree.specs.Rules.CellEnds.{or_before, end_of_one, end_of}
 use Rattle.redl_tree.specs.declared.lists.Reach.TheVariants.{Direct}
-use Rattle.redl_tree.proofs.Named.{by_names}
-use Rattle.redl_tree.proofs.PassLaws.{next-thick}
+use Rattle.redl_tree.proofs.Roles.Named.{by_names}
+use Rattle.redl_tree.proofs.Decisions.PassLaws.{next-thick}
 use Rattle.redl_laws.proofs.Soundness.Walk.{some-⊕}
 use Rattle.redl_paras.specs.Ends.{is_chain, keeps_last}
 

@@ -4,7 +4,7 @@ use Rattle.redl_tree.specs.Model.IdleTexts.{idle_nodes}
 use Rattle.redl_tree.specs.Model.Nodes.{Nodes, no_nodes}
 use Rattle.redl_tree.specs.Model.Kids.{some_element, has_element, without}
 use Rattle.redl_tree.specs.Roles.Names.{is}
-use Rattle.redl_tree.proofs.Laws.{⊕-no_nodes}
+use Rattle.redl_tree.proofs.Model.Laws.{⊕-no_nodes}
 use Rattle.redl_tree.proofs.Idle.Items.{nodes_are_idle, element_among, none_idle}
 use Rattle.redl_tree.proofs.Idle.Lists.{NoneIs, name_none, without_past}
 use Rattle.redl_paras.proofs.ChainLaws.{some_besides}

@@ -7,7 +7,7 @@ use Rattle.redl_tree.specs.Decisions.Groups.{Piece, para, thin, thick, paragraph
 use Rattle.redl_tree.specs.Model.Kids.{only, without}
 use Rattle.redl_tree.specs.Model.Nodes.{Tag, Nodes, ◌⊕◌}
 use Rattle.redl_tree.specs.Roles.Names.{is}
-use Rattle.redl_tree.proofs.Laws.{⊕_assoc, ⊕-no_nodes}
+use Rattle.redl_tree.proofs.Model.Laws.{⊕_assoc, ⊕-no_nodes}
 
 -- ---- tests
 

@@ -8,7 +8,7 @@ use Rattle.redl_tree.specs.declared.kinds.Kind.TheVariants.{Content}
 use Rattle.redl_tree.specs.declared.kinds.Say.{Say}
 use Rattle.redl_tree.specs.declared.kinds.Say.TheVariants.{Keep, Accept, Reject}
 use Rattle.redl_tree.specs.declared.kinds.Trace.TheVariants.{Ins, Del}
-use Rattle.redl_tree.proofs.Build.{opened, member, content, run, deleted_run, packaged, part_of, package_of}
+use Rattle.redl_tree.proofs.Model.Build.{opened, member, content, run, deleted_run, packaged, part_of, package_of}
 
 -- the text of a package of one document after the pass
 abbrev decided : List Say → Nodes → List ℕ

@@ -7,7 +7,7 @@ use Rattle.redl_reading.specs.Lists.{is_other}
 use Rattle.redl_markup.specs.Attributes.{attributes_of}
 use Rattle.std.proofs.lemmas.Bool.{and_parts, false_from_ne_true}
 use Rattle.std.proofs.Math.Bool.{and-false}
-use Rattle.redl_tree.proofs.SameBytes.{same_bytes}
+use Rattle.redl_tree.proofs.Reading.SameBytes.{same_bytes}
 use Rattle.redl_markup.proofs.Listing.{name_passes, names_pass}
 use Rattle.redl_rules.specs.Attributes.{is_declaration, declares}
 

@@ -5,7 +5,7 @@ use Rattle.redl_tree.specs.Rules.Tests.{Test, everywhere}
 use Rattle.redl_tree.specs.Roles.Arounds.{around_of, around_inside, role_in}
 use Rattle.redl_tree.specs.Roles.Places.{role}
 use Rattle.redl_tree.specs.declared.around.Around.{Around}
-use Rattle.redl_tree.proofs.AroundLaws.{around_of-∷, role-in}
+use Rattle.redl_tree.proofs.Roles.AroundLaws.{around_of-∷, role-in}
 use Rattle.redl_visit.specs.declared.ancestors.Ancestors.{Ancestors}
 use Rattle.redl_visit.specs.Summaries.{ancestors_of, ancestors_inside}
 use Rattle.redl_visit.specs.Visits.{visited, visited_element}

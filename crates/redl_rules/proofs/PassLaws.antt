@@ -17,7 +17,7 @@ use Rattle.redl_tree.specs.declared.around.Around.{Around}
 use Rattle.redl_tree.specs.declared.around.Parent.{Parent}
 use Rattle.redl_tree.specs.declared.around.Parent.TheVariants.{Other, Para as InPara, Row as InRow, Cell as InCell, Body as InBody, Table as InTable, Run as InRun, ParaProps, MarkProps, RunProps, RowProps, CellProps}
 use Rattle.redl_tree.specs.declared.kinds.Kind.{Kind}
-use Rattle.redl_tree.proofs.NameLaws.{is-other}
+use Rattle.redl_tree.proofs.Roles.NameLaws.{is-other}
 use Rattle.redl_tree.proofs.Idle.Items.{nodes_are_idle}
 use Rattle.redl_tree.proofs.Idle.Lists.{names_none, last_idle}
 use Rattle.redl_tree.proofs.Idle.Roles.{no_trace, no_prop, no_range_edge}

@@ -2,7 +2,7 @@
 use Prim.Native.String.{String}
 use Rattle.std.proofs.Common.{◌≡◌, ℕ, [], ◌∷◌, true, false, Option, None, Some, codes, map, refl}
 use Rattle.redl_tree.specs.Model.Nodes.{Nodes, no_nodes, ◌⊕◌}
-use Rattle.redl_tree.proofs.Build.{opened, opened_with, closed, run, deleted_run, package_of}
+use Rattle.redl_tree.proofs.Model.Build.{opened, opened_with, closed, run, deleted_run, package_of}
 use Rattle.redl_markup.specs.Attributes.{attributes_of}
 use Rattle.redl_markup.specs.Characters.{is_name_start, is_name_character, is_space}
 use Rattle.redl_markup.specs.Names.{may_start, may_follow}

@@ -14,7 +14,7 @@ use Rattle.redl_tree.specs.Roles.Arounds.{parent_of, around_of, role_in}
 use Rattle.redl_tree.specs.Roles.Places.{role, in_para_props, in_mark_props, in_row_props, in_cell_props}
 use Rattle.redl_tree.specs.declared.around.Parent.{Parent}
 use Rattle.redl_tree.specs.declared.around.Parent.TheVariants.{Para as InPara, Row as InRow, Cell as InCell, Body as InBody, ParaProps, MarkProps, RowProps, CellProps}
-use Rattle.redl_tree.proofs.AroundLaws.{same, fits-same, role-in}
+use Rattle.redl_tree.proofs.Roles.AroundLaws.{same, fits-same, role-in}
 use Rattle.redl_rules.proofs.ChangeLaws.{no_change_in_content}
 use Rattle.redl_rules.specs.Attributes.{has_id, declares}
 use Rattle.redl_rules.specs.Rounds.{round_of}

@@ -7,7 +7,7 @@ use Rattle.std.proofs.lemmas.Slice.Eq.{bytes_eq-Decides}
 use Rattle.std.specs.List.{filter, filter_map, cons_option, flat_map, range_with_len}
 use Rattle.std.specs.Prelude.{bytes_eq, option_and_then}
 use Rattle.std.proofs.Math.Bool.{or-true, and-false}
-use Rattle.redl_tree.proofs.SameBytes.{bytes_same}
+use Rattle.redl_tree.proofs.Reading.SameBytes.{bytes_same}
 use Rattle.redl_sample_sound.proofs.Blocks.{Form, Plain, Insertion, Deletion, Mark, Both, Properties, Table, Move, form_of}
 use Rattle.redl_sample_sound.proofs.Moved.{block_of, second, start_at, content_at, end_at, start_mark, end_mark, marks_of, move_with, moves_of, IsAlone}
 use Rattle.redl_sample_sound.proofs.Own.{past, past_later}

@@ -14,7 +14,7 @@ use Rattle.redl_opc.specs.Elements.{Element, elements_of}
 use Rattle.redl_opc.specs.Parts.{name_in, places_from, places_in, places_of}
 use Rattle.redl_opc.specs.Shape.{elements_in, package_of, parts_of}
 use Rattle.redl_stamp.specs.Attribute.{attribute_value}
-use Rattle.redl_tree.proofs.NumberLaws.{unlabelled-numbered}
+use Rattle.redl_tree.proofs.Revisions.NumberLaws.{unlabelled-numbered}
 use Rattle.redl_tree.specs.Model.Nodes.{Nodes, no_nodes, bytes, element}
 
 names-places_from : (at : ℕ) (kids : Nodes) → map (λ (place : ℕ × List ℕ). place.1) (places_from at kids) ≡ map (λ (part : Element). name_in part.tag) (elements_of kids)

@@ -4,7 +4,7 @@ use Rattle.redl_commands.specs.Settle.{same_says}
 use Rattle.redl_commands.specs.Text.{plain_under}
 use Rattle.redl_index.specs.Numbers.{numbered_package, package_revisions}
 use Rattle.redl_stamp.specs.Attribute.{attribute_value}
-use Rattle.redl_tree.proofs.NumberLaws.{numbered-indexed}
+use Rattle.redl_tree.proofs.Revisions.NumberLaws.{numbered-indexed}
 use Rattle.redl_tree.specs.Model.Nodes.{Nodes}
 use Rattle.redl_tree.specs.declared.kinds.Say.{Say}
 use Rattle.redl_views.proofs.PackageLaws.{walk-package}

@@ -10,7 +10,7 @@ use Rattle.redl_tree.specs.Roles.Idle.{is_idle_in}
 use Rattle.redl_tree.specs.declared.node.Node.{Node}
 use Rattle.redl_tree.specs.declared.node.Node as node
 use Rattle.redl_tree.specs.declared.node.Elem.{Elem}
-use Rattle.redl_tree.proofs.Laws.{item_of-Elem, item_of-Bytes, item_of-Plain, nodes_here}
+use Rattle.redl_tree.proofs.Model.Laws.{item_of-Elem, item_of-Bytes, item_of-Plain, nodes_here}
 use Rattle.redl_tree.proofs.Idle.Items.{nodes_are_idle}
 use Rattle.redl_tree.proofs.Idle.Tags.{idle_parts}
 use Rattle.redl_opc.specs.Elements.{Element, element_of, elements_of}

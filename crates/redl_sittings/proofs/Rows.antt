@@ -7,7 +7,7 @@ use Rattle.redl_tree.specs.Decisions.Packages.{pass_package}
 use Rattle.redl_tree.specs.Revisions.Numbers.{numbered_package_by}
 use Rattle.redl_tree.specs.declared.kinds.Say.{Say}
 use Rattle.redl_tree.specs.declared.kinds.Say.TheVariants.{Keep, Accept, Reject}
-use Rattle.redl_tree.proofs.Build.{opened, closed, words, run, deleted_run, package_of}
+use Rattle.redl_tree.proofs.Model.Build.{opened, closed, words, run, deleted_run, package_of}
 use Rattle.redl_journal.specs.declared.entry.Entry.{Entry}
 use Rattle.redl_journal.specs.declared.entry.Word.{Word}
 use Rattle.redl_journal.specs.declared.entry.Word.TheVariants as word

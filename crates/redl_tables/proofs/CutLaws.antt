@@ -3,7 +3,7 @@ use Prim.Native.String.{String}
 use Rattle.std.proofs.Common.{◌≡◌, List, [], ◌∷◌, ◌++◌, Bool, true, false, refl, sym, ap, ◌∙◌, ◌&&◌, ◌||◌, if◌then◌else◌}
 use Rattle.std.proofs.Math.Bool.{or_assoc}
 use Rattle.std.specs.List.{list_all}
-use Rattle.redl_tree.proofs.Laws.{⊕_assoc}
+use Rattle.redl_tree.proofs.Model.Laws.{⊕_assoc}
 use Rattle.redl_tree.proofs.Idle.Items.{nodes_are_idle}
 use Rattle.redl_tree.proofs.Idle.Lists.{NoneIs, name_none, some_past, kids_of_all_past, own_past}
 use Rattle.redl_tree.specs.Model.Nodes.{Nodes, no_nodes, bytes, element, Item, bytes_item, element_item, idle_item, in_front, ◌⊕◌}

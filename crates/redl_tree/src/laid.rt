@@ -102,7 +102,7 @@ fn small(n: usize) -> u32
 }
 
 // The start tag of an element of WordprocessingML that is in no revision.
-#[tactic(auto, using(crate::proofs::Starts::is_cut))]
+#[tactic(auto, using(crate::proofs::Reading::Starts::is_cut))]
 fn plain_tag<'a>(tag: &BareTag<'a>) -> Tag<'a>
     requires { length (name_text tag.now.name ++ tag.now.tail) < 2 ^ 32 }
     ensures { result ≡ plain_start tag.now.name W tag.now.tail }

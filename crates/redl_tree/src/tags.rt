@@ -207,7 +207,7 @@ impl<'a> Tag<'a> {
     }
 
     /// The name as it stands in the input, if the element has that name still.
-    #[tactic(auto, using(crate::proofs::WordLaws::own_name))]
+    #[tactic(auto, using(crate::proofs::Roles::WordLaws::own_name))]
     pub(crate) fn name_read(&self) -> Option<&'a [u8]>
         ensures { IfSome result (λ name. name.now ≡ name_text self.now.prefix self.now.local) }
     {
@@ -218,7 +218,7 @@ impl<'a> Tag<'a> {
     }
 
     /// All between `<` and `>` or `/>` as it stands in the input, if the element has its name from there still.
-    #[tactic(auto, using(crate::proofs::WordLaws::own_name))]
+    #[tactic(auto, using(crate::proofs::Roles::WordLaws::own_name))]
     pub(crate) fn text_read(&self) -> Option<&'a [u8]>
         ensures { IfSome result (λ text. text.now ≡ name_text self.now.prefix self.now.local ++ self.now.tail) }
     {

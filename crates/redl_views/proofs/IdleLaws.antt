@@ -13,8 +13,8 @@ use Rattle.redl_tree.specs.Decisions.Fates.{fate, say_of, fate_of}
 use Rattle.redl_tree.specs.Decisions.Tables.{goes, para_is_cut}
 use Rattle.redl_tree.specs.declared.kinds.Say.{Say}
 use Rattle.redl_tree.specs.declared.lists.Place.{Place}
-use Rattle.redl_tree.proofs.Laws.{⊕-no_nodes}
-use Rattle.redl_tree.proofs.Named.{by_name}
+use Rattle.redl_tree.proofs.Model.Laws.{⊕-no_nodes}
+use Rattle.redl_tree.proofs.Roles.Named.{by_name}
 use Rattle.redl_tree.proofs.Idle.Tags.{Idle, idle_parts, has-not}
 use Rattle.redl_tree.proofs.Idle.Lists.{thick_none}
 use Rattle.redl_tree.proofs.Idle.Items.{nodes_are_idle, element_among}

@@ -10,8 +10,8 @@ use Rattle.redl_tree.specs.Revisions.Numbers.{IsIndexed}
 use Rattle.redl_tree.specs.Decisions.Packages.{stories, pass_package}
 use Rattle.redl_tree.specs.Decisions.Pass.{pass}
 use Rattle.redl_tree.specs.declared.kinds.Say.{Say}
-use Rattle.redl_tree.proofs.Named.{by_name}
-use Rattle.redl_tree.proofs.Fits.{open_∷}
+use Rattle.redl_tree.proofs.Roles.Named.{by_name}
+use Rattle.redl_tree.proofs.Roles.Fits.{open_∷}
 use Rattle.redl_laws.proofs.Survival.Indexed.{IsStory, AreStories, indexed_stories, passed, stories-pass}
 use Rattle.redl_views.specs.PlainText.{plain_in, story_plain, plain_text}
 use Rattle.redl_views.specs.Views.{is_freed, in_shown, view_in, story_view, view_text}

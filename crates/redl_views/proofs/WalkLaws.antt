@@ -15,9 +15,9 @@ use Rattle.redl_tree.specs.Decisions.Pass.{is_block_para as block_para}
 use Rattle.redl_tree.specs.declared.kinds.Say.{Say}
 use Rattle.redl_tree.specs.declared.kinds.Fate.{Fate}
 use Rattle.redl_tree.specs.declared.kinds.Fate.TheVariants.{Leave, Free, Cut, Clear, Restore, Drop}
-use Rattle.redl_tree.proofs.Named.{by_name}
-use Rattle.redl_tree.proofs.Fits.{AllFit, open_fits, open_∷}
-use Rattle.redl_tree.proofs.PassLaws.{block_p}
+use Rattle.redl_tree.proofs.Roles.Named.{by_name}
+use Rattle.redl_tree.proofs.Roles.Fits.{AllFit, open_fits, open_∷}
+use Rattle.redl_tree.proofs.Decisions.PassLaws.{block_p}
 use Rattle.redl_tables.specs.DecidedAncestors.{ancestors_of}
 use Rattle.redl_tables.specs.Places as by_place
 use Rattle.redl_views.specs.declared.summary.Summary.{Summary}

@@ -6,7 +6,7 @@ use Rattle.redl_tree.specs.Model.IdleTexts.{idle_nodes}
 use Rattle.redl_tree.specs.Model.Kids.{has_element}
 use Rattle.redl_tree.specs.Roles.Names.{is}
 use Rattle.redl_tree.specs.Roles.Idle.{is_idle_tag, is_idle_in}
-use Rattle.redl_tree.proofs.Laws.{⊕-no_nodes}
+use Rattle.redl_tree.proofs.Model.Laws.{⊕-no_nodes}
 use Rattle.redl_tree.proofs.Idle.Items.{nodes_are_idle}
 use Rattle.redl_visit.specs.Visits.{visited, visited_element, visited_item, inner_of}
 use Rattle.redl_visit.proofs.VisitLaws.{no_inner}

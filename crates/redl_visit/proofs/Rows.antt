@@ -2,7 +2,7 @@
 use Rattle.std.proofs.Common.{◌≡◌, refl, ℕ, ◌+◌, List, [], ◌∷◌, ◌++◌, length, codes}
 use Rattle.redl_tree.specs.Model.Nodes.{Tag, Nodes, no_nodes, Empty, End, ◌⊕◌}
 use Rattle.redl_tree.specs.declared.kinds.Kind.TheVariants.{Plain}
-use Rattle.redl_tree.proofs.Build.{opened, closed, member, words, run}
+use Rattle.redl_tree.proofs.Model.Build.{opened, closed, member, words, run}
 use Rattle.redl_visit.specs.Visits.{VisitRule, visited}
 use Rattle.redl_visit.specs.Pairs.{both_rule}
 use Rattle.redl_visit.specs.Labelling.{LabelRule, relabelled}

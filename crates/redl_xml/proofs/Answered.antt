@@ -28,7 +28,7 @@ use Rattle.redl_xml.specs.Scopes.{Scope, scope_in}
 use Rattle.redl_xml.specs.Readings.{name_of, IsTag, ClosesBy, AreLegal, IsReading, HasReading, HasNoReading, HaveLegalTails}
 use Rattle.redl_xml.specs.Errors.{error_of}
 use Rattle.redl_xml.specs.Inside.Documents.{bytes_or_none, document_at}
-use Rattle.redl_tree.proofs.TreeTexts.{close_then, tree_then}
+use Rattle.redl_tree.proofs.Model.TreeTexts.{close_then, tree_then}
 use Rattle.redl_xml.proofs.Complete.{nodes_end_stretch}
 use Rattle.redl_xml.proofs.Documents.{HasSizes, has_bytes, whole_then, reading_of_document, document_of_reading, no_document}
 

@@ -14,7 +14,7 @@ use Rattle.redl_tree.specs.Model.View as tree
 use Rattle.redl_tree.specs.declared.node.Node.{Node}
 use Rattle.redl_tree.specs.declared.node.Node.TheVariants as node
 use Rattle.redl_tree.specs.declared.node.Elem.{Elem}
-use Rattle.redl_tree.proofs.Laws.{nodes_of-push, item_of-Elem}
+use Rattle.redl_tree.proofs.Model.Laws.{nodes_of-push, item_of-Elem}
 use Rattle.redl_markup.specs.Names.{Name, name_eq}
 use Rattle.redl_markup.specs.Pieces.{empty_tag}
 use Rattle.redl_xml.specs.declared.open_element.OpenElement.{OpenElement}

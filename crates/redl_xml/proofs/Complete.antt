@@ -5,7 +5,7 @@ use Rattle.redl_tree.specs.declared.kinds.Space.{Space}
 use Rattle.redl_tree.specs.declared.kinds.Kind.{Kind}
 use Rattle.redl_tree.specs.declared.kinds.Kind.TheVariants.{Plain}
 use Rattle.redl_tree.specs.Model.Nodes.{Close, Empty, End}
-use Rattle.redl_tree.proofs.Laws.{⊕-no_nodes, ⊕_assoc}
+use Rattle.redl_tree.proofs.Model.Laws.{⊕-no_nodes, ⊕_assoc}
 use Rattle.redl_markup.specs.declared.piece.Place.TheVariants.{InElement}
 use Rattle.redl_reading.specs.Steps.{turns}
 use Rattle.redl_markup.specs.Names.{Name, name_text, name_eq}
@@ -21,8 +21,8 @@ use Rattle.redl_xml.specs.Inside.Elements.{declared_in, Frame, State, plain_tag,
 use Rattle.redl_xml.proofs.Scoping.{MayEnter, entered_again, left_again}
 use Rattle.redl_xml.proofs.Buildings.{state}
 use Rattle.redl_xml.proofs.Loops.{size, shrinks, step_goes, step_ends}
-use Rattle.redl_tree.proofs.TreeTexts.{close_then, tree_then}
-use Rattle.redl_tree.proofs.SameBytes.{bytes_same}
+use Rattle.redl_tree.proofs.Model.TreeTexts.{close_then, tree_then}
+use Rattle.redl_tree.proofs.Reading.SameBytes.{bytes_same}
 
 -- the turns from a point give this, in some number
 record Gets (p : Point) (u : Nodes) (rest : List ℕ) : Type 0 where

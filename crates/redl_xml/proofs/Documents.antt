@@ -21,7 +21,7 @@ use Rattle.redl_xml.specs.Shapes.{depth_of}
 use Rattle.redl_xml.specs.Readings.{name_of, AreLegal, IsStretchOrNone, IsReading}
 use Rattle.redl_xml.specs.Inside.Elements.{element_at}
 use Rattle.redl_xml.specs.Inside.Documents.{stretch_or_none, stretch_in, bytes_or_none, whole_nodes, document_from, document_at, sizes_at}
-use Rattle.redl_tree.proofs.TreeTexts.{close_then, tree_then, tree-then, tree_then-⊕}
+use Rattle.redl_tree.proofs.Model.TreeTexts.{close_then, tree_then, tree-then, tree_then-⊕}
 use Rattle.redl_xml.proofs.Sound.{element_sound}
 use Rattle.redl_xml.proofs.Complete.{element_again}
 use Rattle.redl_xml.specs.Inside.Sizes.{capped, sizes_of}

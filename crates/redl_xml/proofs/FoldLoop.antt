@@ -26,9 +26,9 @@ use Rattle.redl_xml.specs.declared.idle.Idle.{Idle}
 use Rattle.redl_xml.specs.Inside.Sizes.{deepest_with}
 use Rattle.redl_xml.proofs.Complete.{name_same}
 use Rattle.redl_xml.proofs.Measures.{count-⊕, depth-⊕}
-use Rattle.redl_tree.proofs.TreeTexts.{tree-then}
+use Rattle.redl_tree.proofs.Model.TreeTexts.{tree-then}
 use Rattle.redl_tree.proofs.Idle.Texts.{tags-⊕}
-use Rattle.redl_tree.proofs.FoldLaws.{level_then, put_text, put_laid, shut_some, AreLaidOpen, IsLaidAt, nodes_again, tree-text}
+use Rattle.redl_tree.proofs.Reading.FoldLaws.{level_then, put_text, put_laid, shut_some, AreLaidOpen, IsLaidAt, nodes_again, tree-text}
 
 -- ---- the names of the open elements are all that the code keeps
 

@@ -3,7 +3,7 @@ use Rattle.std.proofs.Common.{◌≡◌, ℕ, false, List, ◌∷◌, ◌++◌, 
 use Rattle.redl_tree.specs.Model.Nodes.{Tag, Nodes, no_nodes, bytes, element, ◌⊕◌}
 use Rattle.redl_tree.specs.Model.Nodes.{Close, Empty, End}
 use Rattle.redl_tree.specs.declared.kinds.Space.{Space}
-use Rattle.redl_tree.proofs.Laws.{⊕-no_nodes, ⊕_assoc}
+use Rattle.redl_tree.proofs.Model.Laws.{⊕-no_nodes, ⊕_assoc}
 use Rattle.redl_markup.specs.declared.piece.Place.TheVariants.{InElement}
 use Rattle.redl_markup.specs.Names.{name_text}
 use Rattle.redl_markup.specs.Pieces.{Piece, start_tag, empty_tag, end_tag, stretch, piece_then, IsPiece, Follows}
@@ -19,9 +19,9 @@ use Rattle.redl_tree.specs.Model.Laid.{Fits, IsLaidTag, AreLaid}
 use Rattle.redl_xml.proofs.Scoping.{entered_takes, plain_entered}
 use Rattle.redl_xml.proofs.Buildings.{state}
 use Rattle.redl_xml.proofs.Loops.{Loop, loop_goes}
-use Rattle.redl_tree.proofs.TreeTexts.{close_then, tree_then, tree-then}
+use Rattle.redl_tree.proofs.Model.TreeTexts.{close_then, tree_then, tree-then}
 use Rattle.redl_xml.proofs.Complete.{opens, start_placed, empty_placed, end_placed}
-use Rattle.redl_tree.proofs.FoldLaws.{laid_end_stretch, text_of_nodes_in, nodes_are_laid}
+use Rattle.redl_tree.proofs.Reading.FoldLaws.{laid_end_stretch, text_of_nodes_in, nodes_are_laid}
 
 -- ---- tags in a scope in which they have this space and declare nothing
 

@@ -12,7 +12,7 @@ use Rattle.redl_tree.specs.declared.kinds.Space.TheVariants.{W}
 use Rattle.redl_tree.specs.Roles.Names.{is}
 use Rattle.redl_tree.proofs.Idle.Texts.{each_is_idle, all_mapped}
 use Rattle.redl_tree.proofs.Idle.Items.{idle_text}
-use Rattle.redl_tree.proofs.FrontLaws.{nothing_in}
+use Rattle.redl_tree.proofs.Reading.FrontLaws.{nothing_in}
 use Rattle.redl_markup.specs.References.{is_there}
 use Rattle.redl_reading.specs.Steps.{or_same}
 use Rattle.redl_xml.specs.Shapes.{depth_of}

@@ -3,7 +3,7 @@ use Rattle.std.proofs.Common.{◌≡◌, ℕ, ◌+◌, true, false, List, [], �
 use Rattle.std.proofs.lemmas.Option.{same_Some}
 use Rattle.redl_reading.proofs.Options.{map_some, map_none}
 use Rattle.redl_tree.specs.Model.Nodes.{Nodes, no_nodes, bytes, ◌⊕◌}
-use Rattle.redl_tree.proofs.Laws.{⊕-no_nodes}
+use Rattle.redl_tree.proofs.Model.Laws.{⊕-no_nodes}
 use Rattle.redl_markup.specs.declared.piece.Place.TheVariants.{BeforeRoot, AfterRoot}
 use Rattle.redl_markup.specs.declared.error.MarkupError.{MarkupError}
 use Rattle.redl_markup.specs.declared.error.MarkupError.TheVariants.{Unreadable, NoMemory}

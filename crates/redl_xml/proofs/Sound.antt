@@ -27,8 +27,8 @@ use Rattle.redl_tree.specs.Model.Laid.{last_is_bytes, ends_with_bytes}
 use Rattle.redl_xml.proofs.Scoping.{MayEnter, inside, entered_takes, left_entered}
 use Rattle.redl_xml.proofs.Buildings.{state}
 use Rattle.redl_xml.proofs.Loops.{step_goes, step_ends, step_fails, step_refuses}
-use Rattle.redl_tree.proofs.TreeTexts.{tree_then, tree_then-⊕}
-use Rattle.redl_tree.proofs.SameBytes.{same_name}
+use Rattle.redl_tree.proofs.Model.TreeTexts.{tree_then, tree_then-⊕}
+use Rattle.redl_tree.proofs.Reading.SameBytes.{same_name}
 
 -- ---- the text so far
 

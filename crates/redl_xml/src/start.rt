@@ -10,7 +10,7 @@ use std::alloc::AllocError;
 /// The start tag of an element in this space and in no revision.
 ///
 /// `Err` means out of memory: the tree has no room for a name of 4 GB or more.
-#[tactic(auto, using(redl_tree::proofs::Starts::is_cut))]
+#[tactic(auto, using(redl_tree::proofs::Reading::Starts::is_cut))]
 pub(crate) fn kept<'a>(tag: &StartTag<'a>, space: Space) -> Result<Tag<'a>, AllocError>
     ensures { IfOk result (λ start. start ≡ plain_start tag.now.name space tag.now.tail) }
 {

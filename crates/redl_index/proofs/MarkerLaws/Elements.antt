@@ -12,7 +12,7 @@ use Rattle.redl_tree.specs.Model.Kids.{some_element, item_is, kids_of_all}
 use Rattle.redl_tree.specs.Model.Seen.{Spot, spot, tags_of}
 use Rattle.redl_tree.proofs.Idle.Items.{nodes_are_idle}
 use Rattle.redl_tree.proofs.Idle.Lists.{NoneIs, kids_of_all_past}
-use Rattle.redl_tree.proofs.KeptLaws.{some-⊕, some-in_front}
+use Rattle.redl_tree.proofs.Model.KeptLaws.{some-⊕, some-in_front}
 use Rattle.redl_visit.specs.Summaries.{ancestors_of}
 use Rattle.redl_index.specs.Markers.Ends.{one_end}
 use Rattle.redl_index.specs.Inside.Markers.Trails.{trail_of, makes_revised, is_revised_by, leaves_grid_at, inside_trail}

@@ -11,7 +11,7 @@ use Rattle.redl_tree.specs.declared.kinds.Kind.TheVariants.{Content, Mark, Row, 
 use Rattle.redl_tree.specs.declared.kinds.Trace.{Trace}
 use Rattle.redl_tree.specs.declared.kinds.Trace.TheVariants.{Ins, Del, From, To}
 use Rattle.redl_tree.specs.declared.kinds.Prop.{Prop}
-use Rattle.redl_tree.proofs.NameLaws.{is_any-apart}
+use Rattle.redl_tree.proofs.Roles.NameLaws.{is_any-apart}
 use Rattle.redl_stamp.specs.Attribute.{attribute_value}
 use Rattle.redl_moves.specs.Standing.{IsApart}
 use Rattle.redl_index.specs.Markers.Found.{markers_of}

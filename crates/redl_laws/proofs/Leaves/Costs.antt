@@ -11,7 +11,7 @@ use Rattle.redl_tree.specs.Leaves.Rebuilt.{original}
 use Rattle.redl_tree.specs.Leaves.Settings.{Setting, is_among, is_altered, has_member, leaf_holds, leaf_cost, setting_cost, slots_cost}
 use Rattle.redl_tree.specs.Decisions.Fates.{say_of}
 use Rattle.redl_tree.specs.declared.kinds.Say.{Say}
-use Rattle.redl_tree.proofs.Laws.{count-⊕}
+use Rattle.redl_tree.proofs.Model.Laws.{count-⊕}
 use Rattle.redl_laws.proofs.Leaves.Says.{altered-none}
 
 -- ---- the list of leaves, and a walk over slots

@@ -8,7 +8,7 @@ use Rattle.redl_tree.specs.Leaves.Living.{goes_by_counts}
 use Rattle.redl_tree.specs.Leaves.Settings.{has_member, leaf_holds, IsUnheld}
 use Rattle.redl_tree.specs.Leaves.States.{Tally, States, no_states, leaf_state, container_state, joined_states, slots_of, shown, lent, states_owned, states_living, IsTally, AreTallied, ArePassed}
 use Rattle.redl_tree.specs.declared.kinds.Say.{Say}
-use Rattle.redl_tree.proofs.Laws.{⊕_assoc}
+use Rattle.redl_tree.proofs.Model.Laws.{⊕_assoc}
 
 -- ---- slots
 

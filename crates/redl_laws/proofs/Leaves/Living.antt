@@ -20,7 +20,7 @@ use Rattle.redl_tree.specs.declared.lists.Reach.TheVariants.{Direct, Control, Be
 use Rattle.redl_tree.specs.declared.lists.Lot.{Lot}
 use Rattle.redl_tree.specs.declared.lists.Lot.TheVariants.{Blocks, Rows, Cells}
 use Rattle.redl_tree.specs.declared.kinds.Say.{Say}
-use Rattle.redl_tree.proofs.NameLaws.{all_differ, is_any-apart, is-other, is_frame, frame_names, frame-quiet, is-among, is_any-among}
+use Rattle.redl_tree.proofs.Roles.NameLaws.{all_differ, is_any-apart, is-other, is_frame, frame_names, frame-quiet, is-among, is_any-among}
 use Rattle.redl_laws.proofs.Leaves.Openings.{opens-named, outer_names, outer-named, outer-root, root-nowhere, place-choice, into-direct}
 use Rattle.redl_laws.proofs.Leaves.Containers.{AllContainers, Carries, all-containers}
 

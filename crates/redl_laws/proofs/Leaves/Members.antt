@@ -20,8 +20,8 @@ use Rattle.redl_tree.specs.Leaves.Containers.{opens, opens_outer}
 use Rattle.redl_tree.specs.Leaves.Slots.{Slots, no_slots, leaf_slot, container_slot, slots_in}
 use Rattle.redl_tree.specs.declared.kinds.Kind.{Kind}
 use Rattle.redl_tree.specs.declared.kinds.Kind.TheVariants.{Plain}
-use Rattle.redl_tree.proofs.NameLaws.{is_frame, frame-quiet}
-use Rattle.redl_tree.proofs.Fits.{AllFit, open_∷}
+use Rattle.redl_tree.proofs.Roles.NameLaws.{is_frame, frame-quiet}
+use Rattle.redl_tree.proofs.Roles.Fits.{AllFit, open_∷}
 use Rattle.redl_laws.proofs.Survival.Indexed.{AreStories, indexed_stories}
 use Rattle.redl_laws.proofs.Leaves.Rebuilt.{frame-plain}
 use Rattle.redl_laws.proofs.Leaves.Openings.{opens-named, outer-frame}

@@ -20,10 +20,10 @@ use Rattle.redl_tree.specs.declared.lists.Reach.TheVariants.{Direct, Control, Be
 use Rattle.redl_tree.specs.declared.lists.Lot.{Lot}
 use Rattle.redl_tree.specs.declared.lists.Lot.TheVariants.{Blocks, Rows, Cells}
 use Rattle.redl_tree.specs.declared.kinds.Say.{Say}
-use Rattle.redl_tree.proofs.NameLaws.{is_any-apart, is_frame, frame_names, frame-quiet, is-among, is_any-among, all_among}
+use Rattle.redl_tree.proofs.Roles.NameLaws.{is_any-apart, is_frame, frame_names, frame-quiet, is-among, is_any-among, all_among}
 use Rattle.redl_laws.proofs.Leaves.StandIns.{IsPlain, IsAlike}
 use Rattle.redl_laws.proofs.Leaves.Rebuilt.{IsOpening, rebuilt-kids}
-use Rattle.redl_tree.proofs.Fits.{AllFit}
+use Rattle.redl_tree.proofs.Roles.Fits.{AllFit}
 
 pub either : (a b : Bool) (P : Type 0) → (a || b) ≡ true → (a ≡ true → P) → (b ≡ true → P) → P
 either true b P h f g = f refl

@@ -6,7 +6,7 @@ use Rattle.redl_tree.specs.Roles.Names.{is}
 use Rattle.redl_tree.specs.Roles.Lists.{in_blocks, is_thick}
 use Rattle.redl_tree.specs.Leaves.Slots.{Slots, Sibling, para_sibling, thin_sibling, thick_sibling, open_sibling, has_mark, chain_next, thick_next, chained, chain_after, slot_of, slots_from, sibling, siblings, slots_in}
 use Rattle.redl_tree.specs.Leaves.Rebuilt.{original}
-use Rattle.redl_tree.proofs.Laws.{⊕_assoc}
+use Rattle.redl_tree.proofs.Model.Laws.{⊕_assoc}
 use Rattle.redl_laws.proofs.Leaves.Containers.{AllContainers, Carries, all-containers}
 use Rattle.redl_laws.proofs.Leaves.Rebuilt.{IsAwaited}
 

@@ -14,10 +14,10 @@ use Rattle.redl_tree.specs.Leaves.Rebuilt.{rebuilt, rebuild_rule}
 use Rattle.redl_tree.specs.declared.kinds.Kind.{Kind}
 use Rattle.redl_tree.specs.declared.kinds.Kind.TheVariants.{Plain, Content, Mark, Row, Cell, Change, Marker}
 use Rattle.redl_tree.specs.declared.kinds.Say.{Say}
-use Rattle.redl_tree.proofs.NameLaws.{frame_names, is_any-among}
-use Rattle.redl_tree.proofs.Fits.{AllFit}
+use Rattle.redl_tree.proofs.Roles.NameLaws.{frame_names, is_any-among}
+use Rattle.redl_tree.proofs.Roles.Fits.{AllFit}
 use Rattle.redl_laws.proofs.Survival.Indexed.{AreStories, indexed_stories}
-use Rattle.redl_tree.proofs.StoryLaws.{Agree, changed_in-agree}
+use Rattle.redl_tree.proofs.Decisions.StoryLaws.{Agree, changed_in-agree}
 use Rattle.redl_laws.proofs.Leaves.StandIns.{IsPlain}
 use Rattle.redl_laws.proofs.Leaves.Openings.{story_roots, rebuilt-story, rebuilt-outer_story}
 

@@ -19,13 +19,13 @@ use Rattle.redl_tree.specs.Leaves.Present.{pass_leaf, stand_ins}
 use Rattle.redl_tree.specs.Leaves.Rebuilt.{rebuilt}
 use Rattle.redl_tree.specs.declared.kinds.Say.{Say}
 use Rattle.redl_tree.specs.declared.kinds.Kind.TheVariants.{Plain}
-use Rattle.redl_tree.proofs.Laws.{⊕-no_nodes}
-use Rattle.redl_tree.proofs.PassLaws.{alone, alone-piece, each, pass-each, pass-outside, ends_cut, grouped-append, pieces-⊕}
-use Rattle.redl_tree.proofs.Named.{by_name}
-use Rattle.redl_tree.proofs.NameLaws.{is_frame, frame-not, frame-apart, frame-quiet}
+use Rattle.redl_tree.proofs.Model.Laws.{⊕-no_nodes}
+use Rattle.redl_tree.proofs.Decisions.PassLaws.{alone, alone-piece, each, pass-each, pass-outside, ends_cut, grouped-append, pieces-⊕}
+use Rattle.redl_tree.proofs.Roles.Named.{by_name}
+use Rattle.redl_tree.proofs.Roles.NameLaws.{is_frame, frame-not, frame-apart, frame-quiet}
 use Rattle.redl_laws.proofs.Leaves.Following.{grouped-next}
 use Rattle.redl_laws.proofs.Leaves.StandIns.{IsPlain, AllPlain, IsAlike, plain-open, plain-renamed, closed-piece}
-use Rattle.redl_tree.proofs.Fits.{Fits, AllFit, OpenKind, plain, content, marker, open_fits, open_none_rejected, open_∷, true_false}
+use Rattle.redl_tree.proofs.Roles.Fits.{Fits, AllFit, OpenKind, plain, content, marker, open_fits, open_none_rejected, open_∷, true_false}
 
 -- A test of which elements are containers, and what its containers are: `IsPath` tells which lists of ancestors are containers.
 pub record IsOpening (opens : List Tag → Tag → Bool) (IsPath : List Tag → Type 0) : Type 0 where

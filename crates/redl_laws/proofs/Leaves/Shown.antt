@@ -10,8 +10,8 @@ use Rattle.redl_tree.specs.Leaves.States.{States}
 use Rattle.redl_tree.specs.Leaves.Shown.{AreStatesOfEach, shown_rule}
 use Rattle.redl_tree.specs.declared.kinds.Say.{Say}
 use Rattle.redl_laws.proofs.Survival.Indexed.{AreStories, indexed_stories}
-use Rattle.redl_tree.proofs.StoryLaws.{Agree, changed_in-agree, stories-changed}
-use Rattle.redl_tree.proofs.NameLaws.{frame_names, is_any-among}
+use Rattle.redl_tree.proofs.Decisions.StoryLaws.{Agree, changed_in-agree, stories-changed}
+use Rattle.redl_tree.proofs.Roles.NameLaws.{frame_names, is_any-among}
 use Rattle.redl_laws.proofs.Leaves.Packages.{ArePlain, roots-plain}
 use Rattle.redl_laws.proofs.Leaves.Openings.{AnyPath, IsOuter, story_roots, root-outer}
 use Rattle.redl_laws.proofs.Leaves.States.{IsCountedOpening, whole_opening, outer_opening}

@@ -16,7 +16,7 @@ use Rattle.redl_tree.specs.Leaves.Living.{is_between, one_living, owned, living,
 use Rattle.redl_tree.specs.Leaves.Settings.{SameBut, has_member, leaf_holds, IsUnheld}
 use Rattle.redl_tree.specs.Leaves.States.{States, no_states, leaf_state, container_state, slots_of, shown, lent, one_left, states_owned, states_living, AreTallied, ArePassed, AreCurrent}
 use Rattle.redl_tree.specs.declared.kinds.Say.{Say}
-use Rattle.redl_tree.proofs.Fits.{AllFit}
+use Rattle.redl_tree.proofs.Roles.Fits.{AllFit}
 use Rattle.redl_laws.proofs.Leaves.StandIns.{AllPlain, plain-open}
 use Rattle.redl_laws.proofs.Leaves.Rebuilt.{IsOpening, rebuilt-kids}
 use Rattle.redl_laws.proofs.Leaves.Openings.{AnyPath, opens-opening, IsOuter, outer-opening}

@@ -13,9 +13,9 @@ use Rattle.redl_tree.specs.Leaves.Settings.{has_member, leaf_holds}
 use Rattle.redl_tree.specs.Leaves.Present.{present_leaf, present_leaves}
 use Rattle.redl_tree.specs.Leaves.Shown.{ShowsStory}
 use Rattle.redl_tree.specs.declared.kinds.Say.{Say}
-use Rattle.redl_tree.proofs.NameLaws.{frame_names, is_any-among}
+use Rattle.redl_tree.proofs.Roles.NameLaws.{frame_names, is_any-among}
 use Rattle.redl_laws.proofs.Survival.Indexed.{IsStory, AreStories, indexed_stories}
-use Rattle.redl_tree.proofs.Fits.{open_∷}
+use Rattle.redl_tree.proofs.Roles.Fits.{open_∷}
 use Rattle.redl_laws.proofs.Leaves.StandIns.{IsPlain}
 use Rattle.redl_laws.proofs.Leaves.Openings.{AnyPath, IsOuter, story_roots, root-outer, root-stays}
 use Rattle.redl_laws.proofs.Leaves.Originals.{original-slots}

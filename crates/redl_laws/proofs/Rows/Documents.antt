@@ -11,7 +11,7 @@ use Rattle.redl_tree.specs.Decisions.Survivors.{text_pieces, survivors}
 use Rattle.redl_tree.specs.declared.kinds.Say.{Say}
 use Rattle.redl_tree.specs.declared.kinds.Space.TheVariants.{W, Pkg, Other}
 use Rattle.redl_tree.specs.Model.Nodes.{Empty, End}
-use Rattle.redl_tree.proofs.Build.{tag_in, one}
+use Rattle.redl_tree.proofs.Model.Build.{tag_in, one}
 use Rattle.redl_laws.proofs.Rows.Tails.{value, has_id, declares}
 
 -- an element with kids, with attributes and kids, with neither, and with attributes alone

@@ -13,7 +13,7 @@ use Rattle.redl_tree.specs.Decisions.Fates.{live_name, renamed, is_revived}
 use Rattle.redl_tree.specs.declared.kinds.Say.{Say}
 use Rattle.redl_tree.specs.declared.kinds.Space.TheVariants.{W}
 use Rattle.redl_tree.specs.Model.Nodes.{Close}
-use Rattle.redl_tree.proofs.Named.{named, by_name}
+use Rattle.redl_tree.proofs.Roles.Named.{named, by_name}
 
 -- a name that the pass never changes or gives
 abbrev pub ordinary : String → Bool

@@ -16,9 +16,9 @@ use Rattle.redl_tree.specs.Revisions.Numbers.{IsIndexed, numbered_package_by}
 use Rattle.redl_tree.specs.Rules.Tests.{Test, everywhere}
 use Rattle.redl_tree.specs.Rules.Sound.{in_content, among_blocks, holds, tests, is_sound, test_1, test_2, test_3, test_4, test_5, test_6, test_7, test_8, test_9}
 use Rattle.redl_tree.specs.declared.kinds.Say.{Say}
-use Rattle.redl_tree.proofs.Build.{one}
-use Rattle.redl_tree.proofs.Named.{by_names}
-use Rattle.redl_tree.proofs.Fits.{AllFit, true_false, open_∷, open_none_rejected}
+use Rattle.redl_tree.proofs.Model.Build.{one}
+use Rattle.redl_tree.proofs.Roles.Named.{by_names}
+use Rattle.redl_tree.proofs.Roles.Fits.{AllFit, true_false, open_∷, open_none_rejected}
 use Rattle.redl_laws.proofs.Soundness.AlikeTags.{Own, like_self}
 use Rattle.redl_laws.proofs.Soundness.Ancestors.{Came, top, kept, past_content, among-past, past_open, blocks_open, kid_3, free3, content_role, implies_from, implies_of, not_of, not_to}
 use Rattle.redl_laws.proofs.Survival.Indexed.{AreStories, indexed_stories, stories-pass, passed}
@@ -27,7 +27,7 @@ use Rattle.redl_laws.proofs.Soundness.Rules.{kept_3, kept_7, kept_8, kept_9}
 use Rattle.redl_laws.proofs.Soundness.Properties.{kept_4, kept_5, kept_6}
 use Rattle.redl_laws.proofs.Soundness.RowLaws.{kept_2}
 use Rattle.redl_laws.proofs.Soundness.Ends.{kept_1}
-use Rattle.redl_tree.proofs.NumberLaws.{numbered-indexed, sound-numbered}
+use Rattle.redl_tree.proofs.Revisions.NumberLaws.{numbered-indexed, sound-numbered}
 
 -- Rule 3 says of a content revision what the form of the walk says of its kids.
 

@@ -22,8 +22,8 @@ use Rattle.redl_tree.specs.declared.kinds.Prop.{Prop}
 use Rattle.redl_tree.specs.declared.kinds.Prop.TheVariants.{Run, Para as ParaProp, Sect, Table, Except, Row as RowProp, Cell as CellProp}
 use Rattle.redl_tree.specs.declared.kinds.Kind.{Kind}
 use Rattle.redl_tree.specs.declared.kinds.Kind.TheVariants.{Content, Mark, Row, Cell, Change}
-use Rattle.redl_tree.proofs.Named.{AllNames, by_name, by_names, by_trace}
-use Rattle.redl_tree.proofs.Fits.{open_∷, open_head, open_tail, true_false}
+use Rattle.redl_tree.proofs.Roles.Named.{AllNames, by_name, by_names, by_trace}
+use Rattle.redl_tree.proofs.Roles.Fits.{open_∷, open_head, open_tail, true_false}
 use Rattle.redl_laws.proofs.Soundness.AlikeTags.{Like, ordinary, like_quiet, like_trace, like_prop, like_thick, like_any, like_has_blocks, like_into, like_run_props}
 
 pub implies_from : (a b : Bool) → (a ≡ true → b ≡ true) → implies a b ≡ true

@@ -20,10 +20,10 @@ use Rattle.redl_tree.specs.declared.lists.Reach.TheVariants.{Direct, Control, Be
 use Rattle.redl_tree.specs.declared.lists.Lot.TheVariants.{Blocks}
 use Rattle.redl_tree.specs.declared.kinds.Space.TheVariants.{W}
 use Rattle.redl_tree.specs.declared.kinds.Say.{Say}
-use Rattle.redl_tree.proofs.PassLaws.{each, pass-each, next-thick}
-use Rattle.redl_tree.proofs.EndLaws.{two_none}
-use Rattle.redl_tree.proofs.Named.{by_name, by_names, by_trace}
-use Rattle.redl_tree.proofs.Fits.{Fits, OpenKind, plain, content, marker, open_fits, open_∷, true_false}
+use Rattle.redl_tree.proofs.Decisions.PassLaws.{each, pass-each, next-thick}
+use Rattle.redl_tree.proofs.Roles.EndLaws.{two_none}
+use Rattle.redl_tree.proofs.Roles.Named.{by_name, by_names, by_trace}
+use Rattle.redl_tree.proofs.Roles.Fits.{Fits, OpenKind, plain, content, marker, open_fits, open_∷, true_false}
 use Rattle.redl_laws.proofs.Soundness.AlikeTags.{Like, like_thick, like_any, own_renamed, like_into}
 use Rattle.redl_laws.proofs.Soundness.Ancestors.{Came, past_content, free3, came_open, implies_from, implies_of, in_blocks-reach, reach_trace, past_self}
 use Rattle.redl_laws.proofs.Soundness.Walk.{Holds, Stands, Ground, Kept, made, change_shut, content_fits, some-⊕}

@@ -14,9 +14,9 @@ use Rattle.redl_tree.specs.Rules.Sound.{below_change, test_4, test_5, test_6}
 use Rattle.redl_tree.specs.declared.kinds.Prop.{Prop}
 use Rattle.redl_tree.specs.declared.kinds.Prop.TheVariants.{Run, Para as ParaProp, Sect, Table, Except, Row as RowProp, Cell as CellProp}
 use Rattle.redl_tree.specs.declared.kinds.Say.{Say}
-use Rattle.redl_tree.proofs.PassLaws.{each}
-use Rattle.redl_tree.proofs.Named.{by_name}
-use Rattle.redl_tree.proofs.Fits.{AllFit, true_false, open_∷, open_none_rejected}
+use Rattle.redl_tree.proofs.Decisions.PassLaws.{each}
+use Rattle.redl_tree.proofs.Roles.Named.{by_name}
+use Rattle.redl_tree.proofs.Roles.Fits.{AllFit, true_false, open_∷, open_none_rejected}
 use Rattle.redl_laws.proofs.Soundness.AlikeTags.{Like, like_quiet, like_prop, ordinary}
 use Rattle.redl_laws.proofs.Soundness.Ancestors.{Came, kept, Para, Stood, banned, free3, came_open, change_came, mark_came, para_came, row_came, cell_came, implies_from, implies_of, by_prop, in_below}
 use Rattle.redl_laws.proofs.Soundness.Walk.{Holds, Ground, Kept, NoMarkBelow, made, change_shut, change_name, change_parent, rejected_found, rejected_former, owner_of, props_owner, change_props, some-⊕}

@@ -23,9 +23,9 @@ use Rattle.redl_tree.specs.declared.kinds.Kind.TheVariants.{Plain}
 use Rattle.redl_tree.specs.declared.kinds.Say.{Say}
 use Rattle.redl_tree.specs.declared.kinds.Fate.{Fate}
 use Rattle.redl_tree.specs.declared.kinds.Fate.TheVariants.{Leave}
-use Rattle.redl_tree.proofs.PassLaws.{each, pass-each}
-use Rattle.redl_tree.proofs.Named.{by_name}
-use Rattle.redl_tree.proofs.Fits.{Fits, true_false, open_∷, open_fits, OpenKind, plain, content, marker, open_none_rejected}
+use Rattle.redl_tree.proofs.Decisions.PassLaws.{each, pass-each}
+use Rattle.redl_tree.proofs.Roles.Named.{by_name}
+use Rattle.redl_tree.proofs.Roles.Fits.{Fits, true_false, open_∷, open_fits, OpenKind, plain, content, marker, open_none_rejected}
 use Rattle.redl_laws.proofs.Soundness.AlikeTags.{Like, own_renamed, like_into}
 use Rattle.redl_laws.proofs.Soundness.Ancestors.{Came, came_open, implies_from, implies_of, not_to}
 use Rattle.redl_laws.proofs.Soundness.Walk.{Holds, Ground, Kept, made, change_shut}

@@ -14,8 +14,8 @@ use Rattle.redl_tree.specs.declared.kinds.Say.{Say}
 use Rattle.redl_tree.specs.declared.kinds.Prop.{Prop}
 use Rattle.redl_tree.specs.declared.kinds.Kind.{Kind}
 use Rattle.redl_tree.specs.declared.kinds.Kind.TheVariants.{Plain, Content, Mark, Row, Cell, Change, Marker}
-use Rattle.redl_tree.proofs.Named.{by_name}
-use Rattle.redl_tree.proofs.Fits.{true_false}
+use Rattle.redl_tree.proofs.Roles.Named.{by_name}
+use Rattle.redl_tree.proofs.Roles.Fits.{true_false}
 use Rattle.redl_laws.proofs.Soundness.AlikeTags.{Like, Own, like_self, like_edge, like_trace, like_prop}
 use Rattle.redl_laws.proofs.Soundness.Ancestors.{Came, Stood, free3, kid_3, kid_3_from, came_3, came_8, came_open, change_came, content_role, change_role, change_first, at_props, implies_from, implies_of, not_of, not_to}
 use Rattle.redl_laws.proofs.Soundness.Walk.{Holds, Ground, Kept, made, change_shut, grouped_good, GoodPieces, change_name}

@@ -18,8 +18,8 @@ use Rattle.redl_tree.specs.declared.kinds.Kind.TheVariants.{Plain, Content, Mark
 use Rattle.redl_tree.specs.declared.kinds.Say.{Say}
 use Rattle.redl_tree.specs.declared.kinds.Fate.{Fate}
 use Rattle.redl_tree.specs.declared.kinds.Fate.TheVariants.{Leave}
-use Rattle.redl_tree.proofs.PassLaws.{each, pass-each}
-use Rattle.redl_tree.proofs.Fits.{Fits, true_false}
+use Rattle.redl_tree.proofs.Decisions.PassLaws.{each, pass-each}
+use Rattle.redl_tree.proofs.Roles.Fits.{Fits, true_false}
 use Rattle.redl_laws.proofs.Soundness.Ancestors.{by_prop, implies_of, not_to, blocks_open}
 use Rattle.redl_laws.proofs.Soundness.Walk.{Ground, rejected_found, change_shut, change_name}
 

@@ -18,10 +18,10 @@ use Rattle.redl_tree.specs.Rules.Sound.{in_content}
 use Rattle.redl_tree.specs.declared.kinds.Say.{Say}
 use Rattle.redl_tree.specs.declared.kinds.Fate.{Fate}
 use Rattle.redl_tree.specs.declared.kinds.Fate.TheVariants.{Leave, Free, Cut, Clear, Restore, Drop}
-use Rattle.redl_tree.proofs.Laws.{⊕_assoc, ⊕-no_nodes}
-use Rattle.redl_tree.proofs.PassLaws.{alone, all_alone, each, all_alone-each, pass-each}
-use Rattle.redl_tree.proofs.Fits.{true_false, open_∷}
-use Rattle.redl_tree.proofs.Named.{by_trace}
+use Rattle.redl_tree.proofs.Model.Laws.{⊕_assoc, ⊕-no_nodes}
+use Rattle.redl_tree.proofs.Decisions.PassLaws.{alone, all_alone, each, all_alone-each, pass-each}
+use Rattle.redl_tree.proofs.Roles.Fits.{true_false, open_∷}
+use Rattle.redl_tree.proofs.Roles.Named.{by_trace}
 use Rattle.redl_laws.proofs.Soundness.AlikeTags.{Like, ordinary, like_self, like_close, own_renamed}
 use Rattle.redl_laws.proofs.Soundness.Ancestors.{Free3, free3, implies_from, implies_of, not_of, not_to, reach_trace, in_blocks-reach}
 use Rattle.redl_laws.proofs.Soundness.Walk.{Ground, content_fits, some-⊕}

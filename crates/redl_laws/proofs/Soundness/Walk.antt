@@ -23,12 +23,12 @@ use Rattle.redl_tree.specs.declared.kinds.Say.{Say}
 use Rattle.redl_tree.specs.declared.kinds.Fate.{Fate}
 use Rattle.redl_tree.specs.declared.kinds.Fate.TheVariants.{Leave, Free, Cut, Clear, Restore, Drop}
 use Rattle.redl_tree.specs.Model.Nodes.{Close}
-use Rattle.redl_tree.proofs.Build.{one}
-use Rattle.redl_tree.proofs.Named.{by_name, by_trace}
-use Rattle.redl_tree.proofs.Fits.{Fits, open_∷, open_tail, true_false, not_props}
+use Rattle.redl_tree.proofs.Model.Build.{one}
+use Rattle.redl_tree.proofs.Roles.Named.{by_name, by_trace}
+use Rattle.redl_tree.proofs.Roles.Fits.{Fits, open_∷, open_tail, true_false, not_props}
 use Rattle.redl_laws.proofs.Soundness.AlikeTags.{Like, Own, ordinary, like_self, like_p, own_renamed}
 use Rattle.redl_laws.proofs.Soundness.Ancestors.{Came, kept, freed, restored as restored_came, joins, Para, Free3, free3, kid_3, banned, came_open, in_below, by_prop, content_role, change_role, change_first, at_props, restored_change}
-use Rattle.redl_tree.proofs.PassLaws.{block_p}
+use Rattle.redl_tree.proofs.Decisions.PassLaws.{block_p}
 
 -- What the rules say of an element of the original. `ext` is one rule more, of attributes.
 pub record Holds (ext : Test) (ancestors : List Tag) (tag : Tag) (kids : Nodes) : Type 0 where

@@ -18,7 +18,7 @@ use Rattle.redl_tree.specs.declared.kinds.Kind.TheVariants.{Plain, Content, Mark
 use Rattle.redl_tree.specs.declared.kinds.Say.{Say}
 use Rattle.redl_tree.specs.declared.lists.Reach.{Reach}
 use Rattle.redl_tree.specs.declared.lists.Reach.TheVariants.{Direct}
-use Rattle.redl_tree.proofs.PassLaws.{pass-apart}
+use Rattle.redl_tree.proofs.Decisions.PassLaws.{pass-apart}
 
 -- the pass that goes node by node
 abbrev pub element_before : List Say → List Tag → Tag → Nodes → Nodes

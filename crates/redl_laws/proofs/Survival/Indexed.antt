@@ -15,10 +15,10 @@ use Rattle.redl_tree.specs.Decisions.Pass.{pass}
 use Rattle.redl_tree.specs.Decisions.Survivors.{text_pieces, survivors}
 use Rattle.redl_tree.specs.declared.kinds.Kind.TheVariants.{Marker}
 use Rattle.redl_tree.specs.declared.kinds.Say.{Say}
-use Rattle.redl_tree.proofs.Named.{by_names}
-use Rattle.redl_tree.proofs.Fits.{Fits, AllFit}
+use Rattle.redl_tree.proofs.Roles.Named.{by_names}
+use Rattle.redl_tree.proofs.Roles.Fits.{Fits, AllFit}
 use Rattle.redl_laws.proofs.Survival.Stories.{survival}
-use Rattle.redl_tree.proofs.StoryLaws.{stories-changed}
+use Rattle.redl_tree.proofs.Decisions.StoryLaws.{stories-changed}
 
 -- a search by a test that begins with a fact
 find_fact : (b : Bool) (test : Pair → Bool) (xs : List Pair) → is_some (find (λ x. b && test x) xs) ≡ true → b ≡ true

@@ -25,9 +25,9 @@ use Rattle.redl_tree.specs.declared.kinds.Say.{Say}
 use Rattle.redl_tree.specs.declared.kinds.Say.TheVariants.{Keep, Accept, Reject}
 use Rattle.redl_tree.specs.declared.kinds.Fate.{Fate}
 use Rattle.redl_tree.specs.declared.kinds.Fate.TheVariants.{Leave, Free, Cut, Clear, Restore, Drop}
-use Rattle.redl_tree.proofs.Named.{by_name, by_trace}
-use Rattle.redl_tree.proofs.Fits.{Fits, AllFit, OpenKind, plain, content as content_kind, marker, open_fits, open_none_rejected, open_∷}
-use Rattle.redl_tree.proofs.PassLaws.{alone, alone-piece, block_p, Takes, takes-next}
+use Rattle.redl_tree.proofs.Roles.Named.{by_name, by_trace}
+use Rattle.redl_tree.proofs.Roles.Fits.{Fits, AllFit, OpenKind, plain, content as content_kind, marker, open_fits, open_none_rejected, open_∷}
+use Rattle.redl_tree.proofs.Decisions.PassLaws.{alone, alone-piece, block_p, Takes, takes-next}
 
 -- the bytes of nodes that have no quiet ancestor among them, in order
 abbrev pub texts : Nodes → List (List ℕ)

@@ -6,7 +6,7 @@ use Rattle.redl_tree.specs.Roles.Idle.{is_idle_in}
 use Rattle.redl_tree.specs.Decisions.Groups.{Piece, thin, paragraph_next, has_thick, grouped_from}
 use Rattle.redl_tree.specs.Decisions.Pass.{piece, pieces, pass}
 use Rattle.redl_tree.specs.declared.kinds.Say.{Say}
-use Rattle.redl_tree.proofs.Laws.{⊕-no_nodes, ⊕_assoc}
+use Rattle.redl_tree.proofs.Model.Laws.{⊕-no_nodes, ⊕_assoc}
 use Rattle.redl_tree.proofs.Idle.Tags.{Idle, idle_parts, has-not}
 use Rattle.redl_tree.proofs.Idle.Pass.{one_pass, thin_piece, pass_idle}
 

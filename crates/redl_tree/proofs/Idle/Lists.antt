@@ -18,9 +18,9 @@ use Rattle.redl_tree.specs.Rules.CellEnds.{end_of_one, end_of_two, end_of}
 use Rattle.redl_tree.specs.Leaves.Settings.{has_member}
 use Rattle.redl_tree.specs.declared.lists.Reach.{Reach}
 use Rattle.redl_tree.specs.declared.lists.Reach.TheVariants.{Direct, Control, Beyond}
-use Rattle.redl_tree.proofs.SameBytes.{same_bytes}
-use Rattle.redl_tree.proofs.WordLaws.{apart}
-use Rattle.redl_tree.proofs.EndLaws.{two_none}
+use Rattle.redl_tree.proofs.Reading.SameBytes.{same_bytes}
+use Rattle.redl_tree.proofs.Roles.WordLaws.{apart}
+use Rattle.redl_tree.proofs.Roles.EndLaws.{two_none}
 use Rattle.redl_tree.proofs.Idle.Tags.{Idle, idle_parts, has-not}
 
 -- Tests that no idle element passes

@@ -13,7 +13,7 @@ use Rattle.redl_tree.specs.Rules.Tests.{Test, everywhere, implies, open_one, onc
 use Rattle.redl_tree.specs.Rules.Sound.{below_content, in_content, among_blocks, is_banned, below_change, is_banned_below_change, change_declares, test_1, test_2, test_3, test_4, test_5, test_6, test_7, test_8, test_9, tests}
 use Rattle.redl_tree.specs.Model.Kids.{has_element}
 use Rattle.redl_tree.specs.declared.kinds.Kind.{Kind}
-use Rattle.redl_tree.proofs.NameLaws.{is-other}
+use Rattle.redl_tree.proofs.Roles.NameLaws.{is-other}
 use Rattle.redl_tree.proofs.Idle.Tags.{Idle, idle_parts, has-not}
 use Rattle.redl_tree.proofs.Idle.Lists.{names_none, last_idle}
 use Rattle.redl_tree.proofs.Idle.Roles.{no_prop, no_marker, no_role}

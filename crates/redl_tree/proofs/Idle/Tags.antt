@@ -8,7 +8,7 @@ use Rattle.redl_tree.specs.Roles.Names.{is, is_w}
 use Rattle.redl_tree.specs.Roles.Idle.{is_idle_name, is_plain_kind, is_in_none, is_idle_tag, is_idle_in}
 use Rattle.redl_tree.specs.declared.kinds.Kind.{Kind}
 use Rattle.redl_tree.specs.declared.kinds.Kind.TheVariants.{Plain, Content, Mark, Row, Cell, Change, Marker}
-use Rattle.redl_tree.proofs.SameBytes.{same_bytes}
+use Rattle.redl_tree.proofs.Reading.SameBytes.{same_bytes}
 
 -- an element of W in no revision, with a name that no definition asks for
 pub record Idle (in_run : Bool) (tag : Tag) : Type 0 where

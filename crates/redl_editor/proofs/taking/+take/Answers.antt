@@ -5,8 +5,8 @@ use Rattle.redl_tree.specs.Model.Nodes.{no_nodes, in_front, ◌⊕◌}
 use Rattle.redl_tree.specs.Decisions.Packages.{stories_in, changed_in}
 use Rattle.redl_tree.specs.Decisions.StoryWalk.{changed_item, item_stories}
 use Rattle.redl_tree.specs.Model.View.{nodes_of, item_of}
-use Rattle.redl_tree.proofs.Laws.{nodes_here, nodes_end, nodes_of-push, ⊕-no_nodes, built_more, count-in_front}
-use Rattle.redl_tree.proofs.StoryLaws.{stories_in-in_front, changed_in-in_front}
+use Rattle.redl_tree.proofs.Model.Laws.{nodes_here, nodes_end, nodes_of-push, ⊕-no_nodes, built_more, count-in_front}
+use Rattle.redl_tree.proofs.Decisions.StoryLaws.{stories_in-in_front, changed_in-in_front}
 use Rattle.redl_editor.proofs.BegunLaws.{taken-more, taken-ends}
 use Rattle.redl_editor.specs.Inside.Begun.{AddsBegun}
 use Rattle.redl_editor.specs.Stories.{empty_rule}

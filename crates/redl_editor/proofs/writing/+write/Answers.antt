@@ -1,7 +1,7 @@
 use Rattle.std.proofs.Common.{◌≡◌, ◌+◌, ◌++◌, ◌∷◌, ◌&&◌, List, [], false, refl, sym, ap, ◌∙◌, drop, map, arith}
 use Rattle.std.proofs.lemmas.List.{append-nil}
 use Rattle.redl_io.proofs.Puts.{puts_then, puts_fails, so_far_begins, so_far_goes_on, so_far_stops, so_far_ends}
-use Rattle.redl_tree.proofs.Laws.{nodes_here, nodes_end}
+use Rattle.redl_tree.proofs.Model.Laws.{nodes_here, nodes_end}
 use Rattle.redl_tree.specs.Decisions.Packages.{is_root, level_of, level_below, is_data_level, is_story_root, stories_in, left_after, changed_in}
 use Rattle.redl_tree.specs.Decisions.StoryWalk.{changed_kids, changed_item, item_stories}
 use Rattle.redl_tree.specs.Leaves.Shown.{shown_rule}

@@ -2,7 +2,7 @@
 use Rattle.std.proofs.Common.{◌≡◌, ◌<◌, ◌∙◌, ◌+◌, ◌&&◌, ℕ, List, length, get_or, drop, Bool, arith, sym, ap}
 use Rattle.redl_tree.specs.Model.View.{item_of, nodes_of}
 use Rattle.redl_tree.specs.declared.node.Node.{Node}
-use Rattle.redl_tree.proofs.Laws.{nodes_here}
+use Rattle.redl_tree.proofs.Model.Laws.{nodes_here}
 use Rattle.redl_excerpts.specs.Inside.Flat.{are_flat, is_flat}
 use Rattle.redl_excerpts.proofs.FlatLaws.{flat-in_front}
 use Rattle.redl_excerpts.proofs.flat.+flat.Goals as goal

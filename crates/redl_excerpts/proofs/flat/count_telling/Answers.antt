@@ -3,7 +3,7 @@ use Rattle.std.proofs.Common.{◌≡◌, ◌<◌, ◌∙◌, ◌+◌, ◌-◌, �
 use Rattle.std.proofs.lemmas.List.{take_more}
 use Rattle.redl_tree.specs.Model.View.{item_of, nodes_of}
 use Rattle.redl_tree.specs.declared.node.Node.{Node}
-use Rattle.redl_tree.proofs.Laws.{nodes_of-push}
+use Rattle.redl_tree.proofs.Model.Laws.{nodes_of-push}
 use Rattle.redl_excerpts.specs.Inside.Flat.{is_flat}
 use Rattle.redl_excerpts.specs.Mentions.{mentions}
 use Rattle.redl_excerpts.proofs.FlatLaws.{mentions_before}

@@ -3,7 +3,7 @@ use Rattle.std.proofs.Common.{◌≤◌, ◌∙◌, ◌+◌, ◌++◌, ℕ, zero
 use denote.Param.Weighed.{most}
 use Rattle.redl_tree.specs.Model.View.{item_of, kids_of, nodes_of, tag_of}
 use Rattle.redl_tree.specs.declared.node.Node.{Node, size-Node}
-use Rattle.redl_tree.proofs.Laws.{nodes_here}
+use Rattle.redl_tree.proofs.Model.Laws.{nodes_here}
 use Rattle.redl_excerpts.specs.Ears.{along-more}
 use Rattle.redl_excerpts.specs.Excerpts.{is_moved}
 use Rattle.redl_excerpts.specs.Lines.{along}

@@ -1,7 +1,7 @@
 -- What a node says is heard before what those after it say.
 use Rattle.std.proofs.Common.{◌+◌, ◌∙◌, ap, arith, drop, sym}
 use Rattle.redl_tree.specs.Model.View.{item_of, nodes_of}
-use Rattle.redl_tree.proofs.Laws.{nodes_here}
+use Rattle.redl_tree.proofs.Model.Laws.{nodes_here}
 use Rattle.redl_excerpts.specs.Said.{item_said, said}
 use Rattle.redl_excerpts.proofs.SaidLaws.{said-in_front}
 use Rattle.redl_excerpts.proofs.said.+said.Goals as goal

@@ -3,7 +3,7 @@ use Rattle.redl_index.proofs.AgainLaws.{revisions-numbered}
 use Rattle.redl_index.specs.Revisions.{revisions_of}
 use Rattle.redl_rules.specs.Attributes.{has_id, declares, broken_rule}
 use Rattle.redl_stamp.specs.Attribute.{attribute_value}
-use Rattle.redl_tree.proofs.NumberLaws.{numbered-indexed, broken-numbered}
+use Rattle.redl_tree.proofs.Revisions.NumberLaws.{numbered-indexed, broken-numbered}
 use Rattle.redl_inputs.proofs.AdmissionLaws.{starts}
 use Rattle.redl_inputs.proofs.sessions.start.Goals as goal
 

@@ -2,7 +2,7 @@ use Rattle.std.proofs.Common.{true, false, sym, ap, ◌∙◌, arith}
 use Rattle.redl_leaves.proofs.MarkLaws.{step, run-in_front}
 use Rattle.redl_leaves.specs.Inside.Marks.{item_marks}
 use Rattle.redl_leaves.specs.Inside.Marks.{marks_run}
-use Rattle.redl_tree.proofs.Laws.{nodes_end}
+use Rattle.redl_tree.proofs.Model.Laws.{nodes_end}
 use Rattle.redl_leaves.proofs.marks.marks_in_run.Goals as goal
 
 pub loop-kid-preserved : goal.loop-kid-preserved

@@ -6,7 +6,7 @@ use Rattle.redl_tree.specs.Model.View.{nodes_of}
 use Rattle.redl_tree.specs.declared.kinds.Space.TheVariants.{W}
 use Rattle.redl_tree.specs.declared.laid.First.{First}
 use Rattle.redl_tree.specs.declared.laid.First.TheVariants.{Bytes, Elem}
-use Rattle.redl_tree.proofs.Laws.{nodes_of-push, ⊕-no_nodes, in_front-⊕, built_more}
+use Rattle.redl_tree.proofs.Model.Laws.{nodes_of-push, ⊕-no_nodes, in_front-⊕, built_more}
 use Rattle.redl_leaves.proofs.OpenLaws.{closed_first}
 use Rattle.redl_leaves.proofs.open.+open.Invariants.{below}
 use Rattle.redl_leaves.proofs.open.+open.Goals as goal

@@ -2,7 +2,7 @@ use Rattle.std.proofs.Common.{true, false, refl, sym, ap, ◌∙◌, arith}
 use Rattle.redl_leaves.proofs.MarkLaws.{step}
 use Rattle.redl_leaves.proofs.MemberLaws.{member-in_front, no_idle_member}
 use Rattle.redl_leaves.specs.Members.{item_member}
-use Rattle.redl_tree.proofs.Laws.{nodes_end, item_of-Plain}
+use Rattle.redl_tree.proofs.Model.Laws.{nodes_end, item_of-Plain}
 use Rattle.redl_tree.specs.Leaves.Settings.{has_member, is_decided}
 use Rattle.redl_tree.specs.Model.View.{item_of}
 use Rattle.redl_leaves.proofs.setting.+decided.Goals as goal

@@ -6,7 +6,7 @@ use Rattle.redl_tree.specs.Leaves.Living.{owned}
 use Rattle.redl_tree.specs.Leaves.Slots.{has_mark, para_sibling, thin_sibling, thick_sibling, open_sibling, siblings, slots_in}
 use Rattle.redl_tree.specs.Leaves.States.{no_states, joined_states, fresh_states, fresh_tally}
 use Rattle.redl_laws.proofs.Leaves.Joined.{joined-none}
-use Rattle.redl_tree.proofs.Laws.{count-in_front}
+use Rattle.redl_tree.proofs.Model.Laws.{count-in_front}
 use Rattle.redl_tree.specs.Model.Count.{count, item_count}
 use Rattle.redl_tree.specs.Model.Nodes.{no_nodes, element}
 use Rattle.redl_tree.specs.Model.View.{nodes_of, item_of, tag_of, kids_of}

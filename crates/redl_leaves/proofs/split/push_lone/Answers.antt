@@ -4,7 +4,7 @@ use Rattle.redl_tree.specs.Model.IdleTexts.{idle_nodes}
 use Rattle.redl_tree.specs.Model.Nodes.{no_nodes, in_front}
 use Rattle.redl_tree.specs.Model.View.{item_of}
 use Rattle.redl_tree.specs.declared.kinds.Space.TheVariants.{W}
-use Rattle.redl_tree.proofs.Laws.{item_of-Plain, ⊕-no_nodes}
+use Rattle.redl_tree.proofs.Model.Laws.{item_of-Plain, ⊕-no_nodes}
 use Rattle.redl_leaves.specs.Inside.Splits.{AddsLone}
 use Rattle.redl_leaves.proofs.split.push_lone.Goals as goal
 

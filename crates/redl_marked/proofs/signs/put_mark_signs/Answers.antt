@@ -1,7 +1,7 @@
 use Rattle.std.proofs.Common.{◌+◌, arith, ap, ◌∙◌, drop}
 use Rattle.redl_io.proofs.Puts.{so_far_begins, so_far_goes_on, so_far_stops, so_far_ends}
 use Rattle.redl_tree.specs.Model.View.{nodes_of, item_of}
-use Rattle.redl_tree.proofs.Laws.{nodes_here, nodes_end}
+use Rattle.redl_tree.proofs.Model.Laws.{nodes_here, nodes_end}
 use Rattle.redl_marked.specs.Signs.{mark_signs}
 use Rattle.redl_marked.specs.Inside.Walks.{item_mark}
 use Rattle.redl_marked.proofs.WalkLaws.{mark_signs-in_front}

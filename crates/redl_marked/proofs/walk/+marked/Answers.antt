@@ -1,7 +1,7 @@
 use Rattle.std.proofs.Common.{◌+◌, arith, refl, ap, ◌∙◌, drop}
 use Rattle.redl_io.proofs.Puts.{puts_then, puts_fails, so_far_begins, so_far_goes_on, so_far_stops, so_far_ends}
 use Rattle.redl_tree.specs.Model.View.{nodes_of, item_of, tag_of, kids_of}
-use Rattle.redl_tree.proofs.Laws.{nodes_here, nodes_end}
+use Rattle.redl_tree.proofs.Model.Laws.{nodes_here, nodes_end}
 use Rattle.redl_marked.specs.Inside.Walks.{marked, item_marked}
 use Rattle.redl_marked.proofs.WalkLaws.{marked-in_front, elem_text}
 use Rattle.redl_marked.proofs.walk.+marked.Goals as goal

@@ -2,7 +2,7 @@ use Rattle.std.proofs.Common.{◌+◌, drop, sym, ap, ◌∙◌}
 use Rattle.redl_tree.specs.Model.Kids.{has_element}
 use Rattle.redl_tree.specs.Model.Nodes.{in_front, no_nodes}
 use Rattle.redl_tree.specs.Model.View.{item_of, nodes_of}
-use Rattle.redl_tree.proofs.Laws.{item_of-Plain, item_of-Bytes, nodes_here}
+use Rattle.redl_tree.proofs.Model.Laws.{item_of-Plain, item_of-Bytes, nodes_here}
 use Rattle.redl_tree.proofs.Idle.Items.{element_first}
 use Rattle.redl_opc.specs.Elements.{elements_of}
 use Rattle.redl_opc.proofs.elements.first_with_element.Goals as goal

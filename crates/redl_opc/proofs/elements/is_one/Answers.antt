@@ -2,7 +2,7 @@ use Rattle.std.proofs.Common.{◌∙◌, is_some, sym, ap}
 use Rattle.redl_tree.specs.Model.IdleTexts.{idle_nodes}
 use Rattle.redl_tree.specs.Model.Nodes.{in_front, no_nodes}
 use Rattle.redl_tree.specs.Model.View.{item_of}
-use Rattle.redl_tree.proofs.Laws.{item_of-Plain, ⊕-no_nodes}
+use Rattle.redl_tree.proofs.Model.Laws.{item_of-Plain, ⊕-no_nodes}
 use Rattle.redl_opc.specs.Elements.{only_element}
 use Rattle.redl_opc.proofs.elements.is_one.Goals as goal
 

@@ -2,7 +2,7 @@ use Rattle.std.proofs.Common.{arith, ap, sym, ◌∙◌, drop, ◌+◌, ◌++◌
 use Rattle.redl_io.proofs.Puts.{puts_then, puts_fails, so_far_begins, so_far_goes_on, so_far_stops, so_far_ends}
 use Rattle.redl_shown.specs.Shown.{shown}
 use Rattle.redl_tree.specs.Model.View.{nodes_of, item_of, tag_of, kids_of}
-use Rattle.redl_tree.proofs.Laws.{item_of-Plain, nodes_here, nodes_end}
+use Rattle.redl_tree.proofs.Model.Laws.{item_of-Plain, nodes_here, nodes_end}
 use Rattle.redl_page.specs.Document.{nodes_pieces, end_as, inside}
 use Rattle.redl_page.specs.Pieces.{pieces_text}
 use Rattle.redl_page.specs.Inside.Items.{item_pieces}

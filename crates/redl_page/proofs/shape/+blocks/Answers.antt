@@ -1,6 +1,6 @@
 use Rattle.std.proofs.Common.{◌∙◌, ◌+◌, arith, drop, sym}
 use Rattle.redl_tree.specs.Model.View.{nodes_of, item_of}
-use Rattle.redl_tree.proofs.Laws.{nodes_here}
+use Rattle.redl_tree.proofs.Model.Laws.{nodes_here}
 use Rattle.redl_page.proofs.PieceLaws.{holds-later}
 use Rattle.redl_page.proofs.shape.+blocks.Goals as goal
 

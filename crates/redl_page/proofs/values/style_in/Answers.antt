@@ -1,6 +1,6 @@
 use Rattle.std.proofs.Common.{◌∙◌, ◌+◌, arith, drop, sym}
 use Rattle.redl_tree.specs.Model.View.{item_of, nodes_of}
-use Rattle.redl_tree.proofs.Laws.{nodes_here}
+use Rattle.redl_tree.proofs.Model.Laws.{nodes_here}
 use Rattle.redl_page.proofs.PieceLaws.{style_in-here, style_in-later}
 use Rattle.redl_page.proofs.values.style_in.Goals as goal
 

@@ -4,8 +4,8 @@ use Rattle.std.specs.Vec.Iter.{into_iter_items}
 use Rattle.redl_paras.proofs.ChainLaws.{grouped-more}
 use Rattle.redl_paras.proofs.EndLaws.{grouped-end, grouped-left}
 use Rattle.redl_paras.specs.Pieces.{pieces_of, held_nodes, is_other, paras_of}
-use Rattle.redl_tree.proofs.GroupLaws.{beside-grouped}
-use Rattle.redl_tree.proofs.Laws.{⊕-no_nodes, built_more}
+use Rattle.redl_tree.proofs.Decisions.GroupLaws.{beside-grouped}
+use Rattle.redl_tree.proofs.Model.Laws.{⊕-no_nodes, built_more}
 use Rattle.redl_tree.specs.Decisions.Beside.{bytes_beside}
 use Rattle.redl_tree.specs.Decisions.Groups.{grouped_from}
 use Rattle.redl_tree.specs.Model.Kids.{some_element}

@@ -1,7 +1,7 @@
 use Rattle.std.proofs.Common.{not, ap, ◌∙◌, rules}
 use Rattle.std.proofs.lemmas.Fn.{filter_same}
-use Rattle.redl_tree.proofs.KeptLaws.{filter_without}
-use Rattle.redl_tree.proofs.Laws.{nodes_of-append}
+use Rattle.redl_tree.proofs.Model.KeptLaws.{filter_without}
+use Rattle.redl_tree.proofs.Model.Laws.{nodes_of-append}
 use Rattle.redl_tree.specs.Model.Kids.{item_is}
 use Rattle.redl_tree.specs.Roles.Names.{is}
 use Rattle.redl_tree.specs.Model.Nodes.{◌⊕◌}

@@ -2,8 +2,8 @@ use Rattle.std.proofs.Common.{◌≡◌, [], ◌∷◌, refl, sym, ap, ◌∙◌
 use Rattle.std.proofs.lemmas.List.{nil_from_length}
 use Rattle.std.specs.Vec.Iter.{into_iter_items}
 use Rattle.redl_paras.proofs.ChainLaws.{without-in_front}
-use Rattle.redl_tree.proofs.KeptLaws.{only_front}
-use Rattle.redl_tree.proofs.Laws.{⊕-no_nodes, built_more}
+use Rattle.redl_tree.proofs.Model.KeptLaws.{only_front}
+use Rattle.redl_tree.proofs.Model.Laws.{⊕-no_nodes, built_more}
 use Rattle.redl_tree.specs.Model.Kids.{only, without}
 use Rattle.redl_tree.specs.Roles.Names.{is}
 use Rattle.redl_tree.specs.Model.Nodes.{◌⊕◌}

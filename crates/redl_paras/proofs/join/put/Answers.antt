@@ -1,6 +1,6 @@
 use Rattle.std.proofs.Common.{◌≡◌, true, false, sym, ap, ◌∙◌}
-use Rattle.redl_tree.proofs.KeptLaws.{only_kept, only_left, without_kept, without_left}
-use Rattle.redl_tree.proofs.Laws.{⊕-no_nodes, nodes_of-push}
+use Rattle.redl_tree.proofs.Model.KeptLaws.{only_kept, only_left, without_kept, without_left}
+use Rattle.redl_tree.proofs.Model.Laws.{⊕-no_nodes, nodes_of-push}
 use Rattle.redl_tree.specs.Model.Kids.{item_is}
 use Rattle.redl_tree.specs.Roles.Names.{is}
 use Rattle.redl_tree.specs.Model.Nodes.{no_nodes, ◌⊕◌}

@@ -3,8 +3,8 @@ use Rattle.redl_tree.specs.Model.Kids.{without}
 use Rattle.redl_tree.specs.Model.Nodes.{no_nodes, in_front, ◌⊕◌}
 use Rattle.redl_tree.specs.Decisions.Restored.{is_uncovered as is_uncovered_tag}
 use Rattle.redl_tree.specs.Model.View.{nodes_of, item_of}
-use Rattle.redl_tree.proofs.Laws.{⊕-no_nodes, in_front-⊕, built_more, nodes_here, nodes_end, nodes_of-push}
-use Rattle.redl_tree.proofs.KeptLaws.{without_kept, without_left}
+use Rattle.redl_tree.proofs.Model.Laws.{⊕-no_nodes, in_front-⊕, built_more, nodes_here, nodes_end, nodes_of-push}
+use Rattle.redl_tree.proofs.Model.KeptLaws.{without_kept, without_left}
 use Rattle.redl_props.proofs.UncoveredLaws.{none_uncovered}
 use Rattle.redl_props.proofs.uncovered.copied.Goals.{then-not-is_uncovered_node+in_ok-copy_node+in_ok-push, else-not-is_uncovered_node}
 use Rattle.redl_props.proofs.uncovered.copied.Goals as goal

@@ -1,6 +1,6 @@
 use Rattle.std.proofs.Common.{sym, ap, ◌∙◌}
 use Rattle.redl_props.proofs.UncoveredLaws.{idle_uncovered}
-use Rattle.redl_tree.proofs.Laws.{item_of-Plain}
+use Rattle.redl_tree.proofs.Model.Laws.{item_of-Plain}
 use Rattle.redl_tree.specs.Model.Kids.{item_is}
 use Rattle.redl_tree.specs.Decisions.Restored.{is_uncovered as is_uncovered_tag}
 use Rattle.redl_tree.specs.Model.View.{item_of}

@@ -3,7 +3,7 @@ use Rattle.std.proofs.lemmas.Fn.{filter_same}
 use Rattle.redl_tree.specs.Model.Kids.{item_is}
 use Rattle.redl_tree.specs.Decisions.Restored.{is_uncovered as is_uncovered_tag}
 use Rattle.redl_tree.specs.Model.View.{nodes_of, item_of}
-use Rattle.redl_tree.proofs.KeptLaws.{filter_only}
+use Rattle.redl_tree.proofs.Model.KeptLaws.{filter_only}
 use Rattle.redl_props.proofs.UncoveredLaws.{none_uncovered}
 use Rattle.redl_props.proofs.uncovered.retained.Goals as goal
 

@@ -4,7 +4,7 @@ use Rattle.redl_tree.specs.Model.Kids.{item_is}
 use Rattle.redl_tree.specs.Decisions.Restored.{is_uncovered as is_uncovered_tag}
 use Rattle.redl_tree.specs.Model.View.{nodes_of, item_of}
 use Rattle.redl_tree.specs.declared.kinds.Prop.TheVariants.{Run}
-use Rattle.redl_tree.proofs.KeptLaws.{filter_without}
+use Rattle.redl_tree.proofs.Model.KeptLaws.{filter_without}
 use Rattle.redl_props.proofs.UncoveredLaws.{none_uncovered}
 use Rattle.redl_props.proofs.uncovered.without_marks.Goals as goal
 

@@ -1,7 +1,7 @@
 use Rattle.std.proofs.Common.{◌≡◌, None, sym, ap, ◌∙◌, arith}
 use Rattle.redl_resolve.proofs.PassLaws.{former-later}
 use Rattle.redl_resolve.specs.Inside.Changes.{copies_of, item_former}
-use Rattle.redl_tree.proofs.Laws.{nodes_here}
+use Rattle.redl_tree.proofs.Model.Laws.{nodes_here}
 use Rattle.redl_tree.specs.Decisions.Restored.{former_kids}
 use Rattle.redl_tree.specs.Model.View.{item_of}
 use Rattle.redl_tree.specs.Roles.Places.{props_name}

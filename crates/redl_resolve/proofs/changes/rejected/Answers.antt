@@ -1,7 +1,7 @@
 use Rattle.std.proofs.Common.{◌≡◌, None, sym, ap, ◌∙◌, arith}
 use Rattle.redl_resolve.proofs.PassLaws.{rejected-later}
 use Rattle.redl_resolve.specs.Inside.Changes.{former_of, item_rejected}
-use Rattle.redl_tree.proofs.Laws.{nodes_here}
+use Rattle.redl_tree.proofs.Model.Laws.{nodes_here}
 use Rattle.redl_tree.specs.Decisions.Restored.{rejected as rejected_by}
 use Rattle.redl_tree.specs.Model.View.{item_of}
 use Rattle.redl_resolve.proofs.changes.rejected.Goals as goal

@@ -2,7 +2,7 @@ use Rattle.std.proofs.Common.{◌≡◌, ◌+◌, true, ◌&&◌, drop, sym, ap,
 use Rattle.redl_resolve.proofs.PassLaws.{all_stay-in_front, visits-in_front}
 use Rattle.redl_resolve.specs.Counts.{visits}
 use Rattle.redl_resolve.specs.Inside.Stays.{all_stay as all_stay_by}
-use Rattle.redl_tree.proofs.Laws.{nodes_here, count-in_front}
+use Rattle.redl_tree.proofs.Model.Laws.{nodes_here, count-in_front}
 use Rattle.redl_tree.specs.Model.Count.{count}
 use Rattle.redl_tree.specs.Model.View.{nodes_of, item_of}
 use Rattle.redl_resolve.proofs.stays.all_stay.Goals as goal

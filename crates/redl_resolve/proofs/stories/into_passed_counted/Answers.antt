@@ -3,7 +3,7 @@ use Rattle.std.proofs.lemmas.List.{take_at}
 use Rattle.redl_resolve.proofs.KeepsLaws.{keeps_text, keeps_rules}
 use Rattle.redl_tree.specs.Decisions.Packages.{stories, pass_rule, pass_package}
 use Rattle.redl_tree.specs.Model.View.{nodes_of}
-use Rattle.redl_tree.proofs.TakenLaws.{takes-every}
+use Rattle.redl_tree.proofs.Decisions.TakenLaws.{takes-every}
 use Rattle.redl_resolve.proofs.stories.into_passed_counted.Goals as goal
 
 pub change_stories-requires : goal.change_stories-requires

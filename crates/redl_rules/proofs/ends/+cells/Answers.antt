@@ -1,7 +1,7 @@
 use Rattle.std.proofs.Common.{◌≡◌, ◌∙◌, ◌+◌, false, ◌||◌, drop, sym, ap, arith}
 use Rattle.redl_tree.specs.Decisions.Tables.{has_own}
 use Rattle.redl_tree.specs.Model.View.{nodes_of, item_of}
-use Rattle.redl_tree.proofs.Laws.{nodes_here}
+use Rattle.redl_tree.proofs.Model.Laws.{nodes_here}
 use Rattle.redl_rules.specs.Inside.Ends.{item_has_own}
 use Rattle.redl_rules.proofs.EndLaws.{has_own-in_front}
 use Rattle.redl_rules.proofs.ends.+cells.Goals as goal

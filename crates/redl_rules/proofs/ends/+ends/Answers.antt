@@ -1,7 +1,7 @@
 use Rattle.std.proofs.Common.{◌∙◌, ◌+◌, drop, sym, ap, arith}
 use Rattle.redl_tree.specs.Model.View.{nodes_of, item_of}
 use Rattle.redl_tree.specs.Rules.CellEnds.{end_of, end_of_two}
-use Rattle.redl_tree.proofs.Laws.{nodes_here}
+use Rattle.redl_tree.proofs.Model.Laws.{nodes_here}
 use Rattle.redl_rules.specs.Inside.Ends.{item_end}
 use Rattle.redl_rules.proofs.EndLaws.{end_of_two-assoc, end_of-in_front}
 use Rattle.redl_rules.proofs.ends.+ends.Goals as goal

@@ -3,7 +3,7 @@ use Rattle.redl_tree.specs.Model.Nodes.{Tag}
 use Rattle.redl_tree.specs.Model.View.{nodes_of, item_of}
 use Rattle.redl_tree.specs.Roles.Arounds.{role_in}
 use Rattle.redl_tree.specs.Roles.Kinds.{is_change}
-use Rattle.redl_tree.proofs.Laws.{nodes_here}
+use Rattle.redl_tree.proofs.Model.Laws.{nodes_here}
 use Rattle.redl_rules.proofs.KidLaws.{none_changes, ends, ends-other, ends-stop, ends-next}
 use Rattle.redl_rules.proofs.kids.changes_end_properties.Goals as goal
 use Rattle.redl_rules.proofs.kids.changes_end_properties.Goals.{then-is_element+else-ended, else-is_element}

@@ -2,8 +2,8 @@ use Rattle.std.proofs.Common.{◌≡◌, ◌∙◌, ◌+◌, true, false, ◌||�
 use Rattle.redl_tree.specs.Model.Kids.{some_element, item_is}
 use Rattle.redl_tree.specs.Model.View.{nodes_of, item_of}
 use Rattle.redl_tree.specs.Roles.Lists.{is_thick}
-use Rattle.redl_tree.proofs.Laws.{nodes_here}
-use Rattle.redl_tree.proofs.KeptLaws.{some-in_front}
+use Rattle.redl_tree.proofs.Model.Laws.{nodes_here}
+use Rattle.redl_tree.proofs.Model.KeptLaws.{some-in_front}
 use Rattle.redl_rules.proofs.kids.has_thick.Goals as goal
 
 pub returns-then-node_is_thick : goal.returns-then-node_is_thick

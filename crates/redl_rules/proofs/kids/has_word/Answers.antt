@@ -3,8 +3,8 @@ use Rattle.redl_tree.specs.Model.Kids.{some_element, item_is}
 use Rattle.redl_tree.specs.Model.View.{nodes_of, item_of}
 use Rattle.redl_tree.specs.Roles.Names.{named}
 use Rattle.redl_tree.specs.Roles.Words.{name_of}
-use Rattle.redl_tree.proofs.Laws.{nodes_here}
-use Rattle.redl_tree.proofs.KeptLaws.{some-in_front}
+use Rattle.redl_tree.proofs.Model.Laws.{nodes_here}
+use Rattle.redl_tree.proofs.Model.KeptLaws.{some-in_front}
 use Rattle.redl_rules.proofs.kids.has_word.Goals as goal
 
 pub returns-then-node_is : goal.returns-then-node_is

@@ -6,7 +6,7 @@ use Rattle.redl_tree.specs.Roles.Names.{named}
 use Rattle.redl_tree.specs.Roles.Words.{name_of}
 use Rattle.redl_tree.specs.Rules.Tests.{only_first}
 use Rattle.redl_tree.specs.declared.node.Node.{Node}
-use Rattle.redl_tree.proofs.Laws.{nodes_here}
+use Rattle.redl_tree.proofs.Model.Laws.{nodes_here}
 use Rattle.redl_tree.proofs.Idle.Lists.{word_none}
 use Rattle.redl_rules.proofs.KidLaws.{first-other, first-found}
 use Rattle.redl_rules.proofs.kids.is_only_first.Goals as goal

@@ -2,7 +2,7 @@ use Rattle.std.proofs.Common.{◌∙◌, ◌+◌, true, false, drop, sym, ap, ar
 use Rattle.redl_tree.specs.Model.View.{nodes_of, item_of}
 use Rattle.redl_tree.specs.Roles.Names.{named}
 use Rattle.redl_tree.specs.Roles.Words.{name_of}
-use Rattle.redl_tree.proofs.Laws.{nodes_here}
+use Rattle.redl_tree.proofs.Model.Laws.{nodes_here}
 use Rattle.redl_tree.proofs.Idle.Lists.{word_none}
 use Rattle.redl_rules.proofs.KidLaws.{ends, ends-other, ends-stop, ends-next}
 use Rattle.redl_rules.proofs.kids.is_only_last.Goals as goal

@@ -3,7 +3,7 @@ use Rattle.redl_tree.specs.Model.View.{item_of}
 use Rattle.redl_tree.specs.Roles.Names.{named}
 use Rattle.redl_tree.specs.Roles.Words.{name_of}
 use Rattle.redl_tree.proofs.Idle.Lists.{word_none}
-use Rattle.redl_tree.proofs.Laws.{item_of-Plain}
+use Rattle.redl_tree.proofs.Model.Laws.{item_of-Plain}
 use Rattle.redl_rules.proofs.KidLaws.{is_none}
 use Rattle.redl_rules.proofs.kids.node_is.Goals as goal
 

@@ -2,7 +2,7 @@ use Rattle.std.proofs.Common.{◌∙◌, false, ap}
 use Rattle.redl_tree.specs.Model.View.{item_of}
 use Rattle.redl_tree.specs.Roles.Arounds.{role_in}
 use Rattle.redl_tree.specs.Roles.Kinds.{is_change}
-use Rattle.redl_tree.proofs.Laws.{item_of-Plain}
+use Rattle.redl_tree.proofs.Model.Laws.{item_of-Plain}
 use Rattle.redl_rules.proofs.KidLaws.{is_none, none_changes}
 use Rattle.redl_rules.proofs.kids.node_is_change.Goals as goal
 

@@ -2,7 +2,7 @@ use Rattle.std.proofs.Common.{◌∙◌, false, ap}
 use Rattle.redl_tree.specs.Model.View.{item_of}
 use Rattle.redl_tree.specs.Roles.Lists.{is_thick}
 use Rattle.redl_tree.proofs.Idle.Lists.{thick_none}
-use Rattle.redl_tree.proofs.Laws.{item_of-Plain}
+use Rattle.redl_tree.proofs.Model.Laws.{item_of-Plain}
 use Rattle.redl_rules.proofs.KidLaws.{is_none}
 use Rattle.redl_rules.proofs.kids.node_is_thick.Goals as goal
 

@@ -1,4 +1,4 @@
-use Rattle.redl_tree.proofs.NumberLaws.{broken-numbered}
+use Rattle.redl_tree.proofs.Revisions.NumberLaws.{broken-numbered}
 use Rattle.redl_rules.specs.Attributes.{has_id, declares}
 use Rattle.redl_rules.proofs.laws.numbering_keeps_rules.Goals as goal
 

@@ -4,7 +4,7 @@ use Rattle.redl_tree.specs.Model.View.{nodes_of, item_of}
 use Rattle.redl_tree.specs.Roles.Names.{named}
 use Rattle.redl_tree.specs.Roles.Words.{name_of}
 use Rattle.redl_tree.specs.Rules.Sound.{former_declares}
-use Rattle.redl_tree.proofs.Laws.{nodes_here, item_of-Elem, item_of-Bytes, item_of-Plain}
+use Rattle.redl_tree.proofs.Model.Laws.{nodes_here, item_of-Elem, item_of-Bytes, item_of-Plain}
 use Rattle.redl_tree.proofs.Idle.Items.{none_idle}
 use Rattle.redl_tree.proofs.Idle.Lists.{word_none}
 use Rattle.redl_rules.specs.Attributes.{declares}

@@ -2,8 +2,8 @@ use Rattle.std.proofs.Common.{◌≡◌, ◌+◌, true, false, ◌||◌, drop, s
 use Rattle.redl_tree.specs.Model.Kids.{has_element}
 use Rattle.redl_tree.specs.Model.Nodes.{no_nodes, in_front}
 use Rattle.redl_tree.specs.Model.View.{nodes_of, item_of}
-use Rattle.redl_tree.proofs.Laws.{nodes_here}
-use Rattle.redl_tree.proofs.KeptLaws.{has-in_front}
+use Rattle.redl_tree.proofs.Model.Laws.{nodes_here}
+use Rattle.redl_tree.proofs.Model.KeptLaws.{has-in_front}
 use Rattle.redl_tree.proofs.kids.has_elements.Goals as goal
 
 pub loop-node-preserved : goal.loop-node-preserved

@@ -2,7 +2,7 @@ use Rattle.std.proofs.Common.{◌∙◌, sym, ap}
 use Rattle.redl_tree.specs.Model.Kids.{has_element}
 use Rattle.redl_tree.specs.Model.Nodes.{no_nodes, in_front}
 use Rattle.redl_tree.specs.Model.View.{item_of}
-use Rattle.redl_tree.proofs.Laws.{item_of-Plain}
+use Rattle.redl_tree.proofs.Model.Laws.{item_of-Plain}
 use Rattle.redl_tree.proofs.Idle.Items.{element_first}
 use Rattle.redl_tree.proofs.kids.is_element.Goals as goal
 

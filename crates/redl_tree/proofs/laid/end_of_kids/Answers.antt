@@ -5,7 +5,7 @@ use Rattle.redl_markup.specs.References.{is_there}
 use Rattle.redl_markup.proofs.Pieces.{piece_shorter}
 use Rattle.redl_tree.specs.declared.kinds.Space.TheVariants.{W}
 use Rattle.redl_tree.specs.Model.Fronts.{last_white}
-use Rattle.redl_tree.proofs.FrontLaws.{inside_begins, inside_goes, inside_ends, ends_parted, piece_there}
+use Rattle.redl_tree.proofs.Reading.FrontLaws.{inside_begins, inside_goes, inside_ends, ends_parted, piece_there}
 use Rattle.redl_tree.proofs.laid.end_of_kids.Goals as goal
 
 pub loop-piece-init : goal.loop-piece-init

@@ -1,7 +1,7 @@
 use Rattle.std.proofs.Common.{length}
 use Rattle.redl_tree.specs.declared.kinds.Space.TheVariants.{W}
 use Rattle.redl_tree.specs.Model.Fronts.{HasKids}
-use Rattle.redl_tree.proofs.FrontLaws.{IsInside}
+use Rattle.redl_tree.proofs.Reading.FrontLaws.{IsInside}
 use Rattle.redl_tree.proofs.laid.end_of_kids.Given as goal
 
 abbrev pub invariant-loop-piece : goal.invariant-loop-piece

@@ -8,8 +8,8 @@ use Rattle.redl_markup.proofs.Pieces.{piece_shorter}
 use Rattle.redl_tree.specs.Model.Nodes.{Nodes, element, Empty, End}
 use Rattle.redl_tree.specs.Model.Folds.{plain_tag, nodes_in}
 use Rattle.redl_tree.specs.declared.kinds.Space.TheVariants.{W}
-use Rattle.redl_tree.proofs.FoldFronts.{front, front_there}
-use Rattle.redl_tree.proofs.FrontLaws.{nothing_in, nothing_reads, empty_fits, start_fits, kids_fit, parts_are}
+use Rattle.redl_tree.proofs.Reading.FoldFronts.{front, front_there}
+use Rattle.redl_tree.proofs.Reading.FrontLaws.{nothing_in, nothing_reads, empty_fits, start_fits, kids_fit, parts_are}
 use Rattle.redl_tree.proofs.laid.first_in.Goals as goal
 
 pub returns-then-is_empty-clause-none : goal.returns-then-is_empty-clause-none

@@ -2,7 +2,7 @@ use Rattle.std.proofs.Common.{◌≡◌, ◌∙◌, ap, ℕ, length, arith, leng
 use Rattle.redl_tree.specs.Model.Starts.{start_in}
 use Rattle.redl_tree.specs.declared.kinds.Space.TheVariants.{W}
 use Rattle.redl_markup.specs.Names.{Name, name_text}
-use Rattle.redl_tree.proofs.Starts.{start_is}
+use Rattle.redl_tree.proofs.Reading.Starts.{start_is}
 use Rattle.redl_tree.proofs.laid.plain_tag.Goals as goal
 
 pub returns : goal.returns

@@ -2,7 +2,7 @@ use Rattle.std.proofs.Common.{sym, ap, ◌∙◌}
 use Rattle.redl_tree.specs.Model.Nodes.{End}
 use Rattle.redl_tree.specs.Model.View.{Held}
 use Rattle.redl_tree.specs.declared.node.Spaced.{Spaced}
-use Rattle.redl_tree.proofs.Held.{held_of-Spaced, spaced_of-made, spaced_of-fields}
+use Rattle.redl_tree.proofs.Model.Held.{held_of-Spaced, spaced_of-made, spaced_of-fields}
 use Rattle.redl_tree.proofs.node.with_space.Goals as goal
 
 pub returns-clause-close : goal.returns-clause-close

@@ -5,13 +5,13 @@ use Rattle.redl_tree.specs.Model.Nodes.{Tag, no_nodes, in_front, ◌⊕◌}
 use Rattle.redl_tree.specs.Decisions.Packages.{level_of, level_below, stories_in, left_after, changed_in}
 use Rattle.redl_tree.specs.Decisions.StoryWalk.{changed_item, item_stories}
 use Rattle.redl_tree.specs.Model.View.{nodes_of, item_of, tag_of, kids_of}
-use Rattle.redl_tree.proofs.Held.{closed_is_bare}
+use Rattle.redl_tree.proofs.Model.Held.{closed_is_bare}
 use denote.Param.Weighed.{at_most}
 use Rattle.redl_tree.specs.declared.node.Body.TheViews.{size-Node}
-use Rattle.redl_tree.proofs.Laws.{nodes_here, nodes_end, nodes_of-push, ⊕-no_nodes, built_more, count-in_front, count-push}
-use Rattle.redl_tree.proofs.StoryLaws.{stories_in-in_front, left_after-append, changed_in-in_front}
+use Rattle.redl_tree.proofs.Model.Laws.{nodes_here, nodes_end, nodes_of-push, ⊕-no_nodes, built_more, count-in_front, count-push}
+use Rattle.redl_tree.proofs.Decisions.StoryLaws.{stories_in-in_front, left_after-append, changed_in-in_front}
 use Rattle.redl_tree.specs.Decisions.Taken.{TakesAll}
-use Rattle.redl_tree.proofs.TakenLaws.{takes-append, takes_here}
+use Rattle.redl_tree.proofs.Decisions.TakenLaws.{takes-append, takes_here}
 use Rattle.redl_tree.proofs.stories.+stories.Goals as goal
 
 pub change_among-loop-i-preserved : goal.change_among-loop-i-preserved

@@ -2,7 +2,7 @@ use Rattle.std.proofs.Common.{[], refl, ap, ◌∙◌}
 use Rattle.std.proofs.lemmas.Result.{IfOk-weaker}
 use Rattle.redl_tree.specs.Decisions.Packages.{stories}
 use Rattle.redl_tree.specs.Model.View.{nodes_of}
-use Rattle.redl_tree.proofs.StoryLaws.{stories-changed}
+use Rattle.redl_tree.proofs.Decisions.StoryLaws.{stories-changed}
 use Rattle.redl_tree.proofs.stories.change_stories.Goals as goal
 
 pub returns-clause-stories : goal.returns-clause-stories

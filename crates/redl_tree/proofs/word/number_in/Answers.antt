@@ -1,5 +1,5 @@
 use Rattle.std.proofs.Common.{ap, sym, ◌∙◌}
-use Rattle.redl_tree.proofs.WordLaws.{by_place}
+use Rattle.redl_tree.proofs.Roles.WordLaws.{by_place}
 use Rattle.redl_tree.specs.Roles.Words.{number_in}
 use Rattle.redl_tree.specs.declared.kinds.Space.{Space}
 use Rattle.redl_tree.proofs.word.number_in.Goals as goal

@@ -1,7 +1,7 @@
 use denote.Enum.Bare.{sameb, same_true}
 use Rattle.std.proofs.Common.{rules, ◌≡◌, ◌∙◌, ◌+◌, Bool, true, false, not, refl, drop, ap, sym, arith}
 use Rattle.redl_tree.specs.Model.View.{nodes_of, item_of}
-use Rattle.redl_tree.proofs.Laws.{nodes_here}
+use Rattle.redl_tree.proofs.Model.Laws.{nodes_here}
 use Rattle.redl_views.specs.contracts.next.Next.{the_type}
 use Rattle.redl_views.specs.declared.next.Next.TheVariants.{Nothing}
 use Rattle.redl_views.specs.Walks.{next_of, or_next}

@@ -3,7 +3,7 @@ use Rattle.std.proofs.lemmas.List.{take_more_set, drop-set-lt, take_all, length-
 use Rattle.redl_tree.specs.Model.Nodes.{no_nodes, in_front, ◌⊕◌}
 use Rattle.redl_tree.specs.Roles.Arounds.{around_inside}
 use Rattle.redl_tree.specs.Model.View.{nodes_of, item_of, tag_of, kids_of}
-use Rattle.redl_tree.proofs.Laws.{nodes_here, nodes_end, nodes_of-push, ⊕-no_nodes, built_more}
+use Rattle.redl_tree.proofs.Model.Laws.{nodes_here, nodes_end, nodes_of-push, ⊕-no_nodes, built_more}
 use denote.Param.Weighed.{at_most}
 use Rattle.redl_tree.specs.declared.node.Body.TheViews.{size-Node}
 use Rattle.redl_visit.specs.Visits.{visited, visited_item, Needs, NeedsItem}

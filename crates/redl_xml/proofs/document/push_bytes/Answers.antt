@@ -1,6 +1,6 @@
 use Rattle.std.proofs.Common.{◌≡◌, ◌≢◌, ◌∙◌, length, arith}
 use Rattle.redl_tree.specs.Model.View.{nodes_of}
-use Rattle.redl_tree.proofs.Laws.{item_of-Bytes}
+use Rattle.redl_tree.proofs.Model.Laws.{item_of-Bytes}
 use Rattle.redl_xml.proofs.Buildings.{pushed}
 use Rattle.redl_xml.proofs.Parts.{pushed_none, pushed_some}
 use Rattle.redl_xml.proofs.document.push_bytes.Goals as goal

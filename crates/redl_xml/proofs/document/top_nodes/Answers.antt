@@ -2,7 +2,7 @@ use Rattle.std.proofs.Common.{◌≡◌, ◌∙◌, ◌++◌, ap, List}
 use Rattle.redl_tree.specs.Model.Nodes.{Nodes, ◌⊕◌}
 use Rattle.redl_tree.specs.Model.View.{nodes_of}
 use Rattle.redl_tree.specs.declared.node.Node.{Node}
-use Rattle.redl_tree.proofs.Laws.{nodes_of-append, ⊕_assoc}
+use Rattle.redl_tree.proofs.Model.Laws.{nodes_of-append, ⊕_assoc}
 use Rattle.redl_xml.specs.Inside.Documents.{bytes_or_none}
 use Rattle.redl_xml.proofs.document.top_nodes.Goals as goal
 

@@ -2,7 +2,7 @@ use Rattle.std.proofs.Common.{◌∙◌, false, is_some, ap}
 use Rattle.redl_tree.specs.Model.View.{item_of}
 use Rattle.redl_tree.specs.Roles.Places.{cell_trace_of}
 use Rattle.redl_tree.proofs.Idle.Roles.{no_cell_trace}
-use Rattle.redl_tree.proofs.Laws.{item_of-Plain}
+use Rattle.redl_tree.proofs.Model.Laws.{item_of-Plain}
 use Rattle.redl_rules.proofs.KidLaws.{is_none}
 use Rattle.redl_index.proofs.markers.revised.marks_cell.Goals as goal
 

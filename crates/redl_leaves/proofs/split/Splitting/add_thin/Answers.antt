@@ -2,7 +2,7 @@ use Rattle.std.proofs.Common.{[], ◌∷◌, ◌++◌, None, ap, sym, ◌∙◌}
 use Rattle.redl_tree.specs.Leaves.Slots.{slots_from}
 use Rattle.redl_tree.specs.Leaves.States.{joined_states, fresh_states}
 use Rattle.redl_tree.specs.Model.View.{nodes_of}
-use Rattle.redl_tree.proofs.Laws.{nodes_of-push}
+use Rattle.redl_tree.proofs.Model.Laws.{nodes_of-push}
 use Rattle.redl_leaves.proofs.SplitLaws.{thin-given, thin-left}
 use Rattle.redl_leaves.specs.Inside.Splits.{chain_of, whole_of, thin_siblings}
 use Rattle.redl_leaves.specs.View.{states_of}

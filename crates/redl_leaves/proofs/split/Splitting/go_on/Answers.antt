@@ -4,7 +4,7 @@ use Rattle.redl_tree.specs.Leaves.States.{leaf_state, joined_states, fresh_state
 use Rattle.redl_tree.specs.Leaves.Waiting.{slots_left}
 use Rattle.redl_tree.specs.Model.Nodes.{no_nodes, in_front, ◌⊕◌}
 use Rattle.redl_tree.specs.Model.View.{nodes_of, item_of}
-use Rattle.redl_tree.proofs.Laws.{nodes_of-push, nodes_of-append}
+use Rattle.redl_tree.proofs.Model.Laws.{nodes_of-push, nodes_of-append}
 use Rattle.redl_laws.proofs.Leaves.Waiting.{marked-goes_on}
 use Rattle.redl_leaves.specs.Inside.Splits.{chain_of, whole_of}
 use Rattle.redl_leaves.specs.View.{states_of}

@@ -1,7 +1,7 @@
 use Rattle.std.proofs.Common.{◌≡◌, ◌∙◌, ◌+◌, ◌||◌, ap, arith, codes, drop}
 use Rattle.redl_tree.specs.Model.Nodes.{in_front}
 use Rattle.redl_tree.specs.Model.View.{item_of, nodes_of}
-use Rattle.redl_tree.proofs.Laws.{nodes_here}
+use Rattle.redl_tree.proofs.Model.Laws.{nodes_here}
 use Rattle.redl_page.specs.Shapes.{switched_on}
 use Rattle.redl_page.specs.Inside.Items.{item_switches}
 use Rattle.redl_page.proofs.EmphasisLaws.{found_more}

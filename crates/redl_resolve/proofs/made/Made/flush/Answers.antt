@@ -1,6 +1,6 @@
 use Rattle.std.proofs.Common.{sym, ap, ◌∙◌}
 use Rattle.redl_paras.specs.Pieces.{pieces_of, is_other}
-use Rattle.redl_tree.proofs.Laws.{⊕-no_nodes, nodes_of-append}
+use Rattle.redl_tree.proofs.Model.Laws.{⊕-no_nodes, nodes_of-append}
 use Rattle.redl_tree.specs.Decisions.Groups.{grouped}
 use Rattle.redl_tree.specs.Model.Nodes.{◌⊕◌}
 use Rattle.redl_tree.specs.Model.View.{nodes_of}

@@ -2,7 +2,7 @@ use Rattle.std.proofs.Common.{◌≡◌, ◌∷◌, [], ◌++◌, false, None, r
 use Rattle.redl_paras.specs.Pieces.{pieces_of}
 use Rattle.redl_resolve.proofs.ChainLaws.{passed_para, chain_para, count-⊕, count-push_elem, pieces_of-last, pieces_count-push, grouped-count}
 use Rattle.redl_resolve.specs.Counts.{pieces_count}
-use Rattle.redl_tree.proofs.Laws.{nodes_of-push_elem}
+use Rattle.redl_tree.proofs.Model.Laws.{nodes_of-push_elem}
 use Rattle.redl_tree.specs.Model.Count.{count}
 use Rattle.redl_tree.specs.Decisions.Groups.{para, grouped}
 use Rattle.redl_tree.specs.Model.Nodes.{◌⊕◌}

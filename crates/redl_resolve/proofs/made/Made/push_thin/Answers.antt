@@ -2,7 +2,7 @@ use Rattle.std.proofs.Common.{◌∷◌, [], ◌++◌, false, sym, ap, ◌∙◌
 use Rattle.redl_paras.specs.Pieces.{pieces_of}
 use Rattle.redl_resolve.proofs.ChainLaws.{passed_more, count-push, pieces_count-push}
 use Rattle.redl_resolve.specs.Counts.{pieces_count}
-use Rattle.redl_tree.proofs.Laws.{nodes_of-push, count-in_front}
+use Rattle.redl_tree.proofs.Model.Laws.{nodes_of-push, count-in_front}
 use Rattle.redl_tree.specs.Model.Count.{count}
 use Rattle.redl_tree.specs.Decisions.Groups.{thin, grouped}
 use Rattle.redl_tree.specs.Model.Nodes.{no_nodes, ◌⊕◌}

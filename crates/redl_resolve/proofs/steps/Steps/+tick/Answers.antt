@@ -1,5 +1,5 @@
 use Rattle.std.proofs.Common.{◌+◌, drop, ap, arith}
-use Rattle.redl_tree.proofs.Laws.{nodes_here, count-in_front}
+use Rattle.redl_tree.proofs.Model.Laws.{nodes_here, count-in_front}
 use Rattle.redl_tree.specs.Model.Count.{count}
 use Rattle.redl_tree.specs.Model.View.{nodes_of, item_of}
 use Rattle.redl_resolve.proofs.steps.Steps.+tick.Goals as goal

@@ -1,6 +1,6 @@
 use Rattle.std.proofs.Common.{sym, ap, ◌∙◌, arith}
 use Rattle.redl_resolve.proofs.PassLaws.{none-left}
-use Rattle.redl_tree.proofs.Held.{closed_is_bare}
+use Rattle.redl_tree.proofs.Model.Held.{closed_is_bare}
 use Rattle.redl_tree.specs.Model.View.{nodes_of}
 use Rattle.redl_resolve.proofs.stories.PassingStoryChangeSteps.change.Goals as goal
 

@@ -2,7 +2,7 @@ use Rattle.std.proofs.Common.{ap, sym, ◌∙◌}
 use Rattle.redl_tree.specs.Model.View.{tag_of}
 use Rattle.redl_tree.specs.Roles.Arounds.{role_in}
 use Rattle.redl_tree.specs.declared.around.Around.{Around}
-use Rattle.redl_tree.proofs.AroundLaws.{role-in}
+use Rattle.redl_tree.proofs.Roles.AroundLaws.{role-in}
 use Rattle.redl_tree.proofs.around.Around.role.Goals as goal
 
 pub returns-clause-role : goal.returns-clause-role

@@ -2,7 +2,7 @@ use Rattle.std.proofs.Common.{sym, ap, ◌∙◌}
 use Rattle.redl_tree.specs.Model.Nodes.{End}
 use Rattle.redl_tree.specs.Model.View.{Held, held_of, nodes_of}
 use Rattle.redl_tree.specs.declared.node.Spaced.{Spaced}
-use Rattle.redl_tree.proofs.Held.{held_of-Spaced, spaced_of-made, spaced_of-fields}
+use Rattle.redl_tree.proofs.Model.Held.{held_of-Spaced, spaced_of-made, spaced_of-fields}
 use Rattle.redl_tree.proofs.node.Body.apart.Goals as goal
 
 pub returns-in-Spaced-clause-bare : goal.returns-in-Spaced-clause-bare

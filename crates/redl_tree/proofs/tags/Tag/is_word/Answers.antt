@@ -1,5 +1,5 @@
 use Rattle.std.proofs.Common.{ap, ◌∙◌, ◌==◌, ℕ, ◌&&◌, bytes_eq}
-use Rattle.redl_tree.proofs.WordLaws.{told_by_number}
+use Rattle.redl_tree.proofs.Roles.WordLaws.{told_by_number}
 use Rattle.redl_tree.specs.Model.Starts.{Start, local_in}
 use Rattle.redl_tree.specs.Roles.Names.{is_w}
 use Rattle.redl_tree.specs.Roles.Words.{name_of}

@@ -4,7 +4,7 @@ use Rattle.redl_tree.specs.Model.IdleTexts.{idle_nodes}
 use Rattle.redl_tree.specs.Model.Folds.{nodes_in}
 use Rattle.redl_tree.specs.Model.View.{nodes_of}
 use Rattle.redl_tree.specs.declared.kinds.Space.TheVariants.{W}
-use Rattle.redl_tree.proofs.Laws.{item_of-Plain, ⊕-no_nodes}
+use Rattle.redl_tree.proofs.Model.Laws.{item_of-Plain, ⊕-no_nodes}
 use Rattle.redl_xml.specs.Scopes.{Scope}
 use Rattle.redl_xml.specs.Inside.Buildings.{building_view}
 use Rattle.redl_xml.specs.Inside.Passing.{IsIdleText}

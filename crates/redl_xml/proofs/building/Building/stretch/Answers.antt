@@ -1,7 +1,7 @@
 use Rattle.std.proofs.Common.{◌≡◌, ◌∙◌, ap, length, arith}
 use Rattle.redl_tree.specs.Model.Nodes.{Item, no_nodes, in_front, ◌⊕◌}
 use Rattle.redl_tree.specs.Model.View.{nodes_of}
-use Rattle.redl_tree.proofs.Laws.{item_of-Bytes}
+use Rattle.redl_tree.proofs.Model.Laws.{item_of-Bytes}
 use Rattle.redl_xml.specs.Inside.Buildings.{building_view}
 use Rattle.redl_xml.proofs.Buildings.{length-open, stretched_at}
 use Rattle.redl_xml.proofs.building.Building.stretch.Goals as goal

@@ -10,7 +10,7 @@ use Rattle.redl_tree.specs.declared.kinds.Space.TheVariants.{W, M, Pkg, Other}
 use Rattle.redl_tree.specs.declared.word.Word.{Word}
 use Rattle.redl_tree.specs.declared.word.Word.TheVariants.{P, R, Tr, Tc, Tbl, Ins, Del, Sdt, Hdr, Ftr, PPr, RPr, Body, TrPr, TcPr, TblPr, SdtPr, TblGrid, SectPr, TblPrEx, MoveFrom, MoveTo, CustomXml, SdtContent, SdtEndPr, TxbxContent, AltChunk, Comment, Comments, Footnote, Footnotes, Endnote, Endnotes, Document, CellIns, CellDel, CellMerge, DelText, DelInstrText, HeaderReference, FooterReference, RPrChange, PPrChange, SectPrChange, TblPrChange, TblPrExChange, TrPrChange, TcPrChange, MoveFromRangeStart, MoveFromRangeEnd, MoveToRangeStart, MoveToRangeEnd}
 use Rattle.redl_tree.specs.Model.Cuts.{name_now, is_live}
-use Rattle.redl_tree.proofs.SameBytes.{same_bytes}
+use Rattle.redl_tree.proofs.Reading.SameBytes.{same_bytes}
 
 -- no other of these has the number of this one
 abbrev pub is_only : Word → List Word → Bool

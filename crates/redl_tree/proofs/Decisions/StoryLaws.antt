@@ -6,7 +6,7 @@ use Rattle.redl_tree.specs.Model.View.{Element}
 use Rattle.redl_tree.specs.Revisions.Labels.{unlabelled_tag, unlabelled}
 use Rattle.redl_tree.specs.Decisions.Packages.{is_root, stories_in, element_stories, StoryRule, left_after, changed_stories, changed_in}
 use Rattle.redl_tree.specs.Decisions.StoryWalk.{changed_item, item_stories}
-use Rattle.redl_tree.proofs.Laws.{⊕-no_nodes}
+use Rattle.redl_tree.proofs.Model.Laws.{⊕-no_nodes}
 use Rattle.redl_tree.proofs.Idle.Stories.{stories_past, changed_past}
 use Rattle.redl_tree.proofs.Idle.Items.{nodes_are_idle}
 

@@ -8,8 +8,8 @@ use Rattle.redl_tree.specs.Model.Kids.{only, without, some_element, item_is, has
 use Rattle.redl_tree.specs.Model.IdleTexts.{idle_nodes}
 use Rattle.redl_tree.specs.Model.View.{item_of, nodes_of}
 use Rattle.redl_tree.specs.declared.node.Node.{Node}
-use Rattle.redl_tree.proofs.Laws.{⊕-no_nodes, in_front-⊕}
-use Rattle.redl_tree.proofs.PassLaws.{without-⊕}
+use Rattle.redl_tree.proofs.Model.Laws.{⊕-no_nodes, in_front-⊕}
+use Rattle.redl_tree.proofs.Decisions.PassLaws.{without-⊕}
 use Rattle.redl_tree.proofs.Idle.Lists.{NoneIs, only_past, without_past}
 use Rattle.redl_tree.proofs.Idle.Items.{nodes_are_idle, none_idle}
 

@@ -20,8 +20,8 @@ use Rattle.redl_tree.specs.Revisions.Markers.{Value, edge_of, is_row_revision, i
 use Rattle.redl_tree.specs.Revisions.Numbers.{membership, Numbering, counted, number_for, revision_of, numbering_after, labelled_tag, labelled, start_with, labelled_story, next_after_story, number_rule, numbered_package_by, IsIndexed}
 use Rattle.redl_tree.specs.declared.kinds.Kind.{Kind}
 use Rattle.redl_tree.specs.declared.kinds.Kind.TheVariants.{Plain, Content, Mark, Row, Cell, Change, Marker}
-use Rattle.redl_tree.proofs.StoryLaws.{unlabelled-changed, changed_in-again, stories-changed, changed-roots}
-use Rattle.redl_tree.proofs.LabelLaws.{bare, text-unlabelled, open-bare, role-bare, place-bare, in_rows-bare, in_cells-bare, into-bare, some-bare, kids_of_all-bare, everywhere-bare, marker-bare, Blind, AreBlind, tests_are_blind}
+use Rattle.redl_tree.proofs.Decisions.StoryLaws.{unlabelled-changed, changed_in-again, stories-changed, changed-roots}
+use Rattle.redl_tree.proofs.Revisions.LabelLaws.{bare, text-unlabelled, open-bare, role-bare, place-bare, in_rows-bare, in_cells-bare, into-bare, some-bare, kids_of_all-bare, everywhere-bare, marker-bare, Blind, AreBlind, tests_are_blind}
 
 -- Positions
 

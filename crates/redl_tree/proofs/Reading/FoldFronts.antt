@@ -13,8 +13,8 @@ use Rattle.redl_tree.specs.Model.Text.{text}
 use Rattle.redl_tree.specs.Model.Folds.{plain_tag, nodes_in, Reads}
 use Rattle.redl_tree.specs.Model.Fronts.{IsFront}
 use Rattle.redl_tree.specs.Model.Laid.{name_of, ClosesBy, IsLaidTag, AreLaid}
-use Rattle.redl_tree.proofs.TreeTexts.{tree_then, tree-then}
-use Rattle.redl_tree.proofs.FoldLaws.{laid_end_stretch, nodes_again, nodes_are_laid, text_of_nodes_in, tag_is, tree-text}
+use Rattle.redl_tree.proofs.Model.TreeTexts.{tree_then, tree-then}
+use Rattle.redl_tree.proofs.Reading.FoldLaws.{laid_end_stretch, nodes_again, nodes_are_laid, text_of_nodes_in, tag_is, tree-text}
 
 -- the rest of a text and the nodes in it
 pub record IsRest (space : Space) (rest : List ℕ) (later : Nodes) : Type 0 where

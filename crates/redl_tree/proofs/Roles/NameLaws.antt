@@ -10,7 +10,7 @@ use Rattle.redl_tree.specs.Roles.Places.{is_quiet}
 use Rattle.redl_tree.specs.Decisions.Fates.{live_name}
 use Rattle.redl_tree.specs.declared.kinds.Space.{Space}
 use Rattle.redl_tree.specs.declared.kinds.Space.TheVariants.{W, M, Pkg, Other}
-use Rattle.redl_tree.proofs.SameBytes.{same_bytes}
+use Rattle.redl_tree.proofs.Reading.SameBytes.{same_bytes}
 
 -- an element with one name has no other
 pub is-other : (name other : String) (tag : Tag) → is name tag ≡ true → bytes_eq (codes name) (codes other) ≡ false →

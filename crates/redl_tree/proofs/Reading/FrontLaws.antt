@@ -15,8 +15,8 @@ use Rattle.redl_tree.specs.declared.kinds.Space.TheVariants.{W}
 use Rattle.redl_tree.specs.Model.Folds.{level_step, nodes_at, nodes_in, Reads}
 use Rattle.redl_tree.specs.Model.Fronts.{HasKids, parted, depth_with, last_white}
 use Rattle.redl_tree.specs.Model.Laid.{name_of, ClosesBy, IsLaidTag, AreLaid}
-use Rattle.redl_tree.proofs.TreeTexts.{tree_then, tree-then}
-use Rattle.redl_tree.proofs.FoldLaws.{laid_end_stretch, nodes_are_laid, text_of_nodes_in}
+use Rattle.redl_tree.proofs.Model.TreeTexts.{tree_then, tree-then}
+use Rattle.redl_tree.proofs.Reading.FoldLaws.{laid_end_stretch, nodes_are_laid, text_of_nodes_in}
 
 -- an open element: its kids that are left, its name, and the white space in its end tag
 pub record Pending : Type 0 where

@@ -3,10 +3,10 @@ use Rattle.std.proofs.Common.{◌≡◌, ℕ, List, ◌++◌, length, sym, subst
 use Rattle.redl_tree.specs.Model.Starts.{start_in}
 use Rattle.redl_tree.specs.Model.Cuts.{IsCut}
 use Rattle.redl_tree.specs.declared.kinds.Space.{Space}
-use Rattle.redl_tree.proofs.Cuts.{text_is_cut, start_of_text}
+use Rattle.redl_tree.proofs.Reading.Cuts.{text_is_cut, start_of_text}
 use Rattle.redl_markup.specs.Names.{Name, name_text}
 use Rattle.redl_tree.specs.Model.Folds.{plain_start}
-use Rattle.redl_tree.proofs.TreeTexts.{same_name_text}
+use Rattle.redl_tree.proofs.Model.TreeTexts.{same_name_text}
 
 -- in the text of a start tag, the lengths of prefix and name say where they end
 pub is_cut : (name : Name) (tail text : List ℕ) → text ≡ name_text name ++ tail → IsCut text (length name.prefix) (length (name_text name))

@@ -7,8 +7,8 @@ use Rattle.redl_tree.specs.Roles.Names.{is}
 use Rattle.redl_tree.specs.Model.Kids.{only, without, has_element}
 use Rattle.redl_tree.specs.Decisions.Groups.{Piece, para, thin, thick, has_thick, joins, taken, joined_tag, joined_kids, unjoined_para, given, held_by, grouped_from, grouped}
 use Rattle.redl_tree.specs.Decisions.Beside.{bytes_beside, bytes_of_each, are_named}
-use Rattle.redl_tree.proofs.Named.{by_name}
-use Rattle.redl_tree.proofs.PassLaws.{Takes, takes-next}
+use Rattle.redl_tree.proofs.Roles.Named.{by_name}
+use Rattle.redl_tree.proofs.Decisions.PassLaws.{Takes, takes-next}
 
 beside-⊕ : (xs ys : Nodes) → bytes_beside (xs ⊕ ys) ≡ bytes_beside xs ++ bytes_beside ys
 beside-⊕ no_nodes ys = refl

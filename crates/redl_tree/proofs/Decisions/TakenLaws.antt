@@ -9,7 +9,7 @@ use Rattle.redl_tree.specs.Decisions.StoryWalk.{item_stories}
 use Rattle.redl_tree.specs.Decisions.Taken.{TakesAll, TakesAt}
 use Rattle.redl_tree.specs.declared.level.Level.{Level}
 use Rattle.redl_tree.specs.declared.node.Node.{Node}
-use Rattle.redl_tree.proofs.StoryLaws.{stories_in-in_front}
+use Rattle.redl_tree.proofs.Decisions.StoryLaws.{stories_in-in_front}
 
 module _ {S : Type 0} (rule : StoryRule S) (Takes : S → Tag → Nodes → Type 0) where
   -- some stories, and those after them

@@ -15,8 +15,8 @@ use Rattle.redl_tree.specs.Decisions.Pass.{by_fate, kept_kids, element_pass, is_
 use Rattle.redl_tree.specs.declared.kinds.Say.{Say}
 use Rattle.redl_tree.specs.declared.kinds.Fate.{Fate}
 use Rattle.redl_tree.specs.declared.kinds.Fate.TheVariants.{Leave, Free, Cut, Clear, Restore, Drop}
-use Rattle.redl_tree.proofs.Named.{by_name}
-use Rattle.redl_tree.proofs.Laws.{⊕_assoc}
+use Rattle.redl_tree.proofs.Roles.Named.{by_name}
+use Rattle.redl_tree.proofs.Model.Laws.{⊕_assoc}
 
 -- An element that is no cut paragraph of a block list gives its part by itself, and the nodes after it give theirs.
 

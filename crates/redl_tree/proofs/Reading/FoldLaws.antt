@@ -11,7 +11,7 @@ use Rattle.redl_tree.specs.Model.Text.{text}
 use Rattle.redl_tree.specs.declared.kinds.Space.{Space}
 use Rattle.redl_tree.specs.declared.kinds.Kind.{Kind}
 use Rattle.redl_tree.specs.declared.kinds.Kind.TheVariants.{Plain}
-use Rattle.redl_tree.proofs.Laws.{⊕-no_nodes, ⊕_assoc}
+use Rattle.redl_tree.proofs.Model.Laws.{⊕-no_nodes, ⊕_assoc}
 use Rattle.redl_markup.specs.declared.piece.Place.TheVariants.{InElement}
 use Rattle.redl_reading.specs.Lists.{is_other}
 use Rattle.redl_reading.specs.Steps.{or_same, turns}
@@ -31,10 +31,10 @@ use Rattle.redl_tree.specs.Model.Folds.{plain_tag, one_element}
 use Rattle.redl_tree.specs.Model.Folds.{Open, Level, level, shut, put, all_shut, Spot, level_step, nodes_at, nodes_in, Reads}
 use Rattle.redl_tree.specs.Model.Laid.{last_is_bytes, ends_with_bytes, Fits}
 use Rattle.redl_tree.specs.Model.Laid.{IsLaidTag, AreLaid}
-use Rattle.redl_tree.proofs.FoldSteps.{left, level_goes, level_ends, level_fails, level_refuses, level_shrinks}
-use Rattle.redl_tree.proofs.SameBytes.{same_name}
-use Rattle.redl_tree.proofs.TreeTexts.{close_then, tree_then, tree-then, tree_then-⊕}
-use Rattle.redl_tree.proofs.SameBytes.{bytes_same}
+use Rattle.redl_tree.proofs.Reading.FoldSteps.{left, level_goes, level_ends, level_fails, level_refuses, level_shrinks}
+use Rattle.redl_tree.proofs.Reading.SameBytes.{same_name}
+use Rattle.redl_tree.proofs.Model.TreeTexts.{close_then, tree_then, tree-then, tree_then-⊕}
+use Rattle.redl_tree.proofs.Reading.SameBytes.{bytes_same}
 
 -- ---- the text so far
 

@@ -1,0 +1,9 @@
+-- Laws of texts that are read as nodes.
+pub mod SameBytes
+pub mod Cuts
+pub mod Starts
+pub mod FoldSteps
+pub mod FoldLaws
+mod FoldRows
+pub mod FoldFronts
+pub mod FrontLaws

@@ -1,0 +1,3 @@
+-- Laws of labels and numbers.
+pub mod LabelLaws
+pub mod NumberLaws
