@@ -20,21 +20,21 @@ pub record WritesFront {K : Type 0} (told : K → Option (List ℕ)) (faults : K
   pub bytes : GrowsByFront (told old) (told new) text
   pub rose : Rose (faults old) (faults new)
 
--- What was made was written, or the output failed, or nothing was made.
+-- what was made was written, or the output failed, or nothing was made
 abbrev pub Finishes : {K : Type 0} → (K → Option (List ℕ)) → (K → ℕ) → K → K → Result Writing Failure → End → Type 0
 Finishes told faults old new (Ok writing) end =
     ((end ≡ written writing.remarks) × WritesAll told faults old new writing.bytes)
     ⊎ ((end ≡ unwritten writing.remarks) × WritesFront told faults old new writing.bytes)
 Finishes told faults old new (Err failure) end = (end ≡ failed failure) × (told new ≡ told old) × (faults new ≡ faults old)
 
--- A call took files of these names from a shelf, in their order, made what was due or failed, and put what it made on the output.
+-- a call took files of these names from a shelf, in their order, made what was due or failed, and put what it made on the output
 pub record Ends {S K : Type 0} (holds : S → Option Files) (misses : S → ℕ) (asked : S → Option (List (List ℕ))) (shelf shelf_new : S) (told : K → Option (List ℕ)) (faults : K → ℕ) (out out_new : K)
     (names : List (List ℕ)) (due : Reader → Files → Result Writing Failure) (end : End) : Type 0 where
   pub made : Result Writing Failure
   pub reads : ReadsFiles holds misses asked shelf shelf_new names made due
   pub finishes : Finishes told faults out out_new made end
 
--- What was due was made without files of a shelf, or memory ran out, and with this the call ended.
+-- what was due was made without files of a shelf, or memory ran out, and with this the call ended
 pub record EndsAlone {K : Type 0} (told : K → Option (List ℕ)) (faults : K → ℕ) (out out_new : K) (due : Reader → Result Writing Failure) (end : End) : Type 0 where
   pub made : Result Writing Failure
   pub reads : Reads made due

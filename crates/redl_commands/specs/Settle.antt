@@ -12,8 +12,8 @@ use Rattle.redl_tree.specs.Model.Text.{text}
 use Rattle.redl_tree.specs.declared.kinds.Say.{Say}
 use Rattle.redl_tree.specs.declared.kinds.Say.TheVariants.{Accept, Reject}
 
--- The text of a package under a say for each revision: the pass of the original, in which each member of a revision has
--- the revision's kind and number.
+-- the text of a package under a say for each revision: the pass of the original, in which each member of a revision has
+-- the revision's kind and number
 abbrev pub passed_text : List Say → Nodes → List ℕ
 passed_text says nodes = text (pass_package says (numbered_package nodes))
 

@@ -230,7 +230,7 @@ sizes-chosen is_set slots (n ∷ later) all =
     ∙ ap (λ m. m + sizes_of (ways slots) slots later) (size-numbered slots n here.1 ∙ ap (λ k. get_or (sizes slots) k 0) (sym is) ∙ here.0.same)
     ∙ ap (λ m. get_or (weights is_set slots) (n - 0) 0 + m) (sizes-chosen is_set slots later (λ m e. all m (or_right (n == m) (is_touched later m) e)))
 
--- The law: making each leaf once that some revisions touch takes no more than setting them may cost.
+-- the law: making each leaf once that some revisions touch takes no more than setting them may cost
 pub touched-cost : (held : List Held) (revs leaves : List ℕ) → ((leaf : ℕ) → is_touched leaves leaf ≡ some_held held revs leaf) → IsStrictlyIncreasing leaves
     → (slots : Slots) → HoldsOf held slots → (is_set : ℕ → Bool) → ((rev : ℕ) → is_touched revs rev ≡ true → is_set rev ≡ true) → (depth : ℕ)
     → sizes_of (ways slots) slots leaves ≤ slots_cost is_set depth slots

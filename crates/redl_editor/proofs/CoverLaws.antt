@@ -128,8 +128,8 @@ holds-within first (container_slot tag kids inner rest) rev n e =
     at true is below later h = omega (arith, below is)
     at false is below later h = omega (arith, later h)
 
--- The law: where exactly the leaves that hold members and markers of the revisions that are set are listed, the ways to them are
--- ways, and cover them.
+-- the law: where exactly the leaves that hold members and markers of the revisions that are set are listed, the ways to them are
+-- ways, and cover them
 pub touched-covers : (is_set : ℕ → Bool) → is_set 0 ≡ false → (slots : Slots) (leaves : List ℕ)
     → ((k : ℕ) → is_touched leaves k ≡ true → k < leaf_count slots)
     → ((rev leaf : ℕ) → is_set rev ≡ true → slots_hold 0 slots rev leaf ≡ true → is_touched leaves leaf ≡ true)
@@ -171,7 +171,7 @@ listed-within held revs leaves touched slots of k e =
     let holder = some-holder held revs k (sym (touched k) ∙ e) in
     omega (arith, holds-within 0 slots holder.rev k (sym (of.holds holder.rev k) ∙ holder.holds), ways-count 0 slots)
 
--- The law of what is touched: the ways to the leaves that hold one of these revisions are those that setting takes.
+-- the law of what is touched: the ways to the leaves that hold one of these revisions are those that setting takes
 pub listed-covers : (held : List Held) (revs leaves : List ℕ) → ((leaf : ℕ) → is_touched leaves leaf ≡ some_held held revs leaf) → (slots : Slots) → HoldsOf held slots
     → (is_set : ℕ → Bool) → is_set 0 ≡ false → ((rev : ℕ) → is_set rev ≡ true → is_touched revs rev ≡ true)
     → AreWays (ways_of (ways slots) leaves) slots × Covers (is_end slots (ways_of (ways slots) leaves)) is_set 0 slots

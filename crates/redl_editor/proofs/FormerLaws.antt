@@ -108,7 +108,7 @@ undone says mid (one ∷ later) are as_many same =
     at n (inr e) out =
         set_say-other mid one.rev one.say n e.0 ∙ same n (ap (λ b. b || is_among later n) e.0 ∙ out)
 
--- The law of undoing: the former says, set again, give the says that were.
+-- the law of undoing: the former says, set again, give the says that were
 pub former-undone : (says : List Say) (settings : List Setting) → set_each (set_each says settings) (former_of says settings) ≡ says
 former-undone says settings =
     undone says (set_each says settings) (former_of says settings) (former-are says settings) (set_each-length says settings)
@@ -151,7 +151,7 @@ differ-changed says now (one ∷ later) rev are = at (eqb_tells one.rev rev) (eq
     at (inl e) (inr f) more = absurd (f.1 (sym e.1))
     at (inr e) (inl f) more = absurd (e.1 (sym f.1))
 
--- The law of what is changed: the former says that differ from the present ones are of just the revisions that have another say.
+-- the law of what is changed: the former says that differ from the present ones are of just the revisions that have another say
 pub former-differ : (says : List Say) (settings : List Setting) (rev : ℕ)
     → differ (set_each says settings) (former_of says settings) rev ≡ is_changed says (set_each says settings) rev
 former-differ says settings rev =

@@ -21,7 +21,7 @@ pub record Document : Type 0 where
   pub nodes : Nodes
   pub says : List Say
 
--- A code of `Document`, with which a proof distinguishes two of them.
+-- a code of `Document`, with which a proof distinguishes two of them
 abbrev pub document_code : Coded Tag → Coded Say → Coded Document
 document_code tag say =
     code_by (Nodes × List Say) (coded× (nodes_code tag) (coded_list say)) (λ document. (document.nodes, document.says))
@@ -32,7 +32,7 @@ pub record IsNumbered (nodes : Nodes) : Type 0 where
   pub value : Value
   pub indexed : IsIndexed value nodes
 
--- What is kept is that of a numbered package under these says.
+-- what is kept is that of a numbered package under these says
 pub record IsConsistent (nodes : List Node) (taken : List Story) (tables : List Table) (says : List Say) : Type 0 where
   pub numbered : IsNumbered (original_package nodes taken)
   pub plain : roots_are_plain [] (original_package nodes taken) ≡ true

@@ -50,7 +50,7 @@ AreReady revs says stories tables [] = Unit {0}
 AreReady revs says (story ∷ stories) (table ∷ tables) (all ∷ later) = IsReady revs says story table all.items × AreReady revs says stories tables later
 AreReady revs says _ _ (all ∷ later) = ⊥
 
--- These revisions are those of which something else is said now than before.
+-- these revisions are those of which something else is said now than before
 pub record AreChanges (is_set : ℕ → Bool) (before says : List Say) (revs : List ℕ) : Type 0 where
   pub same : SameBut is_set before says
   pub none : is_set 0 ≡ false

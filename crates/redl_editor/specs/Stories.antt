@@ -23,7 +23,7 @@ abbrev pub later_slots : List Slots → List Slots
 later_slots [] = []
 later_slots (slots ∷ later) = later
 
--- The root of each story has the kids that its slots were split from.
+-- the root of each story has the kids that its slots were split from
 abbrev pub original_rule : StoryRule (List Slots)
 original_rule = record { kids = λ left tag kids. original (next_slots left); left = λ left tag kids. later_slots left }
 

@@ -22,8 +22,8 @@ pub record Mention : Type 0 where
   pub before : List ℕ
   pub behind : List ℕ
 
--- Where nodes stand: in an element that holds text or not; what the nearest ancestor holds that is no properties (the owner), and
--- the place in the line where that begins; the place of the nodes; and the whole line.
+-- where nodes stand: in an element that holds text or not; what the nearest ancestor holds that is no properties (the owner), and
+-- the place in the line where that begins; the place of the nodes; and the whole line
 pub record Where : Type 0 where
   pub in_text : Bool
   pub owner : Nodes

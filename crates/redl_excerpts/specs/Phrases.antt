@@ -2,8 +2,8 @@
 -- than there is room for, three dots stand for the rest (our own rule). Texts are UTF-8.
 use Rattle.std.specs.Prelude.{ℕ, ◌-◌, ◌==◌, ◌||◌, ◌&&◌, nat_le, nat_lt, not, Bool, true, false, List, [], ◌∷◌, ◌++◌, Option, None, Some, if◌then◌else◌}
 
--- What is kept of a text so far: the characters, for how many more there is room, whether white space came last, and whether
--- there were more.
+-- what is kept of a text so far: the characters, for how many more there is room, whether white space came last, and whether
+-- there were more
 pub record Kept : Type 0 where
   pub text : List ℕ
   pub room : ℕ

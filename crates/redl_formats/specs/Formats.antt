@@ -44,7 +44,7 @@ abbrev pub without_named : {F : Type 0} → (F → List ℕ) → List ℕ → Li
 without_named name_of name [] = []
 without_named name_of name (format ∷ more) = if bytes_eq (name_of format) name then more else format ∷ without_named name_of name more
 
--- What listing gives: the text of the chosen format, or that there is none.
+-- what listing gives: the text of the chosen format, or that there is none
 abbrev pub IsListed : {F : Type 0} → Option F → (F → List ℕ) → Bool → List ℕ → Type 0
 IsListed None text_of found made = (found ≡ false) × (made ≡ [])
 IsListed (Some format) text_of found made = (found ≡ true) × (made ≡ text_of format)

@@ -132,7 +132,7 @@ module _ {Below : Type 0} (rule : ShowRule Below) (below : Below) where
       let P : Piece × List ℕ → Type 0 = λ y. First rule below (element tag kids more) ending y.0 y.1 in
       subst P (same_Some (close_first tag tag.close kids more ending) x e) (close_goes_on tag kids more ending tag.close h.0 h.1 h.2 h.3 legal)
 
-  -- The first piece of a text is the end tag after the nodes, or begins the first node.
+  -- the first piece of a text is the end tag after the nodes, or begins the first node
   pub first : (t : List ℕ) (b : Begins t) (x : Piece × List ℕ) → piece_at InElement t ≡ Some x → First rule below b.nodes b.ending x.0 x.1
   first t b x e = first_of b.nodes b.ending b.laid b.legal x (sym (begin_read t b) ∙ e)
 
@@ -142,12 +142,12 @@ nodes_there no_nodes (tag_end name white rest) some = refl
 nodes_there (bytes b more) ending some = refl
 nodes_there (element tag kids more) ending some = refl
 
--- There is one, unless the text is empty.
+-- there is one, unless the text is empty
 pub first_there : (t : List ℕ) → Begins t → t ≢ [] → is_there (piece_at InElement t) ≡ true
 first_there t b some =
     ap is_there (begin_read t b) ∙ nodes_there b.nodes b.ending (λ e. some (b.whole ∙ tree-then b.nodes (ending_text b.ending) ∙ e))
 
--- An empty text has no nodes, and ends with them.
+-- an empty text has no nodes, and ends with them
 none_left : (nodes : Nodes) (ending : Ending) → first_piece nodes ending ≡ None → EndsHere nodes ending []
 none_left no_nodes text_end e = record { none = refl; left = refl }
 none_left no_nodes (tag_end name white rest) e = absurd cc

@@ -12,7 +12,7 @@ use Rattle.redl_idle.proofs.AheadLaws.{EndsHere, first, at_end}
 use Rattle.redl_idle.proofs.TakeLaws.{TakesSoFar, so_far_begins, so_far_goes_on, so_far_stops, so_far_ends}
 
 module _ {K E Below : Type 0} (taking : Taking K E) (rule : ShowRule Below) (below : Below) where
-  -- The nodes with which this text begins are those that are left to be shown.
+  -- the nodes with which this text begins are those that are left to be shown
   pub record IsLeft (old new : K) (t left : List ℕ) (begin : Begins t) : Type 0 where
     pub begins : Begins left
     pub same : begins.ending ≡ begin.ending

@@ -28,7 +28,7 @@ abbrev pub IsEnding : Ending → Type 0
 IsEnding text_end = Unit {0}
 IsEnding (tag_end name white rest) = IsPiece InElement (end_tag name white)
 
--- A text begins with the nodes of one list.
+-- a text begins with the nodes of one list
 pub record Begins (t : List ℕ) : Type 0 where
   pub nodes : Nodes
   pub ending : Ending

@@ -1,7 +1,7 @@
 -- What takes a text in pieces, as a sink does: how it changes by that.
 use Rattle.std.specs.Prelude.{ℕ, List, [], ◌++◌, Result, Ok, Err}
 
--- What a call says of a taker to which it gave a text: all of it with `Ok`, and with `Err` it stopped on the way.
+-- what a call says of a taker to which it gave a text: all of it with `Ok`, and with `Err` it stopped on the way
 pub record Taking (K E : Type 0) : Type 1 where
   pub Takes : (T : Type 0) → K → K → List ℕ → Result T E → Type 0
   -- no text was given, and the taker is as it was

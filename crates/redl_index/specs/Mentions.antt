@@ -14,8 +14,8 @@ use Rattle.redl_index.specs.Kinds.{kind_of, is_marker_kind}
 use Rattle.redl_index.specs.declared.revision.RevKind.{RevKind}
 use Rattle.redl_index.specs.declared.revision.RevKind.TheVariants.{Move}
 
--- A mention of a revision: what the revision is; of a move, where its source starts; whether the element is a member of it,
--- and not a marker; and the attributes that say who made the revision and when.
+-- a mention of a revision: what the revision is; of a move, where its source starts; whether the element is a member of it,
+-- and not a marker; and the attributes that say who made the revision and when
 pub record Mention : Type 0 where
   pub kind : RevKind
   pub move : Option ℕ
@@ -41,7 +41,7 @@ mention_as tails tail kind named (Some start) = move_mention tails start (not (i
 abbrev pub mention_by : List (List ℕ) → List ℕ → Kind → Option Start → Option Mention
 mention_by tails tail kind start = option_map (λ named. mention_as tails tail kind named start) (kind_of kind)
 
--- What an element is in the revisions of its story: its kind, and the mention that it makes.
+-- what an element is in the revisions of its story: its kind, and the mention that it makes
 pub record Sight : Type 0 where
   pub kind : Kind
   pub mention : Option Mention

@@ -38,7 +38,7 @@ starts_at start (Some other) = other == start
 abbrev pub is_of : ℕ → Mention → Bool
 is_of start mention = starts_at start mention.move
 
--- A mention after these is the first of its revision: the revision is the element's own, or a move that none of these is of.
+-- a mention after these is the first of its revision: the revision is the element's own, or a move that none of these is of
 abbrev pub is_new : List Mention → Option ℕ → Bool
 is_new before None = true
 is_new before (Some start) = not (list_any (is_of start) before)
@@ -49,8 +49,8 @@ firsts before [] = []
 firsts before (mention ∷ more) =
     if is_new before mention.move then mention ∷ firsts (before ++ mention ∷ []) more else firsts (before ++ mention ∷ []) more
 
--- How many members a revision has, where these are the mentions of the story: an element's own has that one, and a move those
--- that mention it, its markers not counted.
+-- how many members a revision has, where these are the mentions of the story: an element's own has that one, and a move those
+-- that mention it, its markers not counted
 abbrev pub members_of : List Mention → Option ℕ → ℕ
 members_of story None = 1
 members_of story (Some start) = length (filter (λ mention. mention.counts && is_of start mention) story)

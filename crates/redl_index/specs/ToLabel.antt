@@ -16,7 +16,7 @@ pub record Left : Type 0 where
 abbrev pub left_of : ToLabel → Left
 left_of left = record { next = left.next; stories = map facts_of (drop left.place left.stories.items) }
 
--- Each story is labelled from the next number on.
+-- each story is labelled from the next number on
 abbrev pub left_rule : StoryRule Left
 left_rule = record {
   kids = λ left tag kids. labelled_story attribute_value left.next tag kids;

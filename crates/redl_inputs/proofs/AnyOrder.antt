@@ -210,7 +210,7 @@ admits_same whole nodes locks entries others same =
 
 -- ---- a session over a package
 
--- Journals in any order and with repeats come to one admission, where their bytes are within the limit both times.
+-- journals in any order and with repeats come to one admission, where their bytes are within the limit both times
 pub opens_same : (reader : Reader) (files : Files) (locks : List Lock) (names others : List (List ℕ)) (whole : List ℕ) (one other : Admission) → AreSame names others
     → opened reader files locks names whole ≡ Ok one → opened reader files locks others whole ≡ Ok other → one ≡ other
 opens_same reader files locks names others whole one other same is too =
@@ -229,7 +229,7 @@ opens_same reader files locks names others whole one other same is too =
     ))
     ∙ same_ok all.second
 
--- The same of a sitting, whose journals may have other bytes left both times.
+-- the same of a sitting, whose journals may have other bytes left both times
 pub sits_same : (reader : Reader) (files : Files) (most more : ℕ) (names others : List (List ℕ)) (whole : List ℕ) (nodes : Nodes) (one other : Admission × ℕ) → AreSame names others
     → sitting_over reader files most names whole nodes ≡ Ok one → sitting_over reader files more others whole nodes ≡ Ok other → one.0 ≡ other.0
 sits_same reader files most more names others whole nodes one other same is too =

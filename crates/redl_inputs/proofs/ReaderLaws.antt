@@ -34,7 +34,7 @@ command_read words = of (command_in words) (command_takes words) (command_again 
     of (Some command) takes again = (Some command, takes command refl)
     of None takes again = (None, λ command is. absurd (cc (again command is)))
 
--- Texts and words can be read: there is a reader.
+-- texts and words can be read: there is a reader
 pub a_reader : (reader : Reader) × IsReader reader
 a_reader = (
   record { tree = λ text. (tree_read text).0; journal = λ text. (journal_read text).0; command = λ words. (command_read words).0 },

@@ -19,8 +19,8 @@ use Rattle.redl_session.specs.Refusals.{admitted, refusals}
 use Rattle.redl_session.specs.Sessions.{SessionState}
 use Rattle.redl_tree.specs.Model.Nodes.{Nodes}
 
--- A session over a package, the package as its journals know it, and what there is to remark: the entries that the session
--- refused, with their causes, and the locks that hold nothing.
+-- a session over a package, the package as its journals know it, and what there is to remark: the entries that the session
+-- refused, with their causes, and the locks that hold nothing
 pub record Admission : Type 0 where
   pub document : DocumentId
   pub state : SessionState
@@ -34,7 +34,7 @@ no_admission whole nodes locks = record {
   remarks = record { refused = []; second = []; idle = idle_locks (revisions_of nodes) locks };
 }
 
--- After these entries too: the book has those that are not refused, and the refused ones are kept with their causes.
+-- after these entries too: the book has those that are not refused, and the refused ones are kept with their causes
 abbrev pub admission_with : Admission → List Entry → Admission
 admission_with before entries = record before {
   state = record before.state { book = union before.state.book (admitted before.state.revisions before.state.locks entries) };
@@ -47,19 +47,19 @@ admission_of reader files before most names = do
   entries ← gathered reader files before.document most names
   Ok (admission_with before entries)
 
--- The same, with how many bytes may still come of other journals.
+-- the same, with how many bytes may still come of other journals
 abbrev pub admission_left : Reader → Files → Admission → ℕ → List (List ℕ) → Result (Admission × ℕ) Failure
 admission_left reader files before most names = do
   entries ← gathered_with reader files before.document most names
   Ok (admission_with before entries.0, entries.1)
 
--- A session over the package with this text and these nodes, without locks, what becomes of the entries of the journals of these
--- names, of at most `most` bytes together, and how many bytes may still come of other journals.
+-- a session over the package with this text and these nodes, without locks, what becomes of the entries of the journals of these
+-- names, of at most `most` bytes together, and how many bytes may still come of other journals
 abbrev pub sitting_over : Reader → Files → ℕ → List (List ℕ) → List ℕ → Nodes → Result (Admission × ℕ) Failure
 sitting_over reader files most names whole nodes = admission_left reader files (no_admission whole nodes []) most names
 
--- A session over the package with this text and these nodes, with these locks, and what becomes of the entries of
--- the journals of these names.
+-- a session over the package with this text and these nodes, with these locks, and what becomes of the entries of
+-- the journals of these names
 abbrev pub opened_over : Reader → Files → List Lock → List (List ℕ) → List ℕ → Nodes → Result Admission Failure
 opened_over reader files locks journals whole nodes = admission_of reader files (no_admission whole nodes locks) journal_bytes journals
 

@@ -53,7 +53,7 @@ gathered reader files document left (name ∷ names) = do
   more ← gathered reader files document (left - first.1) names
   Ok (first.0 ++ more)
 
--- The same, with how many bytes may still come of other journals.
+-- the same, with how many bytes may still come of other journals
 abbrev pub gathered_with : Reader → Files → DocumentId → ℕ → List (List ℕ) → Result (List Entry × ℕ) Failure
 gathered_with reader files document left [] = Ok ([], left)
 gathered_with reader files document left (name ∷ names) = do

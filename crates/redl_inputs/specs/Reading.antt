@@ -6,28 +6,28 @@ use Rattle.redl_io.specs.Faults.{Rose}
 use Rattle.redl_io.specs.Shelf.{Files, Lacks}
 use Rattle.redl_lines.specs.Failures.{Failure, caused, unread, no_memory}
 
--- What was made is what was due, but for what the outside forces: a failed fetch, and an allocation that failed.
+-- what was made is what was due, but for what the outside forces: a failed fetch, and an allocation that failed
 abbrev pub IsMade : {Y : Type 0} → Result Y Failure → Result Y Failure → Type 0 → Type 0
 IsMade (Ok y) due failed = due ≡ Ok y
 IsMade (Err no_memory) due failed = Unit {0}
 IsMade (Err (unread name)) due failed = failed ⊎ (due ≡ Err (unread name))
 IsMade (Err (caused cause)) due failed = due ≡ Err (caused cause)
 
--- A file couldn't be read: it is one of these, and a fetch failed or the shelf lacks it.
+-- a file couldn't be read: it is one of these, and a fetch failed or the shelf lacks it
 abbrev pub IsUnread : {Y : Type 0} → Result Y Failure → List (List ℕ) → Option Files → Type 0 → Type 0
 IsUnread (Err (unread name)) names told failed = Contains names name × (failed ⊎ Lacks told name)
 IsUnread made names told failed = Unit {0}
 
--- This holds unless a file couldn't be read.
+-- this holds unless a file couldn't be read
 abbrev pub UnlessUnread : {Y : Type 0} → Result Y Failure → Type 0 → Type 0
 UnlessUnread (Err (unread name)) Holds = Unit {0}
 UnlessUnread made Holds = Holds
 
--- These may be the files of a shelf: it tells that they are, or it is asked for no file.
+-- these may be the files of a shelf: it tells that they are, or it is asked for no file
 abbrev pub MayHold : Option Files → List (List ℕ) → Files → Type 0
 MayHold told names files = (told ≡ Some files) ⊎ (names ≡ [])
 
--- A step took files of these names from a shelf, in their order, and made what was due.
+-- a step took files of these names from a shelf, in their order, and made what was due
 pub record ReadsFiles {S Y : Type 0} (told : S → Option Files) (faults : S → ℕ) (asked : S → Option (List (List ℕ))) (old new : S) (names : List (List ℕ))
     (made : Result Y Failure) (due : Reader → Files → Result Y Failure) : Type 0 where
   pub as_due : (files : Files) → MayHold (told old) names files → (reader : Reader) → IsReader reader
@@ -47,7 +47,7 @@ abbrev pub NeverUnread : {Y : Type 0} → Result Y Failure → Type 0
 NeverUnread (Err (unread name)) = ⊥
 NeverUnread made = Unit {0}
 
--- A step that takes no file made what was due.
+-- a step that takes no file made what was due
 pub record Reads {Y : Type 0} (made : Result Y Failure) (due : Reader → Result Y Failure) : Type 0 where
   pub as_due : (reader : Reader) → IsReader reader → IsMade made (due reader) ⊥
   pub never_unread : NeverUnread made

@@ -16,7 +16,7 @@ entries_in_blocks blocks = flat_map (λ block. block.items) blocks
 abbrev pub IsFilled : Vec Entry → Type 0
 IsFilled block = block.items ≡ [] → ⊥
 
--- The invariant of a list in blocks: all entries are in order, each once, and no block is empty.
+-- the invariant of a list in blocks: all entries are in order, each once, and no block is empty
 pub record AreBlocks (blocks : List (Vec Entry)) : Type 0 where
   pub ordered : IsBook (entries_in_blocks blocks)
   pub filled : AllByRecursion IsFilled blocks
@@ -37,7 +37,7 @@ pub record IsPlace (entry : Entry) (blocks : List (Vec Entry)) (place : ℕ) : T
   pub earlier : AllByRecursion (λ other. entry_order other entry ≡ Less) (entries_in_blocks (take place blocks))
   pub later : AllByRecursion (λ other. entry_order entry other ≡ Less) (entries_in_blocks (drop (suc place) blocks))
 
--- The invariant of a list of entries, with their number.
+-- the invariant of a list of entries, with their number
 pub record AreCounted (blocks : List (Vec Entry)) (count : ℕ) : Type 0 where
   pub are : AreBlocks blocks
   pub counted : count ≡ length (entries_in_blocks blocks)

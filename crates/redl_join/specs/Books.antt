@@ -8,7 +8,7 @@ use Rattle.std.specs.BTreeSet.{insert_key}
 use Rattle.redl_journal.specs.declared.entry.Entry.{Entry}
 use Rattle.redl_journal.specs.Order.{entry_order}
 
--- The entries are in their order, each once.
+-- the entries are in their order, each once
 abbrev pub IsBook : List Entry → Type 0
 IsBook entries = IsStrictlySortedBy entry_order entries
 

@@ -227,7 +227,7 @@ no_role ancestors tag unfit =
     (is "trPrChange" tag) (is "tcPrChange" tag)
     (unfit (Change Run)) (unfit (Change Para)) (unfit (Change Sect)) (unfit (Change Table)) (unfit (Change Except)) (unfit (Change RowProp)) (unfit (Change CellProp)))
 
--- So the role of an element is that of the one line that it fits, or there is no such line and it has none.
+-- so the role of an element is that of the one line that it fits, or there is no such line and it has none
 pub fits_or_plain : (ancestors : List Tag) (tag : Tag) → (fits ancestors tag (role ancestors tag) ≡ true) ⊎ (role ancestors tag ≡ Plain)
 fits_or_plain ancestors tag = of (fits ancestors tag (role ancestors tag)) refl
   where

@@ -47,7 +47,7 @@ put-end says [] (leaf_state leaf present rest) none = refl
 put-end says [] (container_state tag tally inner rest) none = refl
 put-end says (n ∷ way) states none = absurd (omega (arith, none))
 
--- A leaf is made anew, and then the tallies are mended: one step of an editor.
+-- a leaf is made anew, and then the tallies are mended: one step of an editor
 pub mended-remade : (says : List Say) (ancestors : List Tag) (way : List ℕ) (states : States) → mended says ancestors way (remade says way states) ≡ made_at says ancestors way states
 mended-remade says ancestors way no_states = refl
 mended-remade says ancestors [] (leaf_state leaf present rest) = refl

@@ -20,8 +20,8 @@ abbrev pub AreMade : List Say → List Made → States → Type 0
 AreMade says [] _ = Unit {0}
 AreMade says (one ∷ later) states = IsMade says one.way.now (nodes_of one.nodes.items) states × AreMade says later states
 
--- What setting takes: these says differ in the revisions that are set alone, no container is a member of one, and these ways
--- lead to each leaf that holds one.
+-- what setting takes: these says differ in the revisions that are set alone, no container is a member of one, and these ways
+-- lead to each leaf that holds one
 pub record CanSet (is_set : ℕ → Bool) (old new : List Say) (story : Element) (ends : List (List ℕ)) (states : States) : Type 0 where
   pub same : SameBut is_set old new
   pub unheld : IsUnheld is_set (slots_in opens (story.tag ∷ []) story.kids)

@@ -49,7 +49,7 @@ part_right part xs ys h = record {
 
 -- ---- a sign on its way up
 
--- It is a part of the text of these nodes, or waits for the end of the paragraph: in its `rPr`, in its `pPr`, or among its kids.
+-- it is a part of the text of these nodes, or waits for the end of the paragraph: in its `rPr`, in its `pPr`, or among its kids
 data Told (ancestors : List Tag) (nodes : Nodes) (sign : List ℕ) : Type 0 where
   put : HasPart sign (marked_in ancestors nodes) → Told ancestors nodes sign
   in_run : within ("rPr" ∷ "pPr" ∷ "p" ∷ []) ancestors ≡ true → HasPart sign (mark_signs nodes) → Told ancestors nodes sign

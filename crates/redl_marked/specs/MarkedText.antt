@@ -59,8 +59,8 @@ named_story part = option_map (λ root. record { name = name_in part.tag; story 
 abbrev pub named_stories : Nodes → List NamedStory
 named_stories nodes = filter_map named_story (parts_of nodes)
 
--- The line before a story, where the text before it ends in this byte: none before the first story that shows anything, else
--- a line of its own with the name of the part.
+-- the line before a story, where the text before it ends in this byte: none before the first story that shows anything, else
+-- a line of its own with the name of the part
 abbrev pub heading : Option ℕ → List ℕ → List ℕ
 heading None name = []
 heading (Some last) name = (if last == 10 then [] else 10 ∷ []) ++ (codes "== " ++ (name ++ (10 ∷ [])))

@@ -123,7 +123,7 @@ past_end (b ∷ bs) rest h =
     let both = and_parts (is_other 59 b) (list_all (is_other 59) bs) h in
     ap (λ (t : Bool). decoded_from t (bs ++ (59 ∷ rest))) both.0 ∙ past_end bs rest both.1
 
--- A reference becomes its character, and decoding goes on after its `;`.
+-- a reference becomes its character, and decoding goes on after its `;`
 pub decoded-reference : (bs : List ℕ) (c : ℕ) (rest : List ℕ) → reference_at bs ≡ Some (c, rest) → decoded_value (38 ∷ bs) ≡ encode_utf8 c ++ decoded_value rest
 decoded-reference bs c rest e =
     let r = reference_refers bs (c, rest) e in
@@ -149,7 +149,7 @@ literal_byte b bs h =
       | inr other ↦ rw (no_sign, no_return, literal_is_no_space b h other) refl
     ]
 
--- Such a value decodes to itself.
+-- such a value decodes to itself
 pub decoded_literal : (value : List ℕ) → list_all is_literal value ≡ true → decoded_value value ≡ value
 decoded_literal [] h = refl
 decoded_literal (b ∷ bs) h =
@@ -224,7 +224,7 @@ all_decode (c ∷ cs) h s =
       | inr high ↦ high_decodes s c (encode_utf8_all cs) high are.0 (all_decode cs are.1)
     ]
 
--- Decoding makes UTF-8 from UTF-8.
+-- decoding makes UTF-8 from UTF-8
 pub decoded_is_utf8 : (value : List ℕ) → IsUtf8 value → IsUtf8 (decoded_value value)
 decoded_is_utf8 value u = let P : List ℕ → Type 0 = λ z. IsUtf8 (decoded_value z) in subst P u.1.1 (all_decode u.0 u.1.0 false)
 

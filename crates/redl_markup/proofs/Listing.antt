@@ -55,7 +55,7 @@ lists_all (a ∷ attrs) space each h =
     lists_more (attribute_then a (attributes_then attrs space)) (named_value a, attributes_then attrs space) (first_again a (attributes_then attrs space) each.0)
     ∙ ap (λ (more : List (Name × List ℕ)). named_value a ∷ more) (lists_all attrs space each.1 h)
 
--- The list of a legal tail is that of its attributes.
+-- the list of a legal tail is that of its attributes
 pub tail_lists : (tail : List ℕ) (h : IsTail tail) → attributes_of tail ≡ map named_value h.attributes
 tail_lists tail h = ap attributes_of h.whole ∙ lists_all h.attributes h.space h.each h.is_space
 
@@ -65,7 +65,7 @@ names_of : (attrs : List Attribute) → map (λ (a : Attribute). a.name) attrs �
 names_of [] = refl
 names_of (a ∷ attrs) = ap (λ (ns : List Name). a.name ∷ ns) (names_of attrs)
 
--- They are those of the tail's attributes.
+-- they are those of the tail's attributes
 pub names_listed : (bs : List ℕ) (x : Tail) → attributes_at bs ≡ Some x → x.0 ≡ names_in (before bs x.1)
 unfolding attributes_at
 names_listed bs x e =
@@ -76,7 +76,7 @@ names_listed bs x e =
     let listed = ap attributes_of cut ∙ lists_all t.attributes t.space t.each t.is_space in
     t.names ∙ names_of t.attributes ∙ sym (ap (map (λ (a : Name × List ℕ). a.0)) listed)
 
--- Nothing has none.
+-- nothing has none
 pub names_of_none : (rest : List ℕ) → names_in (before rest rest) ≡ []
 names_of_none rest =
     let none : before rest rest ≡ [] = before-append [] rest in
@@ -112,7 +112,7 @@ names_pass_from p (suc n) tail h = of (attribute_in tail) refl (names_pass_from 
       let name : t.0.name ≡ x.0.0 = ap (λ (v : Name × List ℕ). v.0) t.3 in
       and_from (name_passes p x.0.0) (list_all (λ a. name_passes p a.0) (attributes_from n x.1)) (sym (ap (name_passes p) name) ∙ passed.0) (go x.1 passed.1)
 
--- If all bytes of a tail pass, so do those of its attributes' names.
+-- if all bytes of a tail pass, so do those of its attributes' names
 pub names_pass : (p : ℕ → Bool) (tail : List ℕ) → list_all p tail ≡ true → list_all (λ a. name_passes p a.0) (attributes_of tail) ≡ true
 unfolding attributes_of
 names_pass p tail h = names_pass_from p (suc (length tail)) tail h

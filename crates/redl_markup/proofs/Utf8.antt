@@ -17,7 +17,7 @@ use Rattle.redl_markup.specs.Pieces.{Piece, start_tag, empty_tag, end_tag, stret
 use Rattle.redl_markup.specs.ScanTags.{attribute_in}
 use Rattle.redl_markup.proofs.Attributes.{first_takes}
 
--- What is on either side of an ASCII byte is UTF-8.
+-- what is on either side of an ASCII byte is UTF-8
 pub record CutsAt (xs : List ℕ) (b : ℕ) (ys : List ℕ) : Type 0 where
   pub left : IsUtf8 xs
   pub from : IsUtf8 (b ∷ ys)
@@ -114,7 +114,7 @@ TailIsUtf8 (empty_tag name tail) = IsUtf8 tail
 TailIsUtf8 (end_tag name space) = Unit {0}
 TailIsUtf8 (stretch bs) = Unit {0}
 
--- If the bytes are UTF-8, so are the tail of the tag with which they begin and what follows the piece.
+-- if the bytes are UTF-8, so are the tail of the tag with which they begin and what follows the piece
 pub piece_is_utf8 : (place : Place) (bs : List ℕ) (p : Piece) (rest : List ℕ) → Stands place bs p rest → IsUtf8 bs → IsUtf8 rest × TailIsUtf8 p
 piece_is_utf8 place bs (start_tag name tail) rest h u =
     let P : List ℕ → Type 0 = λ z. IsUtf8 z in

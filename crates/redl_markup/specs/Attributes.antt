@@ -3,7 +3,7 @@ use Rattle.std.specs.Prelude.{ℕ, zero, suc, List, [], ◌∷◌, length, map, 
 use Rattle.redl_markup.specs.Names.{Name}
 use Rattle.redl_markup.specs.ScanTags.{attribute_in}
 
--- The list of a tail's first attribute, and then what `rest_of` gives for the rest.
+-- the list of a tail's first attribute, and then what `rest_of` gives for the rest
 abbrev pub attributes_by : (List ℕ → List (Name × List ℕ)) → Option ((Name × List ℕ) × List ℕ) → List (Name × List ℕ)
 attributes_by rest_of None = []
 attributes_by rest_of (Some x) = x.0 ∷ rest_of x.1

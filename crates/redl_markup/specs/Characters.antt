@@ -28,7 +28,7 @@ is_name_start c =
 unfoldable pub is_name_character : ℕ → Bool
 is_name_character c = is_name_start c || c == 45 || c == 46 || between 48 57 c || c == 0xB7 || between 0x300 0x36F c || between 0x203F 0x2040 c
 
--- The bytes are the UTF-8 of allowed characters.
+-- the bytes are the UTF-8 of allowed characters
 pub record IsText (bytes : List ℕ) : Type 0 where
   pub characters : List ℕ
   pub each : list_all is_character characters ≡ true

@@ -13,7 +13,7 @@ may_start colons c = is_name_start c && (colons || not (c == 58))
 unfoldable pub may_follow : Bool → ℕ → Bool
 may_follow colons c = is_name_character c && (colons || not (c == 58))
 
--- The bytes are a name of one part: Name if colons are allowed in it, otherwise NCName.
+-- the bytes are a name of one part: Name if colons are allowed in it, otherwise NCName
 pub record IsWord (colons : Bool) (word : List ℕ) : Type 0 where
   pub first : ℕ
   pub more : List ℕ

@@ -33,7 +33,7 @@ Follows (start_tag name tail) rest = Unit {0}
 Follows (empty_tag name tail) rest = Unit {0}
 Follows (end_tag name space) rest = Unit {0}
 
--- The bytes begin with the piece, and the rest follows it.
+-- the bytes begin with the piece, and the rest follows it
 pub record Stands (place : Place) (bytes : List ℕ) (piece : Piece) (rest : List ℕ) : Type 0 where
   pub whole : bytes ≡ piece_then piece rest
   pub legal : IsPiece place piece

@@ -35,7 +35,7 @@ numbered_by (Some hexadecimal) decimal = number_at 16 hexadecimal
 numbered_by None (Some decimal) = number_at 10 decimal
 numbered_by None None = None
 
--- A reference, given what follows its `&`: its character, and what follows its `;`.
+-- a reference, given what follows its `&`: its character, and what follows its `;`
 unfoldable pub reference_at : List ℕ → Option (ℕ × List ℕ)
 reference_at bs = or_else (named_at bs) (numbered_by (behind (codes "#x") bs) (behind (codes "#") bs))
 

@@ -13,7 +13,7 @@ use Rattle.redl_markup.specs.Tails.{IsSpace, Attribute, attribute_then, IsQuote}
 
 -- ---- runs
 
--- In an element a run is character data and references, without `]]>` (productions 14 and 67); elsewhere it is white space.
+-- in an element a run is character data and references, without `]]>` (productions 14 and 67); elsewhere it is white space
 abbrev pub is_run : Place → List ℕ → Bool
 is_run InElement bs = has_references bs && lacks (codes "]]>") bs
 is_run BeforeRoot bs = list_all is_space bs
@@ -42,7 +42,7 @@ abbrev pub is_apart : List ℕ → Bool
 is_apart [] = true
 is_apart (b ∷ bs) = is_space b
 
--- The name is not `xml` in letters of any case (production 17), and the text has no `?>`.
+-- the name is not `xml` in letters of any case (production 17), and the text has no `?>`
 pub record IsInstruction (target text : List ℕ) : Type 0 where
   pub name : IsWord true target
   pub not_xml : is_xml target ≡ false
@@ -61,7 +61,7 @@ item_then (comment text) rest = codes "<!--" ++ (text ++ (codes "-->" ++ rest))
 item_then (instruction name text) rest = codes "<?" ++ (name ++ (text ++ (codes "?>" ++ rest)))
 item_then (cdata text) rest = codes "<![CDATA[" ++ (text ++ (codes "]]>" ++ rest))
 
--- CDATA is allowed only in elements.
+-- CDATA is allowed only in elements
 abbrev pub IsItem : Place → Item → Type 0
 IsItem place (comment text) = is_comment text ≡ true
 IsItem place (instruction name text) = IsInstruction name text
@@ -74,7 +74,7 @@ items_then (i ∷ more) rest = item_then i.0 (i.1 ++ items_then more rest)
 
 -- ---- the XML declaration and the byte order mark
 
--- A setting of the declaration: a word and a value that fits it, with Eq between them, production 25.
+-- a setting of the declaration: a word and a value that fits it, with Eq between them, production 25
 pub record IsSetting (word : List ℕ) (fits : List ℕ → Bool) (a : Attribute) : Type 0 where
   pub gap : (a.gap ≢ []) × IsSpace a.gap
   pub name : a.name ≡ record { prefix = []; local = word }
@@ -154,7 +154,7 @@ IsDeclared (Some d) = IsDeclaration d
 abbrev pub no_head : Head
 no_head = record { marked = false; declaration = None }
 
--- Only the stretch before the root has a head.
+-- only the stretch before the root has a head
 abbrev pub IsHead : Place → Head → Type 0
 IsHead BeforeRoot h = IsDeclared h.declaration
 IsHead InElement h = h ≡ no_head
@@ -177,7 +177,7 @@ pub record IsStretch (place : Place) (bs : List ℕ) : Type 0 where
 abbrev pub begins_item : List ℕ → Bool
 begins_item bs = begins (codes "<!") bs || begins (codes "<?") bs
 
--- A stretch is as long as it can be: it is followed by the end or by a tag.
+-- a stretch is as long as it can be: it is followed by the end or by a tag
 abbrev pub ends_stretch : List ℕ → Bool
 ends_stretch [] = true
 ends_stretch (b ∷ bs) = b == 60 && not (begins_item (b ∷ bs))

@@ -27,7 +27,7 @@ attribute_then a rest =
 abbrev pub IsQuote : ℕ → Type 0
 IsQuote q = (q ≡ 34) ⊎ (q ≡ 39)
 
--- AttValue, production 10: the value has no `<` and no quote of its own kind, and each `&` in it begins a reference.
+-- AttValue, production 10: the value has no `<` and no quote of its own kind, and each `&` in it begins a reference
 pub record IsAttribute (a : Attribute) : Type 0 where
   pub gap : (a.gap ≢ []) × IsSpace a.gap
   pub name : IsName a.name
@@ -43,7 +43,7 @@ abbrev pub attributes_then : List Attribute → List ℕ → List ℕ
 attributes_then [] rest = rest
 attributes_then (a ∷ more) rest = attribute_then a (attributes_then more rest)
 
--- Productions 40 and 44: attributes with distinct names as written, and optional white space.
+-- productions 40 and 44: attributes with distinct names as written, and optional white space
 pub record IsTail (tail : List ℕ) : Type 0 where
   pub attributes : List Attribute
   pub space : List ℕ

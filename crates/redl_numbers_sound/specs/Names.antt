@@ -71,8 +71,8 @@ pub record NumbersNameIn (revisions : List Revision) (part : ℕ) (elements : Li
   pub before : (place lower : ℕ) (revision : Revision) → element.own.tag.rev ≡ suc place → lower < place
       → slice_get revisions lower ≡ Some revision → revision.part ≡ part → StandsBefore elements (suc lower) element.own.start
 
--- The numbers on the elements of a package name these revisions: those of each element as they should, each revision by an element
--- of the story in its part, and numbers rise with the part.
+-- the numbers on the elements of a package name these revisions: those of each element as they should, each revision by an element
+-- of the story in its part, and numbers rise with the part
 pub record NumbersName (nodes : Nodes) (revisions : List Revision) : Type 0 where
   pub elements : (part : ℕ) (root : Element) (element : Seen) → story nodes part ≡ Some root → Contains (seen root.tag root.kids) element
       → NumbersNameIn revisions part (seen root.tag root.kids) element

@@ -4,6 +4,6 @@ use Rattle.redl_tree.specs.Model.Nodes.{Tag, Nodes}
 use Rattle.redl_tree.specs.Decisions.Packages.{StoryRule}
 use Rattle.redl_tree.specs.Revisions.Labels.{unlabelled}
 
--- A rule that sets labels alone: but for labels, each story keeps what is in it.
+-- a rule that sets labels alone: but for labels, each story keeps what is in it
 abbrev pub SetsLabels : {S : Type 0} → StoryRule S → Type 0
 SetsLabels {S = S} rule = (given : S) (tag : Tag) (kids : Nodes) → unlabelled (rule.kids given tag kids) ≡ unlabelled kids

@@ -80,7 +80,7 @@ sound_package reader whole nodes is =
 
 -- ---- what is left
 
--- What a pass leaves of a package that was read.
+-- what a pass leaves of a package that was read
 left_by : (reader : Reader) (files : Files) (plan : Plan) (name bytes whole : List ℕ) (nodes : Nodes) (says : List Say)
     → package_file files name ≡ Ok whole → package_in reader whole ≡ Ok nodes → AreSays reader files plan plan.decides whole nodes says → bytes ≡ passed_text says nodes
     → IsLeft reader files plan name bytes

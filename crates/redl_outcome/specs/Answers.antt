@@ -16,7 +16,7 @@ use Rattle.redl_words.specs.Commands.{Command, IsCommand}
 use Rattle.redl_lines.specs.declared.status.Status.{Status}
 use Rattle.redl_lines.specs.declared.status.Status.TheVariants as status
 
--- Where the shelf tells what it holds, or the words ask for no file, this holds of the call's outcome.
+-- where the shelf tells what it holds, or the words ask for no file, this holds of the call's outcome
 abbrev pub OfOutcome : Option Files → List (List ℕ) → Brought → (Outcome → Type 0) → Type 0
 OfOutcome told words brought Holds =
     (files : Files) (reader : Reader) → IsReader reader → MayHold told (asked_by brought (reader.command words)) files
@@ -26,14 +26,14 @@ OfOutcome told words brought Holds =
 abbrev pub IsWritten : Status → Type 0
 IsWritten s = (s ≡ status.Done) ⊎ (s ≡ status.Refused)
 
--- The status is the outcome's, but for what the outside forces: a read fault, a write fault, and an allocation that failed.
+-- the status is the outcome's, but for what the outside forces: a read fault, a write fault, and an allocation that failed
 abbrev pub IsAnswer : Status → Outcome → Type 0 → Type 0 → Type 0
 IsAnswer status.NoMemory outcome read_failed write_failed = Unit {0}
 IsAnswer status.ReadFault outcome read_failed write_failed = read_failed ⊎ (outcome.status ≡ status.ReadFault)
 IsAnswer status.WriteFault outcome read_failed write_failed = write_failed × IsWritten outcome.status
 IsAnswer s outcome read_failed write_failed = outcome.status ≡ s
 
--- The output gained the bytes where all was written, a front of them with `WriteFault`, and nothing with any other status.
+-- the output gained the bytes where all was written, a front of them with `WriteFault`, and nothing with any other status
 abbrev pub Writes : {K : Type 0} → (K → Option (List ℕ)) → K → K → Status → List ℕ → Type 0
 Writes told old new status.Done bytes = told new ≡ append_known (told old) bytes
 Writes told old new status.Refused bytes = told new ≡ append_known (told old) bytes
@@ -53,7 +53,7 @@ IsUnreadLine outcome words brought read_failed lines =
     ((outcome.status ≡ status.ReadFault) × (lines ≡ outcome.lines))
     ⊎ (read_failed × ((name : List ℕ) × IsFileOf words brought name × (lines ≡ unread_line name)))
 
--- The lines are the outcome's, but for what the outside forces.
+-- the lines are the outcome's, but for what the outside forces
 abbrev pub AreLines : Status → Outcome → List (List ℕ) → Brought → Type 0 → List ℕ → Type 0
 AreLines status.NoMemory outcome words brought read_failed lines = lines ≡ no_memory_line
 AreLines status.ReadFault outcome words brought read_failed lines = IsUnreadLine outcome words brought read_failed lines
@@ -83,7 +83,7 @@ AsksUpTo status.WriteFault front later Told = later ≡ []
 AsksUpTo status.ReadFault front later Told = TellsLast front Told
 AsksUpTo _ front later Told = Unit {0}
 
--- A call with this status, which told lines of which this holds, asked a shelf for a front of these names, in their order, each once.
+-- a call with this status, which told lines of which this holds, asked a shelf for a front of these names, in their order, each once
 pub record Asks (old new : Option (List (List ℕ))) (names : List (List ℕ)) (status : Status) (Told : List ℕ → Type 0) : Type 0 where
   pub front : List (List ℕ)
   pub later : List (List ℕ)

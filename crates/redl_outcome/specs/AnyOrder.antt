@@ -22,8 +22,8 @@ with_journals names (join journals) = join names
 with_journals names (check p) = check p
 with_journals names (sample number) = sample number
 
--- Two calls of a command that differ in the order and the repeats of their journals, and that both are written, come to the
--- same status, bytes and lines.
+-- two calls of a command that differ in the order and the repeats of their journals, and that both are written, come to the
+-- same status, bytes and lines
 abbrev pub OrderDoesNotCount : Reader → Files → Brought → Type 0
 OrderDoesNotCount reader files brought =
     (words others : List (List ℕ)) (command : Command) (names more : List (List ℕ)) → AreSame names more
@@ -31,7 +31,7 @@ OrderDoesNotCount reader files brought =
     → IsWritten (outcome reader words files brought).status → IsWritten (outcome reader others files brought).status
     → outcome reader words files brought ≡ outcome reader others files brought
 
--- The same of two calls for one journal of two sittings, which have journals of two packages.
+-- the same of two calls for one journal of two sittings, which have journals of two packages
 abbrev pub OrderOfSittings : Reader → Files → Brought → Type 0
 OrderOfSittings reader files brought =
     (words others : List (List ℕ)) (p q : List ℕ) (firsts journals again more : List (List ℕ)) → AreSame firsts again → AreSame journals more

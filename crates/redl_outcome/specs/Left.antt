@@ -38,7 +38,7 @@ if_decided by_verdicts name = name
 abbrev pub decided_package : Plan → Option (List ℕ)
 decided_package plan = if_decided plan.decides (package_of plan.makes)
 
--- These are the says of a command for the revisions of the package with this text and these nodes.
+-- these are the says of a command for the revisions of the package with this text and these nodes
 abbrev pub AreSays : Reader → Files → Plan → Deciding → List ℕ → Nodes → List Say → Type 0
 AreSays reader files plan nothing whole nodes says = ⊥
 AreSays reader files plan (all_of_them accept) whole nodes says = says ≡ same_says (settling accept) nodes
@@ -51,7 +51,7 @@ AreSays reader files plan by_verdicts whole nodes says =
 abbrev pub left_of : List Say → Nodes → Nodes
 left_of says nodes = pass_package says (numbered_package nodes)
 
--- The bytes are the text of what the command leaves of the package of this name.
+-- the bytes are the text of what the command leaves of the package of this name
 pub record IsLeft (reader : Reader) (files : Files) (plan : Plan) (name bytes : List ℕ) : Type 0 where
   -- the text and the nodes of the package, and the says for its revisions
   pub whole : List ℕ
@@ -69,13 +69,13 @@ pub record IsLeft (reader : Reader) (files : Files) (plan : Plan) (name bytes : 
   pub locked : (admission : Admission) (element : Seen) → opened reader files plan.locks plan.journals whole ≡ Ok admission
       → IsHeld admission.state element → fate_of (says_of admission.state) element.own.tag ≡ Leave
 
--- Where a command decides on revisions and the outcome is written, its bytes are what is left of the package.
+-- where a command decides on revisions and the outcome is written, its bytes are what is left of the package
 abbrev pub LeavesSound : Reader → List (List ℕ) → Files → Brought → Type 0
 LeavesSound reader words files brought =
     (command : Command) (name : List ℕ) → reader.command words ≡ Some command → decided_package (plan command) ≡ Some name
     → IsWritten (outcome reader words files brought).status → IsLeft reader files (plan command) name (outcome reader words files brought).bytes
 
--- The same of a call that ended with this status, over a shelf that tells this.
+-- the same of a call that ended with this status, over a shelf that tells this
 abbrev pub Leaves : Status → Option Files → List (List ℕ) → Brought → Type 0
 Leaves ended told words brought =
     IsWritten ended → (command : Command) (name : List ℕ) → IsCommand words command → decided_package (plan command) ≡ Some name

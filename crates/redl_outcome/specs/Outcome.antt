@@ -21,6 +21,6 @@ abbrev pub writing_of : Reader → Files → Brought → Option Command → Resu
 writing_of reader files brought None = Err (caused usage)
 writing_of reader files brought (Some command) = carried_out reader files brought (plan command)
 
--- What a call with these words over these files comes to, with what the program brings.
+-- what a call with these words over these files comes to, with what the program brings
 abbrev pub outcome : Reader → List (List ℕ) → Files → Brought → Outcome
 outcome reader words files brought = outcome_of (writing_of reader files brought (reader.command words))

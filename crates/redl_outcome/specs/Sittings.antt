@@ -25,31 +25,31 @@ pub record AreSittings (reader : Reader) (files : Files) (p q : List ℕ) (first
   pub first : first_sitting reader files firsts whole ≡ Ok one
   pub second : second_sitting reader files q journals one ≡ Ok two
 
--- The bytes are the journal of the joined book, and under its verdicts the first package comes to the text of the second one under
--- the verdicts of its own.
+-- the bytes are the journal of the joined book, and under its verdicts the first package comes to the text of the second one under
+-- the verdicts of its own
 pub record Agree (reader : Reader) (files : Files) (p q : List ℕ) (firsts journals : List (List ℕ)) (bytes : List ℕ) : Type 0 where
   pub sittings : AreSittings reader files p q firsts journals
   pub journal : bytes ≡ book_text sittings.one.0.document (book_of sittings.one.0.state sittings.two.0.state)
   pub texts : text_under sittings.one.0.state (book_of sittings.one.0.state sittings.two.0.state) ≡ left_text sittings.two.0.state
 
--- The sittings come to different texts.
+-- the sittings come to different texts
 pub record Differ (reader : Reader) (files : Files) (p q : List ℕ) (firsts journals : List (List ℕ)) : Type 0 where
   pub sittings : AreSittings reader files p q firsts journals
   pub texts : text_under sittings.one.0.state (book_of sittings.one.0.state sittings.two.0.state) ≢ left_text sittings.two.0.state
 
--- A call for one journal of two sittings has the status 12 exactly where the sittings come to different texts.
+-- a call for one journal of two sittings has the status 12 exactly where the sittings come to different texts
 abbrev pub DifferExactly : Reader → List (List ℕ) → Files → Brought → Type 0
 DifferExactly reader words files brought =
     (p q : List ℕ) (firsts journals : List (List ℕ)) → reader.command words ≡ Some (resume p q firsts journals)
     → ((outcome reader words files brought).status ≡ status.Differ) ↔ Differ reader files p q firsts journals
 
--- One journal of two sittings, where it is written, is that of the joined book, and both sittings come to the same text.
+-- one journal of two sittings, where it is written, is that of the joined book, and both sittings come to the same text
 abbrev pub SittingsAgree : Reader → List (List ℕ) → Files → Brought → Type 0
 SittingsAgree reader words files brought =
     (p q : List ℕ) (firsts journals : List (List ℕ)) → reader.command words ≡ Some (resume p q firsts journals)
     → IsWritten (outcome reader words files brought).status → Agree reader files p q firsts journals (outcome reader words files brought).bytes
 
--- The same of a call that ended with this status, over a shelf that tells this.
+-- the same of a call that ended with this status, over a shelf that tells this
 abbrev pub Resumes : Status → Option Files → List (List ℕ) → Brought → Type 0
 Resumes ended told words brought =
     (p q : List ℕ) (firsts journals : List (List ℕ)) → IsCommand words (resume p q firsts journals)

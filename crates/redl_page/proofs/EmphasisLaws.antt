@@ -16,7 +16,7 @@ use Rattle.redl_page.specs.Shapes.{has_property, is_off, switched_on, switches}
 
 -- ---- one tag
 
--- An element of W does what one with its local name and its tail does.
+-- an element of W does what one with its local name and its tail does
 switches_same : (name : List ℕ) (tag : Tag) → tag.space ≡ W → switches name tag ≡ switches name (tag_with tag.local tag.tail)
 switches_same name tag e = ap (λ s. (is_w s && bytes_eq tag.local name) && not (is_off (written_value tag.tail (codes "val")))) e
 

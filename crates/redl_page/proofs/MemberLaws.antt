@@ -117,7 +117,7 @@ paragraph_plain ancestors tag p o fit = at (open_fits ancestors tag o fit) (by_n
 
 -- ---- where marks wait for the end of their paragraph
 
--- The element waits among the marks of a paragraph, of which these nodes are the kids, the properties, or the run properties.
+-- the element waits among the marks of a paragraph, of which these nodes are the kids, the properties, or the run properties
 data Waits (revisions : List Revision) (v : ℕ) (ancestors : List Tag) (nodes : Nodes) : Type 0 where
   in_run : in_mark_props ancestors ≡ true → has_element v (marks_in revisions RunProperties nodes) ≡ true → Waits revisions v ancestors nodes
   in_para : in_para_props ancestors ≡ true → has_element v (marks_in revisions Properties nodes) ≡ true → Waits revisions v ancestors nodes

@@ -20,8 +20,8 @@ use Rattle.redl_page.specs.Shapes.{shape_of, opening, behind_opening, closing, i
 
 -- ---- the marks of a paragraph
 
--- The members of a paragraph's mark among nodes: in its kids, in its properties, or in the run properties of these (ECMA-376 Part 1,
--- 17.3.1.29).
+-- the members of a paragraph's mark among nodes: in its kids, in its properties, or in the run properties of these (ECMA-376 Part 1,
+-- 17.3.1.29)
 abbrev pub marks_in : List Revision → Depth → Nodes → List Piece
 marks_in revisions depth no_nodes = []
 marks_in revisions depth (bytes b rest) = marks_in revisions depth rest

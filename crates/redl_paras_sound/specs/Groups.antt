@@ -6,7 +6,7 @@ use Rattle.redl_tree.specs.Model.Kids.{only, without}
 use Rattle.redl_tree.specs.Model.Nodes.{Tag, Nodes, no_nodes, ◌⊕◌}
 use Rattle.redl_tree.specs.Roles.Names.{is}
 
--- The pieces of a group before its last paragraph: the paragraphs among them are cut, and nothing else is thick.
+-- the pieces of a group before its last paragraph: the paragraphs among them are cut, and nothing else is thick
 abbrev pub are_before_last : List Piece → Bool
 are_before_last [] = true
 are_before_last (para tag cut kids ∷ rest) = cut && are_before_last rest
@@ -28,13 +28,13 @@ bare_content (piece ∷ rest) = without (is "pPr") (content piece) ⊕ bare_cont
 abbrev pub own_tag : Tag → Tag
 own_tag tag = record tag { close = ended tag.close }
 
--- The kids of the one paragraph, where these pieces come before the last paragraph, which has these kids: its properties, what the others
--- hold, and its other kids.
+-- the kids of the one paragraph, where these pieces come before the last paragraph, which has these kids: its properties, what the others
+-- hold, and its other kids
 abbrev pub one_para : List Piece → Nodes → Nodes
 one_para before kids = only (is "pPr") kids ⊕ (bare_content before ⊕ without (is "pPr") kids)
 
--- A group of several begins with a paragraph that is cut, where these pieces come after it: then others before the last, and the last
--- paragraph, which joins none of what follows.
+-- a group of several begins with a paragraph that is cut, where these pieces come after it: then others before the last, and the last
+-- paragraph, which joins none of what follows
 pub record BeginsGroup (cut : Bool) (rest : List Piece) : Type 0 where
   pub is_cut : cut ≡ true
   pub between : List Piece

@@ -26,7 +26,7 @@ resumes_nothing held words brought p q firsts journals is files reader reads may
   (differ_exactly reader words files brought p q firsts journals (reads_command reader words (resume p q firsts journals) reads is)).1,
 )
 
--- Nothing was taken and nothing went out but the line.
+-- nothing was taken and nothing went out but the line
 pub answers_without_memory : {F O E : Type 0} (held : F → Option Files) (misses : F → ℕ) (noted : F → Option (List (List ℕ))) (shelf : F) (told : O → Option (List ℕ)) (faults : O → ℕ) (out : O)
     (lines_told : E → Option (List ℕ)) (line_faults : E → ℕ) (err err_new : E) (words : List (List ℕ)) (brought : Brought)
     → Tells lines_told line_faults err err_new no_memory_line

@@ -19,7 +19,7 @@ pub record Answers {F O E : Type 0}
     (told : O → Option (List ℕ)) (faults : O → ℕ) (out out_new : O)
     (lines_told : E → Option (List ℕ)) (line_faults : E → ℕ) (err err_new : E)
     (words : List (List ℕ)) (brought : Brought) (ended : Status) : Type 0 where
-  -- Where the shelf tells, or the words ask for no file, the status is the outcome's, but for what the outside forces.
+  -- where the shelf tells, or the words ask for no file, the status is the outcome's, but for what the outside forces
   pub status : OfOutcome (held shelf) words brought (λ outcome. IsAnswer ended outcome (Rose (misses shelf) (misses shelf_new)) (Rose (faults out) (faults out_new)))
   -- over every shelf
   pub usage : HasNoCommand words → (ended ≡ Usage) ⊎ (ended ≡ NoMemory)
@@ -28,7 +28,7 @@ pub record Answers {F O E : Type 0}
   -- A command asks for a front of its files, in their order, each once: for all of them where its output was put. Other words ask for none.
   pub asked : (command : Command) → IsCommand words command → Asks (noted shelf) (noted shelf_new) (files_of brought (plan command)) ended (Tells lines_told line_faults err err_new)
   pub unasked : HasNoCommand words → noted shelf_new ≡ noted shelf
-  -- No fault is passed over, and nothing is taken from the shelf.
+  -- no fault is passed over, and nothing is taken from the shelf
   pub shelf_stands : ended ≢ ReadFault → misses shelf_new ≡ misses shelf
   pub out_stands : ended ≢ WriteFault → faults out_new ≡ faults out
   pub same_files : held shelf_new ≡ held shelf

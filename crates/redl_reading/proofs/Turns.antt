@@ -26,7 +26,7 @@ ends step size s r whole g e = by_fuel g.fuel g.enough g.same where
   by_fuel zero enough same = absurd (omega arith)
   by_fuel (suc n) enough same = sym (rw e at same)
 
--- If each turn leaves less, any number of turns above the length gives the same answer.
+-- if each turn leaves less, any number of turns above the length gives the same answer
 pub enough : {S R : Type 0} (step : S → Turn S R) (size : S → ℕ) → ((s s' : S) → step s ≡ next s' → size s' < size s) → (n m : ℕ) (s : S) (r : R) → turns step n s ≡ Some r → size s < m → turns step m s ≡ Some r
 enough {S = S} {R = R} step size shrinks zero m s r e lt = absurd cc
 enough {S = S} {R = R} step size shrinks (suc n) zero s r e lt = absurd (omega arith)

@@ -105,7 +105,7 @@ past_here word (b ∷ bs) rest e filled = rw e refl
 pub past_later : (word : List ℕ) (b : ℕ) (bs : List ℕ) → begins word (b ∷ bs) ≡ false → past word (b ∷ bs) ≡ past word bs
 past_later word b bs e = rw (none_begins word (b ∷ bs) e) refl
 
--- No end of a list, followed by a prefix of the word, is the word.
+-- no end of a list, followed by a prefix of the word, is the word
 abbrev pub NoBorder : List ℕ → Type 0
 NoBorder word = (b : ℕ) (t rest : List ℕ) → begins word (b ∷ t) ≡ false → begins word (b ∷ (t ++ (word ++ rest))) ≡ false
 
@@ -141,7 +141,7 @@ behind_longer (w ∷ ws) v (b ∷ bs) e =
       | inr other ↦ rw other refl
     ]
 
--- A word occurs nowhere before its first byte.
+-- a word occurs nowhere before its first byte
 pub lacks_after : (w : ℕ) (ws bs : List ℕ) → lacks (w ∷ ws) (after (is_other w) bs) ≡ lacks (w ∷ ws) bs
 lacks_after w ws [] = refl
 lacks_after w ws (b ∷ bs) =

@@ -17,7 +17,7 @@ abbrev pub or_same : {A : Type 0} → Option A → A → A
 or_same None x = x
 or_same (Some y) x = y
 
--- The result of a function, as plain data by `view`, is what reading gives.
+-- the result of a function, as plain data by `view`, is what reading gives
 abbrev pub Gives : {X Y : Type 0} → (X → Y) → Option X → Option Y → Type 0
 Gives view None read = read ≡ None
 Gives view (Some x) read = read ≡ Some (view x)

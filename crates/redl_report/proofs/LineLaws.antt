@@ -8,7 +8,7 @@ use Rattle.redl_report.specs.declared.line.Role.{Role}
 use Rattle.redl_report.specs.Reports.{is_accept, is_disputed, is_reject, is_undecided, line_of}
 use Rattle.redl_report.specs.Counts.{sum_of, with_verdict}
 
--- The four counts of a line add up to the number of its revisions.
+-- the four counts of a line add up to the number of its revisions
 pub counts-add_up : (role : Role) (who : List ℕ) (verdicts : List Verdict) → sum_of (line_of role who verdicts) ≡ length verdicts
 counts-add_up role who [] = refl
 counts-add_up role who (Accept ∷ rest) = omega (arith, counts-add_up role who rest)

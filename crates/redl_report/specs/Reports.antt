@@ -71,11 +71,11 @@ is_number count number = nat_le 1 number && nat_le number count
 abbrev pub revisions_on : ℕ → List Entry → List ℕ
 revisions_on count entries = fold (insert_key nat_cmp) [] (filter (is_number count) (map (λ entry. entry.rev) entries))
 
--- A reviewer's line: on each of so many revisions on which they have an entry, what their entries alone decide.
+-- a reviewer's line: on each of so many revisions on which they have an entry, what their entries alone decide
 abbrev pub reviewer_line : ℕ → Group Entry → ReportLine
 reviewer_line count own = line_of Reviewer own.name (map (verdict_at own.items) (revisions_on count own.items))
 
--- An author's line: on each of their revisions, what the book decides.
+-- an author's line: on each of their revisions, what the book decides
 abbrev pub author_line : List Entry → Group Revision → ReportLine
 author_line book own = line_of Author own.name (map (λ revision. verdict_at book revision.number) own.items)
 
@@ -89,7 +89,7 @@ report_lines revisions book = map (reviewer_line (length revisions)) (grouped re
 abbrev pub of_kind : RevKind → List Revision → List Revision
 of_kind kind revisions = filter (λ revision. is_same_kind revision.kind kind) revisions
 
--- An author's line of one kind: on each of their revisions of this kind, what the book decides.
+-- an author's line of one kind: on each of their revisions of this kind, what the book decides
 abbrev pub kind_line : List Entry → Group Revision → RevKind → ReportLine
 kind_line book own kind = line_of (Kind kind) own.name (map (λ revision. verdict_at book revision.number) (of_kind kind own.items))
 

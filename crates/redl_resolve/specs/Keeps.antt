@@ -12,12 +12,12 @@ use Rattle.redl_tree.specs.Decisions.Survivors.{text_pieces, survivors}
 use Rattle.redl_tree.specs.Model.View.{Element}
 use Rattle.redl_tree.specs.declared.kinds.Say.{Say}
 
--- The text pieces of the stories are those of the original that survive, byte for byte and in their order.
+-- the text pieces of the stories are those of the original that survive, byte for byte and in their order
 abbrev pub KeepsText : List Say → Nodes → Nodes → Type 0
 KeepsText says given result =
     (value : Value) → IsIndexed value given → map text_pieces (stories result) ≡ map (survivors says) (stories given)
 
--- Stories follow all rules of structure.
+-- stories follow all rules of structure
 pub record FollowRules (has_id declares : List ℕ → Bool) (parts : List Element) : Type 0 where
   -- rule 1: a cell ends in a paragraph
   pub rule_1 : holds test_1 parts ≡ true
@@ -38,7 +38,7 @@ pub record FollowRules (has_id declares : List ℕ → Bool) (parts : List Eleme
   -- rule 9: what may move or vanish declares no namespace
   pub rule_9 : holds (test_9 declares) parts ≡ true
 
--- Where the package is sound, the stories of the result follow all rules of structure again.
+-- where the package is sound, the stories of the result follow all rules of structure again
 abbrev pub KeepsRules : Nodes → Nodes → Type 0
 KeepsRules given result =
     (value : Value) → (has_id declares : List ℕ → Bool) → IsIndexed value given → is_sound (tests has_id declares) given ≡ true

@@ -138,7 +138,7 @@ content_tag digits content = tag_with content (tail_of digits (by (codes "Cy")))
 abbrev pub with_move : ℕ → Numbering → Numbering
 with_move start so_far = record { next = so_far.next + 1; moves = record { start = start; number = so_far.next } ∷ so_far.moves }
 
--- Only the move of the block passes these tests: one of its markers has a position, or its source or target is open there.
+-- only the move of the block passes these tests: one of its markers has a position, or its source or target is open there
 pub record IsAlone (moves : List Pair) (digits : List ℕ) (at : ℕ) : Type 0 where
   pub from_begins : filter (is_of_pair (start_at at)) moves ≡ move_with digits at ∷ []
   pub from_ends : filter (is_of_pair (end_at at)) moves ≡ move_with digits at ∷ []

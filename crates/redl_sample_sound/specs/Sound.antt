@@ -10,7 +10,7 @@ use Rattle.redl_tree.specs.Revisions.Numbers.{package_revisions_by}
 use Rattle.redl_xml.specs.Readings.{IsReading}
 use Rattle.redl_xml.specs.Shapes.{depth_of}
 
--- The text has a tree within the limits of depth and of nodes, which is a package and breaks no rule.
+-- the text has a tree within the limits of depth and of nodes, which is a package and breaks no rule
 pub record HasSoundPackage (text : List ℕ) : Type 0 where
   pub nodes : Nodes
   pub reading : IsReading text nodes
@@ -19,7 +19,7 @@ pub record HasSoundPackage (text : List ℕ) : Type 0 where
   pub shape : refusal nodes ≡ None
   pub sound : broken_rule nodes ≡ None
 
--- The text has a tree, and its members are of so many revisions.
+-- the text has a tree, and its members are of so many revisions
 pub record HasRevisions (text : List ℕ) (count : ℕ) : Type 0 where
   pub nodes : Nodes
   pub reading : IsReading text nodes

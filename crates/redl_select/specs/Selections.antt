@@ -50,8 +50,8 @@ abbrev pub revision_at : List Revision → ℕ → Option Revision
 revision_at revisions zero = None
 revision_at revisions (suc place) = slice_get revisions place
 
--- The number is in the range, and not past the first one that a package with so many revisions doesn't have, where it isn't the
--- first of the range itself.
+-- the number is in the range, and not past the first one that a package with so many revisions doesn't have, where it isn't the
+-- first of the range itself
 pub record IsInRange (count first last number : ℕ) : Type 0 where
   pub begins : first ≤ number
   pub ends : number ≤ last
@@ -63,7 +63,7 @@ abbrev pub IsListed : ℕ → ℕ → Listed → Type 0
 IsListed count number (One one) = one ≡ number
 IsListed count number (Range first last) = IsInRange count first last number
 
--- The selection chooses this number: an item of its list does, or the selection means the revision that has it.
+-- the selection chooses this number: an item of its list does, or the selection means the revision that has it
 abbrev pub IsChosen : List Revision → Selection → ℕ → Type 0
 IsChosen revisions (numbers listed) number = Any (IsListed (length revisions) number) listed
 IsChosen revisions selection number = IsSomeAnd (revision_at revisions number) (λ revision. IsTrue (selects selection revision))

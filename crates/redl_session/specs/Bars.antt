@@ -7,7 +7,7 @@ use Rattle.redl_select.specs.declared.lock.Lock.{Lock}
 use Rattle.redl_session.specs.declared.refusal.Bar.{Bar}
 use Rattle.redl_session.specs.declared.refusal.Bar.TheVariants.{Author, Kind, Span}
 
--- Its author where a lock on an author holds it, else its kind where a lock on a kind does, else its moment.
+-- its author where a lock on an author holds it, else its kind where a lock on a kind does, else its moment
 abbrev pub bar_of : List Lock → Revision → Option Bar
 bar_of locks revision =
     if list_any (λ lock. is_author lock && holds revision lock) locks then Some Author

@@ -46,7 +46,7 @@ IsCause Unknown cause = cause ≡ Some Unknown
 IsCause (Locked bar) cause = cause ≡ Some (Locked bar)
 IsCause NoMemory cause = cause ≡ None
 
--- A first part of the entries was taken into a book.
+-- a first part of the entries was taken into a book
 pub record TakesFirst (revisions : List Revision) (locks : List Lock) (old new entries : List Entry) : Type 0 where
   pub first : List Entry
   pub rest : List Entry

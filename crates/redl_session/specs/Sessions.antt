@@ -20,7 +20,7 @@ pub record SessionState : Type 0 where
   pub locks : List Lock
   pub book : List Entry
 
--- A code of `State`, with which a proof distinguishes two of them.
+-- a code of `State`, with which a proof distinguishes two of them
 abbrev pub state_code : Coded Tag → Coded Revision → Coded Lock → Coded Entry → Coded SessionState
 state_code tag revision lock entry =
     code_by (Nodes × (List Revision × (List Lock × List Entry)))
@@ -43,15 +43,15 @@ abbrev pub after : SessionState → List Entry → SessionState
 after state [] = state
 after state (entry ∷ entries) = after (after_entry state entry) entries
 
--- A session took a first part of the entries.
+-- a session took a first part of the entries
 pub record StopsAfter (old new : SessionState) (entries : List Entry) : Type 0 where
   pub first : List Entry
   pub rest : List Entry
   pub splits : entries ≡ first ++ rest
   pub state : new ≡ after old first
 
--- The invariant of a session: its package has the numbers of its revisions and is sound, its book
--- is in order, and the says are the book's.
+-- the invariant of a session: its package has the numbers of its revisions and is sound, its book
+-- is in order, and the says are the book's
 pub record IsConsistent (nodes : Nodes) (revisions : List Revision) (book : List Entry) (says : List Say) : Type 0 where
   pub numbered : numbered_package nodes ≡ nodes
   pub sound : broken_rule nodes ≡ None

@@ -6,7 +6,7 @@ use Rattle.redl_io.specs.declared.sink.Failed as sink
 use Rattle.redl_session.specs.declared.refusal.SessionWriteError.{SessionWriteError}
 use Rattle.redl_session.specs.declared.refusal.SessionWriteError.TheVariants.{Failed, NoMemory}
 
--- The text was put: all of it, a prefix where the sink failed, or nothing where memory ran out.
+-- the text was put: all of it, a prefix where the sink failed, or nothing where memory ran out
 abbrev pub Writes : {K : Type 0} → (told : K → Option (List ℕ)) (faults settled : K → ℕ) (lenders : K → List GName)
     (old new : K) (text : List ℕ) → Result (Unit {0}) SessionWriteError → Type 0
 Writes told faults settled lenders old new text (Ok done) = Puts {T = Unit {0}} told faults settled lenders old new text (Ok done)

@@ -125,7 +125,7 @@ brackets_left = refl
 
 -- ---- more documents in which the sittings differ
 
--- A table that goes in the first sitting no longer parts the paragraph before it from the one after it.
+-- a table that goes in the first sitting no longer parts the paragraph before it from the one after it
 around_table : Nodes
 around_table =
     mark "del" (run "a") ⊕ opened "tbl" (opened "tr" (opened "trPr" (closed "del" "") ⊕ opened "tc" (closed "p" ""))) ⊕ opened "p" (run "b")
@@ -142,7 +142,7 @@ table_gone_differs : (left (Accept ∷ Accept ∷ []) around_table ≡ text (pac
 unfolding around_table table_gone
 table_gone_differs = (refl, refl)
 
--- An empty paragraph before a table that goes in the first sitting no longer gives its properties to the one before it.
+-- an empty paragraph before a table that goes in the first sitting no longer gives its properties to the one before it
 two_before_table : Nodes
 two_before_table =
     mark "del" (run "a") ⊕ opened "p" (opened "pPr" (closed "jc" "" ⊕ opened "rPr" (closed "del" ""))) ⊕ opened "tbl" (opened "tr" (opened "tc" (closed "p" "")))
@@ -158,7 +158,7 @@ empty_gone_differs : bytes_eq (left (Accept ∷ Accept ∷ []) two_before_table)
 unfolding two_before_table one_before_table
 empty_gone_differs = refl
 
--- A move whose source is in an inserted row is paired once the row is accepted: its first tag is a marker, which had no number.
+-- a move whose source is in an inserted row is paired once the row is accepted: its first tag is a marker, which had no number
 abbrev moved : Nodes → Nodes
 moved body = numbered_package_by (λ tail name. Some tail) (package_of body)
 

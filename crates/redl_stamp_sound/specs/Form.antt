@@ -77,7 +77,7 @@ pub data NamesZone (text : List ℕ) (ahead : ℤ) : Type 0 where
 
 -- ---- a moment
 
--- The text names the moment that lies so many seconds after 1970-01-01T00:00:00Z, or before it where they are negative.
+-- the text names the moment that lies so many seconds after 1970-01-01T00:00:00Z, or before it where they are negative
 pub record Names (text : List ℕ) (seconds : ℤ) : Type 0 where
   pub day_text : List ℕ
   pub time_text : List ℕ

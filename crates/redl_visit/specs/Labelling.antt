@@ -5,7 +5,7 @@ use Rattle.redl_tree.specs.Roles.Idle.{is_idle_tag}
 use Rattle.redl_visit.specs.declared.labels.Label.{Label}
 use Rattle.redl_visit.specs.Visits.{VisitRule, VisitNeeds, visited_element}
 
--- How a visitor goes on at an element, as `VisitRule` says, and the label that it gives the element.
+-- how a visitor goes on at an element, as `VisitRule` says, and the label that it gives the element
 pub record LabelRule (H O S : Type 0) : Type 0 where
   pub below : H → O → Tag → Nodes → S → O
   pub enter : H → O → Tag → Nodes → S → S

@@ -2,7 +2,7 @@
 use Rattle.redl_tree.specs.Model.Nodes.{Tag, Nodes, no_nodes, bytes, element, Item, bytes_item, element_item, idle_item}
 use Rattle.redl_visit.specs.Visits.{VisitRule, visited, visited_element}
 
--- What is so where a visitor stops with an error before an element, or after its kids: of its state before that call, and after it.
+-- what is so where a visitor stops with an error before an element, or after its kids: of its state before that call, and after it
 pub record VisitStops (H O S X : Type 0) : Type 1 where
   pub Enter : H → O → Tag → Nodes → S → S → X → Type 0
   pub Leave : H → O → Tag → Nodes → S → S → X → Type 0

@@ -35,7 +35,7 @@ visited_item inside rule here own (bytes_item b) s = s
 visited_item inside rule here own (element_item tag kids) s = visited_element inside rule here own tag kids s
 visited_item inside rule here own (idle_item t) s = visited inside rule here own (idle_nodes t) s
 
--- What a visitor needs before an element, and after its kids.
+-- what a visitor needs before an element, and after its kids
 pub record VisitNeeds (H O S : Type 0) : Type 1 where
   pub Enter : H → O → Tag → Nodes → S → Type 0
   pub Leave : H → O → Tag → Nodes → S → Type 0

@@ -65,7 +65,7 @@ pub data Form : Type 0 where
   of_write : Form
   of_decide : Form
 
--- The command may have the item, and the item is well formed.
+-- the command may have the item, and the item is well formed
 abbrev pub Admits : Form → Item → Type 0
 Admits of_list (format name) = Unit {0}
 Admits of_list (lock text of_lock) = MeansLock text of_lock
@@ -127,7 +127,7 @@ onlys_of [] = []
 onlys_of (only text wanted ∷ items) = wanted ∷ onlys_of items
 onlys_of (_ ∷ items) = onlys_of items
 
--- The words are those of these items, in any order and with repeats, and the command may have each of them.
+-- the words are those of these items, in any order and with repeats, and the command may have each of them
 pub record AreItems (form : Form) (words : List (List ℕ)) (items : List Item) : Type 0 where
   pub written : words ≡ flat_map item_words items
   pub admitted : All (Admits form) items

@@ -66,7 +66,7 @@ pub record GivesDates (text : List ℕ) (start end : ℤ) : Type 0 where
   pub starts : moment_of first ≡ Some start
   pub ends : moment_of second ≡ Some end
 
--- The text means the lock: it is the name of an author, the name of a kind, or two dates as after `span:`.
+-- the text means the lock: it is the name of an author, the name of a kind, or two dates as after `span:`
 abbrev pub MeansLock : List ℕ → Lock → Type 0
 MeansLock text (Author name) = text ≡ name
 MeansLock text (Kind of_kind) = (text ≡ kind_name of_kind) × IsTrue (is_named of_kind)

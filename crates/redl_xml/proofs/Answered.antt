@@ -69,7 +69,7 @@ tree_by : (bs : List ℕ) → IsText bs → (o : Option Nodes) → document_at b
 tree_by bs t (Some u) e = inl (u, reading_of_document bs u t e)
 tree_by bs t None e = inr (no_document bs e)
 
--- Either some nodes are the reading of the bytes, or none are.
+-- either some nodes are the reading of the bytes, or none are
 pub tree_or_none : (bs : List ℕ) → ((u : Nodes) × IsReading bs u) ⊎ HasNoReading bs
 tree_or_none bs = of (text_or_none bs) where
   of : IsText bs ⊎ (IsText bs → ⊥) → ((u : Nodes) × IsReading bs u) ⊎ HasNoReading bs
@@ -121,7 +121,7 @@ behind_stretch : (b : List ℕ) (rest : List ℕ) → ((b ≡ []) ⊎ IsStretch 
 behind_stretch b rest (inl none) end u = let P : List ℕ → Type 0 = λ z. IsUtf8 (z ++ rest) in subst P none u
 behind_stretch b rest (inr h) end u = (piece_is_utf8 BeforeRoot (b ++ rest) (stretch b) rest (record { whole = refl; legal = h; follows = end }) u).0
 
--- Each tail of a tree that is read is that of a legal tag, in UTF-8.
+-- each tail of a tree that is read is that of a legal tag, in UTF-8
 pub tails_are_legal : (bs : List ℕ) (u : Nodes) → IsReading bs u → HaveLegalTails u
 tails_are_legal bs u h =
     let d = h.document in
@@ -142,6 +142,6 @@ utf8_tails no_nodes h = tt
 utf8_tails (bytes b rest) h = utf8_tails rest h
 utf8_tails (element tag kids rest) h = (h.1, utf8_tails kids h.2, utf8_tails rest h.3)
 
--- What is read is a tree that may be a package.
+-- what is read is a tree that may be a package
 pub is_tree : (bs : List ℕ) (u : Nodes) → IsReading bs u → count u < 2 ^ 32 → IsTree u
 is_tree bs u h few = record { tails = utf8_tails u (tails_are_legal bs u h); few = few }

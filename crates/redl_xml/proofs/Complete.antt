@@ -133,7 +133,7 @@ root_gets tag kids y (End space) e h fits k =
     let kids_got = nodes_get inner kids behind frame [] no_nodes u y k (end_ends_stretch (name_text (name_of tag) ++ (space ++ (62 ∷ y)))) ended in
     one_piece (start_tag (name_of tag) tag.tail) (tree_then kids behind) nothing_yet (state (frame ∷ []) no_nodes inner) u y (h.name, h.tail) tt (start_placed [] tag [] no_nodes h) refl kids_got
 
--- An element with which the bytes begin is read, and all that follows it is left.
+-- an element with which the bytes begin is read, and all that follows it is left
 pub element_again : (tag : Tag) (kids : Nodes) (y : List ℕ) → AreLegal [] (element tag kids no_nodes) → element_at (tree_then (element tag kids no_nodes) y) ≡ Some (element tag kids no_nodes, y)
 unfolding element_at
 element_again tag kids y h =

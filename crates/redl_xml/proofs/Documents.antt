@@ -165,7 +165,7 @@ document_of_reading bs u h =
     let whole : b.bytes_of ++ tree_then r a.bytes_of ≡ bs = sym (whole_then b.bytes_of a.bytes_of r) ∙ ap text (sym parts) ∙ h.text in
     ap document_at (sym whole) ∙ document_again d.root d.kids b.bytes_of a.bytes_of d.is_root b.legal a.legal ∙ ap (λ (x : Nodes). Some x) (sym parts)
 
--- A text has at most one tree.
+-- a text has at most one tree
 pub one_tree : (bs : List ℕ) (u v : Nodes) → IsReading bs u → IsReading bs v → u ≡ v
 one_tree bs u v hu hv = same_Some u v (sym (document_of_reading bs u hu) ∙ document_of_reading bs v hv)
 

@@ -181,8 +181,8 @@ put_depth space (end_tag name white) s s' e = omega (arith, shut_depth space s.o
 
 -- ---- the loop's invariant
 
--- Of these bytes all but the rest was read as some level, of whose open elements the code has the names, and of whose nodes
--- the counts.
+-- of these bytes all but the rest was read as some level, of whose open elements the code has the names, and of whose nodes
+-- the counts
 pub record IsPassing (T : Bool → Tag → Type 0) (space : Space) (bs rest : List ℕ) (names : List Name) (nodes elems deepest : ℕ) : Type 0 where
   pub so_far : Level
   pub whole : level_then so_far rest ≡ bs

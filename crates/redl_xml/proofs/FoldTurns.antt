@@ -102,7 +102,7 @@ nodes_go P go scope space (element tag kids more) y f fs before l h end g =
     let step = element_goes P go scope tag kids (tree_then more y) f fs before tag.close refl s.is_tag l.1 through g in
     subst Q (⊕_assoc before (element tag kids no_nodes) more) (nodes_go P go scope space more y f fs (before ⊕ element tag kids no_nodes) l.3 h.2 end step)
 
--- The law for a reader: what holds at a point before such a text holds behind it, with its nodes among the kids; the open elements and the scope are as they were.
+-- the law for a reader: what holds at a point before such a text holds behind it, with its nodes among the kids; the open elements and the scope are as they were
 pub nodes_are_added : (P : Point → Type 0) → GoesOn P → (scope : Scope) (space : Space) (t rest : List ℕ) (f : Frame) (fs : List Frame) (before : Nodes) → Reads space t → ArePlainIn scope space (nodes_in space t) → Fits (nodes_in space t) rest
     → P (t ++ rest, state (f ∷ fs) before scope) → P (rest, state (f ∷ fs) (before ⊕ nodes_in space t) scope)
 nodes_are_added P go scope space t rest f fs before r h fits g =

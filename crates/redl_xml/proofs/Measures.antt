@@ -130,7 +130,7 @@ placed_count limit (empty_tag name tail) s s' e =
 placed_count limit (stretch b) s s' e = one_more-capped limit (state_count s) ∙ ap (capped limit) (stretched_sizes s.open_elements s s' b e).1
 placed_count limit (end_tag name space) s s' e = ap (capped limit) (closed_sizes s.open_elements s.kids s.scope name space s' e).1
 
--- With one more piece in both, the sizes are still those of the state.
+-- with one more piece in both, the sizes are still those of the state
 pub measures_more : (limit : ℕ) (p : Piece) (s s' : State) (old new : Sizes) → placed p s ≡ Some s' → Measures limit s old → Adds limit p (length s.open_elements + 1) old new → Measures limit s' new
 measures_more limit p s s' old new e m a = record {
   deepest = a.deepest ∙ ap (deepest_with p (length s.open_elements + 1)) m.deepest ∙ placed_depth p s s' e;

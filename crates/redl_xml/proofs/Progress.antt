@@ -28,7 +28,7 @@ pub record IsRead (limits : Limits) (rest : List ℕ) (s : State) (sizes : Sizes
   pub alike : without_nodes s ≡ without_nodes whole
   pub kept : sizes.deepest ≤ limits.depth → sizes.nodes ≤ limits.nodes → s ≡ whole
 
--- A turn places a piece, counts it, and keeps the nodes only within the limits.
+-- a turn places a piece, counts it, and keeps the nodes only within the limits
 pub record IsTurn (limits : Limits) (p : Piece) (s s' : State) (sizes sizes' : Sizes) : Type 0 where
   pub made : State
   pub is : placed p s ≡ Some made

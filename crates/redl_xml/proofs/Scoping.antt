@@ -122,7 +122,7 @@ plain_attributes scope (a ∷ more) h =
     let rest = plain_attributes scope more both.1 in
     (rw none rest.0, rw (none, plain.1) rest.1)
 
--- Entering it depends only on its own prefix, and the scope stays.
+-- entering it depends only on its own prefix, and the scope stays
 pub plain_entered : (scope : Scope) (name : Name) (tail : List ℕ) → list_all (is_plain_name scope) (names_in tail) ≡ true → entered scope name tail ≡ known name [] scope
 unfolding entered known
 plain_entered scope name tail h =

@@ -277,7 +277,7 @@ sound_turns (suc n) bs s u rest e l t = by_piece n bs s u rest (piece_at InEleme
   by_piece n bs s u rest None g e l t go = absurd (none-some (u, rest) (rw (step_fails bs s g) at e))
   by_piece n bs s u rest (Some x) g e l t go = by_place n bs s u rest x g (placed x.0 s) refl e l t go
 
--- The element that is read is legal, and the bytes begin with it.
+-- the element that is read is legal, and the bytes begin with it
 pub element_sound : (bs : List ℕ) (u : Nodes) (rest : List ℕ) → element_at bs ≡ Some (u, rest) → IsSound nothing_yet bs u rest
 unfolding element_at
 element_sound bs u rest e = sound_turns (suc (length bs)) bs nothing_yet u rest e (record { frames_legal = refl; kids_legal = tt; follows = λ e. absurd cc }) refl

@@ -11,8 +11,8 @@ use Rattle.redl_markup.specs.Attributes.{attributes_of}
 
 -- ---- namespaces
 
--- The space of the namespace with this name: WordprocessingML in its transitional and its strict form, mathematics
--- (ECMA-376 Part 1, annex A), the flat package, or another one.
+-- the space of the namespace with this name: WordprocessingML in its transitional and its strict form, mathematics
+-- (ECMA-376 Part 1, annex A), the flat package, or another one
 unfoldable pub space_named : List ℕ → Space
 space_named name =
     if bytes_eq name (codes "http://schemas.openxmlformats.org/wordprocessingml/2006/main") || bytes_eq name (codes "http://purl.oclc.org/ooxml/wordprocessingml/main") then W
@@ -32,8 +32,8 @@ is_xmlns word = bytes_eq word (codes "xmlns")
 
 -- ---- declarations
 
--- What an attribute with this name declares: `xmlns:p` the prefix p, `xmlns` the namespace of names without a prefix,
--- for which the prefix here is the empty text, and any other attribute nothing.
+-- what an attribute with this name declares: `xmlns:p` the prefix p, `xmlns` the namespace of names without a prefix,
+-- for which the prefix here is the empty text, and any other attribute nothing
 abbrev pub declared_prefix : Name → Option (List ℕ)
 declared_prefix name = if is_xmlns name.prefix then Some name.local else (if not (is_filled name.prefix) && is_xmlns name.local then Some [] else None)
 
@@ -53,7 +53,7 @@ is_allowed a = is_allowed_by (declared_prefix a.0) a.1
 
 -- ---- the scope
 
--- The declarations in scope, the nearest first: what is declared, and the space of its namespace.
+-- the declarations in scope, the nearest first: what is declared, and the space of its namespace
 abbrev pub Scope : Type 0
 Scope = List (List ℕ × Space)
 
@@ -82,7 +82,7 @@ or_other (Some space) = space
 abbrev pub space_of : Scope → List ℕ → Space
 space_of scope prefix = or_other (nearest prefix scope)
 
--- The prefix may be used: none, `xml`, or one that is declared.
+-- the prefix may be used: none, `xml`, or one that is declared
 unfoldable pub is_known : Scope → List ℕ → Bool
 is_known scope prefix = not (is_filled prefix) || is_xml_prefix prefix || is_there (nearest prefix scope)
 

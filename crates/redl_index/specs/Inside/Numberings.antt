@@ -53,8 +53,8 @@ number_in (suc n) = Some (suc n)
 abbrev pub IsPlaced : List Marking → Option Pair → Type 0
 IsPlaced marks pair = IfSome pair (λ pair. place_of marks pair.source.start.at < length marks)
 
--- The code's numbers are those of the numbering so far: the next one is the same, and so is that of each move, by the place of its
--- source's start among these markers, whose positions rise.
+-- the code's numbers are those of the numbering so far: the next one is the same, and so is that of each move, by the place of its
+-- source's start among these markers, whose positions rise
 pub record IsNumbering (marks : List Marking) (numbers : NumbersView) (so_far : Numbering) : Type 0 where
   pub rising : RisesFrom 0 marks
   pub next : numbers.next ≡ so_far.next

@@ -14,8 +14,8 @@ use Rattle.redl_index.specs.declared.revision.Revision.{Revision}
 use Rattle.redl_index.specs.declared.story.Sight.{Sight}
 use Rattle.redl_index.specs.declared.find.Seeker.{Seeker}
 
--- The part of the story, its markers and their attributes; the position of the next tag, and the ends of the paragraphs that start
--- from there on; and what is found so far.
+-- the part of the story, its markers and their attributes; the position of the next tag, and the ends of the paragraphs that start
+-- from there on; and what is found so far
 pub record Seeking : Type 0 where
   pub part : ℕ
   pub marks : List Marking

@@ -21,8 +21,8 @@ abbrev pub para_end : List Spot → ℕ
 para_end [] = 0
 para_end (spot ∷ ancestors) = if is "p" spot.tag then spot.end else para_end ancestors
 
--- The move of an element with this role, by where its own start tag and the end tag of its paragraph are: a mark is at the
--- end of its paragraph.
+-- the move of an element with this role, by where its own start tag and the end tag of its paragraph are: a mark is at the
+-- end of its paragraph
 abbrev pub move_by : List Pair → Kind → ℕ → ℕ → Option Pair
 move_by moves (Content trace) start end = move_at moves trace start
 move_by moves (Mark trace) start end = move_at moves trace end

@@ -20,7 +20,7 @@ is_numbered numbers name = list_any (λ numbered. bytes_eq numbered.0.items name
 abbrev pub is_taken : List Numbered → ℕ → Bool
 is_taken numbers number = list_any (λ numbered. numbered.1 == number) numbers
 
--- Each name has one number, and no two have the same; a new one may have their count.
+-- each name has one number, and no two have the same; a new one may have their count
 pub record AreNumbers (numbers : List Numbered) : Type 0 where
   pub one_number : (name : List ℕ) (m n : ℕ) → has_number numbers name m ≡ true → has_number numbers name n ≡ true → m ≡ n
   pub one_name : (name other : List ℕ) (n : ℕ) → has_number numbers name n ≡ true → has_number numbers other n ≡ true → name ≡ other

@@ -31,8 +31,8 @@ has_words_in (Some by_reviewer) number = is_some (get nat_cmp by_reviewer number
 abbrev pub has_words : BTreeMap ℕ (BTreeMap ℕ Latest) → ℕ → ℕ → Bool
 has_words by_revision rev number = has_words_in (get nat_cmp by_revision rev) number
 
--- The invariant of a book: its entries are in order, and a journal may hold each; their reviewers have numbers; on each
--- revision each number has the words of its reviewer that count, and a number that nobody has has none.
+-- the invariant of a book: its entries are in order, and a journal may hold each; their reviewers have numbers; on each
+-- revision each number has the words of its reviewer that count, and a number that nobody has has none
 pub record IsKept (entries : List Entry) (numbers : List Numbered) (by_revision : BTreeMap ℕ (BTreeMap ℕ Latest)) : Type 0 where
   pub ordered : IsBook entries
   pub allowed : All IsAllowed entries

@@ -83,7 +83,7 @@ none-unheld no_slots = tt
 none-unheld (leaf_slot leaf rest) = none-unheld rest
 none-unheld (container_slot tag kids inner rest) = (refl, none-unheld inner, none-unheld rest)
 
--- States are passed alike under says that say the same of every revision.
+-- states are passed alike under says that say the same of every revision
 pub passed-alike : (old new : List Say) → ((n : ℕ) → say_of old n ≡ say_of new n) → (states : States) → ArePassed old states → ArePassed new states
 passed-alike old new same states p =
     passed-unheld (λ n. false) old new (λ n no. same n) states (none-unheld (slots_of states)) (slots-none (slots_of states)) p
@@ -94,7 +94,7 @@ say-keeps zero (suc m) = refl
 say-keeps (suc n) (suc zero) = refl
 say-keeps (suc n) (suc (suc m)) = say-keeps n (suc m)
 
--- The law: at first, states are current under says that leave each revision undecided.
+-- the law: at first, states are current under says that leave each revision undecided
 pub fresh-current : (count : ℕ) (ancestors : List Tag) (slots : Slots) → AreCurrent (replicate count Keep) ancestors (fresh_states ancestors slots)
 fresh-current count ancestors slots = record {
   passed = passed-alike [] (replicate count Keep) (λ n. say-none n ∙ sym (say-keeps count n)) (fresh_states ancestors slots) (fresh-passed ancestors slots);

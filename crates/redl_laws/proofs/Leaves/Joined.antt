@@ -126,7 +126,7 @@ tallied-replaced ancestors before old new after h now =
     tallied-joined ancestors before (joined_states new after) split.0
     (tallied-joined ancestors new after now (tallied-split ancestors old after split.1).1)
 
--- One step up a path: the tally of the container round them is mended by the difference.
+-- one step up a path: the tally of the container round them is mended by the difference
 pub tally-mended : (ancestors : List Tag) (tag : Tag) (before old new after : States) (was now : Tally)
     → IsTally ancestors tag was (joined_states before (joined_states old after))
     → states_owned (tag ∷ ancestors) new ≡ states_owned (tag ∷ ancestors) old

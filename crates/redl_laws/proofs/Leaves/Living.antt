@@ -249,7 +249,7 @@ grid-control name w v ancestors tag kids inner after others false o between belo
 no-list : (ancestors : List Tag) (l : Lot) (r : Reach) → is_blocks l ≡ false → place ancestors ≡ at_place l r → in_blocks ancestors ≡ false
 no-list ancestors l r b e = ap (λ p. is_direct p.reach && is_blocks p.lot) e ∙ ap (λ c. is_direct r && c) b ∙ and-false (is_direct r)
 
--- The sum over the slots is the sum over the own rows or cells.
+-- the sum over the slots is the sum over the own rows or cells
 pub sum-grid : (l : Lot) (name : String) → IsGrid l name → (w : List Tag → Tag → Nodes → ℕ) (v : Nodes → ℕ) →
     ((ancestors : List Tag) (tag : Tag) (kids : Nodes) → is name tag ≡ true → w ancestors tag kids ≡ v kids) →
     (ancestors : List Tag) (nodes : Nodes) (r : Reach) → is_reached r ≡ true → is_open ancestors ≡ true → place ancestors ≡ at_place l r →
@@ -327,7 +327,7 @@ goes-cell says ancestors tag kids h =
     at false r t s x z p = absurd (true≢false (sym p))
     at true r t s x z p = refl
 
--- What a container of rows or of cells holds goes where none of them lives.
+-- what a container of rows or of cells holds goes where none of them lives
 gone-grid : (l : Lot) (name : String) → IsGrid l name → (says : List Say) (test : Nodes → Bool) →
     ((ancestors : List Tag) (tag : Tag) (kids : Nodes) → is name tag ≡ true → goes_at says ancestors tag kids ≡ test kids) →
     (ancestors : List Tag) (nodes : Nodes) (r : Reach) → is_reached r ≡ true → is_open ancestors ≡ true → place ancestors ≡ at_place l r →
@@ -446,8 +446,8 @@ choose-counts false false true s cell row tab sh cut spent a b d = b refl
 choose-counts false false false true cell row tab sh cut spent a b d = d refl
 choose-counts false false false false cell row tab sh cut spent a b d = refl
 
--- The law of counts: a cell goes where it is cut, a row where it is cut or has cells and none stays, a table or a shell where it
--- has rows or cells and none stays.
+-- the law of counts: a cell goes where it is cut, a row where it is cut or has cells and none stays, a table or a shell where it
+-- has rows or cells and none stays
 pub goes-by-counts : (says : List Say) (ancestors : List Tag) (tag : Tag) (kids : Nodes) → is_open ancestors ≡ true →
     goes_at says ancestors tag kids
     ≡ goes_by_counts ancestors tag (cut_at says tag kids) (own_number ancestors tag kids) (live_number says ancestors tag kids)
@@ -460,7 +460,7 @@ goes-by-counts says ancestors tag kids o =
     (λ h. gone-table says ancestors tag kids o h)
     (λ h. shell-choice says ancestors tag kids o h (in_cells ancestors) refl)
 
--- Whether a container goes is what its numbers say.
+-- whether a container goes is what its numbers say
 abbrev pub IsCounted : List Say → List Tag → Tag → Nodes → Slots → Type 0
 IsCounted says ancestors tag kids inner =
     goes_at says ancestors tag kids ≡ goes_by_counts ancestors tag (cut_at says tag kids) (owned (tag ∷ ancestors) inner) (living says (tag ∷ ancestors) inner)
@@ -473,7 +473,7 @@ counts-carry says = record {
   here = λ ancestors tag kids rest known o. goes-by-counts says ancestors tag kids known;
 }
 
--- The law of counts, for each container of a split.
+-- the law of counts, for each container of a split
 pub counted-containers : (says : List Say) (ancestors : List Tag) (nodes : Nodes) → is_open ancestors ≡ true →
     AllContainers (IsCounted says) ancestors (slots_in opens ancestors nodes)
 counted-containers says ancestors nodes o = all-containers (IsCounted says) opens (λ ancestors nodes. is_open ancestors ≡ true) (counts-carry says) ancestors nodes o

@@ -149,7 +149,7 @@ cut-members test says (element tag kids rest) = at (test tag.kind) (cut-members 
     at true more = ap (λ c. is_cut (fate_of says tag) || c) more
     at false more = more
 
--- A cell or a row is cut where one of its members cuts it, so code may keep the members in place of the properties.
+-- a cell or a row is cut where one of its members cuts it, so code may keep the members in place of the properties
 pub cut_at-members : (says : List Say) (tag : Tag) (kids : Nodes) → cut_at says tag kids ≡ some_cuts says (own_members tag kids)
 cut_at-members says tag kids =
     at (is "tc" tag) (is "tr" tag) (cut-members is_cell says (kids_of_all "tcPr" kids)) (cut-members is_row says (kids_of_all "trPr" kids))

@@ -212,7 +212,7 @@ opens-opening = record {
   alike = λ ancestors tag p h. opens-alike ancestors tag h;
 }
 
--- Over tables, rows, cells and controls: the containers that live, round their leaves as they are now, are the pass.
+-- over tables, rows, cells and controls: the containers that live, round their leaves as they are now, are the pass
 pub rebuilt-story : (says : List Say) (root : Tag) (kids : Nodes) → IsPlain root → AllFit (root ∷ []) kids →
     rebuilt says (root ∷ []) (slots_in opens (root ∷ []) kids) ≡ pass says (root ∷ []) kids
 rebuilt-story says root kids p fit = rebuilt-kids opens AnyPath opens-opening says (root ∷ []) kids tt (p, tt) fit
@@ -303,7 +303,7 @@ root-outer root h =
         (ap (λ b. not (b || false)) (frame-quiet root (is-among name frame_names root e f)))
         (is-among name ("body" ∷ "hdr" ∷ "ftr" ∷ "footnote" ∷ "endnote" ∷ "comment" ∷ "tc" ∷ "txbxContent" ∷ []) root e g))
 
--- The same where tables and controls are leaves.
+-- the same where tables and controls are leaves
 pub rebuilt-outer_story : (says : List Say) (root : Tag) (kids : Nodes) → is_any story_roots root ≡ true → IsPlain root →
     AllFit (root ∷ []) kids → rebuilt says (root ∷ []) (slots_in opens_outer (root ∷ []) kids) ≡ pass says (root ∷ []) kids
 rebuilt-outer_story says root kids named p fit =

@@ -65,7 +65,7 @@ whole-later opens ancestors (element tag kids rest) =
     (slots-original (in_blocks (tag ∷ ancestors)) None (siblings opens (tag ∷ ancestors) kids) tt ∙ whole-later opens (tag ∷ ancestors) kids))
     ∙ ap (element tag kids) (whole-later opens ancestors rest)
 
--- The law of the split: it loses nothing, whatever is a container.
+-- the law of the split: it loses nothing, whatever is a container
 pub original-slots : (opens : List Tag → Tag → Bool) (ancestors : List Tag) (nodes : Nodes) → original (slots_in opens ancestors nodes) ≡ nodes
 original-slots opens ancestors nodes = slots-original (in_blocks ancestors) None (siblings opens ancestors nodes) tt ∙ whole-later opens ancestors nodes
 

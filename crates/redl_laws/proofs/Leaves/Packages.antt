@@ -73,7 +73,7 @@ module _ (opens : List Tag → Tag → Bool) (says : List Say) (rebuilds : Rebui
       changed_in-agree (rebuild_rule opens) pass_rule says says [] nodes
       (stories-agree (stories nodes) (indexed_stories value nodes indexed) (roots-plain [] nodes plain))
 
--- The law of rebuilding, for a package: the containers that stay, round the passes of their leaves, are the pass.
+-- the law of rebuilding, for a package: the containers that stay, round the passes of their leaves, are the pass
 pub package-rebuilt : (value : Value) (says : List Say) (nodes : Nodes) → roots_are_plain [] nodes ≡ true → IsIndexed value nodes
     → changed_package (rebuild_rule opens) says nodes ≡ pass_package says nodes
 package-rebuilt value says nodes =
@@ -117,6 +117,6 @@ roots-unlabelled ancestors (element tag kids rest) e =
     at true here below = here
     at false here below = below
 
--- So a package that was read, and then numbered, has plain roots.
+-- so a package that was read, and then numbered, has plain roots
 pub roots-numbered : (value : Value) (nodes : Nodes) → unlabelled nodes ≡ nodes → roots_are_plain [] (numbered_package_by value nodes) ≡ true
 roots-numbered value nodes bare = roots-changed (number_rule value) 1 [] nodes ∙ roots-unlabelled [] nodes bare

@@ -74,7 +74,7 @@ pending-done pending says first (container_state tag tally inner rest) none p =
 
 -- ---- with other leaves pending
 
--- States stay passed but for the pending leaves where more leaves are pending.
+-- states stay passed but for the pending leaves where more leaves are pending
 pub pending-other : (pending other : ℕ → Bool) (says : List Say) (first : ℕ) (states : States)
     → ((n : ℕ) → n < states_count states → other (first + n) ≡ false → pending (first + n) ≡ false)
     → ArePassedBut pending says first states → ArePassedBut other says first states

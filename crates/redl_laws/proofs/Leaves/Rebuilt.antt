@@ -27,7 +27,7 @@ use Rattle.redl_laws.proofs.Leaves.Following.{grouped-next}
 use Rattle.redl_laws.proofs.Leaves.StandIns.{IsPlain, AllPlain, IsAlike, plain-open, plain-renamed, closed-piece}
 use Rattle.redl_tree.proofs.Roles.Fits.{Fits, AllFit, OpenKind, plain, content, marker, open_fits, open_none_rejected, open_∷, true_false}
 
--- A test of which elements are containers, and what its containers are: `IsPath` tells which lists of ancestors are containers.
+-- a test of which elements are containers, and what its containers are: `IsPath` tells which lists of ancestors are containers
 pub record IsOpening (opens : List Tag → Tag → Bool) (IsPath : List Tag → Type 0) : Type 0 where
   pub path : (ancestors : List Tag) (tag : Tag) → IsPath ancestors → opens ancestors tag ≡ true → IsPath (tag ∷ ancestors)
   pub named : (ancestors : List Tag) (tag : Tag) → IsPath ancestors → opens ancestors tag ≡ true → is_frame tag ≡ true
@@ -338,7 +338,7 @@ knows opens IsPath opening says ancestors (element tag kids rest) path h fit =
               ∙ ap (λ n. element_pass says ancestors tag kids (pass says (tag ∷ ancestors) kids) ⊕ n) (k.others e);
         }
 
--- The law of rebuilding: the containers that stay, round the passes of their leaves, are the pass.
+-- the law of rebuilding: the containers that stay, round the passes of their leaves, are the pass
 pub rebuilt-kids : (opens : List Tag → Tag → Bool) (IsPath : List Tag → Type 0) → IsOpening opens IsPath → (says : List Say) (ancestors : List Tag) (nodes : Nodes) → IsPath ancestors → AllPlain ancestors →
     AllFit ancestors nodes → rebuilt says ancestors (slots_in opens ancestors nodes) ≡ pass says ancestors nodes
 rebuilt-kids opens IsPath opening says ancestors nodes path h fit = from-knows opens says ancestors nodes (knows opens IsPath opening says ancestors nodes path h fit)

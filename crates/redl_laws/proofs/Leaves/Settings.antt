@@ -31,7 +31,7 @@ module _ (is_set : ℕ → Bool) (old new : List Say) (same : SameBut is_set old
   container-same ancestors tag kids inner f u h =
       goes_at-same is_set old new same ancestors tag kids (ap (has_member is_set) (sym f) ∙ held-original is_set inner u ∙ h)
 
-  -- The numbers of rows and cells that stay change along the paths to leaves that hold one, and nowhere else.
+  -- the numbers of rows and cells that stay change along the paths to leaves that hold one, and nowhere else
   pub living-unheld : (ancestors : List Tag) (slots : Slots) →
       AllContainers IsSplit ancestors slots → IsUnheld is_set slots → leaf_holds is_set slots ≡ false →
       living old ancestors slots ≡ living new ancestors slots
@@ -47,7 +47,7 @@ module _ (is_set : ℕ → Bool) (old new : List Say) (same : SameBut is_set old
       ∙ ap (λ n. (if is_own ancestors tag then one_living new ancestors tag kids else if is_between ancestors tag then living new (tag ∷ ancestors) inner else 0) + n)
       (living-unheld ancestors rest f.2 u.2 (or_parts (leaf_holds is_set inner) (leaf_holds is_set rest) h).1)
 
-  -- The present leaves of slots that hold none stay, but where a container round all of them goes or stays again.
+  -- the present leaves of slots that hold none stay, but where a container round all of them goes or stays again
   pub present-unheld : (gone : Bool) (ancestors : List Tag) (slots : Slots) →
       AllContainers IsSplit ancestors slots → IsUnheld is_set slots → leaf_holds is_set slots ≡ false →
       present_leaves old gone ancestors slots ≡ present_leaves new gone ancestors slots

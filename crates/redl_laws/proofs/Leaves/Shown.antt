@@ -37,7 +37,7 @@ module _ {S T : Type 0} (rule : StoryRule S) (blind : IsBlind rule) (first : Sto
           (blind.left given story.tag (first.kids other story.tag story.kids) story.kids)
           ∙ along (rule.left given story.tag story.kids) (first.left other story.tag story.kids) later
 
-  -- So it makes the same of a package, whatever became of its stories before.
+  -- so it makes the same of a package, whatever became of its stories before
   pub changed-blind : (given : S) (other : T) (ancestors : List Tag) (nodes : Nodes)
       → changed_in rule given ancestors (changed_in first other ancestors nodes) ≡ changed_in rule given ancestors nodes
   changed-blind given other ancestors no_nodes = refl
@@ -96,7 +96,7 @@ module _ (opens : List Tag → Tag → Bool) (IsPath : List Tag → Type 0) (is 
       changed_in-agree shown_rule pass_rule each says [] nodes
       (shown-agree says (stories nodes) each (indexed_stories value nodes indexed) (roots-plain [] nodes plain) of)
 
--- The law of writing: what is written of a package, whatever its stories hold by now, is its pass.
+-- the law of writing: what is written of a package, whatever its stories hold by now, is its pass
 pub package-written : {T : Type 0} (first : StoryRule T) (other : T) (value : Value) (says : List Say) (nodes : Nodes) (each : List States)
     → roots_are_plain [] nodes ≡ true → IsIndexed value nodes → AreStatesOfEach opens says (stories nodes) each
     → changed_package shown_rule each (changed_package first other nodes) ≡ pass_package says nodes

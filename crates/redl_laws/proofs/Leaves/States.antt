@@ -121,7 +121,7 @@ module _ (opens : List Tag → Tag → Bool) (IsPath : List Tag → Type 0) (is 
       go-tallied says ancestors kept now.passed now.tallied
       (subst (AllContainers (IsCounted says) ancestors) (sym split) (is.counted says ancestors kids loud))
 
-  -- The law of states: where their slots are those of the split, and they are current, what is written is the pass.
+  -- the law of states: where their slots are those of the split, and they are current, what is written is the pass
   pub shown-pass : (says : List Say) (ancestors : List Tag) (kids : Nodes) (kept : States) → IsPath ancestors → AllPlain ancestors → AllFit ancestors kids
       → slots_of kept ≡ slots_in opens ancestors kids → AreCurrent says ancestors kept → shown kept ≡ pass says ancestors kids
   shown-pass says ancestors kids kept path plain fit split now =
@@ -129,7 +129,7 @@ module _ (opens : List Tag → Tag → Bool) (IsPath : List Tag → Type 0) (is 
       ∙ ap (rebuilt says ancestors) split
       ∙ rebuilt-kids opens IsPath is.opening says ancestors kids path plain fit
 
-  -- And the leaves that are lent are the present leaves.
+  -- and the leaves that are lent are the present leaves
   pub lent-present : (says : List Say) (gone : Bool) (ancestors : List Tag) (kids : Nodes) (kept : States) → is_open ancestors ≡ true
       → slots_of kept ≡ slots_in opens ancestors kids → AreCurrent says ancestors kept
       → lent gone kept ≡ present_leaves says gone ancestors (slots_in opens ancestors kids)

@@ -61,7 +61,7 @@ package-shown_outer value says nodes plain indexed =
 
 -- ---- members
 
--- In an indexed package only leaves hold members and markers, so what a story holds is what its leaves hold.
+-- in an indexed package only leaves hold members and markers, so what a story holds is what its leaves hold
 abbrev AreHeld : (List Tag → Tag → Bool) → (ℕ → Bool) → Element → Type 0
 AreHeld opens is_set story = has_member is_set story.kids ≡ leaf_holds is_set (slots_in opens (story.tag ∷ []) story.kids)
 

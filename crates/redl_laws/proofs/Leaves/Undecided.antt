@@ -147,7 +147,7 @@ grouped-none followed ancestors (element tag kids rest) =
     ∙ ap (λ k. element tag k (grouped followed (pieces [] ancestors rest))) (grouped-none false (tag ∷ ancestors) kids)
     ∙ ap (element tag kids) (grouped-none followed ancestors rest)
 
--- The law: under no says the pass changes nothing.
+-- the law: under no says the pass changes nothing
 pub pass-none : (ancestors : List Tag) (nodes : Nodes) → pass [] ancestors nodes ≡ nodes
 pass-none ancestors nodes = grouped-none false ancestors nodes
 
@@ -161,18 +161,18 @@ keep-is Keep h = refl
 keep-is Accept h = absurd (true≢false h)
 keep-is Reject h = absurd (true≢false h)
 
--- So a leaf that holds no member or marker of a decided revision is its original,
+-- so a leaf that holds no member or marker of a decided revision is its original,
 pub pass_leaf-undecided : (says : List Say) (leaf : Leaf) → has_member (is_decided says) leaf.nodes ≡ false → pass_leaf says leaf ≡ leaf.nodes
 pass_leaf-undecided says leaf h =
     pass_leaf-same (is_decided says) says [] (λ n k. keep-is (say_of says n) k ∙ sym (say-none n)) leaf h ∙ pass_leaf-none leaf
 
--- and a container that holds none stays.
+-- and a container that holds none stays
 pub goes_at-undecided : (says : List Say) (ancestors : List Tag) (tag : Tag) (kids : Nodes) → has_member (is_decided says) kids ≡ false
     → goes_at says ancestors tag kids ≡ false
 goes_at-undecided says ancestors tag kids h =
     goes_at-same (is_decided says) says [] (λ n k. keep-is (say_of says n) k ∙ sym (say-none n)) ancestors tag kids h ∙ goes_at-none ancestors tag kids
 
--- A container all of whose rows or cells stay, and that is not cut, stays by its numbers.
+-- a container all of whose rows or cells stay, and that is not cut, stays by its numbers
 pub stays-fresh : (ancestors : List Tag) (tag : Tag) (n : ℕ) → goes_by_counts ancestors tag false n n ≡ false
 stays-fresh ancestors tag n =
     if-false (is "tc" tag) false _ refl

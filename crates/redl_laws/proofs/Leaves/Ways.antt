@@ -133,8 +133,8 @@ each-passed says ancestors (way ∷ later) states are p =
     (pending-other (made (number_at way (slots_of states)) (is_end (slots_of states) (way ∷ later))) (is_end (slots_of states) later) says 0 next
     (λ n lt free. step-fewer (slots_of states) way later (0 + n) free) step))
 
--- The law of setting: where these ways lead to each leaf that holds a member or a marker of the revisions that are set, what was
--- current is current under the new says once each of these leaves is made anew.
+-- the law of setting: where these ways lead to each leaf that holds a member or a marker of the revisions that are set, what was
+-- current is current under the new says once each of these leaves is made anew
 pub each-current : (is_set : ℕ → Bool) (old new : List Say) → SameBut is_set old new → (ancestors : List Tag) (ends : List (List ℕ)) (states : States)
     → IsUnheld is_set (slots_of states) → AreWays ends (slots_of states) → Covers (is_end (slots_of states) ends) is_set 0 (slots_of states)
     → AreCurrent old ancestors states → AreCurrent new ancestors (made_each new ancestors ends states)

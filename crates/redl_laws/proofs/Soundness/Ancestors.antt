@@ -67,7 +67,7 @@ pub record Free3 (ancestors : List Tag) (tag : Tag) : Type 0 where
   pub blocks : is_thick tag ≡ true → in_content ancestors ≡ true → in_blocks (past_content ancestors) ≡ true → ⊥
 
 -- Rule 3 as one of an element and its ancestors alone: its last part speaks of the kid, and not of the content revision
--- round it.
+-- round it
 abbrev pub kid_3 : Test
 kid_3 ancestors tag kids =
     implies (open_any banned ancestors tag) (not (below_content ancestors))
@@ -345,8 +345,8 @@ less_step true false true r x y l = inl refl
 less_step true false false true x y l = inl refl
 less_step true false false false x y l = l
 
--- The list that an element stands in, content revisions aside, is among Blocks in the result as in the original,
--- or it is in a joined paragraph.
+-- the list that an element stands in, content revisions aside, is among Blocks in the result as in the original,
+-- or it is in a joined paragraph
 pub came_reach : (old new : List Tag) → Came old new → is_open old ≡ true → Less (reach_of (past_content new)) (reach_of (past_content old))
 came_reach old new top o = inl refl
 came_reach old new (kept {old = p} {new = n} a b c l f pr) o =
@@ -366,7 +366,7 @@ came_reach old new (restored {old = p} {new = n} a b ch f c l q r) o =
 came_reach old new (joins {old = p} {new = n} b c h) o =
     inr (ap reach_of (past_self (b ∷ n) (by_name (λ t. is_some (trace_of t) ≡ false) "p" b h refl)) ∙ reach_p b n h)
 
--- Rule 3 holds of an element by its ancestors in the result.
+-- Rule 3 holds of an element by its ancestors in the result
 open_any_like : (names : List String) (old new : List Tag) (a b : Tag) → Came old new → Like a b → list_all ordinary names ≡ true →
     open_any names new b ≡ open_any names old a
 open_any_like names old new a b c l o = rw (like_any names a b l o, came_open old new c) refl
@@ -724,7 +724,7 @@ came_change old new (restored {old = p} {new = n} a b ch f c l k r) e = restored
 came_change old new (joins {old = p} {new = n} b c h) e =
     came_change p n c (rw (change_role n b ∙ ap (at_props n) (by_name (λ t. prop_of t ≡ None) "p" b h refl)) at e)
 
--- Rule 8 holds of an element by its ancestors in the result.
+-- Rule 8 holds of an element by its ancestors in the result
 pub came_8 : (old new : List Tag) (a b : Tag) (kids other : Nodes) → Came old new → Like a b → test_8 old a kids ≡ true → test_8 new b other ≡ true
 came_8 old new a b kids other c l h =
     implies_from _ _ (λ p. not_of (below_change new) (λ q. not_to (below_change old) (implies_of _ _ h

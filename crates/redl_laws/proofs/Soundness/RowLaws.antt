@@ -80,7 +80,7 @@ full_right : {X : Type 0} (xs ys : List X) → is_empty ys ≡ false → is_empt
 full_right [] ys e = e
 full_right (x ∷ xs) ys e = refl
 
--- An element among the content that is no revision and doesn't go stays.
+-- an element among the content that is no revision and doesn't go stays
 pub plain_stays : (ext : Test) → (says : List Say) (ancestors : List Tag) (a : Tag) (kids passed : Nodes) → is_open ancestors ≡ true → Fits ancestors a → is_quiet a ≡ false → Ground ext (a ∷ ancestors) kids →
     is_some (trace_of a) ≡ false → is_range_edge a ≡ false → goes_at says ancestors a kids ≡ false →
     element_pass says ancestors a kids passed ≡ element (renamed says ancestors a) passed no_nodes

@@ -106,7 +106,7 @@ passed_all says (x ∷ xs) = ap (λ ss. passed says x ∷ ss) (passed_all says x
 pub stories-pass : (says : List Say) (nodes : Nodes) → stories (pass_package says nodes) ≡ map (passed says) (stories nodes)
 stories-pass says nodes = stories-changed pass_rule says [] nodes ∙ passed_all says (stories nodes)
 
--- The law of survival for a package: the text pieces of the passed stories are the survivors of the original ones.
+-- the law of survival for a package: the text pieces of the passed stories are the survivors of the original ones
 survival_of : (says : List Say) (xs : List Element) → AreStories xs → map text_pieces (map (passed says) xs) ≡ map (survivors says) xs
 survival_of says [] h = refl
 survival_of says (x ∷ xs) h =

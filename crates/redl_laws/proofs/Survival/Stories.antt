@@ -422,7 +422,7 @@ survivors-kept says root kids q =
     (record { tag = root; kids = kids } ∷ []) kids (rw q refl)
     ∙ left_by-kept says (record { tag = root; kids = kids }) [] kids
 
--- SURVIVAL: the text pieces of a passed story are the survivors of the story.
+-- SURVIVAL: the text pieces of a passed story are the survivors of the story
 pub survival : (says : List Say) (root : Tag) (kids : Nodes) → is_quiet root ≡ false → AllFit (root ∷ []) kids →
     text_pieces (record { tag = root; kids = pass says (root ∷ []) kids }) ≡ survivors says (record { tag = root; kids = kids })
 survival says root kids q fit =

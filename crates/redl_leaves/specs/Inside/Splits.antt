@@ -52,12 +52,12 @@ whole_of among_blocks ancestors slots chain tail later =
 abbrev pub whole : Bool → List Tag → Splitting → List Sibling → States
 whole among_blocks ancestors split later = whole_of among_blocks ancestors split.slots.items (chain_of split.chain) (nodes_of split.tail.items) later
 
--- One more sibling is added, whatever comes after it.
+-- one more sibling is added, whatever comes after it
 abbrev pub AddsSibling : Bool → Splitting → Splitting → Sibling → Type 0
 AddsSibling among_blocks old new sibling =
     (ancestors : List Tag) (later : List Sibling) → whole among_blocks ancestors new later ≡ whole among_blocks ancestors old (sibling ∷ later)
 
--- The same of some siblings.
+-- the same of some siblings
 abbrev pub AddsSiblings : Bool → Splitting → Splitting → List Sibling → Type 0
 AddsSiblings among_blocks old new more =
     (ancestors : List Tag) (later : List Sibling) → whole among_blocks ancestors new later ≡ whole among_blocks ancestors old (more ++ later)

@@ -17,8 +17,8 @@ use Rattle.redl_resolve.specs.declared.walk.Walk.{Walk}
 
 -- ---- what becomes of nodes
 
--- What is given becomes this under any ancestors with this summary, and `found` is what the nearest table or row has to know
--- of it.
+-- what is given becomes this under any ancestors with this summary, and `found` is what the nearest table or row has to know
+-- of it
 pub record Passes (says : List Say) (round : Round) (Becomes : List Tag → Type 0) (found due : Finding) : Type 0 where
   pub becomes : (ancestors : List Tag) → round ≡ pass_round_of says ancestors → Becomes ancestors
   pub answer : found ≡ due
@@ -45,8 +45,8 @@ pub record GoesOn {L : Type 0} (old new : Walk L) : Type 0 where
   pub same_says : new.says ≡ old.says
   pub same_counter : new.steps.ghost_name ≡ old.steps.ghost_name
 
--- At most one step is counted for each node that is given, also with an error, and at least one for each that is made: of
--- those that there are in the end, `before` were there already.
+-- at most one step is counted for each node that is given, also with an error, and at least one for each that is made: of
+-- those that there are in the end, `before` were there already
 pub record Counts {L T E : Type 0} (old new : Walk L) (given : ℕ) (result : Result T E) (before : ℕ) (after : T → ℕ) : Type 0 where
   pub goes_on : GoesOn old new
   pub entered : new.steps.now ≤ old.steps.now + given

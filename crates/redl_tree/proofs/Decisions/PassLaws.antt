@@ -204,8 +204,8 @@ ends-rest (para tag cut kids) xs n e = at (has_thick xs) refl e
 ends-rest (thin nodes) xs n e = e
 ends-rest (thick nodes) xs n e = e
 
--- A list may be cut in two where no paragraph of the first side is joined with one of the second: each side is put together by
--- itself.
+-- a list may be cut in two where no paragraph of the first side is joined with one of the second: each side is put together by
+-- itself
 pub grouped_from-append : (followed : Bool) (xs ys : List Piece) (held : Option Nodes) → (ends_cut xs && paragraph_next ys) ≡ false → Takes held xs →
     grouped_from followed held (xs ++ ys) ≡ grouped_from (has_thick ys || followed) held xs ⊕ grouped_from followed None ys
 grouped_from-append followed [] ys None e t = refl

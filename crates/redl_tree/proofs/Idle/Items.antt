@@ -60,7 +60,7 @@ idle_reads t h = (and_parts (is_there (nodes_at W t)) (is_idle (nodes_in W t) &&
 pub text_of_idle : (t : List ℕ) → is_idle_text t ≡ true → text (idle_nodes t) ≡ t
 text_of_idle t h = ap text (is_reading t h) ∙ text_of_nodes_in W t (idle_reads t h)
 
--- What is read is such a text.
+-- what is read is such a text
 pub record ReadsIdle (t : List ℕ) : Type 0 where
   pub is : is_idle_text t ≡ true
   pub nodes : idle_nodes t ≡ nodes_in W t

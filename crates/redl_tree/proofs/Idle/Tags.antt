@@ -56,7 +56,7 @@ idle-⊕ in_run (element tag kids rest) y hx hy =
     and_from (is_idle_tag in_run tag) (is_idle_in (is "r" tag) kids && is_idle_in in_run (rest ⊕ y)) one.0
     (and_from (is_idle_in (is "r" tag) kids) (is_idle_in in_run (rest ⊕ y)) two.0 (idle-⊕ in_run rest y two.1 hy))
 
--- It has no name that is asked for; of such a name this is so by computing.
+-- it has no name that is asked for; of such a name this is so by computing
 pub has-not : (name : String) (in_run : Bool) (tag : Tag) → Idle in_run tag → is_idle_name in_run (codes name) ≡ false → is name tag ≡ false
 has-not name in_run tag i e = ap (λ b. is_w tag.space && b) (by_case (bytes_eq tag.local (codes name)) refl) ∙ and-false (is_w tag.space) where
   by_case : (b : Bool) → bytes_eq tag.local (codes name) ≡ b → b ≡ false

@@ -95,7 +95,7 @@ front_of space (element tag kids more) h x e =
 whole_text : (space : Space) (t : List ℕ) → Reads space t → tree_then (nodes_in space t) [] ≡ t
 whole_text space t r = sym (tree-text (nodes_in space t)) ∙ text_of_nodes_in space t r
 
--- The first piece of a text that is read to its end tells its first node.
+-- the first piece of a text that is read to its end tells its first node
 pub front : (space : Space) (t : List ℕ) (x : Piece × List ℕ) → Reads space t → piece_at InElement t ≡ Some x → IsFront space (nodes_in space t) x.0 x.1
 front space t x r e =
     front_of space (nodes_in space t) (nodes_are_laid space t r) x
@@ -106,7 +106,7 @@ nodes_there no_nodes some = absurd (some refl)
 nodes_there (bytes b more) some = refl
 nodes_there (element tag kids more) some = refl
 
--- There is one, unless the text is empty.
+-- there is one, unless the text is empty
 pub front_there : (space : Space) (t : List ℕ) → Reads space t → (t ≡ [] → ⊥) → is_there (piece_at InElement t) ≡ true
 front_there space t r some =
     let w = whole_text space t r in

@@ -193,7 +193,7 @@ nodes_sound space t u e = read_turns (suc (length t)) space t (level [] no_nodes
 pub tree-text : (u : Nodes) → text u ≡ tree_then u []
 tree-text u = sym (append-nil (text u)) ∙ tree-then u []
 
--- A text that is read is that of its nodes.
+-- a text that is read is that of its nodes
 pub text_of_nodes : (space : Space) (t : List ℕ) (u : Nodes) → nodes_at space t ≡ Some u → text u ≡ t
 text_of_nodes space t u e = tree-text u ∙ (nodes_sound space t u e).whole
 
@@ -271,7 +271,7 @@ nodes_get space (element tag kids more) y fs before u h end g =
     let next_gets = nodes_get space more y fs (before ⊕ element tag kids no_nodes) u h.3 end (subst P (sym (⊕_assoc before (element tag kids no_nodes) more)) g) in
     element_gets space tag kids (tree_then more y) fs before u tag.close refl h.0 h.1 (λ z gs. nodes_get space kids z gs no_nodes u h.2) next_gets
 
--- The text of nodes that are laid is read as them.
+-- the text of nodes that are laid is read as them
 pub nodes_again : (space : Space) (u : Nodes) → AreLaid space u → nodes_at space (tree_then u []) ≡ Some u
 unfolding nodes_at
 nodes_again space u h =
@@ -285,7 +285,7 @@ begins_apart space no_nodes h e = refl
 begins_apart space (bytes b rest) h e = absurd (both_ways _ (stretch_goes_on b (tree_then rest []) h.0) e)
 begins_apart space (element tag kids rest) h e = refl
 
--- Two texts, one after the other, have the nodes of the one and of the other, unless a stretch would go on.
+-- two texts, one after the other, have the nodes of the one and of the other, unless a stretch would go on
 pub nodes_of_both : (space : Space) (a b : List ℕ) (u v : Nodes) → nodes_at space a ≡ Some u → nodes_at space b ≡ Some v → Fits u b → nodes_at space (a ++ b) ≡ Some (u ⊕ v)
 nodes_of_both space a b u v ea eb fits =
     let ra = nodes_sound space a u ea in

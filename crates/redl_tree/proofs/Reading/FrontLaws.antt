@@ -125,7 +125,7 @@ goes space y p ps h = goes_by space y p ps p.kids refl h.0 h.1 h.2
 
 -- ---- the loop
 
--- In an element's kids as many elements are open, and this is left.
+-- in an element's kids as many elements are open, and this is left
 pub record IsInside (space : Space) (bs : List ℕ) (k : HasKids space bs) (depth : ℕ) (left : List ℕ) : Type 0 where
   pub own : Pending
   pub others : List Pending

@@ -101,7 +101,7 @@ frame-quiet tag h =
 pub frame-live_name : (tag : Tag) → is_frame tag ≡ true → live_name tag ≡ tag
 frame-live_name tag h = rw (frame-not "delText" tag h refl, frame-not "delInstrText" tag h refl) refl
 
--- Names among others: an element with one of these has one of those.
+-- names among others: an element with one of these has one of those
 abbrev pub among : String → List String → Bool
 among name [] = false
 among name (other ∷ others) = bytes_eq (codes name) (codes other) || among name others

@@ -17,8 +17,8 @@ abbrev pub is_only : Word → List Word → Bool
 is_only word [] = true
 is_only word (other ∷ others) = (not (number other == number word) || bytes_eq (name_of other) (name_of word)) && is_only word others
 
--- What is so of each word by itself: it is found by its name, no other word has its number, and that is neither 0 nor the number of
--- a name that is live again; nor has it such a name.
+-- what is so of each word by itself: it is found by its name, no other word has its number, and that is neither 0 nor the number of
+-- a name that is live again; nor has it such a name
 abbrev pub is_told_apart : Word → Bool
 is_told_apart word =
     (number_among words (name_of word) == number word) && is_only word words && not (0 == number word)
@@ -157,7 +157,7 @@ told_by_number word space own n tied = by_case (n == 254) (n == 255) refl refl w
   by_case false false is_t is_i =
       ap (λ x. x == number word) (tied (ap (λ b. b || (n == 255)) is_t ∙ is_i)) ∙ sym (named_by_number word space own)
 
--- The code looks for a name at one place alone: no two words have the same one.
+-- the code looks for a name at one place alone: no two words have the same one
 abbrev pub is_away : ℕ → List Word → Bool
 is_away at [] = true
 is_away at (word ∷ words) = not (at == place (name_of word)) && is_away at words

@@ -7,8 +7,8 @@ use Rattle.redl_tree.specs.Model.Kids.{only, without, has_element}
 use Rattle.redl_tree.specs.Model.Nodes.{Close}
 use Rattle.redl_tree.specs.Model.Nodes.{Empty, End}
 
--- What a node of a list gives by itself: a paragraph among blocks, with its tag, whether it is cut, and its passed kids; or
--- the nodes that another thin or thick node gives, which may be none.
+-- what a node of a list gives by itself: a paragraph among blocks, with its tag, whether it is cut, and its passed kids; or
+-- the nodes that another thin or thick node gives, which may be none
 pub data Piece : Type 0 where
   para : Tag → Bool → Nodes → Piece
   thin : Nodes → Piece

@@ -42,7 +42,7 @@ abbrev pub is_data_level : Level → Bool
 is_data_level Data = true
 is_data_level _ = false
 
--- The roots of stories, the parts whose content is decided (ECMA-376 Part 1, 17.2.3, 17.10.3, 17.10.4, 17.11.15, 17.11.9, 17.13.4.6).
+-- the roots of stories, the parts whose content is decided (ECMA-376 Part 1, 17.2.3, 17.10.3, 17.10.4, 17.11.15, 17.11.9, 17.13.4.6)
 abbrev pub is_story_root : Tag → Bool
 is_story_root tag = is_any ("document" ∷ "hdr" ∷ "ftr" ∷ "footnotes" ∷ "endnotes" ∷ "comments" ∷ []) tag
 
@@ -67,8 +67,8 @@ abbrev pub element_stories : List Tag → Tag → Nodes → List Element
 element_stories ancestors tag kids =
     if is_root ancestors tag then record { tag = tag; kids = kids } ∷ [] else stories_in (tag ∷ ancestors) kids
 
--- How stories are changed, one after the other: the kids that the root of a story gets, and what the next story starts with
--- (the same says, the labels that are left, the next number).
+-- how stories are changed, one after the other: the kids that the root of a story gets, and what the next story starts with
+-- (the same says, the labels that are left, the next number)
 pub record StoryRule (S : Type 0) : Type 0 where
   pub kids : S → Tag → Nodes → Nodes
   pub left : S → Tag → Nodes → S
@@ -85,7 +85,7 @@ changed_stories rule given (story ∷ later) =
     record { tag = story.tag; kids = rule.kids given story.tag story.kids }
     ∷ changed_stories rule (rule.left given story.tag story.kids) later
 
--- Nodes with these ancestors, once the stories among them are changed: the root of each gets its new kids, and all else stays.
+-- nodes with these ancestors, once the stories among them are changed: the root of each gets its new kids, and all else stays
 abbrev pub changed_in : {S : Type 0} → StoryRule S → S → List Tag → Nodes → Nodes
 changed_in rule given ancestors no_nodes = no_nodes
 changed_in rule given ancestors (bytes b rest) = bytes b (changed_in rule given ancestors rest)

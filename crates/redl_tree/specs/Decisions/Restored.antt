@@ -13,8 +13,8 @@ use Rattle.redl_tree.specs.Model.Kids.{only, without}
 use Rattle.redl_tree.specs.declared.kinds.Prop.{Prop}
 use Rattle.redl_tree.specs.declared.kinds.Prop.TheVariants.{Run, Para, Sect, Table, Except, Row as RowProp, Cell as CellProp}
 
--- Elements that no change of these properties covers: the revisions of a paragraph's mark, of a row and of a cell, the
--- properties of a paragraph's mark and of its section, and the headers and footers of a section.
+-- elements that no change of these properties covers: the revisions of a paragraph's mark, of a row and of a cell, the
+-- properties of a paragraph's mark and of its section, and the headers and footers of a section
 abbrev pub is_uncovered : Prop → Tag → Bool
 is_uncovered Run tag = is_any ("ins" ∷ "del" ∷ "moveFrom" ∷ "moveTo" ∷ []) tag
 is_uncovered Para tag = is_any ("rPr" ∷ "sectPr" ∷ []) tag

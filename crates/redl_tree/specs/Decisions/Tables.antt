@@ -14,8 +14,8 @@ use Rattle.redl_tree.specs.declared.kinds.Kind.{Kind}
 use Rattle.redl_tree.specs.declared.lists.Reach.{Reach}
 use Rattle.redl_tree.specs.declared.lists.Reach.TheVariants.{Direct}
 
--- The kids of each element with this name among these nodes, directly or through content controls and custom XML elements:
--- of the own rows of a table, or of the own cells of a row.
+-- the kids of each element with this name among these nodes, directly or through content controls and custom XML elements:
+-- of the own rows of a table, or of the own cells of a row
 abbrev pub own : String → Reach → Nodes → List Nodes
 own name reach no_nodes = []
 own name reach (bytes b rest) = own name reach rest

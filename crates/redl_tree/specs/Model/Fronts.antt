@@ -7,7 +7,7 @@ use Rattle.redl_markup.specs.Names.{Name}
 use Rattle.redl_markup.specs.Pieces.{Piece, start_tag, empty_tag, end_tag, stretch, piece_then, IsPiece}
 use Rattle.redl_tree.specs.Model.Folds.{plain_tag, nodes_in, Reads}
 
--- What follows a start tag is the text of its element's kids, the end tag, and a rest.
+-- what follows a start tag is the text of its element's kids, the end tag, and a rest
 pub record HasKids (space : Space) (behind : List ℕ) : Type 0 where
   pub name : Name
   pub inner : List ℕ
@@ -22,12 +22,12 @@ pub record HasKids (space : Space) (behind : List ℕ) : Type 0 where
 abbrev pub parted : {space : Space} {behind : List ℕ} → HasKids space behind → Option (List ℕ × List ℕ × List ℕ)
 parted kids = Some (kids.inner, kids.white, kids.rest)
 
--- The first of these nodes is an element with this start tag, and this follows the tag.
+-- the first of these nodes is an element with this start tag, and this follows the tag
 pub record IsOpened (space : Space) (nodes : Nodes) (name : Name) (tail behind : List ℕ) : Type 0 where
   pub kids : HasKids space behind
   pub parts : nodes ≡ element (plain_tag name space tail (End kids.white)) (nodes_in space kids.inner) (nodes_in space kids.rest)
 
--- The first of these nodes begins with this piece, and this follows it.
+-- the first of these nodes begins with this piece, and this follows it
 abbrev pub IsFront : Space → Nodes → Piece → List ℕ → Type 0
 IsFront space nodes (stretch b) rest = Reads space rest × (nodes ≡ bytes b (nodes_in space rest))
 IsFront space nodes (empty_tag name tail) rest =

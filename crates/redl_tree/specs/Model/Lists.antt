@@ -3,7 +3,7 @@ use Rattle.std.specs.Prelude.{ℕ, List}
 use Rattle.redl_tree.specs.declared.kinds.Space.{Space}
 use Rattle.redl_tree.specs.declared.kinds.Kind.{Kind}
 
--- How an element is closed: by `/>` in its start tag, or by an end tag, which has this white space after the name.
+-- how an element is closed: by `/>` in its start tag, or by an end tag, which has this white space after the name
 pub data Close : Type 0 where
   Empty : Close
   End : List ℕ → Close

@@ -40,7 +40,7 @@ is_row_revision kids = some_element (λ tag. is_some (row_trace_of tag)) (kids_o
 abbrev pub is_cell_revision : Nodes → Bool
 is_cell_revision kids = some_element (λ tag. is_some (cell_trace_of tag)) (kids_of_all "tcPr" kids)
 
--- An open element that may go with all that it holds: a content revision, or an inserted or deleted row or cell.
+-- an open element that may go with all that it holds: a content revision, or an inserted or deleted row or cell
 abbrev pub is_revised : Spot → Bool
 is_revised spot =
     is_some (trace_of spot.tag)
@@ -75,8 +75,8 @@ any_leaves_grid (tag ∷ ancestors) = leaves_grid ancestors tag || any_leaves_gr
 abbrev pub is_astray : List Tag → Bool
 is_astray ancestors = is_in_grid (place ancestors) || any_leaves_grid ancestors
 
--- A marker is loose where it may go by itself: below a content revision or an inserted or deleted row or cell, or in a table
--- or row outside the own rows and cells.
+-- a marker is loose where it may go by itself: below a content revision or an inserted or deleted row or cell, or in a table
+-- or row outside the own rows and cells
 abbrev pub is_loose : List Spot → Bool
 is_loose ancestors = list_any is_revised ancestors || is_astray (tags_of ancestors)
 
@@ -105,7 +105,7 @@ moves_among value story = pairs (filter_map (marker_of value) story)
 abbrev pub own_role : Seen → Kind
 own_role seen = role (tags_of seen.ancestors) seen.own.tag
 
--- The position of a member of a paragraph's mark: the end tag of its paragraph, since the mark is the end of the paragraph.
+-- the position of a member of a paragraph's mark: the end tag of its paragraph, since the mark is the end of the paragraph
 abbrev pub mark_end : ℕ → List Spot → ℕ
 mark_end start (run_props ∷ para_props ∷ para ∷ ancestors) = para.end
 mark_end start _ = start

@@ -18,8 +18,8 @@ same_edge to_start to_start = true
 same_edge to_end to_end = true
 same_edge _ _ = false
 
--- A marker: its kind, its id, its name if it has one, its position, and whether it is loose, which is where it may go without
--- its move.
+-- a marker: its kind, its id, its name if it has one, its position, and whether it is loose, which is where it may go without
+-- its move
 pub record Marking : Type 0 where
   pub edge : Edge
   pub id : List ℕ

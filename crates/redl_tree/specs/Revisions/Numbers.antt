@@ -10,7 +10,7 @@ use Rattle.redl_tree.specs.Revisions.Markers.{Value, moves_among, move_of, whole
 use Rattle.redl_tree.specs.declared.kinds.Kind.{Kind}
 use Rattle.redl_tree.specs.declared.kinds.Kind.TheVariants.{Plain}
 
--- Which revision an element is in: none, one of its own, or the paired move whose source starts at this position.
+-- which revision an element is in: none, one of its own, or the paired move whose source starts at this position
 pub data Membership : Type 0 where
   in_none : Membership
   in_own : Membership

@@ -41,7 +41,7 @@ is_idle_in in_run (element tag kids rest) =
 abbrev pub is_idle : Nodes → Bool
 is_idle nodes = is_idle_in false nodes
 
--- Something holds of each tag and of whether its parent is a run.
+-- something holds of each tag and of whether its parent is a run
 abbrev pub AllTags : (Bool → Tag → Type 0) → Bool → Nodes → Type 0
 AllTags T in_run no_nodes = Unit {0}
 AllTags T in_run (bytes b rest) = AllTags T in_run rest

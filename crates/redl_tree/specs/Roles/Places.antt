@@ -24,8 +24,8 @@ is_quiet tag =
 abbrev pub is_open : List Tag → Bool
 is_open ancestors = not (list_any is_quiet ancestors)
 
--- The nearest ancestors have these names, and the last one of these is open:
--- with "rPr", "pPr" and "p", the place in an `rPr` in a `pPr` in an open `p`.
+-- the nearest ancestors have these names, and the last one of these is open:
+-- with "rPr", "pPr" and "p", the place in an `rPr` in a `pPr` in an open `p`
 abbrev pub within : List String → List Tag → Bool
 within [] ancestors = is_open ancestors
 within (name ∷ names) [] = false

@@ -127,8 +127,8 @@ test_9 declares ancestors tag kids =
     (not (declares tag.tail))
     && not (change_declares declares (role ancestors tag) kids)
 
--- The nine rules in their order, where `has_id` says of a tag's tail that it has an `id`, and `declares` that it declares
--- a namespace.
+-- the nine rules in their order, where `has_id` says of a tag's tail that it has an `id`, and `declares` that it declares
+-- a namespace
 abbrev pub tests : (List ℕ → Bool) → (List ℕ → Bool) → List Test
 tests has_id declares =
     test_1 ∷ test_2 ∷ test_3 ∷ test_4 ∷ test_5 ∷ test_6 ∷ test_7 has_id ∷ test_8 ∷ test_9 declares ∷ []

@@ -7,7 +7,7 @@ use Rattle.redl_tree.specs.Model.Kids.{some_element, has_element}
 use Rattle.redl_tree.specs.Roles.Names.{is, is_any}
 use Rattle.redl_tree.specs.Roles.Places.{is_open}
 
--- What may be asked of an element, by the tags of its ancestors, its own tag and its kids.
+-- what may be asked of an element, by the tags of its ancestors, its own tag and its kids
 abbrev pub Test : Type 0
 Test = List Tag → Tag → Nodes → Bool
 

@@ -153,7 +153,7 @@ gathered form items (word ∷ value ∷ later) =
     then (with_plain_journal form word items >>= λ more. gathered form more (value ∷ later))
     else (with_word form word value items >>= λ more. gathered form more later)
 
--- After the first item, what is gathered from the words that are left is what is gathered from all of them.
+-- after the first item, what is gathered from the words that are left is what is gathered from all of them
 abbrev pub Goes : Form → Gathered → List (List ℕ) → Gathered → Result (Bor (List (List ℕ))) WordsError → Type 0
 Goes form before words after (Ok rest) = gathered form before words ≡ gathered form after rest.now
 Goes form before words after (Err error) = Fails error (gathered form before words)

@@ -36,7 +36,7 @@ sittings_in so_far (word ∷ name ∷ later) =
     else if bytes_eq word (codes "--journal") && is_name name then sittings_in (with_first name so_far) later
     else None
 
--- After the first journal, what is read of the words that are left is what is read of all of them.
+-- after the first journal, what is read of the words that are left is what is read of all of them
 abbrev pub GoesOn : Sittings → List (List ℕ) → Sittings → Result (Bor (List (List ℕ))) WordsError → Type 0
 GoesOn before words after (Ok rest) = sittings_in before words ≡ sittings_in after rest.now
 GoesOn before words after (Err error) = Fails error (sittings_in before words)

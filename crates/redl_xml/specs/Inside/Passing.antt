@@ -34,7 +34,7 @@ HoldsIn T in_run space (empty_tag name tail) = HoldsOf T in_run space name tail
 HoldsIn T in_run space (end_tag name white) = Unit {0}
 HoldsIn T in_run space (stretch b) = Unit {0}
 
--- In this scope the tag has this space, and it declares nothing.
+-- in this scope the tag has this space, and it declares nothing
 pub record IsPlainIn (scope : Scope) (space : Space) (tag : Tag) : Type 0 where
   pub prefix : is_element_prefix scope tag.prefix ≡ true
   pub bound : space_of scope tag.prefix ≡ space
@@ -46,7 +46,7 @@ ArePlainIn scope space no_nodes = Unit {0}
 ArePlainIn scope space (bytes b rest) = ArePlainIn scope space rest
 ArePlainIn scope space (element tag kids rest) = IsPlainIn scope space tag × ArePlainIn scope space kids × ArePlainIn scope space rest
 
--- It does so, and the element is idle.
+-- it does so, and the element is idle
 pub record IsIdleIn (scope : Scope) (in_run : Bool) (tag : Tag) : Type 0 where
   pub plain : IsPlainIn scope W tag
   pub idle : is_idle_tag in_run tag ≡ true
@@ -85,20 +85,20 @@ put_name (end_tag name white) ns = shut_name ns name
 abbrev pub names_view : List code.Name → List Name
 names_view ns = map name_view (reverse ns)
 
--- A piece was passed over: it may be, by its tag, and these are the names of the open elements before it and after it.
+-- a piece was passed over: it may be, by its tag, and these are the names of the open elements before it and after it
 pub record PassesPiece (scope : Scope) (before after : List code.Name) (p : Piece) : Type 0 where
   pub taken : put_name p (names_view before) ≡ Some (names_view after)
   pub holds : HoldsIn (IsIdleIn scope) (is_run_open W (names_view before)) W p
 
--- The bytes begin with the end tag of the innermost open element, without white space, and these are the names of the open elements
--- before it and after it.
+-- the bytes begin with the end tag of the innermost open element, without white space, and these are the names of the open elements
+-- before it and after it
 pub record ClosesLast (before after : List code.Name) (bs rest : List ℕ) : Type 0 where
   pub name : Name
   pub names : names_view before ≡ name ∷ names_view after
   pub whole : bs ≡ piece_then (end_tag name []) rest
 
--- What was passed over is a text of nodes with these tags, of this many nodes and elements and this deep, and its last stretch
--- is as long as it can be.
+-- what was passed over is a text of nodes with these tags, of this many nodes and elements and this deep, and its last stretch
+-- is as long as it can be
 pub record IsPassed (T : Bool → Tag → Type 0) (space : Space) (bs rest : List ℕ) (nodes elems deepest : ℕ) : Type 0 where
   pub front : List ℕ
   pub made : Nodes
@@ -128,14 +128,14 @@ pub record IsIdleText (scope : Scope) (bs t rest : List ℕ) (nodes deepest : �
   pub shallow : deepest < 4294967296
   pub shorter : length rest < length bs
 
--- Such a text was passed over in an open element, and its nodes were added to what was read.
+-- such a text was passed over in an open element, and its nodes were added to what was read
 pub record AddsText (s s' : State) (bs rest : List ℕ) (nodes deepest : ℕ) : Type 0 where
   pub text : List ℕ
   pub is : IsIdleText s.scope bs text rest nodes deepest
   pub below : length s.open_elements ≢ 0
   pub added : s' ≡ added s (nodes_in W text)
 
--- Such a text was passed over, its nodes were counted, and are kept within the limits.
+-- such a text was passed over, its nodes were counted, and are kept within the limits
 pub record Counts (limits : Limits) (s s' : State) (old new : Sizes) (bs rest : List ℕ) : Type 0 where
   pub made : State
   pub nodes : ℕ

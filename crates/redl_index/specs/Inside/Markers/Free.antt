@@ -15,7 +15,7 @@ Every P (x ∷ xs) = P x × Every P xs
 abbrev pub AreFreeEnds : List Marking → List Spot → Type 0
 AreFreeEnds marks spots = Every (λ (spot : Spot). IsApart spot.end marks) spots
 
--- No marker is at the start tag of the element, unless it is one itself, nor at its end tag, nor at those of its ancestors.
+-- no marker is at the start tag of the element, unless it is one itself, nor at its end tag, nor at those of its ancestors
 pub record IsFree (marks : List Marking) (x : Seen) : Type 0 where
   pub start : marker_of attribute_value x ≡ None → IsApart x.own.start marks
   pub end : IsApart x.own.end marks
