@@ -9,10 +9,10 @@ use thiserror::Error;
 #[derive(Clone, Copy, Debug, PartialEq, Eq, Error)]
 pub enum JournalError {
     /// The bytes are the text of no journal.
-    #[error("the bytes are the text of no journal")]
+    #[error("the bytes are not the text of a journal")]
     Malformed,
     /// Out of memory; nothing is known of the bytes.
-    #[error("no memory")]
+    #[error("out of memory")]
     NoMemory,
 }
 

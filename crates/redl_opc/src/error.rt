@@ -10,17 +10,17 @@ use thiserror::Error;
 #[derive(Clone, Copy, Debug, PartialEq, Eq, Error)]
 pub enum OpcError {
     /// The root is not `package` in the package's namespace.
-    #[error("not a package")]
+    #[error("the root is not a package")]
     NotPackage,
     /// A child element of the root is not a part with a name, a content type, and one `binaryData` or one `xmlData` with one
     /// element.
-    #[error("part shape")]
+    #[error("the root has a child that is not a part")]
     PartShape,
     /// No part has the root `document`.
-    #[error("no document")]
+    #[error("no part has a document")]
     NoDocument,
     /// An allocation failed. The nodes have the shape of a package.
-    #[error("no memory")]
+    #[error("out of memory")]
     NoMemory,
 }
 

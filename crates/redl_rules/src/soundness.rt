@@ -20,10 +20,10 @@ use thiserror::Error;
 #[derive(Clone, Copy, Debug, PartialEq, Eq, Error)]
 pub enum RuleError {
     /// A rule is broken, and this is the least number of one.
-    #[error("rule {0}")]
+    #[error("the package breaks rule {0}")]
     Broken(u8),
     /// An allocation failed; nothing is known of the package.
-    #[error("no memory")]
+    #[error("out of memory")]
     NoMemory,
 }
 

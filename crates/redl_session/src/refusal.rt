@@ -30,10 +30,10 @@ pub enum Bar {
 #[derive(Clone, Copy, Debug, PartialEq, Eq, Error)]
 pub enum AdmitError {
     /// The package does not have the revision.
-    #[error("unknown revision")]
+    #[error("the package does not have the revision")]
     Unknown,
     /// A lock holds the revision, which is barred by this.
-    #[error("locked")]
+    #[error("a lock holds the revision")]
     Locked(Bar),
     /// Out of memory.
     #[error("out of memory")]
@@ -53,7 +53,7 @@ pub struct Refusal {
 #[derive(Clone, Copy, Debug, PartialEq, Eq, Error)]
 pub enum SessionWriteError {
     /// The sink failed, and has only a prefix of the text.
-    #[error("cannot write")]
+    #[error("the sink failed")]
     Failed,
     /// Out of memory, before anything was put.
     #[error("out of memory")]

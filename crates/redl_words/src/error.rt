@@ -10,10 +10,10 @@ use thiserror::Error;
 #[derive(Clone, Copy, Debug, PartialEq, Eq, Error)]
 pub enum WordsError {
     /// They are the words of no command.
-    #[error("the words are no command")]
+    #[error("the words are not a command")]
     Usage,
     /// Out of memory; nothing is known of the words.
-    #[error("no memory")]
+    #[error("out of memory")]
     NoMemory,
 }
 
