@@ -22,8 +22,8 @@ use std::alloc::{AllocError, Global};
 /// The command that these words are the command line of. They come without the program's name.
 ///
 /// Its texts are UTF-8; the name of a file is not empty and does not begin with a dash, a reviewer is one that a journal may hold,
-/// `decide` has a choice, and its rank is at most 9. `Usage` comes exactly where the words are those of no command. `NoMemory` means out of memory, and says
-/// nothing of the words.
+/// `decide` has a choice, and its rank is at most 9. `Usage` comes exactly where the words are those of no command. `NoMemory` means
+/// out of memory, and says nothing of the words.
 pub fn read_words(alloc: Global, words: &[Text]) -> Result<Command, WordsError>
     requires { All IsUtf8 words.now }
     ensures found { IfOk result (λ command. IsCommand words.now (command_of command)) }
@@ -141,7 +141,7 @@ fn read_list(alloc: Global, words: &[Text]) -> Result<Command, WordsError>
 {
     let asked = read_asked(alloc, Form::List, words)?;
     Ok(Command::List(ListCommand {
-        package: asked.package,
+        package: asked.package_name,
         format: asked.format,
         locks: asked.locks,
         journals: asked.journals,
@@ -156,7 +156,7 @@ fn read_report(alloc: Global, words: &[Text]) -> Result<Command, WordsError>
 {
     let asked = read_asked(alloc, Form::Report, words)?;
     Ok(Command::Report(ReportCommand {
-        package: asked.package,
+        package: asked.package_name,
         format: asked.format,
         by_kind: asked.by_kind,
         locks: asked.locks,
@@ -167,7 +167,7 @@ fn read_report(alloc: Global, words: &[Text]) -> Result<Command, WordsError>
 // What is asked of a package: a format of this name, by kind or not, with locks and journals, and which revisions are shown.
 #[derive(Drop)]
 struct Asked {
-    package: Text,
+    package_name: Text,
     format: Text,
     by_kind: bool,
     locks: Vec<Lock>,
@@ -188,10 +188,10 @@ fn read_asked(alloc: Global, form: Form, words: &[Text]) -> Result<Asked, WordsE
         return Err(WordsError::Usage);
     }
     let items = read_items(alloc, form, rest)?;
-    let package = package.copy(alloc)?;
+    let package_name = package.copy(alloc)?;
     let format = format_or_text(alloc, items.format)?;
     Ok(Asked {
-        package,
+        package_name,
         format,
         by_kind: items.by_kind,
         locks: items.locks,

@@ -77,7 +77,7 @@ pub record Asked : Type 0 where
   pub onlys : List Only
 
 abbrev pub asked_view : code.Asked → Asked
-asked_view asked = record { package_name = asked.«package»; format = asked.format; by_kind = asked.by_kind; locks = asked.locks.items; journals = asked.journals.items; onlys = onlys_view asked.only.items }
+asked_view asked = record { package_name = asked.package_name; format = asked.format; by_kind = asked.by_kind; locks = asked.locks.items; journals = asked.journals.items; onlys = onlys_view asked.only.items }
 
 abbrev pub asked_of : List ℕ → Gathered → Asked
 asked_of p items = record { package_name = p; format = format_or_text items.format; by_kind = items.by_kind; locks = items.locks; journals = items.journals; onlys = items.onlys }
