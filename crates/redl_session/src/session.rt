@@ -85,6 +85,8 @@ impl<'a> Session<'a> {
     ///
     /// `Unknown` exactly if the package does not have its revision. Otherwise `Locked` exactly if a lock holds the revision, with
     /// what bars it. Otherwise `Repeat` if the book has the entry, and nothing changes. `NoMemory` means out of memory.
+    ///
+    /// For programs that take in one entry at a time; the commands take in those of a journal together, by `admit_many`.
     pub fn admit(&mut self, entry: Entry) -> Result<Taken, Refusal>
         requires { IsAllowed entry }
         ensures admitted { OnOk result (cause_of self.old.revisions self.old.locks entry ≡ None) }
@@ -135,7 +137,7 @@ impl<'a> Session<'a> {
         refused
     }
 
-    /// What the reviewers' words on the revision come to.
+    /// What the reviewers' words on the revision come to. For programs that ask about one revision at a time.
     pub fn verdict(&self, rev: u32) -> Verdict
         ensures { result ≡ verdict_at self.now.book rev }
     {
@@ -149,7 +151,8 @@ impl<'a> Session<'a> {
         verdicts(self.alloc, &self.book, self.index.count())
     }
 
-    /// The say of each revision, in the order of their numbers: that of its verdict.
+    /// The say of each revision, in the order of their numbers: that of its verdict. For programs that show the says, which no
+    /// command does.
     pub fn says(&self) -> &[Say]
         ensures { result.now ≡ says self.now }
     {
@@ -193,6 +196,8 @@ impl<'a> Session<'a> {
 
     /// Puts the text of the package under the says. `Failed` means that the sink failed and has only a prefix of the text.
     /// `NoMemory` means out of memory, and nothing was put.
+    ///
+    /// For programs that go on with the session; the commands take `into_passed`, which copies no nodes that stay.
     pub fn write<K: Sink>(&self, out: &mut K) -> Result<(), SessionWriteError>
         ensures { Writes K.told K.faults K.settled K.lenders out.old out.new (text (pass_package (says self.now) self.now.nodes)) result }
     {
