@@ -15,6 +15,8 @@ use std::alloc::{AllocError, Global};
 /// The markers are given in the order of their positions. A name is paired where one source start and one target start alone
 /// have it, each is the only start of its kind with its id, one end of its kind alone has that id and comes after the start, and
 /// none of the four markers is loose. Its time grows with the number of markers. `Err` means out of memory.
+///
+/// For programs that want the list of moves alone; `Moves` pairs the same ones, and answers questions on them.
 pub fn pair(alloc: Global, marks: &[Marker]) -> Result<Vec<Move>, AllocError>
     requires few { length marks.now < 2 ^ 32 }
     requires rising { RisesFrom 0 (markings marks.now) }
