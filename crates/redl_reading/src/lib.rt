@@ -7,4 +7,4 @@
 
 mod scan;
 
-pub use scan::{before, far_until, field, past, run, skip, until};
+pub use scan::{before, far_until, field, past, run, skip};

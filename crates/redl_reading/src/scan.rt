@@ -20,16 +20,8 @@ pub fn run<'a, F: Fn(u8) -> bool>(bytes: &'a [u8], passes: F) -> (&'a [u8], &'a 
     bytes.split_at(n)
 }
 
-/// The bytes before the first `byte`, and those from it on. Without a `byte` all of them come before it.
-#[inline(always)]
-pub fn until(bytes: &[u8], byte: u8) -> (&[u8], &[u8])
-    ensures front { result.0.now ≡ front (is_other byte) bytes.now }
-    ensures rest { result.1.now ≡ after (is_other byte) bytes.now }
-{
-    run(bytes, |b| b != byte)
-}
-
-/// The same by a search of many bytes at a time, for a byte that is far away.
+/// The bytes before the first `byte`, and those from it on, by a search of many bytes at a time. Without a `byte` all of them
+/// come before it.
 pub fn far_until(bytes: &[u8], byte: u8) -> (&[u8], &[u8])
     ensures front { result.0.now ≡ front (is_other byte) bytes.now }
     ensures rest { result.1.now ≡ after (is_other byte) bytes.now }
@@ -78,4 +70,13 @@ pub fn before<'a>(bytes: &'a [u8], rest: &[u8]) -> &'a [u8]
     ensures { result.now ≡ before bytes.now rest.now }
 {
     &bytes[..bytes.len().saturating_sub(rest.len())]
+}
+
+// The same as `far_until`, byte by byte, for a byte that is near.
+#[inline(always)]
+fn until(bytes: &[u8], byte: u8) -> (&[u8], &[u8])
+    ensures front { result.0.now ≡ front (is_other byte) bytes.now }
+    ensures rest { result.1.now ≡ after (is_other byte) bytes.now }
+{
+    run(bytes, |b| b != byte)
 }
