@@ -112,6 +112,7 @@ may_hold none (inr nothing) = inr (none nothing)
 abbrev pub due_by : List (List ℕ) → Brought → Reader → Files → Result Writing Failure
 due_by words brought reader files = writing_of reader files brought (reader.command words)
 
+-- the exit status is the one that the outcome asks for, or tells which fault there was
 pub answers : (brought : Brought) {S K : Type 0} {holds : S → Option Files} {misses : S → ℕ} {asked : S → Option (List (List ℕ))} {shelf shelf_new : S} {told : K → Option (List ℕ)} {faults : K → ℕ} {out out_new : K}
     {words : List (List ℕ)} {names : List (List ℕ)} {end : End}
     → NamesWhatIsAsked words brought names → Ends holds misses asked shelf shelf_new told faults out out_new names (due_by words brought) end
@@ -120,6 +121,7 @@ answers brought {misses = misses} {shelf = shelf} {shelf_new = shelf_new} {told 
     λ files reader is may. answer_by told faults out out_new ends.made end (due_by words brought reader files) (Rose (misses shelf) (misses shelf_new)) ends.finishes
     (ends.reads.as_due files (may_hold (asked reader is) may) reader is)
 
+-- what went to the output is what the outcome asks for at this exit status
 pub writes : (brought : Brought) {S K : Type 0} {holds : S → Option Files} {misses : S → ℕ} {asked : S → Option (List (List ℕ))} {shelf shelf_new : S} {told : K → Option (List ℕ)} {faults : K → ℕ} {out out_new : K}
     {words : List (List ℕ)} {names : List (List ℕ)} {end : End}
     → NamesWhatIsAsked words brought names → Ends holds misses asked shelf shelf_new told faults out out_new names (due_by words brought) end
@@ -128,6 +130,7 @@ writes brought {misses = misses} {shelf = shelf} {shelf_new = shelf_new} {told =
     λ files reader is may. writes_by told faults out out_new ends.made end (due_by words brought reader files) (Rose (misses shelf) (misses shelf_new)) ends.finishes
     (ends.reads.as_due files (may_hold (asked reader is) may) reader is)
 
+-- the lines that were told are those that the outcome asks for
 pub tells : (Told : List ℕ → Type 0) {S K : Type 0} {holds : S → Option Files} {misses : S → ℕ} {asked : S → Option (List (List ℕ))} {shelf shelf_new : S} {told : K → Option (List ℕ)} {faults : K → ℕ} {out out_new : K}
     {words : List (List ℕ)} {brought : Brought} {names : List (List ℕ)} {end : End} → AreNamed words brought names
     → NamesWhatIsAsked words brought names → Ends holds misses asked shelf shelf_new told faults out out_new names (due_by words brought) end → Told (end_lines end)
@@ -163,6 +166,7 @@ read_by told faults old new (Ok writing) end words brought names shelf failed na
 read_by told faults old new (Err failure) end words brought names shelf failed named (is, same, stands) u fault =
     may_fault failure words brought names shelf failed named u (sym (ap end_status is) ∙ fault)
 
+-- a call ends with a read fault only where a file of its words may have failed
 pub read_cause : {S K : Type 0} {holds : S → Option Files} {misses : S → ℕ} {asked : S → Option (List (List ℕ))} {shelf shelf_new : S} {told : K → Option (List ℕ)} {faults : K → ℕ} {out out_new : K}
     {words : List (List ℕ)} {brought : Brought} {names : List (List ℕ)} {end : End} {due : Reader → Files → Result Writing Failure}
     → AreNamed words brought names → Ends holds misses asked shelf shelf_new told faults out out_new names due end → end_status end ≡ status.ReadFault
@@ -180,6 +184,7 @@ failed_no_write_fault (unread name) is = absurd (cc is)
 failed_no_write_fault (caused cause) is =
     by_cause (λ s. s ≡ status.WriteFault → ⊥) (λ e. absurd (cc e)) (λ e. absurd (cc e)) (λ e. absurd (cc e)) (λ e. absurd (cc e)) (λ e. absurd (cc e)) (λ e. absurd (cc e)) (λ e. absurd (cc e)) cause is
 
+-- a call ends with a write fault only where the output failed
 pub write_cause : {K : Type 0} (told : K → Option (List ℕ)) (faults : K → ℕ) (old new : K) (made : Result Writing Failure) (end : End)
     → Finishes told faults old new made end → end_status end ≡ status.WriteFault → Rose (faults old) (faults new)
 write_cause told faults old new (Ok writing) end (inl (is, all)) fault = absurd (no_write_fault (all_refused writing.remarks) (sym (ap end_status is) ∙ fault))
@@ -188,6 +193,7 @@ write_cause told faults old new (Err failure) end (is, same, stands) fault = abs
 
 -- ---- what stands
 
+-- at any other exit status the output did not fail
 pub out_stands : {K : Type 0} (told : K → Option (List ℕ)) (faults : K → ℕ) (old new : K) (made : Result Writing Failure) (end : End)
     → Finishes told faults old new made end → end_status end ≢ status.WriteFault → faults new ≡ faults old
 out_stands told faults old new (Ok writing) end (inl (is, all)) other = all.stands
@@ -198,6 +204,7 @@ untouched_written : (refused : RefusedEntries) → written_status refused ≢ st
 untouched_written [] not_done not_refused = not_done refl
 untouched_written (entry ∷ refused) not_done not_refused = not_refused refl
 
+-- unless a call succeeded or the output failed, nothing went to the output
 pub untouched : {K : Type 0} (told : K → Option (List ℕ)) (faults : K → ℕ) (old new : K) (made : Result Writing Failure) (end : End)
     → Finishes told faults old new made end → end_status end ≢ status.Done → end_status end ≢ status.Refused → end_status end ≢ status.WriteFault → told new ≡ told old
 untouched told faults old new (Ok writing) end (inl (is, all)) not_done not_refused not_failed =
@@ -210,6 +217,7 @@ failed_stands no_memory Holds h other = h
 failed_stands (unread name) Holds h other = absurd (other refl)
 failed_stands (caused cause) Holds h other = h
 
+-- unless a file could not be read, the shelf is as it was
 pub shelf_stands : {K : Type 0} (told : K → Option (List ℕ)) (faults : K → ℕ) (old new : K) (made : Result Writing Failure) (end : End) (Holds : Type 0)
     → Finishes told faults old new made end → UnlessUnread made Holds → end_status end ≢ status.ReadFault → Holds
 shelf_stands told faults old new (Ok writing) end Holds finished h other = h
@@ -235,5 +243,6 @@ answered_surely status.Sequence o read_failed write_failed reads writes h = inl 
 answered_surely status.NotWritten o read_failed write_failed reads writes h = inl (sym h)
 answered_surely status.Differ o read_failed write_failed reads writes h = inl (sym h)
 
+-- where there are no faults, none was added
 pub never_rose : Rose 0 0 → ⊥
 never_rose rose = absurd (omega (arith, rose.more))
