@@ -1,4 +1,4 @@
--- How a call ends, by what it made: all of it went out, a front of it, or nothing was made.
+-- How a call ends, by what it made: all of it went out, a prefix of it, or nothing was made.
 use Rattle.std.specs.Prelude.{◌≡◌, ◌⊎◌, ℕ, List, Option, Result, Ok, Err}
 use Rattle.std.specs.Io.KnownBytes.{append_known}
 use Rattle.redl_io.specs.Faults.{Rose}
@@ -15,7 +15,7 @@ pub record WritesAll {K : Type 0} (told : K → Option (List ℕ)) (faults : K �
   pub bytes : told new ≡ append_known (told old) text
   pub stands : faults new ≡ faults old
 
--- the output failed, and a front of the text went out
+-- the output failed, and a prefix of the text went out
 pub record WritesFront {K : Type 0} (told : K → Option (List ℕ)) (faults : K → ℕ) (old new : K) (text : List ℕ) : Type 0 where
   pub bytes : GrowsByFront (told old) (told new) text
   pub rose : Rose (faults old) (faults new)

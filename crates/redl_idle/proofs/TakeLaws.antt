@@ -23,7 +23,7 @@ module _ {K E : Type 0} (taking : Taking K E) where
   pub takes_as : {T U : Type 0} {old new : K} {text : List ℕ} {x : T} {y : U} → Takes taking old new text (Ok x) → Takes taking old new text (Ok y)
   takes_as {new = new} {text = text} {y = y} p = takes_then (sym (append-nil text)) p (taking.nothing _ new y)
 
-  -- a call that gives a text in a loop has given a front of it, and this rest is left
+  -- a call that gives a text in a loop has given a prefix of it, and this rest is left
   pub record TakesSoFar (old new : K) (text rest : List ℕ) : Type 0 where
     pub front : List ℕ
     pub splits : text ≡ front ++ rest

@@ -10,7 +10,7 @@ EndsAsking (Err (unread name)) front later = (before : List (List ℕ)) × (fron
 EndsAsking (Err no_memory) front later = Unit {0}
 EndsAsking (Err (caused cause)) front later = Unit {0}
 
--- a step asked a shelf for a front of these names, in their order, each once, and then made something or failed
+-- a step asked a shelf for the first ones of these names, in their order, each once, and then made something or failed
 pub record AsksFor {Y : Type 0} (old new : Option (List (List ℕ))) (names : List (List ℕ)) (made : Result Y Failure) : Type 0 where
   pub front : List (List ℕ)
   pub later : List (List ℕ)

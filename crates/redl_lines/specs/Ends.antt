@@ -49,7 +49,7 @@ end_lines (written remarks) = remark_lines remarks
 end_lines (unwritten remarks) = remark_lines remarks ++ unwritten_line
 end_lines (failed failure) = failure_line failure
 
--- the lines went out, or a front of them where the count of faults rose
+-- the lines went out, or a prefix of them where the count of faults rose
 pub record Tells {K : Type 0} (told : K → Option (List ℕ)) (faults : K → ℕ) (old new : K) (lines : List ℕ) : Type 0 where
   pub front : GrowsByFront (told old) (told new) lines
   pub whole : ¬ Rose (faults old) (faults new) → told new ≡ append_known (told old) lines

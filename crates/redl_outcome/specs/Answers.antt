@@ -33,7 +33,7 @@ IsAnswer status.ReadFault outcome read_failed write_failed = read_failed ⊎ (ou
 IsAnswer status.WriteFault outcome read_failed write_failed = write_failed × IsWritten outcome.status
 IsAnswer s outcome read_failed write_failed = outcome.status ≡ s
 
--- the output gained the bytes where all was written, a front of them with `WriteFault`, and nothing with any other status
+-- the output gained the bytes where all was written, a prefix of them with `WriteFault`, and nothing with any other status
 abbrev pub Writes : {K : Type 0} → (K → Option (List ℕ)) → K → K → Status → List ℕ → Type 0
 Writes told old new status.Done bytes = told new ≡ append_known (told old) bytes
 Writes told old new status.Refused bytes = told new ≡ append_known (told old) bytes
@@ -83,7 +83,7 @@ AsksUpTo status.WriteFault front later Told = later ≡ []
 AsksUpTo status.ReadFault front later Told = TellsLast front Told
 AsksUpTo _ front later Told = Unit {0}
 
--- a call with this status, which told lines of which this holds, asked a shelf for a front of these names, in their order, each once
+-- a call with this status, which told lines of which this holds, asked a shelf for the first ones of these names, in their order, each once
 pub record Asks (old new : Option (List (List ℕ))) (names : List (List ℕ)) (status : Status) (Told : List ℕ → Type 0) : Type 0 where
   pub front : List (List ℕ)
   pub later : List (List ℕ)

@@ -25,7 +25,7 @@ pub record Answers {F O E : Type 0}
   pub usage : HasNoCommand words → (ended ≡ Usage) ⊎ (ended ≡ NoMemory)
   pub read : ended ≡ ReadFault → MayFault words brought (held shelf) (Rose (misses shelf) (misses shelf_new))
   pub write : ended ≡ WriteFault → Rose (faults out) (faults out_new)
-  -- A command asks for a front of its files, in their order, each once: for all of them where its output was put. Other words ask for none.
+  -- A command asks for the first ones of its files, in their order, each once: for all of them where its output was put. Other words ask for none.
   pub asked : (command : Command) → IsCommand words command → Asks (noted shelf) (noted shelf_new) (files_of brought (plan command)) ended (Tells lines_told line_faults err err_new)
   pub unasked : HasNoCommand words → noted shelf_new ≡ noted shelf
   -- no fault is passed over, and nothing is taken from the shelf
