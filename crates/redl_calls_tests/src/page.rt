@@ -7,7 +7,8 @@ use redl_join::Book;
 use redl_journal::read;
 use redl_opc::Package;
 use redl_outline::{package, part};
-use redl_page::{Shown, Skin, put_document, write_page};
+use redl_page::{Shown, Skin, write_page};
+use redl_page_stories::put_document;
 use std::alloc::{AllocError, Global};
 use std::test::Fail;
 

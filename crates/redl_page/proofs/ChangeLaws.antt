@@ -11,11 +11,11 @@ use Rattle.redl_join.specs.LastWords.{last_words}
 use Rattle.redl_join.specs.Verdicts.{verdict_at}
 use Rattle.redl_join.specs.declared.verdict.Verdict.{Verdict}
 use Rattle.redl_formats.specs.Dates.{date_text}
-use Rattle.redl_page.specs.Changes.{change, change_head, change_state, changes, saying, verdict_before, locked_before, reviewer_item, reviewers_after, is_last}
-use Rattle.redl_page.specs.Escaping.{escaped}
-use Rattle.redl_page.specs.Pieces.{own, opens_item, has_item, pieces_text}
-use Rattle.redl_page.proofs.NumberLaws.{has-left, has-right}
-use Rattle.redl_page.proofs.PieceLaws.{pieces_text-append}
+use Rattle.redl_page.specs.Changes.{opens_item, has_item, change, change_head, change_state, changes, saying, verdict_before, locked_before, reviewer_item, reviewers_after, is_last}
+use Rattle.redl_html.specs.Escaping.{escaped}
+use Rattle.redl_html.specs.Pieces.{own, pieces_text}
+use Rattle.redl_html.proofs.NumberLaws.{has-left, has-right}
+use Rattle.redl_html.proofs.PieceLaws.{pieces_text-append}
 
 -- ---- what is written
 

@@ -4,10 +4,10 @@ use Rattle.redl_journal.specs.declared.entry.Entry.{Entry}
 use Rattle.redl_opc.specs.Shape.{parts_of}
 use Rattle.redl_shown.specs.Shown.{shown}
 use Rattle.redl_page.specs.Changes.{changes, reviewers}
-use Rattle.redl_page.specs.Document.{sections}
+use Rattle.redl_page_stories.specs.Document.{sections}
 use Rattle.redl_page.specs.Page.{Shown, body, body_head, lists, reviewer_list}
-use Rattle.redl_page.specs.Pieces.{pieces_text}
-use Rattle.redl_page.proofs.PieceLaws.{pieces_text-append}
+use Rattle.redl_html.specs.Pieces.{pieces_text}
+use Rattle.redl_html.proofs.PieceLaws.{pieces_text-append}
 
 pub reviewer_list-text : (book : List Entry) → pieces_text (reviewer_list book) ≡ codes "</ol>\n<ul>\n" ++ (pieces_text (reviewers book) ++ codes "</ul>\n</aside>\n<script>")
 reviewer_list-text book = ap (λ l. codes "</ol>\n<ul>\n" ++ l) (pieces_text-append (reviewers book) _)

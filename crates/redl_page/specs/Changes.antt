@@ -1,7 +1,7 @@
 -- The list of changes beside the document (our own rule): an item for each revision in the order of the numbers, with the last words
 -- of each reviewer on it; and the reviewers, each with the greatest sequence number of their entries.
 use Prim.Native.String.{String}
-use Rattle.std.specs.Prelude.{ℕ, List, [], ◌∷◌, ◌++◌, Bool, true, false, Option, Some, None, if◌then◌else◌}
+use Rattle.std.specs.Prelude.{ℕ, List, [], ◌∷◌, ◌++◌, Bool, true, false, Option, Some, None, codes, if◌then◌else◌}
 use Rattle.std.specs.List.{flat_map}
 use Rattle.std.specs.Str.{bytes_eq}
 use Rattle.redl_index.specs.KindNames.{kind_name}
@@ -14,7 +14,7 @@ use Rattle.redl_join.specs.Verdicts.{verdict_at, greatest_seq}
 use Rattle.redl_join.specs.declared.verdict.Verdict.{Verdict}
 use Rattle.redl_join.specs.declared.verdict.Verdict.TheVariants as verdict
 use Rattle.redl_formats.specs.Dates.{date_text}
-use Rattle.redl_page.specs.Pieces.{Piece, own, number, outside}
+use Rattle.redl_html.specs.Pieces.{Piece, own, number, outside, ends_in, has_number}
 
 -- ---- a revision
 
@@ -77,3 +77,15 @@ reviewers_after book last (entry ∷ entries) =
 
 abbrev pub reviewers : List Entry → List Piece
 reviewers book = reviewers_after book None book
+
+-- ---- items with a number
+
+-- the number of a revision comes next, as the name of its item in the list of changes
+abbrev pub opens_item : Piece → Bool
+opens_item (own text) = ends_in (codes "<li id=\"revision-") (codes text)
+opens_item (number n) = false
+opens_item (outside text) = false
+
+-- the list of changes has an item of this revision
+abbrev pub has_item : ℕ → List Piece → Bool
+has_item rev pieces = has_number opens_item rev pieces

@@ -1,9 +1,3 @@
-pub mod Escaping
-pub mod Pieces
-pub mod Signs
-pub mod Shapes
-pub mod Document
 pub mod Changes
 pub mod Page
 pub mod PageViews
-pub mod Inside

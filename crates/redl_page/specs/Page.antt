@@ -7,8 +7,8 @@ use Rattle.redl_opc.specs.Shape.{parts_of}
 use Rattle.redl_index.specs.declared.revision.Revision.{Revision}
 use Rattle.redl_journal.specs.declared.entry.Entry.{Entry}
 use Rattle.redl_shown.specs.Shown.{shown}
-use Rattle.redl_page.specs.Pieces.{Piece, own, number, outside, pieces_text}
-use Rattle.redl_page.specs.Document.{sections}
+use Rattle.redl_html.specs.Pieces.{Piece, own, number, outside, pieces_text}
+use Rattle.redl_page_stories.specs.Document.{sections}
 use Rattle.redl_page.specs.Changes.{changes, reviewers}
 
 -- what stands as it is in the page: the content security policy, the style and the script

@@ -10,12 +10,12 @@ ghost use Rattle.redl_join.specs.LastWords.{last_words, words_on};
 ghost use Rattle.redl_formats.specs.Dates.{date_text, moment_text};
 ghost use Rattle.redl_stamp.specs.Moment.{IsMoment};
 ghost use Rattle.redl_page.specs.Changes.{change, change_head, change_state, changes, locked_before, saying, verdict_before, word_before};
-ghost use Rattle.redl_page.specs.Escaping.{escaped};
-ghost use Rattle.redl_page.specs.Pieces.{pieces_text};
+ghost use Rattle.redl_html.specs.Escaping.{escaped};
+ghost use Rattle.redl_html.specs.Pieces.{pieces_text};
 
-use crate::escape::put_escaped;
 use itoa::Buffer;
 use redl_formats::moment_text;
+use redl_html::put_escaped;
 use redl_index::{Index, Revision};
 use redl_io::{Failed, Sink, put_piece, put_pieces};
 use redl_join::{Book, LastWords, Verdict};

@@ -5,18 +5,18 @@ ghost use Rattle.hex.specs.Hex.{encode_lower};
 ghost use Rattle.redl_io.specs.Sink.{Puts};
 ghost use Rattle.redl_join.specs.LastWords.{last_words, words_on};
 ghost use Rattle.redl_page.specs.Page.{body, body_head, end_text, head_text, lists, page_text, reviewer_list};
-ghost use Rattle.redl_page.specs.Pieces.{pieces_text};
+ghost use Rattle.redl_html.specs.Pieces.{pieces_text};
 ghost use Rattle.redl_page.specs.PageViews.{shown_by, skin_view};
 
 use crate::changes::put_changes;
-use crate::escape::put_escaped;
 use crate::reviewers::put_reviewers;
-use crate::sections::put_document;
 use itoa::Buffer;
+use redl_html::put_escaped;
 use redl_index::Index;
 use redl_io::{Failed, Sink, put_piece, put_pieces};
 use redl_join::{Book, LastWords};
 use redl_opc::Package;
+use redl_page_stories::put_document;
 
 /// What the program brings to every page, and what stands in it as it is: the content security policy, which is the value of an
 /// attribute between quotes, the style, and the script.

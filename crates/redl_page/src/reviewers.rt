@@ -3,10 +3,10 @@
 ghost use Rattle.std.specs.Prelude.{◌≡◌, [], option_map, if◌then◌else◌};
 ghost use Rattle.redl_io.specs.Sink.{Puts};
 ghost use Rattle.redl_page.specs.Changes.{is_last, reviewer_item, reviewers};
-ghost use Rattle.redl_page.specs.Pieces.{pieces_text};
+ghost use Rattle.redl_html.specs.Pieces.{pieces_text};
 
-use crate::escape::put_escaped;
 use itoa::Buffer;
+use redl_html::put_escaped;
 use redl_io::{Failed, Sink, put_piece, put_pieces};
 use redl_join::Book;
 

@@ -1,7 +1,7 @@
 use Rattle.std.proofs.Common.{ap, sym, ◌++◌, codes}
 use Rattle.redl_io.proofs.Puts.{puts_then, puts_fails}
 use Rattle.redl_formats.specs.Dates.{date_text}
-use Rattle.redl_page.specs.Escaping.{escaped}
+use Rattle.redl_html.specs.Escaping.{escaped}
 use Rattle.redl_page.proofs.changes.put_author_and_date.Goals as goal
 
 pub returns-in_err-put_attribute : goal.returns-in_err-put_attribute

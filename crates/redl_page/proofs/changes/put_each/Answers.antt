@@ -3,7 +3,7 @@ use Rattle.std.specs.Map.Iter.{deref}
 use Rattle.redl_io.proofs.Puts.{so_far_goes_on, so_far_stops, so_far_ends}
 use Rattle.redl_join.specs.LastWords.{last_words}
 use Rattle.redl_page.specs.Changes.{change, changes}
-use Rattle.redl_page.specs.Pieces.{pieces_text}
+use Rattle.redl_html.specs.Pieces.{pieces_text}
 use Rattle.redl_page.proofs.ChangeLaws.{changes-here, changes-end}
 use Rattle.redl_page.proofs.changes.put_each.Goals as goal
 

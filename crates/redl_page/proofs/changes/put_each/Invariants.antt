@@ -1,7 +1,7 @@
 use Rattle.std.proofs.Common.{drop}
 use Rattle.redl_io.proofs.Puts.{PutsSoFar}
 use Rattle.redl_page.specs.Changes.{changes}
-use Rattle.redl_page.specs.Pieces.{pieces_text}
+use Rattle.redl_html.specs.Pieces.{pieces_text}
 use Rattle.redl_page.proofs.changes.put_each.Given as goal
 
 abbrev pub invariant-loop-place : goal.invariant-loop-place

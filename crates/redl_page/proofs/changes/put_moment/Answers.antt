@@ -1,8 +1,8 @@
 use Rattle.std.proofs.Common.{◌≡◌, ap, sym, ◌∙◌, ◌++◌, codes, to_z, of_z, w64, SFits, rules}
 use Rattle.std.proofs.lemmas.Int.{to_z-of_z}
 use Rattle.redl_formats.specs.Dates.{moment_text}
-use Rattle.redl_page.specs.Escaping.{escaped}
-use Rattle.redl_page.proofs.PieceLaws.{puts_is}
+use Rattle.redl_html.specs.Escaping.{escaped}
+use Rattle.redl_html.proofs.PieceLaws.{puts_is}
 use Rattle.redl_page.proofs.changes.put_moment.Goals as goal
 
 pub returns : goal.returns

@@ -1,6 +1,6 @@
 use Rattle.std.proofs.Common.{ap, sym, ◌++◌, append-nil, codes}
 use Rattle.std.specs.Prelude.{decimal}
-use Rattle.redl_page.proofs.PieceLaws.{puts_is}
+use Rattle.redl_html.proofs.PieceLaws.{puts_is}
 use Rattle.redl_page.proofs.changes.put_number.Goals as goal
 
 pub returns : goal.returns

@@ -1,6 +1,6 @@
 use Rattle.std.proofs.Common.{refl, ap, sym, ◌∙◌, ◌++◌, codes}
 use Rattle.redl_io.proofs.Puts.{puts_then, puts_fails}
-use Rattle.redl_page.specs.Escaping.{escaped}
+use Rattle.redl_html.specs.Escaping.{escaped}
 use Rattle.std.specs.Prelude.{decimal}
 use Rattle.redl_page.proofs.changes.put_number_and_kind.Goals as goal
 

@@ -4,7 +4,7 @@ use Rattle.std.specs.List.{flat_map}
 use Rattle.std.specs.Map.Iter.{deref}
 use Rattle.redl_io.proofs.Puts.{so_far_goes_on, so_far_stops, so_far_ends}
 use Rattle.redl_page.specs.Changes.{saying}
-use Rattle.redl_page.specs.Pieces.{pieces_text}
+use Rattle.redl_html.specs.Pieces.{pieces_text}
 use Rattle.redl_page.proofs.ChangeLaws.{sayings-more}
 use Rattle.redl_page.proofs.changes.put_sayings.Goals as goal
 

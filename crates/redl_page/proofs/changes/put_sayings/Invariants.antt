@@ -3,7 +3,7 @@ use Rattle.std.specs.List.{flat_map}
 use Rattle.std.specs.Map.Iter.{deref}
 use Rattle.redl_io.proofs.Puts.{PutsSoFar}
 use Rattle.redl_page.specs.Changes.{saying}
-use Rattle.redl_page.specs.Pieces.{pieces_text}
+use Rattle.redl_html.specs.Pieces.{pieces_text}
 use Rattle.redl_page.proofs.changes.put_sayings.Given as goal
 
 abbrev pub invariant-loop-entry : goal.invariant-loop-entry

@@ -1,7 +1,7 @@
 use Rattle.std.proofs.Common.{ap, sym, ◌++◌, append-nil}
 use Rattle.redl_page.specs.Page.{before_policy, before_style}
-use Rattle.redl_page.specs.Pieces.{pieces_text}
-use Rattle.redl_page.proofs.PieceLaws.{puts_is}
+use Rattle.redl_html.specs.Pieces.{pieces_text}
+use Rattle.redl_html.proofs.PieceLaws.{puts_is}
 use Rattle.redl_page.proofs.page.put_head.Goals as goal
 
 pub returns : goal.returns

@@ -2,8 +2,8 @@ use Rattle.std.proofs.Common.{codes, ◌++◌, refl}
 use Rattle.std.specs.Prelude.{decimal}
 use Rattle.redl_io.proofs.Puts.{puts_then, puts_fails}
 use Rattle.redl_join.specs.Verdicts.{greatest_seq}
-use Rattle.redl_page.specs.Escaping.{escaped}
-use Rattle.redl_page.proofs.PieceLaws.{three_then}
+use Rattle.redl_html.specs.Escaping.{escaped}
+use Rattle.redl_html.proofs.PieceLaws.{three_then}
 use Rattle.redl_page.proofs.reviewers.put_reviewer.Goals as goal
 
 pub returns-in_err-put_pieces : goal.returns-in_err-put_pieces

@@ -2,7 +2,7 @@ use Rattle.std.proofs.Common.{ap, sym, ◌∙◌, ◌++◌, [], Some, option_map
 use Rattle.std.specs.Prelude.{if◌then◌else◌}
 use Rattle.redl_io.proofs.Puts.{so_far_begins, so_far_goes_on, so_far_stops, so_far_ends}
 use Rattle.redl_page.specs.Changes.{is_last, reviewer_item, reviewers_after}
-use Rattle.redl_page.specs.Pieces.{pieces_text}
+use Rattle.redl_html.specs.Pieces.{pieces_text}
 use Rattle.redl_page.proofs.ChangeLaws.{reviewers-more}
 use Rattle.redl_page.proofs.reviewers.put_reviewers.Goals as goal
 

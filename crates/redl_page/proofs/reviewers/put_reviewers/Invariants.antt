@@ -1,7 +1,7 @@
 use Rattle.std.proofs.Common.{option_map}
 use Rattle.redl_io.proofs.Puts.{PutsSoFar}
 use Rattle.redl_page.specs.Changes.{reviewers, reviewers_after}
-use Rattle.redl_page.specs.Pieces.{pieces_text}
+use Rattle.redl_html.specs.Pieces.{pieces_text}
 use Rattle.redl_page.proofs.reviewers.put_reviewers.Given as goal
 
 abbrev pub invariant-loop-entry : goal.invariant-loop-entry

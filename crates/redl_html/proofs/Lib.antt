@@ -1,0 +1,4 @@
+mod EscapingRows
+pub mod EscapingLaws
+pub mod PieceLaws
+pub mod NumberLaws

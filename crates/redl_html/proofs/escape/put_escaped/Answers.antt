@@ -1,0 +1,14 @@
+use Rattle.redl_io.proofs.Puts.{puts_then, puts_fails}
+use Rattle.redl_html.specs.Escaping.{waiting}
+use Rattle.std.proofs.Common.{ap, sym, ◌∙◌, ◌++◌, false}
+use Rattle.redl_html.specs.Escaping.{escaped_so_far}
+use Rattle.redl_html.proofs.EscapingLaws.{escaped_from-so_far}
+use Rattle.redl_html.proofs.escape.put_escaped.Goals as goal
+
+pub returns-in_err-waits : goal.returns-in_err-waits
+returns-in_err-waits g c = puts_fails _ (escaped_from-so_far false c.args.text.now) c.from_residual.ensures.1 c.in_err-waits.ensures.puts
+
+pub returns : goal.returns
+returns g c =
+    puts_then (escaped_from-so_far false c.args.text.now ∙ ap (λ w. escaped_so_far false c.args.text.now ++ waiting w) (sym c.in_ok-waits.ensures.waits))
+    c.in_ok-waits.ensures.puts c.put_waiting.ensures

@@ -1,0 +1,13 @@
+//! Texts from outside in HTML: bytes of a document, an author or a reviewer go in, and come out as text that no browser reads as
+//! markup.
+//!
+//! Read `put_escaped`. A page is a list of pieces, of `specs/Pieces.antt`: a text of the program's own, a number, or a text from
+//! outside, which alone holds bytes and is written escaped. `put_part` and `put_waiting` put a text that comes in parts.
+//! Which pieces a page has is left to the crates above.
+#![tactic(auto)]
+
+mod escape;
+mod laws;
+
+pub use escape::{put_escaped, put_part, put_waiting};
+pub use laws::texts_from_outside_are_safe;

@@ -1,8 +1,0 @@
-use Rattle.std.proofs.Common.{refl}
-use Rattle.redl_page.proofs.sign.text_before.Goals as goal
-
-pub returns-in-Plain : goal.returns-in-Plain
-returns-in-Plain c = rw c.in-Plain.is refl
-
-pub returns-in-Marker : goal.returns-in-Marker
-returns-in-Marker c = rw c.in-Marker.is refl

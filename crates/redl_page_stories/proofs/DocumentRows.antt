@@ -1,0 +1,84 @@
+-- Worked rows: what is written of nodes.
+use Prim.Native.String.{String}
+use Rattle.std.proofs.Common.{◌≡◌, ℕ, List, [], ◌∷◌, None, codes, refl}
+use Rattle.redl_tree.specs.Model.Nodes.{Nodes, no_nodes, Empty, ◌⊕◌}
+use Rattle.redl_tree.specs.declared.kinds.Trace.TheVariants.{Ins, Del, From}
+use Rattle.redl_tree.specs.declared.kinds.Prop.TheVariants as props
+use Rattle.redl_tree.specs.declared.kinds.Kind.TheVariants.{Mark, Row, Cell, Change, Marker}
+use Rattle.redl_tree.proofs.Model.Build.{opened, opened_with, closed, member, content, words, run, deleted_run}
+use Rattle.redl_index.specs.declared.revision.RevKind.TheVariants as revisions
+use Rattle.redl_index.specs.declared.revision.Revision.{Revision}
+use Rattle.redl_markup.specs.Attributes.{attributes_of}
+use Rattle.redl_markup.specs.Characters.{is_name_start, is_name_character, is_space}
+use Rattle.redl_markup.specs.Names.{may_start, may_follow}
+use Rattle.redl_markup.specs.References.{reference_at, named_at}
+use Rattle.redl_markup.specs.ScanNames.{name_at, word_at, char_at, name_end, name_step}
+use Rattle.redl_markup.specs.ScanTags.{attribute_in, attribute_at, equated_at, quoted_at, quote_at, is_value}
+use Rattle.redl_reading.specs.Lists.{field_at}
+use Rattle.redl_shown.specs.Shown.{shown}
+use Rattle.redl_page_stories.specs.Document.{nodes_pieces, in_story}
+use Rattle.redl_html.specs.Pieces.{pieces_text}
+use Rattle.std.specs.Fmt.{digits}
+use lib.Utf8.{encode}
+
+abbrev revision_by : ℕ → String → Revision
+revision_by number author = record { number = number; kind = revisions.Content Ins; author = codes author; seconds = None; part = 0; members = 1 }
+
+abbrev authors : List Revision
+authors = revision_by 1 "Ann & Co" ∷ revision_by 2 "Bob" ∷ []
+
+abbrev written : Nodes → List ℕ
+written nodes = pieces_text (nodes_pieces shown authors in_story nodes)
+
+paragraph : Nodes
+paragraph =
+    opened "p" (opened "pPr" (opened "rPr" (member (Mark Ins) 1 "ins" "" Empty no_nodes)) ⊕ run "Terms " ⊕ content Del 2 "del" "" (deleted_run "of &lt;sale&gt;"))
+
+decided : written paragraph
+    ≡ codes "<p>Terms <del class=\"text\" data-revision=\"2\" data-author=\"Bob\">of &lt;sale&gt;</del><ins class=\"mark\" data-revision=\"1\" data-author=\"Ann &amp; Co\">&para;</ins></p>\n"
+unfolding paragraph digits reference_at named_at encode
+decided = refl
+
+table : Nodes
+table =
+    opened "tbl" (opened "tr" (opened "trPr" (member (Row Del) 2 "del" "" Empty no_nodes)
+    ⊕ opened "tc" (opened "tcPr" (member (Cell Ins) 1 "cellIns" "" Empty no_nodes) ⊕ opened "p" (run "Rope"))))
+
+rows : written table
+    ≡ codes "<table>\n<tr><td class=\"edge\"><del class=\"row\" data-revision=\"2\" data-author=\"Bob\">row</del></td><td><ins class=\"cell\" data-revision=\"1\" data-author=\"Ann &amp; Co\">cell</ins><p>Rope</p>\n</td></tr>\n</table>\n"
+unfolding table digits
+rows = refl
+
+change : Nodes
+change = opened "p" (opened "r" (opened "rPr" (member (Change props.Run) 2 "rPrChange" "" Empty no_nodes) ⊕ closed "tab" "" ⊕ opened "t" (words "x") ⊕ closed "br" ""))
+
+properties : written change ≡ codes "<p><span class=\"props\" data-revision=\"2\" data-author=\"Bob\">run-props</span>\tx<br></p>\n"
+unfolding change digits
+properties = refl
+
+-- a text box in a paragraph, and text that is no element of a text
+box : Nodes
+box = opened "p" (opened "r" (opened "pict" (opened "txbxContent" (opened "p" (run "in")))) ⊕ words " ")
+
+held : written box ≡ codes "<div class=\"p\"><span class=\"picture\">picture</span><span class=\"box\"><p>in</p>\n</span></div>\n"
+unfolding box
+held = refl
+
+move : Nodes
+move = opened "p" (member Marker 1 "moveFromRangeStart" "" Empty no_nodes ⊕ content From 1 "moveFrom" "" (run "a") ⊕ member Marker 1 "moveFromRangeEnd" "" Empty no_nodes)
+
+moved : written move
+    ≡ codes "<p><a id=\"from-1\" href=\"#to-1\" data-revision=\"1\" data-author=\"Ann &amp; Co\">moved away</a><del class=\"text move\" data-revision=\"1\" data-author=\"Ann &amp; Co\">a</del></p>\n"
+unfolding move digits
+moved = refl
+
+-- a heading with a note: its style and its bold run are shown; what is switched off and a separator of notes are not
+heading : Nodes
+heading =
+    opened "p" (opened "pPr" (closed "pStyle" " w:val=\"Heading1\"")
+    ⊕ opened "r" (opened "rPr" (closed "b" "" ⊕ closed "i" " w:val=\"0\"") ⊕ opened "t" (words "Price") ⊕ closed "footnoteReference" " w:id=\"3\""))
+    ⊕ opened_with "footnote" " w:type=\"separator\" w:id=\"0\"" no_nodes
+
+shown_heading : written heading ≡ codes "<p data-style=\"Heading1\"><b>Price<sup>3</sup></b></p>\n"
+unfolding heading attributes_of attribute_in attribute_at name_at word_at char_at name_end name_step may_start may_follow is_name_start is_name_character is_space equated_at quoted_at field_at quote_at is_value
+shown_heading = refl

@@ -1,0 +1,7 @@
+mod DocumentRows
+mod IdleRows
+pub mod PastLaws
+pub mod NodeLaws
+pub mod EmphasisLaws
+pub mod IdleLaws
+pub mod MemberLaws

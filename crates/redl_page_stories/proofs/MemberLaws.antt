@@ -1,0 +1,282 @@
+-- Each member of a revision has an element with the number of the revision.
+use Rattle.std.proofs.Common.{◌≡◌, ℕ, List, [], ◌∷◌, ◌++◌, filter_map, Bool, true, false, ◌&&◌, ◌||◌, not, ◌⊎◌, inl, inr, Option, Some, None, option_map, refl, sym, ap, ◌∙◌, subst, eqb, if◌then◌else◌}
+use Rattle.std.proofs.lemmas.Bool.{and_parts, or_left, or_cases, and_from}
+use Rattle.std.specs.List.{list_any, cons_option}
+use Rattle.redl_tree.specs.Model.Nodes.{Tag, Nodes, no_nodes, bytes, element}
+use Rattle.redl_tree.specs.Roles.Names.{is}
+use Rattle.redl_tree.specs.Roles.Places.{is_quiet, is_open, within, is_range_edge, role, placed, first_role, change_at, in_mark_props, in_para_props, in_props, in_row_props, in_cell_props, trace_of, row_trace_of, cell_trace_of, prop_of}
+use Rattle.redl_tree.specs.Decisions.Packages.{is_story_root, stories}
+use Rattle.redl_tree.specs.Revisions.Markers.{Value}
+use Rattle.redl_tree.specs.Revisions.Numbers.{IsIndexed}
+use Rattle.redl_tree.specs.declared.kinds.Trace.{Trace}
+use Rattle.redl_tree.specs.declared.kinds.Trace.TheVariants.{Ins, Del, From, To}
+use Rattle.redl_tree.specs.declared.kinds.Prop.{Prop}
+use Rattle.redl_tree.specs.declared.kinds.Prop.TheVariants as props
+use Rattle.redl_tree.specs.declared.kinds.Kind.{Kind}
+use Rattle.redl_tree.specs.declared.kinds.Kind.TheVariants.{Plain, Content, Mark, Row, Cell, Change, Marker}
+use Rattle.redl_tree.proofs.Roles.Named.{by_name, by_names}
+use Rattle.redl_tree.proofs.Roles.Fits.{Fits, AllFit, OpenKind, plain, content, marker, open_fits}
+use Rattle.redl_laws.proofs.Survival.Indexed.{IsStory, AreStories, indexed_stories}
+use Rattle.redl_index.specs.declared.revision.Revision.{Revision}
+use Rattle.redl_opc.specs.Elements.{Element}
+use Rattle.redl_opc.specs.Parts.{name_in}
+use Rattle.redl_opc.specs.Shape.{parts_of, story_of, refusal}
+use Rattle.redl_opc.proofs.StoryLaws.{stories-parts}
+use Rattle.redl_page_stories.specs.declared.marks.Depth.TheVariants.{Kids, Properties, RunProperties}
+use Rattle.redl_page_stories.specs.declared.place.Place.{Place}
+use Rattle.redl_page_stories.specs.declared.shape.Shape.TheVariants.{Division, Paragraph}
+use Rattle.redl_html.specs.Pieces.{own}
+use Rattle.redl_html.proofs.NumberLaws.{has-left, has-right}
+use Rattle.redl_page_stories.specs.Shapes.{shape_of, holds_blocks}
+use Rattle.redl_page_stories.specs.Signs.{opens_number, has_element, before, member, is_member, has_member}
+use Rattle.redl_page_stories.specs.Document.{marks_in, bytes_pieces, start_as, end_as, inside, element_pieces, nodes_pieces, in_story, section_head, section, section_in, sections, is_first_after}
+use Rattle.redl_page_stories.specs.Inside.Items.{element_marks}
+
+-- ---- the element of a member
+
+opens_before : (kind : Kind) → is_member kind ≡ true → opens_number (own (before kind)) ≡ true
+opens_before Plain h = cc
+opens_before (Content Ins) h = refl
+opens_before (Content Del) h = refl
+opens_before (Content From) h = refl
+opens_before (Content To) h = refl
+opens_before (Mark Ins) h = refl
+opens_before (Mark Del) h = refl
+opens_before (Mark From) h = refl
+opens_before (Mark To) h = refl
+opens_before (Row Ins) h = refl
+opens_before (Row Del) h = refl
+opens_before (Row From) h = refl
+opens_before (Row To) h = refl
+opens_before (Cell Ins) h = refl
+opens_before (Cell Del) h = refl
+opens_before (Cell From) h = refl
+opens_before (Cell To) h = refl
+opens_before (Change props.Run) h = refl
+opens_before (Change props.Para) h = refl
+opens_before (Change props.Sect) h = refl
+opens_before (Change props.Table) h = refl
+opens_before (Change props.Except) h = refl
+opens_before (Change props.Row) h = refl
+opens_before (Change props.Cell) h = refl
+opens_before Marker h = cc
+
+member-has : (revisions : List Revision) (kind : Kind) (rev v : ℕ) → is_member kind ≡ true → eqb rev v ≡ true → has_element v (member revisions kind rev) ≡ true
+member-has revisions kind rev v h e =
+    or_left (opens_number (own (before kind)) && eqb rev v) _ (and_from (opens_number (own (before kind))) (eqb rev v) (opens_before kind h) e)
+
+-- ---- roles
+
+past_content : (o : Bool) (t : Option Trace) (kinds : List (Option Kind)) (trace : Trace) → first_role (placed o (option_map Content t) ∷ kinds) ≡ Mark trace → first_role kinds ≡ Mark trace
+past_content true None kinds trace e = e
+past_content true (Some x) kinds trace e = cc
+past_content false t kinds trace e = e
+
+past_row : (o : Bool) (t : Option Trace) (kinds : List (Option Kind)) (trace : Trace) → first_role (placed o (option_map Row t) ∷ kinds) ≡ Mark trace → first_role kinds ≡ Mark trace
+past_row true None kinds trace e = e
+past_row true (Some x) kinds trace e = cc
+past_row false t kinds trace e = e
+
+past_cell : (o : Bool) (t : Option Trace) (kinds : List (Option Kind)) (trace : Trace) → first_role (placed o (option_map Cell t) ∷ kinds) ≡ Mark trace → first_role kinds ≡ Mark trace
+past_cell true None kinds trace e = e
+past_cell true (Some x) kinds trace e = cc
+past_cell false t kinds trace e = e
+
+no_change : (ancestors : List Tag) (prop : Option Prop) (trace : Trace) → first_role (change_at ancestors prop ∷ []) ≡ Mark trace → ⊥
+no_change ancestors None trace e = cc
+no_change ancestors (Some prop) trace e = at (in_props prop ancestors) e
+  where
+    at : (b : Bool) → first_role (placed b (Some (Change prop)) ∷ []) ≡ Mark trace → ⊥
+    at true e = cc
+    at false e = cc
+
+-- an element with the role of a mark is in the run properties of a paragraph's mark
+mark_place : (ancestors : List Tag) (tag : Tag) (trace : Trace) → role ancestors tag ≡ Mark trace → in_mark_props ancestors ≡ true
+mark_place ancestors tag trace e = at (in_mark_props ancestors) (past_content (is_open ancestors) (trace_of tag) _ trace e)
+  where
+    at : (m : Bool) → first_role (placed m (option_map Mark (trace_of tag)) ∷ placed (in_row_props ancestors) (option_map Row (row_trace_of tag)) ∷ placed (in_cell_props ancestors) (option_map Cell (cell_trace_of tag)) ∷ change_at ancestors (prop_of tag) ∷ []) ≡ Mark trace → m ≡ true
+    at true h = refl
+    at false h =
+        absurd (no_change ancestors (prop_of tag) trace (past_cell (in_cell_props ancestors) (cell_trace_of tag) _ trace (past_row (in_row_props ancestors) (row_trace_of tag) _ trace h)))
+
+fits_mark : (ancestors : List Tag) (tag : Tag) (trace : Trace) → Fits ancestors tag → tag.kind ≡ Mark trace → in_mark_props ancestors ≡ true
+fits_mark ancestors tag trace (inl r) k = mark_place ancestors tag trace (sym r ∙ k)
+fits_mark ancestors tag trace (inr m) k = absurd (differ (sym m.kind ∙ k))
+  where
+    differ : Marker ≡ Mark trace → ⊥
+    differ e = cc
+
+-- an open paragraph is in no revision
+paragraph_plain : (ancestors : List Tag) (tag : Tag) → is "p" tag ≡ true → is_open ancestors ≡ true → Fits ancestors tag → tag.kind ≡ Plain
+paragraph_plain ancestors tag p o fit = at (open_fits ancestors tag o fit) (by_name (λ t. trace_of t ≡ None) "p" tag p refl) (by_name (λ t. is_range_edge t ≡ false) "p" tag p refl)
+  where
+    at : OpenKind tag → trace_of tag ≡ None → is_range_edge tag ≡ false → tag.kind ≡ Plain
+    at (plain k t) none edge = k
+    at (content t k e) none edge = cc
+    at (marker k e) none edge = cc
+
+-- ---- where marks wait for the end of their paragraph
+
+-- the element waits among the marks of a paragraph, of which these nodes are the kids, the properties, or the run properties
+data Waits (revisions : List Revision) (v : ℕ) (ancestors : List Tag) (nodes : Nodes) : Type 0 where
+  in_run : in_mark_props ancestors ≡ true → has_element v (marks_in revisions RunProperties nodes) ≡ true → Waits revisions v ancestors nodes
+  in_para : in_para_props ancestors ≡ true → has_element v (marks_in revisions Properties nodes) ≡ true → Waits revisions v ancestors nodes
+  in_kids : within ("p" ∷ []) ancestors ≡ true → has_element v (marks_in revisions Kids nodes) ≡ true → Waits revisions v ancestors nodes
+
+-- a node more before these
+waits_rest : (revisions : List Revision) (v : ℕ) (ancestors : List Tag) (tag : Tag) (kids rest : Nodes) → Waits revisions v ancestors rest → Waits revisions v ancestors (element tag kids rest)
+waits_rest revisions v ancestors tag kids rest (in_run p h) = in_run p (has-right opens_number v (element_marks revisions RunProperties tag kids) (marks_in revisions RunProperties rest) h)
+waits_rest revisions v ancestors tag kids rest (in_para p h) = in_para p (has-right opens_number v (element_marks revisions Properties tag kids) (marks_in revisions Properties rest) h)
+waits_rest revisions v ancestors tag kids rest (in_kids p h) = in_kids p (has-right opens_number v (element_marks revisions Kids tag kids) (marks_in revisions Kids rest) h)
+
+waits_bytes : (revisions : List Revision) (v : ℕ) (ancestors : List Tag) (b : List ℕ) (rest : Nodes) → Waits revisions v ancestors rest → Waits revisions v ancestors (bytes b rest)
+waits_bytes revisions v ancestors b rest (in_run p h) = in_run p h
+waits_bytes revisions v ancestors b rest (in_para p h) = in_para p h
+waits_bytes revisions v ancestors b rest (in_kids p h) = in_kids p h
+
+-- the member itself
+waits_here : (revisions : List Revision) (v : ℕ) (ancestors : List Tag) (tag : Tag) (kids rest : Nodes) (trace : Trace) → tag.kind ≡ Mark trace → eqb tag.rev v ≡ true → in_mark_props ancestors ≡ true
+    → Waits revisions v ancestors (element tag kids rest)
+waits_here revisions v ancestors tag kids rest trace k e p =
+    in_run p (has-left opens_number v (element_marks revisions RunProperties tag kids) (marks_in revisions RunProperties rest)
+    (rw k (member-has revisions (Mark trace) tag.rev v refl e)))
+
+-- ---- nodes
+
+module _ (shown : List ℕ → List ℕ) (revisions : List Revision) (v : ℕ) where
+  abbrev Found : Place → List Tag → Nodes → Type 0
+  Found place ancestors nodes = (has_element v (nodes_pieces shown revisions place nodes) ≡ true) ⊎ Waits revisions v ancestors nodes
+
+  found_start : (place : Place) (ancestors : List Tag) (tag : Tag) (kids rest : Nodes) → has_element v (start_as revisions (shape_of place.loud tag kids) tag kids tag.kind) ≡ true → Found place ancestors (element tag kids rest)
+  found_start place ancestors tag kids rest h =
+      inl (has-left opens_number v (element_pieces revisions place tag kids (nodes_pieces shown revisions (inside tag place) kids)) (nodes_pieces shown revisions place rest)
+      (has-left opens_number v (start_as revisions (shape_of place.loud tag kids) tag kids tag.kind) (nodes_pieces shown revisions (inside tag place) kids ++ end_as revisions (shape_of place.loud tag kids) kids tag.kind) h))
+
+  found_inner : (place : Place) (ancestors : List Tag) (tag : Tag) (kids rest : Nodes) → has_element v (nodes_pieces shown revisions (inside tag place) kids ++ end_as revisions (shape_of place.loud tag kids) kids tag.kind) ≡ true →
+      Found place ancestors (element tag kids rest)
+  found_inner place ancestors tag kids rest h =
+      inl (has-left opens_number v (element_pieces revisions place tag kids (nodes_pieces shown revisions (inside tag place) kids)) (nodes_pieces shown revisions place rest)
+      (has-right opens_number v (start_as revisions (shape_of place.loud tag kids) tag kids tag.kind) (nodes_pieces shown revisions (inside tag place) kids ++ end_as revisions (shape_of place.loud tag kids) kids tag.kind) h))
+
+  -- an element that is a member
+  found_here : (place : Place) (ancestors : List Tag) (tag : Tag) (kids rest : Nodes) (kind : Kind) → tag.kind ≡ kind → is_member kind ≡ true → eqb tag.rev v ≡ true → Fits ancestors tag →
+      Found place ancestors (element tag kids rest)
+  found_here place ancestors tag kids rest Plain k m e fit = cc
+  found_here place ancestors tag kids rest (Content trace) k m e fit =
+      found_start place ancestors tag kids rest (rw k (member-has revisions (Content trace) tag.rev v refl e))
+  found_here place ancestors tag kids rest (Mark trace) k m e fit = inr (waits_here revisions v ancestors tag kids rest trace k e (fits_mark ancestors tag trace fit k))
+  found_here place ancestors tag kids rest (Row trace) k m e fit = found_start place ancestors tag kids rest (rw k (member-has revisions (Row trace) tag.rev v refl e))
+  found_here place ancestors tag kids rest (Cell trace) k m e fit = found_start place ancestors tag kids rest (rw k (member-has revisions (Cell trace) tag.rev v refl e))
+  found_here place ancestors tag kids rest (Change prop) k m e fit = found_start place ancestors tag kids rest (rw k (member-has revisions (Change prop) tag.rev v refl e))
+  found_here place ancestors tag kids rest Marker k m e fit = cc
+
+  -- the end of an open paragraph has its marks
+  paragraph_end : (tag : Tag) (kids : Nodes) (loud : Bool) → loud ≡ true → is "p" tag ≡ true → tag.kind ≡ Plain → has_element v (marks_in revisions Kids kids) ≡ true →
+      has_element v (end_as revisions (shape_of loud tag kids) kids tag.kind) ≡ true
+  paragraph_end tag kids loud o p k h = rw (k, o, p) (at (holds_blocks kids))
+    where
+      at : (b : Bool) → has_element v (end_as revisions (if b then Division else Paragraph) kids Plain) ≡ true
+      at true = has-left opens_number v (marks_in revisions Kids kids) _ h
+      at false = has-left opens_number v (marks_in revisions Kids kids) _ h
+
+  -- what waits among the kids of an element
+  found_waiting : (place : Place) (ancestors : List Tag) (tag : Tag) (kids rest : Nodes) → place.loud ≡ is_open ancestors → Fits ancestors tag → Waits revisions v (tag ∷ ancestors) kids →
+      Found place ancestors (element tag kids rest)
+  found_waiting place ancestors tag kids rest o fit (in_run p h) =
+      let both = and_parts (is "rPr" tag) (in_para_props ancestors) p in
+      inr (in_para both.1 (has-left opens_number v (element_marks revisions Properties tag kids) (marks_in revisions Properties rest) (rw both.0 h)))
+  found_waiting place ancestors tag kids rest o fit (in_para p h) =
+      let both = and_parts (is "pPr" tag) (within ("p" ∷ []) ancestors) p in
+      inr (in_kids both.1 (has-left opens_number v (element_marks revisions Kids tag kids) (marks_in revisions Kids rest) (rw both.0 h)))
+  found_waiting place ancestors tag kids rest o fit (in_kids p h) =
+      let both = and_parts (is "p" tag) (is_open ancestors) p in
+      found_inner place ancestors tag kids rest
+      (has-right opens_number v (nodes_pieces shown revisions (inside tag place) kids) (end_as revisions (shape_of place.loud tag kids) kids tag.kind)
+      (paragraph_end tag kids place.loud (o ∙ both.1) both.0 (paragraph_plain ancestors tag both.0 both.1 fit) h))
+
+  inside_open : (tag : Tag) (ancestors : List Tag) (loud : Bool) → loud ≡ is_open ancestors → (loud && not (is_quiet tag)) ≡ is_open (tag ∷ ancestors)
+  inside_open tag ancestors loud e = ap (λ b. b && not (is_quiet tag)) e ∙ at (is_quiet tag) (list_any is_quiet ancestors)
+    where
+      at : (q any : Bool) → (not any && not q) ≡ not (q || any)
+      at true true = refl
+      at true false = refl
+      at false true = refl
+      at false false = refl
+
+  found : (place : Place) (ancestors : List Tag) (nodes : Nodes) → place.loud ≡ is_open ancestors → AllFit ancestors nodes → has_member v nodes ≡ true → Found place ancestors nodes
+  found place ancestors no_nodes o fit h = cc
+  found place ancestors (bytes b rest) o fit h = at (found place ancestors rest o fit h)
+    where
+      at : Found place ancestors rest → Found place ancestors (bytes b rest)
+      at (inl here) = inl (has-right opens_number v (bytes_pieces shown place b) (nodes_pieces shown revisions place rest) here)
+      at (inr waits) = inr (waits_bytes revisions v ancestors b rest waits)
+  found place ancestors (element tag kids rest) o fit h =
+      by (or_cases ((is_member tag.kind && eqb tag.rev v) || has_member v kids) (has_member v rest) h)
+      (λ m. found (inside tag place) (tag ∷ ancestors) kids (inside_open tag ancestors place.loud o) fit.1 m) (λ m. found place ancestors rest o fit.2 m)
+    where
+      below : Found (inside tag place) (tag ∷ ancestors) kids → Found place ancestors (element tag kids rest)
+      below (inl here) = found_inner place ancestors tag kids rest (has-left opens_number v (nodes_pieces shown revisions (inside tag place) kids) (end_as revisions (shape_of place.loud tag kids) kids tag.kind) here)
+      below (inr waits) = found_waiting place ancestors tag kids rest o fit.0 waits
+
+      later : Found place ancestors rest → Found place ancestors (element tag kids rest)
+      later (inl there) =
+          inl (has-right opens_number v (element_pieces revisions place tag kids (nodes_pieces shown revisions (inside tag place) kids)) (nodes_pieces shown revisions place rest) there)
+      later (inr waits) = inr (waits_rest revisions v ancestors tag kids rest waits)
+
+      own_or_kids : ((is_member tag.kind && eqb tag.rev v) ≡ true) ⊎ (has_member v kids ≡ true) → (has_member v kids ≡ true → Found (inside tag place) (tag ∷ ancestors) kids) → Found place ancestors (element tag kids rest)
+      own_or_kids (inl here) kid_found = let both = and_parts (is_member tag.kind) (eqb tag.rev v) here in found_here place ancestors tag kids rest tag.kind refl both.0 both.1 fit.0
+      own_or_kids (inr kid) kid_found = below (kid_found kid)
+
+      by : (((is_member tag.kind && eqb tag.rev v) || has_member v kids) ≡ true) ⊎ (has_member v rest ≡ true) → (has_member v kids ≡ true → Found (inside tag place) (tag ∷ ancestors) kids)
+          → (has_member v rest ≡ true → Found place ancestors rest) → Found place ancestors (element tag kids rest)
+      by (inl here) kid_found rest_found = own_or_kids (or_cases (is_member tag.kind && eqb tag.rev v) (has_member v kids) here) kid_found
+      by (inr there) kid_found rest_found = later (rest_found there)
+
+  -- ---- stories
+
+  -- nothing waits right below the root of a story
+  no_root : (root : Tag) → is_story_root root ≡ true → (is "p" root ≡ false) × (is "pPr" root ≡ false) × (is "rPr" root ≡ false)
+  no_root root r =
+      by_names (λ t. (is "p" t ≡ false) × (is "pPr" t ≡ false) × (is "rPr" t ≡ false)) ("document" ∷ "hdr" ∷ "ftr" ∷ "footnotes" ∷ "endnotes" ∷ "comments" ∷ []) root r
+      ((refl, refl, refl), ((refl, refl, refl), ((refl, refl, refl), ((refl, refl, refl), ((refl, refl, refl), ((refl, refl, refl), tt))))))
+
+  none_waits : (root : Tag) (nodes : Nodes) → is_story_root root ≡ true → Waits revisions v (root ∷ []) nodes → ⊥
+  none_waits root nodes r (in_run p h) = let e = (and_parts (is "rPr" root) (in_para_props []) p).0 in let f = (no_root root r).2 in cc
+  none_waits root nodes r (in_para p h) = let e = (and_parts (is "pPr" root) (within ("p" ∷ []) []) p).0 in let f = (no_root root r).1 in cc
+  none_waits root nodes r (in_kids p h) = let e = (and_parts (is "p" root) (is_open []) p).0 in let f = (no_root root r).0 in cc
+
+  story-has : (story : Element) → IsStory story → has_member v story.kids ≡ true → has_element v (nodes_pieces shown revisions in_story story.kids) ≡ true
+  story-has story is h = at (found in_story (story.tag ∷ []) story.kids (sym (ap (λ q. not (q || false)) is.loud)) is.fits h)
+    where
+      at : Found in_story (story.tag ∷ []) story.kids → has_element v (nodes_pieces shown revisions in_story story.kids) ≡ true
+      at (inl here) = here
+      at (inr waits) = absurd (none_waits story.tag story.kids is.root waits)
+
+  section-has : (first : Bool) (name : List ℕ) (root : Element) → IsStory root → has_member v root.kids ≡ true → has_element v (section shown revisions first name root.kids) ≡ true
+  section-has first name root is h =
+      has-right opens_number v (section_head first name) _ (has-left opens_number v (nodes_pieces shown revisions in_story root.kids) (own "</section>\n" ∷ []) (story-has root is h))
+
+  sections-have : (first : Bool) (parts : List Element) → AreStories (filter_map story_of parts) → list_any (λ story. has_member v story.kids) (filter_map story_of parts) ≡ true →
+      has_element v (sections shown revisions first parts) ≡ true
+  sections-have first [] are h = cc
+  sections-have first (part ∷ parts) are h = at (story_of part) are h (sections-have first parts) (sections-have false parts)
+    where
+      at : (o : Option Element) → AreStories (cons_option o (filter_map story_of parts)) → list_any (λ story. has_member v story.kids) (cons_option o (filter_map story_of parts)) ≡ true →
+          (AreStories (filter_map story_of parts) → list_any (λ story. has_member v story.kids) (filter_map story_of parts) ≡ true → has_element v (sections shown revisions first parts) ≡ true) →
+          (AreStories (filter_map story_of parts) → list_any (λ story. has_member v story.kids) (filter_map story_of parts) ≡ true → has_element v (sections shown revisions false parts) ≡ true) →
+          has_element v (section_in shown revisions first (name_in part.tag) o ++ sections shown revisions (is_first_after first o) parts) ≡ true
+      at None are h same later = same are h
+      at (Some root) are h same later = by (or_cases (has_member v root.kids) _ h)
+        where
+          by : (has_member v root.kids ≡ true) ⊎ (list_any (λ story. has_member v story.kids) (filter_map story_of parts) ≡ true) →
+              has_element v (section shown revisions first (name_in part.tag) root.kids ++ sections shown revisions false parts) ≡ true
+          by (inl here) = has-left opens_number v (section shown revisions first (name_in part.tag) root.kids) (sections shown revisions false parts) (section-has first (name_in part.tag) root are.0 here)
+          by (inr there) = has-right opens_number v (section shown revisions first (name_in part.tag) root.kids) (sections shown revisions false parts) (later are.1 there)
+
+-- each member of an indexed package has an element with its number
+pub document-has : (shown : List ℕ → List ℕ) (revisions : List Revision) (value : Value) (nodes : Nodes) (v : ℕ) → refusal nodes ≡ None → IsIndexed value nodes →
+    list_any (λ story. has_member v story.kids) (stories nodes) ≡ true → has_element v (sections shown revisions true (parts_of nodes)) ≡ true
+document-has shown revisions value nodes v shape is h =
+    sections-have shown revisions v true (parts_of nodes)
+    (subst AreStories (sym (stories-parts nodes shape)) (indexed_stories value nodes is))
+    (ap (list_any (λ story. has_member v story.kids)) (stories-parts nodes shape) ∙ h)

@@ -1,0 +1,165 @@
+-- What is written of a story: of signs, and of the nodes of a list one after the other.
+use Prim.Native.String.{String}
+use Rattle.std.proofs.Common.{◌≡◌, ℕ, List, [], ◌++◌, Bool, true, false, ◌||◌, ◌+◌, ◌<◌, length, drop, slice_get, None, Some, option_map, refl, sym, ap, ◌∙◌, append-nil, codes, if◌then◌else◌}
+use Rattle.std.specs.Prelude.{decimal, unwrap_or}
+use Rattle.std.specs.Option.{option_or}
+use Rattle.redl_tree.specs.Model.IdleTexts.{idle_nodes}
+use Rattle.redl_tree.specs.Model.Nodes.{Tag, Nodes, Item, bytes_item, element_item, idle_item, in_front}
+use Rattle.redl_tree.specs.Roles.Names.{is}
+use Rattle.redl_tree.proofs.Idle.Items.{nodes_are_idle}
+use Rattle.redl_opc.specs.Elements.{Element}
+use Rattle.redl_opc.specs.Parts.{name_in, story}
+use Rattle.redl_opc.specs.Shape.{parts_of, story_of}
+use Rattle.redl_opc.proofs.WalkLaws.{part-at}
+use Rattle.redl_index.specs.declared.revision.Revision.{Revision}
+use Rattle.redl_page_stories.specs.declared.marks.Depth.{Depth}
+use Rattle.redl_page_stories.specs.declared.marks.Depth.TheVariants.{Kids, Properties, RunProperties}
+use Rattle.redl_page_stories.specs.declared.place.Place.{Place}
+use Rattle.redl_html.specs.Escaping.{escaped}
+use Rattle.redl_html.specs.Pieces.{Piece, pieces_text}
+use Rattle.redl_html.proofs.PieceLaws.{pieces_text-append}
+use Rattle.redl_page_stories.specs.Shapes.{closing, has_property, holds_blocks, is_paragraph, shape_of, style_in, style_of, switched_on}
+use Rattle.redl_page_stories.specs.declared.shape.Shape.{Shape}
+use Rattle.redl_page_stories.specs.Signs.{author_at, sign, sign_text, edge}
+use Rattle.redl_page_stories.specs.Document.{in_story, section_head, section, shape_end, start_as, end_as, element_pieces, marks_in, nodes_pieces, section_in, sections, section_at, name_at, is_first_after}
+use Rattle.redl_page_stories.specs.Inside.Items.{item_has_property, item_holds, item_marks, item_pieces, item_style, item_style_in, item_switches}
+use Rattle.redl_page_stories.proofs.PastLaws.{has_property_past, holds_past, marks_past, pieces-⊕, style_in-⊕, style_of_past, switched_on-⊕}
+
+-- ---- signs
+
+pub sign-text : (revisions : List Revision) (before : String) (rev : ℕ) (after : String) → pieces_text (sign revisions before rev after) ≡ sign_text revisions (codes before) rev (codes after)
+sign-text revisions before rev after =
+    ap (λ l. codes before ++ (decimal rev ++ (codes "\" data-author=\"" ++ (escaped (author_at revisions rev) ++ l)))) (append-nil (codes after))
+
+pub edge-from : (revisions : List Revision) (tag : Tag) → is "moveFromRangeStart" tag ≡ true → pieces_text (edge revisions tag)
+    ≡ codes "<a id=\"from-" ++ (decimal tag.rev ++ (codes "\" href=\"#to-" ++ (decimal tag.rev ++ sign_text revisions (codes "\" data-revision=\"") tag.rev (codes "\">moved away</a>"))))
+edge-from revisions tag e = rw e refl
+
+pub edge-to : (revisions : List Revision) (tag : Tag) → is "moveFromRangeStart" tag ≡ false → is "moveToRangeStart" tag ≡ true → pieces_text (edge revisions tag)
+    ≡ codes "<a id=\"to-" ++ (decimal tag.rev ++ (codes "\" href=\"#from-" ++ (decimal tag.rev ++ sign_text revisions (codes "\" data-revision=\"") tag.rev (codes "\">moved here</a>"))))
+edge-to revisions tag e f = rw (e, f) refl
+
+pub edge-none : (revisions : List Revision) (tag : Tag) → is "moveFromRangeStart" tag ≡ false → is "moveToRangeStart" tag ≡ false → pieces_text (edge revisions tag) ≡ []
+edge-none revisions tag e f = rw (e, f) refl
+
+-- ---- a node in front of a list
+
+marks_in-front : (revisions : List Revision) (depth : Depth) (x : Item) (rest : Nodes) → marks_in revisions depth (in_front x rest) ≡ item_marks revisions depth x ++ marks_in revisions depth rest
+marks_in-front revisions depth (bytes_item b) rest = refl
+marks_in-front revisions Kids (element_item tag kids) rest = refl
+marks_in-front revisions Properties (element_item tag kids) rest = refl
+marks_in-front revisions RunProperties (element_item tag kids) rest = refl
+marks_in-front revisions depth (idle_item t) rest = marks_past revisions depth (idle_nodes t) rest (nodes_are_idle t)
+
+pub marks_text : (revisions : List Revision) (depth : Depth) (nodes : Nodes) (x : Item) (rest : Nodes) → nodes ≡ in_front x rest →
+    pieces_text (marks_in revisions depth nodes) ≡ pieces_text (item_marks revisions depth x) ++ pieces_text (marks_in revisions depth rest)
+marks_text revisions depth nodes x rest e =
+    ap (λ n. pieces_text (marks_in revisions depth n)) e ∙ ap pieces_text (marks_in-front revisions depth x rest)
+    ∙ pieces_text-append (item_marks revisions depth x) (marks_in revisions depth rest)
+
+nodes_pieces-front : (shown : List ℕ → List ℕ) (revisions : List Revision) (place : Place) (x : Item) (rest : Nodes) →
+    nodes_pieces shown revisions place (in_front x rest) ≡ item_pieces shown revisions place x ++ nodes_pieces shown revisions place rest
+nodes_pieces-front shown revisions place (bytes_item b) rest = refl
+nodes_pieces-front shown revisions place (element_item tag kids) rest = refl
+nodes_pieces-front shown revisions place (idle_item t) rest = pieces-⊕ shown revisions place (idle_nodes t) rest
+
+pub nodes_text : (shown : List ℕ → List ℕ) (revisions : List Revision) (place : Place) (nodes : Nodes) (x : Item) (rest : Nodes) → nodes ≡ in_front x rest →
+    pieces_text (nodes_pieces shown revisions place nodes) ≡ pieces_text (item_pieces shown revisions place x) ++ pieces_text (nodes_pieces shown revisions place rest)
+nodes_text shown revisions place nodes x rest e =
+    ap (λ n. pieces_text (nodes_pieces shown revisions place n)) e ∙ ap pieces_text (nodes_pieces-front shown revisions place x rest)
+    ∙ pieces_text-append (item_pieces shown revisions place x) (nodes_pieces shown revisions place rest)
+
+-- an element with this shape
+pub element_text-by : (revisions : List Revision) (place : Place) (tag : Tag) (kids : Nodes) (inner : List Piece) (shape : Shape) → shape ≡ shape_of place.loud tag kids →
+    pieces_text (element_pieces revisions place tag kids inner)
+    ≡ pieces_text (start_as revisions shape tag kids tag.kind) ++ (pieces_text inner ++ pieces_text (end_as revisions shape kids tag.kind))
+element_text-by revisions place tag kids inner shape e =
+    let start = start_as revisions (shape_of place.loud tag kids) tag kids tag.kind in
+    let end = end_as revisions (shape_of place.loud tag kids) kids tag.kind in
+    pieces_text-append start (inner ++ end)
+    ∙ ap (λ l. pieces_text start ++ l) (pieces_text-append inner end)
+    ∙ ap (λ s. pieces_text (start_as revisions s tag kids tag.kind) ++ (pieces_text inner ++ pieces_text (end_as revisions s kids tag.kind))) (sym e)
+
+holds_blocks-front : (x : Item) (rest : Nodes) → holds_blocks (in_front x rest) ≡ (item_holds x || holds_blocks rest)
+holds_blocks-front (bytes_item b) rest = refl
+holds_blocks-front (element_item tag kids) rest = refl
+holds_blocks-front (idle_item t) rest = holds_past (idle_nodes t) rest (nodes_are_idle t)
+
+-- whether the nodes hold a block, where the first one is or holds none, and where it does
+pub holds-later : (nodes : Nodes) (x : Item) (rest : Nodes) → nodes ≡ in_front x rest → item_holds x ≡ false → holds_blocks rest ≡ holds_blocks nodes
+holds-later nodes x rest e h = sym (ap holds_blocks e ∙ holds_blocks-front x rest ∙ ap (λ b. b || holds_blocks rest) h)
+
+pub holds-here : (nodes : Nodes) (x : Item) (rest : Nodes) → nodes ≡ in_front x rest → item_holds x ≡ true → holds_blocks nodes ≡ true
+holds-here nodes x rest e h = ap holds_blocks e ∙ holds_blocks-front x rest ∙ ap (λ b. b || holds_blocks rest) h
+
+-- ---- properties
+
+switched_on-front : (name : List ℕ) (x : Item) (rest : Nodes) → switched_on name (in_front x rest) ≡ (item_switches name x || switched_on name rest)
+switched_on-front name (bytes_item b) rest = refl
+switched_on-front name (element_item tag kids) rest = refl
+switched_on-front name (idle_item t) rest = switched_on-⊕ name (idle_nodes t) rest
+
+pub switched_on-next : (name : List ℕ) (nodes : Nodes) (x : Item) (rest : Nodes) → nodes ≡ in_front x rest → switched_on name nodes ≡ (item_switches name x || switched_on name rest)
+switched_on-next name nodes x rest e = ap (switched_on name) e ∙ switched_on-front name x rest
+
+has_property-front : (name : List ℕ) (x : Item) (rest : Nodes) → has_property name (in_front x rest) ≡ (item_has_property name x || has_property name rest)
+has_property-front name (bytes_item b) rest = refl
+has_property-front name (element_item tag kids) rest = refl
+has_property-front name (idle_item t) rest = has_property_past name (idle_nodes t) rest (nodes_are_idle t)
+
+pub has_property-next : (name : List ℕ) (nodes : Nodes) (x : Item) (rest : Nodes) → nodes ≡ in_front x rest → has_property name nodes ≡ (item_has_property name x || has_property name rest)
+has_property-next name nodes x rest e = ap (has_property name) e ∙ has_property-front name x rest
+
+style_in-front : (x : Item) (rest : Nodes) → style_in (in_front x rest) ≡ option_or (item_style_in x) (style_in rest)
+style_in-front (bytes_item b) rest = refl
+style_in-front (element_item tag kids) rest = refl
+style_in-front (idle_item t) rest = style_in-⊕ (idle_nodes t) rest
+
+pub style_in-later : (nodes : Nodes) (x : Item) (rest : Nodes) → nodes ≡ in_front x rest → item_style_in x ≡ None → style_in rest ≡ style_in nodes
+style_in-later nodes x rest e h = sym (ap style_in e ∙ style_in-front x rest ∙ ap (λ o. option_or o (style_in rest)) h)
+
+pub style_in-here : (nodes : Nodes) (x : Item) (rest : Nodes) (style : List ℕ) → nodes ≡ in_front x rest → item_style_in x ≡ Some style → style_in nodes ≡ Some style
+style_in-here nodes x rest style e h = ap style_in e ∙ style_in-front x rest ∙ ap (λ o. option_or o (style_in rest)) h
+
+style_of-front : (x : Item) (rest : Nodes) → style_of (in_front x rest) ≡ option_or (item_style x) (style_of rest)
+style_of-front (bytes_item b) rest = refl
+style_of-front (element_item tag kids) rest = refl
+style_of-front (idle_item t) rest = style_of_past (idle_nodes t) rest (nodes_are_idle t)
+
+pub style_of-later : (nodes : Nodes) (x : Item) (rest : Nodes) → nodes ≡ in_front x rest → item_style x ≡ None → style_of rest ≡ style_of nodes
+style_of-later nodes x rest e h = sym (ap style_of e ∙ style_of-front x rest ∙ ap (λ o. option_or o (style_of rest)) h)
+
+pub style_of-here : (nodes : Nodes) (x : Item) (rest : Nodes) (style : List ℕ) → nodes ≡ in_front x rest → item_style x ≡ Some style → style_of nodes ≡ Some style
+style_of-here nodes x rest style e h = ap style_of e ∙ style_of-front x rest ∙ ap (λ o. option_or o (style_of rest)) h
+
+pub shape_end-text : (revisions : List Revision) (shape : Shape) (kids : Nodes) → pieces_text (shape_end revisions shape kids)
+    ≡ pieces_text (if is_paragraph shape then marks_in revisions Kids kids else []) ++ codes (closing shape)
+shape_end-text revisions shape kids =
+    pieces_text-append (if is_paragraph shape then marks_in revisions Kids kids else []) _
+    ∙ ap (λ l. pieces_text (if is_paragraph shape then marks_in revisions Kids kids else []) ++ l) (append-nil (codes (closing shape)))
+
+-- ---- parts
+
+pub head-named : (first : Bool) (name : List ℕ) → first ≡ false → pieces_text (section_head first name) ≡ codes "<section>\n<h2>" ++ (escaped name ++ codes "</h2>\n")
+head-named first name e = rw e refl
+
+pub section-text : (shown : List ℕ → List ℕ) (revisions : List Revision) (first : Bool) (name : List ℕ) (kids : Nodes) → pieces_text (section shown revisions first name kids)
+    ≡ pieces_text (section_head first name) ++ (pieces_text (nodes_pieces shown revisions in_story kids) ++ codes "</section>\n")
+section-text shown revisions first name kids =
+    pieces_text-append (section_head first name) _
+    ∙ ap (λ l. pieces_text (section_head first name) ++ l) (pieces_text-append (nodes_pieces shown revisions in_story kids) _)
+
+pub sections-part : (shown : List ℕ → List ℕ) (revisions : List Revision) (first : Bool) (nodes : Nodes) (number : ℕ) → number < length (parts_of nodes) →
+    pieces_text (sections shown revisions first (drop number (parts_of nodes)))
+    ≡ pieces_text (section_at shown revisions nodes first number)
+    ++ pieces_text (sections shown revisions (is_first_after first (story nodes number)) (drop (number + 1) (parts_of nodes)))
+sections-part shown revisions first nodes number within =
+    let found = part-at nodes number within in
+    let later = drop (number + 1) (parts_of nodes) in
+    ap (λ parts. pieces_text (sections shown revisions first parts)) found.1.front
+    ∙ pieces_text-append (section_in shown revisions first (name_in found.0.tag) (story_of found.0)) (sections shown revisions (is_first_after first (story_of found.0)) later)
+    ∙ ap (λ name. pieces_text (section_in shown revisions first name (story_of found.0)) ++ pieces_text (sections shown revisions (is_first_after first (story_of found.0)) later)) (sym (name found.0 found.1.at))
+    ∙ ap (λ root. pieces_text (section_in shown revisions first (name_at nodes number) root) ++ pieces_text (sections shown revisions (is_first_after first root) later)) (sym found.1.root)
+  where
+    name : (part : Element) → slice_get (parts_of nodes) number ≡ Some part → name_at nodes number ≡ name_in part.tag
+    name part e = ap (λ o. unwrap_or (option_map (λ p. name_in p.tag) o) []) e

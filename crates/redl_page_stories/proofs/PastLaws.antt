@@ -1,0 +1,117 @@
+-- Nodes one after the other, and what idle nodes in front don't have.
+use Rattle.std.proofs.Common.{◌≡◌, ◌∙◌, refl, sym, ap, ℕ, List, [], ◌++◌, append_assoc, Bool, true, false, ◌&&◌, ◌||◌, Option, Some, None, codes, bytes_eq, if◌then◌else◌}
+use Rattle.std.proofs.Math.Bool.{or_assoc}
+use Rattle.std.proofs.lemmas.Bool.{or_from}
+use Rattle.std.specs.Option.{option_or}
+use Rattle.redl_tree.specs.Model.Nodes.{Tag, Nodes, no_nodes, bytes, element, ◌⊕◌}
+use Rattle.redl_tree.specs.Roles.Names.{is, is_w}
+use Rattle.redl_tree.specs.Roles.Idle.{is_idle_in}
+use Rattle.redl_tree.specs.Roles.Kinds.{is_mark}
+use Rattle.redl_tree.specs.declared.kinds.Kind.{Kind}
+use Rattle.redl_tree.specs.declared.kinds.Space.{Space}
+use Rattle.redl_tree.specs.declared.kinds.Space.TheVariants.{W, M, Pkg, Other}
+use Rattle.redl_tree.proofs.Idle.Tags.{Idle, idle_parts, has-not}
+use Rattle.redl_index.specs.declared.revision.Revision.{Revision}
+use Rattle.redl_stamp.specs.Attribute.{written_value}
+use Rattle.redl_page_stories.specs.declared.marks.Depth.{Depth}
+use Rattle.redl_page_stories.specs.declared.marks.Depth.TheVariants.{Kids, Properties, RunProperties}
+use Rattle.redl_page_stories.specs.declared.place.Place.{Place}
+use Rattle.redl_page_stories.specs.Document.{bytes_pieces, element_pieces, inside, marks_in, nodes_pieces}
+use Rattle.redl_page_stories.specs.Shapes.{has_property, holds_blocks, is_block, is_other, is_other_form, style_in, style_of, switched_on, switches}
+use Rattle.redl_page_stories.specs.Signs.{member}
+
+-- ---- nodes one after the other
+
+pub pieces-⊕ : (shown : List ℕ → List ℕ) (revisions : List Revision) (place : Place) (x y : Nodes) →
+    nodes_pieces shown revisions place (x ⊕ y) ≡ nodes_pieces shown revisions place x ++ nodes_pieces shown revisions place y
+pieces-⊕ shown revisions place no_nodes y = refl
+pieces-⊕ shown revisions place (bytes b rest) y =
+    let own = bytes_pieces shown place b in
+    ap (λ l. own ++ l) (pieces-⊕ shown revisions place rest y)
+    ∙ sym (append_assoc own (nodes_pieces shown revisions place rest) (nodes_pieces shown revisions place y))
+pieces-⊕ shown revisions place (element tag kids rest) y =
+    let own = element_pieces revisions place tag kids (nodes_pieces shown revisions (inside tag place) kids) in
+    ap (λ l. own ++ l) (pieces-⊕ shown revisions place rest y)
+    ∙ sym (append_assoc own (nodes_pieces shown revisions place rest) (nodes_pieces shown revisions place y))
+
+pub switched_on-⊕ : (name : List ℕ) (x y : Nodes) → switched_on name (x ⊕ y) ≡ (switched_on name x || switched_on name y)
+switched_on-⊕ name no_nodes y = refl
+switched_on-⊕ name (bytes b rest) y = switched_on-⊕ name rest y
+switched_on-⊕ name (element tag kids rest) y =
+    ap (λ b. switches name tag || b) (switched_on-⊕ name rest y) ∙ sym (or_assoc (switches name tag) (switched_on name rest) (switched_on name y))
+
+or_later : (a b c : Option (List ℕ)) → option_or (option_or a b) c ≡ option_or a (option_or b c)
+or_later None b c = refl
+or_later (Some x) b c = refl
+
+pub style_in-⊕ : (x y : Nodes) → style_in (x ⊕ y) ≡ option_or (style_in x) (style_in y)
+style_in-⊕ no_nodes y = refl
+style_in-⊕ (bytes b rest) y = style_in-⊕ rest y
+style_in-⊕ (element tag kids rest) y =
+    let own = if is "pStyle" tag then written_value tag.tail (codes "val") else None in
+    ap (option_or own) (style_in-⊕ rest y) ∙ sym (or_later own (style_in rest) (style_in y))
+
+-- ---- what idle nodes don't have
+
+pub has_property_past : (name : List ℕ) (x y : Nodes) → is_idle_in false x ≡ true → has_property name (x ⊕ y) ≡ has_property name y
+has_property_past name no_nodes y h = refl
+has_property_past name (bytes b rest) y h = has_property_past name rest y h
+has_property_past name (element tag kids rest) y h =
+    let p = idle_parts false tag kids rest h in
+    ap (λ b. (b && switched_on name kids) || has_property name (rest ⊕ y)) (has-not "rPr" false tag p.own refl)
+    ∙ has_property_past name rest y p.later
+
+pub style_of_past : (x y : Nodes) → is_idle_in false x ≡ true → style_of (x ⊕ y) ≡ style_of y
+style_of_past no_nodes y h = refl
+style_of_past (bytes b rest) y h = style_of_past rest y h
+style_of_past (element tag kids rest) y h =
+    let p = idle_parts false tag kids rest h in
+    ap (λ b. option_or (if b then style_in kids else None) (style_of (rest ⊕ y))) (has-not "pPr" false tag p.own refl)
+    ∙ style_of_past rest y p.later
+
+pub marks_past : (revisions : List Revision) (depth : Depth) (x y : Nodes) → is_idle_in false x ≡ true → marks_in revisions depth (x ⊕ y) ≡ marks_in revisions depth y
+marks_past revisions depth no_nodes y h = refl
+marks_past revisions depth (bytes b rest) y h = marks_past revisions depth rest y h
+marks_past revisions Kids (element tag kids rest) y h =
+    let p = idle_parts false tag kids rest h in
+    ap (λ b. (if b then marks_in revisions Properties kids else []) ++ marks_in revisions Kids (rest ⊕ y)) (has-not "pPr" false tag p.own refl)
+    ∙ marks_past revisions Kids rest y p.later
+marks_past revisions Properties (element tag kids rest) y h =
+    let p = idle_parts false tag kids rest h in
+    ap (λ b. (if b then marks_in revisions RunProperties kids else []) ++ marks_in revisions Properties (rest ⊕ y)) (has-not "rPr" false tag p.own refl)
+    ∙ marks_past revisions Properties rest y p.later
+marks_past revisions RunProperties (element tag kids rest) y h =
+    let p = idle_parts false tag kids rest h in
+    ap (λ (k : Kind). (if is_mark k then member revisions k tag.rev else []) ++ marks_in revisions RunProperties (rest ⊕ y)) p.own.kind
+    ∙ marks_past revisions RunProperties rest y p.later
+
+no_other : (s : Space) → is_w s ≡ true → is_other s ≡ false
+no_other W h = refl
+no_other M h = absurd cc
+no_other Pkg h = refl
+no_other Other h = absurd cc
+
+pub other_none : (in_run : Bool) (tag : Tag) → Idle in_run tag → is_other_form tag ≡ false
+other_none in_run tag i = ap (λ o. o && bytes_eq tag.local (codes "Fallback")) (no_other tag.space i.space)
+
+block_none : (in_run : Bool) (tag : Tag) → Idle in_run tag → is_block tag ≡ false
+block_none in_run tag i =
+    or_from (is "p" tag || is "tbl" tag) (is_other_form tag)
+    (or_from (is "p" tag) (is "tbl" tag) (has-not "p" in_run tag i refl) (has-not "tbl" in_run tag i refl)) (other_none in_run tag i)
+
+blocks_none : (in_run : Bool) (x : Nodes) → is_idle_in in_run x ≡ true → holds_blocks x ≡ false
+blocks_none in_run no_nodes h = refl
+blocks_none in_run (bytes b rest) h = blocks_none in_run rest h
+blocks_none in_run (element tag kids rest) h =
+    let p = idle_parts in_run tag kids rest h in
+    or_from (is_block tag || holds_blocks kids) (holds_blocks rest)
+    (or_from (is_block tag) (holds_blocks kids) (block_none in_run tag p.own) (blocks_none (is "r" tag) kids p.below)) (blocks_none in_run rest p.later)
+
+pub holds_past : (x y : Nodes) → is_idle_in false x ≡ true → holds_blocks (x ⊕ y) ≡ holds_blocks y
+holds_past no_nodes y h = refl
+holds_past (bytes b rest) y h = holds_past rest y h
+holds_past (element tag kids rest) y h =
+    let p = idle_parts false tag kids rest h in
+    ap (λ b. b || holds_blocks (rest ⊕ y))
+    (or_from (is_block tag) (holds_blocks kids) (block_none false tag p.own) (blocks_none (is "r" tag) kids p.below))
+    ∙ holds_past rest y p.later

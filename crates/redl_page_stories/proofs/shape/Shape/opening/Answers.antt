@@ -1,0 +1,50 @@
+use Rattle.std.proofs.Common.{refl}
+use Rattle.redl_page_stories.proofs.shape.Shape.opening.Goals as goal
+
+pub returns-in-Nothing : goal.returns-in-Nothing
+returns-in-Nothing c = rw c.in-Nothing.is refl
+
+pub returns-in-Paragraph : goal.returns-in-Paragraph
+returns-in-Paragraph c = rw c.in-Paragraph.is refl
+
+pub returns-in-Division : goal.returns-in-Division
+returns-in-Division c = rw c.in-Division.is refl
+
+pub returns-in-Table : goal.returns-in-Table
+returns-in-Table c = rw c.in-Table.is refl
+
+pub returns-in-Row : goal.returns-in-Row
+returns-in-Row c = rw c.in-Row.is refl
+
+pub returns-in-Cell : goal.returns-in-Cell
+returns-in-Cell c = rw c.in-Cell.is refl
+
+pub returns-in-TextBox : goal.returns-in-TextBox
+returns-in-TextBox c = rw c.in-TextBox.is refl
+
+pub returns-in-Tab : goal.returns-in-Tab
+returns-in-Tab c = rw c.in-Tab.is refl
+
+pub returns-in-Break : goal.returns-in-Break
+returns-in-Break c = rw c.in-Break.is refl
+
+pub returns-in-Hyphen : goal.returns-in-Hyphen
+returns-in-Hyphen c = rw c.in-Hyphen.is refl
+
+pub returns-in-Picture : goal.returns-in-Picture
+returns-in-Picture c = rw c.in-Picture.is refl
+
+pub returns-in-OtherForm : goal.returns-in-OtherForm
+returns-in-OtherForm c = rw c.in-OtherForm.is refl
+
+pub returns-in-Bold : goal.returns-in-Bold
+returns-in-Bold c = rw c.in-Bold.is refl
+
+pub returns-in-Italic : goal.returns-in-Italic
+returns-in-Italic c = rw c.in-Italic.is refl
+
+pub returns-in-BoldItalic : goal.returns-in-BoldItalic
+returns-in-BoldItalic c = rw c.in-BoldItalic.is refl
+
+pub returns-in-Note : goal.returns-in-Note
+returns-in-Note c = rw c.in-Note.is refl

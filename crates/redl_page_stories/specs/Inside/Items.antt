@@ -1,0 +1,73 @@
+-- What one node of a list is, has or shows: bytes, an element, or idle elements that the list keeps as text.
+use Rattle.std.specs.Prelude.{ℕ, List, [], Bool, false, ◌&&◌, ◌||◌, Option, None, codes, if◌then◌else◌}
+use Rattle.redl_tree.specs.Model.IdleTexts.{idle_nodes}
+use Rattle.redl_tree.specs.Model.Nodes.{Tag, Nodes, Item, bytes_item, element_item, idle_item}
+use Rattle.redl_tree.specs.Roles.Kinds.{is_mark}
+use Rattle.redl_tree.specs.Roles.Names.{is}
+use Rattle.redl_index.specs.declared.revision.Revision.{Revision}
+use Rattle.redl_stamp.specs.Attribute.{written_value}
+use Rattle.redl_page_stories.specs.declared.marks.Depth.{Depth}
+use Rattle.redl_page_stories.specs.declared.marks.Depth.TheVariants.{Kids, Properties, RunProperties}
+use Rattle.redl_page_stories.specs.declared.place.Place.{Place}
+use Rattle.redl_page_stories.specs.Document.{bytes_pieces, element_pieces, inside, marks_in, nodes_pieces}
+use Rattle.redl_html.specs.Pieces.{Piece}
+use Rattle.redl_page_stories.specs.Shapes.{holds_blocks, is_block, style_in, switched_on, switches}
+use Rattle.redl_page_stories.specs.Signs.{member}
+
+-- ---- blocks
+
+-- it is a block, or one is in it
+abbrev pub item_holds : Item → Bool
+item_holds (bytes_item b) = false
+item_holds (element_item tag kids) = is_block tag || holds_blocks kids
+item_holds (idle_item t) = false
+
+-- ---- properties of runs
+
+-- it switches on the property of this name
+abbrev pub item_switches : List ℕ → Item → Bool
+item_switches name (bytes_item b) = false
+item_switches name (element_item tag kids) = switches name tag
+item_switches name (idle_item t) = switched_on name (idle_nodes t)
+
+-- it does so for the run that it is in
+abbrev pub item_has_property : List ℕ → Item → Bool
+item_has_property name (bytes_item b) = false
+item_has_property name (element_item tag kids) = is "rPr" tag && switched_on name kids
+item_has_property name (idle_item t) = false
+
+-- ---- the style of a paragraph
+
+-- the one that it names
+abbrev pub item_style_in : Item → Option (List ℕ)
+item_style_in (bytes_item b) = None
+item_style_in (element_item tag kids) = if is "pStyle" tag then written_value tag.tail (codes "val") else None
+item_style_in (idle_item t) = style_in (idle_nodes t)
+
+-- the one that its properties name
+abbrev pub item_style : Item → Option (List ℕ)
+item_style (bytes_item b) = None
+item_style (element_item tag kids) = if is "pPr" tag then style_in kids else None
+item_style (idle_item t) = None
+
+-- ---- the marks of a paragraph
+
+-- the members of a mark that an element is or holds
+abbrev pub element_marks : List Revision → Depth → Tag → Nodes → List Piece
+element_marks revisions Kids tag kids = if is "pPr" tag then marks_in revisions Properties kids else []
+element_marks revisions Properties tag kids = if is "rPr" tag then marks_in revisions RunProperties kids else []
+element_marks revisions RunProperties tag kids = if is_mark tag.kind then member revisions tag.kind tag.rev else []
+
+-- the same of a node
+abbrev pub item_marks : List Revision → Depth → Item → List Piece
+item_marks revisions depth (bytes_item b) = []
+item_marks revisions depth (element_item tag kids) = element_marks revisions depth tag kids
+item_marks revisions depth (idle_item t) = []
+
+-- ---- all that is shown of it
+
+abbrev pub item_pieces : (List ℕ → List ℕ) → List Revision → Place → Item → List Piece
+item_pieces shown revisions place (bytes_item b) = bytes_pieces shown place b
+item_pieces shown revisions place (element_item tag kids) =
+    element_pieces revisions place tag kids (nodes_pieces shown revisions (inside tag place) kids)
+item_pieces shown revisions place (idle_item t) = nodes_pieces shown revisions place (idle_nodes t)

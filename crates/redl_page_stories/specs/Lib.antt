@@ -1,0 +1,4 @@
+pub mod Signs
+pub mod Shapes
+pub mod Document
+pub mod Inside

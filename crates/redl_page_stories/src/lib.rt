@@ -1,0 +1,22 @@
+//! The stories of a page: a package whose revisions are numbered goes in, and comes out as HTML with an element for each member of a
+//! revision.
+//!
+//! Read `put_document`. It puts the list of pieces of `specs/Document.antt` in one walk and without memory, and no member of a
+//! revision is left out.
+//! The list of the revisions, the reviewers, and what is round all of it is left to `redl_page`.
+#![tactic(auto)]
+
+mod emphasis;
+mod idle;
+mod laws;
+mod marks;
+mod nodes;
+mod place;
+mod sections;
+mod shape;
+mod shown;
+mod sign;
+mod values;
+
+pub use laws::each_member_has_an_element;
+pub use sections::put_document;

@@ -1,0 +1,50 @@
+//! What is round the nodes of a list.
+
+ghost use Rattle.std.specs.Prelude.{◌≡◌};
+ghost use Rattle.redl_tree.specs.Model.View.{tag_of};
+
+use redl_tree::{Elem, Word, is_named, is_quiet, is_word};
+
+/// What is round the nodes of a list.
+#[derive(Clone, Copy)]
+pub(crate) struct Place {
+    /// No ancestor holds properties.
+    pub loud: bool,
+    /// The parent is a text.
+    pub shows: bool,
+}
+
+impl Place {
+    ghost use Rattle.redl_page_stories.specs.Document.{in_story, inside};
+    ghost use Rattle.redl_page_stories.specs.Inside.Idle.{idle_place};
+
+    /// The place of the kids of a story's root.
+    pub(crate) fn in_story() -> Place
+        ensures { result ≡ in_story }
+    {
+        Place {
+            loud: true,
+            shows: false,
+        }
+    }
+
+    /// The place of the kids of an element that has this place.
+    pub(crate) fn inside(self, elem: &Elem) -> Place
+        ensures { result ≡ inside (tag_of elem.now) self }
+    {
+        Place {
+            loud: self.loud && !is_quiet(elem),
+            shows: self.loud && (is_named(elem, b"t") || is_word(elem, Word::DelText)),
+        }
+    }
+
+    /// The place of the kids of an idle element with this local name that has this place.
+    pub(crate) fn inside_idle(self, local: &[u8]) -> Place
+        ensures { result ≡ idle_place self local.now }
+    {
+        Place {
+            loud: self.loud && local != b"rPr".as_slice(),
+            shows: self.loud && local == b"t".as_slice(),
+        }
+    }
+}

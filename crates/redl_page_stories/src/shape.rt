@@ -1,0 +1,269 @@
+//! How elements are shown that are in no revision.
+
+ghost use Rattle.std.specs.Prelude.{◌≡◌, ◌||◌, codes, if◌then◌else◌};
+ghost use Rattle.redl_tree.specs.Model.View.{nodes_of, item_of, tag_of, kids_of};
+ghost use Rattle.redl_tree.specs.Roles.Names.{is, of_w};
+ghost use Rattle.redl_idle.specs.Ahead.{Begins};
+ghost use Rattle.redl_page_stories.specs.Inside.Idle.{idle_shape};
+ghost use Rattle.redl_page_stories.specs.Shapes.{closing, has_property, holds_blocks, inline_named, inline_shape, is_block, is_note, is_other_form, is_paragraph, is_reference, opening, run_shape, shape_named, shape_of};
+ghost use Rattle.redl_page_stories.specs.Inside.Items.{item_holds};
+
+use crate::emphasis::Emphasis;
+use redl_stamp::has_attribute;
+use redl_tree::{Elem, Node, Space, Word, is_named, is_word};
+
+/// What an element is shown as that is in no revision.
+#[derive(Clone, Copy, Debug, PartialEq, Eq)]
+pub(crate) enum Shape {
+    /// It shows nothing of its own.
+    Nothing,
+    Paragraph,
+    /// A paragraph that holds blocks, which a `p` of HTML can't.
+    Division,
+    Table,
+    Row,
+    Cell,
+    /// What a text box holds.
+    TextBox,
+    /// A run, by how it is set.
+    Bold,
+    Italic,
+    BoldItalic,
+    Tab,
+    Break,
+    Hyphen,
+    Picture,
+    /// A note, or a reference to one.
+    Note,
+    /// The second form of content that is kept in two.
+    OtherForm,
+}
+
+impl Shape {
+    /// The shape of an element, where no ancestor holds properties or one does.
+    pub(crate) fn of(elem: &Elem, loud: bool) -> Shape
+        ensures { result ≡ shape_of loud (tag_of elem.now) (kids_of elem.now) }
+    {
+        if !loud {
+            return Shape::Nothing;
+        }
+        Shape::named(elem)
+    }
+
+    fn named(elem: &Elem) -> Shape
+        ensures { result ≡ shape_named (tag_of elem.now) (kids_of elem.now) }
+    {
+        if is_word(elem, Word::P) {
+            return Shape::of_paragraph(elem);
+        }
+        if is_word(elem, Word::R) {
+            return Shape::of_run(elem);
+        }
+        if is_word(elem, Word::Tbl) {
+            return Shape::Table;
+        }
+        if is_word(elem, Word::Tr) {
+            return Shape::Row;
+        }
+        if is_word(elem, Word::Tc) {
+            return Shape::Cell;
+        }
+        if is_word(elem, Word::TxbxContent) {
+            return Shape::TextBox;
+        }
+        if is_other_form(elem) {
+            return Shape::OtherForm;
+        }
+        Shape::inline(elem)
+    }
+
+    fn of_paragraph(elem: &Elem) -> Shape
+        ensures { result ≡ (if holds_blocks (kids_of elem.now) then Shape.Division else Shape.Paragraph) }
+    {
+        if holds_blocks(elem.kids()) {
+            return Shape::Division;
+        }
+        Shape::Paragraph
+    }
+
+    fn of_run(elem: &Elem) -> Shape
+        ensures { result ≡ run_shape (has_property (codes "b") (kids_of elem.now)) (has_property (codes "i") (kids_of elem.now)) }
+    {
+        Shape::set(Emphasis::of_run(elem.kids()))
+    }
+
+    // The shape of a run that is set so.
+    fn set(emphasis: Emphasis) -> Shape
+        ensures { result ≡ run_shape emphasis.bold emphasis.italic }
+    {
+        match (emphasis.bold, emphasis.italic) {
+            (false, false) => Shape::Nothing,
+            (true, false) => Shape::Bold,
+            (false, true) => Shape::Italic,
+            (true, true) => Shape::BoldItalic,
+        }
+    }
+
+    fn inline(elem: &Elem) -> Shape
+        ensures { result ≡ inline_named (tag_of elem.now) }
+    {
+        if elem.space() != Space::W {
+            return Shape::Nothing;
+        }
+        Shape::inline_by(elem.local(), is_note(elem))
+    }
+
+    // The shape of an element of W with this local name, which is a note or none.
+    fn inline_by(local: &[u8], is_note: bool) -> Shape
+        ensures { result ≡ inline_shape is_note (of_w local.now) }
+    {
+        if local == b"tab".as_slice() {
+            return Shape::Tab;
+        }
+        if local == b"br".as_slice() || local == b"cr".as_slice() {
+            return Shape::Break;
+        }
+        if local == b"noBreakHyphen".as_slice() {
+            return Shape::Hyphen;
+        }
+        if is_picture(local) {
+            return Shape::Picture;
+        }
+        if is_note {
+            return Shape::Note;
+        }
+        Shape::Nothing
+    }
+
+    /// The shape of an idle element with this local name, with whose kids a text begins, where no ancestor holds properties or one
+    /// does.
+    pub(crate) fn of_idle(local: &[u8], ahead: &[u8], loud: bool) -> Shape
+        requires { Begins ahead.now }
+        ensures { (kids : Begins ahead.now) → result ≡ idle_shape loud local.now kids.nodes }
+    {
+        if !loud {
+            return Shape::Nothing;
+        }
+        if local == b"r".as_slice() {
+            return Shape::set(Emphasis::of_run_ahead(ahead));
+        }
+        Shape::inline_by(local, is_reference(local))
+    }
+
+    /// Whether it is that of a paragraph.
+    pub(crate) fn is_paragraph(self) -> bool
+        ensures { result ≡ is_paragraph self }
+    {
+        matches!(self, Shape::Paragraph | Shape::Division)
+    }
+
+    /// What comes before the kids; the style of a paragraph and the id of a note come behind it.
+    pub(crate) fn opening(self) -> &'static [u8]
+        ensures { result.now ≡ codes (opening self) }
+    {
+        match self {
+            Shape::Nothing => b"",
+            Shape::Paragraph => b"<p",
+            Shape::Division => b"<div class=\"p\"",
+            Shape::Table => b"<table>\n",
+            Shape::Row => b"<tr>",
+            Shape::Cell => b"<td>",
+            Shape::TextBox => b"<span class=\"box\">",
+            Shape::Bold => b"<b>",
+            Shape::Italic => b"<i>",
+            Shape::BoldItalic => b"<b><i>",
+            Shape::Tab => b"\t",
+            Shape::Break => b"<br>",
+            Shape::Hyphen => b"&#8209;",
+            Shape::Picture => b"<span class=\"picture\">picture</span>",
+            Shape::Note => b"<sup>",
+            Shape::OtherForm => b"<details><summary>kept in another form</summary>",
+        }
+    }
+
+    /// What comes after them.
+    pub(crate) fn closing(self) -> &'static [u8]
+        ensures { result.now ≡ codes (closing self) }
+    {
+        match self {
+            Shape::Paragraph => b"</p>\n",
+            Shape::Division => b"</div>\n",
+            Shape::Table => b"</table>\n",
+            Shape::Row => b"</tr>\n",
+            Shape::Cell => b"</td>",
+            Shape::TextBox => b"</span>",
+            Shape::Bold => b"</b>",
+            Shape::Italic => b"</i>",
+            Shape::BoldItalic => b"</i></b>",
+            Shape::OtherForm => b"</details>",
+            Shape::Nothing => b"",
+            Shape::Tab => b"",
+            Shape::Break => b"",
+            Shape::Hyphen => b"",
+            Shape::Picture => b"",
+            Shape::Note => b"",
+        }
+    }
+}
+
+// Whether an element of W with this local name is a picture.
+fn is_picture(local: &[u8]) -> bool
+    ensures { result ≡ (is "drawing" (of_w local.now) || is "pict" (of_w local.now) || is "object" (of_w local.now)) }
+{
+    local == b"drawing".as_slice() || local == b"pict".as_slice() || local == b"object".as_slice()
+}
+
+// Whether an element of W with this local name is a reference to a note.
+fn is_reference(local: &[u8]) -> bool
+    ensures { result ≡ is_reference (of_w local.now) }
+{
+    local == b"footnoteReference".as_slice() || local == b"endnoteReference".as_slice()
+}
+
+// Whether an element is a reference to a note, or a note that is no separator.
+fn is_note(elem: &Elem) -> bool
+    ensures { result ≡ is_note (tag_of elem.now) }
+{
+    is_named(elem, b"footnoteReference")
+        || is_named(elem, b"endnoteReference")
+        || ((is_word(elem, Word::Footnote) || is_word(elem, Word::Endnote))
+            && !has_attribute(elem.tail(), b"type"))
+}
+
+// Whether an element is the second form of content that a file keeps in two.
+fn is_other_form(elem: &Elem) -> bool
+    ensures { result ≡ is_other_form (tag_of elem.now) }
+{
+    elem.space() == Space::Other && elem.local() == b"Fallback".as_slice()
+}
+
+// Whether a `p` of HTML can't hold an element.
+fn is_block(elem: &Elem) -> bool
+    ensures { result ≡ is_block (tag_of elem.now) }
+{
+    is_word(elem, Word::P) || is_word(elem, Word::Tbl) || is_other_form(elem)
+}
+
+// Whether there is such an element at some depth.
+#[cycle(blocks)]
+fn holds_blocks(nodes: &[Node]) -> bool
+    ensures { result ≡ holds_blocks (nodes_of nodes.now) }
+{
+    for node in nodes {
+        if node_holds(node) {
+            return true;
+        }
+    }
+    false
+}
+
+#[cycle(blocks)]
+fn node_holds(node: &Node) -> bool
+    ensures { result ≡ item_holds (item_of node.now) }
+{
+    match node {
+        Node::Elem(elem) => is_block(elem) || holds_blocks(elem.kids()),
+        Node::Bytes(_) => false,
+        Node::Plain(_) => false,
+    }
+}
