@@ -108,6 +108,15 @@ found_there : {I F : Type 0} (name_of : F → List ℕ) (text_of : F → List I 
 found_there name_of text_of text name found made None there listed = absurd (cc there)
 found_there name_of text_of text name found made (Some format) there listed = listed.0
 
+-- the same rows and verdicts make the same listing
+pub listed_same : {F : Type 0} {shown others : List Bool} {verdicts same : List Verdict} (text_of : F → List Row → Bool → List ℕ) (first : Option F) (found : Bool) (made : List ℕ)
+    (parts : List (List ℕ)) (revisions : List Revision) (details : List Detail) → shown ≡ others → verdicts ≡ same
+    → IsListed first (λ format. text_of format (shown_rows shown (told_rows parts revisions verdicts details)) true) found made
+    → IsListed first (λ format. text_of format (shown_rows others (told_rows parts revisions same details)) true) found made
+listed_same {others = others} {verdicts = verdicts} text_of first found made parts revisions details of_shown of_verdicts listed =
+    subst (λ vs. IsListed first (λ format. text_of format (shown_rows others (told_rows parts revisions vs details)) true) found made) of_verdicts
+    (subst (λ (ss : List Bool). IsListed first (λ format. text_of format (shown_rows ss (told_rows parts revisions verdicts details)) true) found made) of_shown listed)
+
 -- the format made the listing
 pub reads_listing : {F : Type 0} (name_of : F → List ℕ) (text_of : F → List Row → Bool → List ℕ) (name : List ℕ) (wanted : List Only) (admission : Admission) (formats : List F)
     (parts : List (List ℕ)) (revisions : List Revision) (verdicts : List Verdict) (details : List Detail) (shown : List Bool) (found : Bool) (made : List ℕ)

@@ -1,22 +1,26 @@
 //! `list P` with a format, journals and locks, of all revisions or of those alone that are wanted.
 
-ghost use Rattle.std.specs.Prelude.{◌≡◌, ◌<◌, length, slice_get, Ok, Some, All, IsUtf8, IfOk};
-ghost use Rattle.redl_commands.specs.List.{listed, listing_named, part_names, session_details, shows_details};
+ghost use Rattle.std.specs.Prelude.{◌≡◌, ◌⊎◌, ◌<◌, Bool, true, length, slice_get, Ok, Some, All, IsUtf8, IfOk, OnErr, OnOk};
+ghost use Rattle.redl_commands.specs.List.{listed, listing_named, part_names, session_details, session_verdicts, shows_details};
+ghost use Rattle.redl_commands.specs.Shown.{shown_revisions};
 ghost use Rattle.redl_commands.specs.Formats.{AreFresh, LeavesFormats, format_named, formats_by, whether};
 ghost use Rattle.redl_inputs.specs.Reading.{ReadsFiles, Reads};
 ghost use Rattle.redl_commands.specs.Views.{writing_view};
 ghost use Rattle.redl_inputs.specs.Views.{admission_view, result_view};
 ghost use Rattle.redl_commands.specs.Writing.{outcome_of};
 ghost use Rattle.redl_details.specs.Details.{IsDetail};
-ghost use Rattle.redl_formats.specs.Formats.{without_named};
+ghost use Rattle.redl_formats.specs.Formats.{IsListed, first_named, without_named};
+ghost use Rattle.redl_listing.specs.Rows.{shown_rows, told_rows};
 ghost use Rattle.redl_opc.specs.Shape.{parts_of};
 ghost use Rattle.redl_words.specs.Views.{onlys_view};
 
 use crate::shown::shown_revisions;
 use redl_commands::{Output, Writing};
 use redl_details::{Detail, package_details};
+use redl_index::Index;
 use redl_inputs::{Admitted, name_of, open_package, read_package};
 use redl_io::{Shelf, Text};
+use redl_join::Verdict;
 use redl_lines::Failure;
 use redl_listing::{RowFormat, list_told};
 use redl_opc::Package;
@@ -101,20 +105,69 @@ fn list_revisions<'a, 'b>(
         remarks,
         ..
     } = admitted;
-    let verdicts = session.verdicts()?;
-    let details = session_details(alloc, name, &session)?;
-    // The nodes go before the rows come, so that they aren't in memory together.
-    let index = session.into_index();
-    let shown = shown_revisions(alloc, only, index.revisions(), &verdicts)?;
-    let mut made = Vec::new(alloc);
-    // The format is there.
-    let _ = list_told(
-        alloc, formats, name, parts, &index, &verdicts, details, &shown, &mut made,
-    )?;
+    let told = told_of(alloc, name, session)?;
+    let made = make_listing(alloc, name, only, parts, told, formats)?;
     Ok(Writing {
         output: Output::Listing(made),
         remarks,
     })
+}
+
+// What a listing tells of a session: its revisions, the verdicts on them, and their details where the format shows them.
+#[derive(Drop)]
+struct Told {
+    index: Index,
+    verdicts: Vec<Verdict>,
+    details: Vec<Detail>,
+}
+
+// The same for the format with this name. The nodes go before the rows come, so that they aren't in memory together.
+fn told_of(alloc: Global, name: &str, session: Session) -> Result<Told, AllocError>
+    ensures index { IfOk result (λ told. told.index ≡ session.entry.revisions) }
+    ensures verdicts { IfOk result (λ told. told.verdicts.items ≡ session_verdicts session.entry) }
+    ensures details { IfOk result (λ told. told.details.items ≡ session_details name.now session.entry) }
+    ensures utf8 { IfOk result (λ told. All IsDetail told.details.items) }
+{
+    let verdicts = session.verdicts()?;
+    let details = session_details(alloc, name, &session)?;
+    Ok(Told {
+        index: session.into_index(),
+        verdicts,
+        details,
+    })
+}
+
+// The listing of what is shown of this, in the format with this name, if there is one.
+fn make_listing(
+    alloc: Global,
+    name: &str,
+    only: &[Only],
+    parts: &[Text],
+    told: Told,
+    formats: &mut Vec<Box<dyn RowFormat>>,
+) -> Result<Vec<u8>, AllocError>
+    requires utf8 { All IsUtf8 parts.now }
+    requires parts { All (λ revision. revision.part < length parts.now) told.index }
+    requires verdicts { length told.verdicts.items ≡ length told.index }
+    requires details { All IsDetail told.details.items }
+    requires fresh { AreFresh is_closed rows_so_far formats.old.items }
+    ensures made { IfOk result (λ made. (found : Bool) × IsListed (first_named format_name name.now formats.old.items)
+        (λ format. text_for format (shown_rows (shown_revisions (onlys_view only.now) told.index told.verdicts.items) (told_rows parts.now told.index told.verdicts.items told.details.items)) true)
+        found made.items) }
+    ensures taken { OnOk result (formats.new.items ≡ without_named format_name name.now formats.old.items) }
+    ensures left { OnErr result ((formats.new.items ≡ formats.old.items) ⊎ (formats.new.items ≡ without_named format_name name.now formats.old.items)) }
+{
+    let Told {
+        index,
+        verdicts,
+        details,
+    } = told;
+    let shown = shown_revisions(alloc, only, index.revisions(), &verdicts)?;
+    let mut made = Vec::new(alloc);
+    let _ = list_told(
+        alloc, formats, name, parts, &index, &verdicts, details, &shown, &mut made,
+    )?;
+    Ok(made)
 }
 
 // The details of a session's revisions, where the format with this name shows them. The nodes are needed for them.

@@ -62,7 +62,7 @@ fn report_session<'a, 'b>(
         remarks,
         ..
     } = admitted;
-    let lines = session_lines(alloc, by_kind, &session)?;
+    let lines = session_lines(alloc, by_kind, session)?;
     let mut made = Vec::new(alloc);
     // The format is there.
     let _ = report(reports, name, &lines, &mut made)?;
@@ -72,13 +72,13 @@ fn report_session<'a, 'b>(
     })
 }
 
-// The lines of a session, with those of kinds or without.
+// The lines of a session, with those of kinds or without. The session goes.
 fn session_lines(
     alloc: Global,
     by_kind: bool,
-    session: &Session,
+    session: Session,
 ) -> Result<Vec<ReportLine>, AllocError>
-    ensures lines { IfOk result (λ lines. lines.items ≡ session_lines by_kind session.now) }
+    ensures lines { IfOk result (λ lines. lines.items ≡ session_lines by_kind session.entry) }
     ensures names { IfOk result (λ lines. All IsLine lines.items) }
 {
     if by_kind {

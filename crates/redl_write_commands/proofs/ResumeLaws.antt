@@ -181,10 +181,18 @@ conclude_ok whole one again document refused second under of_document were step 
         ∙ ap (λ (r : RefusedEntries). Ok (written_with document r second)) (sym were)
 
 -- what a second sitting comes to, by the steps that make it
-pub joined_is : (before : List Entry) (numbers : List (List ℕ)) (two : Admission) (book : List Entry) (left : List ℕ) (back : List ℕ) (seconds : List (List ℕ)) (count : ℕ)
-    → seconds ≡ part_numbers two.state.nodes → count ≡ length two.state.revisions → back ≡ numbers_beside (parts_beside seconds numbers) count → book ≡ with_second before two.state.book back
+pub joined_is : (before : List Entry) (numbers : List (List ℕ)) (two : Admission) (book : List Entry) (left : List ℕ)
+    → book ≡ with_second before two.state.book (numbers_beside (parts_beside (part_numbers two.state.nodes) numbers) (length two.state.revisions))
     → left ≡ left_text two.state → (let r : SecondSitting = record { book = book; text = left; refused = two.remarks.refused } in r) ≡ joined_by before numbers two
-joined_is before numbers two book left back seconds count is_seconds is_count is_back is_book is_left = rw (is_book, is_back, is_seconds, is_count, is_left) refl
+joined_is before numbers two book left is_book is_left = rw (is_book, is_left) refl
+
+-- the book that it has, by the steps that make it
+pub joined_book_is : (before entries book : List Entry) (numbers seconds : List (List ℕ)) (nodes : Nodes) (count revisions : ℕ) (back : List ℕ)
+    → seconds ≡ part_numbers nodes → count ≡ revisions → back ≡ numbers_beside (parts_beside seconds numbers) count → book ≡ with_second before entries back
+    → book ≡ with_second before entries (numbers_beside (parts_beside (part_numbers nodes) numbers) revisions)
+joined_book_is before entries book numbers seconds nodes count revisions back is_seconds is_count is_back is_book =
+    is_book ∙ ap (with_second before entries)
+    (is_back ∙ ap (λ ns. numbers_beside (parts_beside ns numbers) count) is_seconds ∙ ap (numbers_beside (parts_beside (part_numbers nodes) numbers)) is_count)
 
 -- what is due of a second sitting, in one step and in two
 by_sittings : (one : Admission) (first : First) → IsFirst one first → (made : Result (Admission × ℕ) Failure)

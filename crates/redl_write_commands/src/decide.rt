@@ -33,15 +33,15 @@ pub fn decide_package<'a, 'b, F: Shelf>(
     ensures { ReadsFiles F.told F.faults F.asked shelf.old shelf.new command.now.journals.items
         (result_view writing_view result) (λ reader files. chosen_journal reader files command.now.reviewer command.now.rank command.now.locks.items command.now.journals.items (choices_view command.now.choices.items) bytes.now) }
 {
-    let admitted = open(alloc, &command.locks, &command.journals, bytes, shelf)?;
-    let decided = admit_choices(
+    let mut admitted = open(alloc, &command.locks, &command.journals, bytes, shelf)?;
+    admit_choices(
         alloc,
         &command.reviewer,
         command.rank,
         &command.choices,
-        admitted,
+        &mut admitted,
     )?;
-    Ok(write_book(decided))
+    Ok(write_book(admitted))
 }
 
 // Admits what the reviewer chooses.
@@ -50,20 +50,20 @@ fn admit_choices<'a, 'b>(
     reviewer: &'a Text,
     rank: u8,
     choices: &[(Word, Selection)],
-    before: Admitted<'b>,
-) -> Result<Admitted<'b>, Failure<'a>>
+    admitted: &mut Admitted<'b>,
+) -> Result<(), Failure<'a>>
     requires reviewer { IsReviewer reviewer.now }
     requires rank { rank ≤ 9 }
-    ensures { Reads (result_view admission_view result) (λ _. with_choices reviewer.now rank (choices_view choices.now) (admission_view before.entry)) }
+    ensures { Reads (result_view (λ _. admission_view admitted.new) result) (λ _. with_choices reviewer.now rank (choices_view choices.now) (admission_view admitted.old)) }
 {
-    let greatest = before.session.book().greatest(reviewer.as_bytes());
+    let greatest = admitted.session.book().greatest(reviewer.as_bytes());
     let Some(seq) = greatest.checked_add(1) else {
         return Err(Failure::Cause(Cause::NoSequence(reviewer.as_bytes())));
     };
-    let entries = choose_entries(alloc, before.session.index(), reviewer, rank, seq, choices)?;
-    let mut admitted = before;
+    let index = admitted.session.index();
+    let entries = choose_entries(alloc, index, reviewer, rank, seq, choices)?;
     admitted.admit(entries)?;
-    Ok(admitted)
+    Ok(())
 }
 
 // The journal of the session's book.

@@ -4,7 +4,7 @@
 //! `take_second` takes the second sitting and drops its package, and `conclude` compares what both come to. The first package is read
 //! again for that, so that no more than one tree is there at a time.
 
-ghost use Rattle.std.specs.Prelude.{◌≡◌, ◌<◌, ◌^◌, ◌++◌, ◌∷◌, All, IsUtf8, IfOk, Ok, map};
+ghost use Rattle.std.specs.Prelude.{◌≡◌, ◌<◌, ◌^◌, ◌++◌, ◌∷◌, All, IsUtf8, IfOk, Ok, length, map};
 ghost use Rattle.std.specs.Str.{bytes_eq};
 ghost use Rattle.redl_commands.specs.Resume.{of_second, resumed, resumed_on, resumed_with, second_cause, second_failure};
 ghost use Rattle.redl_commands.specs.Settle.{passed_text};
@@ -19,6 +19,10 @@ ghost use Rattle.redl_inputs.specs.Views.{admission_view, document_view, result_
 ghost use Rattle.redl_lines.specs.Failures.{cause_view, failure_view};
 ghost use Rattle.redl_rules.specs.Attributes.{broken_rule};
 ghost use Rattle.redl_session.specs.Says.{says_of};
+ghost use Rattle.redl_session.specs.Sessions.{says};
+ghost use Rattle.redl_sittings.specs.JoinedBooks.{with_second};
+ghost use Rattle.redl_sittings.specs.SecondNumbers.{numbers_beside, part_numbers, parts_beside};
+ghost use Rattle.redl_tree.specs.Decisions.Packages.{pass_package};
 ghost use Rattle.redl_tree.specs.Model.Text.{text};
 ghost use Rattle.redl_tree.specs.Model.View.{nodes_of};
 
@@ -31,7 +35,7 @@ use redl_inputs::{
 use redl_io::{Shelf, Text};
 use redl_join::Book;
 use redl_lines::{Cause, Failure, RefusedEntries, Remarks};
-use redl_session::book_says;
+use redl_session::{Session, book_says};
 use redl_sittings::{add_second, decided, first_numbers, numbers_by_part};
 use redl_tree::{Node, write_nodes};
 use redl_words::ResumeCommand;
@@ -100,9 +104,7 @@ fn leave(alloc: Global, admitted: Admitted, room: usize) -> Result<(First, Vec<u
     let mut document = document;
     let document = document.id();
     let decided = decided(alloc, session.book())?;
-    let nodes = session.into_passed()?;
-    let numbers = numbers_by_part(alloc, &nodes)?;
-    let text = text_of(alloc, &nodes, room)?;
+    let (numbers, text) = pass_on(alloc, session, room)?;
     let first = First {
         document,
         decided,
@@ -110,6 +112,21 @@ fn leave(alloc: Global, admitted: Admitted, room: usize) -> Result<(First, Vec<u
         refused: remarks.refused,
     };
     Ok((first, text))
+}
+
+// The numbers of what a session leaves of its package, and the text of that. The session goes.
+fn pass_on(
+    alloc: Global,
+    session: Session,
+    room: usize,
+) -> Result<(Vec<Vec<u32>>, Vec<u8>), AllocError>
+    ensures numbers { IfOk result (λ x. map (λ part. part.items) x.0.items ≡ part_numbers (pass_package (says session.entry) session.entry.nodes)) }
+    ensures text { IfOk result (λ x. x.1.items ≡ left_text session.entry) }
+{
+    let nodes = session.into_passed()?;
+    let numbers = numbers_by_part(alloc, &nodes)?;
+    let text = text_of(alloc, &nodes, room)?;
+    Ok((numbers, text))
 }
 
 // The text of nodes. Room for `room` bytes is made at once.
@@ -256,16 +273,38 @@ fn join(
         remarks,
         ..
     } = second;
+    let book = join_books(alloc, decided, numbers, &session)?;
+    let text = text_left(alloc, session, room)?;
+    Ok(Joined {
+        book,
+        text,
+        refused: remarks.refused,
+    })
+}
+
+// The book of both sittings, where this is the session of the second one.
+fn join_books(
+    alloc: Global,
+    decided: Book,
+    numbers: &[Vec<u32>],
+    session: &Session,
+) -> Result<Book, AllocError>
+    ensures { IfOk result (λ book. book ≡ with_second decided session.now.book
+        (numbers_beside (parts_beside (part_numbers session.now.nodes) (map (λ part. part.items) numbers.now)) (length session.now.revisions))) }
+{
     let seconds = numbers_by_part(alloc, session.package().nodes())?;
     let back = first_numbers(alloc, numbers, &seconds, session.index().count())?;
     let mut book = decided;
     add_second(alloc, &mut book, session.book(), &back)?;
+    Ok(book)
+}
+
+// The text of what a session leaves of its package. The session goes.
+fn text_left(alloc: Global, session: Session, room: usize) -> Result<Vec<u8>, AllocError>
+    ensures { IfOk result (λ bytes. bytes.items ≡ left_text session.entry) }
+{
     let nodes = session.into_passed()?;
-    Ok(Joined {
-        book,
-        text: text_of(alloc, &nodes, room)?,
-        refused: remarks.refused,
-    })
+    text_of(alloc, &nodes, room)
 }
 
 // The journal of both sittings, where they come to the same text: for the package with this text, as its journals know it, whose

@@ -46,10 +46,19 @@ fn summarize<'b>(alloc: Global, number: u32, pkg: Surveyed) -> Result<Writing<'b
     requires unlabelled { unlabelled pkg ≡ pkg }
     ensures { IfOk result (λ writing. (whole : List ℕ) → writing_view writing ≡ summarized number (no_admission whole pkg.entry [])) }
 {
-    let mut session = begin(alloc, pkg)?;
-    admit_reviewers(alloc, number, &mut session)?;
-    let summary = summary_of(alloc, number, &session)?;
+    let session = begin(alloc, pkg)?;
+    let summary = summary_after(alloc, number, session)?;
     Ok(Writing::only(alloc, Output::Summary(summary)))
+}
+
+// What a session over the sample comes to after the entries of the reviewers' journals. It goes.
+fn summary_after(alloc: Global, number: u32, begun: LiveSession) -> Result<Summary, AllocError>
+    requires { number ≤ SAMPLE_LIMIT }
+    ensures { IfOk result (λ summary. summary ≡ summary_of number (after begun.entry (reviewers_entries number))) }
+{
+    let mut session = begun;
+    admit_reviewers(alloc, number, &mut session)?;
+    summary_of(alloc, number, &session)
 }
 
 // A session over the package, before any entry.

@@ -12,15 +12,15 @@ returns-in_err-admitted g c =
     rw (p.1, p.2) (reads_stops (λ before reader files. with_choices c.args.command.now.reviewer c.args.command.now.rank (choices_view c.args.command.now.choices.items) before >>= (λ admission. Ok (book_written admission)))
     (rw (c.deref.ensures.value, c.deref-2.ensures.value) at c.in_err-admitted.ensures))
 
-pub returns-in_err-decided : goal.returns-in_err-decided
-returns-in_err-decided g c =
-    let p = err_from_is_err_and c.from_residual-in_err-decided.result c.from_residual-in_err-decided.ensures.1 in
+pub returns-in_err-admit_choices : goal.returns-in_err-admit_choices
+returns-in_err-admit_choices g c =
+    let p = err_from_is_err_and c.from_residual-in_err-admit_choices.result c.from_residual-in_err-admit_choices.ensures.1 in
     rw (p.1, p.2) (reads_then_takes (λ before reader. with_choices c.args.command.now.reviewer c.args.command.now.rank (choices_view c.args.command.now.choices.items) before >>= (λ admission. Ok (book_written admission)))
     (rw (c.deref.ensures.value, c.deref-2.ensures.value) at c.in_ok-admitted.ensures)
-    (takes_stops (λ admission reader. Ok (book_written admission)) (rw c.deref-3.ensures.value at c.in_err-decided.ensures)))
+    (takes_stops (λ admission reader. Ok (book_written admission)) (rw c.deref-3.ensures.value at c.in_err-admit_choices.ensures)))
 
 pub returns : goal.returns
 returns g c =
     reads_then_takes (λ before reader. with_choices c.args.command.now.reviewer c.args.command.now.rank (choices_view c.args.command.now.choices.items) before >>= (λ admission. Ok (book_written admission)))
     (rw (c.deref.ensures.value, c.deref-2.ensures.value) at c.in_ok-admitted.ensures)
-    (takes_ok (λ admission. Ok (book_written admission)) (rw c.deref-3.ensures.value at c.in_ok-decided.ensures) (ap Ok (sym c.write_book.ensures)))
+    (takes_ok (λ admission. Ok (book_written admission)) (rw c.deref-3.ensures.value at c.in_ok-admit_choices.ensures) (ap Ok (sym c.write_book.ensures)))

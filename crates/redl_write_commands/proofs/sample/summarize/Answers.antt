@@ -1,4 +1,4 @@
-use Rattle.std.proofs.Common.{◌∙◌, ap}
+use Rattle.std.proofs.Common.{◌∙◌, ap, refl}
 use Rattle.redl_write_commands.proofs.SampleLaws.{summarized_after}
 use Rattle.redl_commands.specs.Writing.{only_bytes}
 use Rattle.redl_sample.specs.Summaries.{summary_text}
@@ -8,4 +8,4 @@ use Rattle.redl_write_commands.proofs.sample.summarize.Goals as goal
 pub returns : goal.returns
 returns c whole =
     c.only.ensures ∙ ap (λ (summary : Summary). only_bytes (summary_text summary)) c.in_ok-summary.ensures
-    ∙ summarized_after c.args.number whole c.args.pkg c.in_ok-session.session _ c.in_ok-session.ensures c.in_ok-admit_reviewers.ensures
+    ∙ summarized_after c.args.number whole c.args.pkg c.in_ok-session.session _ c.in_ok-session.ensures refl
