@@ -21,36 +21,39 @@ const UPPER: &[u8] = b"E3B0C44298FC1C149AFBF4C8996FB92427AE41E4649B934CA495991B7
 const COUNT: &[u8] = b"\nrevisions 3\n";
 
 // The text of these parts, one after another.
-fn text_of(alloc: Global, parts: &[&[u8]]) -> Result<Vec<u8>, AllocError> {
-    let mut text = Vec::new(alloc);
-    for part in parts {
-        text.extend_from_slice(part)?;
-    }
+fn text_of(
+    alloc: Global,
+    title: &[u8],
+    digest: &[u8],
+    count: &[u8],
+    lines: &[u8],
+) -> Result<Vec<u8>, AllocError> {
+    let mut text = Vec::from_slice(alloc, title)?;
+    text.extend_from_slice(digest)?;
+    text.extend_from_slice(count)?;
+    text.extend_from_slice(lines)?;
     Ok(text)
 }
 
-fn is_malformed(alloc: Global, parts: &[&[u8]]) -> Result<bool, AllocError> {
-    let text = text_of(alloc, parts)?;
-    Ok(read(alloc, &text).err() == Some(JournalError::Malformed))
+fn is_malformed(alloc: Global, text: &[u8]) -> bool {
+    read(alloc, text).err() == Some(JournalError::Malformed)
 }
 
 #[test]
 fn heads_of_no_journal_are_refused(rt: HostRuntime) -> Result<(), Fail> {
-    for (fault, parts) in [
-        ("nothing", [b"".as_slice(), b"".as_slice(), b"".as_slice()]),
-        ("version 3", [b"redline-journal 3\ndocument ", ZEROS, COUNT]),
-        (
-            "version 02",
-            [b"redline-journal 02\ndocument ", ZEROS, COUNT],
-        ),
-        ("no title", [b"document ", ZEROS, COUNT]),
-        ("63 digits", [TITLE, &ZEROS[1..], COUNT]),
-        ("upper-case digits", [TITLE, UPPER, COUNT]),
-        ("count 03", [TITLE, ZEROS, b"\nrevisions 03\n"]),
-        ("count 2^32", [TITLE, ZEROS, b"\nrevisions 4294967296\n"]),
-        ("cut count", [TITLE, ZEROS, b"\nrevisions 3"]),
+    for (fault, title, digest, count) in [
+        ("nothing", b"".as_slice(), b"".as_slice(), b"".as_slice()),
+        ("version 3", b"redline-journal 3\ndocument ", ZEROS, COUNT),
+        ("version 02", b"redline-journal 02\ndocument ", ZEROS, COUNT),
+        ("no title", b"document ", ZEROS, COUNT),
+        ("63 digits", TITLE, &ZEROS[1..], COUNT),
+        ("upper-case digits", TITLE, UPPER, COUNT),
+        ("count 03", TITLE, ZEROS, b"\nrevisions 03\n"),
+        ("count 2^32", TITLE, ZEROS, b"\nrevisions 4294967296\n"),
+        ("cut count", TITLE, ZEROS, b"\nrevisions 3"),
     ] {
-        assert!(rt; is_malformed(rt.alloc(), &parts)?, "{fault}");
+        let text = text_of(rt.alloc(), title, digest, count, b"")?;
+        assert!(rt; is_malformed(rt.alloc(), &text), "{fault}");
     }
     Ok(())
 }
@@ -72,10 +75,8 @@ fn lines_of_no_entry_are_refused(rt: HostRuntime) -> Result<(), Fail> {
         ("space for a tab", b"1 1\taccept\tAnn\n"),
         ("a rank in version 1", b"1\t1\taccept\t0\tAnn\n"),
     ] {
-        assert!(rt;
-            is_malformed(rt.alloc(), &[TITLE, ZEROS, COUNT, line])?,
-            "{fault}"
-        );
+        let text = text_of(rt.alloc(), TITLE, ZEROS, COUNT, line)?;
+        assert!(rt; is_malformed(rt.alloc(), &text), "{fault}");
     }
     Ok(())
 }
@@ -89,10 +90,8 @@ fn lines_without_a_rank_are_refused_in_version_2(rt: HostRuntime) -> Result<(), 
         ("an empty rank", b"1\t1\taccept\t\tAnn\n"),
         ("the rank last", b"1\t1\taccept\tAnn\t2\n"),
     ] {
-        assert!(rt;
-            is_malformed(rt.alloc(), &[RANKED, ZEROS, COUNT, line])?,
-            "{fault}"
-        );
+        let text = text_of(rt.alloc(), RANKED, ZEROS, COUNT, line)?;
+        assert!(rt; is_malformed(rt.alloc(), &text), "{fault}");
     }
     Ok(())
 }
@@ -107,25 +106,28 @@ fn is_written(alloc: Global, text: &[u8], entries: usize, want: &[u8]) -> Result
 
 #[test]
 fn journals_are_written_as_they_were_read(rt: HostRuntime) -> Result<(), Fail> {
-    for (title, rest, entries) in [
-        (TITLE, b"\nrevisions 0\n".as_slice(), 0),
+    for (title, count, lines, entries) in [
+        (TITLE, b"\nrevisions 0\n".as_slice(), b"".as_slice(), 0),
         (
             TITLE,
-            b"\nrevisions 3\n1\t1\twithdraw\tAnn\n1\t1\twithdraw\tAnn\n1\t1\taccept\tAnn\n",
+            COUNT,
+            b"1\t1\twithdraw\tAnn\n1\t1\twithdraw\tAnn\n1\t1\taccept\tAnn\n",
             3,
         ),
         (
             TITLE,
-            b"\nrevisions 9\n4294967295\t0\taccept\tCy & Co\n1\t4294967295\treject\tJ\xc3\xb6rg\n",
+            b"\nrevisions 9\n",
+            b"4294967295\t0\taccept\tCy & Co\n1\t4294967295\treject\tJ\xc3\xb6rg\n",
             2,
         ),
         (
             RANKED,
-            b"\nrevisions 3\n1\t1\treject\t9\tChief\n1\t1\taccept\t0\tAnn\n",
+            COUNT,
+            b"1\t1\treject\t9\tChief\n1\t1\taccept\t0\tAnn\n",
             2,
         ),
     ] {
-        let text = text_of(rt.alloc(), &[title, EMPTY, rest])?;
+        let text = text_of(rt.alloc(), title, EMPTY, count, lines)?;
         assert!(rt;
             is_written(rt.alloc(), &text, entries, &text)?,
             "{entries} entries"
@@ -137,19 +139,11 @@ fn journals_are_written_as_they_were_read(rt: HostRuntime) -> Result<(), Fail> {
 #[test]
 fn ranks_of_0_are_written_in_version_1(rt: HostRuntime) -> Result<(), Fail> {
     for (ranked, plain, entries) in [
-        (
-            b"\nrevisions 3\n".as_slice(),
-            b"\nrevisions 3\n".as_slice(),
-            0,
-        ),
-        (
-            b"\nrevisions 3\n1\t1\taccept\t0\tAnn\n",
-            b"\nrevisions 3\n1\t1\taccept\tAnn\n",
-            1,
-        ),
+        (b"".as_slice(), b"".as_slice(), 0),
+        (b"1\t1\taccept\t0\tAnn\n", b"1\t1\taccept\tAnn\n", 1),
     ] {
-        let text = text_of(rt.alloc(), &[RANKED, EMPTY, ranked])?;
-        let want = text_of(rt.alloc(), &[TITLE, EMPTY, plain])?;
+        let text = text_of(rt.alloc(), RANKED, EMPTY, COUNT, ranked)?;
+        let want = text_of(rt.alloc(), TITLE, EMPTY, COUNT, plain)?;
         assert!(rt;
             is_written(rt.alloc(), &text, entries, &want)?,
             "{entries} entries"
@@ -178,8 +172,8 @@ fn has_copy(
 
 #[test]
 fn entries_are_read_field_by_field(rt: HostRuntime) -> Result<(), Fail> {
-    let rest = b"\nrevisions 300\n7\t205\treject\t0\tBob\n12\t0\taccept\t7\tAnn B\n";
-    let text = text_of(rt.alloc(), &[RANKED, EMPTY, rest])?;
+    let lines = b"7\t205\treject\t0\tBob\n12\t0\taccept\t7\tAnn B\n";
+    let text = text_of(rt.alloc(), RANKED, EMPTY, b"\nrevisions 300\n", lines)?;
     let journal = read(rt.alloc(), &text)?;
     let head = (journal.count, journal.digest[0], journal.digest[31]);
     assert!(rt; head == (300, 0xe3, 0x55), "{head:?}");
