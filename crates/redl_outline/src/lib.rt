@@ -30,4 +30,4 @@ mod packages;
 mod words;
 
 pub use outline::{Outline, nodes_text, outline_text};
-pub use packages::{document, package, part};
+pub use packages::{document, document_package, package, part};

@@ -22,3 +22,10 @@ pub fn part(alloc: Global, name: &str, data: &str) -> Result<String, AllocError>
 pub fn package(alloc: Global, parts: &str) -> Result<String, AllocError> {
     format!(in alloc; "{FRONT}{parts}</pkg:package>")
 }
+
+/// The text of the package whose one part has this name and a document with this body.
+pub fn document_package(alloc: Global, name: &str, body: &str) -> Result<String, AllocError> {
+    let document = document(alloc, body)?;
+    let part = part(alloc, name, document.as_str())?;
+    package(alloc, part.as_str())
+}
