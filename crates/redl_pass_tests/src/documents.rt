@@ -3,24 +3,18 @@
 
 use redl_index::Index;
 use redl_opc::Package;
-use redl_outline::{document, outline_text, package, part};
+use redl_outline::{document_package, outline_text};
 use redl_tree::{Node, Say};
 use std::alloc::{AllocError, Global};
 use std::test::Fail;
 
-/// The text of a package with a document for each of these bodies, which are outlines, with words of their own.
+/// The text of a package whose document has this body, which is an outline with words of its own.
 pub(crate) fn package_text(
     alloc: Global,
-    bodies: &[&str],
+    body: &str,
     own: &[(&str, &str)],
 ) -> Result<String, AllocError> {
-    let mut parts = String::new(alloc);
-    for body in bodies {
-        let body = outline_text(alloc, body, own)?;
-        let document = document(alloc, body.as_str())?;
-        parts.push_str(part(alloc, "/a", document.as_str())?.as_str())?;
-    }
-    package(alloc, parts.as_str())
+    document_package(alloc, "/a", outline_text(alloc, body, own)?.as_str())
 }
 
 /// The package with this text.

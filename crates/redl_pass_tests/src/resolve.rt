@@ -60,7 +60,7 @@ fn a_package_is_resolved(rt: HostRuntime) -> Result<(), Fail> {
 
 // The text of the package with this body, read and then passed under the same say for each revision.
 fn passed_body(alloc: Global, body: &str, say: Say) -> Result<String, Fail> {
-    let text = package_text(alloc, &[body], &[])?;
+    let text = package_text(alloc, body, &[])?;
     let mut package = read_package(alloc, text.as_bytes())?;
     let says = says_for(alloc, &mut package, say)?;
     let nodes = pass(alloc, package.nodes(), &says)?;
@@ -130,15 +130,19 @@ const BODIES: &[(&str, &str, &str)] = &[
     ),
 ];
 
+// Whether the package with this body is passed so.
+fn becomes(alloc: Global, body: &str, say: Say, want: &str) -> Result<bool, Fail> {
+    let got = passed_body(alloc, body, say)?;
+    let want = package_text(alloc, want, &[])?;
+    Ok(got == want)
+}
+
 #[test]
 fn a_body_that_is_read_is_resolved(rt: HostRuntime) -> Result<(), Fail> {
     for (body, accepted, rejected) in BODIES {
-        let got = passed_body(rt.alloc(), body, Say::Accept)?;
-        let want = package_text(rt.alloc(), &[accepted], &[])?;
-        assert!(rt; got == want, "{body}, accepted: {got}");
-        let got = passed_body(rt.alloc(), body, Say::Reject)?;
-        let want = package_text(rt.alloc(), &[rejected], &[])?;
-        assert!(rt; got == want, "{body}, rejected: {got}");
+        let after = becomes(rt.alloc(), body, Say::Accept, accepted)?;
+        let before = becomes(rt.alloc(), body, Say::Reject, rejected)?;
+        assert!(rt; after && before, "{body}: {after} {before}");
     }
     Ok(())
 }

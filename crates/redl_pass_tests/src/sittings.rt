@@ -1,36 +1,38 @@
 //! Small documents of two sittings: the first number of each second number, and the journal of both books.
 
-ghost use Rattle.std.specs.Prelude.{All, IfOk};
-ghost use Rattle.redl_journal.specs.Journals.{IsAllowed};
-
 use crate::documents::{package_text, read_package};
 use redl_index::Index;
 use redl_io::MemSink;
 use redl_join::Book;
-use redl_journal::{Entry, read};
+use redl_outline::{document, outline_text, package, part};
 use redl_sittings::{joined, map_back};
+use redl_test_journals::book_of;
 use redl_tree::Say;
 use std::alloc::{AllocError, Global};
 use std::test::Fail;
 
+// The head of a journal, and that of version 2, whose entries have ranks.
 const HEAD: &[u8] =
     b"redline-journal 1\ndocument 0000000000000000000000000000000000000000000000000000000000000000\nrevisions 3\n";
 
-// The same of version 2, whose entries have ranks.
 const RANKED: &[u8] =
     b"redline-journal 2\ndocument 0000000000000000000000000000000000000000000000000000000000000000\nrevisions 3\n";
 
-// The first numbers of the second package's revisions, where the first one was decided by these says.
-fn first_numbers(
-    alloc: Global,
-    firsts: &[&str],
-    says: &[Say],
-    seconds: &[&str],
-) -> Result<Vec<u32>, Fail> {
-    let first_text = package_text(alloc, firsts, &[])?;
-    let second_text = package_text(alloc, seconds, &[])?;
-    let mut first = read_package(alloc, first_text.as_bytes())?;
-    let mut second = read_package(alloc, second_text.as_bytes())?;
+// The text of a package with a document for each of these bodies.
+fn text_of_parts(alloc: Global, bodies: &[&str]) -> Result<String, AllocError> {
+    let mut parts = String::new(alloc);
+    for body in bodies {
+        let body = outline_text(alloc, body, &[])?;
+        let document = document(alloc, body.as_str())?;
+        parts.push_str(part(alloc, "/a", document.as_str())?.as_str())?;
+    }
+    package(alloc, parts.as_str())
+}
+
+// The first numbers of the revisions of the second package, where the first one was decided by these says.
+fn first_numbers(alloc: Global, first: &str, says: &[Say], second: &str) -> Result<Vec<u32>, Fail> {
+    let mut first = read_package(alloc, first.as_bytes())?;
+    let mut second = read_package(alloc, second.as_bytes())?;
     let _numbered = Index::build(alloc, &mut first)?;
     let index = Index::build(alloc, &mut second)?;
     Ok(map_back(alloc, &first, says, &second, index.count())?)
@@ -75,7 +77,9 @@ const SITTINGS: [(&str, &[Say], &str, &[u32]); 5] = [
 #[test]
 fn each_second_number_has_its_first_one(rt: HostRuntime) -> Result<(), Fail> {
     for (first, says, second, want) in SITTINGS {
-        let back = first_numbers(rt.alloc(), &[first], says, &[second])?;
+        let before = package_text(rt.alloc(), first, &[])?;
+        let after = package_text(rt.alloc(), second, &[])?;
+        let back = first_numbers(rt.alloc(), before.as_str(), says, after.as_str())?;
         assert!(rt; back.as_slice() == want, "{first}");
     }
     Ok(())
@@ -83,33 +87,12 @@ fn each_second_number_has_its_first_one(rt: HostRuntime) -> Result<(), Fail> {
 
 #[test]
 fn each_part_has_its_own_numbers(rt: HostRuntime) -> Result<(), Fail> {
-    let back = first_numbers(
-        rt.alloc(),
-        &[INSERTED, DELETED, INSERTED],
-        &[Say::Accept, Say::Keep, Say::Keep],
-        &[LIVE, DELETED, INSERTED],
-    )?;
+    let says = [Say::Accept, Say::Keep, Say::Keep];
+    let before = text_of_parts(rt.alloc(), &[INSERTED, DELETED, INSERTED])?;
+    let after = text_of_parts(rt.alloc(), &[LIVE, DELETED, INSERTED])?;
+    let back = first_numbers(rt.alloc(), before.as_str(), &says, after.as_str())?;
     assert!(rt; back.as_slice() == [2, 3].as_slice());
     Ok(())
-}
-
-// The entries of a journal with these lines, which have ranks if it is said so.
-fn entries_of(alloc: Global, lines: &[u8], has_ranks: bool) -> Result<Vec<Entry>, Fail>
-    ensures { IfOk result (λ entries. All IsAllowed entries.items) }
-{
-    let head = if has_ranks { RANKED } else { HEAD };
-    let mut text = Vec::from_slice(alloc, head)?;
-    text.extend_from_slice(lines)?;
-    let journal = read(alloc, &text)?;
-    Ok(journal.entries)
-}
-
-fn book_of(alloc: Global, lines: &[u8], has_ranks: bool) -> Result<Book, Fail> {
-    let mut book = Book::new(alloc);
-    for entry in entries_of(alloc, lines, has_ranks)? {
-        book.add(entry)?;
-    }
-    Ok(book)
 }
 
 // Whether the book is that of a journal with these lines.
@@ -164,8 +147,8 @@ fn the_book_of_two_sittings(rt: HostRuntime) -> Result<(), Fail> {
             true,
         ),
     ] {
-        let first = book_of(alloc, firsts, has_ranks)?;
-        let second = book_of(alloc, seconds, has_ranks)?;
+        let first = book_of(alloc, firsts)?;
+        let second = book_of(alloc, seconds)?;
         let book = joined(alloc, &first, &second, back)?;
         assert!(rt; has_lines(alloc, &book, want, has_ranks)?, "{case}");
     }
