@@ -16,10 +16,11 @@ use redl_lines::End;
 use redl_listing::RowFormat;
 use redl_page::Skin;
 use redl_report::ReportFormat;
+use redl_sample_command::make_sample;
 use redl_show_commands::{check_package, list_package, put_page, put_text, report_package};
 use redl_words::Command;
 use redl_write_commands::{
-    decide_package, join_files, make_sample, resume_package, settle_package, write_package,
+    decide_package, join_files, resume_package, settle_package, write_package,
 };
 use std::alloc::Global;
 

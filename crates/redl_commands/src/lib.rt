@@ -2,9 +2,11 @@
 //!
 //! Read `specs/Settle.antt` or `specs/Write.antt` first: each command has a module there, which says what is written for the files that the
 //! command names, or for which first cause nothing is. `put` promises how a call ends that writes what it made.
-//! The code that makes it is left to two crates beside each other: `redl_write_commands` and `redl_show_commands`.
+//! The code that makes it is left to three crates beside each other: `redl_write_commands`, `redl_show_commands`, `redl_sample_command`.
 #![tactic(auto)]
 
+mod collected;
 mod output;
 
+pub use collected::Collected;
 pub use output::{Output, Writing, put};

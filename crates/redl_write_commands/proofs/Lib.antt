@@ -1,4 +1,3 @@
 pub mod ChoiceLaws
 pub mod JoinLaws
 pub mod ResumeLaws
-pub mod SampleLaws

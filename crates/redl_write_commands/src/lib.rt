@@ -1,4 +1,4 @@
-//! The commands that write packages and journals: texts, the shelf and numbers go in; what is written, or why nothing is, comes out.
+//! The commands that write packages and journals: texts and the shelf go in; what is written, or why nothing is, comes out.
 //!
 //! Each command has a module with one public call, and read `settle_package` or `write_package` first. A call promises what its definition in
 //! `redl_commands` says of the files that it names, or that the first cause of a refusal came before.
@@ -6,17 +6,14 @@
 #![tactic(auto)]
 
 mod choices;
-mod collected;
 mod decide;
 mod join;
 mod resume;
-mod sample;
 mod settle;
 mod write;
 
 pub use decide::decide_package;
 pub use join::join_files;
 pub use resume::resume_package;
-pub use sample::make_sample;
 pub use settle::settle_package;
 pub use write::write_package;

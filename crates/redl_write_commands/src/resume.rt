@@ -26,8 +26,7 @@ ghost use Rattle.redl_tree.specs.Decisions.Packages.{pass_package};
 ghost use Rattle.redl_tree.specs.Model.Text.{text};
 ghost use Rattle.redl_tree.specs.Model.View.{nodes_of};
 
-use crate::collected::Collected;
-use redl_commands::{Output, Writing};
+use redl_commands::{Collected, Output, Writing};
 use redl_index::{Counted, Surveyed};
 use redl_inputs::{
     Admitted, DocumentId, JOURNALS_LIMIT, fetch_package, name_of, pass_nodes, read_package, sit,

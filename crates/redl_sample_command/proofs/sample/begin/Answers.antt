@@ -5,7 +5,7 @@ use Rattle.redl_rules.specs.Attributes.{has_id, declares, broken_rule}
 use Rattle.redl_stamp.specs.Attribute.{attribute_value}
 use Rattle.redl_laws.proofs.Leaves.Packages.{roots-numbered}
 use Rattle.redl_tree.proofs.Revisions.NumberLaws.{numbered-indexed, broken-numbered}
-use Rattle.redl_write_commands.proofs.sample.begin.Goals as goal
+use Rattle.redl_sample_command.proofs.sample.begin.Goals as goal
 
 pub start-requires : goal.start-requires
 start-requires c =

@@ -1,10 +1,10 @@
 use Rattle.std.proofs.Common.{◌≡◌, ap, sym, ◌∙◌, arith}
-use Rattle.redl_write_commands.proofs.SampleLaws.{entries_more, first_entries}
+use Rattle.redl_sample_command.proofs.SampleLaws.{entries_more, first_entries}
 use Rattle.redl_journal.specs.Journals.{Journal}
 use Rattle.redl_sample.specs.Journals.{sample_journal}
 use Rattle.redl_session.proofs.Admissions.{after-append}
 use Rattle.redl_session.specs.Sessions.{SessionState, after}
-use Rattle.redl_write_commands.proofs.sample.admit_reviewers.Goals as goal
+use Rattle.redl_sample_command.proofs.sample.admit_reviewers.Goals as goal
 
 pub loop-reviewer-preserved : goal.loop-reviewer-preserved
 loop-reviewer-preserved c =

@@ -1,5 +1,5 @@
 use Rattle.std.proofs.Common.{◌≡◌, length, refl, arith}
-use Rattle.redl_write_commands.proofs.sample.summary_of.Goals as goal
+use Rattle.redl_sample_command.proofs.sample.summary_of.Goals as goal
 
 pub returns : goal.returns
 returns c =

@@ -1,10 +1,10 @@
 use Rattle.std.proofs.Common.{◌≡◌, [], Ok, ap, sym, ◌∙◌, arith}
-use Rattle.redl_write_commands.proofs.SampleLaws.{sampled_within}
+use Rattle.redl_sample_command.proofs.SampleLaws.{sampled_within}
 use Rattle.redl_commands.specs.Sample.{summarized}
 use Rattle.redl_inputs.proofs.ReadLaws.{takes_ok}
 use Rattle.redl_inputs.specs.Admission.{no_admission}
 use Rattle.redl_sample.specs.Packages.{package_text}
-use Rattle.redl_write_commands.proofs.sample.make_sample.Goals as goal
+use Rattle.redl_sample_command.proofs.sample.make_sample.Goals as goal
 
 pub returns : goal.returns
 returns c =

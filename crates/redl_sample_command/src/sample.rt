@@ -13,8 +13,7 @@ ghost use Rattle.redl_rules.specs.Attributes.{broken_rule};
 ghost use Rattle.redl_session.specs.Sessions.{after};
 ghost use Rattle.redl_tree.specs.Revisions.Labels.{unlabelled};
 
-use crate::collected::Collected;
-use redl_commands::{Output, Writing};
+use redl_commands::{Collected, Output, Writing};
 use redl_index::Surveyed;
 use redl_inputs::read_package;
 use redl_lines::{Cause, Failure, Limit};

@@ -1,9 +1,9 @@
 use Rattle.std.proofs.Common.{◌∙◌, ap, refl}
-use Rattle.redl_write_commands.proofs.SampleLaws.{summarized_after}
+use Rattle.redl_sample_command.proofs.SampleLaws.{summarized_after}
 use Rattle.redl_commands.specs.Writing.{only_bytes}
 use Rattle.redl_sample.specs.Summaries.{summary_text}
 use Rattle.redl_sample.specs.declared.summary.Summary.{Summary}
-use Rattle.redl_write_commands.proofs.sample.summarize.Goals as goal
+use Rattle.redl_sample_command.proofs.sample.summarize.Goals as goal
 
 pub returns : goal.returns
 returns c whole =
