@@ -2,7 +2,7 @@
 //! WordprocessingML that declare nothing and for whose names no definition asks, if all elements in them are such ones too.
 //! Documents and their texts are outlines.
 
-use redl_outline::{document, outline_text, package, part};
+use redl_outline::{document_package, outline_text};
 use redl_tree::Node;
 use redl_xml::{XmlError, read};
 use std::alloc::{AllocError, Global};
@@ -85,10 +85,11 @@ fn the_upper_levels_are_elements(rt: HostRuntime) -> Result<(), Fail> {
     Ok(())
 }
 
-// The text of a package whose document has this body.
-fn package_text(alloc: Global, body: &str) -> Result<String, AllocError> {
-    let document = document(alloc, body)?;
-    package(alloc, part(alloc, "/a", document.as_str())?.as_str())
+// The texts that are kept of a package whose document has this body.
+fn kept_of(alloc: Global, words: &str) -> Result<String, Fail> {
+    let body = outline_text(alloc, words, OWN)?;
+    let text = document_package(alloc, "/a", body.as_str())?;
+    kept(alloc, text.as_str())
 }
 
 // Bodies, and what is kept of each.
@@ -154,9 +155,7 @@ const BODIES: &[(&str, &[&str])] = &[
 #[test]
 fn neighbours_in_which_nothing_is_asked_for_are_one_text(rt: HostRuntime) -> Result<(), Fail> {
     for (words, want) in BODIES {
-        let body = outline_text(rt.alloc(), words, OWN)?;
-        let text = package_text(rt.alloc(), body.as_str())?;
-        let got = kept(rt.alloc(), text.as_str())?;
+        let got = kept_of(rt.alloc(), words)?;
         let want = wanted(rt.alloc(), want)?;
         assert!(rt; got == want, "{words}: {got}");
     }
@@ -184,12 +183,17 @@ const WRONG: &[&str] = &[
     "<w:r>\u{1}</w:r>",
 ];
 
+// Why a package is refused in which this comes after a run.
+fn refused_after_a_run(alloc: Global, wrong: &str) -> Result<Option<XmlError>, AllocError> {
+    let body = format!(in alloc; "<w:p><w:r/>{wrong}</w:p>")?;
+    let text = document_package(alloc, "/a", body.as_str())?;
+    Ok(read(alloc, text.as_bytes()).err())
+}
+
 #[test]
 fn a_text_is_read_as_elements_are(rt: HostRuntime) -> Result<(), Fail> {
     for wrong in WRONG {
-        let body = format!(in rt.alloc(); "<w:p><w:r/>{wrong}</w:p>")?;
-        let text = package_text(rt.alloc(), body.as_str())?;
-        let got = read(rt.alloc(), text.as_bytes()).err();
+        let got = refused_after_a_run(rt.alloc(), wrong)?;
         assert!(rt; got == Some(XmlError::Unreadable), "{wrong}: {got:?}");
     }
     Ok(())

@@ -261,9 +261,9 @@ fn is_kept(alloc: Global, parts: &[&str]) -> Result<bool, Fail> {
 #[test]
 fn members_among_texts_are_labelled(rt: HostRuntime) -> Result<(), Fail> {
     for (parts, want) in KEPT {
-        assert!(rt; is_kept(rt.alloc(), &parts)?, "{parts:?}");
+        let kept = is_kept(rt.alloc(), &parts)?;
         let got = labelled(rt.alloc(), &parts)?;
-        assert!(rt; got.as_slice() == want, "{parts:?}: {got:?}");
+        assert!(rt; kept && got.as_slice() == want, "{parts:?}: {kept} {got:?}");
     }
     Ok(())
 }
@@ -322,17 +322,29 @@ const TOLD: [(u32, Option<Told>); 8] = [
     (7, None),
 ];
 
+// The first number of which something else is told.
+fn first_other(index: &Index) -> Option<u32> {
+    for (number, want) in TOLD {
+        if told(index, number) != want {
+            return Some(number);
+        }
+    }
+    None
+}
+
+// The revisions of the package with these parts.
+fn index_of(alloc: Global, parts: &[&str]) -> Result<Index, Fail> {
+    let text = package_text(alloc, parts)?;
+    let mut made = read_package(alloc, text.as_bytes())?;
+    Ok(Index::build(alloc, &mut made)?)
+}
+
 #[test]
 fn revisions_are_told(rt: HostRuntime) -> Result<(), Fail> {
-    let alloc = rt.alloc();
     for parts in [TOLD_PARTS, TOLD_AMONG_TEXTS] {
-        let text = package_text(alloc, &parts)?;
-        let mut made = read_package(alloc, text.as_bytes())?;
-        let index = Index::build(alloc, &mut made)?;
-        for (number, want) in TOLD {
-            let got = told(&index, number);
-            assert!(rt; got == want, "{number}: {got:?}");
-        }
+        let index = index_of(rt.alloc(), &parts)?;
+        let other = first_other(&index);
+        assert!(rt; other.is_none(), "{other:?}");
     }
     Ok(())
 }

@@ -18,15 +18,18 @@ const OWN: &[(&str, &str)] = &[
 
 // A package with a document that has this body, and a further part with these data, both as outlines.
 fn package_text(alloc: Global, body: &str, further: &str) -> Result<String, AllocError> {
+    let mut parts = document_part(alloc, body)?;
+    parts.push_str(part(alloc, "/b", outline_text(alloc, further, OWN)?.as_str())?.as_str())?;
+    package(alloc, parts.as_str())
+}
+
+// The part with a document that has this body.
+fn document_part(alloc: Global, body: &str) -> Result<String, AllocError> {
     let body = outline_text(alloc, body, OWN)?;
-    let further = outline_text(alloc, further, OWN)?;
     let document = format!(in alloc;
         "<w:document xmlns:v='v'><w:body>{body}</w:body></w:document>"
     )?;
-    let first = part(alloc, "/a", document.as_str())?;
-    let second = part(alloc, "/b", further.as_str())?;
-    let parts = format!(in alloc; "{first}{second}")?;
-    package(alloc, parts.as_str())
+    part(alloc, "/a", document.as_str())
 }
 
 // What a check of that package answers.
