@@ -3,14 +3,14 @@
 //!
 //! Bodies, leaves and what is wanted are outlines. The wanted ones follow from ECMA-376 Part 1, 17.13.5.
 
-use crate::inputs::{entries_of, package_text};
 use crate::live_session::session_over;
 use redl_editor::Editor;
 use redl_io::MemSink;
-use redl_outline::{nodes_text, outline_text};
+use redl_live_session::LiveSession;
+use redl_outline::{document_package, nodes_text, outline_text};
 use redl_session::Locks;
+use redl_test_journals::entries_of;
 use std::alloc::{AllocError, Global};
-use std::str::from_utf8;
 use std::test::Fail;
 
 // A member of revision 1, and an element whose tags have white space.
@@ -111,34 +111,42 @@ fn outlines_text(alloc: Global, leaves: &[&str]) -> Result<String, AllocError> {
     Ok(text)
 }
 
-// The leaves of this body, those after these entries, and the package that is written then.
-fn shown(alloc: Global, body: &str, lines: &[u8]) -> Result<(String, String, String), Fail> {
-    let text = body_text(alloc, body)?;
-    let mut session = session_over(alloc, text.as_bytes(), Locks::new(Vec::new(alloc)))?;
-    let before = leaves_text(alloc, session.editor())?;
-    session.admit_many(entries_of(alloc, lines)?)?;
-    let after = leaves_text(alloc, session.editor())?;
-    let mut out = MemSink::new(alloc, 2_000, Vec::new(alloc))?;
-    session.write(&mut out)?;
-    let written = String::from_str(alloc, from_utf8(out.bytes()).unwrap_or("no text"))?;
-    Ok((before, after, written))
-}
-
 // The text of the package with this body.
 fn body_text(alloc: Global, body: &str) -> Result<String, AllocError> {
-    package_text(alloc, "/d", outline_text(alloc, body, OWN)?.as_str())
+    document_package(alloc, "/d", outline_text(alloc, body, OWN)?.as_str())
+}
+
+// Whether the leaves are these.
+fn has_leaves(alloc: Global, editor: &Editor, leaves: &[&str]) -> Result<bool, AllocError> {
+    let found = leaves_text(alloc, editor)?;
+    let want = outlines_text(alloc, leaves)?;
+    Ok(found == want)
+}
+
+// Whether the package with this body is written.
+fn writes(alloc: Global, session: &LiveSession, body: &str) -> Result<bool, Fail> {
+    let want = body_text(alloc, body)?;
+    let mut out = MemSink::new(alloc, 2_000, Vec::new(alloc))?;
+    session.write(&mut out)?;
+    Ok(out.bytes() == want.as_bytes())
+}
+
+// Whether the leaves are those of a row, those then, and what is written then.
+fn follows(alloc: Global, row: Row<'_>) -> Result<(bool, bool, bool), Fail> {
+    let (body, leaves, lines, later, left) = row;
+    let text = body_text(alloc, body)?;
+    let mut session = session_over(alloc, text.as_bytes(), Locks::new(Vec::new(alloc)))?;
+    let before = has_leaves(alloc, session.editor(), leaves)?;
+    session.admit_many(entries_of(alloc, lines)?)?;
+    let after = has_leaves(alloc, session.editor(), later)?;
+    Ok((before, after, writes(alloc, &session, left)?))
 }
 
 #[test]
 fn neighbours_that_are_kept_as_text_are_leaves(rt: HostRuntime) -> Result<(), Fail> {
-    for (body, leaves, lines, later, left) in ROWS {
-        let (before, after, written) = shown(rt.alloc(), body, lines)?;
-        let want = outlines_text(rt.alloc(), leaves)?;
-        assert!(rt; before == want, "{body}: {before}");
-        let want = outlines_text(rt.alloc(), later)?;
-        assert!(rt; after == want, "{body}: {after}");
-        let want = body_text(rt.alloc(), left)?;
-        assert!(rt; written == want, "{body}: {written}");
+    for row in ROWS {
+        let got = follows(rt.alloc(), row)?;
+        assert!(rt; got == (true, true, true), "{}: {got:?}", row.0);
     }
     Ok(())
 }

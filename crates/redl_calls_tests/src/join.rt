@@ -1,13 +1,13 @@
 //! Books by hand: their verdicts, their text whatever the order of the journals, and what a removal leaves.
-use crate::inputs::{book_of, entries_of};
 use redl_io::{MemSink, Text};
 use redl_join::{Book, Verdict};
-use redl_journal::{Entry, Word};
+use redl_journal::{Entry, JournalError, Word};
+use redl_test_journals::{add_entries, book_of};
 use std::alloc::{AllocError, Global};
 use std::test::Fail;
 
 fn verdict_of(alloc: Global, lines: &[u8]) -> Result<Verdict, Fail> {
-    let book = book_of(alloc, &[lines])?;
+    let book = book_of(alloc, lines)?;
     Ok(book.verdict(1))
 }
 
@@ -96,7 +96,7 @@ fn last_words_on(book: &Book, rev: u32) -> Result<u32, AllocError> {
 fn the_last_words_of_each_reviewer(rt: HostRuntime) -> Result<(), Fail> {
     let lines =
         b"1\t1\taccept\t5\tAnn\n2\t1\treject\t3\tAnn\n2\t1\taccept\t0\tAnn\n3\t2\taccept\t1\tAnn\n1\t1\taccept\t0\tBob\n2\t1\twithdraw\t4\tBob\n".as_slice();
-    let book = book_of(rt.alloc(), &[lines])?;
+    let book = book_of(rt.alloc(), lines)?;
     for (rev, want) in [(0, 0), (1, 202324), (2, 31), (3, 0)] {
         let words = last_words_on(&book, rev)?;
         assert!(rt; words == want, "{rev}: {words}");
@@ -111,14 +111,22 @@ fn has_text(alloc: Global, book: &Book, text: &[u8]) -> Result<bool, AllocError>
     Ok(answer.is_ok() && sink.bytes() == text)
 }
 
+// The book of a journal with the first lines, of one with the other lines, and of the first one again.
+fn joined(alloc: Global, one: &[u8], other: &[u8]) -> Result<Book, JournalError> {
+    let mut book = book_of(alloc, one)?;
+    add_entries(alloc, &mut book, other)?;
+    add_entries(alloc, &mut book, one)?;
+    Ok(book)
+}
+
 #[test]
 fn journals_join_in_any_order(rt: HostRuntime) -> Result<(), Fail> {
     let first = b"2\t1\treject\tBob\n1\t2\taccept\tAnn\n".as_slice();
     let second = b"1\t1\taccept\tBob\n2\t1\treject\tBob\n".as_slice();
     let text =
         b"redline-journal 1\ndocument 0000000000000000000000000000000000000000000000000000000000000000\nrevisions 3\n1\t2\taccept\tAnn\n1\t1\taccept\tBob\n2\t1\treject\tBob\n";
-    for journals in [[first, second, first], [second, first, second]] {
-        let book = book_of(rt.alloc(), &journals)?;
+    for (one, other) in [(first, second), (second, first)] {
+        let book = joined(rt.alloc(), one, other)?;
         assert!(rt; has_text(rt.alloc(), &book, text)?);
     }
     Ok(())
@@ -130,8 +138,8 @@ fn a_book_with_a_rank_is_written_in_version_2(rt: HostRuntime) -> Result<(), Fai
     let chief = b"1\t1\treject\t2\tChief\n1\t1\taccept\t2\tAnn\n".as_slice();
     let text =
         b"redline-journal 2\ndocument 0000000000000000000000000000000000000000000000000000000000000000\nrevisions 3\n1\t1\taccept\t0\tAnn\n1\t1\taccept\t2\tAnn\n1\t1\treject\t2\tChief\n";
-    for journals in [[ann, chief], [chief, ann]] {
-        let book = book_of(rt.alloc(), &journals)?;
+    for (one, other) in [(ann, chief), (chief, ann)] {
+        let book = joined(rt.alloc(), one, other)?;
         assert!(rt; has_text(rt.alloc(), &book, text)?);
     }
     Ok(())
@@ -152,7 +160,7 @@ fn after_removal(book: &mut Book, entry: &Entry) -> (bool, u32, Verdict, u64, us
 #[test]
 fn a_removed_entry_no_longer_counts(rt: HostRuntime) -> Result<(), Fail> {
     let lines = b"1\t1\taccept\tAnn\n1\t1\taccept\tBob\n2\t1\treject\tBob\n".as_slice();
-    let mut book = book_of(rt.alloc(), &[lines])?;
+    let mut book = book_of(rt.alloc(), lines)?;
     let entry = Entry {
         reviewer: Text::copy_of(rt.alloc(), b"Bob")?,
         seq: 2,
@@ -172,9 +180,7 @@ fn long_book(alloc: Global) -> Result<Book, Fail> {
     let mut book = Book::new(alloc);
     for i in 0..601_u32 {
         let line = format!(in alloc; "{}\t1\taccept\tAnn\n", 1 + i * 7 % 601)?;
-        for entry in entries_of(alloc, line.as_bytes())? {
-            book.add(entry)?;
-        }
+        add_entries(alloc, &mut book, line.as_bytes())?;
     }
     Ok(book)
 }
@@ -203,9 +209,7 @@ fn book_of_many(alloc: Global) -> Result<Book, Fail> {
     let mut book = Book::new(alloc);
     for i in 1..301_u32 {
         let line = format!(in alloc; "1\t{i}\taccept\tReviewer {i}\n")?;
-        for entry in entries_of(alloc, line.as_bytes())? {
-            book.add(entry)?;
-        }
+        add_entries(alloc, &mut book, line.as_bytes())?;
     }
     Ok(book)
 }

@@ -2,7 +2,6 @@
 ghost use Rattle.std.specs.Prelude.{◌≡◌, All, IfOk};
 ghost use Rattle.redl_journal.specs.Journals.{IsAllowed};
 
-use crate::inputs::{entries_of, package_text};
 use redl_editor::Editor;
 use redl_index::Index;
 use redl_io::{MemSink, Text};
@@ -10,10 +9,12 @@ use redl_join::Verdict;
 use redl_journal::Entry;
 use redl_live_session::{LiveSession, admit_each};
 use redl_opc::Package;
+use redl_outline::document_package;
 use redl_rules::check;
 use redl_sample::{sample_journal, sample_package};
 use redl_select::Lock;
 use redl_session::{AdmitError, Bar, Locks, Refusal, Taken};
+use redl_test_journals::entries_of;
 use redl_tree::write_nodes;
 use std::alloc::{AllocError, Global};
 use std::test::Fail;
@@ -127,7 +128,7 @@ const STEPS: [(&[u8], Step); 6] = [
 
 // The number of the first step that comes to something else, or that of all.
 fn steps_taken(alloc: Global) -> Result<usize, Fail> {
-    let text = package_text(alloc, "/d", BODY)?;
+    let text = document_package(alloc, "/d", BODY)?;
     let mut session = session_of(alloc, text.as_bytes(), b"Bob")?;
     let mut taken = 0_usize;
     for (lines, want) in STEPS {
@@ -154,7 +155,7 @@ fn leaves_of(editor: &Editor, story: usize) -> (usize, bool) {
 
 #[test]
 fn there_is_no_leaf_past_the_last(rt: HostRuntime) -> Result<(), Fail> {
-    let text = package_text(rt.alloc(), "/d", BODY)?;
+    let text = document_package(rt.alloc(), "/d", BODY)?;
     let session = session_of(rt.alloc(), text.as_bytes(), b"Cy")?;
     for (story, leaves) in [(0, 2), (1, 0)] {
         let got = leaves_of(session.editor(), story);
@@ -177,20 +178,20 @@ fn decided(
     lines: &[u8],
     body: &str,
 ) -> Result<(usize, Vec<Verdict>, bool), Fail> {
-    let text = package_text(alloc, "/d", BODY)?;
+    let text = document_package(alloc, "/d", BODY)?;
     let mut session = session_of(alloc, text.as_bytes(), author)?;
     let refused = session.admit_many(entries_of(alloc, lines)?)?;
-    let left = package_text(alloc, "/d", body)?;
+    let left = document_package(alloc, "/d", body)?;
     let written = writes(alloc, &session, left.as_bytes())?;
     Ok((refused.len(), session.verdicts()?, written))
 }
 
 // Whether it is written when the entries come one by one.
 fn decided_each(alloc: Global, author: &[u8], lines: &[u8], body: &str) -> Result<bool, Fail> {
-    let text = package_text(alloc, "/d", BODY)?;
+    let text = document_package(alloc, "/d", BODY)?;
     let mut session = session_of(alloc, text.as_bytes(), author)?;
     admit_each(&mut session, entries_of(alloc, lines)?)?;
-    let left = package_text(alloc, "/d", body)?;
+    let left = document_package(alloc, "/d", body)?;
     writes(alloc, &session, left.as_bytes())
 }
 

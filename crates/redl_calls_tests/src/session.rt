@@ -2,15 +2,16 @@
 ghost use Rattle.std.specs.Prelude.{◌≡◌};
 ghost use Rattle.redl_journal.specs.Journals.{IsAllowed};
 
-use crate::inputs::{entries_of, package_text};
 use redl_index::{Index, RevKind};
 use redl_io::{MemSink, Text};
 use redl_join::Verdict;
 use redl_journal::Entry;
 use redl_opc::Package;
+use redl_outline::document_package;
 use redl_rules::check;
 use redl_select::Lock;
 use redl_session::{AdmitError, Bar, Locks, Refusal, Session, Taken};
+use redl_test_journals::entries_of;
 use redl_tree::{Say, Trace, write_nodes};
 use std::alloc::{AllocError, Global};
 use std::test::Fail;
@@ -71,7 +72,7 @@ fn last_answer(
     words: &[&[u8]],
     lines: &[u8],
 ) -> Result<(Result<Taken, AdmitError>, Verdict), Fail> {
-    let text = package_text(alloc, "/d", BODY)?;
+    let text = document_package(alloc, "/d", BODY)?;
     let mut session = session_of(alloc, text.as_bytes(), words)?;
     let mut last = Ok(Taken::New);
     for entry in entries_of(alloc, lines)? {
@@ -155,7 +156,7 @@ fn decided(
     author: &[u8],
     lines: &[u8],
 ) -> Result<(usize, Vec<Verdict>, bool), Fail> {
-    let text = package_text(alloc, "/d", BODY)?;
+    let text = document_package(alloc, "/d", BODY)?;
     let mut session = session_of(alloc, text.as_bytes(), &[author])?;
     let refused = session.admit_many(entries_of(alloc, lines)?)?;
     let verdicts = session.verdicts()?;
@@ -181,8 +182,8 @@ fn the_says_are_those_of_the_verdicts(rt: HostRuntime) -> Result<(), Fail> {
 
 // Whether this is what a session writes, and the text of the nodes that it leaves, both of the package with this body.
 fn leaves(alloc: Global, lines: &[u8], body: &str) -> Result<(bool, bool), Fail> {
-    let text = package_text(alloc, "/d", BODY)?;
-    let left = package_text(alloc, "/d", body)?;
+    let text = document_package(alloc, "/d", BODY)?;
+    let left = document_package(alloc, "/d", body)?;
     let mut session = session_of(alloc, text.as_bytes(), &[b"Cy & Co"])?;
     let _refused = session.admit_many(entries_of(alloc, lines)?)?;
     let mut out = MemSink::new(alloc, 2_000, Vec::new(alloc))?;

@@ -1,6 +1,6 @@
 //! Pages of small packages, some of whose texts try to be markup.
 
-use crate::inputs::{book_of, journal_text};
+use crate::numbered::numbered;
 use redl_index::Index;
 use redl_io::MemSink;
 use redl_join::Book;
@@ -9,6 +9,7 @@ use redl_opc::Package;
 use redl_outline::{package, part};
 use redl_page::{Shown, Skin, write_page};
 use redl_page_stories::put_document;
+use redl_test_journals::{book_of, journal_text};
 use std::alloc::{AllocError, Global};
 use std::test::Fail;
 
@@ -24,8 +25,7 @@ fn package_of(alloc: Global, parts: &[(&str, &str)]) -> Result<String, AllocErro
 // The stories of a package with these parts, as they stand in its page.
 fn document_of(alloc: Global, parts: &[(&str, &str)]) -> Result<MemSink, Fail> {
     let text = package_of(alloc, parts)?;
-    let mut package = Package::make(alloc, redl_xml::read(alloc, text.as_bytes())?)?;
-    let index = Index::build(alloc, &mut package)?;
+    let (package, index) = numbered(alloc, text.as_bytes())?;
     let mut out = MemSink::new(alloc, 4096, Vec::new(alloc))?;
     put_document(&package, &index, &mut out)?;
     Ok(out)
@@ -174,8 +174,7 @@ fn page_of(alloc: Global, book: &Book, digest: &[u8; 32]) -> Result<MemSink, Fai
             "<w:document><w:p><w:ins w:author='Eve' w:date='2024-05-06T07:08:00Z'><w:r><w:t>x</w:t></w:r></w:ins></w:p></w:document>",
         )],
     )?;
-    let mut package = Package::make(alloc, redl_xml::read(alloc, text.as_bytes())?)?;
-    let index = Index::build(alloc, &mut package)?;
+    let (package, index) = numbered(alloc, text.as_bytes())?;
     let mut out = MemSink::new(alloc, 4096, Vec::new(alloc))?;
     put_page(&package, &index, book, digest, &mut out)?;
     Ok(out)
@@ -210,7 +209,7 @@ fn put_page(
 
 #[test]
 fn a_whole_page_is_written(rt: HostRuntime) -> Result<(), Fail> {
-    let book = book_of(rt.alloc(), &[LINES])?;
+    let book = book_of(rt.alloc(), LINES)?;
     let text = journal_text(rt.alloc(), LINES)?;
     let journal = read(rt.alloc(), &text)?;
     let got = page_of(rt.alloc(), &book, &journal.digest)?;

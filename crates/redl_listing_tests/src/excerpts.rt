@@ -1,9 +1,8 @@
 //! Excerpts of small packages, whose runs the reader keeps as text. The wanted texts are those that the definitions give.
 
-use crate::inputs::package_text;
+use crate::numbered::numbered;
 use redl_excerpts::{Excerpt, excerpts};
-use redl_index::Index;
-use redl_opc::Package;
+use redl_outline::document_package;
 use std::alloc::{AllocError, Global};
 use std::test::Fail;
 
@@ -12,9 +11,8 @@ const FIFTY: &str = "01234567890123456789012345678901234567890123456789";
 
 // What is told of each revision of a body: what stands before its words, the words in brackets, what stands behind, and a newline.
 fn told(alloc: Global, body: &str) -> Result<Vec<u8>, Fail> {
-    let text = package_text(alloc, "/word/document.xml", body)?;
-    let mut package = Package::make(alloc, redl_xml::read(alloc, text.as_bytes())?)?;
-    let index = Index::build(alloc, &mut package)?;
+    let text = document_package(alloc, "/word/document.xml", body)?;
+    let (package, index) = numbered(alloc, text.as_bytes())?;
     let mut made = Vec::new(alloc);
     for excerpt in excerpts(alloc, &package, &index)? {
         push_excerpt(alloc, &mut made, excerpt)?;

@@ -4,8 +4,8 @@ ghost use Rattle.std.specs.Prelude.{◌≡◌, All, [], false};
 
 mod part_names;
 
-use crate::inputs::{index_of, package_text};
 use crate::listing::part_names::{are_named, are_utf8};
+use crate::numbered::index_of;
 use redl_io::Text;
 use redl_join::Verdict;
 use redl_listing::{JsonFormat, RowFormat, TabFormat, TextFormat, add_format, list};
@@ -30,8 +30,7 @@ fn listed(
 ) -> Result<Vec<u8>, Fail>
     requires { All (λ format. (is_closed format ≡ false) × (rows_so_far format ≡ [])) formats.old.items }
 {
-    let text = package_text(alloc, "/word/document.xml", body)?;
-    let index = index_of(alloc, text.as_bytes())?;
+    let index = index_of(alloc, body)?;
     let names = names(alloc)?;
     let verdicts = vec![in alloc; Verdict::Undecided; index.count() as usize]?;
     if !are_utf8(&names) || !are_named(&index, &names) {

@@ -1,6 +1,6 @@
 use Rattle.std.proofs.Common.{ℕ, ◌<◌, List, get_or}
 use Rattle.std.specs.Str.{IsUtf8}
-use Rattle.redl_calls_tests.proofs.listing.part_names.are_utf8.Given as goal
+use Rattle.redl_listing_tests.proofs.listing.part_names.are_utf8.Given as goal
 
 -- the names so far are UTF-8
 abbrev pub invariant-loop-name : goal.invariant-loop-name

@@ -1,7 +1,7 @@
 use Rattle.std.proofs.Common.{rules, arith, subst, ◌∙◌, ℕ, List, get_or, below_more}
 use Rattle.std.proofs.lemmas.List.{get_or_default}
 use Rattle.std.specs.Str.{IsUtf8}
-use Rattle.redl_calls_tests.proofs.listing.part_names.are_utf8.Goals as goal
+use Rattle.redl_listing_tests.proofs.listing.part_names.are_utf8.Goals as goal
 
 pub loop-name-preserved : goal.loop-name-preserved
 loop-name-preserved c =
