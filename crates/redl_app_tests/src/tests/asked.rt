@@ -1,6 +1,5 @@
 //! Which files a call asks for.
-use super::calls::{INSERTED, SKIN, files_of, words_of};
-use redl_app::run;
+use super::calls::{INSERTED, call, files_of};
 use redl_io::{MemShelf, NotingShelf, NullSink};
 use std::alloc::{AllocError, Global};
 use std::test::Fail;
@@ -10,17 +9,7 @@ use std::test::Fail;
 fn asked_by(alloc: Global, line: &str) -> Result<Vec<u8>, AllocError> {
     let files = files_of(alloc, INSERTED, "1", ["", "1\t1\taccept\tAnn\n", ""])?;
     let mut shelf = NotingShelf::new(alloc, MemShelf::new(files, Vec::new(alloc)));
-    let words = words_of(alloc, line)?;
-    let _status = run(
-        alloc,
-        &words,
-        &mut shelf,
-        &mut NullSink,
-        &mut NullSink,
-        &mut Vec::new(alloc),
-        &mut Vec::new(alloc),
-        &SKIN,
-    );
+    let _status = call(alloc, line, &mut shelf, &mut NullSink, &mut NullSink)?;
     let mut asked = Vec::new(alloc);
     for name in shelf.names() {
         asked.extend_from_slice(name.as_bytes())?;

@@ -1,15 +1,16 @@
 //! Packages, journals and calls by hand, for the tests of all commands.
-ghost use Rattle.std.specs.Prelude.{IfOk, All, IsUtf8};
+ghost use Rattle.std.specs.Prelude.{◌≡◌, IfOk, All, IsUtf8, [], false};
 
 use redl_app::{Status, add_word, run, run_surely};
-use redl_io::{MemShelf, MemSink, SureShelf, Text};
+use redl_io::{MemShelf, MemSink, Shelf, Sink, SureShelf, Text};
+use redl_listing::RowFormat;
 use redl_page::Skin;
 use sha2::{Digest, Sha256};
 use std::alloc::{AllocError, Global};
 use std::process::Abort;
 
 /// What stands as it is in a page.
-pub(super) const SKIN: Skin<'static> = Skin {
+const SKIN: Skin<'static> = Skin {
     policy: b"default-src 'none'",
     style: b"p{}",
     script: b"1 < 2",
@@ -116,14 +117,18 @@ pub(super) struct Want<'a> {
     pub(super) lines: &'a str,
 }
 
-/// Calls with the words of this line, and without formats.
-pub(super) fn call(
+/// Calls with the words of this line, in these formats of listings. All calls of `run` are this one, since each is proved
+/// against its whole contract.
+pub(super) fn call_in<F: Shelf, O: Sink, E: Sink>(
     alloc: Global,
     line: &str,
-    shelf: &mut MemShelf,
-    out: &mut MemSink,
-    err: &mut MemSink,
-) -> Result<Status, AllocError> {
+    shelf: &mut F,
+    out: &mut O,
+    err: &mut E,
+    formats: &mut Vec<Box<dyn RowFormat>>,
+) -> Result<Status, AllocError>
+    requires { All (λ format. (is_closed format ≡ false) × (rows_so_far format ≡ [])) formats.old.items }
+{
     let words = words_of(alloc, line)?;
     Ok(run(
         alloc,
@@ -131,10 +136,21 @@ pub(super) fn call(
         shelf,
         out,
         err,
-        &mut Vec::new(alloc),
+        formats,
         &mut Vec::new(alloc),
         &SKIN,
     ))
+}
+
+/// The same without formats.
+pub(super) fn call<F: Shelf, O: Sink, E: Sink>(
+    alloc: Global,
+    line: &str,
+    shelf: &mut F,
+    out: &mut O,
+    err: &mut E,
+) -> Result<Status, AllocError> {
+    call_in(alloc, line, shelf, out, err, &mut Vec::new(alloc))
 }
 
 /// Calls over a shelf that never fails, without formats, and drops the output.

@@ -1,9 +1,9 @@
 //! Lists of formats: one of the tests' own, two of one name, and none.
 ghost use Rattle.std.specs.Prelude.{◌≡◌, All, [], false};
 
-use super::calls::{INSERTED, SKIN, Want, expect_call, files_of, words_of};
+use super::calls::{INSERTED, Want, call_in, expect_call, files_of};
 use crate::count_format::CountFormat;
-use redl_app::{Status, run};
+use redl_app::Status;
 use redl_io::{MemShelf, MemSink, NullSink};
 use redl_listing::{RowFormat, TextFormat, add_format};
 use std::alloc::{AllocError, Global};
@@ -22,31 +22,8 @@ fn listed(
 {
     let mut shelf = MemShelf::new(files_of(alloc, body, "1", ["", "", ""])?, Vec::new(alloc));
     let mut out = MemSink::new(alloc, 2_000, Vec::new(alloc))?;
-    call_in(alloc, line, &mut shelf, &mut out, formats)?;
+    call_in(alloc, line, &mut shelf, &mut out, &mut NullSink, formats)?;
     Ok(out)
-}
-
-// Calls with the words of this line, in these formats.
-fn call_in(
-    alloc: Global,
-    line: &str,
-    shelf: &mut MemShelf,
-    out: &mut MemSink,
-    formats: &mut Vec<Box<dyn RowFormat>>,
-) -> Result<Status, AllocError>
-    requires { All (λ format. (is_closed format ≡ false) × (rows_so_far format ≡ [])) formats.old.items }
-{
-    let words = words_of(alloc, line)?;
-    Ok(run(
-        alloc,
-        &words,
-        shelf,
-        out,
-        &mut NullSink,
-        formats,
-        &mut Vec::new(alloc),
-        &SKIN,
-    ))
 }
 
 // Three revisions in the tests' own format.
@@ -85,7 +62,14 @@ fn refused(alloc: Global) -> Result<(Status, usize, usize), AllocError> {
     let mut shelf = MemShelf::new(files_of(alloc, THREE, "1", ["", "", ""])?, Vec::new(alloc));
     let mut out = MemSink::new(alloc, 2_000, Vec::new(alloc))?;
     let line = "list P --format count";
-    let status = call_in(alloc, line, &mut shelf, &mut out, &mut formats)?;
+    let status = call_in(
+        alloc,
+        line,
+        &mut shelf,
+        &mut out,
+        &mut NullSink,
+        &mut formats,
+    )?;
     Ok((status, out.bytes().len(), formats.len()))
 }
 
@@ -96,7 +80,14 @@ fn listed_in_front(alloc: Global, fails: u64, taken: u64) -> Result<(Status, Mem
     let files = files_of(alloc, INSERTED, "1", ["", "", ""])?;
     let mut shelf = MemShelf::new(files, Vec::new(alloc));
     let mut out = MemSink::new(alloc, 2_000, vec![in alloc; (fails, taken)]?)?;
-    let status = call_in(alloc, "list P", &mut shelf, &mut out, &mut formats)?;
+    let status = call_in(
+        alloc,
+        "list P",
+        &mut shelf,
+        &mut out,
+        &mut NullSink,
+        &mut formats,
+    )?;
     Ok((status, out))
 }
 

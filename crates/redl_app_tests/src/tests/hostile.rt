@@ -1,10 +1,10 @@
 //! Files that are cut off anywhere, and fetches and puts that fail, one after the other, until the call succeeds.
 
 use super::calls::{
-    INSERTED, INSERTED_LIVE, SKIN, Want, add_file, digest_of, expect_call, files_of, journal,
-    package, words_of,
+    INSERTED, INSERTED_LIVE, Want, add_file, call_in, digest_of, expect_call, files_of, journal,
+    package,
 };
-use redl_app::{Status, run};
+use redl_app::Status;
 use redl_io::{MemShelf, MemSink};
 use redl_listing::{TextFormat, add_format};
 use std::alloc::{AllocError, Global};
@@ -49,21 +49,11 @@ fn call_failing(
     out_fails: &[(u64, u64)],
     err_fails: &[(u64, u64)],
 ) -> Result<Ended, AllocError> {
-    let words = words_of(alloc, line)?;
     let mut formats = Vec::new(alloc);
     add_format(&mut formats, Box::new(alloc, TextFormat::new(alloc)?)?)?;
     let mut out = MemSink::new(alloc, 200_000, out_fails.to_vec(alloc)?)?;
     let mut err = MemSink::new(alloc, 2_000, err_fails.to_vec(alloc)?)?;
-    let status = run(
-        alloc,
-        &words,
-        shelf,
-        &mut out,
-        &mut err,
-        &mut formats,
-        &mut Vec::new(alloc),
-        &SKIN,
-    );
+    let status = call_in(alloc, line, shelf, &mut out, &mut err, &mut formats)?;
     Ok(Ended { status, out, err })
 }
 

@@ -48,13 +48,6 @@ fn words_of_no_command_fetch_nothing(rt: HostRuntime) -> Result<(), Fail> {
     Ok(())
 }
 
-// A part with this tail and these kids, in a package.
-fn part(alloc: Global, tail: &str, kids: &str) -> Result<String, AllocError> {
-    format!(in alloc;
-        "<pkg:package xmlns:pkg=\"http://schemas.microsoft.com/office/2006/xmlPackage\"><pkg:part{tail}>{kids}</pkg:part></pkg:package>"
-    )
-}
-
 // Calls over a file `P` that is no package.
 fn expect_fault(
     rt: &impl Abort,
@@ -76,42 +69,54 @@ fn expect_fault(
     Ok(())
 }
 
+const UNREADABLE: &str = "redline: package: not readable\n";
+
 #[test]
-fn a_file_that_is_no_package_is_refused(rt: HostRuntime) -> Result<(), Fail> {
-    let alloc = rt.alloc();
-    let unreadable = "redline: package: not readable\n";
-    let inserted = package(alloc, INSERTED)?;
-    let open = package(alloc, "<w:p>")?;
-    let beside = package(alloc, "</w:p>")?;
-    let crossed = package(alloc, "<w:p><w:r></w:p></w:r>")?;
-    for text in [
-        b"".as_slice(),
-        FRONT,
-        BACK,
-        b"<?xml version=\"1.0\"?>",
-        b"<!DOCTYPE a><a/>",
-        b"<a>\xff</a>",
-        b"<a>\xc0\x80</a>",
-        b"<a>\xed\xa0\x80</a>",
-        inserted.get(..100).unwrap_or(b""),
-        &open,
-        &beside,
-        &crossed,
-    ] {
-        expect_fault(&rt, alloc, text, unreadable)?;
-    }
-    let named = part(alloc, " pkg:name=\"/a\"", "<pkg:binaryData/>")?;
-    let typed = part(
-        alloc,
-        " pkg:name=\"/a\" pkg:contentType=\"x/y\"",
-        "<pkg:binaryData/>",
-    )?;
+fn a_text_that_is_no_package_is_refused(rt: HostRuntime) -> Result<(), Fail> {
     for (text, lines) in [
-        ("<a/>", "redline: package: not a package\n"),
-        (named.as_str(), "redline: package: part shape\n"),
-        (typed.as_str(), "redline: package: no document\n"),
+        (b"".as_slice(), UNREADABLE),
+        (FRONT, UNREADABLE),
+        (FRONT.get(..100).unwrap_or(b""), UNREADABLE),
+        (BACK, UNREADABLE),
+        (b"<?xml version=\"1.0\"?>", UNREADABLE),
+        (b"<!DOCTYPE a><a/>", UNREADABLE),
+        (b"<a>\xff</a>", UNREADABLE),
+        (b"<a>\xc0\x80</a>", UNREADABLE),
+        (b"<a>\xed\xa0\x80</a>", UNREADABLE),
+        (b"<a/>", "redline: package: not a package\n"),
     ] {
-        expect_fault(&rt, alloc, text.as_bytes(), lines)?;
+        expect_fault(&rt, rt.alloc(), text, lines)?;
+    }
+    Ok(())
+}
+
+#[test]
+fn a_body_that_is_not_nested_is_refused(rt: HostRuntime) -> Result<(), Fail> {
+    for body in ["<w:p>", "</w:p>", "<w:p><w:r></w:p></w:r>"] {
+        let text = package(rt.alloc(), body)?;
+        expect_fault(&rt, rt.alloc(), &text, UNREADABLE)?;
+    }
+    Ok(())
+}
+
+// A package with one part, which has this tail and bytes alone.
+fn part(alloc: Global, tail: &str) -> Result<String, AllocError> {
+    format!(in alloc;
+        "<pkg:package xmlns:pkg=\"http://schemas.microsoft.com/office/2006/xmlPackage\"><pkg:part{tail}><pkg:binaryData/></pkg:part></pkg:package>"
+    )
+}
+
+#[test]
+fn a_part_without_a_type_or_a_document_is_refused(rt: HostRuntime) -> Result<(), Fail> {
+    for (tail, lines) in [
+        (" pkg:name=\"/a\"", "redline: package: part shape\n"),
+        (
+            " pkg:name=\"/a\" pkg:contentType=\"x/y\"",
+            "redline: package: no document\n",
+        ),
+    ] {
+        let text = part(rt.alloc(), tail)?;
+        expect_fault(&rt, rt.alloc(), text.as_bytes(), lines)?;
     }
     Ok(())
 }
@@ -123,16 +128,34 @@ const ZEROS: &str = "00000000000000000000000000000000000000000000000000000000000
 fn mixed_files(alloc: Global) -> Result<Vec<(Text, Vec<u8>)>, AllocError> {
     let package = package(alloc, INSERTED)?;
     let digest = digest_of(alloc, &package)?;
-    let good = journal(alloc, &digest, "1", "1\t1\taccept\tAnn\n")?;
-    let cut = good.split_last().map_or(b"".as_slice(), |parts| parts.1);
     let mut files = Vec::new(alloc);
     add_file(alloc, &mut files, "P", &package)?;
-    add_file(alloc, &mut files, "G", &good)?;
-    add_file(alloc, &mut files, "M", cut)?;
     add_file(alloc, &mut files, "E", b"")?;
-    add_file(alloc, &mut files, "C", &journal(alloc, &digest, "2", "")?)?;
-    add_file(alloc, &mut files, "D", &journal(alloc, ZEROS, "2", "")?)?;
+    add_whole_and_cut(alloc, &mut files, &digest)?;
+    add_others(alloc, &mut files, &digest)?;
     Ok(files)
+}
+
+fn add_whole_and_cut(
+    alloc: Global,
+    files: &mut Vec<(Text, Vec<u8>)>,
+    digest: &str,
+) -> Result<(), AllocError> {
+    let good = journal(alloc, digest, "1", "1\t1\taccept\tAnn\n")?;
+    let cut = good.split_last().map_or(b"".as_slice(), |parts| parts.1);
+    add_file(alloc, files, "G", &good)?;
+    add_file(alloc, files, "M", cut)
+}
+
+fn add_others(
+    alloc: Global,
+    files: &mut Vec<(Text, Vec<u8>)>,
+    digest: &str,
+) -> Result<(), AllocError> {
+    for (name, digest) in [("C", digest), ("D", ZEROS)] {
+        add_file(alloc, files, name, &journal(alloc, digest, "2", "")?)?;
+    }
+    Ok(())
 }
 
 #[test]

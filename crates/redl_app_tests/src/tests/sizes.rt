@@ -1,6 +1,6 @@
 //! How much a call fetches, and how much it puts at a time.
-use super::calls::{INSERTED, SKIN, digest_of, journal, package, words_of};
-use redl_app::{Status, run};
+use super::calls::{INSERTED, call, digest_of, journal, package};
+use redl_app::Status;
 use redl_io::{Failed, NullSink, Shelf, ShelfError, Sink};
 use std::alloc::{AllocError, Global};
 use std::test::Fail;
@@ -74,30 +74,12 @@ fn noting_sink(alloc: Global) -> NotingSink {
     }
 }
 
-fn call(
-    alloc: Global,
-    line: &str,
-    shelf: &mut CapNotingShelf,
-    out: &mut NotingSink,
-) -> Result<Status, AllocError> {
-    let words = words_of(alloc, line)?;
-    Ok(run(
-        alloc,
-        &words,
-        shelf,
-        out,
-        &mut NullSink,
-        &mut Vec::new(alloc),
-        &mut Vec::new(alloc),
-        &SKIN,
-    ))
-}
-
 #[test]
 fn a_file_is_fetched_with_one_byte_more_than_may_come(rt: HostRuntime) -> Result<(), Fail> {
     let alloc = rt.alloc();
     let mut shelf = noting_shelf(alloc, INSERTED)?;
-    let status = call(alloc, "write P J K", &mut shelf, &mut noting_sink(alloc))?;
+    let mut out = noting_sink(alloc);
+    let status = call(alloc, "write P J K", &mut shelf, &mut out, &mut NullSink)?;
     let left = 67_108_865usize.saturating_sub(shelf.journal.len());
     let caps = shelf.caps.as_slice();
     let is_wanted = caps == [134_217_729, 67_108_865, left].as_slice();
@@ -114,7 +96,8 @@ fn output_goes_out_4096_bytes_at_a_time(rt: HostRuntime) -> Result<(), Fail> {
     }
     let mut shelf = noting_shelf(alloc, body.as_str())?;
     let mut out = noting_sink(alloc);
-    let status = call(alloc, "settle accept P", &mut shelf, &mut out)?;
+    let line = "settle accept P";
+    let status = call(alloc, line, &mut shelf, &mut out, &mut NullSink)?;
     // 419 bytes around 200 paragraphs of 34 bytes each
     let puts = out.puts.as_slice();
     let is_wanted = puts == [4096, 3123].as_slice();
