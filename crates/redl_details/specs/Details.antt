@@ -3,7 +3,7 @@ use Rattle.std.specs.Prelude.{ℕ, ◌+◌, List, [], ◌∷◌, map, All, IfSom
 use Rattle.std.specs.Option.{option_map}
 use Rattle.std.specs.Str.{IsUtf8, is_utf8}
 use Rattle.redl_excerpts.specs.declared.excerpt.Excerpt.{Excerpt}
-use Rattle.redl_excerpts.specs.Phrases.{kept_text}
+use Rattle.redl_phrases.specs.Phrases.{kept_text}
 use Rattle.redl_excerpts.specs.Excerpts.{excerpts_of}
 use Rattle.redl_index.specs.declared.revision.Revision.{Revision}
 use Rattle.redl_join.specs.LastWords.{last_words}

@@ -1,7 +1,4 @@
-pub mod PhraseLaws
-pub mod EvenLaws
-pub mod SaidLaws
-pub mod IdleLaws
+pub mod MentionLaws
 pub mod FlatLaws
 pub mod TellLaws
 pub mod MemberLaws

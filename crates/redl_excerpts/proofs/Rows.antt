@@ -1,6 +1,6 @@
 -- Worked rows: the excerpts of small bodies, by computing.
 use Prim.Native.String.{String}
-use Rattle.std.proofs.Common.{◌≡◌, ℕ, [], ◌∷◌, ◌++◌, true, false, codes, refl}
+use Rattle.std.proofs.Common.{◌≡◌, ℕ, [], ◌∷◌, codes, refl}
 use Rattle.redl_tree.specs.Model.Nodes.{Nodes, no_nodes, Empty, ◌⊕◌}
 use Rattle.redl_tree.specs.declared.kinds.Trace.TheVariants.{Ins, Del, From, To}
 use Rattle.redl_tree.specs.declared.kinds.Kind.TheVariants.{Mark, Row, Change}
@@ -11,8 +11,8 @@ use Rattle.redl_tree.proofs.Model.Build.{opened, member, content, words, run, de
 use Rattle.redl_excerpts.specs.declared.excerpt.Excerpt.{Excerpt}
 use Rattle.redl_excerpts.specs.Excerpts.{is_move, nothing_told, told_all}
 use Rattle.redl_excerpts.specs.Mentions.{mentions, outside}
-use Rattle.redl_excerpts.specs.Phrases.{begun, heard, heard_byte, kept_text, nothing_heard, paused}
-use Rattle.redl_excerpts.specs.Lines.{passed, last_characters}
+use Rattle.redl_phrases.specs.Phrases.{begun, heard_byte, kept_text, paused}
+use Rattle.redl_phrases.specs.Lines.{passed}
 
 -- what a body tells of the revision with this kind and number
 abbrev told_of : RevKind → ℕ → Nodes → Excerpt
@@ -73,13 +73,3 @@ row_moved = (refl, refl, refl)
 row_target : Tells (kind.Content To) 1 (opened "p" (run "So " ⊕ content To 1 "moveTo" "" (run "it") ⊕ run " is")) "So " "it" " is"
 unfolding heard_byte begun paused passed
 row_target = (refl, refl, refl)
-
--- more characters than there is room for, white space at the end, and a character of several bytes
-row_over : (kept_text (heard (nothing_heard 2 false) (codes "abc")) ≡ codes "ab" ++ 226 ∷ 128 ∷ 166 ∷ []) × (kept_text (heard (nothing_heard 2 false) (codes "ab\n ")) ≡ codes "ab")
-    × (kept_text (heard (nothing_heard 1 true) (32 ∷ 194 ∷ 182 ∷ [])) ≡ 194 ∷ 182 ∷ [])
-unfolding heard_byte begun paused
-row_over = (refl, refl, refl)
-
--- of a long line the last 40 characters stand before
-row_long : (last_characters (codes "0123456789012345678901234567890123456789abc") ≡ codes "3456789012345678901234567890123456789abc") × (last_characters (codes "ab") ≡ codes "ab")
-row_long = (refl, refl)

@@ -1,4 +1,3 @@
 -- What no public clause of this crate names: how its own code is stated.
 pub mod Views
-pub mod Idle
 pub mod Flat

@@ -4,15 +4,12 @@ ghost use Rattle.std.specs.Prelude.{◌≡◌, IfOk, OnOk, true, false, if◌the
 ghost use Rattle.redl_tree.specs.Model.View.{nodes_of, tag_of};
 ghost use Rattle.redl_excerpts.specs.Excerpts.{is_trimmed, nothing_told, told};
 ghost use Rattle.redl_excerpts.specs.Mentions.{id_of, paragraph_end_in, stretch_in};
-ghost use Rattle.redl_excerpts.specs.Lines.{along, before};
-ghost use Rattle.redl_excerpts.specs.Said.{said};
+ghost use Rattle.redl_phrases.specs.Lines.{along, before};
+ghost use Rattle.redl_phrases.specs.Said.{said};
 
-use crate::ear::Ear;
-use crate::line::{Place, before, behind};
-use crate::phrase::Phrase;
-use crate::said::tell_nodes;
 use redl_index::RevKind;
 use redl_io::Text;
+use redl_phrases::{Ear, Phrase, Place, before, behind, tell_nodes};
 use redl_stamp::attribute;
 use redl_tree::{Elem, Node};
 use std::alloc::{AllocError, Global};

@@ -5,17 +5,10 @@
 //! How a listing shows them is left to the crates above.
 #![tactic(auto)]
 
-mod ear;
 mod excerpt;
 mod flat;
-mod idle;
-mod line;
 mod members;
 mod package;
-mod phrase;
-mod said;
 
 pub use excerpt::Excerpt;
-pub use line::{characters_in, without_characters};
 pub use package::excerpts;
-pub use phrase::{Phrase, shortened};

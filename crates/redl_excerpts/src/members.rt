@@ -4,18 +4,18 @@ ghost use Rattle.std.specs.Prelude.{◌≡◌, ◌<◌, IfOk, IfSome, IsSome, On
 ghost use Rattle.redl_tree.specs.Model.IdleTexts.{idle_nodes};
 ghost use Rattle.redl_tree.specs.Model.View.{nodes_of, item_of, tag_of, kids_of};
 ghost use Rattle.redl_excerpts.specs.Excerpts.{TellsEach, is_moved, told_all};
-ghost use Rattle.redl_excerpts.specs.Lines.{along, line_of};
+ghost use Rattle.redl_phrases.specs.Lines.{along, line_of};
 ghost use Rattle.redl_excerpts.specs.Mentions.{bytes_said, element_mentions, in_paragraph, item_mentions, member_told, mentions, told_by};
-ghost use Rattle.redl_excerpts.specs.Said.{element_said, holds_text, item_said, said, start_said};
+ghost use Rattle.redl_phrases.specs.Said.{element_said, holds_text, item_said, said, start_said};
 ghost use Rattle.redl_excerpts.specs.Inside.Flat.{are_flat};
 ghost use Rattle.redl_excerpts.specs.Inside.Views.{where_of};
 
 use crate::excerpt::Excerpt;
 use crate::flat::{are_flat, count_telling};
-use crate::idle::tell_plain;
-use crate::line::{Line, Place};
-use crate::said::{holds_text, is_paragraph, tell_bytes, tell_nodes, tell_start};
 use redl_index::{RevKind, Revision};
+use redl_phrases::{
+    Line, Place, holds_text, is_paragraph, tell_bytes, tell_nodes, tell_plain, tell_start,
+};
 use redl_tree::{Elem, Kind, Node, Plain, Trace, is_quiet};
 use std::alloc::{AllocError, Global};
 

@@ -8,10 +8,10 @@ ghost use Rattle.redl_excerpts.specs.Excerpts.{TellsEach, excerpts_of, is_moved,
 ghost use Rattle.redl_excerpts.specs.Mentions.{mentions, outside};
 
 use crate::excerpt::Excerpt;
-use crate::line::Place;
 use crate::members::{Here, tell_members};
 use redl_index::{Index, Revision};
 use redl_opc::Package;
+use redl_phrases::Place;
 use redl_tree::Elem;
 use std::alloc::{AllocError, Global};
 

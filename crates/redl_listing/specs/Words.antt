@@ -3,8 +3,8 @@
 -- 12 places before, 4 for the signs, 31 for the words, 11 behind. A disputed row also says who said what.
 use Rattle.std.specs.Prelude.{ℕ, ◌-◌, nat_le, false, List, [], ◌∷◌, ◌++◌, map, replicate, decimal, codes, if◌then◌else◌}
 use Rattle.std.specs.List.{flat_map}
-use Rattle.redl_excerpts.specs.Lines.{characters_in, without_characters}
-use Rattle.redl_excerpts.specs.Phrases.{heard, kept_text, nothing_heard}
+use Rattle.redl_phrases.specs.Lines.{characters_in, without_characters}
+use Rattle.redl_phrases.specs.Phrases.{heard, kept_text, nothing_heard}
 use Rattle.redl_details.specs.declared.last_word.LastWord.{LastWord}
 use Rattle.redl_index.specs.KindNames.{kind_name}
 use Rattle.redl_index.specs.declared.revision.RevKind.{RevKind}

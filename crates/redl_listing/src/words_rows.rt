@@ -8,12 +8,12 @@ ghost use Rattle.redl_listing.specs.Words.{closing, closing_of, in_places, near_
 
 use crate::row::Row;
 use redl_details::{LastWord, Says};
-use redl_excerpts::{characters_in, shortened, without_characters};
 use redl_formats::{
     Piece, push_left, push_number, push_shown, push_spaces, verdict_name, word_name,
 };
 use redl_index::RevKind;
 use redl_join::Verdict;
+use redl_phrases::{characters_in, shortened, without_characters};
 use redl_tree::Trace;
 use std::alloc::{AllocError, Global};
 

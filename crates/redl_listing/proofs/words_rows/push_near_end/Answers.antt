@@ -1,6 +1,6 @@
 -- The last characters, with dots for those before.
 use Rattle.std.proofs.Common.{◌<◌, ◌++◌, ◌∙◌, List, ℕ, map, ap, arith, append_assoc}
-use Rattle.redl_excerpts.specs.Lines.{characters_in}
+use Rattle.redl_phrases.specs.Lines.{characters_in}
 use Rattle.redl_formats.specs.Fields.{shown}
 use Rattle.redl_listing.specs.Words.{dots}
 use Rattle.redl_listing.proofs.WordLaws.{near_end-shown}
