@@ -13,15 +13,15 @@ ghost use Rattle.redl_words.specs.Views.{command_of};
 use redl_commands::put;
 use redl_io::{Shelf, Sink};
 use redl_lines::End;
+use redl_list_commands::{list_package, report_package};
 use redl_listing::RowFormat;
 use redl_page::Skin;
 use redl_report::ReportFormat;
+use redl_resume_command::resume_package;
 use redl_sample_command::make_sample;
-use redl_show_commands::{check_package, list_package, put_page, put_text, report_package};
+use redl_show_commands::{check_package, put_page, put_text};
 use redl_words::Command;
-use redl_write_commands::{
-    decide_package, join_files, resume_package, settle_package, write_package,
-};
+use redl_write_commands::{decide_package, join_files, settle_package, write_package};
 use std::alloc::Global;
 
 /// Makes what the command writes and puts it on the output. `text` is its package's, and there is one exactly if the command has

@@ -2,7 +2,8 @@
 //!
 //! Read `specs/Settle.antt` or `specs/Write.antt` first: each command has a module there, which says what is written for the files that the
 //! command names, or for which first cause nothing is. `put` promises how a call ends that writes what it made.
-//! The code that makes it is left to three crates beside each other: `redl_write_commands`, `redl_show_commands`, `redl_sample_command`.
+//! The code that makes it is left to five crates beside each other: `redl_write_commands`, `redl_resume_command`, `redl_list_commands`,
+//! `redl_show_commands` and `redl_sample_command`.
 #![tactic(auto)]
 
 mod collected;

@@ -27,7 +27,6 @@ use std::alloc::{AllocError, Global};
 #[derive(Drop)]
 pub struct Shown<'b> {
     /// The package, whose members have their numbers.
-    /// The package.
     pub pkg: Package<'b>,
     /// A say for each revision, under which its plain text is shown; without them its text is shown with its changes marked.
     pub says: Option<Vec<Say>>,

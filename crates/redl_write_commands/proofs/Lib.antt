@@ -1,3 +1,2 @@
 pub mod ChoiceLaws
 pub mod JoinLaws
-pub mod ResumeLaws

@@ -2,18 +2,15 @@
 //!
 //! Each command has a module with one public call, and read `settle_package` or `write_package` first. A call promises what its definition in
 //! `redl_commands` says of the files that it names, or that the first cause of a refusal came before.
-//! Which command the words of a call ask for, and the outcome of the whole call, are left to the crate above.
 #![tactic(auto)]
 
 mod choices;
 mod decide;
 mod join;
-mod resume;
 mod settle;
 mod write;
 
 pub use decide::decide_package;
 pub use join::join_files;
-pub use resume::resume_package;
 pub use settle::settle_package;
 pub use write::write_package;
