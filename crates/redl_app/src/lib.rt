@@ -1,16 +1,23 @@
 //! The top call: from the words of a command line and the files that they name to the bytes, the lines and the status.
 //!
 //! Read `run` first: its clauses say what goes out and which status comes when, by the outcome of a call in
-//! `redl_outcome`. What each command writes is defined in `redl_commands`, and made in two crates above that.
+//! `redl_outcome`. Then `answer`: the same with what the program brings to a call, its formats, its help and its version.
+//! What each command writes is defined in `redl_commands`, and made in the five crates of commands above that.
 //! Real files and streams are made by the program above.
 #![tactic(auto)]
 
+mod answers;
+mod call;
 mod commands;
 mod formats;
+mod own;
 mod plan;
 mod top;
 mod words;
 
+pub use answers::answer;
+pub use call::run_words;
+pub use own::{Own, Texts, own_of};
 pub use redl_inputs::{JOURNALS_LIMIT, PACKAGE_LIMIT};
 pub use redl_lines::Status;
 pub use redl_words::WordsError;

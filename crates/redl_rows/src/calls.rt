@@ -2,10 +2,9 @@
 
 ghost use Rattle.std.specs.Prelude.{IfOk, All, IsUtf8};
 
-use redl_app::{Status, add_word};
+use redl_app::{Status, add_word, run_words};
 use redl_io::{MemShelf, MemSink, Text};
 use redl_page::Skin;
-use redl_program::run_words;
 use std::alloc::{AllocError, Global};
 
 /// What a call came to: its status, what was written, and the lines on standard error.

@@ -14,11 +14,10 @@ ghost use Rattle.std.specs.String.{string_bytes};
 ghost use Rattle.std.specs.Vec.Iter.{into_iter_items};
 
 use help::{HELP, VERSION};
-use redl_app::{Status, WordsError, add_word};
+use redl_app::{Status, Texts, WordsError, add_word, answer, own_of};
 use redl_hints::{Fetched, Told, tell_hints, tell_word_hint};
 use redl_io::{FileShelf, Shelf, Sink, StdSink, Text};
 use redl_page::Skin;
-use redl_program::{Texts, answer, own_of};
 use skin::{POLICY, SCRIPT, STYLE};
 use std::alloc::{AllocError, Global};
 use std::env;

@@ -1,5 +1,5 @@
 use Rattle.std.proofs.Common.{All, IsUtf8, subst, sym}
-use Rattle.redl_program.proofs.answers.answer.Goals as goal
+use Rattle.redl_app.proofs.answers.answer.Goals as goal
 
 pub run_words-requires : goal.run_words-requires
 run_words-requires g c = record { utf8 = subst (All IsUtf8) (sym c.deref-in-None.ensures.value) (rw c.in-Ok.is at c.requires.utf8) }

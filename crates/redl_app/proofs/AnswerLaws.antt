@@ -12,7 +12,7 @@ use Rattle.redl_io.specs.Shelf.{Files}
 use Rattle.redl_lines.specs.Ends.{Tells}
 use Rattle.redl_lines.specs.Lines.{no_memory_line}
 use Rattle.redl_lines.specs.declared.status.Status.TheVariants as status
-use Rattle.redl_program.specs.Answers.{Answers}
+use Rattle.redl_app.specs.Answers.{Answers}
 use Rattle.redl_words.specs.Commands.{resume}
 
 is_not_written : IsWritten status.NoMemory → ⊥

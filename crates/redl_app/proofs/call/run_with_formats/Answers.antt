@@ -1,9 +1,9 @@
 use Rattle.std.proofs.Common.{ap, map, refl}
 use Rattle.redl_page.specs.PageViews.{skin_view}
-use Rattle.redl_program.specs.Answers.{Answers}
-use Rattle.redl_program.specs.Formats.{row_formats, report_formats}
-use Rattle.redl_program.proofs.BroughtLaws.{views-added, with_known}
-use Rattle.redl_program.proofs.call.run_with_formats.Goals as goal
+use Rattle.redl_app.specs.Answers.{Answers}
+use Rattle.redl_app.specs.Formats.{row_formats, report_formats}
+use Rattle.redl_app.proofs.BroughtLaws.{views-added, with_known}
+use Rattle.redl_app.proofs.call.run_with_formats.Goals as goal
 
 pub returns-clause-answers : goal.returns-clause-answers
 returns-clause-answers g c = with_known

@@ -1,5 +1,5 @@
-use Rattle.redl_program.proofs.AnswerLaws.{answers_without_memory}
-use Rattle.redl_program.proofs.call.run_words.Goals as goal
+use Rattle.redl_app.proofs.AnswerLaws.{answers_without_memory}
+use Rattle.redl_app.proofs.call.run_words.Goals as goal
 
 pub returns-in-Err : goal.returns-in-Err
 returns-in-Err g c = record {

@@ -1,14 +1,16 @@
 //! A call with the program's own formats.
 
 ghost use Rattle.std.specs.Prelude.{◌≡◌, IfOk, OnErr, All, IsUtf8};
-ghost use Rattle.redl_program.specs.Answers.{Answers};
-ghost use Rattle.redl_program.specs.Formats.{program_brings};
+ghost use Rattle.redl_app.specs.Answers.{Answers};
+ghost use Rattle.redl_app.specs.Formats.{program_brings};
 
-use redl_app::{Status, WordsError, refuse_words, run};
+use crate::top::{refuse_words, run};
 use redl_io::{Shelf, Sink, Text};
+use redl_lines::Status;
 use redl_listing::{FullFormat, JsonFormat, TabFormat, TextFormat, WordsFormat, add_format};
 use redl_page::Skin;
 use redl_report::{JsonReport, TableReport, TextReport, add_report_format};
+use redl_words::WordsError;
 use std::alloc::{AllocError, Global};
 
 /// Does what the words ask, with the program's formats of listings and of reports and this skin of pages. All else is as for

@@ -7,15 +7,17 @@ ghost use Rattle.redl_io.specs.Faults.{Rose};
 ghost use Rattle.redl_lines.specs.Ends.{Tells};
 ghost use Rattle.redl_lines.specs.Failures.{failure_status};
 ghost use Rattle.redl_lines.specs.Lines.{failure_line};
-ghost use Rattle.redl_program.specs.Answers.{Answers};
-ghost use Rattle.redl_program.specs.Formats.{program_brings};
-ghost use Rattle.redl_program.specs.Own.{own_of, own_lines, text_of};
+ghost use Rattle.redl_app.specs.Answers.{Answers};
+ghost use Rattle.redl_app.specs.Formats.{program_brings};
+ghost use Rattle.redl_app.specs.Own.{own_of, own_lines, text_of};
 
 use crate::call::run_words;
 use crate::own::{Texts, own_of};
-use redl_app::{Status, WordsError, refuse_words, tell_text};
+use crate::top::{refuse_words, tell_text};
 use redl_io::{Shelf, Sink, Text};
+use redl_lines::Status;
 use redl_page::Skin;
+use redl_words::WordsError;
 use std::alloc::Global;
 
 /// Answers a call with these words, or tells why they could not be read.

@@ -1,7 +1,7 @@
 //! What the program tells of itself.
 
 ghost use Rattle.std.specs.Prelude.{◌≡◌};
-ghost use Rattle.redl_program.specs.Own.{is_help, own_of, text_of};
+ghost use Rattle.redl_app.specs.Own.{is_help, own_of, text_of};
 
 use redl_io::Text;
 
