@@ -1,11 +1,9 @@
-//! Tests of the crates that a call is made of: books, sessions and editors, samples, words and lines.
+//! Tests of the crates that a call is made of: sessions and editors, samples, words and lines.
 //! They stand apart, so that no crate is proved a second time for its tests.
 #![tactic(auto)]
 
 #[cfg(test)]
 mod editor;
-#[cfg(test)]
-mod join;
 #[cfg(test)]
 mod lines;
 #[cfg(test)]
