@@ -10,12 +10,12 @@ use redl_journal::Entry;
 use redl_live_session::{LiveSession, admit_each};
 use redl_opc::Package;
 use redl_outline::document_package;
+use redl_output::write_nodes;
 use redl_rules::check;
 use redl_sample::{sample_journal, sample_package};
 use redl_select::Lock;
 use redl_session::{AdmitError, Bar, Locks, Refusal, Taken};
 use redl_test_journals::entries_of;
-use redl_tree::write_nodes;
 use std::alloc::{AllocError, Global};
 use std::test::Fail;
 

@@ -8,11 +8,12 @@ use redl_join::Verdict;
 use redl_journal::Entry;
 use redl_opc::Package;
 use redl_outline::document_package;
+use redl_output::write_nodes;
 use redl_rules::check;
 use redl_select::Lock;
 use redl_session::{AdmitError, Bar, Locks, Refusal, Session, Taken};
 use redl_test_journals::entries_of;
-use redl_tree::{Say, Trace, write_nodes};
+use redl_tree::{Say, Trace};
 use std::alloc::{AllocError, Global};
 use std::test::Fail;
 

@@ -15,8 +15,9 @@ use redl_inputs::DocumentId;
 use redl_io::{Failed, Sink, Staged, put_piece, put_pieces};
 use redl_join::Book;
 use redl_lines::{End, Failure, Remarks};
+use redl_output::write_nodes;
 use redl_sample::Summary;
-use redl_tree::{Node, write_nodes};
+use redl_tree::Node;
 use std::alloc::Global;
 
 /// What goes out.

@@ -14,7 +14,8 @@ ghost use Rattle.redl_tree.specs.Model.View.{nodes_of, item_of, tag_of, kids_of}
 use crate::story::Story;
 use redl_io::{Failed, Sink, put_piece};
 use redl_leaves::write_slots;
-use redl_tree::{Elem, Level, Node, write_close, write_open};
+use redl_output::{write_close, write_open};
+use redl_tree::{Elem, Level, Node};
 
 /// Puts the text of these nodes, where each story is as it is kept, and takes no memory. `Failed` comes only where the sink failed.
 pub(crate) fn write_package<K: Sink>(

@@ -2,15 +2,15 @@
 use Rattle.std.proofs.Common.{◌≡◌, ◌≢◌, ◌≤◌, inl, ℕ, Bool, true, false, List, [], ◌∷◌, ◌++◌, length, Option, Some, None, refl, sym, ap, subst, ◌∙◌, arith, append-nil, length-append, codes, true≢false, if◌then◌else◌}
 use Rattle.std.proofs.lemmas.Bool.{and_parts, eqb-true}
 use Rattle.std.proofs.lemmas.Option.{same_Some}
-use Rattle.redl_markup.specs.declared.piece.Place.TheVariants.{InElement}
-use Rattle.redl_markup.specs.References.{is_there}
+use Rattle.redl_grammar.specs.declared.place.Place.TheVariants.{InElement}
+use Rattle.redl_grammar.specs.References.{is_there}
 use lib.Utf8.{encode}
-use Rattle.redl_markup.specs.Characters.{is_name_start}
-use Rattle.redl_markup.specs.Names.{name_text, may_start, are_distinct}
-use Rattle.redl_markup.specs.Pieces.{Piece, start_tag, empty_tag, end_tag, stretch, piece_then}
-use Rattle.redl_markup.specs.ScanPieces.{piece_at}
-use Rattle.redl_markup.specs.Stretches.{ends_stretch}
-use Rattle.redl_markup.proofs.Pieces.{piece_again, piece_shorter, end_ends_stretch}
+use Rattle.redl_grammar.specs.Characters.{is_name_start}
+use Rattle.redl_grammar.specs.Names.{name_text, may_start, are_distinct}
+use Rattle.redl_grammar.specs.Pieces.{Piece, start_tag, empty_tag, end_tag, stretch, piece_then}
+use Rattle.redl_grammar.specs.ScanPieces.{piece_at}
+use Rattle.redl_grammar.specs.Stretches.{ends_stretch}
+use Rattle.redl_grammar.proofs.Pieces.{piece_again, piece_shorter, end_ends_stretch}
 use Rattle.redl_tree.specs.Model.Nodes.{Tag, Nodes, no_nodes, bytes, element, Close, Empty, End}
 use Rattle.redl_tree.specs.Model.Elements.{elements}
 use Rattle.redl_tree.specs.Model.Folds.{nodes_at, nodes_in}

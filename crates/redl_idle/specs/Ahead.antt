@@ -4,9 +4,9 @@ use Rattle.redl_tree.specs.Model.Nodes.{Nodes, no_nodes}
 use Rattle.redl_tree.specs.Model.Text.{text}
 use Rattle.redl_tree.specs.Model.Laid.{AreLaid}
 use Rattle.redl_tree.specs.declared.kinds.Space.TheVariants.{W}
-use Rattle.redl_markup.specs.declared.piece.Place.TheVariants.{InElement}
-use Rattle.redl_markup.specs.Names.{Name}
-use Rattle.redl_markup.specs.Pieces.{Piece, start_tag, empty_tag, end_tag, stretch, piece_then, IsPiece}
+use Rattle.redl_grammar.specs.declared.place.Place.TheVariants.{InElement}
+use Rattle.redl_grammar.specs.Names.{Name}
+use Rattle.redl_grammar.specs.Pieces.{Piece, start_tag, empty_tag, end_tag, stretch, piece_then, IsPiece}
 use Rattle.redl_idle.specs.Shows.{ShowRule, element_shows}
 
 -- the end of the text, or an end tag and a rest

@@ -3,7 +3,7 @@ use Rattle.std.proofs.Common.{◌≡◌, ◌∙◌, ℕ, List, [], ◌∷◌, �
 use Rattle.std.proofs.lemmas.Bool.{or_from, and_right}
 use Rattle.redl_tree.specs.Leaves.Containers.{opens, opens_outer, is_control}
 use Rattle.redl_tree.specs.Leaves.Slots.{Slots, Sibling, thin_sibling, thick_sibling, para_sibling, open_sibling, has_mark, sibling, siblings, slots_in}
-use Rattle.redl_tree.specs.Model.Firsts.{first_item}
+use Rattle.redl_laid.specs.Firsts.{first_item}
 use Rattle.redl_tree.specs.Model.Folds.{nodes_in}
 use Rattle.redl_tree.specs.Model.Laid.{ClosesBy, AreLaid}
 use Rattle.redl_tree.specs.Model.Nodes.{Tag, Nodes, no_nodes, bytes, element, in_front, ◌⊕◌}
@@ -12,8 +12,8 @@ use Rattle.redl_tree.specs.Roles.Names.{is}
 use Rattle.redl_tree.specs.Roles.Idle.{is_idle_in}
 use Rattle.redl_tree.specs.Roles.Lists.{place, in_blocks, in_rows, in_cells, is_wrapper, is_thick}
 use Rattle.redl_tree.specs.declared.kinds.Space.TheVariants.{W}
-use Rattle.redl_tree.specs.declared.laid.First.{First}
-use Rattle.redl_tree.specs.declared.laid.First.TheVariants.{Bytes, Elem}
+use Rattle.redl_laid.specs.declared.laid.First.{First}
+use Rattle.redl_laid.specs.declared.laid.First.TheVariants.{Bytes, Elem}
 use Rattle.redl_tree.proofs.Reading.FoldLaws.{always_laid}
 use Rattle.redl_tree.proofs.Idle.Tags.{Idle, idle_parts, has-not}
 use Rattle.redl_tree.proofs.Idle.Lists.{names_none, thick_none}

@@ -3,9 +3,9 @@ use Rattle.std.proofs.Common.{◌≡◌, ◌≤◌, ◌+◌, ℕ, List, [], ◌�
 use Rattle.redl_tree.specs.Model.Nodes.{Tag, Nodes, no_nodes, bytes, element, Item, bytes_item, element_item, idle_item, in_front, ◌⊕◌}
 use Rattle.redl_tree.specs.Model.IdleTexts.{idle_nodes}
 use Rattle.redl_tree.specs.Model.Count.{count}
-use Rattle.redl_tree.specs.Model.Firsts.{first_item}
-use Rattle.redl_tree.specs.declared.laid.First.{First}
-use Rattle.redl_tree.specs.declared.laid.First.TheVariants.{Bytes, Elem}
+use Rattle.redl_laid.specs.Firsts.{first_item}
+use Rattle.redl_laid.specs.declared.laid.First.{First}
+use Rattle.redl_laid.specs.declared.laid.First.TheVariants.{Bytes, Elem}
 use Rattle.redl_tree.specs.Model.View.{nodes_of, item_of}
 use Rattle.redl_tree.specs.Revisions.Markers.{is_own}
 use Rattle.redl_tree.specs.Leaves.Containers.{opens}

@@ -1,14 +1,15 @@
 //! Makes the nodes of a text.
 
 ghost use Rattle.std.specs.Prelude.{◌≡◌, None, IfOk};
-ghost use Rattle.redl_tree.specs.Model.Firsts.{first_item};
+ghost use Rattle.redl_laid.specs.Firsts.{first_item};
 ghost use Rattle.redl_tree.specs.Model.Folds.{nodes_in};
 ghost use Rattle.redl_tree.specs.Model.Nodes.{no_nodes};
 ghost use Rattle.redl_tree.specs.Model.View.{nodes_of, item_of, tag_of, kids_of, tagged, close_of};
 ghost use Rattle.redl_tree.specs.declared.kinds.Space.TheVariants.{W};
 ghost use Rattle.redl_leaves.specs.Inside.Opens.{IsClosed};
 
-use redl_tree::{Elem, First, Laid, LaidElem, Node};
+use redl_laid::{First, Laid, LaidElem};
+use redl_tree::{Elem, Node};
 use std::alloc::{AllocError, Global};
 
 /// The node that was read first from a text, with all that it holds. `Err` means out of memory.

@@ -20,8 +20,9 @@ use crate::marks::is_marked;
 use crate::open::open_first;
 use crate::slots::{Container, Leaf, Slot, Tally};
 use crate::spot::Spot;
+use redl_laid::Laid;
 use redl_resolve::Next;
-use redl_tree::{Elem, Laid, Node, Word, is_thick, is_word};
+use redl_tree::{Elem, Node, Word, is_thick, is_word};
 use std::alloc::{AllocError, Global};
 use std::mem;
 
@@ -104,7 +105,7 @@ fn push_lone<'a>(
     match node {
         Node::Elem(elem) => push_one(alloc, slots, Node::Elem(elem), among_blocks),
         Node::Bytes(text) => push_one(alloc, slots, Node::Bytes(text), among_blocks),
-        Node::Plain(plain) => push_kept(alloc, slots, plain.laid(), among_blocks),
+        Node::Plain(plain) => push_kept(alloc, slots, Laid::of(&plain), among_blocks),
     }
 }
 

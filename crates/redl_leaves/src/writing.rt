@@ -10,7 +10,8 @@ ghost use Rattle.redl_tree.specs.Model.View.{nodes_of, tag_of};
 
 use crate::slots::{Container, Leaf, Slot};
 use redl_io::{Failed, Sink};
-use redl_tree::{Node, write_close, write_nodes, write_open};
+use redl_output::{write_close, write_nodes, write_open};
+use redl_tree::Node;
 
 /// Puts the text of what the slots are at present, and takes no memory. `Failed` comes only where the sink failed.
 #[cycle(write)]

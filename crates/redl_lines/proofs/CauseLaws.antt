@@ -1,5 +1,4 @@
 -- The status of a cause.
-use Rattle.std.proofs.Common.{ℕ}
 use Rattle.redl_lines.specs.Failures.{Cause, usage, no_format, no_package, no_second, malformed, other_document, other_count, no_sequence, not_written, differ, over, cause_status}
 use Rattle.redl_lines.specs.declared.status.Status.{Status}
 use Rattle.redl_lines.specs.declared.status.Status.TheVariants as status

@@ -5,20 +5,17 @@ use Rattle.std.proofs.lemmas.List.FromFn.{length-map-range_with_len}
 use Rattle.std.specs.Option.{option_map}
 use Rattle.std.specs.Str.{bytes_eq}
 use Rattle.redl_lines.proofs.CauseLaws.{by_cause}
-use Rattle.redl_inputs.proofs.ReadLaws.{fails_alone}
 use Rattle.redl_inputs.specs.Admission.{Admission}
 use Rattle.redl_commands.specs.List.{listing, listing_named, part_names, session_details, session_rows, session_verdicts}
 use Rattle.redl_commands.specs.Shown.{shown_revisions}
-use Rattle.redl_commands.specs.Endings.{Ends, Finishes}
-use Rattle.redl_commands.specs.Formats.{Format, LeavesFormats, format_named, formats_by, found_format, has_format, whether}
-use Rattle.redl_inputs.specs.Readers.{Reader}
+use Rattle.redl_commands.specs.Endings.{Finishes}
+use Rattle.redl_commands.specs.Formats.{Format, LeavesFormats, format_named, formats_by, found_format, whether}
 use Rattle.redl_inputs.specs.Reading.{Reads}
 use Rattle.redl_inputs.specs.Steps.{◌>>=◌}
 use Rattle.redl_commands.specs.Writing.{Writing, outcome_of}
-use Rattle.redl_io.specs.Shelf.{Files}
 use Rattle.redl_journal.specs.declared.entry.Entry.{Entry}
 use Rattle.redl_lines.specs.Remarks.{all_refused}
-use Rattle.redl_lines.specs.Ends.{End, end_status, failed, written_status}
+use Rattle.redl_lines.specs.Ends.{End, end_status, written_status}
 use Rattle.redl_lines.specs.Refused.{RefusedEntries}
 use Rattle.redl_lines.specs.Failures.{Failure, caused, unread, no_memory, no_format, failure_status}
 use Rattle.redl_details.specs.declared.detail.Detail.{Detail}

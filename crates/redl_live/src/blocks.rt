@@ -4,7 +4,7 @@ use crate::open::open;
 use crate::setting::{changes_of, set};
 use redl_editor::{Change, Editor};
 use redl_io::MemSink;
-use redl_tree::write_nodes;
+use redl_output::write_nodes;
 use std::alloc::{AllocError, Global};
 use std::str;
 

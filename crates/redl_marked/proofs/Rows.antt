@@ -10,8 +10,8 @@ use Rattle.redl_tree.specs.declared.kinds.Trace.TheVariants.{Ins, Del, From, To}
 use Rattle.redl_tree.specs.declared.kinds.Space.TheVariants.{W}
 use Rattle.redl_tree.specs.declared.kinds.Prop.TheVariants.{Run, Sect}
 use Rattle.redl_tree.proofs.Model.Build.{tag_in, opened, closed, member, content, words, run, deleted_run}
-use Rattle.redl_markup.specs.References.{reference_at, named_at, number_at}
-use Rattle.redl_markup.specs.Characters.{is_character}
+use Rattle.redl_grammar.specs.References.{reference_at, named_at, number_at}
+use Rattle.redl_grammar.specs.Characters.{is_character}
 use Rattle.redl_marked.specs.Signs.{pilcrow}
 use Rattle.redl_marked.specs.MarkedText.{NamedStory, story_marked, stories_marked}
 use lib.Utf8.{encode}

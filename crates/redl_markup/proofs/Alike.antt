@@ -14,7 +14,7 @@ use lib.Pointwise.{pointwise}
 use Rattle.redl_markup.specs.contracts.name.NameOrd.TheImpl as order
 use Rattle.redl_markup.specs.contracts.name.NameOrd.TheImpl.Laws as laws
 use Rattle.redl_markup.specs.declared.name.Name as code
-use Rattle.redl_markup.specs.Names.{name_eq, are_distinct}
+use Rattle.redl_grammar.specs.Names.{name_eq, are_distinct}
 use Rattle.redl_markup.specs.Views.{name_view}
 
 abbrev pub compare : code.Name → code.Name → Ordering

@@ -5,11 +5,11 @@ use denote.Ref.{Bor}
 use Rattle.std.proofs.lemmas.Option.{same_Some}
 use Rattle.redl_reading.specs.Lists.{after, before}
 use Rattle.redl_reading.specs.Steps.{◌>>=◌, Gives}
-use Rattle.redl_markup.specs.Characters.{is_space}
-use Rattle.redl_markup.specs.References.{is_there}
-use Rattle.redl_markup.specs.Names.{Name, are_distinct}
-use Rattle.redl_markup.specs.ScanTags.{Tail, attribute_in, ends_tag, attributes_at, attributes_end, tail_at}
-use Rattle.redl_markup.proofs.Attributes.{Loop, loop_begins, loop_ends, loop_fails, loop_goes}
+use Rattle.redl_grammar.specs.Characters.{is_space}
+use Rattle.redl_grammar.specs.References.{is_there}
+use Rattle.redl_grammar.specs.Names.{Name, are_distinct}
+use Rattle.redl_grammar.specs.ScanTags.{Tail, attribute_in, ends_tag, attributes_at, attributes_end, tail_at}
+use Rattle.redl_grammar.proofs.Attributes.{Loop, loop_begins, loop_ends, loop_fails, loop_goes}
 
 -- some attributes were passed over, and this is left
 pub record PastSome (rest bs : List ℕ) : Type 0 where

@@ -11,7 +11,7 @@ use Rattle.std.proofs.lemmas.List.Folds.{list_all-append}
 use Rattle.std.proofs.lemmas.List.{length-map}
 use Rattle.std.proofs.lemmas.Simd.{zip2_splat, zip2_of_maps, mask_l-mod}
 use lib.Bits.{bit_and, bit_or}
-use Rattle.redl_markup.specs.Characters.{is_plain_byte}
+use Rattle.redl_grammar.specs.Characters.{is_plain_byte}
 
 -- ---- the lanes
 

@@ -8,7 +8,7 @@ use Rattle.std.proofs.lemmas.Bool.Decides.{nat_tests}
 use Rattle.std.proofs.lemmas.Str.{chars-encodes, encodes-chars}
 use lib.Utf8.{scalar, scalars, encode}
 use Rattle.redl_reading.proofs.Runs.{passes-parts}
-use Rattle.redl_markup.specs.Characters.{is_character, is_plain_byte, IsText}
+use Rattle.redl_grammar.specs.Characters.{is_character, is_plain_byte, IsText}
 
 pub character_scalar : (c : ℕ) → is_character c ≡ true → scalar c ≡ true
 unfolding is_character

@@ -10,10 +10,10 @@ use Rattle.std.proofs.lemmas.List.{append-nil}
 use Rattle.std.proofs.lemmas.Option.{same_Some}
 use Rattle.std.proofs.lemmas.Str.{IsUtf8-nil, IsUtf8-append, IsUtf8-encode, encode_ascii}
 use lib.Utf8.{scalar, encode}
-use Rattle.redl_markup.specs.Characters.{is_character, is_space}
+use Rattle.redl_grammar.specs.Characters.{is_character, is_space}
 use Rattle.redl_reading.specs.Lists.{behind, begins, front, after, is_filled, is_other}
 use Rattle.redl_reading.specs.Steps.{or_else}
-use Rattle.redl_markup.specs.References.{valued, named_at, is_digit_in, number_of, number_at, numbered_by, reference_at}
+use Rattle.redl_grammar.specs.References.{valued, named_at, is_digit_in, number_of, number_at, numbered_by, reference_at}
 use Rattle.redl_markup.specs.Decoding.{character_text, decoded_from, decoded_value, is_literal}
 use Rattle.redl_markup.proofs.Characters.{character_scalar}
 use Rattle.redl_reading.proofs.Runs.{front-after, front_passes}

@@ -1,12 +1,6 @@
 pub mod Places
-pub mod Names
-pub mod Attributes
 pub mod Values
-pub mod Items
-pub mod Tags
-pub mod Declarations
-pub mod Stretches
-pub mod Pieces
+pub mod Found
 pub mod Listing
 pub mod Decoding
 pub mod Utf8

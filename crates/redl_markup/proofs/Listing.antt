@@ -4,18 +4,18 @@ use Rattle.std.specs.Prelude.{IfSome, IsNone, ◌&&◌}
 use Rattle.std.specs.List.{AllByRecursion, list_all}
 use Rattle.redl_reading.specs.Steps.{Gives}
 use Rattle.std.proofs.lemmas.List.{append-nil}
-use Rattle.redl_markup.specs.Characters.{is_space}
+use Rattle.redl_grammar.specs.Characters.{is_space}
 use Rattle.redl_reading.specs.Lists.{front, after, before, is_filled}
-use Rattle.redl_markup.specs.Names.{Name, name_text}
-use Rattle.redl_markup.specs.Tails.{IsSpace, Attribute, attribute_then, attributes_then, IsAttribute, IsTail, named_value}
-use Rattle.redl_markup.specs.ScanNames.{name_at, char_at, word_at}
-use Rattle.redl_markup.specs.ScanTags.{attribute_at, attribute_in, Tail, attributes_at}
+use Rattle.redl_grammar.specs.Names.{Name, name_text}
+use Rattle.redl_grammar.specs.Tails.{IsSpace, Attribute, attribute_then, attributes_then, IsAttribute, IsTail, named_value}
+use Rattle.redl_grammar.specs.ScanNames.{name_at, char_at, word_at}
+use Rattle.redl_grammar.specs.ScanTags.{attribute_at, attribute_in, Tail, attributes_at}
 use Rattle.redl_markup.specs.Attributes.{attributes_by, attributes_from, attributes_of, names_in}
 use Rattle.redl_reading.proofs.Runs.{after_again, passes-parts}
 use Rattle.std.proofs.lemmas.Bool.{cases_Bool, and_parts, and_from}
 use Rattle.redl_reading.proofs.Words.{before-append}
-use Rattle.redl_markup.proofs.Attributes.{first_again, first_shorter, tail_takes_turns, first_takes}
-use Rattle.redl_markup.proofs.Tags.{attributes_then-append}
+use Rattle.redl_grammar.proofs.Attributes.{first_again, first_shorter, tail_takes_turns, first_takes}
+use Rattle.redl_grammar.proofs.Tags.{attributes_then-append}
 
 -- any count above the length of the rest gives the same list
 counts_alike : (n m : ℕ) (tail : List ℕ) → length tail < n → length tail < m → attributes_from n tail ≡ attributes_from m tail

@@ -8,9 +8,9 @@ use Rattle.std.proofs.lemmas.Bool.{cases_lt, cases_Bool}
 use Rattle.std.proofs.Math.Bool.{and-false}
 use lib.Utf8.{scalar_cases}
 use Rattle.redl_markup.specs.declared.reference.TheConstants.{BEYOND}
-use Rattle.redl_markup.specs.Characters.{is_character}
+use Rattle.redl_grammar.specs.Characters.{is_character}
 use Rattle.redl_reading.specs.Lists.{front, is_filled}
-use Rattle.redl_markup.specs.References.{is_digit_in, number_of, number_at}
+use Rattle.redl_grammar.specs.References.{is_digit_in, number_of, number_at}
 use Rattle.redl_markup.proofs.Characters.{character_scalar}
 
 step_grows : (b m d : ℕ) → 0 < b → m ≤ m * b + d

@@ -4,7 +4,7 @@ use Rattle.std.specs.Prelude.{◌&&◌, true}
 use Rattle.redl_reading.specs.Lists.{behind, after, is_other}
 use Rattle.std.specs.Option.{is_some}
 use Rattle.redl_reading.specs.Steps.{Gives}
-use Rattle.redl_markup.specs.References.{is_there, reference_at, has_references}
+use Rattle.redl_grammar.specs.References.{is_there, reference_at, has_references}
 use Rattle.std.proofs.lemmas.Bool.{cases_Bool}
 use Rattle.redl_reading.proofs.Runs.{after_fits, after_here}
 use Rattle.redl_reading.proofs.Words.{behind_takes}

@@ -6,13 +6,13 @@ use Rattle.std.proofs.lemmas.Bool.{and_parts, and_from}
 use Rattle.std.proofs.lemmas.List.{append-nil}
 use Rattle.redl_reading.specs.Lists.{front, after, begins, lacks, is_filled, is_other, is_none_of}
 use Rattle.redl_reading.proofs.Runs.{front-after, front_passes}
-use Rattle.redl_markup.specs.declared.piece.Place.TheVariants.{InElement}
-use Rattle.redl_markup.specs.References.{is_there, reference_at, has_references}
-use Rattle.redl_markup.specs.Stretches.{no_head, IsRun, IsStretch, ends_stretch}
-use Rattle.redl_markup.specs.Pieces.{stretch}
-use Rattle.redl_markup.specs.ScanStretches.{stretch_at}
-use Rattle.redl_markup.proofs.Attributes.{is_filled-some}
-use Rattle.redl_markup.proofs.Stretches.{stretch_again}
+use Rattle.redl_grammar.specs.declared.place.Place.TheVariants.{InElement}
+use Rattle.redl_grammar.specs.References.{is_there, reference_at, has_references}
+use Rattle.redl_grammar.specs.Stretches.{no_head, IsRun, IsStretch, ends_stretch}
+use Rattle.redl_grammar.specs.Pieces.{stretch}
+use Rattle.redl_grammar.specs.ScanStretches.{stretch_at}
+use Rattle.redl_grammar.proofs.Attributes.{is_filled-some}
+use Rattle.redl_grammar.proofs.Stretches.{stretch_again}
 
 abbrev plain : ℕ → Bool
 plain = is_none_of 60 38 93

@@ -7,15 +7,15 @@ use Rattle.std.proofs.lemmas.Bool.{eqb-true, and_parts}
 use Rattle.std.proofs.lemmas.Bool.Decides.{nat_tests}
 use Rattle.std.proofs.lemmas.List.{take_at, drop_at, get_or_at}
 use Rattle.std.proofs.lemmas.Str.{IsUtf8-nil, IsUtf8-take, IsUtf8-drop, IsCharBoundary-before_ascii, IsCharBoundary-after_ascii}
-use Rattle.redl_markup.specs.declared.piece.Place.{Place}
-use Rattle.redl_markup.specs.Characters.{is_space}
+use Rattle.redl_grammar.specs.declared.place.Place.{Place}
+use Rattle.redl_grammar.specs.Characters.{is_space}
 use Rattle.redl_reading.specs.Steps.{Gives}
-use Rattle.redl_markup.specs.Names.{Name, name_text, IsWord}
-use Rattle.redl_markup.specs.Tails.{IsSpace, Attribute, attribute_then, attributes_then, IsQuote, IsAttribute, IsTail}
-use Rattle.redl_markup.specs.Stretches.{begins_item, ends_stretch}
-use Rattle.redl_markup.specs.Pieces.{Piece, start_tag, empty_tag, end_tag, stretch, Stands}
-use Rattle.redl_markup.specs.ScanTags.{attribute_in}
-use Rattle.redl_markup.proofs.Attributes.{first_takes}
+use Rattle.redl_grammar.specs.Names.{Name, name_text, IsWord}
+use Rattle.redl_grammar.specs.Tails.{IsSpace, Attribute, attribute_then, attributes_then, IsQuote, IsAttribute, IsTail}
+use Rattle.redl_grammar.specs.Stretches.{begins_item, ends_stretch}
+use Rattle.redl_grammar.specs.Pieces.{Piece, start_tag, empty_tag, end_tag, stretch, Stands}
+use Rattle.redl_grammar.specs.ScanTags.{attribute_in}
+use Rattle.redl_grammar.proofs.Attributes.{first_takes}
 
 -- what is on either side of an ASCII byte is UTF-8
 pub record CutsAt (xs : List ℕ) (b : ℕ) (ys : List ℕ) : Type 0 where

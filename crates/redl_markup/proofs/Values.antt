@@ -8,11 +8,11 @@ use Rattle.redl_reading.specs.Steps.{◌>>=◌}
 use Rattle.redl_reading.proofs.Runs.{front-after, front_passes}
 use Rattle.redl_reading.proofs.Words.{behind_takes}
 use Rattle.redl_reading.proofs.Fields.{field_again}
-use Rattle.redl_markup.specs.Characters.{is_space}
-use Rattle.redl_markup.specs.Names.{Name}
-use Rattle.redl_markup.specs.ScanNames.{name_at}
-use Rattle.redl_markup.specs.ScanTags.{quote_at, quoted_at, opening_at, equated_at, is_plain, is_value, value_at, attribute_at}
-use Rattle.redl_markup.proofs.Attributes.{plain_value}
+use Rattle.redl_grammar.specs.Characters.{is_space}
+use Rattle.redl_grammar.specs.Names.{Name}
+use Rattle.redl_grammar.specs.ScanNames.{name_at}
+use Rattle.redl_grammar.specs.ScanTags.{quote_at, quoted_at, opening_at, equated_at, is_plain, is_value, value_at, attribute_at}
+use Rattle.redl_grammar.proofs.Attributes.{plain_value}
 
 -- ---- the parts of an attribute
 

@@ -1,7 +1,7 @@
 -- The attributes of a tail, one after the other, as names and values.
 use Rattle.std.specs.Prelude.{ℕ, zero, suc, List, [], ◌∷◌, length, map, Option, Some, None}
-use Rattle.redl_markup.specs.Names.{Name}
-use Rattle.redl_markup.specs.ScanTags.{attribute_in}
+use Rattle.redl_grammar.specs.Names.{Name}
+use Rattle.redl_grammar.specs.ScanTags.{attribute_in}
 
 -- the list of a tail's first attribute, and then what `rest_of` gives for the rest
 abbrev pub attributes_by : (List ℕ → List (Name × List ℕ)) → Option ((Name × List ℕ) × List ℕ) → List (Name × List ℕ)

@@ -1,8 +1,8 @@
 -- The decoded value of an attribute (XML 1.0, 2.11 and 3.3.3).
 use Rattle.std.specs.Prelude.{ℕ, Bool, true, false, ◌==◌, ◌&&◌, List, [], ◌∷◌, ◌++◌, Option, Some, None, if◌then◌else◌, not, encode_utf8}
-use Rattle.redl_markup.specs.Characters.{is_space}
+use Rattle.redl_grammar.specs.Characters.{is_space}
 use Rattle.redl_reading.specs.Lists.{begins, is_other}
-use Rattle.redl_markup.specs.References.{reference_at}
+use Rattle.redl_grammar.specs.References.{reference_at}
 
 -- the UTF-8 of a reference's character
 abbrev pub character_text : Option (ℕ × List ℕ) → List ℕ

@@ -1,16 +1,6 @@
 pub mod Reading
-pub mod Characters
-pub mod Names
-pub mod References
-pub mod Tails
 pub mod Decoding
-pub mod Stretches
-pub mod Pieces
-pub mod ScanNames
-pub mod ScanTags
 pub mod Attributes
-pub mod ScanStretches
-pub mod ScanPieces
 pub mod Views
 pub mod PieceViews
 pub mod Terms

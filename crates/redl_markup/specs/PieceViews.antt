@@ -3,7 +3,7 @@ use Rattle.redl_markup.specs.declared.piece.Piece as code
 use Rattle.redl_markup.specs.declared.piece.Piece.TheVariants.{Start, Empty, End, Stretch}
 use Rattle.redl_markup.specs.declared.bare.BarePiece as bare
 use Rattle.redl_markup.specs.declared.bare.BarePiece.TheVariants as bare_piece
-use Rattle.redl_markup.specs.Pieces.{Piece, start_tag, empty_tag, end_tag, stretch}
+use Rattle.redl_grammar.specs.Pieces.{Piece, start_tag, empty_tag, end_tag, stretch}
 use Rattle.redl_markup.specs.Views.{name_view}
 
 -- a piece of the code as plain data

@@ -1,17 +1,5 @@
--- The words of the XML profile in one place, for readers: characters, names, tails and values, stretches, and pieces.
-pub use Rattle.redl_markup.specs.Characters.{is_character, is_space, is_name_start, is_name_character, IsText}
-pub use Rattle.redl_markup.specs.Names.{may_start, may_follow, IsWord, Name, name_text, IsName, name_eq, are_distinct}
-pub use Rattle.redl_markup.specs.References.{named_at, number_at, reference_at, has_references}
-pub use Rattle.redl_markup.specs.Tails.{IsSpace, Attribute, attribute_then, IsQuote, IsAttribute}
-pub use Rattle.redl_markup.specs.Tails.{attributes_then, IsTail, named_value, NameAndTail}
+-- The words of what is read of a piece in one place, for readers; those of the grammar are in `redl_grammar`.
 pub use Rattle.redl_markup.specs.Attributes.{attributes_of, names_in}
 pub use Rattle.redl_markup.specs.Decoding.{decoded_value}
-pub use Rattle.redl_markup.specs.Stretches.{is_run, IsRun, is_comment, is_xml, is_apart, IsInstruction}
-pub use Rattle.redl_markup.specs.Stretches.{Item, comment, instruction, cdata, item_then, IsItem, items_then}
-pub use Rattle.redl_markup.specs.Stretches.{is_version, is_encoding, is_standalone, IsSetting, Declaration}
-pub use Rattle.redl_markup.specs.Stretches.{IsDeclaration, declaration_then, byte_order_mark, Head, head_then}
-pub use Rattle.redl_markup.specs.Stretches.{IsHead, no_head, IsStretch, begins_item, ends_stretch}
-pub use Rattle.redl_markup.specs.Pieces.{Piece, start_tag, empty_tag, end_tag, stretch, piece_then, IsPiece}
-pub use Rattle.redl_markup.specs.Pieces.{Follows, Stands, HasNoPiece}
 pub use Rattle.redl_markup.specs.Views.{name_view, attribute_view}
 pub use Rattle.redl_markup.specs.PieceViews.{piece_view}

@@ -2,7 +2,7 @@
 use Rattle.std.specs.Prelude.{ℕ, List}
 use Rattle.redl_markup.specs.declared.name.Name as code_name
 use Rattle.redl_markup.specs.declared.attribute.Attribute as code_attribute
-use Rattle.redl_markup.specs.Names.{Name}
+use Rattle.redl_grammar.specs.Names.{Name}
 
 -- a name of the code as plain data
 abbrev pub name_view : code_name.Name → Name

@@ -6,7 +6,7 @@ ghost use Rattle.std.specs.Str.{IsUtf8};
 ghost use Rattle.redl_markup.specs.Attributes.{attributes_of};
 ghost use Rattle.redl_reading.specs.Lists.{is_other, field_at};
 ghost use Rattle.redl_reading.specs.Steps.{Gives};
-ghost use Rattle.redl_markup.specs.ScanTags.{quote_at, opening_at, equated_at, is_plain, is_value, value_at, attribute_at, attribute_behind, attribute_in};
+ghost use Rattle.redl_grammar.specs.ScanTags.{quote_at, opening_at, equated_at, is_plain, is_value, value_at, attribute_at, attribute_behind, attribute_in};
 ghost use Rattle.redl_markup.specs.Views.{attribute_view};
 
 use crate::name::{Name, whole_name};
@@ -24,7 +24,7 @@ pub struct Attribute<'a> {
     pub value: &'a [u8],
 }
 
-#[tactic(auto, unfolding(crate::specs::ScanTags::quote_at))]
+#[tactic(auto, unfolding(redl_grammar::specs::ScanTags::quote_at))]
 fn quote(bytes: &[u8]) -> Option<(u8, &[u8])>
     ensures { Gives (λ x. (x.0, x.1.now)) result (quote_at bytes.now) }
 {
@@ -35,7 +35,7 @@ fn quote(bytes: &[u8]) -> Option<(u8, &[u8])>
 }
 
 // A `=` in white space and the quote behind it, and the bytes after the quote.
-#[tactic(auto, unfolding(crate::specs::ScanTags::opening_at))]
+#[tactic(auto, unfolding(redl_grammar::specs::ScanTags::opening_at))]
 #[inline(always)]
 fn opening(bytes: &[u8]) -> Option<(u8, &[u8])>
     ensures { Gives (λ x. (x.0, x.1.now)) result (opening_at bytes.now) }
@@ -67,7 +67,7 @@ fn has_no_tag(bytes: &[u8]) -> bool
     bytes.iter().all(|b| *b != b'<')
 }
 
-#[tactic(auto, unfolding(crate::specs::ScanTags::is_value), using(crate::proofs::Attributes::plain_value))]
+#[tactic(auto, unfolding(redl_grammar::specs::ScanTags::is_value), using(redl_grammar::proofs::Attributes::plain_value))]
 fn is_value(bytes: &[u8]) -> bool
     ensures { result ≡ is_value bytes.now }
 {
@@ -121,7 +121,7 @@ pub(crate) fn attribute_behind<'a>(gap: &[u8], bytes: &'a [u8]) -> Option<(Attri
 }
 
 // The first attribute of a tail with the white space before it, and the rest of the tail.
-#[tactic(auto, unfolding(crate::specs::ScanTags::attribute_in))]
+#[tactic(auto, unfolding(redl_grammar::specs::ScanTags::attribute_in))]
 fn first_attribute(tail: &[u8]) -> Option<(Attribute<'_>, &[u8])>
     ensures { Gives (λ x. (attribute_view x.0, x.1.now)) result (attribute_in tail.now) }
 {

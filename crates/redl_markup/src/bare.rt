@@ -3,21 +3,21 @@
 ghost use Rattle.std.specs.Prelude.{◌≡◌, ◌++◌, true};
 ghost use Rattle.redl_reading.specs.Lists.{before};
 ghost use Rattle.redl_reading.specs.Steps.{Gives};
-ghost use Rattle.redl_markup.specs.declared.piece.Place.TheVariants.{InElement};
-ghost use Rattle.redl_markup.specs.Names.{name_text};
-ghost use Rattle.redl_markup.specs.References.{is_there};
-ghost use Rattle.redl_markup.specs.ScanTags.{attributes_end, tail_at, tag_at};
-ghost use Rattle.redl_markup.specs.ScanPieces.{piece_at};
+ghost use Rattle.redl_grammar.specs.declared.place.Place.TheVariants.{InElement};
+ghost use Rattle.redl_grammar.specs.Names.{name_text};
+ghost use Rattle.redl_grammar.specs.References.{is_there};
+ghost use Rattle.redl_grammar.specs.ScanTags.{attributes_end, tail_at, tag_at};
+ghost use Rattle.redl_grammar.specs.ScanPieces.{piece_at};
 ghost use Rattle.redl_markup.specs.PieceViews.{bare_view};
 ghost use Rattle.redl_markup.specs.Views.{name_view};
 
 use crate::attribute::attribute_behind;
 use crate::item::begins_item;
 use crate::name::{Name, whole_name};
-use crate::piece::Place;
 use crate::space::spaces;
 use crate::stretch::stretch;
 use crate::tag::{end_tag, is_at_end};
+use redl_grammar::Place;
 use redl_reading::{before, skip};
 use std::marker::Model;
 
@@ -32,8 +32,8 @@ pub struct BareTag<'a> {
 
 impl<'a> Model for BareTag<'a> {
     ghost use Rattle.std.specs.Prelude.{◌≡◌, ◌++◌};
-    ghost use Rattle.redl_markup.specs.Names.{name_text};
-    ghost use Rattle.redl_markup.specs.Tails.{NameAndTail};
+    ghost use Rattle.redl_grammar.specs.Names.{name_text};
+    ghost use Rattle.redl_grammar.specs.Tails.{NameAndTail};
     ghost use Rattle.redl_markup.specs.Views.{name_view};
 
     ghost Value = { NameAndTail };
@@ -112,7 +112,7 @@ fn known_tail(bytes: &[u8]) -> Option<&[u8]>
 }
 
 // A start tag or an empty element's tag that is known to be there, given the bytes after its `<`.
-#[tactic(auto, unfolding(crate::specs::ScanTags::tag_at))]
+#[tactic(auto, unfolding(redl_grammar::specs::ScanTags::tag_at))]
 fn known_tag(bytes: &[u8]) -> Option<(BarePiece<'_>, &[u8])>
     requires { is_there (tag_at bytes.now) ≡ true }
     ensures { Gives (λ x. (bare_view x.0, x.1.now)) result (tag_at bytes.now) }
@@ -129,7 +129,7 @@ fn known_tag(bytes: &[u8]) -> Option<(BarePiece<'_>, &[u8])>
 
 /// The piece of an element's content with which the bytes begin, and the bytes after it, as `next_piece` reads them, where they are
 /// known to begin with one. So no two attributes of a tag need to be compared, and it takes no memory.
-#[tactic(auto, unfolding(crate::specs::ScanPieces::piece_at))]
+#[tactic(auto, unfolding(redl_grammar::specs::ScanPieces::piece_at))]
 pub fn known_piece(bytes: &[u8]) -> Option<(BarePiece<'_>, &[u8])>
     requires { is_there (piece_at InElement bytes.now) ≡ true }
     ensures { Gives (λ x. (bare_view x.0, x.1.now)) result (piece_at InElement bytes.now) }

@@ -2,11 +2,11 @@
 
 ghost use Rattle.std.specs.Prelude.{◌≡◌, IsTrue, ◌↔◌};
 ghost use Rattle.std.specs.List.{list_all};
-ghost use Rattle.redl_markup.specs.Characters.{is_character, is_plain_byte, is_name_start, is_name_character, IsText};
+ghost use Rattle.redl_grammar.specs.Characters.{is_character, is_plain_byte, is_name_start, is_name_character, IsText};
 
 use std::simd::prelude::*;
 
-#[tactic(auto, unfolding(crate::specs::Characters::is_character))]
+#[tactic(auto, unfolding(redl_grammar::specs::Characters::is_character))]
 pub(crate) fn is_character(c: char) -> bool
     ensures { result ≡ is_character c }
 {
@@ -15,7 +15,7 @@ pub(crate) fn is_character(c: char) -> bool
         || matches!(c, '\t' | '\n' | '\r' | '\u{E000}'..='\u{FFFD}' | '\u{10000}'..='\u{10FFFF}')
 }
 
-#[tactic(auto, unfolding(crate::specs::Characters::is_name_start))]
+#[tactic(auto, unfolding(redl_grammar::specs::Characters::is_name_start))]
 pub(crate) fn is_name_start(c: char) -> bool
     ensures { result ≡ is_name_start c }
 {
@@ -25,7 +25,7 @@ pub(crate) fn is_name_start(c: char) -> bool
         | '\u{10000}'..='\u{EFFFF}')
 }
 
-#[tactic(auto, unfolding(crate::specs::Characters::is_name_character))]
+#[tactic(auto, unfolding(redl_grammar::specs::Characters::is_name_character))]
 pub(crate) fn is_name_character(c: char) -> bool
     ensures { result ≡ is_name_character c }
 {
@@ -33,7 +33,7 @@ pub(crate) fn is_name_character(c: char) -> bool
         || matches!(c, '-' | '.' | '0'..='9' | '\u{B7}' | '\u{300}'..='\u{36F}' | '\u{203F}'..='\u{2040}')
 }
 
-#[tactic(auto, unfolding(crate::specs::Characters::is_plain_byte))]
+#[tactic(auto, unfolding(redl_grammar::specs::Characters::is_plain_byte))]
 fn is_plain_byte(b: u8) -> bool
     ensures { result ≡ is_plain_byte b }
 {

@@ -4,16 +4,16 @@ ghost use Rattle.std.specs.Prelude.{◌≡◌, codes};
 ghost use Rattle.std.specs.Char.{is_ascii_digit};
 ghost use Rattle.std.specs.List.{list_all};
 ghost use Rattle.redl_reading.specs.Steps.{Gives};
-ghost use Rattle.redl_markup.specs.Stretches.{is_version, is_encoding, is_standalone};
-ghost use Rattle.redl_markup.specs.ScanStretches.{setting_at, optional_after, version_at, declaration_at, after_mark, after_declaration, after_head};
+ghost use Rattle.redl_grammar.specs.Stretches.{is_version, is_encoding, is_standalone};
+ghost use Rattle.redl_grammar.specs.ScanStretches.{setting_at, optional_after, version_at, declaration_at, after_mark, after_declaration, after_head};
 
 use crate::attribute::equated;
-use crate::piece::Place;
 use crate::space::spaces;
+use redl_grammar::Place;
 use redl_reading::skip;
 
 // White space, a word, a `=` and a text between quotes: that text, and the bytes after it.
-#[tactic(auto, unfolding(crate::specs::ScanStretches::setting_at))]
+#[tactic(auto, unfolding(redl_grammar::specs::ScanStretches::setting_at))]
 fn setting<'a>(bytes: &'a [u8], word: &[u8]) -> Option<(&'a [u8], &'a [u8])>
     ensures { Gives (λ x. (x.0.now, x.1.now)) result (setting_at word.now bytes.now) }
 {
@@ -31,7 +31,7 @@ fn are_digits(bytes: &[u8]) -> bool
     bytes.iter().all(|b| b.is_ascii_digit())
 }
 
-#[tactic(auto, unfolding(crate::specs::Stretches::is_version))]
+#[tactic(auto, unfolding(redl_grammar::specs::Stretches::is_version))]
 fn is_version(value: &[u8]) -> bool
     ensures { result ≡ is_version value.now }
 {
@@ -53,7 +53,7 @@ fn is_standalone(value: &[u8]) -> bool
     value == b"yes".as_slice() || value == b"no".as_slice()
 }
 
-#[tactic(auto, unfolding(crate::specs::ScanStretches::version_at))]
+#[tactic(auto, unfolding(redl_grammar::specs::ScanStretches::version_at))]
 fn version(bytes: &[u8]) -> Option<&[u8]>
     ensures { Gives (λ rest. rest.now) result (version_at bytes.now) }
 {
@@ -84,7 +84,7 @@ fn standalone(bytes: &[u8]) -> Option<&[u8]>
 }
 
 // The bytes after an XML declaration.
-#[tactic(auto, unfolding(crate::specs::ScanStretches::declaration_at))]
+#[tactic(auto, unfolding(redl_grammar::specs::ScanStretches::declaration_at))]
 fn declaration(bytes: &[u8]) -> Option<&[u8]>
     ensures { Gives (λ rest. rest.now) result (declaration_at bytes.now) }
 {
@@ -96,14 +96,14 @@ fn declaration(bytes: &[u8]) -> Option<&[u8]>
     skip(rest, b"?>")
 }
 
-#[tactic(auto, unfolding(crate::specs::ScanStretches::after_mark))]
+#[tactic(auto, unfolding(redl_grammar::specs::ScanStretches::after_mark))]
 fn after_mark(bytes: &[u8]) -> &[u8]
     ensures { result.now ≡ after_mark bytes.now }
 {
     skip(bytes, b"\xEF\xBB\xBF").unwrap_or(bytes)
 }
 
-#[tactic(auto, unfolding(crate::specs::ScanStretches::after_declaration))]
+#[tactic(auto, unfolding(redl_grammar::specs::ScanStretches::after_declaration))]
 fn after_declaration(bytes: &[u8]) -> &[u8]
     ensures { result.now ≡ after_declaration bytes.now }
 {

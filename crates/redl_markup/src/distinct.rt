@@ -2,7 +2,7 @@
 
 ghost use Rattle.std.specs.Prelude.{◌≡◌, IfOk, map, not};
 ghost use Rattle.std.specs.List.{list_all};
-ghost use Rattle.redl_markup.specs.Names.{name_eq, are_distinct};
+ghost use Rattle.redl_grammar.specs.Names.{name_eq, are_distinct};
 ghost use Rattle.redl_markup.specs.Views.{name_view};
 
 use crate::name::Name;
@@ -27,7 +27,7 @@ fn is_unlike<'a>(name: Name<'a>, others: &[Name<'a>]) -> bool
     others.iter().all(|other| !are_alike(name, *other))
 }
 
-#[tactic(auto, unfolding(crate::specs::Names::are_distinct))]
+#[tactic(auto, unfolding(redl_grammar::specs::Names::are_distinct))]
 #[inline(always)]
 fn few_unlike<'a>(names: &[Name<'a>]) -> bool
     ensures { result ≡ are_distinct (map name_view names.now) }

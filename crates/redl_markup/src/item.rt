@@ -2,16 +2,16 @@
 
 ghost use Rattle.std.specs.Prelude.{◌≡◌, codes};
 ghost use Rattle.redl_reading.specs.Steps.{Gives};
-ghost use Rattle.redl_markup.specs.Stretches.{is_xml, begins_item};
-ghost use Rattle.redl_markup.specs.ScanStretches.{comment_at, begins_with_space, instruction_end, instruction_at, cdata_at, item_at};
+ghost use Rattle.redl_grammar.specs.Stretches.{is_xml, begins_item};
+ghost use Rattle.redl_grammar.specs.ScanStretches.{comment_at, begins_with_space, instruction_end, instruction_at, cdata_at, item_at};
 
 use crate::name::word;
-use crate::piece::Place;
 use crate::space::is_space;
+use redl_grammar::Place;
 use redl_reading::{past, skip};
 
 // The bytes after a comment, given those after its `<!--`.
-#[tactic(auto, unfolding(crate::specs::ScanStretches::comment_at))]
+#[tactic(auto, unfolding(redl_grammar::specs::ScanStretches::comment_at))]
 fn comment(bytes: &[u8]) -> Option<&[u8]>
     ensures { Gives (λ rest. rest.now) result (comment_at bytes.now) }
 {
@@ -35,7 +35,7 @@ fn begins_with_space(bytes: &[u8]) -> bool
 }
 
 // The bytes after an instruction, given those after its name.
-#[tactic(auto, unfolding(crate::specs::ScanStretches::instruction_end))]
+#[tactic(auto, unfolding(redl_grammar::specs::ScanStretches::instruction_end))]
 fn instruction_end(bytes: &[u8]) -> Option<&[u8]>
     ensures { Gives (λ rest. rest.now) result (instruction_end bytes.now) }
 {
@@ -47,7 +47,7 @@ fn instruction_end(bytes: &[u8]) -> Option<&[u8]>
 }
 
 // The bytes after an instruction, given those after its `<?`.
-#[tactic(auto, unfolding(crate::specs::ScanStretches::instruction_at))]
+#[tactic(auto, unfolding(redl_grammar::specs::ScanStretches::instruction_at))]
 fn instruction(bytes: &[u8]) -> Option<&[u8]>
     ensures { Gives (λ rest. rest.now) result (instruction_at bytes.now) }
 {
@@ -69,7 +69,7 @@ fn cdata(bytes: &[u8], place: Place) -> Option<&[u8]>
 }
 
 /// The bytes after a comment, an instruction or a CDATA section.
-#[tactic(auto, unfolding(crate::specs::ScanStretches::item_at))]
+#[tactic(auto, unfolding(redl_grammar::specs::ScanStretches::item_at))]
 pub(crate) fn item(bytes: &[u8], place: Place) -> Option<&[u8]>
     ensures { Gives (λ rest. rest.now) result (item_at place bytes.now) }
 {

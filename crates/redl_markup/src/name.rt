@@ -2,9 +2,9 @@
 
 ghost use Rattle.std.specs.Prelude.{◌≡◌, Some, codes};
 ghost use Rattle.redl_reading.specs.Lists.{behind, after};
-ghost use Rattle.redl_markup.specs.Names.{may_start, may_follow};
+ghost use Rattle.redl_grammar.specs.Names.{may_start, may_follow};
 ghost use Rattle.redl_reading.specs.Steps.{Gives};
-ghost use Rattle.redl_markup.specs.ScanNames.{char_at, is_name_byte, name_end, behind_start, word_at, name_at};
+ghost use Rattle.redl_grammar.specs.ScanNames.{char_at, is_name_byte, name_end, behind_start, word_at, name_at};
 ghost use Rattle.redl_markup.specs.Views.{name_view};
 
 use crate::character::{is_name_character, is_name_start};
@@ -19,21 +19,21 @@ pub struct Name<'a> {
     pub local: &'a [u8],
 }
 
-#[tactic(auto, unfolding(crate::specs::Names::may_start))]
+#[tactic(auto, unfolding(redl_grammar::specs::Names::may_start))]
 fn may_start(c: char, colons: bool) -> bool
     ensures { result ≡ may_start colons c }
 {
     is_name_start(c) && (colons || c != ':')
 }
 
-#[tactic(auto, unfolding(crate::specs::Names::may_follow))]
+#[tactic(auto, unfolding(redl_grammar::specs::Names::may_follow))]
 fn may_follow(c: char, colons: bool) -> bool
     ensures { result ≡ may_follow colons c }
 {
     is_name_character(c) && (colons || c != ':')
 }
 
-#[tactic(auto, unfolding(crate::specs::ScanNames::char_at))]
+#[tactic(auto, unfolding(redl_grammar::specs::ScanNames::char_at))]
 fn decoded_char(bytes: &[u8]) -> Option<(char, &[u8])>
     ensures { Gives (λ x. (x.0, x.1.now)) result (char_at bytes.now) }
 {
@@ -44,7 +44,7 @@ fn decoded_char(bytes: &[u8]) -> Option<(char, &[u8])>
 }
 
 // The first character. An ASCII byte is a character, so few are decoded.
-#[tactic(auto, using(crate::proofs::Names::ascii_again))]
+#[tactic(auto, using(redl_grammar::proofs::Names::ascii_again))]
 fn first_char(bytes: &[u8]) -> Option<(char, &[u8])>
     ensures { Gives (λ x. (x.0, x.1.now)) result (char_at bytes.now) }
 {
@@ -55,7 +55,7 @@ fn first_char(bytes: &[u8]) -> Option<(char, &[u8])>
 }
 
 #[cold]
-#[tactic(auto, unfolding(crate::specs::ScanNames::behind_start))]
+#[tactic(auto, unfolding(redl_grammar::specs::ScanNames::behind_start))]
 fn behind_start_char(bytes: &[u8], colons: bool) -> Option<&[u8]>
     ensures { Gives (λ rest. rest.now) result (behind_start colons bytes.now) }
 {
@@ -68,7 +68,7 @@ fn behind_start_char(bytes: &[u8], colons: bool) -> Option<&[u8]>
 }
 
 // The bytes after the first character of a name. Most are ASCII letters, so few are decoded.
-#[tactic(auto, using(crate::proofs::Names::letter_starts))]
+#[tactic(auto, using(redl_grammar::proofs::Names::letter_starts))]
 #[inline(always)]
 fn behind_start(bytes: &[u8], colons: bool) -> Option<&[u8]>
     ensures { Gives (λ rest. rest.now) result (behind_start colons bytes.now) }
@@ -79,7 +79,7 @@ fn behind_start(bytes: &[u8], colons: bool) -> Option<&[u8]>
     }
 }
 
-#[tactic(auto, unfolding(crate::specs::ScanNames::is_name_byte, crate::specs::Names::may_follow, crate::specs::Characters::is_name_character, crate::specs::Characters::is_name_start))]
+#[tactic(auto, unfolding(redl_grammar::specs::ScanNames::is_name_byte, redl_grammar::specs::Names::may_follow, redl_grammar::specs::Characters::is_name_character, redl_grammar::specs::Characters::is_name_start))]
 #[inline(always)]
 fn is_name_byte(b: u8, colons: bool) -> bool
     ensures { result ≡ is_name_byte colons b }
@@ -131,7 +131,7 @@ fn end_of_characters(bytes: &[u8], colons: bool) -> &[u8]
 }
 
 /// A name of one part, and the bytes after it.
-#[tactic(auto, using(crate::proofs::Names::word_fails, crate::proofs::Names::word_reads))]
+#[tactic(auto, using(redl_grammar::proofs::Names::word_fails, redl_grammar::proofs::Names::word_reads))]
 #[inline(always)]
 pub(crate) fn word(bytes: &[u8], colons: bool) -> Option<(&[u8], &[u8])>
     ensures { Gives (λ x. (x.0.now, x.1.now)) result (word_at colons bytes.now) }
@@ -142,7 +142,7 @@ pub(crate) fn word(bytes: &[u8], colons: bool) -> Option<(&[u8], &[u8])>
 }
 
 /// A name with or without a prefix, and the bytes after it.
-#[tactic(auto, unfolding(crate::specs::ScanNames::name_at))]
+#[tactic(auto, unfolding(redl_grammar::specs::ScanNames::name_at))]
 #[inline(always)]
 pub(crate) fn whole_name(bytes: &[u8]) -> Option<(Name<'_>, &[u8])>
     ensures { Gives (λ x. (name_view x.0, x.1.now)) result (name_at bytes.now) }

@@ -1,7 +1,7 @@
-//! The pieces of a text, and where they are in it.
+//! The pieces of a text.
 
 ghost use Rattle.std.specs.Prelude.{◌≡◌, ◌++◌, map};
-ghost use Rattle.redl_markup.specs.Names.{name_text};
+ghost use Rattle.redl_grammar.specs.Names.{name_text};
 ghost use Rattle.redl_markup.specs.Attributes.{names_in};
 ghost use Rattle.redl_markup.specs.Views.{name_view};
 
@@ -19,8 +19,8 @@ pub struct StartTag<'a> {
 
 impl<'a> Model for StartTag<'a> {
     ghost use Rattle.std.specs.Prelude.{◌≡◌, ◌++◌, map};
-    ghost use Rattle.redl_markup.specs.Names.{name_text};
-    ghost use Rattle.redl_markup.specs.Tails.{NameAndTail};
+    ghost use Rattle.redl_grammar.specs.Names.{name_text};
+    ghost use Rattle.redl_grammar.specs.Tails.{NameAndTail};
     ghost use Rattle.redl_markup.specs.Attributes.{names_in};
     ghost use Rattle.redl_markup.specs.Views.{name_view};
 
@@ -98,15 +98,4 @@ pub enum Piece<'a> {
     End(Name<'a>, &'a [u8]),
     /// The longest stretch without a tag.
     Stretch(&'a [u8]),
-}
-
-/// The position of a piece in a text, which decides what a stretch without a tag may be.
-#[derive(Clone, Copy, Debug, PartialEq, Eq)]
-pub enum Place {
-    /// From the start of the text to its root: a byte order mark, an XML declaration, white space, comments and instructions.
-    BeforeRoot,
-    /// In an element: character data, references, comments, instructions and CDATA.
-    InElement,
-    /// After the root: white space, comments and instructions.
-    AfterRoot,
 }

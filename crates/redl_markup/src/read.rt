@@ -1,21 +1,22 @@
 //! Reading the first piece of some bytes.
 
 ghost use Rattle.std.specs.Prelude.{◌≡◌, codes, IfOk, IsErrOf};
-ghost use Rattle.redl_markup.specs.Pieces.{Stands, HasNoPiece};
+ghost use Rattle.redl_grammar.specs.Pieces.{Stands, HasNoPiece};
 ghost use Rattle.redl_markup.specs.Reading.{Finds};
-ghost use Rattle.redl_markup.specs.ScanPieces.{piece_at};
+ghost use Rattle.redl_grammar.specs.ScanPieces.{piece_at};
 ghost use Rattle.redl_markup.specs.PieceViews.{piece_view};
 
 use crate::error::MarkupError;
 use crate::item::begins_item;
 use crate::name::Name;
-use crate::piece::{Piece, Place};
+use crate::piece::Piece;
 use crate::stretch::stretch;
 use crate::tag::{end_tag, start_tag};
+use redl_grammar::Place;
 use redl_reading::skip;
 use std::alloc::Global;
 
-#[tactic(auto, unfolding(crate::specs::ScanPieces::piece_at))]
+#[tactic(auto, unfolding(redl_grammar::specs::ScanPieces::piece_at))]
 #[inline(always)]
 fn read_piece<'a>(
     alloc: Global,

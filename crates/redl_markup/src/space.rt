@@ -1,12 +1,12 @@
 //! White space.
 
 ghost use Rattle.std.specs.Prelude.{◌≡◌};
-ghost use Rattle.redl_markup.specs.Characters.{is_space};
+ghost use Rattle.redl_grammar.specs.Characters.{is_space};
 ghost use Rattle.redl_reading.specs.Lists.{front, after};
 
 use redl_reading::run;
 
-#[tactic(auto, unfolding(crate::specs::Characters::is_space))]
+#[tactic(auto, unfolding(redl_grammar::specs::Characters::is_space))]
 #[inline(always)]
 pub(crate) fn is_space(b: u8) -> bool
     ensures { result ≡ is_space b }

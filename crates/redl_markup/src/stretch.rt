@@ -2,20 +2,20 @@
 
 ghost use Rattle.std.specs.Prelude.{◌≡◌, length, codes, Some, IfSome};
 ghost use Rattle.std.specs.List.{list_all};
-ghost use Rattle.redl_markup.specs.Characters.{is_space};
+ghost use Rattle.redl_grammar.specs.Characters.{is_space};
 ghost use Rattle.redl_reading.specs.Lists.{lacks};
 ghost use Rattle.redl_reading.specs.Steps.{Gives};
-ghost use Rattle.redl_markup.specs.Stretches.{is_run, ends_stretch};
-ghost use Rattle.redl_markup.specs.ScanStretches.{items_end, stretch_at};
-ghost use Rattle.redl_markup.specs.Pieces.{stretch as a_stretch};
-ghost use Rattle.redl_markup.specs.declared.piece.Place.TheVariants.{InElement};
+ghost use Rattle.redl_grammar.specs.Stretches.{is_run, ends_stretch};
+ghost use Rattle.redl_grammar.specs.ScanStretches.{items_end, stretch_at};
+ghost use Rattle.redl_grammar.specs.Pieces.{stretch as a_stretch};
+ghost use Rattle.redl_grammar.specs.declared.place.Place.TheVariants.{InElement};
 
 use crate::declaration::after_head;
 use crate::item::{begins_item, item};
 use crate::near::near_until_any;
-use crate::piece::Place;
 use crate::reference::are_references;
 use crate::space::is_space;
+use redl_grammar::Place;
 use redl_reading::{before, far_until};
 
 #[tactic(auto, using(redl_reading::proofs::Words::lacks_after, redl_reading::proofs::Runs::after_fits))]
@@ -86,7 +86,7 @@ fn ends_stretch(bytes: &[u8]) -> bool
 }
 
 /// The longest stretch without a tag, and the bytes after it.
-#[tactic(auto, unfolding(crate::specs::ScanStretches::stretch_at))]
+#[tactic(auto, unfolding(redl_grammar::specs::ScanStretches::stretch_at))]
 pub(crate) fn stretch(bytes: &[u8], place: Place) -> Option<(&[u8], &[u8])>
     ensures { Gives (λ x. (a_stretch x.0.now, x.1.now)) result (stretch_at place bytes.now) }
 {

@@ -5,10 +5,10 @@ ghost use Rattle.redl_markup.specs.Attributes.{names_in};
 ghost use Rattle.redl_reading.specs.Lists.{before};
 ghost use Rattle.redl_markup.specs.Reading.{Finds};
 ghost use Rattle.redl_reading.specs.Steps.{Gives};
-ghost use Rattle.redl_markup.specs.ScanTags.{ends_tag, attributes_at, tail_at, tag_at, end_tag_at};
+ghost use Rattle.redl_grammar.specs.ScanTags.{ends_tag, attributes_at, tail_at, tag_at, end_tag_at};
 ghost use Rattle.redl_markup.specs.Views.{name_view};
 ghost use Rattle.redl_markup.specs.PieceViews.{piece_view};
-ghost use Rattle.redl_markup.specs.Pieces.{end_tag as an_end_tag};
+ghost use Rattle.redl_grammar.specs.Pieces.{end_tag as an_end_tag};
 
 use crate::attribute::attribute_behind;
 use crate::distinct::no_two_alike;
@@ -20,7 +20,7 @@ use redl_reading::{before, skip};
 use std::alloc::Global;
 use std::mem;
 
-#[tactic(auto, unfolding(crate::specs::ScanTags::ends_tag))]
+#[tactic(auto, unfolding(redl_grammar::specs::ScanTags::ends_tag))]
 #[inline(always)]
 pub(crate) fn is_at_end(bytes: &[u8]) -> bool
     ensures { result ≡ ends_tag bytes.now }
@@ -53,7 +53,7 @@ fn attributes<'a>(
 }
 
 // The names of the attributes of a tail, and the bytes after the tail.
-#[tactic(auto, unfolding(crate::specs::ScanTags::tail_at))]
+#[tactic(auto, unfolding(redl_grammar::specs::ScanTags::tail_at))]
 #[inline(always)]
 fn tail<'a>(
     alloc: Global,
@@ -78,7 +78,7 @@ fn tail<'a>(
 }
 
 /// A start tag or an empty element's tag, given the bytes after its `<`. It takes the list for its names.
-#[tactic(auto, unfolding(crate::specs::ScanTags::tag_at))]
+#[tactic(auto, unfolding(redl_grammar::specs::ScanTags::tag_at))]
 #[inline(always)]
 pub(crate) fn start_tag<'a>(
     alloc: Global,
@@ -103,7 +103,7 @@ pub(crate) fn start_tag<'a>(
 }
 
 /// The name of an end tag, the white space after the name, and the bytes after the tag, given those after its `</`.
-#[tactic(auto, unfolding(crate::specs::ScanTags::end_tag_at))]
+#[tactic(auto, unfolding(redl_grammar::specs::ScanTags::end_tag_at))]
 #[inline(always)]
 pub(crate) fn end_tag(bytes: &[u8]) -> Option<(Name<'_>, &[u8], &[u8])>
     ensures { Gives (λ x. (an_end_tag (name_view x.0) x.1.now, x.2.now)) result (end_tag_at bytes.now) }

@@ -1,5 +1,5 @@
 -- The stories that are found by ancestors are the stories of the parts.
-use Rattle.std.proofs.Common.{◌≡◌, ◌<◌, ℕ, zero, suc, List, [], ◌∷◌, ◌++◌, map, filter_map, length, slice_get, slice_index_or, Contains, Option, Some, None, is_some, option_map, option_and_then, Bool, true, false, true≢false, ◌&&◌, ◌||◌, not, if◌then◌else◌, refl, sym, ap, ◌∙◌, codes, bytes_eq, arith, append-nil, subst}
+use Rattle.std.proofs.Common.{◌≡◌, ◌<◌, ℕ, zero, suc, List, [], ◌∷◌, ◌++◌, filter_map, length, slice_get, slice_index_or, Contains, Option, Some, None, is_some, option_map, option_and_then, Bool, true, false, true≢false, ◌&&◌, ◌||◌, not, if◌then◌else◌, refl, sym, ap, ◌∙◌, codes, bytes_eq, arith, append-nil, subst}
 use Rattle.std.specs.List.{list_all, list_any, cons_option}
 use Rattle.std.specs.Cmp.{first_so, second_so}
 use Rattle.std.proofs.Math.Bool.{and-false}

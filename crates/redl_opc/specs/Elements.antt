@@ -1,6 +1,6 @@
 -- The elements among the nodes of a list.
 use Rattle.std.specs.Prelude.{List, [], ◌∷◌, Option, Some, None}
-use Rattle.redl_tree.specs.Model.Nodes.{Tag, Nodes, no_nodes, bytes, element, Item, bytes_item, element_item, idle_item}
+use Rattle.redl_tree.specs.Model.Nodes.{Nodes, no_nodes, bytes, element, Item, bytes_item, element_item, idle_item}
 use Rattle.redl_tree.specs.Model.View.{tag_of, kids_of}
 pub use Rattle.redl_tree.specs.Model.View.{Element}
 use Rattle.redl_tree.specs.declared.node.Elem.{Elem}

@@ -1,6 +1,5 @@
 -- The stories of a package by its parts. `stories` of `redl_tree` finds them by their ancestors: they are the same ones.
-use Rattle.std.specs.Prelude.{◌≡◌, ◌<◌, ℕ, List, map, filter_map, drop, length, option_to_list, Some}
-use Rattle.std.specs.Option.{option_map}
+use Rattle.std.specs.Prelude.{◌≡◌, ◌<◌, ℕ, List, filter_map, drop, length, option_to_list, Some}
 use Rattle.redl_tree.specs.Model.Nodes.{Nodes}
 use Rattle.redl_opc.specs.Elements.{Element}
 use Rattle.redl_opc.specs.Shape.{parts_of, story_of}

@@ -13,7 +13,8 @@ ghost use Rattle.redl_opc.specs.Elements.{element_of, elements_of, only_element,
 ghost use Rattle.redl_opc.specs.Shape.{is_part};
 ghost use Rattle.redl_opc.specs.Inside.Unnamed.{IsUnnamed};
 
-use redl_tree::{Elem, First, Laid, Node, Plain, has_elements};
+use redl_laid::{First, Laid};
+use redl_tree::{Elem, Node, Plain, has_elements};
 
 // The first node that is an element or some of them, and the nodes after it.
 fn first_with_element<'n, 'a>(nodes: &'n [Node<'a>]) -> Option<(&'n Node<'a>, &'n [Node<'a>])>
@@ -70,7 +71,7 @@ fn is_one(node: &Node) -> bool
 fn is_one_kept(plain: &Plain) -> bool
     ensures { result ≡ is_some (only_element (idle_nodes plain.now)) }
 {
-    match after_element(plain.laid()) {
+    match after_element(Laid::of(plain)) {
         Some(rest) => after_element(rest).is_none(),
         None => false,
     }

@@ -12,7 +12,7 @@ use Rattle.redl_outcome.specs.Brought.{Brought}
 use Rattle.redl_inputs.specs.Journals.{document_of, gathered}
 use Rattle.redl_outcome.specs.Outcome.{carried_out, outcome, writing_of}
 use Rattle.redl_outcome.specs.Plans.{Plan, plan}
-use Rattle.redl_inputs.specs.Packages.{package_file, package_in, tree_in, shaped, sound, sound_unless}
+use Rattle.redl_inputs.specs.Packages.{package_file, package_in, tree_in, shaped, sound}
 use Rattle.redl_inputs.proofs.PackageLaws.{sound_of}
 use Rattle.redl_inputs.proofs.ReaderLaws.{reads_command}
 use Rattle.redl_inputs.proofs.StepLaws.{both_ok, same_ok, same_some}

@@ -1,5 +1,5 @@
 -- The words of a call, as they were read.
-use Rattle.std.specs.Prelude.{◌≡◌, ℕ, List, [], Option, Some, Result, Ok, Err}
+use Rattle.std.specs.Prelude.{◌≡◌, ℕ, List, [], Some, Result, Ok, Err}
 use Rattle.redl_outcome.specs.Brought.{Brought}
 use Rattle.redl_outcome.specs.Files.{files_of}
 use Rattle.redl_outcome.specs.Outcome.{writing_of}

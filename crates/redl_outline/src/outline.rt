@@ -3,7 +3,8 @@
 use crate::nodes::Stack;
 use crate::words::{Item, item_of};
 use redl_io::MemSink;
-use redl_tree::{Node, write_nodes};
+use redl_output::write_nodes;
+use redl_tree::Node;
 use std::alloc::{AllocError, Global};
 use std::str::from_utf8;
 

@@ -9,11 +9,11 @@ use Rattle.redl_tree.proofs.Model.Build.{opened, opened_with, closed, member, co
 use Rattle.redl_index.specs.declared.revision.RevKind.TheVariants as revisions
 use Rattle.redl_index.specs.declared.revision.Revision.{Revision}
 use Rattle.redl_markup.specs.Attributes.{attributes_of}
-use Rattle.redl_markup.specs.Characters.{is_name_start, is_name_character, is_space}
-use Rattle.redl_markup.specs.Names.{may_start, may_follow}
-use Rattle.redl_markup.specs.References.{reference_at, named_at}
-use Rattle.redl_markup.specs.ScanNames.{name_at, word_at, char_at, name_end, name_step}
-use Rattle.redl_markup.specs.ScanTags.{attribute_in, attribute_at, equated_at, quoted_at, quote_at, is_value}
+use Rattle.redl_grammar.specs.Characters.{is_name_start, is_name_character, is_space}
+use Rattle.redl_grammar.specs.Names.{may_start, may_follow}
+use Rattle.redl_grammar.specs.References.{reference_at, named_at}
+use Rattle.redl_grammar.specs.ScanNames.{name_at, word_at, char_at, name_end, name_step}
+use Rattle.redl_grammar.specs.ScanTags.{attribute_in, attribute_at, equated_at, quoted_at, quote_at, is_value}
 use Rattle.redl_reading.specs.Lists.{field_at}
 use Rattle.redl_shown.specs.Shown.{shown}
 use Rattle.redl_page_stories.specs.Document.{nodes_pieces, in_story}

@@ -1,10 +1,10 @@
 -- Worked rows: what idle elements show.
 use Rattle.std.proofs.Common.{◌≡◌, [], codes, true, false, refl}
 use Rattle.redl_markup.specs.Attributes.{attributes_of}
-use Rattle.redl_markup.specs.Characters.{is_name_start, is_name_character, is_space}
-use Rattle.redl_markup.specs.Names.{may_start, may_follow}
-use Rattle.redl_markup.specs.ScanNames.{name_at, word_at, char_at, name_end, name_step}
-use Rattle.redl_markup.specs.ScanTags.{attribute_in, attribute_at, equated_at, quoted_at, quote_at, is_value}
+use Rattle.redl_grammar.specs.Characters.{is_name_start, is_name_character, is_space}
+use Rattle.redl_grammar.specs.Names.{may_start, may_follow}
+use Rattle.redl_grammar.specs.ScanNames.{name_at, word_at, char_at, name_end, name_step}
+use Rattle.redl_grammar.specs.ScanTags.{attribute_in, attribute_at, equated_at, quoted_at, quote_at, is_value}
 use Rattle.redl_reading.specs.Lists.{field_at}
 use Rattle.redl_tree.specs.Model.Nodes.{Nodes, ◌⊕◌}
 use Rattle.redl_tree.proofs.Model.Build.{opened, closed, words}

@@ -6,7 +6,7 @@ ghost use Rattle.redl_io.specs.Sink.{Puts};
 ghost use Rattle.redl_reading.specs.Steps.{Gives};
 ghost use Rattle.redl_markup.specs.Views.{attribute_view};
 ghost use Rattle.redl_stamp.specs.Attribute.{has_local_name, written_value};
-ghost use Rattle.redl_tree.specs.Model.Firsts.{first_item};
+ghost use Rattle.redl_laid.specs.Firsts.{first_item};
 ghost use Rattle.redl_tree.specs.Model.IdleTexts.{idle_nodes};
 ghost use Rattle.redl_tree.specs.Model.View.{nodes_of, item_of};
 ghost use Rattle.redl_tree.specs.Roles.Names.{is_w};
@@ -16,8 +16,9 @@ ghost use Rattle.redl_page_stories.specs.Inside.Items.{item_style, item_style_in
 
 use crate::shown::put_shown;
 use redl_io::{Failed, Sink, put_piece};
+use redl_laid::{First, Laid};
 use redl_markup::{Attribute, next_attribute};
-use redl_tree::{First, Node, Plain, Space, Tag, Word, is_named, is_word};
+use redl_tree::{Node, Plain, Space, Tag, Word, is_named, is_word};
 
 /// The value of the first attribute of a tag's tail with this local name, as it is written. It takes no memory.
 pub(crate) fn written_value<'a>(tail: &'a [u8], local: &[u8]) -> Option<&'a [u8]>
@@ -86,7 +87,7 @@ fn node_style_in<'a>(node: &'a Node) -> Option<&'a [u8]>
 fn idle_style_in<'a>(plain: &Plain<'a>) -> Option<&'a [u8]>
     ensures { Gives (λ style. style.now) result (style_in (idle_nodes plain.now)) }
 {
-    let mut left = plain.laid();
+    let mut left = Laid::of(plain);
     while let Some((first, rest)) = left.first() {
         if let Some(style) = first_style_in(&first) {
             return Some(style);

@@ -5,7 +5,8 @@ ghost use Rattle.redl_tree.specs.Model.Kids.{only, without, item_is};
 ghost use Rattle.redl_tree.specs.Decisions.Restored.{is_uncovered as is_uncovered_tag};
 ghost use Rattle.redl_tree.specs.Model.View.{nodes_of, item_of, tag_of};
 
-use redl_tree::{Elem, Node, Prop, Word, copy_node, is_word};
+use redl_output::copy_node;
+use redl_tree::{Elem, Node, Prop, Word, is_word};
 use std::alloc::{AllocError, Global};
 
 /// The kids of run properties without the revisions of a paragraph's mark (ECMA-376 Part 1, 17.13.5).

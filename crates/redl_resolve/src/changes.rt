@@ -9,9 +9,10 @@ ghost use Rattle.redl_tree.specs.Model.View.{nodes_of, item_of, tag_of, kids_of}
 
 use crate::rounds::Round;
 use crate::steps::Steps;
+use redl_output::copy_nodes;
 use redl_props::{restore, without_marks};
 use redl_tables::fate_of;
-use redl_tree::{Elem, Fate, Kind, Node, Prop, Say, Word, copy_nodes, is_word};
+use redl_tree::{Elem, Fate, Kind, Node, Prop, Say, Word, is_word};
 use std::alloc::{AllocError, Global};
 use std::sync::ledger::Ledger;
 

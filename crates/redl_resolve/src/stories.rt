@@ -8,7 +8,8 @@ ghost use Rattle.redl_tree.specs.Model.View.{nodes_of};
 
 use crate::steps::Steps;
 use crate::story::pass_story;
-use redl_tree::{Elem, Node, Say, StoryChange, change_stories, copy_nodes};
+use redl_output::copy_nodes;
+use redl_tree::{Elem, Node, Say, StoryChange, change_stories};
 use std::alloc::{AllocError, Global};
 use std::marker::Brand;
 use std::sync::ledger::{Blank, Ledger};

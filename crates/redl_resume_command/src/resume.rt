@@ -34,9 +34,10 @@ use redl_inputs::{
 use redl_io::{Shelf, Text};
 use redl_join::Book;
 use redl_lines::{Cause, Failure, RefusedEntries, Remarks};
+use redl_output::write_nodes;
 use redl_session::{Session, book_says};
 use redl_sittings::{add_second, decided, first_numbers, numbers_by_part};
-use redl_tree::{Node, write_nodes};
+use redl_tree::Node;
 use redl_words::ResumeCommand;
 use std::alloc::{AllocError, Global};
 

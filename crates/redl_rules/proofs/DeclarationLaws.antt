@@ -2,7 +2,7 @@
 use Rattle.std.proofs.Common.{◌≡◌, ◌∙◌, ap, sym, ℕ, true, false, true≢false, List, [], ◌∷◌, refl}
 use Rattle.std.specs.Prelude.{bytes_eq, codes}
 use Rattle.std.specs.List.{list_all, list_any}
-use Rattle.redl_markup.specs.Names.{Name}
+use Rattle.redl_grammar.specs.Names.{Name}
 use Rattle.redl_reading.specs.Lists.{is_other}
 use Rattle.redl_markup.specs.Attributes.{attributes_of}
 use Rattle.std.proofs.lemmas.Bool.{and_parts, false_from_ne_true}

@@ -1,5 +1,5 @@
 -- Which rules hold in all stories of a package, a part at a time.
-use Rattle.std.proofs.Common.{◌≡◌, ◌+◌, ◌<◌, ◌≤◌, ℕ, [], ◌∷◌, length, Some, None, option_map, option_to_list, true, ap, sym, ◌∙◌}
+use Rattle.std.proofs.Common.{◌≡◌, ◌+◌, ◌<◌, ◌≤◌, ℕ, [], ◌∷◌, length, Some, None, option_to_list, true, ap, sym, ◌∙◌}
 use Rattle.redl_tree.specs.Model.Nodes.{Nodes}
 use Rattle.redl_tree.specs.Rules.Sound.{holds}
 use Rattle.redl_tree.specs.Decisions.Packages.{stories}

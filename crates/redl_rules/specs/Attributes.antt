@@ -2,7 +2,7 @@
 -- rules are our own).
 use Rattle.std.specs.Prelude.{ℕ, List, [], Bool, ◌&&◌, ◌||◌, bytes_eq, codes, is_some, Option}
 use Rattle.std.specs.List.{list_any}
-use Rattle.redl_markup.specs.Names.{Name}
+use Rattle.redl_grammar.specs.Names.{Name}
 use Rattle.redl_markup.specs.Attributes.{attributes_of}
 use Rattle.redl_stamp.specs.Attribute.{attribute_value}
 use Rattle.redl_tree.specs.Model.Nodes.{Nodes}

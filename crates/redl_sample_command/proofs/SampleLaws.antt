@@ -1,13 +1,12 @@
 -- The entries of the sample's reviewers, one reviewer after another.
-use Rattle.std.proofs.Common.{◌≡◌, ◌+◌, ◌≤◌, ℕ, nat_lt, false, List, [], ◌∷◌, ◌++◌, Option, Result, Ok, ap, sym, subst, ◌∙◌, append-nil, arith, refl}
+use Rattle.std.proofs.Common.{◌≡◌, ◌+◌, ◌≤◌, ℕ, nat_lt, List, [], ◌∷◌, ◌++◌, Result, Ok, ap, sym, subst, ◌∙◌, append-nil, arith}
 use Rattle.std.proofs.lemmas.Bool.{le-ltb, cond-false}
 use Rattle.std.proofs.lemmas.Grind.{flat_map-append}
 use Rattle.std.specs.List.{flat_map, range_with_len}
 use Rattle.redl_commands.specs.Sample.{reviewers_entries, sampled, summarized, summary_of}
-use Rattle.redl_inputs.specs.Packages.{package_in, shaped, sound}
-use Rattle.redl_inputs.specs.Readers.{Reader, IsReader}
+use Rattle.redl_inputs.specs.Packages.{package_in}
 use Rattle.redl_inputs.specs.Steps.{◌>>=◌}
-use Rattle.redl_commands.specs.Writing.{Writing, only_bytes, outcome_of}
+use Rattle.redl_commands.specs.Writing.{Writing, only_bytes}
 use Rattle.redl_index.specs.Numbers.{numbered_package}
 use Rattle.redl_index.specs.Revisions.{revisions_of}
 use Rattle.redl_inputs.specs.Admission.{no_admission}

@@ -8,9 +8,9 @@ use Rattle.std.specs.Option.{option_map}
 use Rattle.std.specs.Prelude.{find}
 use Rattle.std.specs.Str.{all_ascii_digits}
 use Rattle.redl_markup.proofs.Decoding.{decoded_literal}
-use Rattle.redl_markup.specs.Characters.{is_name_start, is_name_character}
+use Rattle.redl_grammar.specs.Characters.{is_name_start, is_name_character}
 use Rattle.redl_markup.specs.Decoding.{decoded_value, is_literal}
-use Rattle.redl_markup.specs.Names.{Name, are_distinct, may_follow, may_start}
+use Rattle.redl_grammar.specs.Names.{Name, are_distinct, may_follow, may_start}
 use lib.Utf8.{encode}
 use Rattle.redl_sample.specs.Packages.{revisions}
 use Rattle.redl_sample_sound.proofs.Blocks.{Form, Plain, Insertion, Deletion, Mark, Both, Properties, Table, Move, id, named, shape_of, form_of, blocks_nodes}

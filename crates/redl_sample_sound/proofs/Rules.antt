@@ -2,8 +2,8 @@
 use lib.Utf8.{encode}
 use Rattle.std.proofs.Common.{◌≡◌, ◌+◌, ◌<◌, ◌≤◌, ◌^◌, ℕ, zero, suc, Bool, true, false, List, [], ◌∷◌, codes, decimal, None, refl, ◌∙◌, arith}
 use Rattle.std.specs.List.{list_all}
-use Rattle.redl_markup.specs.Characters.{is_name_start, is_name_character}
-use Rattle.redl_markup.specs.Names.{are_distinct, may_follow, may_start}
+use Rattle.redl_grammar.specs.Characters.{is_name_start, is_name_character}
+use Rattle.redl_grammar.specs.Names.{are_distinct, may_follow, may_start}
 use Rattle.redl_opc.specs.Shape.{refusal}
 use Rattle.redl_rules.specs.Attributes.{broken_rule, declares, has_id}
 use Rattle.redl_sample_sound.proofs.Blocks.{Form, Plain, Insertion, Deletion, Mark, Both, Properties, Table, Move, id, by, named, shape_of, form_of, blocks_nodes}

@@ -25,8 +25,9 @@ use redl_io::Sink;
 use redl_join::{Book, Verdict};
 use redl_journal::Entry;
 use redl_opc::Package;
+use redl_output::write_nodes;
 use redl_resolve::{into_passed, pass};
-use redl_tree::{Node, Say, write_nodes};
+use redl_tree::{Node, Say};
 use std::alloc::{AllocError, Global};
 use std::marker::Model;
 

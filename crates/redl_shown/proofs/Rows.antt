@@ -1,7 +1,7 @@
 -- Worked rows: what bytes show, by computing.
 use Rattle.std.proofs.Common.{◌≡◌, codes, refl}
-use Rattle.redl_markup.specs.References.{reference_at, named_at, number_at}
-use Rattle.redl_markup.specs.Characters.{is_character}
+use Rattle.redl_grammar.specs.References.{reference_at, named_at, number_at}
+use Rattle.redl_grammar.specs.Characters.{is_character}
 use Rattle.redl_shown.specs.Shown.{shown}
 use lib.Utf8.{encode}
 

@@ -3,7 +3,7 @@
 use Rattle.std.specs.Prelude.{ℕ, ◌-◌, ◌==◌, List, [], ◌∷◌, ◌++◌, Bool, true, false, not, ◌&&◌, ◌||◌, codes, if◌then◌else◌}
 use Rattle.redl_reading.specs.Lists.{begins}
 use Rattle.redl_markup.specs.Decoding.{character_text}
-use Rattle.redl_markup.specs.References.{reference_at}
+use Rattle.redl_grammar.specs.References.{reference_at}
 use Rattle.redl_shown.specs.declared.parts.Part.{Part}
 use Rattle.redl_shown.specs.declared.parts.Part.TheVariants.{Characters, Reference, Comment, Instruction, Cdata}
 use Rattle.redl_shown.specs.declared.parts.Here.{Here}

@@ -3,7 +3,7 @@
 ghost use Rattle.std.specs.Prelude.{◌≡◌, ◌<◌, ◌∷◌, ◌++◌, ◌↔◌, [], IsNone, IfSome, length, take, if◌then◌else◌};
 ghost use Rattle.redl_reading.specs.Lists.{front, after};
 ghost use Rattle.redl_markup.specs.Decoding.{character_text};
-ghost use Rattle.redl_markup.specs.References.{reference_at};
+ghost use Rattle.redl_grammar.specs.References.{reference_at};
 ghost use Rattle.redl_shown.specs.Shown.{byte_shown, first_shown, character_shown, shown_from, is_plain};
 ghost use Rattle.redl_shown.specs.Pieces.{piece_text};
 

@@ -8,8 +8,9 @@ ghost use Rattle.redl_opc.specs.Shape.{story_of};
 ghost use Rattle.redl_sittings.specs.SecondNumbers.{numbers_below, part_numbers};
 
 use crate::along::add_numbers;
+use redl_laid::{First, Laid};
 use redl_opc::{package_of, story_of};
-use redl_tree::{Elem, First, Node, Plain};
+use redl_tree::{Elem, Node, Plain};
 use std::alloc::{AllocError, Global};
 
 /// The revision of each element below the root of each story, in the order of their start tags, and 0 for one that is in none.
@@ -43,7 +44,7 @@ fn add_empty(alloc: Global, numbers: &mut Vec<Vec<u32>>, plain: &Plain) -> Resul
     ensures { OnOk result (map (λ part. part.items) numbers.new.items
         ≡ map (λ part. part.items) numbers.old.items ++ map (λ part. []) (elements_of (idle_nodes plain.now))) }
 {
-    let mut left = plain.laid();
+    let mut left = Laid::of(plain);
     while let Some((first, rest)) = left.first() {
         match first {
             First::Elem(_) => numbers.push(Vec::new(alloc))?,

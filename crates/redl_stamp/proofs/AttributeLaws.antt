@@ -3,8 +3,8 @@ use Rattle.std.proofs.Common.{◌≡◌, ℕ, List, [], ◌∷◌, Bool, true, f
 use Rattle.std.specs.Prelude.{Option, Some}
 use Rattle.std.specs.Option.{option_map}
 use Rattle.redl_markup.specs.Decoding.{decoded_value}
-use Rattle.redl_markup.specs.Names.{Name}
-use Rattle.redl_markup.specs.Tails.{Attribute, IsTail, named_value}
+use Rattle.redl_grammar.specs.Names.{Name}
+use Rattle.redl_grammar.specs.Tails.{Attribute, IsTail, named_value}
 use Rattle.redl_markup.proofs.Listing.{tail_lists}
 use Rattle.redl_stamp.specs.Attribute.{has_local_name, attribute_value}
 

@@ -3,7 +3,7 @@ use Rattle.std.proofs.Common.{◌≡◌, ℕ, List, ◌∷◌, Bool, true, false
 use Rattle.std.specs.Prelude.{Option, Some, None}
 use Rattle.std.specs.Option.{option_map, option_or}
 use Rattle.redl_markup.specs.Attributes.{attributes_of}
-use Rattle.redl_markup.specs.Names.{Name}
+use Rattle.redl_grammar.specs.Names.{Name}
 use Rattle.redl_stamp.specs.Attribute.{has_local_name, own_value, written_value}
 
 abbrev first_in : List ℕ → List (Name × List ℕ) → Option (List ℕ)

@@ -1,7 +1,7 @@
 -- The decoded value of a tag's attribute, found by its local name (Namespaces in XML 1.0; ECMA-376 Part 1, 17.13.5).
 use Rattle.std.specs.Prelude.{ℕ, List, Bool, ◌&&◌, not, bytes_eq, codes, find, Option, Some, None, if◌then◌else◌}
 use Rattle.std.specs.Option.{option_map}
-use Rattle.redl_markup.specs.Names.{Name}
+use Rattle.redl_grammar.specs.Names.{Name}
 use Rattle.redl_markup.specs.Attributes.{attributes_of}
 use Rattle.redl_markup.specs.Decoding.{decoded_value}
 

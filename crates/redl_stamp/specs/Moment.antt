@@ -2,7 +2,7 @@
 -- 1 to 9 digits or nothing, then `Z`, `+hh:mm`, `-hh:mm` or nothing. The calendar is the Gregorian one, also before it was made.
 use Rattle.std.specs.Prelude.{ℕ, ◌+◌, ◌-◌, ◌*◌, Bool, true, false, ◌&&◌, ◌==◌, nat_le, List, [], ◌∷◌, length, Option, Some, None, if◌then◌else◌, codes, ℤ, pos, neg_ℤ, int_le, ◌+ℤ◌, ◌-ℤ◌, ◌*ℤ◌}
 use Rattle.jiff_core.specs.Calendar.{IsBetween, days_in_month, days_from_civil}
-use Rattle.redl_markup.specs.Characters.{between}
+use Rattle.redl_grammar.specs.Characters.{between}
 use Rattle.redl_reading.specs.Lists.{behind, front, after}
 use Rattle.redl_reading.specs.Steps.{◌>>=◌}
 

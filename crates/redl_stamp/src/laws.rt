@@ -3,7 +3,7 @@
 ghost use Rattle.std.specs.Prelude.{◌≡◌, ℕ, List, find};
 ghost use Rattle.std.specs.Option.{option_map};
 ghost use Rattle.redl_markup.specs.Decoding.{decoded_value};
-ghost use Rattle.redl_markup.specs.Tails.{IsTail, named_value};
+ghost use Rattle.redl_grammar.specs.Tails.{IsTail, named_value};
 ghost use Rattle.redl_stamp.specs.Attribute.{has_local_name, attribute_value};
 
 /// The value that a legal tail has under a local name is that of its first attribute with this name that is no declaration.

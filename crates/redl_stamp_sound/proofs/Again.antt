@@ -3,7 +3,7 @@ use Rattle.std.proofs.Common.{◌≡◌, ◌∙◌, refl, ap, sym, ℕ, ◌+◌,
 use lib.Dec.{T}
 use Rattle.std.proofs.lemmas.Bool.{and_parts, and_from}
 use Rattle.jiff_core.specs.Calendar.{days_from_civil}
-use Rattle.redl_markup.specs.Characters.{between}
+use Rattle.redl_grammar.specs.Characters.{between}
 use Rattle.redl_reading.specs.Lists.{behind, after}
 use Rattle.redl_reading.specs.Steps.{◌>>=◌}
 use Rattle.redl_reading.proofs.Runs.{stops, front_again, after_again}

@@ -5,7 +5,7 @@ use lib.Dec.{T}
 use Rattle.std.proofs.lemmas.Bool.{and_parts, and_from, eqb-true}
 use Rattle.std.proofs.lemmas.Option.{same_Some}
 use Rattle.jiff_core.specs.Calendar.{days_from_civil}
-use Rattle.redl_markup.specs.Characters.{between}
+use Rattle.redl_grammar.specs.Characters.{between}
 use Rattle.redl_reading.specs.Lists.{behind, front, after}
 use Rattle.redl_reading.specs.Steps.{◌>>=◌}
 use Rattle.redl_reading.proofs.Runs.{front-after, front_passes}

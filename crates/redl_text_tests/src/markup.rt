@@ -1,8 +1,7 @@
 //! Tables of what no clause of `redl_markup` says: that its grammar is the one of XML 1.0 and Namespaces in XML 1.0, and
 //! that calls succeed with ample memory, in time that grows no faster than the text.
-use redl_markup::{
-    MarkupError, Name, Piece, Place, decode_value, is_text, next_attribute, next_piece,
-};
+use redl_grammar::Place;
+use redl_markup::{MarkupError, Name, Piece, decode_value, is_text, next_attribute, next_piece};
 use std::alloc::{AllocError, Global};
 use std::test::Fail;
 

@@ -5,5 +5,3 @@ pub mod Starts
 pub mod FoldSteps
 pub mod FoldLaws
 mod FoldRows
-pub mod FoldFronts
-pub mod FrontLaws

@@ -4,11 +4,8 @@ ghost use Rattle.std.specs.Prelude.{◌≡◌, ◌<◌, ◌^◌, true, length};
 ghost use Rattle.redl_tree.specs.Model.Text.{text};
 ghost use Rattle.redl_tree.specs.Model.Count.{count};
 ghost use Rattle.redl_tree.specs.Model.Elements.{elements};
-ghost use Rattle.redl_tree.specs.Model.Folds.{nodes_in};
 ghost use Rattle.redl_tree.specs.Model.IdleTexts.{is_idle_text, idle_nodes};
-ghost use Rattle.redl_tree.specs.declared.kinds.Space.TheVariants.{W};
 
-use crate::laid::Laid;
 use std::marker::Model;
 
 /// Idle elements of one list, with the bytes between them, as they stand in the input.
@@ -49,6 +46,8 @@ impl<'a> Plain<'a> {
     pub fn text(&self) -> &'a [u8]
         ensures text { result.now ≡ self.now }
         ensures nodes { text (idle_nodes self.now) ≡ result.now }
+        ensures idle { is_idle_text result.now ≡ true }
+        ensures short { length result.now < 2 ^ 32 }
     {
         self.text
     }
@@ -65,14 +64,6 @@ impl<'a> Plain<'a> {
         ensures { result ≡ elements (idle_nodes self.now) }
     {
         self.elems
-    }
-
-    /// The same nodes, to be read from the front.
-    #[tactic(auto, using(crate::proofs::Idle::Items::idle_reads, crate::proofs::Idle::Items::laid_nodes))]
-    pub fn laid(&self) -> Laid<'a>
-        ensures { nodes_in W result ≡ idle_nodes self.now }
-    {
-        Laid::new(self.text)
     }
 
     /// The same elements once more.

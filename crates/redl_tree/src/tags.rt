@@ -197,7 +197,7 @@ impl<'a> Tag<'a> {
     }
 
     /// The prefix and its colon, or nothing where there is no prefix.
-    pub(crate) fn prefix_with_colon(&self) -> &'a [u8]
+    pub fn prefix_with_colon(&self) -> &'a [u8]
         ensures { result.now ≡ prefix_text self.now.prefix }
     {
         if self.prefix == 0 {
@@ -208,7 +208,7 @@ impl<'a> Tag<'a> {
 
     /// The name as it stands in the input, if the element has that name still.
     #[tactic(auto, using(crate::proofs::Roles::WordLaws::own_name))]
-    pub(crate) fn name_read(&self) -> Option<&'a [u8]>
+    pub fn name_read(&self) -> Option<&'a [u8]>
         ensures { IfSome result (λ name. name.now ≡ name_text self.now.prefix self.now.local) }
     {
         if is_live(self.word) {
@@ -219,7 +219,7 @@ impl<'a> Tag<'a> {
 
     /// All between `<` and `>` or `/>` as it stands in the input, if the element has its name from there still.
     #[tactic(auto, using(crate::proofs::Roles::WordLaws::own_name))]
-    pub(crate) fn text_read(&self) -> Option<&'a [u8]>
+    pub fn text_read(&self) -> Option<&'a [u8]>
         ensures { IfSome result (λ text. text.now ≡ name_text self.now.prefix self.now.local ++ self.now.tail) }
     {
         if is_live(self.word) {

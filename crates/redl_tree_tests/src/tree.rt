@@ -1,9 +1,10 @@
 //! Tables of what no clause of `redl_tree` says: that calls succeed with ample memory, that the text is the one that a
 //! document has, and that names and places are those of ECMA-376 Part 1.
 use redl_io::MemSink;
+use redl_output::{copy_nodes, write_nodes};
 use redl_tree::{
-    Around, Elem, Kind, Lot, Node, Place, Prop, Reach, Space, Tag, Trace, copy_nodes, count_nodes,
-    is_named, is_quiet, is_thick, is_wrapper, write_nodes,
+    Around, Elem, Kind, Lot, Node, Place, Prop, Reach, Space, Tag, Trace, count_nodes, is_named,
+    is_quiet, is_thick, is_wrapper,
 };
 use std::alloc::{AllocError, Global};
 use std::test::Fail;

@@ -9,8 +9,8 @@ use Rattle.redl_tree.specs.declared.kinds.Trace.{Trace}
 use Rattle.redl_tree.specs.declared.kinds.Trace.TheVariants.{Ins, Del}
 use Rattle.redl_tree.specs.declared.kinds.Kind.TheVariants.{Mark, Row}
 use Rattle.redl_tree.proofs.Model.Build.{opened, closed, member, content, words, run, deleted_run, package_of}
-use Rattle.redl_markup.specs.References.{reference_at, named_at, number_at}
-use Rattle.redl_markup.specs.Characters.{is_character}
+use Rattle.redl_grammar.specs.References.{reference_at, named_at, number_at}
+use Rattle.redl_grammar.specs.Characters.{is_character}
 use Rattle.redl_shown.specs.Shown.{shown}
 use Rattle.redl_views.specs.PlainText.{plain_text}
 use Rattle.redl_views.specs.Views.{view_text}

@@ -5,7 +5,7 @@ use Rattle.std.specs.List.{list_all}
 use Rattle.std.proofs.lemmas.Bool.Decides.{nat_tests}
 use Rattle.std.proofs.lemmas.Option.{same_Some, cond_some}
 use Rattle.jiff_core.specs.Calendar.{days_from_civil}
-use Rattle.redl_markup.specs.Characters.{between}
+use Rattle.redl_grammar.specs.Characters.{between}
 use Rattle.redl_reading.specs.Lists.{behind, front, after, is_other}
 use Rattle.redl_reading.specs.Steps.{◌>>=◌}
 use Rattle.redl_reading.proofs.Steps.{bind_some}

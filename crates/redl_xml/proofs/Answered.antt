@@ -12,13 +12,13 @@ use Rattle.redl_tree.specs.Model.Tree.{HasUtf8Tails, IsTree}
 use Rattle.redl_tree.specs.Model.Nodes.{Close, Empty, End}
 use Rattle.redl_markup.specs.declared.error.MarkupError.{MarkupError}
 use Rattle.redl_markup.specs.declared.error.MarkupError.TheVariants as markup
-use Rattle.redl_markup.specs.declared.piece.Place.TheVariants.{BeforeRoot, InElement, AfterRoot}
-use Rattle.redl_markup.specs.Characters.{is_character, IsText}
-use Rattle.redl_markup.specs.Names.{name_text}
-use Rattle.redl_markup.specs.Stretches.{IsStretch, ends_stretch}
-use Rattle.redl_markup.specs.Pieces.{start_tag, empty_tag, end_tag, stretch}
+use Rattle.redl_grammar.specs.declared.place.Place.TheVariants.{BeforeRoot, InElement, AfterRoot}
+use Rattle.redl_grammar.specs.Characters.{is_character, IsText}
+use Rattle.redl_grammar.specs.Names.{name_text}
+use Rattle.redl_grammar.specs.Stretches.{IsStretch, ends_stretch}
+use Rattle.redl_grammar.specs.Pieces.{start_tag, empty_tag, end_tag, stretch}
 use Rattle.redl_markup.proofs.Characters.{text_is_utf8, tests_text}
-use Rattle.redl_markup.proofs.Pieces.{start_ends_stretch, end_ends_stretch}
+use Rattle.redl_grammar.proofs.Pieces.{start_ends_stretch, end_ends_stretch}
 use Rattle.std.proofs.lemmas.Bool.{cases_Bool, both_ways}
 use Rattle.redl_markup.proofs.Utf8.{piece_is_utf8}
 use Rattle.redl_xml.specs.declared.error.XmlError.{XmlError}

@@ -5,8 +5,8 @@ use Rattle.std.proofs.lemmas.List.{length-map}
 use Rattle.redl_reading.proofs.Options.{map_some, map_none}
 use Rattle.redl_tree.specs.Model.Nodes.{Nodes, no_nodes, Empty, End, ◌⊕◌}
 use Rattle.redl_reading.specs.Steps.{◌>>=◌}
-use Rattle.redl_markup.specs.Names.{Name, name_eq}
-use Rattle.redl_markup.specs.Pieces.{Piece, start_tag, empty_tag, end_tag, stretch}
+use Rattle.redl_grammar.specs.Names.{Name, name_eq}
+use Rattle.redl_grammar.specs.Pieces.{Piece, start_tag, empty_tag, end_tag, stretch}
 use Rattle.redl_xml.specs.Scopes.{Scope}
 use Rattle.redl_xml.specs.Inside.Elements.{Frame, State, bare, without_nodes, one_element, entered, declared_in, added, opened, closed, stretched, placed}
 use Rattle.redl_xml.proofs.Buildings.{state}

@@ -15,8 +15,8 @@ use Rattle.redl_tree.specs.declared.node.Node.{Node}
 use Rattle.redl_tree.specs.declared.node.Node.TheVariants as node
 use Rattle.redl_tree.specs.declared.node.Elem.{Elem}
 use Rattle.redl_tree.proofs.Model.Laws.{nodes_of-push, item_of-Elem}
-use Rattle.redl_markup.specs.Names.{Name, name_eq}
-use Rattle.redl_markup.specs.Pieces.{empty_tag}
+use Rattle.redl_grammar.specs.Names.{Name, name_eq}
+use Rattle.redl_grammar.specs.Pieces.{empty_tag}
 use Rattle.redl_xml.specs.declared.open_element.OpenElement.{OpenElement}
 use Rattle.redl_xml.specs.Scopes.{Scope}
 use Rattle.redl_xml.specs.Inside.Elements.{Frame, State, plain_start, plain_tag, one_element, entered, declared_in, bare, closed, stretched, placed}

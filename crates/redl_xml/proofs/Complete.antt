@@ -6,14 +6,14 @@ use Rattle.redl_tree.specs.declared.kinds.Kind.{Kind}
 use Rattle.redl_tree.specs.declared.kinds.Kind.TheVariants.{Plain}
 use Rattle.redl_tree.specs.Model.Nodes.{Close, Empty, End}
 use Rattle.redl_tree.proofs.Model.Laws.{⊕-no_nodes, ⊕_assoc}
-use Rattle.redl_markup.specs.declared.piece.Place.TheVariants.{InElement}
+use Rattle.redl_grammar.specs.declared.place.Place.TheVariants.{InElement}
 use Rattle.redl_reading.specs.Steps.{turns}
-use Rattle.redl_markup.specs.Names.{Name, name_text, name_eq}
-use Rattle.redl_markup.specs.Stretches.{ends_stretch}
-use Rattle.redl_markup.specs.Pieces.{Piece, start_tag, empty_tag, end_tag, stretch, piece_then, IsPiece, Follows}
+use Rattle.redl_grammar.specs.Names.{Name, name_text, name_eq}
+use Rattle.redl_grammar.specs.Stretches.{ends_stretch}
+use Rattle.redl_grammar.specs.Pieces.{Piece, start_tag, empty_tag, end_tag, stretch, piece_then, IsPiece, Follows}
 use Rattle.std.proofs.lemmas.Bool.{and_from}
 use Rattle.redl_reading.proofs.Turns.{enough}
-use Rattle.redl_markup.proofs.Pieces.{piece_again, start_ends_stretch, end_ends_stretch}
+use Rattle.redl_grammar.proofs.Pieces.{piece_again, start_ends_stretch, end_ends_stretch}
 use Rattle.redl_xml.specs.Shapes.{begins_with_bytes}
 use Rattle.redl_xml.specs.Scopes.{Scope, scope_in, space_of}
 use Rattle.redl_xml.specs.Readings.{name_of, IsTag, ClosesBy, AreLegal}

@@ -7,16 +7,16 @@ use Rattle.redl_tree.specs.Model.Nodes.{Tag, Nodes, no_nodes, bytes, element, â—
 use Rattle.redl_tree.specs.Model.Text.{text}
 use Rattle.redl_tree.specs.Model.Count.{count}
 use Rattle.redl_tree.specs.Model.Nodes.{Close, Empty, End}
-use Rattle.redl_markup.specs.declared.piece.Place.{Place}
-use Rattle.redl_markup.specs.declared.piece.Place.TheVariants.{BeforeRoot, AfterRoot}
+use Rattle.redl_grammar.specs.declared.place.Place.{Place}
+use Rattle.redl_grammar.specs.declared.place.Place.TheVariants.{BeforeRoot, AfterRoot}
 use Rattle.redl_reading.specs.Lists.{is_filled}
-use Rattle.redl_markup.specs.Characters.{IsText}
-use Rattle.redl_markup.specs.Names.{name_text}
-use Rattle.redl_markup.specs.Stretches.{IsStretch, ends_stretch}
-use Rattle.redl_markup.specs.Pieces.{Piece, start_tag, empty_tag, end_tag, stretch}
-use Rattle.redl_markup.specs.ScanPieces.{piece_at}
+use Rattle.redl_grammar.specs.Characters.{IsText}
+use Rattle.redl_grammar.specs.Names.{name_text}
+use Rattle.redl_grammar.specs.Stretches.{IsStretch, ends_stretch}
+use Rattle.redl_grammar.specs.Pieces.{Piece, start_tag, empty_tag, end_tag, stretch}
+use Rattle.redl_grammar.specs.ScanPieces.{piece_at}
 use Rattle.redl_reading.proofs.Steps.{bind_some}
-use Rattle.redl_markup.proofs.Pieces.{piece_takes, piece_again, piece_shorter, start_ends_stretch}
+use Rattle.redl_grammar.proofs.Pieces.{piece_takes, piece_again, piece_shorter, start_ends_stretch}
 use Rattle.redl_xml.specs.Shapes.{depth_of}
 use Rattle.redl_xml.specs.Readings.{name_of, AreLegal, IsStretchOrNone, IsReading}
 use Rattle.redl_xml.specs.Inside.Elements.{element_at}

@@ -4,7 +4,7 @@ use Rattle.std.specs.Prelude.{IfSome}
 use Rattle.redl_reading.specs.Lists.{behind}
 use Rattle.redl_reading.specs.Steps.{Gives}
 use Rattle.redl_reading.proofs.Words.{behind_takes}
-use Rattle.redl_markup.specs.Names.{Name, name_text}
+use Rattle.redl_grammar.specs.Names.{Name, name_text}
 
 -- what the code answers on a word, seen in what is asked of the rest
 pub told_behind : {X : Type 0} (view : X → List ℕ) (word bs : List ℕ) (P : List ℕ → Type 0) (r : Option X) → Gives view r (behind word bs) → ((rest : List ℕ) → bs ≡ word ++ rest → P rest) → IfSome r (λ x. P (view x))

@@ -11,12 +11,12 @@ use Rattle.redl_tree.specs.Model.Text.{text}
 use Rattle.redl_tree.specs.Model.Count.{count}
 use Rattle.redl_tree.specs.Model.Elements.{elements}
 use Rattle.redl_tree.specs.declared.kinds.Space.{Space}
-use Rattle.redl_markup.specs.declared.piece.Place.TheVariants.{InElement}
-use Rattle.redl_markup.specs.Names.{Name, name_eq, IsName}
+use Rattle.redl_grammar.specs.declared.place.Place.TheVariants.{InElement}
+use Rattle.redl_grammar.specs.Names.{Name, name_eq, IsName}
 use Rattle.redl_markup.specs.declared.name.Name as code
-use Rattle.redl_markup.specs.Pieces.{Piece, start_tag, empty_tag, end_tag, stretch}
-use Rattle.redl_markup.specs.ScanPieces.{piece_at}
-use Rattle.redl_markup.proofs.Pieces.{piece_takes, piece_shorter, piece_again}
+use Rattle.redl_grammar.specs.Pieces.{Piece, start_tag, empty_tag, end_tag, stretch}
+use Rattle.redl_grammar.specs.ScanPieces.{piece_at}
+use Rattle.redl_grammar.proofs.Pieces.{piece_takes, piece_shorter, piece_again}
 use Rattle.redl_xml.specs.Inside.Elements.{one_element}
 use Rattle.redl_tree.specs.Model.Folds.{Open, Level, level, shut, put, nodes_at}
 use Rattle.redl_tree.specs.Roles.Idle.{AllTags}

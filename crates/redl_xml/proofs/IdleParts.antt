@@ -12,15 +12,15 @@ use Rattle.redl_tree.specs.declared.kinds.Space.TheVariants.{W}
 use Rattle.redl_tree.specs.Roles.Names.{is}
 use Rattle.redl_tree.proofs.Idle.Texts.{each_is_idle, all_mapped}
 use Rattle.redl_tree.proofs.Idle.Items.{idle_text}
-use Rattle.redl_tree.proofs.Reading.FrontLaws.{nothing_in}
-use Rattle.redl_markup.specs.References.{is_there}
+use Rattle.redl_tree.proofs.Reading.FoldLaws.{nothing_in}
+use Rattle.redl_grammar.specs.References.{is_there}
 use Rattle.redl_reading.specs.Steps.{or_same}
 use Rattle.redl_xml.specs.Shapes.{depth_of}
 use Rattle.redl_xml.specs.Scopes.{Scope}
 use Rattle.redl_markup.specs.declared.name.Name as code
-use Rattle.redl_markup.specs.declared.piece.Place.TheVariants.{InElement}
-use Rattle.redl_markup.specs.Pieces.{Piece}
-use Rattle.redl_markup.specs.ScanPieces.{piece_at}
+use Rattle.redl_grammar.specs.declared.place.Place.TheVariants.{InElement}
+use Rattle.redl_grammar.specs.Pieces.{Piece}
+use Rattle.redl_grammar.specs.ScanPieces.{piece_at}
 use Rattle.redl_xml.specs.Inside.Passing.{HoldsIn, ArePlainIn, IsIdleIn, IsPassed, IsIdleText, PassesPiece, is_run_open, names_view}
 use Rattle.redl_xml.proofs.FoldLoop.{IsTurn}
 

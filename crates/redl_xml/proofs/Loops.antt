@@ -2,12 +2,12 @@
 use Rattle.std.proofs.Common.{◌≡◌, ℕ, List, ◌<◌, length, Option, Some, None, refl, sym, ap, ◌∙◌, arith}
 use Rattle.redl_markup.specs.declared.error.MarkupError.{MarkupError}
 use Rattle.redl_markup.specs.declared.error.MarkupError.TheVariants.{Unreadable, NoMemory}
-use Rattle.redl_markup.specs.declared.piece.Place.TheVariants.{InElement}
+use Rattle.redl_grammar.specs.declared.place.Place.TheVariants.{InElement}
 use Rattle.redl_markup.specs.Reading.{Fails}
 use Rattle.redl_reading.specs.Steps.{done, next}
-use Rattle.redl_markup.specs.Pieces.{Piece}
-use Rattle.redl_markup.specs.ScanPieces.{piece_at}
-use Rattle.redl_markup.proofs.Pieces.{piece_shorter}
+use Rattle.redl_grammar.specs.Pieces.{Piece}
+use Rattle.redl_grammar.specs.ScanPieces.{piece_at}
+use Rattle.redl_grammar.proofs.Pieces.{piece_shorter}
 use Rattle.redl_reading.proofs.Turns.{Going, begins, goes_on, ends}
 use Rattle.redl_tree.specs.Model.Nodes.{Nodes}
 use Rattle.redl_xml.specs.Inside.Elements.{State, placed, finished, nothing_yet, Point, from_nodes, from_state, from_piece, element_step, element_at}

@@ -7,8 +7,8 @@ use Rattle.redl_tree.specs.Model.Nodes.{Nodes, no_nodes, bytes, element, ◌⊕�
 use Rattle.redl_tree.specs.Model.Count.{count}
 use Rattle.redl_tree.specs.Model.Nodes.{Empty, End}
 use Rattle.redl_tree.specs.declared.kinds.Space.{Space}
-use Rattle.redl_markup.specs.Names.{Name, name_eq}
-use Rattle.redl_markup.specs.Pieces.{Piece, start_tag, empty_tag, end_tag, stretch}
+use Rattle.redl_grammar.specs.Names.{Name, name_eq}
+use Rattle.redl_grammar.specs.Pieces.{Piece, start_tag, empty_tag, end_tag, stretch}
 use Rattle.redl_reading.proofs.Steps.{bind_some}
 use Rattle.std.proofs.lemmas.Bool.{cases_Bool}
 use Rattle.redl_xml.specs.Shapes.{depth_of}

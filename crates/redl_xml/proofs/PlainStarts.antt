@@ -4,7 +4,7 @@ use Rattle.std.specs.Prelude.{◌&&◌}
 use Rattle.std.proofs.lemmas.Bool.{and_parts}
 use Rattle.std.proofs.lemmas.Option.{cond_some}
 use Rattle.redl_tree.specs.declared.kinds.Space.{Space}
-use Rattle.redl_markup.specs.Names.{Name}
+use Rattle.redl_grammar.specs.Names.{Name}
 use Rattle.redl_xml.specs.Scopes.{Scope, space_of, is_element_prefix}
 use Rattle.redl_xml.specs.Inside.Elements.{known}
 

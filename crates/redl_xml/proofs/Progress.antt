@@ -6,10 +6,10 @@ use Rattle.redl_tree.specs.Model.Nodes.{Nodes}
 use Rattle.redl_tree.specs.Model.Count.{count}
 use Rattle.redl_markup.specs.declared.error.MarkupError.{MarkupError}
 use Rattle.redl_markup.specs.declared.error.MarkupError.TheVariants.{Unreadable, NoMemory}
-use Rattle.redl_markup.specs.declared.piece.Place.TheVariants.{InElement}
+use Rattle.redl_grammar.specs.declared.place.Place.TheVariants.{InElement}
 use Rattle.redl_markup.specs.Reading.{Fails}
-use Rattle.redl_markup.specs.Pieces.{Piece}
-use Rattle.redl_markup.specs.ScanPieces.{piece_at}
+use Rattle.redl_grammar.specs.Pieces.{Piece}
+use Rattle.redl_grammar.specs.ScanPieces.{piece_at}
 use Rattle.redl_xml.specs.Shapes.{depth_of}
 use Rattle.redl_xml.specs.Inside.Elements.{Frame, State, without_nodes, placed, finished_by, nothing_yet, element_at}
 use Rattle.redl_xml.specs.Inside.Sizes.{capped, found_sizes, element_sizes}

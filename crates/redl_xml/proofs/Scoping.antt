@@ -5,8 +5,8 @@ use Rattle.std.specs.List.{list_all}
 use Rattle.std.proofs.Math.Seq.{drop-append_seam}
 use Rattle.std.proofs.lemmas.Option.{same_Some, cond_some}
 use Rattle.redl_tree.specs.declared.kinds.Space.{Space}
-use Rattle.redl_markup.specs.References.{is_there}
-use Rattle.redl_markup.specs.Names.{Name}
+use Rattle.redl_grammar.specs.References.{is_there}
+use Rattle.redl_grammar.specs.Names.{Name}
 use Rattle.redl_markup.specs.Decoding.{decoded_value}
 use Rattle.redl_reading.specs.Lists.{is_filled}
 use Rattle.redl_markup.specs.Attributes.{attributes_of, names_in}

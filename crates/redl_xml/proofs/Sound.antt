@@ -5,20 +5,20 @@ use Rattle.std.proofs.lemmas.Option.{same_Some, cond_some, some_pair_parts, none
 use Rattle.redl_tree.specs.Model.Nodes.{Tag, Nodes, no_nodes, bytes, element, ◌⊕◌}
 use Rattle.redl_tree.specs.declared.kinds.Space.{Space}
 use Rattle.redl_tree.specs.Model.Nodes.{Close, Empty, End}
-use Rattle.redl_markup.specs.declared.piece.Place.TheVariants.{InElement}
+use Rattle.redl_grammar.specs.declared.place.Place.TheVariants.{InElement}
 use Rattle.redl_reading.specs.Lists.{is_other}
 use Rattle.redl_reading.specs.Steps.{turn, turns}
-use Rattle.redl_markup.specs.Names.{Name, name_text, name_eq, IsName}
-use Rattle.redl_markup.specs.Tails.{IsTail}
-use Rattle.redl_markup.specs.Stretches.{Item, items_then, Head, head_then, IsStretch, begins_item, ends_stretch}
-use Rattle.redl_markup.specs.Pieces.{Piece, start_tag, empty_tag, end_tag, stretch, piece_then, IsPiece, Follows}
-use Rattle.redl_markup.specs.ScanPieces.{piece_at}
+use Rattle.redl_grammar.specs.Names.{Name, name_text, name_eq, IsName}
+use Rattle.redl_grammar.specs.Tails.{IsTail}
+use Rattle.redl_grammar.specs.Stretches.{Item, items_then, Head, head_then, IsStretch, begins_item, ends_stretch}
+use Rattle.redl_grammar.specs.Pieces.{Piece, start_tag, empty_tag, end_tag, stretch, piece_then, IsPiece, Follows}
+use Rattle.redl_grammar.specs.ScanPieces.{piece_at}
 use Rattle.std.proofs.lemmas.Bool.{and_parts, not-true, both_ways}
 use Rattle.std.proofs.Math.Bool.{and-false}
 use Rattle.redl_reading.proofs.Steps.{bind_some}
-use Rattle.redl_markup.proofs.Items.{item_begins}
-use Rattle.redl_markup.proofs.Stretches.{whole_then}
-use Rattle.redl_markup.proofs.Pieces.{piece_takes}
+use Rattle.redl_grammar.proofs.Items.{item_begins}
+use Rattle.redl_grammar.proofs.Stretches.{whole_then}
+use Rattle.redl_grammar.proofs.Pieces.{piece_takes}
 use Rattle.redl_xml.specs.Shapes.{begins_with_bytes}
 use Rattle.redl_xml.specs.Scopes.{Scope}
 use Rattle.redl_xml.specs.Readings.{IsTag, ClosesBy, AreLegal}

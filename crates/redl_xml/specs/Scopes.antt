@@ -4,8 +4,8 @@ use Rattle.std.specs.Str.{bytes_eq}
 use Rattle.redl_tree.specs.declared.kinds.Space.{Space}
 use Rattle.redl_tree.specs.declared.kinds.Space.TheVariants.{W, M, Pkg, Other}
 use Rattle.redl_reading.specs.Lists.{is_filled}
-use Rattle.redl_markup.specs.References.{is_there}
-use Rattle.redl_markup.specs.Names.{Name}
+use Rattle.redl_grammar.specs.References.{is_there}
+use Rattle.redl_grammar.specs.Names.{Name}
 use Rattle.redl_markup.specs.Decoding.{decoded_value}
 use Rattle.redl_markup.specs.Attributes.{attributes_of}
 

@@ -3,8 +3,8 @@
 ghost use Rattle.std.specs.Prelude.{◌≡◌, [], ◌++◌, IfSome};
 ghost use Rattle.redl_reading.specs.Lists.{behind};
 ghost use Rattle.redl_reading.specs.Steps.{Gives};
-ghost use Rattle.redl_markup.specs.Names.{name_text};
-ghost use Rattle.redl_markup.specs.Pieces.{piece_then, end_tag};
+ghost use Rattle.redl_grammar.specs.Names.{name_text};
+ghost use Rattle.redl_grammar.specs.Pieces.{piece_then, end_tag};
 ghost use Rattle.redl_markup.specs.Views.{name_view};
 
 use redl_markup::Name;

@@ -14,7 +14,8 @@ ghost use Rattle.redl_xml.specs.Readings.{IsReading, HasReading, HasNoReading};
 use crate::element::read_element;
 use crate::error::XmlError;
 use crate::sizes::{Limits, Sizes};
-use redl_markup::{MarkupError, Piece, Place, is_text, next_piece};
+use redl_grammar::Place;
+use redl_markup::{MarkupError, Piece, is_text, next_piece};
 use redl_tree::Node;
 use std::alloc::{AllocError, Global};
 

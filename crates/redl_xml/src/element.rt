@@ -3,8 +3,8 @@
 ghost use Rattle.std.specs.Prelude.{◌≡◌, ◌≤◌, IfOk, IfSome, Some};
 ghost use Rattle.redl_tree.specs.Model.View.{nodes_of};
 ghost use Rattle.redl_markup.specs.Reading.{Finds};
-ghost use Rattle.redl_markup.specs.declared.piece.Place.TheVariants.{InElement};
-ghost use Rattle.redl_markup.specs.ScanPieces.{piece_at};
+ghost use Rattle.redl_grammar.specs.declared.place.Place.TheVariants.{InElement};
+ghost use Rattle.redl_grammar.specs.ScanPieces.{piece_at};
 ghost use Rattle.redl_markup.specs.PieceViews.{piece_view};
 ghost use Rattle.redl_xml.specs.Inside.Buildings.{building_view};
 ghost use Rattle.redl_xml.specs.Inside.Passing.{GoesAhead};
@@ -14,7 +14,8 @@ ghost use Rattle.redl_xml.specs.Inside.Sizes.{element_sizes};
 use crate::building::Building;
 use crate::idle::Tries;
 use crate::sizes::{Limits, Sizes};
-use redl_markup::{MarkupError, Name, Piece, Place, next_piece};
+use redl_grammar::Place;
+use redl_markup::{MarkupError, Name, Piece, next_piece};
 use redl_tree::Node;
 use std::alloc::{AllocError, Global};
 

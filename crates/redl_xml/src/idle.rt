@@ -1,8 +1,8 @@
 //! Elements that are passed over as they stand.
 
 ghost use Rattle.std.specs.Prelude.{◌≡◌, ◌==◌, length, true, false, option_map, IfOk, IfSome, IsNone, Some, if◌then◌else◌};
-ghost use Rattle.redl_markup.specs.declared.piece.Place.TheVariants.{InElement};
-ghost use Rattle.redl_markup.specs.ScanPieces.{piece_at};
+ghost use Rattle.redl_grammar.specs.declared.place.Place.TheVariants.{InElement};
+ghost use Rattle.redl_grammar.specs.ScanPieces.{piece_at};
 ghost use Rattle.redl_tree.specs.declared.kinds.Space.TheVariants.{W};
 ghost use Rattle.redl_tree.specs.Model.Folds.{nodes_in};
 ghost use Rattle.redl_markup.specs.PieceViews.{piece_view};
@@ -13,7 +13,8 @@ ghost use Rattle.redl_xml.specs.Inside.Passing.{HoldsOf, HoldsIn, IsPlainIn, IsI
 use crate::closing::behind_end;
 use crate::namespaces::{are_plain, element_space};
 use crate::spaces::Spaces;
-use redl_markup::{MarkupError, Name, Piece, Place, StartTag, next_piece};
+use redl_grammar::Place;
+use redl_markup::{MarkupError, Name, Piece, StartTag, next_piece};
 use redl_tree::{Plain, Space, is_idle_name};
 use std::alloc::{AllocError, Global};
 

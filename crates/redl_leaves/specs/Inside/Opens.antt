@@ -3,8 +3,8 @@ use Rattle.std.specs.Prelude.{◌≡◌, None}
 use Rattle.redl_tree.specs.Model.Folds.{nodes_in}
 use Rattle.redl_tree.specs.Model.Nodes.{no_nodes}
 use Rattle.redl_tree.specs.declared.kinds.Space.TheVariants.{W}
-use Rattle.redl_tree.specs.declared.laid.First.{First}
-use Rattle.redl_tree.specs.declared.laid.First.TheVariants.{Bytes, Elem}
+use Rattle.redl_laid.specs.declared.laid.First.{First}
+use Rattle.redl_laid.specs.declared.laid.First.TheVariants.{Bytes, Elem}
 
 -- an element that is closed by its start tag has no kids
 abbrev pub IsClosed : First → Type 0

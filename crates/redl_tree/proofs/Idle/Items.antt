@@ -10,7 +10,7 @@ use Rattle.redl_tree.specs.Model.IdleTexts.{is_idle_text, idle_nodes}
 use Rattle.redl_tree.specs.Roles.Names.{of_w}
 use Rattle.redl_tree.specs.Roles.Idle.{is_idle}
 use Rattle.redl_tree.specs.declared.kinds.Space.TheVariants.{W}
-use Rattle.redl_markup.specs.References.{is_there}
+use Rattle.redl_grammar.specs.References.{is_there}
 use Rattle.redl_tree.proofs.Model.Laws.{⊕-no_nodes}
 use Rattle.redl_tree.proofs.Reading.FoldLaws.{text_of_nodes_in}
 use Rattle.redl_tree.proofs.Idle.Lists.{NoneIs, element_there, has_past, some_past}

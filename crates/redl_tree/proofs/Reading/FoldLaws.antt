@@ -9,22 +9,23 @@ use Rattle.redl_tree.specs.Model.Nodes.{Tag, Nodes, no_nodes, bytes, element, �
 use Rattle.redl_tree.specs.Model.Nodes.{Close, Empty, End}
 use Rattle.redl_tree.specs.Model.Text.{text}
 use Rattle.redl_tree.specs.declared.kinds.Space.{Space}
+use Rattle.redl_tree.specs.declared.kinds.Space.TheVariants.{W}
 use Rattle.redl_tree.specs.declared.kinds.Kind.{Kind}
 use Rattle.redl_tree.specs.declared.kinds.Kind.TheVariants.{Plain}
 use Rattle.redl_tree.proofs.Model.Laws.{⊕-no_nodes, ⊕_assoc}
-use Rattle.redl_markup.specs.declared.piece.Place.TheVariants.{InElement}
+use Rattle.redl_grammar.specs.declared.place.Place.TheVariants.{InElement}
 use Rattle.redl_reading.specs.Lists.{is_other}
 use Rattle.redl_reading.specs.Steps.{or_same, turns}
 use Rattle.redl_reading.proofs.Turns.{enough}
-use Rattle.redl_markup.specs.References.{is_there}
-use Rattle.redl_markup.specs.Names.{Name, name_text, name_eq, IsName}
-use Rattle.redl_markup.specs.Tails.{IsTail}
-use Rattle.redl_markup.specs.Stretches.{Item, items_then, Head, head_then, IsStretch, begins_item, ends_stretch}
-use Rattle.redl_markup.specs.Pieces.{Piece, start_tag, empty_tag, end_tag, stretch, piece_then, IsPiece, Follows}
-use Rattle.redl_markup.specs.ScanPieces.{piece_at}
-use Rattle.redl_markup.proofs.Items.{item_begins}
-use Rattle.redl_markup.proofs.Stretches.{whole_then}
-use Rattle.redl_markup.proofs.Pieces.{piece_takes, piece_again, start_ends_stretch, end_ends_stretch}
+use Rattle.redl_grammar.specs.References.{is_there}
+use Rattle.redl_grammar.specs.Names.{Name, name_text, name_eq, IsName}
+use Rattle.redl_grammar.specs.Tails.{IsTail}
+use Rattle.redl_grammar.specs.Stretches.{Item, items_then, Head, head_then, IsStretch, begins_item, ends_stretch}
+use Rattle.redl_grammar.specs.Pieces.{Piece, start_tag, empty_tag, end_tag, stretch, piece_then, IsPiece, Follows}
+use Rattle.redl_grammar.specs.ScanPieces.{piece_at}
+use Rattle.redl_grammar.proofs.Items.{item_begins}
+use Rattle.redl_grammar.proofs.Stretches.{whole_then}
+use Rattle.redl_grammar.proofs.Pieces.{piece_takes, piece_again, start_ends_stretch, end_ends_stretch}
 use Rattle.redl_tree.specs.Model.Shapes.{begins_with_bytes}
 use Rattle.redl_tree.specs.Model.Laid.{name_of, ClosesBy}
 use Rattle.redl_tree.specs.Model.Folds.{plain_tag, one_element}
@@ -325,3 +326,13 @@ pub nodes_in_both : (space : Space) (a b : List ℕ) → Reads space a → Reads
 nodes_in_both space a b ha hb fits =
     let e = nodes_of_both space a b (nodes_in space a) (nodes_in space b) (nodes_are space a ha) (nodes_are space b hb) fits in
     (ap is_there e, ap (λ (o : Option Nodes). or_same o no_nodes) e)
+
+-- an empty text is read as no nodes
+pub nothing_in : (t : List ℕ) → length t ≡ 0 → nodes_in W t ≡ no_nodes
+unfolding level_step nodes_at
+nothing_in [] none = refl
+nothing_in (b ∷ bs) none = absurd (omega (arith, none))
+
+pub nothing_reads : Reads W []
+unfolding level_step nodes_at
+nothing_reads = refl

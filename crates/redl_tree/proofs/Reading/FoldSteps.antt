@@ -1,11 +1,11 @@
 -- The turns in which a text of one space is read.
 use Rattle.std.proofs.Common.{◌≡◌, ℕ, List, [], ◌∷◌, ◌<◌, length, Option, Some, None, refl, ap, ◌∙◌, arith}
 use Rattle.redl_tree.specs.declared.kinds.Space.{Space}
-use Rattle.redl_markup.specs.declared.piece.Place.TheVariants.{InElement}
+use Rattle.redl_grammar.specs.declared.place.Place.TheVariants.{InElement}
 use Rattle.redl_reading.specs.Steps.{done, next}
-use Rattle.redl_markup.specs.Pieces.{Piece}
-use Rattle.redl_markup.specs.ScanPieces.{piece_at}
-use Rattle.redl_markup.proofs.Pieces.{piece_shorter}
+use Rattle.redl_grammar.specs.Pieces.{Piece}
+use Rattle.redl_grammar.specs.ScanPieces.{piece_at}
+use Rattle.redl_grammar.proofs.Pieces.{piece_shorter}
 use Rattle.redl_tree.specs.Model.Folds.{Level, Spot, put, from_level, from_read, level_step_at, level_step}
 
 -- each turn leaves less

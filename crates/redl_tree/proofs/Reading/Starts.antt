@@ -4,7 +4,7 @@ use Rattle.redl_tree.specs.Model.Starts.{start_in}
 use Rattle.redl_tree.specs.Model.Cuts.{IsCut}
 use Rattle.redl_tree.specs.declared.kinds.Space.{Space}
 use Rattle.redl_tree.proofs.Reading.Cuts.{text_is_cut, start_of_text}
-use Rattle.redl_markup.specs.Names.{Name, name_text}
+use Rattle.redl_grammar.specs.Names.{Name, name_text}
 use Rattle.redl_tree.specs.Model.Folds.{plain_start}
 use Rattle.redl_tree.proofs.Model.TreeTexts.{same_name_text}
 

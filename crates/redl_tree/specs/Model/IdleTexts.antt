@@ -6,7 +6,7 @@ use Rattle.redl_tree.specs.Model.Folds.{nodes_at, nodes_in}
 use Rattle.redl_tree.specs.Roles.Names.{of_w}
 use Rattle.redl_tree.specs.Roles.Idle.{is_idle}
 use Rattle.redl_tree.specs.declared.kinds.Space.TheVariants.{W}
-use Rattle.redl_markup.specs.References.{is_there}
+use Rattle.redl_grammar.specs.References.{is_there}
 
 -- a text that is read to its end as idle nodes of W with an element among them
 abbrev pub is_idle_text : List ℕ → Bool

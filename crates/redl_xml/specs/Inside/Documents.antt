@@ -2,12 +2,12 @@
 use Rattle.std.specs.Prelude.{ℕ, List, [], ◌∷◌, Option, Some, None, if◌then◌else◌}
 use Rattle.std.specs.Option.{option_map}
 use Rattle.redl_tree.specs.Model.Nodes.{Nodes, no_nodes, bytes, ◌⊕◌}
-use Rattle.redl_markup.specs.declared.piece.Place.{Place}
-use Rattle.redl_markup.specs.declared.piece.Place.TheVariants.{BeforeRoot, AfterRoot}
+use Rattle.redl_grammar.specs.declared.place.Place.{Place}
+use Rattle.redl_grammar.specs.declared.place.Place.TheVariants.{BeforeRoot, AfterRoot}
 use Rattle.redl_reading.specs.Lists.{is_filled}
 use Rattle.redl_reading.specs.Steps.{◌>>=◌}
-use Rattle.redl_markup.specs.Pieces.{Piece, start_tag, empty_tag, end_tag, stretch}
-use Rattle.redl_markup.specs.ScanPieces.{piece_at}
+use Rattle.redl_grammar.specs.Pieces.{Piece, start_tag, empty_tag, end_tag, stretch}
+use Rattle.redl_grammar.specs.ScanPieces.{piece_at}
 use Rattle.redl_xml.specs.Inside.Elements.{element_at}
 use Rattle.redl_xml.specs.Inside.Sizes.{sizes_of, one_more}
 

@@ -5,11 +5,11 @@ use Rattle.redl_tree.specs.Model.Nodes.{Tag, Nodes, no_nodes, bytes, element, Cl
 use Rattle.redl_tree.specs.Model.Count.{count}
 use Rattle.redl_tree.specs.Model.Elements.{elements}
 use Rattle.redl_tree.specs.declared.kinds.Space.{Space}
-use Rattle.redl_markup.specs.Names.{Name, name_eq}
+use Rattle.redl_grammar.specs.Names.{Name, name_eq}
 use Rattle.redl_markup.specs.declared.name.Name as code
 use Rattle.redl_markup.specs.Views.{name_view}
 use Rattle.redl_markup.specs.Attributes.{names_in}
-use Rattle.redl_markup.specs.Pieces.{Piece, start_tag, empty_tag, end_tag, stretch, piece_then}
+use Rattle.redl_grammar.specs.Pieces.{Piece, start_tag, empty_tag, end_tag, stretch, piece_then}
 use Rattle.redl_xml.specs.Shapes.{depth_of}
 use Rattle.redl_xml.specs.declared.idle.Idle.{Idle}
 use Rattle.redl_xml.specs.declared.sizes.Limits.{Limits}

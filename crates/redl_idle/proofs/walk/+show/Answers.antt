@@ -2,11 +2,11 @@ use Rattle.std.proofs.Common.{◌≡◌, ◌∙◌, ◌++◌, [], length, append
 use Rattle.redl_idle.specs.Takes.{Takes}
 use Rattle.redl_idle.proofs.TakeLaws.{takes_then, takes_fails, takes_as}
 use Rattle.redl_idle.specs.Shows.{shows}
-use Rattle.redl_markup.specs.declared.piece.Place.TheVariants.{InElement}
+use Rattle.redl_grammar.specs.declared.place.Place.TheVariants.{InElement}
 use Rattle.redl_markup.specs.declared.bare.BarePiece as bare
 use Rattle.redl_markup.specs.PieceViews.{bare_view}
-use Rattle.redl_markup.specs.ScanPieces.{piece_at}
-use Rattle.redl_markup.proofs.Pieces.{piece_shorter}
+use Rattle.redl_grammar.specs.ScanPieces.{piece_at}
+use Rattle.redl_grammar.proofs.Pieces.{piece_shorter}
 use Rattle.redl_tree.specs.Model.Nodes.{no_nodes}
 use Rattle.redl_idle.specs.Ahead.{IsNode, node_shows}
 use Rattle.redl_idle.proofs.AheadLaws.{first_there, after_short, there_gives, gives_this, some_bytes, no_bytes}

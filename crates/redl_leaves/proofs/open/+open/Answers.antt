@@ -1,11 +1,11 @@
 use Rattle.std.proofs.Common.{◌≤◌, ◌<◌, ◌+◌, ◌*◌, ℕ, List, length, refl, sym, ap, ◌∙◌, arith}
-use Rattle.redl_tree.specs.Model.Firsts.{first_item, AreShorter}
+use Rattle.redl_laid.specs.Firsts.{first_item, AreShorter}
 use Rattle.redl_tree.specs.Model.Folds.{nodes_in}
 use Rattle.redl_tree.specs.Model.Nodes.{no_nodes, in_front, ◌⊕◌}
 use Rattle.redl_tree.specs.Model.View.{nodes_of}
 use Rattle.redl_tree.specs.declared.kinds.Space.TheVariants.{W}
-use Rattle.redl_tree.specs.declared.laid.First.{First}
-use Rattle.redl_tree.specs.declared.laid.First.TheVariants.{Bytes, Elem}
+use Rattle.redl_laid.specs.declared.laid.First.{First}
+use Rattle.redl_laid.specs.declared.laid.First.TheVariants.{Bytes, Elem}
 use Rattle.redl_tree.proofs.Model.Laws.{nodes_of-push, ⊕-no_nodes, in_front-⊕, built_more}
 use Rattle.redl_leaves.proofs.OpenLaws.{closed_first}
 use Rattle.redl_leaves.proofs.open.+open.Invariants.{below}

@@ -3,8 +3,8 @@ use Rattle.redl_tree.specs.Model.Folds.{nodes_in}
 use Rattle.redl_tree.specs.Model.Nodes.{◌⊕◌}
 use Rattle.redl_tree.specs.Model.View.{nodes_of}
 use Rattle.redl_tree.specs.declared.kinds.Space.TheVariants.{W}
-use Rattle.redl_tree.specs.declared.laid.First.{First}
-use Rattle.redl_tree.specs.declared.laid.First.TheVariants.{Bytes, Elem}
+use Rattle.redl_laid.specs.declared.laid.First.{First}
+use Rattle.redl_laid.specs.declared.laid.First.TheVariants.{Bytes, Elem}
 use Rattle.redl_leaves.proofs.open.+open.Given as goal
 
 -- the nodes so far and those still to come are all

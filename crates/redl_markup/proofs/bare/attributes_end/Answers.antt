@@ -1,6 +1,6 @@
 use Rattle.std.proofs.Common.{sym, ◌∙◌}
 use Rattle.redl_markup.specs.Views.{attribute_view}
-use Rattle.redl_markup.proofs.Attributes.{first_behind, first_shorter}
+use Rattle.redl_grammar.proofs.Attributes.{first_behind, first_shorter}
 use Rattle.redl_markup.proofs.BareLaws.{past_begins, past_ends, past_fails, past_goes}
 use Rattle.redl_markup.proofs.bare.attributes_end.Goals as goal
 

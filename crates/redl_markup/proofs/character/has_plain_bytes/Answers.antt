@@ -2,7 +2,7 @@ use Rattle.std.proofs.Common.{◌∙◌, ◌&&◌, ap, sym, length, drop, ◌/�
 use Rattle.std.specs.List.{list_all}
 use Rattle.std.proofs.lemmas.Iterator.{YieldsList-from_slice}
 use Rattle.std.proofs.lemmas.Iterator.Search.{all_from_yields_List}
-use Rattle.redl_markup.specs.Characters.{is_plain_byte}
+use Rattle.redl_grammar.specs.Characters.{is_plain_byte}
 use Rattle.redl_markup.proofs.Blocks.{by_blocks}
 use Rattle.redl_markup.proofs.character.has_plain_bytes.Goals as goal
 

@@ -1,7 +1,7 @@
 use Rattle.std.proofs.Common.{◌∙◌, sym, rules, tests}
 use Rattle.std.proofs.lemmas.Iterator.{YieldsList-from_chars}
 use Rattle.std.proofs.lemmas.Iterator.Search.{all_from_yields_List}
-use Rattle.redl_markup.specs.Characters.{is_character}
+use Rattle.redl_grammar.specs.Characters.{is_character}
 use Rattle.redl_markup.proofs.Characters.{tests_text, text_is_utf8, plain_text}
 use Rattle.redl_markup.proofs.character.is_text.Goals as goal
 

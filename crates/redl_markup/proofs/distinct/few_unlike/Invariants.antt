@@ -1,5 +1,5 @@
 use Rattle.std.proofs.Common.{◌≡◌, length, map}
-use Rattle.redl_markup.specs.Names.{are_distinct}
+use Rattle.redl_grammar.specs.Names.{are_distinct}
 use Rattle.redl_markup.specs.Views.{name_view}
 use Rattle.redl_markup.proofs.distinct.few_unlike.Given as goal
 

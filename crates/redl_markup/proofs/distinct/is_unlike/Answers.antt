@@ -3,7 +3,7 @@ use Rattle.std.specs.Prelude.{not}
 use Rattle.std.proofs.lemmas.Iterator.{YieldsList-from_slice}
 use Rattle.std.proofs.lemmas.Iterator.Search.{all_from_yields_List}
 use Rattle.std.proofs.lemmas.List.Folds.{list_all-map}
-use Rattle.redl_markup.specs.Names.{name_eq}
+use Rattle.redl_grammar.specs.Names.{name_eq}
 use Rattle.redl_markup.specs.Views.{name_view}
 use Rattle.redl_markup.proofs.distinct.is_unlike.Goals as goal
 

@@ -4,7 +4,7 @@ use Rattle.std.specs.Slice.Iter.{iter_rest}
 use Rattle.std.proofs.lemmas.Iterator.{YieldsList-from_slice, items_from_drains}
 use Rattle.std.proofs.lemmas.Iterator.Consumers.{YieldsList-from_copied}
 use Rattle.std.proofs.lemmas.List.{map-id}
-use Rattle.redl_markup.specs.Names.{are_distinct}
+use Rattle.redl_grammar.specs.Names.{are_distinct}
 use Rattle.redl_markup.specs.Views.{name_view}
 use Rattle.redl_markup.specs.declared.name.Name as code
 use Rattle.redl_markup.proofs.Alike.{count_test}

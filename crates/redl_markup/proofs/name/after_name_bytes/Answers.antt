@@ -1,5 +1,5 @@
 use Rattle.std.proofs.Common.{rules}
-use Rattle.redl_markup.specs.ScanNames.{is_name_byte}
+use Rattle.redl_grammar.specs.ScanNames.{is_name_byte}
 use Rattle.redl_markup.proofs.name.after_name_bytes.Goals as goal
 
 pub returns : goal.returns

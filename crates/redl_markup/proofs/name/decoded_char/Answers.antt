@@ -1,5 +1,5 @@
 use Rattle.std.proofs.Common.{◌∙◌, sym}
-use Rattle.redl_markup.proofs.Names.{size_fits}
+use Rattle.redl_grammar.proofs.Names.{size_fits}
 use Rattle.redl_markup.proofs.name.decoded_char.Goals as goal
 
 pub split_at-requires : goal.split_at-requires

@@ -1,5 +1,5 @@
 use Rattle.std.proofs.Common.{◌∙◌, sym}
-use Rattle.redl_markup.proofs.Names.{char_takes, loop_begins, loop_goes, loop_ends, loop_stops}
+use Rattle.redl_grammar.proofs.Names.{char_takes, loop_begins, loop_goes, loop_ends, loop_stops}
 use Rattle.redl_markup.proofs.name.end_of_characters.Goals as goal
 
 pub loop-c-init : goal.loop-c-init

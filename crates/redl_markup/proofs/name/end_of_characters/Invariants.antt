@@ -1,5 +1,5 @@
 use Rattle.std.proofs.Common.{length}
-use Rattle.redl_markup.specs.ScanNames.{name_step, name_end}
+use Rattle.redl_grammar.specs.ScanNames.{name_step, name_end}
 use Rattle.redl_reading.proofs.Turns.{Going}
 use Rattle.redl_markup.proofs.name.end_of_characters.Given as goal
 

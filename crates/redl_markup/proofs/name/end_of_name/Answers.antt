@@ -1,5 +1,5 @@
 use Rattle.std.proofs.Common.{Some, sym}
-use Rattle.redl_markup.proofs.Names.{bytes_end, bytes_stop, bytes_go}
+use Rattle.redl_grammar.proofs.Names.{bytes_end, bytes_stop, bytes_go}
 use Rattle.redl_markup.proofs.name.end_of_name.Goals as goal
 
 pub returns-in_default : goal.returns-in_default

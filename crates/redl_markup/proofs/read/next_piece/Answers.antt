@@ -1,5 +1,5 @@
 use Rattle.redl_markup.specs.PieceViews.{piece_view}
-use Rattle.redl_markup.proofs.Pieces.{is_found, is_unreadable}
+use Rattle.redl_markup.proofs.Found.{is_found, is_unreadable}
 use Rattle.redl_markup.proofs.read.next_piece.Goals as goal
 
 pub returns-clause-found : goal.returns-clause-found

@@ -1,5 +1,5 @@
 use Rattle.std.proofs.Common.{◌≡◌, length}
-use Rattle.redl_markup.specs.References.{has_references}
+use Rattle.redl_grammar.specs.References.{has_references}
 use Rattle.redl_markup.proofs.reference.are_references.Given as goal
 
 abbrev pub invariant-loop-next : goal.invariant-loop-next

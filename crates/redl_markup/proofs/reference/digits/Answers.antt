@@ -1,5 +1,5 @@
 use Rattle.std.proofs.Common.{rules}
-use Rattle.redl_markup.specs.References.{is_digit_in}
+use Rattle.redl_grammar.specs.References.{is_digit_in}
 use Rattle.redl_markup.proofs.reference.digits.Goals as goal
 
 pub returns-clause-front : goal.returns-clause-front

@@ -2,7 +2,7 @@ use Rattle.std.proofs.Common.{◌≡◌, ◌≤◌, length, map, min}
 use Rattle.std.specs.Char.{digit_value}
 use Rattle.std.specs.Int.Digits.{number_from_digits_after}
 use Rattle.redl_markup.specs.declared.reference.TheConstants.{BEYOND}
-use Rattle.redl_markup.specs.References.{number_of}
+use Rattle.redl_grammar.specs.References.{number_of}
 use Rattle.redl_markup.proofs.reference.number.Given as goal
 
 abbrev pub invariant-loop-first : goal.invariant-loop-first

@@ -1,5 +1,5 @@
 use Rattle.std.proofs.Common.{rules}
-use Rattle.redl_markup.specs.Characters.{is_space}
+use Rattle.redl_grammar.specs.Characters.{is_space}
 use Rattle.redl_markup.proofs.space.spaces.Goals as goal
 
 pub returns-clause-front : goal.returns-clause-front

@@ -1,5 +1,5 @@
 use Rattle.std.proofs.Common.{sym, ◌∙◌}
-use Rattle.redl_markup.proofs.Stretches.{loop_begins, loop_refuses, loop_ends, loop_fails, loop_goes, loop_shrinks}
+use Rattle.redl_grammar.proofs.Stretches.{loop_begins, loop_refuses, loop_ends, loop_fails, loop_goes, loop_shrinks}
 use Rattle.redl_markup.proofs.stretch.end_of_items.Goals as goal
 
 pub loop-next-init : goal.loop-next-init

@@ -1,5 +1,5 @@
 use Rattle.std.proofs.Common.{length}
-use Rattle.redl_markup.specs.ScanStretches.{stretch_step, items_end}
+use Rattle.redl_grammar.specs.ScanStretches.{stretch_step, items_end}
 use Rattle.redl_reading.proofs.Turns.{Going}
 use Rattle.redl_markup.proofs.stretch.end_of_items.Given as goal
 

@@ -1,7 +1,7 @@
 use Rattle.std.proofs.Common.{◌≡◌, map, ◌∷◌, [], ◌++◌, sym, ◌∙◌}
 use Rattle.std.proofs.lemmas.List.{map_push}
 use Rattle.redl_markup.specs.Views.{name_view, attribute_view}
-use Rattle.redl_markup.proofs.Attributes.{first_behind, first_shorter, loop_begins, loop_ends, loop_fails, loop_goes}
+use Rattle.redl_grammar.proofs.Attributes.{first_behind, first_shorter, loop_begins, loop_ends, loop_fails, loop_goes}
 use Rattle.redl_markup.proofs.tag.attributes.Goals as goal
 
 pub loop-gap-init : goal.loop-gap-init

@@ -1,5 +1,5 @@
 use Rattle.std.proofs.Common.{length, map}
-use Rattle.redl_markup.specs.ScanTags.{attributes_at, tail_step}
+use Rattle.redl_grammar.specs.ScanTags.{attributes_at, tail_step}
 use Rattle.redl_markup.specs.Views.{name_view}
 use Rattle.redl_reading.proofs.Turns.{Going}
 use Rattle.redl_markup.proofs.tag.attributes.Given as goal

@@ -1,7 +1,7 @@
 use Rattle.std.proofs.Common.{◌∙◌, ◌++◌, List, ℕ, ap, sym}
-use Rattle.redl_markup.specs.Names.{name_text}
+use Rattle.redl_grammar.specs.Names.{name_text}
 use Rattle.redl_markup.specs.Views.{name_view}
-use Rattle.redl_markup.proofs.Tags.{start_text}
+use Rattle.redl_grammar.proofs.Tags.{start_text}
 use Rattle.redl_markup.proofs.tag.start_tag.Goals as goal
 
 pub new-tag-requires-clause-text : goal.new-tag-requires-clause-text

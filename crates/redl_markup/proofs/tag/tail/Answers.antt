@@ -1,7 +1,7 @@
 use Rattle.std.proofs.Common.{map, ◌∙◌, ap, sym}
 use Rattle.redl_markup.specs.Views.{name_view}
 use Rattle.redl_markup.proofs.Listing.{names_listed, names_of_none}
-use Rattle.redl_markup.proofs.Tags.{tail_of_none}
+use Rattle.redl_grammar.proofs.Tags.{tail_of_none}
 use Rattle.redl_markup.proofs.tag.tail.Goals as goal
 
 pub returns-then-is_at_end-clause-read : goal.returns-then-is_at_end-clause-read

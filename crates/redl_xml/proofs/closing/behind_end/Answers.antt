@@ -1,7 +1,7 @@
 use Rattle.std.proofs.Common.{◌≡◌, ◌∙◌, ◌++◌, ◌∷◌, [], List, ℕ, ap}
 use Rattle.std.specs.Prelude.{codes}
-use Rattle.redl_markup.specs.Names.{name_text}
-use Rattle.redl_markup.specs.Pieces.{piece_then, end_tag}
+use Rattle.redl_grammar.specs.Names.{name_text}
+use Rattle.redl_grammar.specs.Pieces.{piece_then, end_tag}
 use Rattle.redl_markup.specs.Views.{name_view}
 use Rattle.redl_reading.proofs.Words.{behind_takes}
 use Rattle.redl_xml.proofs.EndTags.{told_behind}

@@ -1,6 +1,6 @@
 use Rattle.std.proofs.Common.{◌≡◌, ◌≢◌, ◌∙◌, ◌++◌, ◌∷◌, List, ℕ, ap, length, arith}
 use Rattle.std.specs.Prelude.{codes}
-use Rattle.redl_markup.specs.Names.{name_text}
+use Rattle.redl_grammar.specs.Names.{name_text}
 use Rattle.redl_markup.specs.Views.{name_view}
 use Rattle.redl_reading.proofs.Words.{behind_takes}
 use Rattle.redl_xml.proofs.EndTags.{told_behind, text_without_prefix, text_with_prefix}

@@ -1,7 +1,7 @@
 use Rattle.std.proofs.Common.{◌<◌, ◌≤◌, subst, rules, arith}
 use Rattle.std.proofs.lemmas.Result.{err_from_is_err_and}
 use Rattle.redl_tree.specs.Model.View.{nodes_of}
-use Rattle.redl_markup.specs.Characters.{IsText}
+use Rattle.redl_grammar.specs.Characters.{IsText}
 use Rattle.redl_markup.specs.Reading.{Fails}
 use Rattle.redl_markup.specs.declared.error.MarkupError.{MarkupError}
 use Rattle.redl_xml.specs.Inside.Documents.{sizes_at}

@@ -1,10 +1,10 @@
 use Rattle.std.proofs.Common.{◌≡◌, ◌≢◌, ◌≤◌, ◌+◌, ◌∙◌, ap, refl, subst, sym, ℕ, Some, Err, length, arith}
 use Rattle.std.proofs.lemmas.Result.{err_from_is_err_and}
 use Rattle.redl_markup.specs.declared.error.MarkupError.{MarkupError}
-use Rattle.redl_markup.specs.declared.piece.Place.TheVariants.{InElement}
+use Rattle.redl_grammar.specs.declared.place.Place.TheVariants.{InElement}
 use Rattle.redl_markup.specs.PieceViews.{piece_view}
-use Rattle.redl_markup.specs.Pieces.{Piece}
-use Rattle.redl_markup.proofs.Pieces.{piece_shorter}
+use Rattle.redl_grammar.specs.Pieces.{Piece}
+use Rattle.redl_grammar.proofs.Pieces.{piece_shorter}
 use Rattle.redl_xml.specs.declared.building.Building.{Building}
 use Rattle.redl_xml.specs.declared.sizes.Limits.{Limits}
 use Rattle.redl_xml.specs.declared.sizes.Sizes.{Sizes}

@@ -1,6 +1,6 @@
 use Rattle.std.proofs.Common.{◌≡◌, ◌∙◌, ap, sym, true}
 use Rattle.redl_tree.specs.Roles.Idle.{is_idle_name}
-use Rattle.redl_markup.specs.Names.{Name}
+use Rattle.redl_grammar.specs.Names.{Name}
 use Rattle.redl_xml.proofs.idle.is_idle_start.Goals as goal
 
 pub returns-then-is_idle_name-clause-idle : goal.returns-then-is_idle_name-clause-idle

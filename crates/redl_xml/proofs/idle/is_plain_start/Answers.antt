@@ -1,7 +1,7 @@
 use Rattle.std.proofs.Common.{◌≡◌, ◌∙◌, ap, sym, true, [], Some, rules}
 use Rattle.std.specs.List.{list_all}
 use Rattle.redl_markup.specs.Attributes.{names_in}
-use Rattle.redl_markup.specs.Names.{Name}
+use Rattle.redl_grammar.specs.Names.{Name}
 use Rattle.redl_markup.specs.Views.{name_view}
 use Rattle.redl_xml.specs.Scopes.{is_plain_name}
 use Rattle.redl_xml.specs.Inside.Elements.{known}

@@ -1,9 +1,9 @@
 use Rattle.std.proofs.Common.{◌≡◌, ◌+◌, ◌∙◌, refl, sym, subst, length, arith, List, Some}
 use Rattle.redl_markup.specs.declared.name.Name as code
-use Rattle.redl_markup.specs.declared.piece.Place.TheVariants.{InElement}
+use Rattle.redl_grammar.specs.declared.place.Place.TheVariants.{InElement}
 use Rattle.redl_markup.specs.PieceViews.{piece_view}
-use Rattle.redl_markup.specs.ScanPieces.{piece_at}
-use Rattle.redl_markup.proofs.Pieces.{piece_shorter}
+use Rattle.redl_grammar.specs.ScanPieces.{piece_at}
+use Rattle.redl_grammar.proofs.Pieces.{piece_shorter}
 use Rattle.redl_tree.specs.declared.kinds.Space.TheVariants.{W}
 use Rattle.redl_xml.specs.Inside.Passing.{IsIdleIn, IsPassed, names_view}
 use Rattle.redl_xml.proofs.FoldLoop.{IsPassing, passing_begins, passing_turns, passing_closes, passing_over, no_names, last_holds, last_rest}

@@ -1,6 +1,6 @@
 use Rattle.std.proofs.Common.{◌≡◌, ◌∙◌, ap, ℕ, length, arith, length-append}
 use Rattle.redl_tree.specs.Model.Starts.{start_in}
-use Rattle.redl_markup.specs.Names.{Name, name_text}
+use Rattle.redl_grammar.specs.Names.{Name, name_text}
 use Rattle.redl_tree.proofs.Reading.Starts.{start_is}
 use Rattle.redl_xml.proofs.start.kept.Goals as goal
 

@@ -4,7 +4,7 @@ use Rattle.std.proofs.lemmas.Bool.{not-false}
 use Rattle.redl_tree.specs.Model.Nodes.{Nodes, Item, End, no_nodes, in_front, ◌⊕◌}
 use Rattle.redl_tree.specs.Model.View.{nodes_of}
 use Rattle.redl_tree.specs.declared.node.Node.{Node}
-use Rattle.redl_markup.specs.Names.{Name, name_eq}
+use Rattle.redl_grammar.specs.Names.{Name, name_eq}
 use Rattle.redl_markup.specs.Views.{name_view}
 use Rattle.redl_xml.specs.Scopes.{Scope}
 use Rattle.redl_xml.specs.Inside.Elements.{one_element}

@@ -1,0 +1,11 @@
+pub mod Characters
+pub mod Names
+pub mod References
+pub mod Tails
+pub mod Stretches
+pub mod Pieces
+pub mod ScanNames
+pub mod ScanTags
+pub mod ScanStretches
+pub mod ScanPieces
+pub mod Terms

@@ -1,0 +1,2 @@
+pub mod FoldFronts
+pub mod FrontLaws
