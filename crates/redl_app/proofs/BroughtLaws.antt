@@ -18,12 +18,14 @@ views-added {X} {Z} {V} {F} view known one old new box type before added same al
     ap (map view) added ∙ map-append view old (box ∷ [])
     ∙ ap (λ (front : List V). front ++ view box ∷ []) before ∙ ap (λ (last : V). known ++ last ∷ []) seen
 
--- what holds of what is brought with these formats and reports, holds of what they are known to be
-pub with_known : {F R : Type 0} (Holds : Brought → Type 0) (view : F → Format Row) (report_view : R → Format ReportLine) (formats : List F) (reports : List R) (skin : Skin)
-    (known : List (Format Row)) (known_reports : List (Format ReportLine))
-    → Holds (record { formats = map view formats; reports = map report_view reports; skin = skin })
-    → map view formats ≡ known → map report_view reports ≡ known_reports
-    → Holds (record { formats = known; reports = known_reports; skin = skin })
-with_known {F} {R} Holds view report_view formats reports skin known known_reports here same same_reports =
-    subst Holds (ap (λ (all : List (Format Row)). record { formats = all; reports = map report_view reports; skin = skin }) same
-    ∙ ap (λ (all : List (Format ReportLine)). record { formats = known; reports = all; skin = skin }) same_reports) here
+-- what holds of what is brought with these formats of listings, holds of what they are known to be
+pub with_formats : (Holds : Brought → Type 0) (formats known : List (Format Row)) (reports : List (Format ReportLine)) (skin : Skin)
+    → Holds (record { formats = formats; reports = reports; skin = skin }) → formats ≡ known → Holds (record { formats = known; reports = reports; skin = skin })
+with_formats Holds formats known reports skin here same =
+    subst Holds (ap (λ (all : List (Format Row)). record { formats = all; reports = reports; skin = skin }) same) here
+
+-- the same of the formats of reports
+pub with_reports : (Holds : Brought → Type 0) (formats : List (Format Row)) (reports known : List (Format ReportLine)) (skin : Skin)
+    → Holds (record { formats = formats; reports = reports; skin = skin }) → reports ≡ known → Holds (record { formats = formats; reports = known; skin = skin })
+with_reports Holds formats reports known skin here same =
+    subst Holds (ap (λ (all : List (Format ReportLine)). record { formats = formats; reports = all; skin = skin }) same) here

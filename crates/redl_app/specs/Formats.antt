@@ -39,6 +39,10 @@ report_formats =
     ∷ record { name = codes "table"; text = λ lines. table_report lines true }
     ∷ []
 
+-- what the program brings with these formats of listings and this skin of pages
+abbrev pub brings : List (Format Row) → declared.Skin → Brought
+brings formats skin = record { formats = formats; reports = report_formats; skin = skin_view skin }
+
 -- what the program brings with this skin of pages
 abbrev pub program_brings : declared.Skin → Brought
-program_brings skin = record { formats = row_formats; reports = report_formats; skin = skin_view skin }
+program_brings skin = brings row_formats skin

@@ -2,12 +2,15 @@
 
 ghost use Rattle.std.specs.Prelude.{◌≡◌, IfOk, OnErr, All, IsUtf8};
 ghost use Rattle.redl_app.specs.Answers.{Answers};
-ghost use Rattle.redl_app.specs.Formats.{program_brings};
+ghost use Rattle.redl_app.specs.Formats.{brings, program_brings};
+ghost use Rattle.redl_commands.specs.Formats.{AreFresh, formats_by};
 
 use crate::top::{refuse_words, run};
 use redl_io::{Shelf, Sink, Text};
 use redl_lines::Status;
-use redl_listing::{FullFormat, JsonFormat, TabFormat, TextFormat, WordsFormat, add_format};
+use redl_listing::{
+    FullFormat, JsonFormat, RowFormat, TabFormat, TextFormat, WordsFormat, add_format,
+};
 use redl_page::Skin;
 use redl_report::{JsonReport, TableReport, TextReport, add_report_format};
 use redl_words::WordsError;
@@ -33,7 +36,8 @@ pub fn run_words<F: Shelf, O: Sink, E: Sink>(
     }
 }
 
-// Makes the formats and does what the words ask. `Err` means that memory ran out before, and then nothing was done.
+// Makes the formats of listings, and does what the words ask with them. `Err` means that memory ran out before, and then nothing was
+// done.
 fn run_with_formats<F: Shelf, O: Sink, E: Sink>(
     alloc: Global,
     words: &[Text],
@@ -55,18 +59,30 @@ fn run_with_formats<F: Shelf, O: Sink, E: Sink>(
     add_format(&mut formats, Box::new(alloc, JsonFormat::new(alloc)?)?)?;
     add_format(&mut formats, Box::new(alloc, WordsFormat::new(alloc)?)?)?;
     add_format(&mut formats, Box::new(alloc, FullFormat::new(alloc)?)?)?;
+    run_with_reports(alloc, words, shelf, out, err, &mut formats, skin)
+}
+
+// The same with these formats of listings: makes those of reports.
+fn run_with_reports<F: Shelf, O: Sink, E: Sink>(
+    alloc: Global,
+    words: &[Text],
+    shelf: &mut F,
+    out: &mut O,
+    err: &mut E,
+    formats: &mut Vec<Box<dyn RowFormat>>,
+    skin: &Skin<'_>,
+) -> Result<Status, AllocError>
+    requires utf8 { All IsUtf8 words.now }
+    requires fresh { AreFresh is_closed rows_so_far formats.old.items }
+    ensures answers { IfOk result (λ status. Answers F.told F.faults F.asked shelf.old shelf.new O.told O.faults out.old out.new
+        E.told E.faults err.old err.new words.now (brings (formats_by format_name text_for formats.old.items) skin.now) status) }
+    ensures same_shelf { OnErr result (shelf.new ≡ shelf.old) }
+    ensures same_out { OnErr result (out.new ≡ out.old) }
+    ensures same_err { OnErr result (err.new ≡ err.old) }
+{
     let mut reports = Vec::new(alloc);
     add_report_format(&mut reports, Box::new(alloc, TextReport::new(alloc)?)?)?;
     add_report_format(&mut reports, Box::new(alloc, JsonReport::new(alloc)?)?)?;
     add_report_format(&mut reports, Box::new(alloc, TableReport::new(alloc)?)?)?;
-    Ok(run(
-        alloc,
-        words,
-        shelf,
-        out,
-        err,
-        &mut formats,
-        &mut reports,
-        skin,
-    ))
+    Ok(run(alloc, words, shelf, out, err, formats, &mut reports, skin))
 }
