@@ -1,10 +1,9 @@
 //! Tests of what no clause says: each end with its exit status and its lines, by hand.
 
-use redl_index::RevKind;
 use redl_io::{MemSink, Text};
 use redl_journal::Entry;
+use redl_kinds::{Lock, RevKind};
 use redl_lines::{Cause, End, Failure, Limit, PackageFault, RefusedEntries, Remarks, tell};
-use redl_select::Lock;
 use redl_session::{AdmitError, Bar, Refusal};
 use redl_test_journals::entries_of;
 use std::alloc::{AllocError, Global};

@@ -2,15 +2,15 @@
 ghost use Rattle.std.specs.Prelude.{◌≡◌};
 ghost use Rattle.redl_journal.specs.Journals.{IsAllowed};
 
-use redl_index::{Index, RevKind};
+use redl_index::Index;
 use redl_io::{MemSink, Text};
 use redl_join::Verdict;
 use redl_journal::Entry;
+use redl_kinds::{Lock, RevKind};
 use redl_opc::Package;
 use redl_outline::document_package;
 use redl_output::write_nodes;
 use redl_rules::check;
-use redl_select::Lock;
 use redl_session::{AdmitError, Bar, Locks, Refusal, Session, Taken};
 use redl_test_journals::entries_of;
 use redl_tree::{Say, Trace};

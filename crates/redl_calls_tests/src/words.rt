@@ -3,7 +3,7 @@ ghost use Rattle.std.specs.Prelude.{All, IfOk, IsUtf8};
 
 use redl_io::Text;
 use redl_journal::Word;
-use redl_select::{Lock, Selection};
+use redl_kinds::{Lock, Selection};
 use redl_words::{
     Command, DecideCommand, ListCommand, Only, ReportCommand, ResumeCommand, WordsError, read_words,
 };

@@ -5,7 +5,8 @@ use Rattle.std.specs.Option.{option_map}
 use Rattle.redl_index.specs.declared.revision.Revision.{Revision}
 use Rattle.redl_journal.specs.declared.entry.Entry.{Entry}
 use Rattle.redl_journal.specs.declared.entry.Word.{Word}
-use Rattle.redl_select.specs.Selections.{Selection, chosen, in_order}
+use Rattle.redl_kinds.specs.Selections.{Selection}
+use Rattle.redl_select.specs.Selections.{chosen, in_order}
 
 -- the number is one of these
 abbrev pub is_among : List ℕ → ℕ → Bool

@@ -10,8 +10,8 @@ use Rattle.redl_io.specs.Shelf.{Files}
 use Rattle.redl_join.specs.Verdicts.{greatest_seq}
 use Rattle.redl_journal.specs.declared.entry.Word.{Word}
 use Rattle.redl_lines.specs.Failures.{Failure, caused, no_sequence}
-use Rattle.redl_select.specs.Selections.{Selection}
-use Rattle.redl_select.specs.declared.lock.Lock.{Lock}
+use Rattle.redl_kinds.specs.Selections.{Selection}
+use Rattle.redl_kinds.specs.declared.lock.Lock.{Lock}
 
 -- the sequence number after this one; the greatest there is has none after it
 abbrev pub next_seq : List ℕ → ℕ → Result ℕ Failure

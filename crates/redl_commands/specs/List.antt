@@ -15,7 +15,7 @@ use Rattle.redl_listing.specs.Rows.{shown_rows, told_rows}
 use Rattle.redl_listing.specs.declared.row.Row.{Row}
 use Rattle.redl_opc.specs.Parts.{name_in}
 use Rattle.redl_opc.specs.Shape.{parts_of}
-use Rattle.redl_select.specs.declared.lock.Lock.{Lock}
+use Rattle.redl_kinds.specs.declared.lock.Lock.{Lock}
 use Rattle.redl_session.specs.Says.{verdicts_of}
 use Rattle.redl_session.specs.Sessions.{SessionState}
 use Rattle.redl_tree.specs.Model.Nodes.{Nodes}

@@ -8,7 +8,7 @@ use Rattle.redl_index.specs.declared.revision.Revision.{Revision}
 use Rattle.redl_io.specs.Shelf.{Files}
 use Rattle.redl_lines.specs.Failures.{Failure}
 use Rattle.redl_page.specs.Page.{Shown, Skin, page_text}
-use Rattle.redl_select.specs.declared.lock.Lock.{Lock}
+use Rattle.redl_kinds.specs.declared.lock.Lock.{Lock}
 use Rattle.redl_session.specs.Bars.{bar_of}
 use Rattle.redl_session.specs.Sessions.{SessionState}
 

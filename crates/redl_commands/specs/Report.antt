@@ -9,7 +9,7 @@ use Rattle.redl_io.specs.Shelf.{Files}
 use Rattle.redl_lines.specs.Failures.{Failure}
 use Rattle.redl_report.specs.Reports.{report_lines, report_lines_by_kind}
 use Rattle.redl_report.specs.declared.line.ReportLine.{ReportLine}
-use Rattle.redl_select.specs.declared.lock.Lock.{Lock}
+use Rattle.redl_kinds.specs.declared.lock.Lock.{Lock}
 use Rattle.redl_session.specs.Sessions.{SessionState}
 
 -- the lines of a session: of the reviewers of its book, and of the authors of its revisions, with their kinds or without

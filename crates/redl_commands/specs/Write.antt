@@ -6,7 +6,7 @@ use Rattle.redl_inputs.specs.Steps.{◌>>=◌}
 use Rattle.redl_commands.specs.Writing.{Writing}
 use Rattle.redl_io.specs.Shelf.{Files}
 use Rattle.redl_lines.specs.Failures.{Failure}
-use Rattle.redl_select.specs.declared.lock.Lock.{Lock}
+use Rattle.redl_kinds.specs.declared.lock.Lock.{Lock}
 use Rattle.redl_session.specs.Sessions.{SessionState, says}
 use Rattle.redl_tree.specs.Decisions.Packages.{pass_package}
 use Rattle.redl_tree.specs.Model.Text.{text}

@@ -5,8 +5,8 @@ use Rattle.redl_tree.specs.Model.Nodes.{Nodes, no_nodes, Empty, ◌⊕◌}
 use Rattle.redl_tree.specs.declared.kinds.Trace.TheVariants.{Ins, Del, From, To}
 use Rattle.redl_tree.specs.declared.kinds.Kind.TheVariants.{Mark, Row, Change}
 use Rattle.redl_tree.specs.declared.kinds.Prop.TheVariants as prop
-use Rattle.redl_index.specs.declared.revision.RevKind.{RevKind}
-use Rattle.redl_index.specs.declared.revision.RevKind.TheVariants as kind
+use Rattle.redl_kinds.specs.declared.rev_kind.RevKind.{RevKind}
+use Rattle.redl_kinds.specs.declared.rev_kind.RevKind.TheVariants as kind
 use Rattle.redl_tree.proofs.Model.Build.{opened, member, content, words, run, deleted_run}
 use Rattle.redl_excerpts.specs.declared.excerpt.Excerpt.{Excerpt}
 use Rattle.redl_excerpts.specs.Excerpts.{is_move, nothing_told, told_all}

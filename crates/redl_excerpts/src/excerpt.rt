@@ -7,8 +7,8 @@ ghost use Rattle.redl_excerpts.specs.Mentions.{id_of, paragraph_end_in, stretch_
 ghost use Rattle.redl_phrases.specs.Lines.{along, before};
 ghost use Rattle.redl_phrases.specs.Said.{said};
 
-use redl_index::RevKind;
 use redl_io::Text;
+use redl_kinds::RevKind;
 use redl_phrases::{Ear, Phrase, Place, before, behind, tell_nodes};
 use redl_stamp::attribute;
 use redl_tree::{Elem, Node};

@@ -12,7 +12,8 @@ ghost use Rattle.redl_excerpts.specs.Inside.Views.{where_of};
 
 use crate::excerpt::Excerpt;
 use crate::flat::{are_flat, count_telling};
-use redl_index::{RevKind, Revision};
+use redl_index::Revision;
+use redl_kinds::RevKind;
 use redl_phrases::{
     Line, Place, holds_text, is_paragraph, tell_bytes, tell_nodes, tell_plain, tell_start,
 };

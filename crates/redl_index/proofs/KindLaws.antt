@@ -14,7 +14,8 @@ use Rattle.redl_tree.specs.declared.around.Parent.TheVariants.{ParaProps, MarkPr
 use Rattle.redl_tree.specs.declared.kinds.Prop.TheVariants.{Run, Para, Sect, Table, Except, Row as RowProp, Cell as CellProp}
 use Rattle.std.specs.Option.{unwrap_or}
 use Rattle.redl_tree.specs.declared.kinds.Prop.{Prop}
-use Rattle.redl_index.specs.Kinds.{kind_of, is_named}
+use Rattle.redl_kinds.specs.Kinds.{is_named}
+use Rattle.redl_index.specs.Kinds.{kind_of}
 
 abbrev pub IsNamed : Kind → Type 0
 IsNamed kind = IfSome (kind_of kind) (λ kind. IsTrue (is_named kind))

@@ -17,6 +17,5 @@ pub mod ToLabelLaws
 pub mod RevisionLaws
 pub mod PartLaws
 pub mod AgainLaws
-pub mod KindNameLaws
 mod Rows
 mod RevisionRows

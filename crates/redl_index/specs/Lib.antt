@@ -1,6 +1,5 @@
 pub mod Numbers
 pub mod Kinds
-pub mod KindNames
 pub mod Mentions
 pub mod Revisions
 pub mod Markers

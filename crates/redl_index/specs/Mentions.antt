@@ -11,8 +11,8 @@ use Rattle.redl_moves.specs.Starts.{start_in}
 use Rattle.redl_moves.specs.declared.start.Start.{Start}
 use Rattle.redl_index.specs.Markers.Found.{markers_of, marker_tails}
 use Rattle.redl_index.specs.Kinds.{kind_of, is_marker_kind}
-use Rattle.redl_index.specs.declared.revision.RevKind.{RevKind}
-use Rattle.redl_index.specs.declared.revision.RevKind.TheVariants.{Move}
+use Rattle.redl_kinds.specs.declared.rev_kind.RevKind.{RevKind}
+use Rattle.redl_kinds.specs.declared.rev_kind.RevKind.TheVariants.{Move}
 
 -- a mention of a revision: what the revision is; of a move, where its source starts; whether the element is a member of it,
 -- and not a marker; and the attributes that say who made the revision and when

@@ -8,9 +8,9 @@ use Rattle.redl_opc.specs.Parts.{part_name, story}
 use Rattle.redl_opc.specs.Shape.{parts_of, story_of}
 use Rattle.redl_stamp.specs.Moment.{IsMoment}
 use Rattle.redl_stamp.specs.Stamp.{author_of, seconds_of}
-use Rattle.redl_index.specs.declared.revision.RevKind.{RevKind}
+use Rattle.redl_kinds.specs.declared.rev_kind.RevKind.{RevKind}
 use Rattle.redl_index.specs.declared.revision.Revision.{Revision}
-use Rattle.redl_index.specs.Kinds.{is_named}
+use Rattle.redl_kinds.specs.Kinds.{is_named}
 use Rattle.redl_index.specs.Mentions.{Mention, mentions}
 
 -- what is told of each revision: its kind has a name, its author is UTF-8, and its moment lies in the years 0000 to 9999

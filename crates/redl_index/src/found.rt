@@ -3,7 +3,8 @@
 ghost use Rattle.std.specs.Prelude.{◌≡◌, ◌+◌, ◌^◌, ◌<◌, ◌++◌, ◌∷◌, [], None, length, All, IfSome, IsTrue, OnOk};
 ghost use Rattle.std.specs.Str.{IsUtf8};
 ghost use Rattle.redl_tree.specs.Model.View.{tag_of};
-ghost use Rattle.redl_index.specs.Kinds.{kind_of, is_named};
+ghost use Rattle.redl_kinds.specs.Kinds.{is_named};
+ghost use Rattle.redl_index.specs.Kinds.{kind_of};
 ghost use Rattle.redl_index.specs.Mentions.{mention_as, move_mention};
 ghost use Rattle.redl_index.specs.Revisions.{revision_with};
 ghost use Rattle.redl_index.specs.Inside.Seeking.{added};
@@ -11,9 +12,10 @@ ghost use Rattle.redl_index.specs.Inside.Stories.{tails_in};
 ghost use Rattle.redl_index.specs.Inside.Tallies.{tally_of, move_number, mentioned, mentioned_by};
 
 use crate::index::Index;
-use crate::revision::{RevKind, Revision};
+use crate::revision::{Revision, kind_of};
 use crate::story::{Sight, Story};
 use indexmap::IndexMap;
+use redl_kinds::RevKind;
 use redl_moves::Start;
 use redl_tree::{Elem, Kind};
 use std::alloc::{AllocError, Global};
@@ -60,7 +62,7 @@ impl Found {
         requires named { IfSome (kind_of sight.kind) (λ named. IsTrue (is_named named)) }
         ensures { OnOk result (tally_of self.new ≡ added story.now.part (tails_in story.now) (tag_of elem.now).tail sight (tally_of self.old)) }
     {
-        match RevKind::of(sight.kind) {
+        match kind_of(sight.kind) {
             Some(named) => self.mention(story, elem, named, sight),
             None => Ok(()),
         }

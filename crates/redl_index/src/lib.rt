@@ -11,7 +11,6 @@
 mod find;
 mod found;
 mod index;
-mod kind_names;
 mod label;
 mod laws;
 mod markers;
@@ -23,9 +22,8 @@ mod survey;
 mod walk;
 
 pub use index::Index;
-pub use kind_names::{KINDS, kinds_are_listed_once, one_kind_for_a_name};
 pub use label::number;
 pub use laws::{each_revision_has_a_part, numbering_keeps_revisions, revisions_are_numbered};
 pub use markers::{StoryMarkers, find_markers};
-pub use revision::{RevKind, Revision};
+pub use revision::Revision;
 pub use survey::{Counted, Numbered, Surveyed};

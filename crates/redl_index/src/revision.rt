@@ -2,48 +2,16 @@
 
 ghost use Rattle.std.specs.Prelude.{◌≡◌, IfOk, IsTrue};
 ghost use Rattle.std.specs.Str.{IsUtf8};
-ghost use Rattle.redl_index.specs.Kinds.{kind_of, is_named};
+ghost use Rattle.redl_kinds.specs.Kinds.{is_named};
+ghost use Rattle.redl_index.specs.Kinds.{kind_of};
 ghost use Rattle.redl_index.specs.Revisions.{IsListable, revision_with};
 ghost use Rattle.redl_index.specs.Inside.Tallies.{with_one_more};
 
 use redl_io::Text;
+use redl_kinds::RevKind;
 use redl_stamp::read_stamp;
-use redl_tree::{Kind, Prop, Trace};
+use redl_tree::Kind;
 use std::alloc::{AllocError, Global};
-
-/// What a revision is, and whether that is inserted, deleted or moved.
-#[derive(Clone, Copy, Debug, PartialEq, Eq)]
-pub enum RevKind {
-    /// Run content.
-    Content(Trace),
-    /// A move with its ranges.
-    Move,
-    /// The mark of a paragraph.
-    Mark(Trace),
-    /// A row.
-    Row(Trace),
-    /// A cell.
-    Cell(Trace),
-    /// A change of properties.
-    Change(Prop),
-}
-
-impl RevKind {
-    /// What the revision is that an element of this kind is a member of. `None` where it is a member of none.
-    pub(crate) fn of(kind: Kind) -> Option<RevKind>
-        ensures { result ≡ kind_of kind }
-    {
-        match kind {
-            Kind::Plain => None,
-            Kind::Content(trace) => Some(RevKind::Content(trace)),
-            Kind::Mark(trace) => Some(RevKind::Mark(trace)),
-            Kind::Row(trace) => Some(RevKind::Row(trace)),
-            Kind::Cell(trace) => Some(RevKind::Cell(trace)),
-            Kind::Change(prop) => Some(RevKind::Change(prop)),
-            Kind::Marker => Some(RevKind::Move),
-        }
-    }
-}
 
 /// A revision.
 #[derive(Drop)]
@@ -95,5 +63,20 @@ impl Revision {
         if self.members < u32::MAX {
             self.members += 1;
         }
+    }
+}
+
+/// What the revision is that an element of this kind is a member of. `None` where it is a member of none.
+pub(crate) fn kind_of(kind: Kind) -> Option<RevKind>
+    ensures { result ≡ kind_of kind }
+{
+    match kind {
+        Kind::Plain => None,
+        Kind::Content(trace) => Some(RevKind::Content(trace)),
+        Kind::Mark(trace) => Some(RevKind::Mark(trace)),
+        Kind::Row(trace) => Some(RevKind::Row(trace)),
+        Kind::Cell(trace) => Some(RevKind::Cell(trace)),
+        Kind::Change(prop) => Some(RevKind::Change(prop)),
+        Kind::Marker => Some(RevKind::Move),
     }
 }

@@ -7,7 +7,8 @@ ghost use Rattle.redl_tree.specs.Model.View.{tag_of};
 ghost use Rattle.redl_tree.specs.Roles.Arounds.{role_in};
 ghost use Rattle.redl_moves.specs.Standing.{IsApart};
 ghost use Rattle.redl_moves.specs.Starts.{start_in};
-ghost use Rattle.redl_index.specs.Kinds.{kind_of, is_named};
+ghost use Rattle.redl_kinds.specs.Kinds.{is_named};
+ghost use Rattle.redl_index.specs.Kinds.{kind_of};
 ghost use Rattle.redl_index.specs.Inside.Stories.{tails_in};
 ghost use Rattle.redl_index.specs.Inside.Sights.{IsApartAs, is_marker_by, marker_start, member_start, sight_at};
 

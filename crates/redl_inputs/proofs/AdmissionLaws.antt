@@ -13,7 +13,7 @@ use Rattle.redl_join.specs.Books.{union}
 use Rattle.redl_journal.specs.declared.entry.Entry.{Entry}
 use Rattle.redl_lines.proofs.RefusedLaws.{with_refusals-append}
 use Rattle.redl_lines.specs.Refused.{RefusedEntries, with_refusals}
-use Rattle.redl_select.specs.declared.lock.Lock.{Lock}
+use Rattle.redl_kinds.specs.declared.lock.Lock.{Lock}
 use Rattle.redl_session.specs.Refusals.{admitted, cause_of, refusal_of, refusals}
 use Rattle.redl_session.specs.Sessions.{SessionState}
 use Rattle.redl_session.specs.declared.refusal.Refusal.{Refusal}

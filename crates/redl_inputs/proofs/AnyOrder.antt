@@ -22,7 +22,7 @@ use Rattle.redl_lines.specs.Failures.{Failure, caused, over}
 use Rattle.redl_lines.specs.Refused.{with_refusals}
 use Rattle.redl_lines.specs.declared.failure.Limit.{Limit}
 use Rattle.redl_lines.specs.declared.failure.Limit.TheVariants.{JournalBytes}
-use Rattle.redl_select.specs.declared.lock.Lock.{Lock}
+use Rattle.redl_kinds.specs.declared.lock.Lock.{Lock}
 use Rattle.redl_session.specs.Refusals.{admitted, cause_of, refused, refusals}
 use Rattle.redl_session.specs.declared.refusal.AdmitError.{AdmitError}
 use Rattle.redl_session.specs.declared.refusal.AdmitError.TheVariants.{Unknown}

@@ -14,7 +14,7 @@ use Rattle.redl_journal.specs.declared.entry.Entry.{Entry}
 use Rattle.redl_lines.specs.Refused.{with_refusals}
 use Rattle.redl_lines.specs.Remarks.{Remarks}
 use Rattle.redl_lines.specs.Failures.{Failure}
-use Rattle.redl_select.specs.declared.lock.Lock.{Lock}
+use Rattle.redl_kinds.specs.declared.lock.Lock.{Lock}
 use Rattle.redl_session.specs.Refusals.{admitted, refusals}
 use Rattle.redl_session.specs.Sessions.{SessionState}
 use Rattle.redl_tree.specs.Model.Nodes.{Nodes}

@@ -3,7 +3,7 @@ use Rattle.std.specs.Prelude.{Bool, not, List, filter}
 use Rattle.std.specs.List.{list_any}
 use Rattle.redl_index.specs.declared.revision.Revision.{Revision}
 use Rattle.redl_select.specs.Locks.{holds}
-use Rattle.redl_select.specs.declared.lock.Lock.{Lock}
+use Rattle.redl_kinds.specs.declared.lock.Lock.{Lock}
 
 -- the lock holds some revision
 abbrev pub holds_some : List Revision → Lock → Bool

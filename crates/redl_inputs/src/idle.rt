@@ -4,7 +4,8 @@ ghost use Rattle.std.specs.Prelude.{◌≡◌, IfOk};
 ghost use Rattle.redl_inputs.specs.Idle.{idle_locks as idle_locks_of, holds_some as holds_some_of};
 
 use redl_index::{Index, Revision};
-use redl_select::Lock;
+use redl_kinds::Lock;
+use redl_select::holds;
 use std::alloc::{AllocError, Global};
 
 /// Copies of the locks that hold no revision, in their order.
@@ -28,5 +29,5 @@ pub(crate) fn idle_locks(
 fn holds_some(revisions: &[Revision], lock: &Lock) -> bool
     ensures { result ≡ holds_some_of revisions.now lock.now }
 {
-    revisions.iter().any(|revision| lock.holds(revision))
+    revisions.iter().any(|revision| holds(lock, revision))
 }

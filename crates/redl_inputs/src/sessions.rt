@@ -15,8 +15,8 @@ use crate::journals::{JOURNALS_LIMIT, admit_journals, admit_within};
 use crate::package::read_package;
 use redl_index::Surveyed;
 use redl_io::{Shelf, Text};
+use redl_kinds::Lock;
 use redl_lines::{Failure, RefusedEntries, Remarks};
-use redl_select::Lock;
 use redl_session::{Locks, Session};
 use std::alloc::{AllocError, Global};
 

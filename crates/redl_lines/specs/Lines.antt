@@ -9,8 +9,8 @@ use Rattle.redl_lines.specs.declared.failure.Limit.{Limit}
 use Rattle.redl_lines.specs.declared.failure.Limit.TheVariants.{PackageBytes, JournalBytes, Depth, Nodes, Sample}
 use Rattle.redl_lines.specs.declared.failure.PackageFault.{PackageFault}
 use Rattle.redl_lines.specs.declared.failure.PackageFault.TheVariants.{NotReadable, NotPackage, PartShape, NoDocument, Rule}
-use Rattle.redl_select.specs.declared.lock.Lock.{Lock}
-use Rattle.redl_select.specs.declared.lock.Lock.TheVariants as lock
+use Rattle.redl_kinds.specs.declared.lock.Lock.{Lock}
+use Rattle.redl_kinds.specs.declared.lock.Lock.TheVariants as lock
 use Rattle.redl_session.specs.declared.refusal.AdmitError.{AdmitError}
 use Rattle.redl_session.specs.declared.refusal.AdmitError.TheVariants.{Unknown, Locked, NoMemory}
 use Rattle.redl_session.specs.declared.refusal.Bar.{Bar}

@@ -2,7 +2,7 @@
 use Rattle.std.specs.Prelude.{List, [], ◌++◌}
 use Rattle.redl_lines.specs.Refused.{RefusedEntries}
 use Rattle.redl_lines.specs.declared.remarks.Remarks.{Remarks as Declared}
-use Rattle.redl_select.specs.declared.lock.Lock.{Lock}
+use Rattle.redl_kinds.specs.declared.lock.Lock.{Lock}
 
 -- the refused entries with their causes, those of a second package, and the locks that hold nothing
 pub record Remarks : Type 0 where

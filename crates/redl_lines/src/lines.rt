@@ -16,7 +16,7 @@ use crate::remarks::Remarks;
 use itoa::Buffer;
 use redl_io::{Failed, Sink, Staged, put_piece, put_pieces};
 use redl_journal::{Entry, Word};
-use redl_select::Lock;
+use redl_kinds::Lock;
 use redl_session::{AdmitError, Bar};
 
 /// Writes the lines of a call that ends so. A fault of `err` only shortens them.

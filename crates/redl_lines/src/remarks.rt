@@ -5,7 +5,7 @@ ghost use Rattle.redl_lines.specs.Refused.{is_empty as has_none};
 ghost use Rattle.redl_lines.specs.Remarks.{all_refused, no_remarks, remarks_view};
 
 use crate::refused::RefusedEntries;
-use redl_select::Lock;
+use redl_kinds::Lock;
 use std::alloc::Global;
 
 /// What a call says beside its output.

@@ -6,7 +6,7 @@ use Rattle.serde_json.proofs.Texts.{print-outline}
 use Rattle.serde_json.specs.Data.{Data, unsigned, object, member, no_members}
 use Rattle.serde_json.specs.Data as value
 use Rattle.serde_json.specs.Written.{compact_text}
-use Rattle.redl_index.specs.KindNames.{kind_name}
+use Rattle.redl_kinds.specs.KindNames.{kind_name}
 use Rattle.redl_listing.specs.declared.row.Row.{Row}
 use Rattle.redl_formats.specs.Fields.{date_token, json_date, verdict_name}
 use Rattle.redl_listing.specs.Texts.{json_row}

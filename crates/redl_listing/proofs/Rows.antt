@@ -2,7 +2,7 @@
 use Rattle.std.proofs.Common.{◌≡◌, true, false, [], ◌∷◌, ◌++◌, Some, None, pos, codes, refl}
 use Rattle.std.specs.Fmt.{digits}
 use Rattle.redl_tree.specs.declared.kinds.Trace.TheVariants.{Ins}
-use Rattle.redl_index.specs.declared.revision.RevKind.TheVariants.{Content, Move}
+use Rattle.redl_kinds.specs.declared.rev_kind.RevKind.TheVariants.{Content, Move}
 use Rattle.redl_join.specs.declared.verdict.Verdict.TheVariants.{Undecided, Disputed}
 use Rattle.redl_details.specs.Details.{no_detail}
 use Rattle.redl_listing.specs.declared.row.Row.{Row}

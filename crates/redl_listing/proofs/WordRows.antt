@@ -3,7 +3,7 @@ use Rattle.std.proofs.Common.{◌≡◌, [], ◌∷◌, ◌++◌, None, codes, r
 use Rattle.std.specs.Fmt.{digits}
 use Rattle.redl_tree.specs.declared.kinds.Trace.TheVariants.{Del}
 use Rattle.redl_tree.specs.declared.kinds.Prop.TheVariants as prop
-use Rattle.redl_index.specs.declared.revision.RevKind.TheVariants.{Content, Change}
+use Rattle.redl_kinds.specs.declared.rev_kind.RevKind.TheVariants.{Content, Change}
 use Rattle.redl_join.specs.declared.verdict.Verdict.TheVariants.{Accept, Disputed}
 use Rattle.redl_journal.specs.declared.entry.Word.TheVariants as word
 use Rattle.redl_phrases.specs.Phrases.{begun, heard_byte, paused}

@@ -5,7 +5,7 @@ use Rattle.json.specs.Token.{Token, begin_object, end_object, key, null as null_
 use Rattle.serde_json.specs.Data.{Data, Items, null, string, number, unsigned, array, object, member, no_members, item, no_items}
 use Rattle.serde_json.specs.Written.{compact_text}
 use Rattle.redl_details.specs.declared.last_word.LastWord.{LastWord}
-use Rattle.redl_index.specs.KindNames.{kind_name}
+use Rattle.redl_kinds.specs.KindNames.{kind_name}
 use Rattle.redl_journal.specs.Journals.{word_text}
 use Rattle.redl_listing.specs.declared.row.Row.{Row}
 use Rattle.redl_formats.specs.Formats.{array_of}

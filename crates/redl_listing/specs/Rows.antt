@@ -4,7 +4,7 @@ use Rattle.std.specs.Str.{IsUtf8}
 use Rattle.redl_details.specs.declared.detail.Detail.{Detail}
 use Rattle.redl_details.specs.Details.{IsDetail, no_detail}
 use Rattle.redl_stamp.specs.Moment.{IsMoment}
-use Rattle.redl_index.specs.Kinds.{is_named}
+use Rattle.redl_kinds.specs.Kinds.{is_named}
 use Rattle.redl_index.specs.declared.revision.Revision.{Revision}
 use Rattle.redl_join.specs.declared.verdict.Verdict.{Verdict}
 use Rattle.redl_listing.specs.declared.row.Row.{Row}

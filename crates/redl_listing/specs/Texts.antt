@@ -6,7 +6,7 @@ use Rattle.serde_json.specs.Written.{compact_text}
 use Rattle.redl_formats.specs.Dates.{date_text}
 use Rattle.redl_formats.specs.Fields.{escape, json_date, left_in, newline, right_in, shown, space, tab, verdict_name}
 use Rattle.redl_formats.specs.Formats.{array_of, lines_of}
-use Rattle.redl_index.specs.KindNames.{kind_name}
+use Rattle.redl_kinds.specs.KindNames.{kind_name}
 use Rattle.redl_listing.specs.declared.row.Row.{Row}
 
 -- ---- columns

@@ -6,9 +6,9 @@ use Rattle.std.specs.List.{flat_map}
 use Rattle.redl_phrases.specs.Lines.{characters_in, without_characters}
 use Rattle.redl_phrases.specs.Phrases.{heard, kept_text, nothing_heard}
 use Rattle.redl_details.specs.declared.last_word.LastWord.{LastWord}
-use Rattle.redl_index.specs.KindNames.{kind_name}
-use Rattle.redl_index.specs.declared.revision.RevKind.{RevKind}
-use Rattle.redl_index.specs.declared.revision.RevKind.TheVariants.{Content, Move, Mark, Row as RowKind, Cell, Change}
+use Rattle.redl_kinds.specs.KindNames.{kind_name}
+use Rattle.redl_kinds.specs.declared.rev_kind.RevKind.{RevKind}
+use Rattle.redl_kinds.specs.declared.rev_kind.RevKind.TheVariants.{Content, Move, Mark, Row as RowKind, Cell, Change}
 use Rattle.redl_join.specs.declared.verdict.Verdict.{Verdict}
 use Rattle.redl_join.specs.declared.verdict.Verdict.TheVariants.{Undecided, Accept, Reject, Disputed}
 use Rattle.redl_journal.specs.Journals.{word_text}

@@ -8,9 +8,10 @@ ghost use Rattle.redl_details.specs.Details.{IsDetail};
 
 use redl_details::Detail;
 use redl_formats::Item;
-use redl_index::{RevKind, Revision};
+use redl_index::Revision;
 use redl_io::Text;
 use redl_join::Verdict;
+use redl_kinds::RevKind;
 use std::alloc::{AllocError, Global};
 
 /// What a listing says of a revision.

@@ -11,8 +11,8 @@ use redl_details::{LastWord, Says};
 use redl_formats::{
     Piece, push_left, push_number, push_shown, push_spaces, verdict_name, word_name,
 };
-use redl_index::RevKind;
 use redl_join::Verdict;
+use redl_kinds::RevKind;
 use redl_phrases::{characters_in, shortened, without_characters};
 use redl_tree::Trace;
 use std::alloc::{AllocError, Global};

@@ -10,7 +10,7 @@ use Rattle.redl_join.specs.Books.{has_entry, union, with_entry, without_entry}
 use Rattle.redl_join.specs.Verdicts.{verdict_at}
 use Rattle.redl_journal.specs.declared.entry.Entry.{Entry}
 use Rattle.redl_rules.specs.Attributes.{broken_rule}
-use Rattle.redl_select.specs.declared.lock.Lock.{Lock}
+use Rattle.redl_kinds.specs.declared.lock.Lock.{Lock}
 use Rattle.redl_session.proofs.Consistency.{consistent-with}
 use Rattle.redl_session.proofs.SaysLaws.{says_of-none}
 use Rattle.redl_session.specs.Refusals.{admitted}

@@ -10,8 +10,9 @@ use Rattle.redl_join.specs.Verdicts.{counts, speaks, decides, is_accept, is_reje
 use Rattle.redl_join.specs.declared.verdict.Verdict.TheVariants.{Undecided}
 use Rattle.redl_journal.specs.Order.{entry_order}
 use Rattle.redl_journal.specs.declared.entry.Entry.{Entry}
-use Rattle.redl_select.specs.Locks.{holds, is_author, is_kind}
-use Rattle.redl_select.specs.declared.lock.Lock.{Lock}
+use Rattle.redl_kinds.specs.Locks.{is_author, is_kind}
+use Rattle.redl_select.specs.Locks.{holds}
+use Rattle.redl_kinds.specs.declared.lock.Lock.{Lock}
 use Rattle.redl_session.specs.Bars.{bar_of}
 use Rattle.redl_session.specs.Refusals.{revision_at, cause_on, cause_of}
 use Rattle.redl_session.specs.Says.{say_of_verdict, says_of}

@@ -14,8 +14,8 @@ use Rattle.redl_numbers_sound.proofs.Labelled.{Rise, seen-rise}
 use Rattle.redl_numbers_sound.proofs.Lists.{placed}
 use Rattle.redl_numbers_sound.proofs.Package.{numbers-name}
 use Rattle.redl_select.specs.Locks.{holds}
-use Rattle.redl_select.specs.declared.lock.Lock.{Lock}
-use Rattle.redl_select.specs.declared.lock.Lock.TheVariants.{Author}
+use Rattle.redl_kinds.specs.declared.lock.Lock.{Lock}
+use Rattle.redl_kinds.specs.declared.lock.Lock.TheVariants.{Author}
 use Rattle.redl_session.specs.Sessions.{SessionState, after, says}
 use Rattle.redl_stamp.specs.Stamp.{author_of}
 use Rattle.redl_tree.specs.Decisions.Fates.{fate, fate_of, say_of}

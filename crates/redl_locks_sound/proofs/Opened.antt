@@ -16,7 +16,7 @@ use Rattle.redl_numbers_sound.proofs.Package.{shape-numbered}
 use Rattle.redl_opc.specs.Shape.{refusal}
 use Rattle.redl_opc.specs.declared.error.OpcError.{OpcError}
 use Rattle.redl_rules.specs.Attributes.{broken_rule}
-use Rattle.redl_select.specs.declared.lock.Lock.{Lock}
+use Rattle.redl_kinds.specs.declared.lock.Lock.{Lock}
 use Rattle.redl_session.specs.Sessions.{SessionState, after, says}
 use Rattle.redl_session.proofs.Admissions.{after-union}
 use Rattle.redl_stamp.specs.Attribute.{attribute_value}

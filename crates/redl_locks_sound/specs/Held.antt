@@ -9,7 +9,7 @@ use Rattle.redl_opc.specs.Elements.{Element}
 use Rattle.redl_opc.specs.Parts.{story}
 use Rattle.redl_opc.specs.Shape.{refusal}
 use Rattle.redl_select.specs.Locks.{holds}
-use Rattle.redl_select.specs.declared.lock.Lock.TheVariants.{Author}
+use Rattle.redl_kinds.specs.declared.lock.Lock.TheVariants.{Author}
 use Rattle.redl_session.specs.Sessions.{SessionState}
 use Rattle.redl_stamp.specs.Attribute.{attribute_value}
 use Rattle.redl_stamp.specs.Stamp.{author_of}

@@ -6,7 +6,7 @@ ghost use Rattle.redl_inputs.specs.Readers.{Reader};
 ghost use Rattle.redl_io.specs.Shelf.{Files};
 ghost use Rattle.redl_journal.specs.declared.entry.Entry.{Entry};
 ghost use Rattle.redl_locks_sound.specs.Held.{IsBegun, IsHeld, IsLocked};
-ghost use Rattle.redl_select.specs.declared.lock.Lock.{Lock};
+ghost use Rattle.redl_kinds.specs.declared.lock.Lock.{Lock};
 ghost use Rattle.redl_session.specs.Sessions.{SessionState, after, says};
 ghost use Rattle.redl_tree.specs.Decisions.Fates.{fate_of, say_of};
 ghost use Rattle.redl_tree.specs.Model.Seen.{Seen};

@@ -8,8 +8,8 @@ use Rattle.redl_tree.specs.Roles.Names.{is}
 use Rattle.redl_tree.specs.declared.kinds.Trace.{Trace}
 use Rattle.redl_tree.specs.declared.kinds.Trace.TheVariants.{Ins, Del, From, To}
 use Rattle.redl_tree.specs.declared.kinds.Prop.{Prop}
-use Rattle.redl_index.specs.KindNames.{kind_name}
-use Rattle.redl_index.specs.declared.revision.RevKind.TheVariants.{Change as RevChange}
+use Rattle.redl_kinds.specs.KindNames.{kind_name}
+use Rattle.redl_kinds.specs.declared.rev_kind.RevKind.TheVariants.{Change as RevChange}
 use Rattle.redl_tree.specs.Model.View.{nodes_of, item_of}
 use Rattle.redl_tree.specs.declared.node.Node.{Node}
 use Rattle.redl_tree.proofs.Model.Laws.{nodes_of-append}

@@ -8,8 +8,8 @@ use Rattle.redl_tree.specs.declared.kinds.Trace.TheVariants.{Ins, Del, From, To}
 use Rattle.redl_tree.specs.declared.kinds.Prop.{Prop}
 use Rattle.redl_tree.specs.declared.kinds.Kind.{Kind}
 use Rattle.redl_tree.specs.declared.kinds.Kind.TheVariants.{Content, Mark, Row, Cell, Change}
-use Rattle.redl_index.specs.KindNames.{kind_name}
-use Rattle.redl_index.specs.declared.revision.RevKind.TheVariants.{Change as RevChange}
+use Rattle.redl_kinds.specs.KindNames.{kind_name}
+use Rattle.redl_kinds.specs.declared.rev_kind.RevKind.TheVariants.{Change as RevChange}
 
 -- how a sign begins and ends: curly where something came, square where something went, and a tilde where it was moved
 abbrev pub sign_begin : Trace → List ℕ

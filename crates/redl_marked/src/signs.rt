@@ -7,8 +7,8 @@ ghost use Rattle.redl_marked.specs.Signs.{sign_begin as sign_begin_of, sign_end 
 ghost use Rattle.redl_marked.specs.Inside.Walks.{item_mark, item_run, item_para};
 
 use itoa::Buffer;
-use redl_index::RevKind;
 use redl_io::{Failed, Sink, put_piece, put_pieces};
+use redl_kinds::RevKind;
 use redl_tree::{Elem, Kind, Node, Prop, Trace, Word, is_word};
 
 /// Puts the sign at the start tag of an element: before content, or the whole sign of a row, a cell or a change.

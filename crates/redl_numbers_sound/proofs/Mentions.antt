@@ -14,7 +14,7 @@ use Rattle.redl_index.specs.Markers.Found.{marker_tail}
 use Rattle.redl_index.proofs.MarkerLaws.Rising.{marker-at}
 use Rattle.redl_index.specs.Kinds.{kind_of}
 use Rattle.redl_index.specs.Mentions.{Mention, mention_by}
-use Rattle.redl_index.specs.declared.revision.RevKind.TheVariants.{Move}
+use Rattle.redl_kinds.specs.declared.rev_kind.RevKind.TheVariants.{Move}
 use Rattle.redl_numbers_sound.proofs.Lists.{IsPlaced}
 
 -- the revision that a mention is of

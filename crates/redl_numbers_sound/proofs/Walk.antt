@@ -12,7 +12,7 @@ use Rattle.redl_tree.specs.Revisions.Numbers.{Membership, in_own, Numbering, num
 use Rattle.redl_stamp.specs.Attribute.{attribute_value}
 use Rattle.redl_index.specs.Mentions.{Mention, sight_in}
 use Rattle.redl_index.specs.Revisions.{starts_at, is_of, is_new, firsts}
-use Rattle.redl_index.specs.declared.revision.RevKind.TheVariants.{Move}
+use Rattle.redl_kinds.specs.declared.rev_kind.RevKind.TheVariants.{Move}
 use Rattle.redl_numbers_sound.proofs.Lists.{IsPlaced, at-end, at-left}
 use Rattle.redl_numbers_sound.proofs.Labelled.{HaveLabels, Rise}
 use Rattle.redl_numbers_sound.proofs.Mentions.{in_its, in_mention, Mentions, IsMentioned, mention-in, mention-is}

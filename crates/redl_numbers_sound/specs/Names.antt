@@ -2,8 +2,8 @@
 -- (ECMA-376 Part 1, 17.13.5; the numbers are our own rule).
 use Rattle.std.specs.Prelude.{◌≡◌, ◌<◌, ◌≤◌, ◌↔◌, ℕ, suc, List, Option, Some, None, Contains, slice_get}
 use Rattle.redl_index.specs.Kinds.{kind_of}
-use Rattle.redl_index.specs.declared.revision.RevKind.{RevKind}
-use Rattle.redl_index.specs.declared.revision.RevKind.TheVariants.{Move}
+use Rattle.redl_kinds.specs.declared.rev_kind.RevKind.{RevKind}
+use Rattle.redl_kinds.specs.declared.rev_kind.RevKind.TheVariants.{Move}
 use Rattle.redl_index.specs.declared.revision.Revision.{Revision}
 use Rattle.redl_opc.specs.Elements.{Element}
 use Rattle.redl_opc.specs.Parts.{story}

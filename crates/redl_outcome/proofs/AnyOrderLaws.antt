@@ -32,7 +32,7 @@ use Rattle.redl_journal.specs.Journals.{Journal}
 use Rattle.redl_journal.specs.declared.entry.Entry.{Entry}
 use Rattle.redl_lines.specs.Failures.{Failure}
 use Rattle.redl_lines.specs.declared.failure.Limit.TheVariants.{JournalBytes}
-use Rattle.redl_select.specs.declared.lock.Lock.{Lock}
+use Rattle.redl_kinds.specs.declared.lock.Lock.{Lock}
 use Rattle.redl_words.specs.Commands.{Command, settle, view_text, list, report, page, write, decide, resume, join, check, sample}
 
 -- what a command makes of the session over its package, and of the journals

@@ -28,7 +28,7 @@ use Rattle.redl_lines.specs.Failures.{Failure, caused, unread, no_memory, failur
 use Rattle.redl_lines.specs.declared.status.Status.{Status}
 use Rattle.redl_lines.specs.declared.status.Status.TheVariants as status
 use Rattle.redl_rules.specs.Attributes.{has_id, declares, rules, broken_rule}
-use Rattle.redl_select.specs.declared.lock.Lock.{Lock}
+use Rattle.redl_kinds.specs.declared.lock.Lock.{Lock}
 use Rattle.redl_session.specs.Sessions.{says}
 use Rattle.redl_stamp.specs.Attribute.{attribute_value}
 use Rattle.redl_laws.proofs.Survival.Indexed.{survival-package}

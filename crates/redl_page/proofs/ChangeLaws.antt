@@ -4,7 +4,7 @@ use Rattle.std.specs.Prelude.{decimal}
 use Rattle.std.specs.List.{flat_map, AllByRecursion}
 use Rattle.std.proofs.lemmas.List.{drop_more, drop_all}
 use Rattle.std.proofs.lemmas.Bool.{or_left, and_from}
-use Rattle.redl_index.specs.KindNames.{kind_name}
+use Rattle.redl_kinds.specs.KindNames.{kind_name}
 use Rattle.redl_index.specs.declared.revision.Revision.{Revision}
 use Rattle.redl_journal.specs.declared.entry.Entry.{Entry}
 use Rattle.redl_join.specs.LastWords.{last_words}

@@ -4,7 +4,7 @@ use Prim.Native.String.{String}
 use Rattle.std.specs.Prelude.{ℕ, List, [], ◌∷◌, ◌++◌, Bool, true, false, Option, Some, None, codes, if◌then◌else◌}
 use Rattle.std.specs.List.{flat_map}
 use Rattle.std.specs.Str.{bytes_eq}
-use Rattle.redl_index.specs.KindNames.{kind_name}
+use Rattle.redl_kinds.specs.KindNames.{kind_name}
 use Rattle.redl_index.specs.declared.revision.Revision.{Revision}
 use Rattle.redl_journal.specs.declared.entry.Entry.{Entry}
 use Rattle.redl_journal.specs.declared.entry.Word.{Word}

@@ -4,7 +4,7 @@ ghost use Rattle.std.specs.Prelude.{◌≡◌, ◌++◌, ℕ, All, IfSome, codes
 ghost use Rattle.std.specs.List.{flat_map};
 ghost use Rattle.std.specs.Map.Iter.{deref};
 ghost use Rattle.redl_io.specs.Sink.{Puts};
-ghost use Rattle.redl_index.specs.KindNames.{kind_name};
+ghost use Rattle.redl_kinds.specs.KindNames.{kind_name};
 ghost use Rattle.redl_index.specs.Revisions.{IsListable};
 ghost use Rattle.redl_join.specs.LastWords.{last_words, words_on};
 ghost use Rattle.redl_formats.specs.Dates.{date_text, moment_text};

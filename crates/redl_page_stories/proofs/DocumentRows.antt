@@ -6,7 +6,7 @@ use Rattle.redl_tree.specs.declared.kinds.Trace.TheVariants.{Ins, Del, From}
 use Rattle.redl_tree.specs.declared.kinds.Prop.TheVariants as props
 use Rattle.redl_tree.specs.declared.kinds.Kind.TheVariants.{Mark, Row, Cell, Change, Marker}
 use Rattle.redl_tree.proofs.Model.Build.{opened, opened_with, closed, member, content, words, run, deleted_run}
-use Rattle.redl_index.specs.declared.revision.RevKind.TheVariants as revisions
+use Rattle.redl_kinds.specs.declared.rev_kind.RevKind.TheVariants as revisions
 use Rattle.redl_index.specs.declared.revision.Revision.{Revision}
 use Rattle.redl_markup.specs.Attributes.{attributes_of}
 use Rattle.redl_grammar.specs.Characters.{is_name_start, is_name_character, is_space}

@@ -1,9 +1,9 @@
 -- The revisions of one kind.
 use Rattle.std.proofs.Common.{◌≡◌, ◌∙◌, ◌≤◌, ℕ, Bool, true, false, cond, List, [], ◌∷◌, ◌++◌, length, ap, arith}
 use Rattle.std.proofs.lemmas.List.Elements.{filter-append}
-use Rattle.redl_index.specs.declared.revision.RevKind.{RevKind}
+use Rattle.redl_kinds.specs.declared.rev_kind.RevKind.{RevKind}
 use Rattle.redl_index.specs.declared.revision.Revision.{Revision}
-use Rattle.redl_index.specs.Kinds.{is_same_kind}
+use Rattle.redl_kinds.specs.Kinds.{is_same_kind}
 use Rattle.redl_report.specs.Reports.{of_kind}
 
 abbrev is_of : RevKind → Revision → Bool

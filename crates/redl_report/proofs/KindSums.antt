@@ -11,12 +11,12 @@ use Rattle.std.proofs.lemmas.List.{append-nil}
 use Rattle.std.proofs.lemmas.List.Concat.{flat_map-cons}
 use Rattle.std.proofs.lemmas.List.Elements.{All-append, All-filter, All-from_recursion, All-same, All-weaker, filter-append, recursion_from_All}
 use Rattle.std.proofs.lemmas.Map.Text.{is_eq-slice_cmp}
-use Rattle.redl_index.specs.Kinds.{is_named, is_same_kind}
+use Rattle.redl_kinds.specs.Kinds.{is_named, is_same_kind}
 use Rattle.redl_index.specs.Revisions.{IsListable}
-use Rattle.redl_index.specs.declared.kind_names.TheConstants.{KINDS}
-use Rattle.redl_index.specs.declared.revision.RevKind.{RevKind}
+use Rattle.redl_kinds.specs.declared.kind_names.TheConstants.{KINDS}
+use Rattle.redl_kinds.specs.declared.rev_kind.RevKind.{RevKind}
 use Rattle.redl_index.specs.declared.revision.Revision.{Revision}
-use Rattle.redl_index.proofs.KindNameLaws.{listed_once}
+use Rattle.redl_kinds.proofs.KindNameLaws.{listed_once}
 use Rattle.redl_join.proofs.NumbersOf.{bytes_same}
 use Rattle.redl_join.specs.Verdicts.{verdict_at}
 use Rattle.redl_join.specs.declared.verdict.Verdict.{Verdict}

@@ -12,9 +12,9 @@ use Rattle.redl_index.specs.Revisions.{IsListable}
 use Rattle.redl_journal.specs.declared.entry.Entry.{Entry}
 use Rattle.redl_journal.specs.Journals.{IsAllowed}
 use Rattle.redl_report.specs.declared.line.ReportLine.{ReportLine}
-use Rattle.redl_index.specs.Kinds.{is_named}
-use Rattle.redl_index.specs.declared.revision.RevKind.{RevKind}
-use Rattle.redl_index.specs.declared.kind_names.TheConstants.{KINDS}
+use Rattle.redl_kinds.specs.Kinds.{is_named}
+use Rattle.redl_kinds.specs.declared.rev_kind.RevKind.{RevKind}
+use Rattle.redl_kinds.specs.declared.kind_names.TheConstants.{KINDS}
 use Rattle.redl_report.specs.Counts.{IsLine, counts_any}
 use Rattle.redl_report.specs.Groups.{Group, group_of, grouped, names_in_order}
 use Rattle.redl_report.specs.Reports.{author_line, author_lines, author_of, kind_line, kind_lines, report_lines, report_lines_by_kind, reviewer_line, reviewer_of}

@@ -4,7 +4,7 @@ use Rattle.std.proofs.Common.{◌≡◌, ℕ, List, [], ◌∷◌, true, None, r
 use Rattle.std.specs.Prelude.{codes}
 use Rattle.std.specs.Fmt.{digits}
 use Rattle.redl_index.specs.declared.revision.Revision.{Revision}
-use Rattle.redl_index.specs.declared.revision.RevKind.TheVariants.{Content}
+use Rattle.redl_kinds.specs.declared.rev_kind.RevKind.TheVariants.{Content}
 use Rattle.redl_tree.specs.declared.kinds.Trace.TheVariants.{Ins}
 use Rattle.redl_journal.specs.declared.entry.Entry.{Entry}
 use Rattle.redl_journal.specs.declared.entry.Word.{Word}

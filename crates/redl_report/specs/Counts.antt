@@ -3,7 +3,7 @@ use Rattle.std.specs.Prelude.{◌+◌, ◌||◌, ℕ, nat_le, Bool, IsTrue}
 use Rattle.std.specs.Str.{IsUtf8}
 use Rattle.redl_join.specs.declared.verdict.Verdict.{Verdict}
 use Rattle.redl_join.specs.declared.verdict.Verdict.TheVariants.{Undecided, Accept, Reject, Disputed}
-use Rattle.redl_index.specs.Kinds.{is_named}
+use Rattle.redl_kinds.specs.Kinds.{is_named}
 use Rattle.redl_report.specs.declared.line.ReportLine.{ReportLine}
 use Rattle.redl_report.specs.declared.line.Role.{Role}
 use Rattle.redl_report.specs.declared.line.Role.TheVariants.{Kind}

@@ -4,10 +4,10 @@ use Rattle.std.specs.Prelude.{◌&&◌, ℕ, nat_le, Bool, true, false, List, []
 use Rattle.std.specs.BTreeSet.{insert_key}
 use Rattle.std.specs.List.{flat_map, fold}
 use Rattle.std.specs.Ordering.{nat_cmp}
-use Rattle.redl_index.specs.declared.kind_names.TheConstants.{KINDS}
-use Rattle.redl_index.specs.declared.revision.RevKind.{RevKind}
+use Rattle.redl_kinds.specs.declared.kind_names.TheConstants.{KINDS}
+use Rattle.redl_kinds.specs.declared.rev_kind.RevKind.{RevKind}
 use Rattle.redl_index.specs.declared.revision.Revision.{Revision}
-use Rattle.redl_index.specs.Kinds.{is_same_kind}
+use Rattle.redl_kinds.specs.Kinds.{is_same_kind}
 use Rattle.redl_journal.specs.declared.entry.Entry.{Entry}
 use Rattle.redl_join.specs.Verdicts.{verdict_at}
 use Rattle.redl_join.specs.declared.verdict.Verdict.{Verdict}

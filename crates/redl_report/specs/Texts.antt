@@ -3,7 +3,7 @@ use Rattle.std.specs.Prelude.{ℕ, Bool, List, [], ◌∷◌, ◌++◌, map, dec
 use Rattle.json.specs.Token.{Token, key, string as string_token}
 use Rattle.serde_json.specs.Data.{Data, Members, string, number, unsigned, object, member, no_members}
 use Rattle.serde_json.specs.Written.{compact_text}
-use Rattle.redl_index.specs.KindNames.{kind_name}
+use Rattle.redl_kinds.specs.KindNames.{kind_name}
 use Rattle.redl_formats.specs.Formats.{array_of, lines_of}
 use Rattle.redl_formats.specs.Fields.{space, newline, right_in, left_in, shown}
 use Rattle.redl_report.specs.declared.line.ReportLine.{ReportLine}

@@ -9,8 +9,9 @@ ghost use Rattle.redl_report.specs.Reports.{author_line, author_lines, author_of
 use crate::groups::by_author;
 use crate::kinds::add_kinds;
 use crate::line::{ReportLine, Role};
-use redl_index::{KINDS, Revision};
+use redl_index::Revision;
 use redl_join::Book;
+use redl_kinds::KINDS;
 use std::alloc::{AllocError, Global};
 
 /// Adds a line for each author of the revisions, by their names. `Err` means out of memory.

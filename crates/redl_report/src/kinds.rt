@@ -2,13 +2,14 @@
 
 ghost use Rattle.std.specs.Prelude.{◌≡◌, ◌≤◌, ◌++◌, length, map, IfOk, OnOk};
 ghost use Rattle.std.specs.Map.Iter.{deref};
-ghost use Rattle.redl_index.specs.Kinds.{is_same_kind};
+ghost use Rattle.redl_kinds.specs.Kinds.{is_same_kind};
 ghost use Rattle.redl_report.specs.Groups.{group_with};
 ghost use Rattle.redl_report.specs.Reports.{kind_line, kind_lines};
 
 use crate::line::{ReportLine, Role};
-use redl_index::{RevKind, Revision};
+use redl_index::Revision;
 use redl_join::Book;
+use redl_kinds::RevKind;
 use std::alloc::{AllocError, Global};
 
 /// Adds a line for each of these kinds of which an author has revisions. `Err` means out of memory.

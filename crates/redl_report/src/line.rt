@@ -5,9 +5,9 @@ ghost use Rattle.redl_report.specs.Reports.{line_of};
 ghost use Rattle.redl_report.specs.Counts.{counts_any, sum_of, with_verdict};
 
 use redl_formats::Item;
-use redl_index::RevKind;
 use redl_io::Text;
 use redl_join::Verdict;
+use redl_kinds::RevKind;
 use std::alloc::{AllocError, Global};
 
 /// Whom a line of a report is about.

@@ -17,12 +17,13 @@ use Rattle.std.proofs.lemmas.Option.{slice_get-get_or, slice_get_within}
 use Rattle.std.proofs.lemmas.Map.Keys.{IsStrictlyIncreasing-from_sorted}
 use Rattle.std.proofs.lemmas.Map.Lookups.{exact_unsigned}
 use Rattle.redl_index.specs.declared.revision.Revision.{Revision}
-use Rattle.redl_select.specs.declared.selection.Selection as code
-use Rattle.redl_select.specs.declared.selection.Selection.TheVariants as variants
-use Rattle.redl_select.specs.Views.{selection_of}
-use Rattle.redl_select.specs.declared.selection.Listed.{Listed}
-use Rattle.redl_select.specs.declared.selection.Listed.TheVariants.{One, Range}
-use Rattle.redl_select.specs.Selections.{Selection, all, numbers, author, span, kind, group, IsChosen, IsInRange, IsListed, chooses, has_number, revision_at, selects, numbers_between, listed_by, numbers_from, in_order, chosen}
+use Rattle.redl_kinds.specs.declared.selection.Selection as code
+use Rattle.redl_kinds.specs.declared.selection.Selection.TheVariants as variants
+use Rattle.redl_kinds.specs.Views.{selection_of}
+use Rattle.redl_kinds.specs.declared.selection.Listed.{Listed}
+use Rattle.redl_kinds.specs.declared.selection.Listed.TheVariants.{One, Range}
+use Rattle.redl_kinds.specs.Selections.{Selection, all, numbers, author, span, kind, group, has_number}
+use Rattle.redl_select.specs.Selections.{IsChosen, IsInRange, IsListed, chooses, revision_at, selects, numbers_between, listed_by, numbers_from, in_order, chosen}
 
 -- ---- the loops
 

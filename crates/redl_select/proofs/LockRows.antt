@@ -2,9 +2,9 @@
 use Rattle.std.proofs.Common.{◌≡◌, true, false, Some, None, refl}
 use Rattle.std.specs.Prelude.{codes, pos}
 use Rattle.redl_index.specs.declared.revision.Revision.{Revision}
-use Rattle.redl_index.specs.declared.revision.RevKind.TheVariants as kinds
+use Rattle.redl_kinds.specs.declared.rev_kind.RevKind.TheVariants as kinds
 use Rattle.redl_tree.specs.declared.kinds.Trace.TheVariants.{Ins, From}
-use Rattle.redl_select.specs.declared.lock.Lock.TheVariants.{Author, Kind, Span}
+use Rattle.redl_kinds.specs.declared.lock.Lock.TheVariants.{Author, Kind, Span}
 use Rattle.redl_select.specs.Locks.{holds}
 
 -- an insertion of Ann's at second 1714979289

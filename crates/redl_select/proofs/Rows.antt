@@ -1,15 +1,14 @@
 -- Selections by hand, with the numbers that they choose.
-use Rattle.std.proofs.Common.{◌≡◌, ℕ, true, false, [], ◌∷◌, List, Option, Some, None, refl}
+use Rattle.std.proofs.Common.{◌≡◌, ℕ, [], ◌∷◌, List, Option, Some, None, refl}
 use Rattle.std.specs.Prelude.{ℤ, pos, codes}
 use Rattle.redl_tree.specs.declared.kinds.Trace.TheVariants.{Ins, Del}
-use Rattle.redl_tree.specs.declared.kinds.Prop.TheVariants as props
-use Rattle.redl_index.specs.declared.revision.RevKind.{RevKind}
-use Rattle.redl_index.specs.declared.revision.RevKind.TheVariants.{Content, Move, Mark, Row, Cell, Change}
+use Rattle.redl_kinds.specs.declared.rev_kind.RevKind.{RevKind}
+use Rattle.redl_kinds.specs.declared.rev_kind.RevKind.TheVariants.{Content, Row}
 use Rattle.redl_index.specs.declared.revision.Revision.{Revision}
-use Rattle.redl_select.specs.declared.group.Group.TheVariants as groups
-use Rattle.redl_select.specs.declared.selection.Listed.TheVariants.{One, Range}
-use Rattle.redl_select.specs.Groups.{is_in}
-use Rattle.redl_select.specs.Selections.{all, numbers, author, span, kind, group, chosen}
+use Rattle.redl_kinds.specs.declared.group.Group.TheVariants as groups
+use Rattle.redl_kinds.specs.declared.selection.Listed.TheVariants.{One, Range}
+use Rattle.redl_kinds.specs.Selections.{all, numbers, author, span, kind, group}
+use Rattle.redl_select.specs.Selections.{chosen}
 
 abbrev made_by : ℕ → RevKind → List ℕ → Option ℤ → Revision
 made_by number of_kind name seconds = record { number = number; kind = of_kind; author = name; seconds = seconds; part = 0; members = 1 }
@@ -75,8 +74,3 @@ row_group_of_rows = refl
 
 row_empty_group : chosen three (group groups.Props) ≡ []
 row_empty_group = refl
-
--- a paired move is content, and the change of a row's properties does not belong to rows
-row_groups : (is_in groups.Content Move ≡ true) × (is_in groups.Marks (Mark Del) ≡ true) × (is_in groups.Cells (Cell Ins) ≡ true)
-    × (is_in groups.Props (Change props.Row) ≡ true) × (is_in groups.Rows (Change props.Row) ≡ false)
-row_groups = (refl, refl, refl, refl, refl)

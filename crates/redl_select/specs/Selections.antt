@@ -1,31 +1,15 @@
 -- Which revisions of a package a selection means (our own rule).
-use Rattle.std.specs.Prelude.{◌==◌, ◌&&◌, ◌≡◌, ◌≤◌, ◌+◌, ◌-◌, min, max, ℕ, zero, suc, ℤ, int_le, int_lt, Bool, true, false, List, [], ◌∷◌, Option, Some, None, IsSomeAnd, IsTrue, Any, flat_map, fold, length, nat_le, slice_get, if◌then◌else◌}
+use Rattle.std.specs.Prelude.{◌&&◌, ◌≡◌, ◌≤◌, ◌+◌, ◌-◌, min, max, ℕ, zero, suc, ℤ, int_le, int_lt, Bool, true, false, List, [], ◌∷◌, Option, Some, None, IsSomeAnd, IsTrue, Any, flat_map, fold, length, slice_get, if◌then◌else◌}
 use Rattle.std.specs.List.{list_any, range_with_len}
 use Rattle.std.specs.Str.{bytes_eq}
 use Rattle.std.specs.Ordering.{nat_cmp}
 use Rattle.std.specs.BTreeSet.{insert_key}
-use Rattle.redl_index.specs.declared.revision.RevKind.{RevKind}
 use Rattle.redl_index.specs.declared.revision.Revision.{Revision}
-use Rattle.redl_index.specs.Kinds.{is_same_kind}
-use Rattle.redl_select.specs.declared.group.Group.{Group}
-use Rattle.redl_select.specs.declared.selection.Listed.{Listed}
-use Rattle.redl_select.specs.declared.selection.Listed.TheVariants.{One, Range}
-use Rattle.redl_select.specs.Groups.{is_in}
-
--- a choice of revisions
-pub data Selection : Type 0 where
-  -- each revision
-  all : Selection
-  -- what these items list
-  numbers : List Listed → Selection
-  -- the revisions of this author
-  author : List ℕ → Selection
-  -- the revisions made from the first moment on and before the second
-  span : ℤ → ℤ → Selection
-  -- the revisions of this kind
-  kind : RevKind → Selection
-  -- the revisions whose kind is in this group
-  group : Group → Selection
+use Rattle.redl_kinds.specs.declared.selection.Listed.{Listed}
+use Rattle.redl_kinds.specs.declared.selection.Listed.TheVariants.{One, Range}
+use Rattle.redl_kinds.specs.Groups.{is_in}
+use Rattle.redl_kinds.specs.Kinds.{is_same_kind}
+use Rattle.redl_kinds.specs.Selections.{Selection, all, numbers, author, span, kind, group, has_number}
 
 -- ---- the revisions that a selection means
 
@@ -69,11 +53,6 @@ IsChosen revisions (numbers listed) number = Any (IsListed (length revisions) nu
 IsChosen revisions selection number = IsSomeAnd (revision_at revisions number) (λ revision. IsTrue (selects selection revision))
 
 -- ---- the same of one revision
-
--- an item of a list has the number
-abbrev pub has_number : ℕ → Listed → Bool
-has_number number (One one) = one == number
-has_number number (Range first last) = nat_le first number && nat_le number last
 
 -- the selection chooses this revision
 abbrev pub chooses : Selection → Revision → Bool

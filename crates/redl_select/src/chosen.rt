@@ -6,11 +6,12 @@ ghost use Rattle.std.specs.BTreeSet.{insert_key};
 ghost use Rattle.std.specs.List.Sorted.{IsStrictlyIncreasing, IsStrictlySortedBy};
 ghost use Rattle.std.specs.Ordering.{nat_cmp};
 ghost use Rattle.redl_index.specs.declared.revision.Revision.{Revision};
-ghost use Rattle.redl_select.specs.Selections.{IsChosen, chooses, chosen, has_number, in_order, is_within, listed_by, numbers_between, numbers_from, revision_at, selects};
-ghost use Rattle.redl_select.specs.Views.{selection_of};
+ghost use Rattle.redl_kinds.specs.Selections.{has_number};
+ghost use Rattle.redl_select.specs.Selections.{IsChosen, chooses, chosen, in_order, is_within, listed_by, numbers_between, numbers_from, revision_at, selects};
+ghost use Rattle.redl_kinds.specs.Views.{selection_of};
 
-use crate::selection::{Listed, Selection};
 use redl_index::{Index, Revision};
+use redl_kinds::{Listed, Selection};
 use std::alloc::{AllocError, Global};
 use std::collections::BTreeSet;
 

@@ -6,7 +6,7 @@ use Rattle.redl_index.specs.declared.revision.Revision.{Revision}
 use Rattle.redl_join.specs.Books.{IsBook, union, with_entry}
 use Rattle.redl_join.proofs.Unions.{has_entry-filter, has_entry-same, union-append, union-same}
 use Rattle.redl_journal.specs.declared.entry.Entry.{Entry}
-use Rattle.redl_select.specs.declared.lock.Lock.{Lock}
+use Rattle.redl_kinds.specs.declared.lock.Lock.{Lock}
 use Rattle.redl_session.specs.Refusals.{admitted, cause_of, refusal_of, refusals, TakesFirst}
 use Rattle.redl_session.specs.Says.{says_of}
 use Rattle.redl_session.specs.Sessions.{SessionState, StopsAfter, after, after_entry, says}

@@ -2,9 +2,9 @@
 use Rattle.std.proofs.Common.{◌≡◌, [], ◌∷◌, Some, None, refl}
 use Rattle.std.specs.Prelude.{codes, pos}
 use Rattle.redl_index.specs.declared.revision.Revision.{Revision}
-use Rattle.redl_index.specs.declared.revision.RevKind.TheVariants as kinds
+use Rattle.redl_kinds.specs.declared.rev_kind.RevKind.TheVariants as kinds
 use Rattle.redl_journal.specs.declared.entry.Word.TheVariants as word
-use Rattle.redl_select.specs.declared.lock.Lock.TheVariants as lock
+use Rattle.redl_kinds.specs.declared.lock.Lock.TheVariants as lock
 use Rattle.redl_session.specs.Bars.{bar_of}
 use Rattle.redl_session.specs.Refusals.{cause_of}
 use Rattle.redl_session.specs.declared.refusal.AdmitError.TheVariants.{Unknown, Locked}

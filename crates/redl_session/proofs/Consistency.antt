@@ -11,7 +11,7 @@ use Rattle.redl_join.specs.Verdicts.{verdict_at}
 use Rattle.redl_journal.proofs.EntryOrder.{entry_order-total}
 use Rattle.redl_journal.specs.declared.entry.Entry.{Entry}
 use Rattle.redl_session.proofs.SaysLaws.{says_of-with}
-use Rattle.redl_select.specs.declared.lock.Lock.{Lock}
+use Rattle.redl_kinds.specs.declared.lock.Lock.{Lock}
 use Rattle.redl_session.specs.Refusals.{TakesFirst, admitted}
 use Rattle.redl_session.specs.Says.{say_of_verdict, says_of}
 use Rattle.redl_session.specs.Sessions.{IsConsistent}

@@ -2,8 +2,9 @@
 use Rattle.std.specs.Prelude.{◌&&◌, List, Option, Some, None, if◌then◌else◌}
 use Rattle.std.specs.List.{list_any}
 use Rattle.redl_index.specs.declared.revision.Revision.{Revision}
-use Rattle.redl_select.specs.Locks.{holds, is_author, is_kind}
-use Rattle.redl_select.specs.declared.lock.Lock.{Lock}
+use Rattle.redl_kinds.specs.Locks.{is_author, is_kind}
+use Rattle.redl_select.specs.Locks.{holds}
+use Rattle.redl_kinds.specs.declared.lock.Lock.{Lock}
 use Rattle.redl_session.specs.declared.refusal.Bar.{Bar}
 use Rattle.redl_session.specs.declared.refusal.Bar.TheVariants.{Author, Kind, Span}
 

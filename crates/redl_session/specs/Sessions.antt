@@ -7,7 +7,7 @@ use Rattle.redl_join.specs.Books.{IsBook, with_entry}
 use Rattle.redl_journal.specs.declared.entry.Entry.{Entry}
 use Rattle.redl_opc.specs.Code.{nodes_code}
 use Rattle.redl_rules.specs.Attributes.{broken_rule}
-use Rattle.redl_select.specs.declared.lock.Lock.{Lock}
+use Rattle.redl_kinds.specs.declared.lock.Lock.{Lock}
 use Rattle.redl_session.specs.Refusals.{cause_of}
 use Rattle.redl_session.specs.Says.{says_of}
 use Rattle.redl_tree.specs.Model.Nodes.{Nodes, Tag}

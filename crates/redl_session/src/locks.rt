@@ -1,12 +1,14 @@
 //! What nobody may decide.
 ghost use Rattle.std.specs.Prelude.{◌≡◌, ◌&&◌};
 ghost use Rattle.std.specs.List.{list_any};
-ghost use Rattle.redl_select.specs.Locks.{holds, is_author, is_kind};
+ghost use Rattle.redl_kinds.specs.Locks.{is_author, is_kind};
+ghost use Rattle.redl_select.specs.Locks.{holds};
 ghost use Rattle.redl_session.specs.Bars.{bar_of};
 
 use crate::refusal::Bar;
 use redl_index::Revision;
-use redl_select::Lock;
+use redl_kinds::Lock;
+use redl_select::{any_holds, holds};
 use std::marker::Model;
 
 /// The locks of a session. Contracts see the list of them.
@@ -17,7 +19,7 @@ pub struct Locks {
 
 impl Model for Locks {
     ghost use Rattle.std.specs.Prelude.{List};
-    ghost use Rattle.redl_select.specs.declared.lock.Lock.{Lock};
+    ghost use Rattle.redl_kinds.specs.declared.lock.Lock.{Lock};
 
     ghost Value = { List Lock };
 
@@ -41,7 +43,7 @@ impl Locks {
             Some(Bar::Author)
         } else if holds_by_kind(&self.locks, revision) {
             Some(Bar::Kind)
-        } else if holds(&self.locks, revision) {
+        } else if any_holds(&self.locks, revision) {
             Some(Bar::Span)
         } else {
             None
@@ -55,7 +57,7 @@ fn holds_by_author(locks: &[Lock], revision: &Revision) -> bool
 {
     locks
         .iter()
-        .any(|lock| lock.is_on_author() && lock.holds(revision))
+        .any(|lock| lock.is_on_author() && holds(lock, revision))
 }
 
 // Whether one of these locks holds the revision by its kind.
@@ -64,12 +66,5 @@ fn holds_by_kind(locks: &[Lock], revision: &Revision) -> bool
 {
     locks
         .iter()
-        .any(|lock| lock.is_on_kind() && lock.holds(revision))
-}
-
-// Whether one of these locks holds the revision.
-fn holds(locks: &[Lock], revision: &Revision) -> bool
-    ensures { result ≡ list_any (λ lock. holds revision.now lock) locks.now }
-{
-    locks.iter().any(|lock| lock.holds(revision))
+        .any(|lock| lock.is_on_kind() && holds(lock, revision))
 }

@@ -3,8 +3,9 @@ use Rattle.std.proofs.Common.{◌≡◌, Bool, true, false, ◌&&◌, ◌||◌, 
 use Rattle.std.specs.List.{list_any}
 use Rattle.redl_commands.specs.Page.{is_locked}
 use Rattle.redl_index.specs.declared.revision.Revision.{Revision}
-use Rattle.redl_select.specs.Locks.{holds, is_author, is_kind}
-use Rattle.redl_select.specs.declared.lock.Lock.{Lock}
+use Rattle.redl_kinds.specs.Locks.{is_author, is_kind}
+use Rattle.redl_select.specs.Locks.{holds}
+use Rattle.redl_kinds.specs.declared.lock.Lock.{Lock}
 use Rattle.redl_session.specs.declared.refusal.Bar.TheVariants.{Author, Kind, Span}
 
 first_or_later : (second first here later : Bool) → (here ≡ true → later ≡ true) → (first && second) || here ≡ true → second || later ≡ true

@@ -4,7 +4,6 @@
 
 ghost use Rattle.std.specs.Prelude.{◌≡◌, ℕ, Ok, All, IfOk, IsUtf8, OnErr, OnOk, length, map};
 ghost use Rattle.std.specs.Io.KnownBytes.{append_known};
-ghost use Rattle.std.specs.List.{list_any};
 ghost use Rattle.redl_commands.specs.Page.{is_locked, page_of, paged, shown_of};
 ghost use Rattle.redl_commands.specs.Endings.{Ends, EndsAlone, Finishes};
 ghost use Rattle.redl_inputs.specs.Views.{admission_view};
@@ -14,15 +13,15 @@ ghost use Rattle.redl_lines.specs.Ends.{end_view};
 ghost use Rattle.redl_lines.specs.Remarks.{remarks_view};
 ghost use Rattle.redl_page.specs.Page.{page_text};
 ghost use Rattle.redl_page.specs.PageViews.{shown_by, skin_view};
-ghost use Rattle.redl_select.specs.Locks.{holds};
 
 use redl_index::Revision;
 use redl_inputs::{Admitted, open};
 use redl_io::{Failed, Shelf, Sink, Staged, Text};
 use redl_join::LastWords;
+use redl_kinds::Lock;
 use redl_lines::{End, Failure, Remarks};
 use redl_page::{Shown, Skin, write_page};
-use redl_select::Lock;
+use redl_select::any_holds;
 use redl_session::Session;
 use std::alloc::{AllocError, Global};
 
@@ -116,14 +115,7 @@ fn locked_revisions(
 fn is_locked(locks: &[Lock], revision: &Revision) -> bool
     ensures { result ≡ is_locked locks.now revision.now }
 {
-    holds_some(locks, revision)
-}
-
-// Whether one of these locks holds the revision.
-fn holds_some(locks: &[Lock], revision: &Revision) -> bool
-    ensures { result ≡ list_any (λ lock. holds revision.now lock) locks.now }
-{
-    locks.iter().any(|lock| lock.holds(revision))
+    any_holds(locks, revision)
 }
 
 // Puts a page, and gives how the call ends.

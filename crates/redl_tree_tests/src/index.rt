@@ -3,7 +3,8 @@
 ghost use Rattle.std.specs.Prelude.{◌≡◌};
 
 use crate::documents::{WORDS, keep_text, read_package};
-use redl_index::{Index, RevKind};
+use redl_index::Index;
+use redl_kinds::RevKind;
 use redl_outline::{outline_text, package, part};
 use redl_tree::{Kind, Node, Prop, Trace};
 use std::alloc::{AllocError, Global};

@@ -14,8 +14,8 @@ use Rattle.redl_reading.specs.Steps.{◌>>=◌}
 use Rattle.std.proofs.lemmas.Bool.{and_parts}
 use Rattle.redl_journal.proofs.Parts.{number_takes, number_again, reviewer_takes, reviewer_again}
 use Rattle.redl_reading.proofs.Steps.{bind_some}
-use Rattle.redl_select.specs.Selections.{Selection}
-use Rattle.redl_select.specs.declared.lock.Lock.{Lock}
+use Rattle.redl_kinds.specs.Selections.{Selection}
+use Rattle.redl_kinds.specs.declared.lock.Lock.{Lock}
 use Rattle.redl_words.specs.declared.error.WordsError.{WordsError}
 use Rattle.redl_words.specs.declared.error.WordsError.TheVariants.{Usage, NoMemory}
 use Rattle.redl_words.specs.declared.options.Form.{Form}

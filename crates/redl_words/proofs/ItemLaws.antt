@@ -9,9 +9,9 @@ use Rattle.redl_journal.specs.declared.entry.Word.{Word}
 use Rattle.redl_journal.specs.declared.entry.Word.TheVariants.{Accept, Reject, Withdraw}
 use Rattle.redl_reading.specs.Steps.{◌>>=◌}
 use Rattle.redl_reading.proofs.Steps.{bind_some}
-use Rattle.redl_select.specs.Selections.{Selection}
-use Rattle.redl_select.specs.declared.lock.Lock.{Lock}
-use Rattle.redl_select.specs.declared.lock.Lock.TheVariants.{Author, Kind as OfKind, Span}
+use Rattle.redl_kinds.specs.Selections.{Selection}
+use Rattle.redl_kinds.specs.declared.lock.Lock.{Lock}
+use Rattle.redl_kinds.specs.declared.lock.Lock.TheVariants.{Author, Kind as OfKind, Span}
 use Rattle.redl_words.specs.Selections.{Means, MeansLock}
 use Rattle.redl_words.specs.Items.{Item, format, lock, journal, named_journal, choice, rank, by_kind, item_words, Admits, of_list, of_report, of_write, of_decide, Form as Kind, formats_of, locks_of, journals_of, choices_of, ranks_of, bys_of, if_so, is_name, option_of, lock_option, only, onlys_of}
 use Rattle.redl_words.specs.declared.options.Form.{Form}

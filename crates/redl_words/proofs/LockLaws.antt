@@ -3,10 +3,10 @@ use Rattle.std.proofs.Common.{◌≡◌, ℕ, List, Some, refl, sym, ap, subst, 
 use Rattle.std.specs.Prelude.{ℤ, codes, option_map}
 use Rattle.std.proofs.lemmas.Option.{same_Some}
 use Rattle.redl_reading.proofs.Options.{map_some}
-use Rattle.redl_index.specs.KindNames.{kind_named}
-use Rattle.redl_index.proofs.KindNameLaws.{kind_named-exact}
-use Rattle.redl_select.specs.declared.lock.Lock.{Lock}
-use Rattle.redl_select.specs.declared.lock.Lock.TheVariants.{Author, Kind, Span}
+use Rattle.redl_kinds.specs.KindNames.{kind_named}
+use Rattle.redl_kinds.proofs.KindNameLaws.{kind_named-exact}
+use Rattle.redl_kinds.specs.declared.lock.Lock.{Lock}
+use Rattle.redl_kinds.specs.declared.lock.Lock.TheVariants.{Author, Kind, Span}
 use Rattle.redl_words.specs.Commands.{LockHasUtf8}
 use Rattle.redl_words.specs.Items.{is_name, lock_option}
 use Rattle.redl_words.specs.Selections.{MeansLock}

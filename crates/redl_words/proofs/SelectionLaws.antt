@@ -19,15 +19,15 @@ use Rattle.redl_reading.specs.Lists.{field_at, is_other}
 use Rattle.redl_journal.proofs.Parts.{number_takes, number_again, decimal_lacks}
 use Rattle.redl_reading.proofs.Steps.{bind_some}
 use Rattle.redl_reading.proofs.Fields.{field_takes, field_again}
-use Rattle.redl_index.specs.declared.revision.RevKind.{RevKind}
-use Rattle.redl_index.specs.Kinds.{is_named}
-use Rattle.redl_index.specs.KindNames.{kind_name, kind_named}
-use Rattle.redl_index.proofs.KindNameLaws.{kind_named-exact}
-use Rattle.redl_select.specs.declared.group.Group.{Group}
-use Rattle.redl_select.specs.declared.group.Group.TheVariants as groups
-use Rattle.redl_select.specs.declared.selection.Listed.{Listed}
-use Rattle.redl_select.specs.declared.selection.Listed.TheVariants.{One, Range}
-use Rattle.redl_select.specs.Selections.{Selection, all, numbers, author, span, kind, group}
+use Rattle.redl_kinds.specs.declared.rev_kind.RevKind.{RevKind}
+use Rattle.redl_kinds.specs.Kinds.{is_named}
+use Rattle.redl_kinds.specs.KindNames.{kind_name, kind_named}
+use Rattle.redl_kinds.proofs.KindNameLaws.{kind_named-exact}
+use Rattle.redl_kinds.specs.declared.group.Group.{Group}
+use Rattle.redl_kinds.specs.declared.group.Group.TheVariants as groups
+use Rattle.redl_kinds.specs.declared.selection.Listed.{Listed}
+use Rattle.redl_kinds.specs.declared.selection.Listed.TheVariants.{One, Range}
+use Rattle.redl_kinds.specs.Selections.{Selection, all, numbers, author, span, kind, group}
 use Rattle.redl_words.specs.Selections.{IsItem, ListsNumbers, GivesSpan, GivesDates, NamesKind, Means, group_name, item_text}
 use Rattle.redl_words.specs.Reading.Selections.{range_in, item_parts, item_in, numbers_after, numbers_in, group_named, kind_or, kinds_in, moments_in, span_in, labelled, selection_parts, selection_in}
 use Rattle.redl_words.proofs.DateLaws.{date_has_no_slash}

@@ -6,7 +6,7 @@ use Rattle.std.proofs.lemmas.Option.{same_Some}
 use Rattle.redl_reading.proofs.Options.{map_some}
 use Rattle.redl_join.specs.declared.verdict.Verdict.{Verdict}
 use Rattle.redl_join.specs.declared.verdict.Verdict.TheVariants.{Undecided, Accept, Reject, Disputed}
-use Rattle.redl_select.specs.Selections.{Selection}
+use Rattle.redl_kinds.specs.Selections.{Selection}
 use Rattle.redl_reading.specs.Lists.{field_at}
 use Rattle.redl_words.specs.Selections.{Means}
 use Rattle.redl_words.specs.Shown.{Only, chosen, decided, verdict_text, MeansOnly}

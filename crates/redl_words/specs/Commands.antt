@@ -3,9 +3,9 @@ use Rattle.std.specs.Prelude.{◌≡◌, ◌≢◌, ◌^◌, ◌<◌, ◌≤◌,
 use Rattle.std.specs.List.{flat_map}
 use Rattle.redl_journal.specs.declared.entry.Word.{Word}
 use Rattle.redl_journal.specs.Journals.{IsReviewer}
-use Rattle.redl_select.specs.Selections.{Selection}
-use Rattle.redl_select.specs.declared.lock.Lock.{Lock}
-use Rattle.redl_select.specs.declared.lock.Lock.TheVariants.{Author, Kind, Span}
+use Rattle.redl_kinds.specs.Selections.{Selection}
+use Rattle.redl_kinds.specs.declared.lock.Lock.{Lock}
+use Rattle.redl_kinds.specs.declared.lock.Lock.TheVariants.{Author, Kind, Span}
 use Rattle.redl_words.specs.declared.command.View.{View}
 use Rattle.redl_words.specs.declared.command.View.TheVariants.{Original, Final, Marked}
 use Rattle.redl_words.specs.Items.{Item, AreItems, Form, of_list, of_report, of_write, of_decide, is_name, formats_of, bys_of, if_so, locks_of, journals_of, choices_of, ranks_of, onlys_of}

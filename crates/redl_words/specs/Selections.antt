@@ -2,15 +2,15 @@
 use Rattle.std.specs.Prelude.{◌≡◌, ◌≢◌, ◌^◌, ◌<◌, ◌≤◌, ℕ, ℤ, List, [], ◌++◌, All, IsTrue, Some, codes, decimal, map}
 use Rattle.std.specs.List.{join_with_byte}
 use Rattle.redl_stamp.specs.Moment.{moment_of}
-use Rattle.redl_index.specs.Kinds.{is_named}
-use Rattle.redl_index.specs.KindNames.{kind_name}
-use Rattle.redl_select.specs.declared.group.Group.{Group}
-use Rattle.redl_select.specs.declared.group.Group.TheVariants as groups
-use Rattle.redl_select.specs.declared.selection.Listed.{Listed}
-use Rattle.redl_select.specs.declared.selection.Listed.TheVariants.{One, Range}
-use Rattle.redl_select.specs.Selections.{Selection, all, numbers, author, span, kind, group}
-use Rattle.redl_select.specs.declared.lock.Lock.{Lock}
-use Rattle.redl_select.specs.declared.lock.Lock.TheVariants.{Author, Kind, Span}
+use Rattle.redl_kinds.specs.Kinds.{is_named}
+use Rattle.redl_kinds.specs.KindNames.{kind_name}
+use Rattle.redl_kinds.specs.declared.group.Group.{Group}
+use Rattle.redl_kinds.specs.declared.group.Group.TheVariants as groups
+use Rattle.redl_kinds.specs.declared.selection.Listed.{Listed}
+use Rattle.redl_kinds.specs.declared.selection.Listed.TheVariants.{One, Range}
+use Rattle.redl_kinds.specs.Selections.{Selection, all, numbers, author, span, kind, group}
+use Rattle.redl_kinds.specs.declared.lock.Lock.{Lock}
+use Rattle.redl_kinds.specs.declared.lock.Lock.TheVariants.{Author, Kind, Span}
 
 -- an item of a list: a number, or two with a dash between, in decimal digits without leading zeros
 abbrev pub item_text : Listed → List ℕ
@@ -37,7 +37,7 @@ pub record GivesSpan (text : List ℕ) (start end : ℤ) : Type 0 where
   pub ends : moment_of second ≡ Some end
 
 -- `kind:` and the name of the kind
-pub record NamesKind (text : List ℕ) (of_kind : Rattle.redl_index.specs.declared.revision.RevKind.RevKind) : Type 0 where
+pub record NamesKind (text : List ℕ) (of_kind : Rattle.redl_kinds.specs.declared.rev_kind.RevKind.RevKind) : Type 0 where
   pub written : text ≡ codes "kind:" ++ kind_name of_kind
   pub named : IsTrue (is_named of_kind)
 

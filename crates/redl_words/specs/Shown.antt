@@ -2,7 +2,7 @@
 use Rattle.std.specs.Prelude.{◌≡◌, ℕ, List, codes}
 use Rattle.redl_join.specs.declared.verdict.Verdict.{Verdict}
 use Rattle.redl_join.specs.declared.verdict.Verdict.TheVariants.{Undecided, Accept, Reject, Disputed}
-use Rattle.redl_select.specs.Selections.{Selection}
+use Rattle.redl_kinds.specs.Selections.{Selection}
 use Rattle.redl_words.specs.Selections.{Means}
 
 -- which revisions a listing shows

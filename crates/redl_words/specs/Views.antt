@@ -1,9 +1,9 @@
 -- The code's commands as plain data.
 use Rattle.std.specs.Prelude.{List, map}
 use Rattle.redl_journal.specs.declared.entry.Word.{Word}
-use Rattle.redl_select.specs.declared.selection.Selection as code_selection
-use Rattle.redl_select.specs.Selections.{Selection}
-use Rattle.redl_select.specs.Views.{selection_of}
+use Rattle.redl_kinds.specs.declared.selection.Selection as code_selection
+use Rattle.redl_kinds.specs.Selections.{Selection}
+use Rattle.redl_kinds.specs.Views.{selection_of}
 use Rattle.redl_words.specs.declared.command.Command as code
 use Rattle.redl_words.specs.declared.only.Only as code_only
 use Rattle.redl_words.specs.declared.only.Only.TheVariants as onlys

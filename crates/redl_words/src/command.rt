@@ -3,7 +3,7 @@
 use crate::only::Only;
 use redl_io::Text;
 use redl_journal::Word;
-use redl_select::{Lock, Selection};
+use redl_kinds::{Lock, Selection};
 
 /// What is shown of a document: its text before its revisions, its text after them, or the original with its changes marked.
 #[derive(Clone, Copy, Debug, PartialEq, Eq)]

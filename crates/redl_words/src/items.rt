@@ -13,7 +13,7 @@ use crate::ranks::read_rank;
 use crate::selections::read_selection;
 use redl_io::Text;
 use redl_journal::Word;
-use redl_select::{Lock, Selection};
+use redl_kinds::{Lock, Selection};
 use std::alloc::Global;
 use std::str;
 

@@ -8,7 +8,7 @@ use crate::error::WordsError;
 use crate::options::Locked;
 use crate::selections::{read_kind_name, read_moments};
 use redl_io::Text;
-use redl_select::Lock;
+use redl_kinds::Lock;
 use std::alloc::Global;
 
 /// The lock of this sort that a text means: the name of an author, the name of a kind, or two dates with a slash between.

@@ -8,7 +8,7 @@ ghost use Rattle.redl_words.specs.Views.{only_of};
 use crate::error::WordsError;
 use crate::selections::read_selection;
 use redl_join::Verdict;
-use redl_select::Selection;
+use redl_kinds::Selection;
 use std::alloc::Global;
 
 /// Which revisions a listing shows.

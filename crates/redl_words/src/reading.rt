@@ -16,7 +16,7 @@ use crate::sittings::read_sittings;
 use crate::verb::{Verb, read_verb};
 use redl_io::Text;
 use redl_journal::{is_reviewer, read_number};
-use redl_select::Lock;
+use redl_kinds::Lock;
 use std::alloc::{AllocError, Global};
 
 /// The command that these words are the command line of. They come without the program's name.

@@ -3,19 +3,18 @@
 ghost use Rattle.std.specs.Prelude.{◌≡◌, option_map};
 ghost use Rattle.redl_reading.specs.Steps.{Gives};
 ghost use Rattle.redl_reading.specs.Lists.{field_at};
-ghost use Rattle.redl_index.specs.KindNames.{kind_named};
+ghost use Rattle.redl_kinds.specs.KindNames.{kind_named};
 ghost use Rattle.redl_journal.specs.Reading.{number_in};
-ghost use Rattle.redl_select.specs.declared.selection.Listed.{Listed};
-ghost use Rattle.redl_select.specs.Selections.{group};
-ghost use Rattle.redl_select.specs.Views.{selection_of};
+ghost use Rattle.redl_kinds.specs.declared.selection.Listed.{Listed};
+ghost use Rattle.redl_kinds.specs.Selections.{group};
+ghost use Rattle.redl_kinds.specs.Views.{selection_of};
 ghost use Rattle.redl_words.specs.Reading.Answers.{Finds};
 ghost use Rattle.redl_words.specs.Reading.Selections.{group_named, item_in, kinds_in, labelled, moments_in, numbers_in, range_in, selection_in, span_in, unlabelled};
 
 use crate::error::WordsError;
-use redl_index::RevKind;
 use redl_io::Text;
 use redl_journal::read_number;
-use redl_select::{Group, Listed, Selection};
+use redl_kinds::{Group, Listed, RevKind, Selection};
 use redl_stamp::read_moment;
 use std::alloc::Global;
 

@@ -18,9 +18,10 @@ use Rattle.std.proofs.Math.Bool.{or-false}
 use Rattle.redl_commands.specs.Choices.{is_among, chosen_numbers, word_on}
 use Rattle.redl_index.specs.declared.revision.Revision.{Revision}
 use Rattle.redl_journal.specs.declared.entry.Word.{Word}
-use Rattle.redl_select.specs.Selections.{Selection, chosen, in_order}
-use Rattle.redl_select.specs.Views.{selection_of}
-use Rattle.redl_select.specs.declared.selection.Selection as code
+use Rattle.redl_kinds.specs.Selections.{Selection}
+use Rattle.redl_select.specs.Selections.{chosen, in_order}
+use Rattle.redl_kinds.specs.Views.{selection_of}
+use Rattle.redl_kinds.specs.declared.selection.Selection as code
 use Rattle.redl_words.specs.Views.{choices_view}
 
 -- ---- one number set

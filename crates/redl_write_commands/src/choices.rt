@@ -13,7 +13,8 @@ ghost use Rattle.redl_words.specs.Views.{choices_view};
 use redl_index::Index;
 use redl_io::Text;
 use redl_journal::{Entry, Word};
-use redl_select::{Selection, choose};
+use redl_kinds::Selection;
+use redl_select::choose;
 use std::alloc::{AllocError, Global};
 use std::collections::BTreeMap;
 

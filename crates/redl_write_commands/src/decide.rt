@@ -13,8 +13,8 @@ use redl_commands::{Output, Writing};
 use redl_inputs::{Admitted, open};
 use redl_io::{Shelf, Text};
 use redl_journal::Word;
+use redl_kinds::Selection;
 use redl_lines::{Cause, Failure};
-use redl_select::Selection;
 use redl_words::DecideCommand;
 use std::alloc::Global;
 

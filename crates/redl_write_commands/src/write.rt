@@ -9,8 +9,8 @@ ghost use Rattle.redl_inputs.specs.Views.{admission_view, result_view};
 use redl_commands::{Output, Writing};
 use redl_inputs::{Admitted, open};
 use redl_io::{Shelf, Text};
+use redl_kinds::Lock;
 use redl_lines::Failure;
-use redl_select::Lock;
 use std::alloc::{AllocError, Global};
 
 /// The package with this text under the joined verdicts of the journals of these names, with these locks.

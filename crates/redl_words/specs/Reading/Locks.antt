@@ -1,8 +1,8 @@
 -- Reading a lock: an author, a kind, or two dates.
 use Rattle.std.specs.Prelude.{ℕ, List, Option, Some, option_map}
-use Rattle.redl_index.specs.KindNames.{kind_named}
-use Rattle.redl_select.specs.declared.lock.Lock.{Lock}
-use Rattle.redl_select.specs.declared.lock.Lock.TheVariants.{Author, Kind, Span}
+use Rattle.redl_kinds.specs.KindNames.{kind_named}
+use Rattle.redl_kinds.specs.declared.lock.Lock.{Lock}
+use Rattle.redl_kinds.specs.declared.lock.Lock.TheVariants.{Author, Kind, Span}
 use Rattle.redl_words.specs.Reading.Selections.{moments_in}
 use Rattle.redl_words.specs.declared.options.Locked.{Locked}
 use Rattle.redl_words.specs.declared.options.Locked.TheVariants as locked

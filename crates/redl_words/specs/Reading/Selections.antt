@@ -6,13 +6,13 @@ use Rattle.redl_stamp.specs.Moment.{moment_of}
 use Rattle.redl_journal.specs.Reading.{number_in}
 use Rattle.redl_reading.specs.Steps.{◌>>=◌}
 use Rattle.redl_reading.specs.Lists.{field_at}
-use Rattle.redl_index.specs.KindNames.{kind_named}
-use Rattle.redl_index.specs.declared.revision.RevKind.{RevKind}
-use Rattle.redl_select.specs.declared.group.Group.{Group}
-use Rattle.redl_select.specs.declared.group.Group.TheVariants.{Content, Marks, Rows, Cells, Props}
-use Rattle.redl_select.specs.declared.selection.Listed.{Listed}
-use Rattle.redl_select.specs.declared.selection.Listed.TheVariants.{One, Range}
-use Rattle.redl_select.specs.Selections.{Selection, all, numbers, author, span, kind, group}
+use Rattle.redl_kinds.specs.KindNames.{kind_named}
+use Rattle.redl_kinds.specs.declared.rev_kind.RevKind.{RevKind}
+use Rattle.redl_kinds.specs.declared.group.Group.{Group}
+use Rattle.redl_kinds.specs.declared.group.Group.TheVariants.{Content, Marks, Rows, Cells, Props}
+use Rattle.redl_kinds.specs.declared.selection.Listed.{Listed}
+use Rattle.redl_kinds.specs.declared.selection.Listed.TheVariants.{One, Range}
+use Rattle.redl_kinds.specs.Selections.{Selection, all, numbers, author, span, kind, group}
 
 -- the range from the number of one text to that of another
 unfoldable pub range_in : List ℕ → List ℕ → Option Listed

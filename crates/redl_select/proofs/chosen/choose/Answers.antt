@@ -1,5 +1,5 @@
-use Rattle.redl_select.specs.Selections.{numbers}
-use Rattle.redl_select.specs.Views.{selection_of}
+use Rattle.redl_kinds.specs.Selections.{numbers}
+use Rattle.redl_kinds.specs.Views.{selection_of}
 use Rattle.redl_select.proofs.ChosenLaws.{ascending_ok, meant_ascending, chosen_ok, unlisted_ok, not_listed}
 use Rattle.redl_select.proofs.chosen.choose.Goals as goal
 

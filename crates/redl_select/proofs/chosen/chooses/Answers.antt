@@ -1,5 +1,5 @@
 -- A revision that has its number in a package is chosen there.
-use Rattle.redl_select.specs.Selections.{numbers}
+use Rattle.redl_kinds.specs.Selections.{numbers}
 use Rattle.redl_select.proofs.ChosenLaws.{chooses_chosen}
 use Rattle.redl_select.proofs.chosen.chooses.Goals as goal
 

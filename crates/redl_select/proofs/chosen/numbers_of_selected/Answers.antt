@@ -1,5 +1,5 @@
 use Rattle.std.proofs.Common.{◌∙◌, ℕ, ◌<◌, ◌+◌, List, [], ◌∷◌, ◌++◌, length, true, false, sym, ap, refl, arith, append-nil, Vec, Global}
-use Rattle.redl_select.specs.Views.{selection_of}
+use Rattle.redl_kinds.specs.Views.{selection_of}
 use Rattle.redl_select.proofs.ChosenLaws.{one_more}
 use Rattle.redl_select.proofs.chosen.numbers_of_selected.Goals as goal
 use Rattle.redl_select.proofs.chosen.numbers_of_selected.Goals.{then-selects_number+in_ok-push, else-selects_number}

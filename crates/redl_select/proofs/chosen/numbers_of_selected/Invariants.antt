@@ -1,6 +1,6 @@
 use Rattle.std.proofs.Common.{◌≡◌, take}
 use Rattle.redl_select.specs.Selections.{numbers_from}
-use Rattle.redl_select.specs.Views.{selection_of}
+use Rattle.redl_kinds.specs.Views.{selection_of}
 use Rattle.redl_select.proofs.chosen.numbers_of_selected.Given as goal
 
 abbrev pub invariant-loop-place : goal.invariant-loop-place

@@ -3,4 +3,4 @@ use Rattle.redl_show_commands.proofs.LockLaws.{held_is_locked}
 use Rattle.redl_show_commands.proofs.page.is_locked.Goals as goal
 
 pub returns : goal.returns
-returns c = c.holds_some.ensures ∙ held_is_locked c.args.locks.now c.args.revision.now
+returns c = c.any_holds.ensures ∙ held_is_locked c.args.locks.now c.args.revision.now

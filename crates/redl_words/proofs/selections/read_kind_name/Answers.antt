@@ -1,5 +1,5 @@
 use Rattle.std.proofs.Common.{sym, ap, ◌∙◌}
-use Rattle.redl_index.specs.KindNames.{kind_named}
+use Rattle.redl_kinds.specs.KindNames.{kind_named}
 use Rattle.redl_words.proofs.SelectionLaws.{kind_found}
 use Rattle.redl_words.proofs.selections.read_kind_name.Goals as goal
 

@@ -5,8 +5,9 @@ use Rattle.std.specs.Ordering.{nat_cmp}
 use Rattle.redl_write_commands.proofs.ChoiceLaws.{choices_more, numbers_more, word_more}
 use Rattle.redl_commands.specs.Choices.{chosen_numbers, is_among, word_on}
 use Rattle.redl_journal.specs.declared.entry.Word.{Word}
-use Rattle.redl_select.specs.Selections.{Selection, chosen}
-use Rattle.redl_select.specs.Views.{selection_of}
+use Rattle.redl_kinds.specs.Selections.{Selection}
+use Rattle.redl_select.specs.Selections.{chosen}
+use Rattle.redl_kinds.specs.Views.{selection_of}
 use Rattle.redl_words.specs.Views.{choices_view}
 use Rattle.redl_write_commands.proofs.choices.words_of.Goals as goal
 

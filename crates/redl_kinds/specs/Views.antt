@@ -1,7 +1,7 @@
 -- The code's selections as plain data.
-use Rattle.redl_select.specs.declared.selection.Selection as code
-use Rattle.redl_select.specs.declared.selection.Selection.TheVariants as variants
-use Rattle.redl_select.specs.Selections.{Selection, all, numbers, author, span, kind, group}
+use Rattle.redl_kinds.specs.declared.selection.Selection as code
+use Rattle.redl_kinds.specs.declared.selection.Selection.TheVariants as variants
+use Rattle.redl_kinds.specs.Selections.{Selection, all, numbers, author, span, kind, group}
 
 -- a selection of the code as plain data
 abbrev pub selection_of : code.Selection → Selection

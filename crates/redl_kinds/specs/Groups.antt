@@ -1,9 +1,9 @@
 -- Groups of kinds of revisions (our own rule). Each kind is in one group.
 use Rattle.std.specs.Prelude.{Bool, true, false}
-use Rattle.redl_index.specs.declared.revision.RevKind.{RevKind}
-use Rattle.redl_index.specs.declared.revision.RevKind.TheVariants as kinds
-use Rattle.redl_select.specs.declared.group.Group.{Group}
-use Rattle.redl_select.specs.declared.group.Group.TheVariants.{Content, Marks, Rows, Cells, Props}
+use Rattle.redl_kinds.specs.declared.rev_kind.RevKind.{RevKind}
+use Rattle.redl_kinds.specs.declared.rev_kind.RevKind.TheVariants as kinds
+use Rattle.redl_kinds.specs.declared.group.Group.{Group}
+use Rattle.redl_kinds.specs.declared.group.Group.TheVariants.{Content, Marks, Rows, Cells, Props}
 
 -- the kind is in the group; a paired move is content
 abbrev pub is_in : Group → RevKind → Bool

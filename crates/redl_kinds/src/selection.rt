@@ -2,7 +2,7 @@
 ghost use Rattle.std.specs.Prelude.{◌≡◌};
 
 use crate::group::Group;
-use redl_index::RevKind;
+use crate::rev_kind::RevKind;
 use redl_io::Text;
 
 /// A choice of revisions of a package.
@@ -34,10 +34,10 @@ pub enum Listed {
 }
 
 impl Listed {
-    ghost use Rattle.redl_select.specs.Selections.{has_number};
+    ghost use Rattle.redl_kinds.specs.Selections.{has_number};
 
     /// Whether the number is in the item.
-    pub(crate) fn has(self, number: u32) -> bool
+    pub fn has(self, number: u32) -> bool
         ensures { result ≡ has_number number self }
     {
         match self {

@@ -6,11 +6,11 @@ use Rattle.std.proofs.lemmas.Slice.Eq.{bytes_eq-Decides}
 use Rattle.std.proofs.lemmas.Bool.{and_parts}
 use Rattle.redl_tree.specs.declared.kinds.Trace.TheVariants.{Ins, Del, From, To}
 use Rattle.redl_tree.specs.declared.kinds.Prop.TheVariants as props
-use Rattle.redl_index.specs.declared.revision.RevKind.{RevKind}
-use Rattle.redl_index.specs.declared.revision.RevKind.TheVariants.{Content, Move, Mark, Row, Cell, Change}
-use Rattle.redl_index.specs.Kinds.{is_named, is_same_kind}
-use Rattle.redl_index.specs.KindNames.{kind_name, is_name_of, kind_named}
-use Rattle.redl_index.specs.declared.kind_names.TheConstants.{KINDS}
+use Rattle.redl_kinds.specs.declared.rev_kind.RevKind.{RevKind}
+use Rattle.redl_kinds.specs.declared.rev_kind.RevKind.TheVariants.{Content, Move, Mark, Row, Cell, Change}
+use Rattle.redl_kinds.specs.Kinds.{is_named, is_same_kind}
+use Rattle.redl_kinds.specs.KindNames.{kind_name, is_name_of, kind_named}
+use Rattle.redl_kinds.specs.declared.kind_names.TheConstants.{KINDS}
 
 -- each named kind is in the table once
 pub listed_once : (kind : RevKind) → IsTrue (is_named kind) → length (filter (is_same_kind kind) KINDS) ≡ 1

@@ -1,7 +1,7 @@
 //! Groups of kinds.
 ghost use Rattle.std.specs.Prelude.{◌≡◌};
 
-use redl_index::RevKind;
+use crate::rev_kind::RevKind;
 
 /// A group of kinds of revisions. Each kind is in one group.
 #[derive(Clone, Copy, Debug, PartialEq, Eq)]
@@ -19,7 +19,7 @@ pub enum Group {
 }
 
 impl Group {
-    ghost use Rattle.redl_select.specs.Groups.{is_in};
+    ghost use Rattle.redl_kinds.specs.Groups.{is_in};
 
     /// Whether the kind is in the group.
     pub fn has(self, kind: RevKind) -> bool

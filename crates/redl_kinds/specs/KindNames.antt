@@ -3,9 +3,9 @@ use Rattle.std.specs.Prelude.{ℕ, List, [], Bool, Option, codes, find}
 use Rattle.std.specs.Str.{bytes_eq}
 use Rattle.redl_tree.specs.declared.kinds.Trace.TheVariants.{Ins, Del, From, To}
 use Rattle.redl_tree.specs.declared.kinds.Prop.TheVariants as props
-use Rattle.redl_index.specs.declared.revision.RevKind.{RevKind}
-use Rattle.redl_index.specs.declared.revision.RevKind.TheVariants.{Content, Move, Mark, Row, Cell, Change}
-use Rattle.redl_index.specs.declared.kind_names.TheConstants.{KINDS}
+use Rattle.redl_kinds.specs.declared.rev_kind.RevKind.{RevKind}
+use Rattle.redl_kinds.specs.declared.rev_kind.RevKind.TheVariants.{Content, Move, Mark, Row, Cell, Change}
+use Rattle.redl_kinds.specs.declared.kind_names.TheConstants.{KINDS}
 
 -- the name of a kind; rows and cells that are moved have none
 abbrev pub kind_name : RevKind → List ℕ

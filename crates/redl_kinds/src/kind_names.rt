@@ -2,11 +2,11 @@
 
 ghost use Rattle.std.specs.Prelude.{◌≡◌, ◌↔◌, All, IsTrue, Some, filter, find, length};
 ghost use Rattle.std.specs.Option.{option_copied};
-ghost use Rattle.redl_index.specs.Kinds.{is_named, is_same_kind};
-ghost use Rattle.redl_index.specs.KindNames.{kind_name, is_name_of};
-ghost use Rattle.redl_index.specs.declared.revision.RevKind.{RevKind};
+ghost use Rattle.redl_kinds.specs.Kinds.{is_named, is_same_kind};
+ghost use Rattle.redl_kinds.specs.KindNames.{kind_name, is_name_of};
+ghost use Rattle.redl_kinds.specs.declared.rev_kind.RevKind.{RevKind};
 
-use crate::revision::RevKind;
+use crate::rev_kind::RevKind;
 use redl_tree::{Prop, Trace};
 
 /// The kinds that have a name, in the order of their table. Each of them is here once, and no other kind is (`kinds_are_listed_once`).

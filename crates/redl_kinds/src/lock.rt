@@ -1,8 +1,7 @@
 //! What nobody may decide.
 ghost use Rattle.std.specs.Prelude.{◌≡◌, IfOk};
 
-use crate::chosen::is_within;
-use redl_index::{RevKind, Revision};
+use crate::rev_kind::RevKind;
 use redl_io::Text;
 use std::alloc::{AllocError, Global};
 
@@ -19,7 +18,7 @@ pub enum Lock {
 }
 
 impl Lock {
-    ghost use Rattle.redl_select.specs.Locks.{holds, is_author, is_kind};
+    ghost use Rattle.redl_kinds.specs.Locks.{is_author, is_kind};
 
     /// An equal lock. `Err` means out of memory.
     pub fn copy(&self, alloc: Global) -> Result<Lock, AllocError>
@@ -44,16 +43,5 @@ impl Lock {
         ensures { result ≡ is_kind self.now }
     {
         matches!(self, Lock::Kind(_))
-    }
-
-    /// Whether it holds this revision.
-    pub fn holds(&self, revision: &Revision) -> bool
-        ensures { result ≡ holds revision.now self.now }
-    {
-        match self {
-            Lock::Author(name) => revision.author.as_bytes() == name.as_bytes(),
-            Lock::Kind(kind) => revision.kind == *kind,
-            Lock::Span(start, end) => is_within(*start, *end, revision.seconds),
-        }
     }
 }

@@ -1,0 +1,2 @@
+pub mod KindNameLaws
+mod Rows
