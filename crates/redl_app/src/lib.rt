@@ -10,16 +10,12 @@ mod answers;
 mod call;
 mod commands;
 mod formats;
-mod own;
 mod plan;
 mod top;
-mod words;
 
 pub use answers::answer;
 pub use call::run_words;
-pub use own::{Own, Texts, own_of};
 pub use redl_inputs::{JOURNALS_LIMIT, PACKAGE_LIMIT};
 pub use redl_lines::Status;
 pub use redl_words::WordsError;
-pub use top::{refuse_words, run, run_surely, tell_text};
-pub use words::add_word;
+pub use top::{refuse_words, run, run_surely};

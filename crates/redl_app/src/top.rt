@@ -4,7 +4,6 @@
 //! has the command carried out.
 
 ghost use Rattle.std.specs.Prelude.{◌≡◌, ◌≢◌, ◌⊎◌, [], All, IfErr, IfOk, IsOk, IsUtf8, Ok, Result};
-ghost use Rattle.std.specs.Io.KnownBytes.{append_known};
 ghost use Rattle.redl_outcome.specs.Answers.{AreLines, Asks, IsAnswer, MayFault, OfOutcome, TellsSome, Writes};
 ghost use Rattle.redl_outcome.specs.Files.{files_of};
 ghost use Rattle.redl_outcome.specs.Words.{IsWanted, named_files, read_view, words_failure};
@@ -21,10 +20,9 @@ ghost use Rattle.redl_inputs.specs.Views.{result_view};
 ghost use Rattle.redl_io.specs.Faults.{Rose};
 ghost use Rattle.redl_io.specs.MemShelf.{file_named};
 ghost use Rattle.redl_io.specs.Shelf.{Files};
-ghost use Rattle.redl_io.specs.Sink.{GrowsByFront};
 ghost use Rattle.redl_lines.specs.Ends.{Tells, end_status, end_view, failed};
 ghost use Rattle.redl_lines.specs.Failures.{Failure as FailureOf, failure_status, failure_view};
-ghost use Rattle.redl_lines.specs.Lines.{failure_line, unwritten_line};
+ghost use Rattle.redl_lines.specs.Lines.{failure_line};
 ghost use Rattle.redl_page.specs.declared.page.Skin.{Skin as SkinOf};
 ghost use Rattle.redl_words.specs.Commands.{Command as CommandOf, HasNoCommand, HasUtf8, IsCommand};
 ghost use Rattle.redl_words.specs.Views.{command_of};
@@ -34,7 +32,7 @@ use crate::formats::{check_format, check_report};
 use crate::plan::{format, package, report};
 use redl_inputs::fetch_package;
 use redl_io::{NullSink, Shelf, Sink, SureShelf, Text};
-use redl_lines::{Cause, End, Failure, Remarks, Status, tell};
+use redl_lines::{Cause, End, Failure, Status, tell};
 use redl_listing::RowFormat;
 use redl_page::Skin;
 use redl_report::ReportFormat;
@@ -224,25 +222,6 @@ pub fn refuse_words<E: Sink>(error: WordsError, err: &mut E) -> Status
     ensures lines { Tells E.told E.faults err.old err.new (failure_line (words_failure error)) }
 {
     let end = End::Failed(failure_of(error));
-    tell(&end, err);
-    end.status()
-}
-
-/// Writes a text that the program tells of itself, and gives the status that the program ends with.
-pub fn tell_text<O: Sink, E: Sink>(alloc: Global, text: &str, out: &mut O, err: &mut E) -> Status
-    ensures status { (result ≡ Status.Done) ⊎ (result ≡ Status.WriteFault) }
-    ensures all { result ≡ Status.Done → O.told out.new ≡ append_known (O.told out.old) text.now }
-    ensures front { result ≡ Status.WriteFault → GrowsByFront (O.told out.old) (O.told out.new) text.now }
-    ensures cause { result ≡ Status.WriteFault → Rose (O.faults out.old) (O.faults out.new) }
-    ensures stands { result ≡ Status.Done → O.faults out.new ≡ O.faults out.old }
-    ensures silent { result ≡ Status.Done → Tells E.told E.faults err.old err.new [] }
-    ensures lines { result ≡ Status.WriteFault → Tells E.told E.faults err.old err.new unwritten_line }
-{
-    let remarks = Remarks::none(alloc);
-    let end = match out.put(text.as_bytes()) {
-        Ok(()) => End::Written(remarks),
-        Err(_) => End::Unwritten(remarks),
-    };
     tell(&end, err);
     end.status()
 }

@@ -2,8 +2,9 @@
 
 ghost use Rattle.std.specs.Prelude.{IfOk, All, IsUtf8};
 
-use redl_app::{Status, add_word, run_words};
+use redl_app::{Status, run_words};
 use redl_io::{MemShelf, MemSink, Text};
+use redl_own::add_word;
 use redl_page::Skin;
 use std::alloc::{AllocError, Global};
 

@@ -9,22 +9,15 @@
 mod help;
 mod skin;
 
-ghost use Rattle.std.specs.Prelude.{◌≡◌, drop, map, IfOk, All, IsUtf8};
-ghost use Rattle.std.specs.String.{string_bytes};
-ghost use Rattle.std.specs.Vec.Iter.{into_iter_items};
-
 use help::{HELP, VERSION};
-use redl_app::{Status, Texts, WordsError, add_word, answer, own_of};
+use redl_app::{WordsError, answer};
 use redl_hints::{Fetched, Told, tell_hints, tell_word_hint};
 use redl_io::{FileShelf, Shelf, Sink, StdSink, Text};
+use redl_own::{Texts, given_words, own_of};
 use redl_page::Skin;
 use skin::{POLICY, SCRIPT, STYLE};
-use std::alloc::{AllocError, Global};
-use std::env;
-use std::env::Args;
-use std::io::ErrorKind;
+use std::alloc::Global;
 use std::process::ExitCode;
-use std::rt::Env;
 
 // What the program tells of itself.
 const TEXTS: Texts<'static> = Texts {
@@ -36,7 +29,7 @@ fn main(rt: HostRuntime) -> ExitCode {
     let mut shelf = Fetched::new(rt.alloc(), FileShelf::new(&rt));
     let mut out = Told::new(rt.alloc(), StdSink::new(rt.stdout()));
     let mut err = Told::new(rt.alloc(), StdSink::new(rt.stderr()));
-    let words = read_words(&rt);
+    let words = given_words(&rt);
     let status = answer(
         rt.alloc(),
         &words,
@@ -80,31 +73,4 @@ fn page_skin() -> Skin<'static> {
         style: STYLE.as_bytes(),
         script: SCRIPT.as_bytes(),
     }
-}
-
-// The words of the command line.
-fn read_words(rt: &(impl Env + AllocGlobal)) -> Result<Vec<Text>, WordsError>
-    ensures { IfOk result (λ words. All IsUtf8 words.items) }
-{
-    match env::args(rt) {
-        Ok(args) => match copy_words(rt.alloc(), args) {
-            Ok(words) => Ok(words),
-            Err(_) => Err(WordsError::NoMemory),
-        },
-        Err(error) if error.kind() == ErrorKind::OutOfMemory => Err(WordsError::NoMemory),
-        Err(_) => Err(WordsError::Usage),
-    }
-}
-
-// The words after the program's name.
-fn copy_words(alloc: Global, mut args: Args) -> Result<Vec<Text>, AllocError>
-    ensures words { IfOk result (λ words. words.items ≡ map string_bytes (drop 1 (into_iter_items args))) }
-    ensures utf8 { IfOk result (λ words. All IsUtf8 words.items) }
-{
-    let mut words = Vec::new(alloc);
-    let _program = args.next();
-    for word in args {
-        add_word(alloc, &mut words, word.as_str())?;
-    }
-    Ok(words)
 }

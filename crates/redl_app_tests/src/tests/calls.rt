@@ -1,9 +1,10 @@
 //! Packages, journals and calls by hand, for the tests of all commands.
 ghost use Rattle.std.specs.Prelude.{◌≡◌, IfOk, All, IsUtf8, [], false};
 
-use redl_app::{Status, add_word, run, run_surely};
+use redl_app::{Status, run, run_surely};
 use redl_io::{MemShelf, MemSink, Shelf, Sink, SureShelf, Text};
 use redl_listing::RowFormat;
+use redl_own::add_word;
 use redl_page::Skin;
 use sha2::{Digest, Sha256};
 use std::alloc::{AllocError, Global};

@@ -1,7 +1,7 @@
 //! What the program tells of itself.
 
 ghost use Rattle.std.specs.Prelude.{◌≡◌};
-ghost use Rattle.redl_app.specs.Own.{is_help, own_of, text_of};
+ghost use Rattle.redl_own.specs.Own.{is_help, own_of, text_of};
 
 use redl_io::Text;
 
@@ -25,7 +25,7 @@ pub struct Texts<'a> {
 
 impl<'a> Texts<'a> {
     /// The text of one of them.
-    pub(crate) fn text_of(&self, own: Own) -> &'a str
+    pub fn text_of(&self, own: Own) -> &'a str
         ensures { result.now ≡ text_of self.now own }
     {
         match own {

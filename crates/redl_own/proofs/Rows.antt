@@ -1,7 +1,7 @@
 -- Worked rows of `own_of`.
 use Rattle.std.proofs.Common.{◌≡◌, [], ◌∷◌, None, Some, codes, refl}
-use Rattle.redl_app.specs.Own.{own_of}
-use Rattle.redl_app.specs.declared.own.Own.TheVariants.{Help, Version}
+use Rattle.redl_own.specs.Own.{own_of}
+use Rattle.redl_own.specs.declared.own.Own.TheVariants.{Help, Version}
 
 no_words : own_of [] ≡ Some Help
 no_words = refl

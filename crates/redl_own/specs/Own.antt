@@ -4,9 +4,9 @@ use Rattle.std.specs.Str.{bytes_eq}
 use Rattle.redl_lines.specs.Lines.{unwritten_line}
 use Rattle.redl_lines.specs.declared.status.Status.{Status}
 use Rattle.redl_lines.specs.declared.status.Status.TheVariants as status
-use Rattle.redl_app.specs.declared.own.Own.{Own}
-use Rattle.redl_app.specs.declared.own.Own.TheVariants.{Help, Version}
-use Rattle.redl_app.specs.declared.own.Texts.{Texts}
+use Rattle.redl_own.specs.declared.own.Own.{Own}
+use Rattle.redl_own.specs.declared.own.Own.TheVariants.{Help, Version}
+use Rattle.redl_own.specs.declared.own.Texts.{Texts}
 
 -- a word that asks for help
 abbrev pub is_help : List ℕ → Bool
