@@ -7,15 +7,13 @@
 #![tactic(auto)]
 
 mod help;
-mod skin;
 
 use help::{HELP, VERSION};
 use redl_app::{WordsError, answer};
 use redl_hints::{Fetched, Told, tell_hints, tell_word_hint};
 use redl_io::{FileShelf, Shelf, Sink, StdSink, Text};
 use redl_own::{Texts, given_words, own_of};
-use redl_page::Skin;
-use skin::{POLICY, SCRIPT, STYLE};
+use redl_skin::page_skin;
 use std::alloc::Global;
 use std::process::ExitCode;
 
@@ -63,14 +61,5 @@ fn tell_hint<F: Shelf, O: Sink, E: Sink>(
         ),
         Err(WordsError::Usage) => tell_word_hint(err),
         _ => {}
-    }
-}
-
-// The program's own policy, style and script for a page.
-fn page_skin() -> Skin<'static> {
-    Skin {
-        policy: POLICY.as_bytes(),
-        style: STYLE.as_bytes(),
-        script: SCRIPT.as_bytes(),
     }
 }
