@@ -1,17 +1,10 @@
 pub mod Choices
 pub mod Writing
-pub mod Formats
 pub mod Endings
 pub mod Settle
-pub mod Text
-pub mod Shown
-pub mod List
-pub mod Page
-pub mod Report
 pub mod Write
 pub mod Join
 pub mod Check
 pub mod Decide
 pub mod Sample
-pub mod Resume
 pub mod Views

@@ -1,7 +1,8 @@
-//! What each command makes of its files, as definitions, and how that goes out.
+//! What commands make of their files, as definitions, and how that goes out.
 //!
-//! Read `specs/Settle.antt` or `specs/Write.antt` first: each command has a module there, which says what is written for the files that the
-//! command names, or for which first cause nothing is. `put` promises how a call ends that writes what it made.
+//! Read `specs/Settle.antt` or `specs/Write.antt` first: a command has a module there, or in `redl_more_commands` where it needs more than
+//! a session. The module says what is written for the files that the command names, or for which first cause nothing is. `put` promises how
+//! a call ends that writes what it made.
 //! The code that makes it is left to five crates beside each other: `redl_write_commands`, `redl_resume_command`, `redl_list_commands`,
 //! `redl_show_commands` and `redl_sample_command`.
 #![tactic(auto)]

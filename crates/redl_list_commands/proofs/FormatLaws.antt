@@ -6,10 +6,10 @@ use Rattle.std.specs.Option.{option_map}
 use Rattle.std.specs.Str.{bytes_eq}
 use Rattle.redl_lines.proofs.CauseLaws.{by_cause}
 use Rattle.redl_inputs.specs.Admission.{Admission}
-use Rattle.redl_commands.specs.List.{listing, listing_named, part_names, session_details, session_rows, session_verdicts}
-use Rattle.redl_commands.specs.Shown.{shown_revisions}
+use Rattle.redl_more_commands.specs.List.{listing, listing_named, part_names, session_details, session_rows, session_verdicts}
+use Rattle.redl_more_commands.specs.Shown.{shown_revisions}
 use Rattle.redl_commands.specs.Endings.{Finishes}
-use Rattle.redl_commands.specs.Formats.{Format, LeavesFormats, format_named, formats_by, found_format, whether}
+use Rattle.redl_more_commands.specs.Formats.{Format, LeavesFormats, format_named, formats_by, found_format, whether}
 use Rattle.redl_inputs.specs.Reading.{Reads}
 use Rattle.redl_inputs.specs.Steps.{◌>>=◌}
 use Rattle.redl_commands.specs.Writing.{Writing, outcome_of}
@@ -27,7 +27,7 @@ use Rattle.redl_join.specs.declared.verdict.Verdict.{Verdict}
 use Rattle.redl_listing.specs.Rows.{shown_rows, told_rows}
 use Rattle.redl_listing.specs.declared.row.Row.{Row}
 use Rattle.redl_report.specs.declared.line.ReportLine.{ReportLine}
-use Rattle.redl_commands.specs.Report.{report_named, report_of, session_lines}
+use Rattle.redl_more_commands.specs.Report.{report_named, report_of, session_lines}
 use Rattle.redl_session.specs.Says.{verdicts_of}
 use Rattle.redl_words.specs.Shown.{Only}
 

@@ -4,7 +4,7 @@ use Rattle.std.proofs.Math.Seq.{take-suc}
 use Rattle.std.proofs.lemmas.List.{length-map}
 use Rattle.std.proofs.lemmas.List.Elements.{All-append, All-cons, All-nil}
 use Rattle.std.proofs.lemmas.Option.{get_or_from_slice_get, slice_get_within}
-use Rattle.redl_commands.specs.List.{part_names}
+use Rattle.redl_more_commands.specs.List.{part_names}
 use Rattle.redl_index.proofs.PartLaws.{revisions-in_story}
 use Rattle.redl_index.specs.Numbers.{numbered_package}
 use Rattle.redl_index.specs.Revisions.{revisions_of}

@@ -5,7 +5,7 @@ use Rattle.std.proofs.lemmas.List.{drop_all, append-nil}
 use Rattle.std.specs.List.{list_all}
 use Rattle.redl_index.specs.declared.revision.Revision.{Revision}
 use Rattle.redl_join.specs.declared.verdict.Verdict.{Verdict}
-use Rattle.redl_commands.specs.Shown.{shown_revisions, shows}
+use Rattle.redl_more_commands.specs.Shown.{shown_revisions, shows}
 use Rattle.redl_words.specs.Shown.{Only}
 
 -- no revision is left

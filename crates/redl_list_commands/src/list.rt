@@ -1,9 +1,9 @@
 //! `list P` with a format, journals and locks, of all revisions or of those alone that are wanted.
 
 ghost use Rattle.std.specs.Prelude.{◌≡◌, ◌⊎◌, ◌<◌, Bool, true, length, slice_get, Ok, Some, All, IsUtf8, IfOk, OnErr, OnOk};
-ghost use Rattle.redl_commands.specs.List.{listed, listing_named, part_names, session_details, session_verdicts, shows_details};
-ghost use Rattle.redl_commands.specs.Shown.{shown_revisions};
-ghost use Rattle.redl_commands.specs.Formats.{AreFresh, LeavesFormats, format_named, formats_by, whether};
+ghost use Rattle.redl_more_commands.specs.List.{listed, listing_named, part_names, session_details, session_verdicts, shows_details};
+ghost use Rattle.redl_more_commands.specs.Shown.{shown_revisions};
+ghost use Rattle.redl_more_commands.specs.Formats.{AreFresh, LeavesFormats, format_named, formats_by, whether};
 ghost use Rattle.redl_inputs.specs.Reading.{ReadsFiles, Reads};
 ghost use Rattle.redl_commands.specs.Views.{writing_view};
 ghost use Rattle.redl_inputs.specs.Views.{admission_view, result_view};

@@ -1,8 +1,8 @@
 //! `report P` with a format, journals and locks.
 
 ghost use Rattle.std.specs.Prelude.{◌≡◌, Ok, All, IfOk, IsUtf8};
-ghost use Rattle.redl_commands.specs.Report.{report_named, reported, session_lines};
-ghost use Rattle.redl_commands.specs.Formats.{AreFresh, LeavesFormats, format_named, formats_by, whether};
+ghost use Rattle.redl_more_commands.specs.Report.{report_named, reported, session_lines};
+ghost use Rattle.redl_more_commands.specs.Formats.{AreFresh, LeavesFormats, format_named, formats_by, whether};
 ghost use Rattle.redl_commands.specs.Views.{writing_view};
 ghost use Rattle.redl_commands.specs.Writing.{outcome_of};
 ghost use Rattle.redl_inputs.specs.Reading.{Reads, ReadsFiles};

@@ -2,7 +2,7 @@
 
 ghost use Rattle.std.specs.Prelude.{◌≡◌, IfOk, length};
 ghost use Rattle.std.specs.List.{list_all};
-ghost use Rattle.redl_commands.specs.Shown.{is_same_verdict, shown_revisions, shows};
+ghost use Rattle.redl_more_commands.specs.Shown.{is_same_verdict, shown_revisions, shows};
 ghost use Rattle.redl_words.specs.Views.{only_of, onlys_view};
 
 use redl_index::Revision;

@@ -3,7 +3,7 @@ use Rattle.std.proofs.Common.{◌≡◌, ◌++◌, ℕ, List, [], length, map, t
 use Rattle.std.specs.Str.{bytes_eq}
 use Rattle.redl_inputs.proofs.PackageLaws.{sound_of}
 use Rattle.redl_commands.specs.Join.{book_text}
-use Rattle.redl_commands.specs.Resume.{left_by, of_second, resumption, second_failure, sitting_on, text_under}
+use Rattle.redl_more_commands.specs.Resume.{left_by, of_second, resumption, second_failure, sitting_on, text_under}
 use Rattle.redl_commands.specs.Settle.{passed_text}
 use Rattle.redl_commands.specs.Write.{left_text}
 use Rattle.redl_resume_command.specs.Inside.FirstSittings.{IsFirst, IsReadAgain, SecondSitting, joined_by, resumption_of}

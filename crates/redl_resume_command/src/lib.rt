@@ -1,6 +1,6 @@
 //! The command `resume`: two packages and the journals of two sittings go in; the journal of both, or why there is none, comes out.
 //!
-//! `resume_package` promises what `redl_commands` defines of the files that it names, or that the first cause of a refusal came before.
+//! `resume_package` promises what `redl_more_commands` defines of the files that it names, or that the first cause of a refusal came before.
 //! It is the longest of the commands that write journals, so it is proved beside them.
 #![tactic(auto)]
 

@@ -6,7 +6,7 @@
 
 ghost use Rattle.std.specs.Prelude.{◌≡◌, ◌<◌, ◌^◌, ◌++◌, ◌∷◌, All, IsUtf8, IfOk, Ok, length, map};
 ghost use Rattle.std.specs.Str.{bytes_eq};
-ghost use Rattle.redl_commands.specs.Resume.{of_second, resumed, resumed_on, resumed_with, second_cause, second_failure};
+ghost use Rattle.redl_more_commands.specs.Resume.{of_second, resumed, resumed_on, resumed_with, second_cause, second_failure};
 ghost use Rattle.redl_commands.specs.Settle.{passed_text};
 ghost use Rattle.redl_commands.specs.Write.{left_text};
 ghost use Rattle.redl_resume_command.specs.Inside.FirstSittings.{IsFirst, IsReadAgain, joined_by, joined_view, read_under, resumption_of, second_joined};

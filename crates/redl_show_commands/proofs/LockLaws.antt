@@ -1,7 +1,7 @@
 -- Entries on a revision are refused exactly if a lock holds it.
 use Rattle.std.proofs.Common.{◌≡◌, Bool, true, false, ◌&&◌, ◌||◌, List, [], ◌∷◌, Some, None, is_some, refl, if◌then◌else◌}
 use Rattle.std.specs.List.{list_any}
-use Rattle.redl_commands.specs.Page.{is_locked}
+use Rattle.redl_more_commands.specs.Page.{is_locked}
 use Rattle.redl_index.specs.declared.revision.Revision.{Revision}
 use Rattle.redl_kinds.specs.Locks.{is_author, is_kind}
 use Rattle.redl_select.specs.Locks.{holds}

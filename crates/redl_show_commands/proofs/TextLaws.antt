@@ -1,7 +1,7 @@
 -- What goes out of a numbered package is its text in a view.
 use Rattle.std.proofs.Common.{◌≡◌, ℕ, replicate, ap, ◌∙◌}
 use Rattle.redl_commands.specs.Settle.{same_says}
-use Rattle.redl_commands.specs.Text.{plain_under}
+use Rattle.redl_more_commands.specs.Text.{plain_under}
 use Rattle.redl_index.specs.Numbers.{numbered_package, package_revisions}
 use Rattle.redl_stamp.specs.Attribute.{attribute_value}
 use Rattle.redl_tree.proofs.Revisions.NumberLaws.{numbered-indexed}

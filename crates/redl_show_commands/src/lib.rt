@@ -3,7 +3,7 @@
 //!
 //! Each command has a module with one public call, and read `check_package` first. `check_package` promises what its definition in
 //! `redl_commands` says, or that the first cause of a refusal came before; `put_text` and `put_page`, which put a text themselves, promise
-//! how that ends.
+//! how that ends for what `redl_more_commands` defines.
 #![tactic(auto)]
 
 mod check;

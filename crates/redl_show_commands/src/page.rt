@@ -4,7 +4,7 @@
 
 ghost use Rattle.std.specs.Prelude.{◌≡◌, ℕ, Ok, All, IfOk, IsUtf8, OnErr, OnOk, length, map};
 ghost use Rattle.std.specs.Io.KnownBytes.{append_known};
-ghost use Rattle.redl_commands.specs.Page.{is_locked, page_of, paged, shown_of};
+ghost use Rattle.redl_more_commands.specs.Page.{is_locked, page_of, paged, shown_of};
 ghost use Rattle.redl_commands.specs.Endings.{Ends, EndsAlone, Finishes};
 ghost use Rattle.redl_inputs.specs.Views.{admission_view};
 ghost use Rattle.redl_io.specs.Sink.{CountsPut, GrowsByFront};

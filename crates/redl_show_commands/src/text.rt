@@ -4,7 +4,7 @@
 
 ghost use Rattle.std.specs.Prelude.{◌≡◌, Ok, IfOk, OnErr, OnOk, replicate};
 ghost use Rattle.std.specs.Io.KnownBytes.{append_known};
-ghost use Rattle.redl_commands.specs.Text.{text_in, viewed};
+ghost use Rattle.redl_more_commands.specs.Text.{text_in, viewed};
 ghost use Rattle.redl_commands.specs.Endings.{EndsAlone, Finishes};
 ghost use Rattle.redl_show_commands.specs.Views.{shown_text, shown_view};
 ghost use Rattle.redl_inputs.specs.Reading.{Reads};

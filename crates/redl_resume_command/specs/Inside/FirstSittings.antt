@@ -2,7 +2,7 @@
 use Rattle.std.specs.Prelude.{◌≡◌, ℕ, List, [], Result, Ok, Err, map, length, if◌then◌else◌}
 use Rattle.std.specs.Str.{bytes_eq}
 use Rattle.redl_commands.specs.Join.{book_text}
-use Rattle.redl_commands.specs.Resume.{sitting_on, text_under}
+use Rattle.redl_more_commands.specs.Resume.{sitting_on, text_under}
 use Rattle.redl_commands.specs.Settle.{passed_text}
 use Rattle.redl_commands.specs.Write.{left_text}
 use Rattle.redl_commands.specs.Writing.{Writing}

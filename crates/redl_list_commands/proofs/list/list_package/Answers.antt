@@ -3,8 +3,8 @@ use Rattle.std.proofs.lemmas.Result.{err_from_is_err_and}
 use Rattle.redl_list_commands.proofs.PartNameLaws.{session_names, revisions_named}
 use Rattle.redl_inputs.proofs.ReadLaws.{fails_alone, reads_stops, reads_then_takes, takes_stops_reads, takes_then_reads}
 use Rattle.redl_inputs.specs.Admission.{opened_over}
-use Rattle.redl_commands.specs.List.{listing_named, part_names}
-use Rattle.redl_commands.specs.Formats.{formats_by}
+use Rattle.redl_more_commands.specs.List.{listing_named, part_names}
+use Rattle.redl_more_commands.specs.Formats.{formats_by}
 use Rattle.redl_words.specs.Views.{onlys_view}
 use Rattle.redl_list_commands.proofs.list.list_package.Goals as goal
 

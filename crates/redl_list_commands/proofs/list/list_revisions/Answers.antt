@@ -1,5 +1,5 @@
 use Rattle.std.proofs.Common.{◌∙◌, ap, sym, length, refl}
-use Rattle.redl_commands.specs.Shown.{shown_revisions}
+use Rattle.redl_more_commands.specs.Shown.{shown_revisions}
 use Rattle.redl_inputs.specs.Views.{admission_view}
 use Rattle.redl_list_commands.proofs.FormatLaws.{reads_listing, verdicts_for}
 use Rattle.redl_words.specs.Views.{onlys_view}

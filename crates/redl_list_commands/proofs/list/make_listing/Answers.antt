@@ -1,5 +1,5 @@
 use Rattle.std.proofs.Common.{◌∙◌, ap, sym, length}
-use Rattle.redl_commands.specs.Shown.{shown_revisions}
+use Rattle.redl_more_commands.specs.Shown.{shown_revisions}
 use Rattle.redl_formats.specs.Formats.{first_named}
 use Rattle.redl_list_commands.proofs.FormatLaws.{listed_same}
 use Rattle.redl_words.specs.Views.{onlys_view}

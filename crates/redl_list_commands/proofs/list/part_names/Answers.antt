@@ -1,5 +1,5 @@
 use Rattle.redl_list_commands.proofs.PartNameLaws.{names_more, all_more}
-use Rattle.redl_commands.specs.List.{part_names}
+use Rattle.redl_more_commands.specs.List.{part_names}
 use Rattle.redl_list_commands.proofs.list.part_names.Goals as goal
 
 pub loop-part-preserved : goal.loop-part-preserved

@@ -1,5 +1,5 @@
 use Rattle.std.proofs.Common.{◌≡◌, take, All, IsUtf8}
-use Rattle.redl_commands.specs.List.{part_names}
+use Rattle.redl_more_commands.specs.List.{part_names}
 use Rattle.redl_list_commands.proofs.list.part_names.Given as goal
 
 -- the names so far

@@ -1,7 +1,7 @@
 use Rattle.std.proofs.lemmas.Result.{err_from_is_err_and}
 use Rattle.redl_inputs.proofs.ReadLaws.{reads_stops, reads_then_takes}
-use Rattle.redl_commands.specs.Report.{report_named}
-use Rattle.redl_commands.specs.Formats.{formats_by}
+use Rattle.redl_more_commands.specs.Report.{report_named}
+use Rattle.redl_more_commands.specs.Formats.{formats_by}
 use Rattle.redl_list_commands.proofs.report.report_package.Goals as goal
 
 pub returns-in_err-admitted-clause-read : goal.returns-in_err-admitted-clause-read

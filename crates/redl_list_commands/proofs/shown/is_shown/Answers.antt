@@ -1,6 +1,6 @@
 use Rattle.std.proofs.Common.{◌∙◌, sym}
 use Rattle.std.proofs.lemmas.List.Folds.{list_all-map}
-use Rattle.redl_commands.specs.Shown.{shows}
+use Rattle.redl_more_commands.specs.Shown.{shows}
 use Rattle.redl_words.specs.Views.{only_of}
 use Rattle.redl_list_commands.proofs.shown.is_shown.Goals as goal
 

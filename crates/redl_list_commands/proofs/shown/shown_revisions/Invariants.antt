@@ -1,5 +1,5 @@
 use Rattle.std.proofs.Common.{◌≡◌, ◌++◌, drop}
-use Rattle.redl_commands.specs.Shown.{shown_revisions}
+use Rattle.redl_more_commands.specs.Shown.{shown_revisions}
 use Rattle.redl_words.specs.Views.{onlys_view}
 use Rattle.redl_list_commands.proofs.shown.shown_revisions.Given as goal
 

@@ -1,7 +1,7 @@
 use Rattle.std.proofs.Common.{◌∷◌, ◌∙◌, sym}
 use Rattle.std.proofs.lemmas.Result.{err_from_is_err_and}
 use Rattle.redl_resume_command.proofs.ResumeLaws.{reads_left, reads_other, reads_then_in}
-use Rattle.redl_commands.specs.Resume.{left_by, resumption, sitting_on}
+use Rattle.redl_more_commands.specs.Resume.{left_by, resumption, sitting_on}
 use Rattle.redl_inputs.proofs.ReadLaws.{reads_before, reads_stops}
 use Rattle.redl_inputs.specs.Steps.{◌>>=◌}
 use Rattle.redl_resume_command.proofs.resume.resume_on.Goals as goal

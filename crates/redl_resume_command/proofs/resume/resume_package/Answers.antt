@@ -1,6 +1,6 @@
 use Rattle.std.proofs.Common.{◌∷◌, Err}
 use Rattle.std.proofs.lemmas.Result.{err_from_is_err_and}
-use Rattle.redl_commands.specs.Resume.{resumed, resumption, second_sitting}
+use Rattle.redl_more_commands.specs.Resume.{resumed, resumption, second_sitting}
 use Rattle.redl_resume_command.specs.Inside.FirstSittings.{IsReadAgain}
 use Rattle.redl_inputs.proofs.ReadLaws.{reads_after, reads_before, reads_then, reads_stops, takes_stops_reads, takes_then_reads}
 use Rattle.redl_inputs.specs.Admission.{sitting_over}

@@ -1,5 +1,5 @@
 use Rattle.std.proofs.Common.{◌≡◌, map, take}
-use Rattle.redl_commands.specs.Page.{is_locked}
+use Rattle.redl_more_commands.specs.Page.{is_locked}
 use Rattle.redl_show_commands.proofs.page.locked_revisions.Given as goal
 
 -- those of the first revisions

@@ -1,5 +1,5 @@
 use Rattle.std.proofs.Common.{Err, Ok, refl}
-use Rattle.redl_commands.specs.Page.{page_of}
+use Rattle.redl_more_commands.specs.Page.{page_of}
 use Rattle.redl_inputs.proofs.ReadLaws.{reads_stops, reads_then_takes}
 use Rattle.redl_lines.specs.Failures.{failure_view}
 use Rattle.redl_page.specs.PageViews.{skin_view}

@@ -1,6 +1,6 @@
 use Rattle.std.proofs.Common.{◌∙◌, Err, Ok, ap, length, refl, subst, sym}
 use Rattle.redl_show_commands.proofs.PageLaws.{same_shown}
-use Rattle.redl_commands.specs.Page.{shown_of}
+use Rattle.redl_more_commands.specs.Page.{shown_of}
 use Rattle.redl_commands.specs.Endings.{Finishes}
 use Rattle.redl_lines.specs.Ends.{end_view}
 use Rattle.redl_lines.specs.Failures.{no_memory}

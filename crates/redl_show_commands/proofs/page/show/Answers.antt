@@ -1,6 +1,6 @@
 use Rattle.std.proofs.Common.{◌≡◌, ◌∙◌, Bool, Err, List, Ok, ap, length, map, refl, subst}
 use Rattle.std.proofs.lemmas.List.{length-map}
-use Rattle.redl_commands.specs.Page.{is_locked, shown_in, shown_of}
+use Rattle.redl_more_commands.specs.Page.{is_locked, shown_in, shown_of}
 use Rattle.redl_inputs.specs.Reading.{Reads}
 use Rattle.redl_inputs.specs.Views.{admission_view}
 use Rattle.redl_lines.specs.Failures.{no_memory}

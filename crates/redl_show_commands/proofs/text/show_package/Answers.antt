@@ -1,5 +1,5 @@
 use Rattle.std.proofs.Common.{ap, sym, ◌∙◌}
-use Rattle.redl_commands.specs.Text.{text_in}
+use Rattle.redl_more_commands.specs.Text.{text_in}
 use Rattle.redl_marked.specs.MarkedText.{marked_text}
 use Rattle.redl_tree.specs.declared.kinds.Say.TheVariants.{Accept, Reject}
 use Rattle.redl_show_commands.proofs.TextLaws.{plain_text_of}

@@ -1,7 +1,7 @@
 use Rattle.std.proofs.Common.{Ok, ap, sym}
 use Rattle.std.proofs.lemmas.Result.{err_from_is_err_and}
 use Rattle.redl_inputs.proofs.ReadLaws.{takes_stops, takes_ok}
-use Rattle.redl_commands.specs.Text.{text_in}
+use Rattle.redl_more_commands.specs.Text.{text_in}
 use Rattle.redl_commands.specs.Writing.{only_bytes}
 use Rattle.redl_show_commands.proofs.text.show_text.Goals as goal
 

@@ -1,8 +1,8 @@
 -- `list P` with a format, journals and locks: a row for each revision that is shown, with the verdict on it.
 use Rattle.std.specs.Prelude.{ℕ, ◌||◌, Bool, List, [], map, length, codes, bytes_eq, if◌then◌else◌, Result, Ok}
 use Rattle.redl_inputs.specs.Admission.{Admission, opened}
-use Rattle.redl_commands.specs.Shown.{shown_revisions}
-use Rattle.redl_commands.specs.Formats.{Format, format_named}
+use Rattle.redl_more_commands.specs.Shown.{shown_revisions}
+use Rattle.redl_more_commands.specs.Formats.{Format, format_named}
 use Rattle.redl_inputs.specs.Readers.{Reader}
 use Rattle.redl_inputs.specs.Steps.{◌>>=◌}
 use Rattle.redl_commands.specs.Writing.{Writing}

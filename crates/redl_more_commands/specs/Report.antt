@@ -3,7 +3,7 @@ use Rattle.std.specs.Prelude.{ℕ, Bool, true, false, List, Result, Ok}
 use Rattle.redl_inputs.specs.Admission.{Admission, opened}
 use Rattle.redl_inputs.specs.Readers.{Reader}
 use Rattle.redl_inputs.specs.Steps.{◌>>=◌}
-use Rattle.redl_commands.specs.Formats.{Format, format_named}
+use Rattle.redl_more_commands.specs.Formats.{Format, format_named}
 use Rattle.redl_commands.specs.Writing.{Writing}
 use Rattle.redl_io.specs.Shelf.{Files}
 use Rattle.redl_lines.specs.Failures.{Failure}
