@@ -237,10 +237,22 @@ def policy(style, script):
     return rules % (digest(script), digest(style))
 
 
+# The files of the style and of the script, in the order in which they are put together.
+STYLES = ["base", "bar", "document", "changes", "views", "list", "media"]
+SCRIPTS = [
+    "elements", "bars", "views", "document", "excerpts", "list", "chosen", "decisions", "undo", "filters", "store", "names", "journal",
+    "keys", "start",
+]
+
+
+def together(folder, names, end):
+    """The files of a folder as one text, with an empty line between two."""
+    return "\n".join(read(os.path.join(SKIN, folder, name + end)) for name in names)
+
+
 def skin():
     """The policy, the style and the script of the page."""
-    text = lambda name: open(os.path.join(SKIN, name), newline="", encoding="utf-8").read()
-    style, script = text("style.css"), text("script.js")
+    style, script = together("style", STYLES, ".css"), together("script", SCRIPTS, ".js")
     return policy(style, script), style, script
 
 

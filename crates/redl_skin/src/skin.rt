@@ -2,10 +2,11 @@
 
 /// The security policy of the page: its own style and script alone, and nothing is ever fetched.
 pub const POLICY: &str =
-    "default-src 'none'; script-src 'sha256-+bYmbcxoUUWNnY6wkx+AvreMZP2T0eGgnIfWF42iaFM='; style-src 'sha256-64OO0xpKmb5UcadTROsDgQxNzhXoWL+0zlWIzmoHWvE='; base-uri 'none'; form-action 'none'; require-trusted-types-for 'script'";
+    "default-src 'none'; script-src 'sha256-/ajLhrxtsvaSQWw/W34dVSJYzU3wN10GoO4JdgIGPw4='; style-src 'sha256-9UeXLGdpaKhVEUSBYAq/GFtkFIO89X9t4PyOtf9nD/o='; base-uri 'none'; form-action 'none'; require-trusted-types-for 'script'";
 
 /// The style sheet of the page.
-pub const STYLE: &str = ":root {
+pub const STYLE: &str = "/* colours, and what all elements share */
+:root {
   color-scheme: light dark;
   --paper: #fff; --desk: #eef0f3; --ink: #1c1e21; --soft: #555a62; --rule: #d3d7dd;
   --focus: #0b57d0; --yes: #0b6b3a; --no: #a5231d; --author: var(--soft);
@@ -135,6 +136,7 @@ li p { margin: 0 0 .2rem; color: var(--soft); overflow-wrap: anywhere; }
 .buttons [value=\"accept\"][aria-pressed=\"true\"] { background: var(--yes); border-color: var(--yes); }
 .buttons [value=\"reject\"][aria-pressed=\"true\"] { background: var(--no); border-color: var(--no); }
 
+/* narrow screens, and paper */
 @media (max-width: 60rem) {
   body { grid: \"top\" auto \"text\" minmax(0, 1fr) \"list\" minmax(0, 1fr) / minmax(0, 1fr); }
   header { padding: .4rem .8rem; gap: .3rem .8rem; }
@@ -191,7 +193,11 @@ function make(name, properties = {}, ...inside) {
   return made;
 }
 
-// What stands around the document and the list.
+function labelled(text, field) {
+  return make(\"label\", { htmlFor: field.id }, make(\"span\", { textContent: text }), field);
+}
+
+// The bars around the document and the list: what a reviewer presses and types in, and what they are told.
 
 const tally = make(\"p\", { id: \"tally\" });
 const line = make(\"p\", { id: \"line\", role: \"status\" });
@@ -200,24 +206,6 @@ const person = make(\"input\", { id: \"person\", type: \"text\", autocomplete: \
 const save = make(\"button\", { type: \"button\", id: \"save\", textContent: \"Save my journal\" });
 const [authors, kinds, states] = [\"author\", \"kind\", \"state\"].map((id) => make(\"select\", { id }));
 const [acceptAll, rejectAll] = [\"accept-all\", \"reject-all\"].map((id) => make(\"button\", { type: \"button\", id }));
-const views = make(\"fieldset\", {}, make(\"legend\", { textContent: \"View\" }), ...[\"marks\", \"final\", \"original\"].map((value) =>
-  make(\"label\", {}, make(\"input\", { type: \"radio\", name: \"view\", value, checked: value === \"marks\" }), value)));
-
-function labelled(text, field) {
-  return make(\"label\", { htmlFor: field.id }, make(\"span\", { textContent: text }), field);
-}
-
-function offer(select, ...groups) {
-  select.append(make(\"option\", { value: \"\", textContent: \"all\" }));
-  for (const [label, options] of groups)
-    select.append(make(\"optgroup\", { label }, ...options.map(([value, textContent]) => make(\"option\", { value, textContent }))));
-}
-
-function counted(key) {
-  const counts = new Map();
-  for (const row of rows) counts.set(row.dataset[key], (counts.get(row.dataset[key]) || 0) + 1);
-  return Array.from(counts);
-}
 
 function build() {
   const names = counted(\"author\");
@@ -243,6 +231,21 @@ function build() {
   document.adoptedStyleSheets = [colours];
 }
 
+function tell(text, isFault = false) {
+  line.textContent = text;
+  line.classList.toggle(\"fault\", isFault);
+  undo.hidden = true;
+}
+
+// The three views of the document.
+
+const views = make(\"fieldset\", {}, make(\"legend\", { textContent: \"View\" }), ...[\"marks\", \"final\", \"original\"].map((value) =>
+  make(\"label\", {}, make(\"input\", { type: \"radio\", name: \"view\", value, checked: value === \"marks\" }), value)));
+
+views.addEventListener(\"change\", ({ target }) => (document.body.dataset.view = target.value));
+
+// The document: its headings, its long stories, and what stands in it for a revision.
+
 // Headings have their role, and what is far from sight in a long story costs nothing.
 function arrange() {
   for (const it of main.querySelectorAll('[data-style^=\"Heading\"], [data-style=\"Title\"]')) {
@@ -256,8 +259,6 @@ function arrange() {
   }
 }
 
-// What stands in the document for a revision.
-
 let places = null;
 
 function placesOf(row) {
@@ -270,6 +271,8 @@ function placesOf(row) {
   }
   return places.get(row.id) || [];
 }
+
+// Excerpts: what a change is about, in a few words.
 
 function cut(text, length) {
   return text.length > length ? text.slice(0, length).replace(/\\s\\S*$/, \"\") + \"\\u2026\" : text;
@@ -307,7 +310,7 @@ function excerpt(row) {
   return made;
 }
 
-// The list.
+// The list of changes: what is read and pressed in a row.
 
 function numberOf(row) {
   return Number(row.id.slice(\"revision-\".length));
@@ -339,6 +342,8 @@ function fill(row) {
 function press(row) {
   for (const button of row.querySelectorAll(\"button\")) button.ariaPressed = String(button.value === row.dataset.say);
 }
+
+// The change that is chosen.
 
 let current = null;
 
@@ -391,6 +396,16 @@ function decideShown(word) {
   changed();
 }
 
+function changed() {
+  const counts = Object.keys(DONE).map((word) => [rows.filter((row) => row.dataset.say === word).length, DONE[word]]);
+  const all = counts.reduce((sum, [count]) => sum + count, 0);
+  tally.textContent = all + \" of \" + rows.length + \" decided\" + (all ? \": \" : \"\") +
+    counts.filter(([count]) => count).map((it) => it.join(\" \")).join(\", \");
+  waiting = waiting || setTimeout(keep, 300);
+}
+
+// Undo: words that were replaced come back.
+
 // A button beside what was told, which brings these words back.
 function offerBack(textContent, words) {
   const onclick = () => {
@@ -401,18 +416,18 @@ function offerBack(textContent, words) {
   Object.assign(undo, { textContent, onclick, hidden: false });
 }
 
-function changed() {
-  const counts = Object.keys(DONE).map((word) => [rows.filter((row) => row.dataset.say === word).length, DONE[word]]);
-  const all = counts.reduce((sum, [count]) => sum + count, 0);
-  tally.textContent = all + \" of \" + rows.length + \" decided\" + (all ? \": \" : \"\") +
-    counts.filter(([count]) => count).map((it) => it.join(\" \")).join(\", \");
-  waiting = waiting || setTimeout(keep, 300);
+// Filters: which rows are shown.
+
+function offer(select, ...groups) {
+  select.append(make(\"option\", { value: \"\", textContent: \"all\" }));
+  for (const [label, options] of groups)
+    select.append(make(\"optgroup\", { label }, ...options.map(([value, textContent]) => make(\"option\", { value, textContent }))));
 }
 
-function tell(text, isFault = false) {
-  line.textContent = text;
-  line.classList.toggle(\"fault\", isFault);
-  undo.hidden = true;
+function counted(key) {
+  const counts = new Map();
+  for (const row of rows) counts.set(row.dataset[key], (counts.get(row.dataset[key]) || 0) + 1);
+  return Array.from(counts);
 }
 
 function filter() {
@@ -461,6 +476,8 @@ function keep() {
   }
 }
 
+// Names of reviewers.
+
 // A new name brings back what is kept under it. What was decided without a name goes on top of that; where nothing is
 // kept, what is decided now goes on, since the name may have been misspelt.
 function rename() {
@@ -488,6 +505,8 @@ function refusal(name) {
   return sequences.get(name) === LARGEST ? \"No sequence number is left for \" + name + \".\" : \"\";
 }
 
+// The journal that is saved.
+
 function journal(name) {
   const sequence = (sequences.get(name) || 0) + 1;
   const entries = rows.filter((row) => row.dataset.say).map((row) => [sequence, numberOf(row), row.dataset.say, name].join(\"\\t\"));
@@ -507,7 +526,7 @@ function saveJournal() {
   tell(\"Saved as \" + reviewer + \".journal. Send this file back.\");
 }
 
-// What is pressed.
+// What is clicked and which keys are pressed.
 
 document.addEventListener(\"click\", ({ target }) => {
   const row = target.closest(\"aside > ol > li\");
@@ -525,7 +544,9 @@ document.addEventListener(\"keydown\", (event) => {
   if (word) decide(current, word);
   else if (event.key === \"j\" || event.key === \"k\") step(event.key === \"j\" ? 1 : -1);
 });
-views.addEventListener(\"change\", ({ target }) => (document.body.dataset.view = target.value));
+
+// What is heard, and how the page begins.
+
 for (const select of [authors, kinds, states]) select.addEventListener(\"change\", filter);
 acceptAll.addEventListener(\"click\", () => decideShown(\"accept\"));
 rejectAll.addEventListener(\"click\", () => decideShown(\"reject\"));
