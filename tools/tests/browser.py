@@ -1,93 +1,107 @@
-"""A browser without a screen: Debian's chromium, driven over its own driver's HTTP (W3C WebDriver)."""
+"""Browsers without a screen, which a test drives as a person would: Debian's chromium and firefox-esr.
+
+Both take the commands of W3C WebDriver by its names. Chromium takes them over its own driver's HTTP, and Firefox over the
+socket of its Marionette, so that nothing but the browsers themselves is needed.
+"""
 import base64
-import json
-import re
 import shutil
-import subprocess
 import tempfile
-import urllib.error
-import urllib.request
 
 ELEMENT = "element-6066-11e4-a52e-4f735466cecf"
-
-
-def is_there():
-    return bool(shutil.which("chromium") and shutil.which("chromedriver"))
+SECONDS = 240
 
 
 class Browser:
     """A browser with a profile and a folder for downloads of its own, which go when it is closed."""
 
+    name = ""
+    # The sides of the smallest window that this browser has.
+    least = (0, 0)
+
     def __init__(self):
         self.folder = tempfile.mkdtemp(prefix="page-")
-        command = ["chromedriver", "--port=0"]
-        self.driver = subprocess.Popen(command, stdout=subprocess.PIPE, stderr=subprocess.DEVNULL, text=True)
-        for line in self.driver.stdout:
-            port = re.search(r"started successfully on port (\d+)", line)
-            if port:
-                break
-        self.base, self.session = "http://127.0.0.1:" + port.group(1), ""
-        options = {
-            "binary": shutil.which("chromium"),
-            "args": ["--headless=new", "--no-sandbox", "--disable-gpu", "--hide-scrollbars", "--disable-dev-shm-usage", "--user-data-dir=" + self.folder + "/profile"],
-            "prefs": {"download.default_directory": self.folder, "download.prompt_for_download": False},
-        }
-        wanted = {"browserName": "chrome", "goog:chromeOptions": options, "goog:loggingPrefs": {"browser": "ALL"}}
-        made = self.call("POST", "/session", {"capabilities": {"alwaysMatch": wanted}})
-        self.session = "/session/" + made["sessionId"]
+        self.start()
+        self.send("SetTimeouts", script=1000 * SECONDS, pageLoad=1000 * SECONDS)
+        self.look(1280, 800)
 
-    def call(self, method, path, body=None):
-        data = json.dumps(body).encode() if body is not None else None
-        request = urllib.request.Request(self.base + self.session + path, data, {"Content-Type": "application/json"}, method=method)
-        try:
-            with urllib.request.urlopen(request, timeout=240) as answer:
-                return json.load(answer)["value"]
-        except urllib.error.HTTPError as error:
-            raise RuntimeError("%s: %s" % (path, json.load(error)["value"]["message"])) from None
+    def start(self):
+        """Starts the browser and a session in it."""
+        raise NotImplementedError
+
+    def send(self, command, **words):
+        """What a command of WebDriver answers."""
+        raise NotImplementedError
 
     def open(self, file):
-        self.call("POST", "/url", {"url": "file://" + file})
+        self.send("Navigate", url="file://" + file)
 
     def run(self, script, *words):
         """What the script returns in the page."""
-        return self.call("POST", "/execute/sync", {"script": script, "args": list(words)})
+        return self.send("ExecuteScript", script=script, args=list(words))
 
-    def tool(self, command, **params):
-        """A command of the browser's own tools for developers."""
-        return self.call("POST", "/goog/cdp/execute", {"cmd": command, "params": params})
+    def run_async(self, script, *words):
+        """What the script gives to the function that is its last argument."""
+        return self.send("ExecuteAsyncScript", script=script, args=list(words))
 
     def find(self, selector):
-        return self.call("POST", "/element", {"using": "css selector", "value": selector})[ELEMENT]
+        return self.send("FindElement", using="css selector", value=selector)[ELEMENT]
 
     def click(self, selector):
-        self.call("POST", "/element/%s/click" % self.find(selector), {})
+        self.send("ElementClick", id=self.find(selector))
 
     def type(self, selector, text):
-        self.call("POST", "/element/%s/clear" % self.find(selector), {})
-        self.call("POST", "/element/%s/value" % self.find(selector), {"text": text})
+        """Types into a field that is emptied first."""
+        it = self.find(selector)
+        self.send("ElementClear", id=it)
+        self.send("ElementSendKeys", id=it, text=text)
+
+    def choose_file(self, selector, file):
+        self.send("ElementSendKeys", id=self.find(selector), text=file)
 
     def keys(self, text):
         """Presses keys, wherever the keyboard is."""
         pressed = [{"type": kind, "value": key} for key in text for kind in ("keyDown", "keyUp")]
-        self.call("POST", "/actions", {"actions": [{"type": "key", "id": "keys", "actions": pressed}]})
+        self.send("PerformActions", actions=[{"type": "key", "id": "keys", "actions": pressed}])
 
-    def look(self, width, height, scheme="light", media=""):
-        """The size of what is seen, and the system's colours."""
-        self.tool("Emulation.setDeviceMetricsOverride", width=width, height=height, deviceScaleFactor=1, mobile=False)
-        self.tool("Emulation.setEmulatedMedia", media=media, features=[{"name": "prefers-color-scheme", "value": scheme}])
+    def spoken(self, selector):
+        """The role and the name that a screen reader is told of each element that the selector finds."""
+        found = [it[ELEMENT] for it in self.send("FindElements", using="css selector", value=selector)]
+        return [(self.send("GetComputedRole", id=it), self.send("GetComputedLabel", id=it)) for it in found]
+
+    def tab(self):
+        """This tab, for `go_to`."""
+        return self.send("GetWindowHandle")
+
+    def new_tab(self):
+        """Opens another tab and goes there."""
+        made = self.send("NewWindow", type="tab")["handle"]
+        self.go_to(made)
+        self.show(*self.looked)
+        return made
+
+    def go_to(self, tab):
+        self.send("SwitchToWindow", handle=tab)
 
     def picture(self, name):
         with open(name, "wb") as file:
-            file.write(base64.b64decode(self.call("GET", "/screenshot")))
+            file.write(base64.b64decode(self.send("TakeScreenshot")))
+
+    def look(self, width, height, scheme="light", media="", zoom=1):
+        """The size of what is seen, the system's colours, whether it is printed, and how far it is enlarged."""
+        self.looked = (width, height, scheme, media, zoom)
+        self.show(*self.looked)
+
+    def show(self, width, height, scheme, media, zoom):
+        """What `look` does in this browser, and in this tab alone."""
+        raise NotImplementedError
 
     def complaints(self):
         """What the browser's console tells, since it was last asked."""
-        return [it["message"] for it in self.call("POST", "/se/log", {"type": "browser"})]
+        raise NotImplementedError
 
     def close(self):
-        try:
-            self.call("DELETE", "")
-        finally:
-            self.driver.terminate()
-            self.driver.wait()
-            shutil.rmtree(self.folder, ignore_errors=True)
+        self.stop()
+        shutil.rmtree(self.folder, ignore_errors=True)
+
+    def stop(self):
+        raise NotImplementedError

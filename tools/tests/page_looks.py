@@ -1,0 +1,168 @@
+"""How a page looks: views, sizes, colours, keys alone, and what a screen reader is told."""
+import os
+import re
+import time
+
+from page_seen import ENTER, LOCK, REVIEWERS, SPACE, TAB, Seen, in_package, page_of, same, told, wait
+
+
+SHOWN = """return [...document.querySelectorAll(arguments[0])].filter((it) => it.getClientRects().length > 0).map((it) => it.textContent)"""
+
+
+def views(driven):
+    seen = Seen(driven, page_of("contract.xml"))
+    texts = lambda selector: " ".join(seen.run(SHOWN, selector))
+    marked = texts("ins.text, del.text")
+    told("with marks both are shown", "Hay Brothers" in marked and "Hay & Sons" in marked)
+    driven.click("input[value=final]")
+    told("final: what is inserted", "Hay & Sons" in texts("ins.text") and "Hay Brothers" not in texts("del.text"))
+    told("final: rows", "Chain" in texts("tr") and "Rope" not in texts("tr"))
+    told("final: no signs", not seen.run(SHOWN, "main :is(.mark, .edge, .props, a)"))
+    seen.press(3, "reject")
+    told("final: what the page rejects is gone", "Hay & Sons" not in texts("ins.text"))
+    seen.press(20, "reject")
+    told("final: a rejected row is gone", "Chain" not in texts("tr"))
+    driven.click("input[value=original]")
+    told("original: what was there", "Hay Brothers" in texts("del.text") and "Hay & Sons" not in texts("ins.text"))
+    told("original: rows and cells", "Rope" in texts("tr") and "order" in texts("td") and "free" not in texts("td"))
+    seen.press(13, "accept")
+    told("original: what the page accepts is done", "Rope" not in texts("tr"))
+    driven.click("input[value=marks]")
+    links = "return [...document.querySelectorAll('main a')].every((it) => document.querySelector(it.hash).hash === '#' + it.id)"
+    told("both halves of a move lead to each other", seen.run(links) and seen.run("return document.querySelectorAll('main a').length") == 2)
+    numbers = seen.run("return [...new Set([...document.querySelectorAll('main [data-revision]')].map((it) => Number(it.dataset.revision)))]")
+    same("each change stands in the document", sorted(numbers), list(range(1, 50)))
+    driven.click("main ins[data-revision='33']")
+    same("a change that is clicked is chosen", seen.run("return document.querySelector('li[aria-current]').id"), "revision-33")
+
+
+def read_whole(driven):
+    """The browser makes of each page what its text says: no element of a change is dropped or put elsewhere."""
+    for name in ["contract.xml", "plain.xml", "letter.xml", "terms.xml", "joins.xml", "properties.xml", "rows.xml", "moves.xml"]:
+        whole = page_of(name)
+        seen = Seen(driven, whole)
+        depth, nest = 0, []
+        for tag in re.findall(r"<(/?)([a-z0-9]+)([^>]*)>", whole.decode().split("<main lang=\"\">")[1].split("</main>")[0]):
+            depth += -1 if tag[0] else 0
+            if "data-revision" in tag[2]:
+                nest.append([depth, tag[1]])
+            depth += 0 if tag[0] or tag[1] in ("br",) else 1
+        came = seen.run(
+            "const depth = (it) => it.matches('main') ? 0 : 1 + depth(it.parentElement) - (it.matches('tbody') ? 1 : 0);"
+            "return [...document.querySelectorAll('main [data-revision]')].map((it) => [depth(it) - 1, it.localName])")
+        same("read whole: " + name, came, nest)
+
+
+def two_forms(driven):
+    """A text box that the file keeps in two forms, with a table in it: nothing behind it falls out of the paragraph."""
+    who = 'w:author="Ann" w:date="2026-11-03T14:30:00Z"'
+    box = (
+        '<w:txbxContent><w:p><w:r><w:t>box </w:t></w:r><w:ins w:id="1" %s><w:r><w:t>new</w:t></w:r></w:ins></w:p>'
+        '<w:tbl><w:tr><w:trPr><w:ins w:id="2" %s/></w:trPr><w:tc><w:p/></w:tc></w:tr></w:tbl><w:p/></w:txbxContent>' % (who, who))
+    body = (
+        '<w:p><w:r><w:t>before </w:t></w:r><w:r><w:rPr><w:b/></w:rPr><m:AlternateContent xmlns:m="m"><m:Choice><w:drawing>%s</w:drawing></m:Choice>'
+        "<m:Fallback><w:pict>%s</w:pict></m:Fallback></m:AlternateContent><w:t>behind it</w:t></w:r>"
+        '<w:ins w:id="3" %s><w:r><w:t>, and after</w:t></w:r></w:ins></w:p><w:p/>' % (box, box, who))
+    file = os.path.join(driven.folder, "forms.xml")
+    with open(file, "w", newline="", encoding="utf-8") as out:
+        out.write(in_package(body))
+    seen = Seen(driven, page_of(file))
+    same("all stays in its paragraph", seen.run("return [...document.querySelectorAll('section > *')].map((it) => it.className)"), ["p", ""])
+    words = seen.run("return document.querySelector('.p').textContent.replace(/\\s+/g, ' ')")
+    same("in its order", words, "before picturebox new row kept in another formpicturebox new row behind it, and after")
+    inside = seen.run("return [...document.querySelectorAll('section > .p [data-revision]')].map((it) => it.dataset.revision)")
+    same("with its changes", inside, ["1", "2", "3", "4", "5"])
+    same("the other form is closed", seen.run("return document.querySelector('main details').open"), False)
+    driven.keys("jjj")
+    same("its words are in the list", seen.run("return document.querySelector('#revision-3 .words').textContent"), "box new")
+    told("the list opens it", seen.run("return document.querySelector('main details').open"))
+
+
+CONTRAST = """
+const ctx = new OffscreenCanvas(1, 1).getContext("2d", { willReadFrequently: true });
+const rgb = (...layers) => {
+  ctx.clearRect(0, 0, 1, 1);
+  for (const it of layers) { ctx.fillStyle = it; ctx.fillRect(0, 0, 1, 1); }
+  return ctx.getImageData(0, 0, 1, 1).data;
+};
+const light = (it) => [0.2126, 0.7152, 0.0722].reduce((sum, part, at) => {
+  const value = it[at] / 255;
+  return sum + part * (value <= 0.04045 ? value / 12.92 : ((value + 0.055) / 1.055) ** 2.4);
+}, 0);
+const found = [];
+const walker = document.createTreeWalker(document.body, NodeFilter.SHOW_TEXT);
+for (let node = walker.nextNode(); node; node = walker.nextNode()) {
+  const at = node.parentElement, style = getComputedStyle(at);
+  if (!node.data.trim() || !at.getClientRects().length || parseFloat(style.fontSize) === 0 || at.disabled || at.closest("script, option")) continue;
+  const layers = [];
+  for (let up = at; up; up = up.parentElement) layers.unshift(getComputedStyle(up).backgroundColor);
+  const under = light(rgb("white", ...layers)), over = light(rgb("white", ...layers, style.color));
+  const ratio = (Math.max(under, over) + 0.05) / (Math.min(under, over) + 0.05);
+  const size = parseFloat(style.fontSize), isLarge = size >= 24 || (size >= 18.66 && Number(style.fontWeight) >= 700);
+  if (ratio < (isLarge ? 3 : 4.5)) found.push(at.localName + "." + at.className + " " + ratio.toFixed(2) + " " + node.data.trim().slice(0, 20));
+}
+return found;
+"""
+
+
+def looks(driven):
+    seen = Seen(driven, page_of("contract.xml", REVIEWERS, [LOCK]))
+    driven.keys("jajrjw")
+    grounds = {}
+    for width, height in [(1280, 800), (480, 900)]:
+        for scheme in ["light", "dark"]:
+            driven.look(width, height, scheme)
+            time.sleep(0.2)
+            same("contrast, %d wide, %s" % (width, scheme), seen.run(CONTRAST), [])
+            wide = seen.run("return [document.documentElement.scrollWidth, innerWidth]")
+            told("nothing sticks out, %d wide, %s" % (width, scheme), wide[0] <= wide[1], str(wide))
+            grounds[scheme] = seen.run("return getComputedStyle(document.body).backgroundColor")
+    told("dark and light follow the system", grounds["dark"] != grounds["light"], str(grounds))
+    driven.look(1280, 800, "light", "print")
+    shown = lambda selector: bool(seen.run(SHOWN, selector))
+    told("print shows the marked document alone", shown("main ins.text") and shown("main del.text") and not shown("header") and not shown("aside"))
+    driven.look(1280, 800)
+
+
+def by_keys_alone(driven):
+    seen = Seen(driven, page_of("contract.xml"))
+    met = []
+    for _ in range(40):
+        driven.keys(TAB)
+        it = seen.run(
+            "const it = document.activeElement; const style = getComputedStyle(it);"
+            "return [it.id || it.value || it.localName, style.outlineStyle !== 'none' && parseFloat(style.outlineWidth) >= 2]")
+        if it in met:
+            break
+        met.append(it)
+    names = [name for name, _ in met]
+    told("the Tab key goes to all that can be pressed", {"marks", "main", "person", "save", "author", "kind", "state", "accept-all", "reject-all", "accept"} <= set(names), str(names))
+    told("what has the keyboard is seen", all(is_seen for _, is_seen in met), str([name for name, is_seen in met if not is_seen]))
+    driven.keys("jj" + TAB + TAB + SPACE)
+    same("a button is pressed by the space bar", seen.words(), {2: "reject"})
+    seen.run("document.querySelector('#person').focus()")
+    driven.keys("Raja Wirk" + TAB + ENTER)
+    file = os.path.join(driven.folder, "Raja Wirk.journal")
+    told("a name may have the letters of the keys", wait(lambda: os.path.exists(file)) and seen.words() == {2: "reject"}, str(seen.words()))
+
+
+# What a person presses or types into, and what a page is divided into.
+CONTROLS = "button, input, select, a, summary, [tabindex], main, aside"
+
+
+def for_readers(driven):
+    """What a screen reader is told: each control has a name, and the parts of the page their roles."""
+    Seen(driven, page_of("contract.xml", REVIEWERS))
+    driven.keys("jj")
+    first = lambda selector: driven.spoken(selector)[0][0]
+    for selector, role in [
+        ("main", "main"), ("header", "banner"), ("aside", "complementary"), ("h1", "heading"), ("#line", "status"), ("aside > ol", "list"),
+        ("aside > ol > li", "listitem"), ("main ins", "insertion"), ("main del", "deletion"), ("main table", "table"), ("main tr", "row"),
+        ("input[name=view]", "radio"), ("#person", "textbox"), ("#author", "combobox"),
+    ]:
+        same("role of " + selector, first(selector), role)
+    nameless = [role for role, name in driven.spoken(CONTROLS) if not name.strip()]
+    same("each control has a name", [role for role in nameless if role not in ("none", "listitem")], [])
+
+
+CASES = [views, read_whole, two_forms, looks, by_keys_alone, for_readers]

@@ -1,0 +1,129 @@
+"""What the tests of pages share: how a case is told, pages of packages, and a page that is open in a browser.
+
+The pages are those of the program that REDLINE names, where it has the command `page`, else those of examples/page.py.
+What a journal comes to is the program's `write`, else that of examples/reading.py.
+"""
+import os
+import subprocess
+import sys
+import time
+
+TOP = os.path.dirname(os.path.dirname(os.path.dirname(os.path.abspath(__file__))))
+EXAMPLES = os.path.join(TOP, "examples")
+sys.path.insert(0, EXAMPLES)
+
+import page
+import reading
+
+REDLINE = os.environ.get("REDLINE", "")
+REVIEWERS = ["contract.ann.journal", "contract.bob.journal", "contract.cara.journal"]
+LOCK = "Dana Fox & Co"
+TAB, ENTER, SPACE = "\ue004", "\ue007", " "
+
+
+def told(name, is_right, why=""):
+    """Tells how a case went, in the browser that is driven."""
+    name = told.browser + name
+    print("ok " + name if is_right else "FAILED %s: %s" % (name, why or "it is not so"), flush=True)
+
+
+told.browser = ""
+
+
+def same(name, came, wanted):
+    told(name, came == wanted, "it is %r and not %r" % (str(came)[:200], str(wanted)[:200]))
+
+
+def call(*words):
+    return subprocess.run([REDLINE, *words], cwd=EXAMPLES, capture_output=True)
+
+
+def has_page():
+    return bool(REDLINE) and call("page", "plain.xml").returncode == 0
+
+
+IS_OWN = has_page()
+PACKAGE = '<pkg:package xmlns:pkg="http://schemas.microsoft.com/office/2006/xmlPackage">%s</pkg:package>'
+PART = '<pkg:part pkg:name="%s" pkg:contentType="x"><pkg:xmlData><w:%s xmlns:w="%s">%s</w:%s></pkg:xmlData></pkg:part>'
+WORD = "http://schemas.openxmlformats.org/wordprocessingml/2006/main"
+
+
+def in_package(body, more=()):
+    """A package with this body, and with more parts, each a name, a root and what it holds."""
+    parts = [("/word/document.xml", "document", "<w:body>%s</w:body>" % body), *more]
+    return PACKAGE % "".join(PART % (name, root, WORD, inside, root) for name, root, inside in parts)
+
+
+def example(name):
+    return page.read(os.path.join(EXAMPLES, name))
+
+
+def second_page(name, journals=(), locks=()):
+    entries = sum((page.entries_of(example(it)) for it in journals), [])
+    return page.page(reading.Package(example(name)), entries, locks).encode()
+
+
+def page_of(name, journals=(), locks=()):
+    """The page of a package, a file in examples/ or named whole."""
+    if not IS_OWN:
+        return second_page(name, journals, locks)
+    made = call("page", name, *journals, *[word for lock in locks for word in ("--lock", lock)])
+    return made.stdout
+
+
+def written(name, journals):
+    if REDLINE:
+        return call("write", name, *journals).stdout
+    entries = sum((page.entries_of(example(it)) for it in journals), [])
+    return reading.written(reading.Package(example(name)), entries).encode()
+
+
+class Seen:
+    """A page that is open in the browser, and what a reviewer does there."""
+
+    def __init__(self, driven, whole):
+        self.driven, self.file = driven, os.path.join(driven.folder, "page.html")
+        with open(self.file, "wb") as file:
+            file.write(whole)
+        driven.open(self.file)
+
+    def run(self, script, *words):
+        return self.driven.run(script, *words)
+
+    def press(self, number, word):
+        self.run("document.getElementById(arguments[0]).scrollIntoView()", "revision-%d" % number)
+        selector = '#revision-%d button[value="%s"]' % (number, word)
+        wait(lambda: self.run("return document.querySelector(arguments[0]) !== null", selector))
+        self.driven.click(selector)
+
+    def name(self, name):
+        self.run("document.querySelector('#person').value = ''; document.querySelector('#person').focus()")
+        self.driven.type("#person", name)
+        self.driven.keys(TAB)
+
+    def line(self):
+        return self.run("return document.querySelector('#line').textContent")
+
+    def tally(self):
+        return self.run("return document.querySelector('#tally').textContent")
+
+    def words(self):
+        """The decisions that the page shows, by number."""
+        found = self.run("return [...document.querySelectorAll('li[data-say]')].map((it) => [it.id, it.dataset.say])")
+        return {int(key[9:]): word for key, word in found}
+
+    def saved(self, name):
+        """The journal that the page saves under this name."""
+        file = os.path.join(self.driven.folder, name + ".journal")
+        if os.path.exists(file):
+            os.remove(file)
+        self.driven.click("#save")
+        wait(lambda: os.path.exists(file) and os.path.getsize(file) > 0)
+        return page.read(file)
+
+
+def wait(is_there, seconds=20):
+    end = time.time() + seconds
+    while not is_there() and time.time() < end:
+        time.sleep(0.05)
+    return is_there()
