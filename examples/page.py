@@ -233,15 +233,15 @@ WHOLE = """<!DOCTYPE html>
 def policy(style, script):
     """The security policy of the page: this style and this script alone, and nothing is ever fetched."""
     digest = lambda text: "'sha256-%s'" % base64.b64encode(hashlib.sha256(text.encode()).digest()).decode()
-    rules = "default-src 'none'; script-src %s; style-src %s; base-uri 'none'; form-action 'none'; require-trusted-types-for 'script'"
+    rules = "default-src 'none'; script-src %s; style-src %s; base-uri 'none'; form-action 'none'; require-trusted-types-for 'script'; trusted-types 'none'"
     return rules % (digest(script), digest(style))
 
 
 # The files of the style and of the script, in the order in which they are put together.
-STYLES = ["base", "bar", "document", "changes", "views", "list", "media"]
+STYLES = ["base", "bar", "document", "changes", "views", "list", "dialogs", "media"]
 SCRIPTS = [
-    "elements", "bars", "views", "document", "excerpts", "list", "chosen", "decisions", "undo", "filters", "store", "names", "journal",
-    "keys", "start",
+    "elements", "kinds", "facts", "bars", "dialogs", "views", "document", "excerpts", "list", "picture", "words", "chosen", "decisions",
+    "undo", "filters", "store", "opening", "names", "journal", "summary", "help", "keys", "outside", "start",
 ]
 
 

@@ -138,10 +138,13 @@ def by_keys_alone(driven):
     names = [name for name, _ in met]
     told("the Tab key goes to all that can be pressed", {"marks", "main", "person", "save", "author", "kind", "state", "accept-all", "reject-all", "accept"} <= set(names), str(names))
     told("what has the keyboard is seen", all(is_seen for _, is_seen in met), str([name for name, is_seen in met if not is_seen]))
+    seen.stay()
     driven.keys("jj" + TAB + TAB + SPACE)
     same("a button is pressed by the space bar", seen.words(), {2: "reject"})
     seen.run("document.querySelector('#person').focus()")
     driven.keys("Raja Wirk" + TAB + ENTER)
+    time.sleep(0.3)
+    driven.keys(ENTER)
     file = os.path.join(driven.folder, "Raja Wirk.journal")
     told("a name may have the letters of the keys", wait(lambda: os.path.exists(file)) and seen.words() == {2: "reject"}, str(seen.words()))
 
@@ -158,7 +161,7 @@ def for_readers(driven):
     for selector, role in [
         ("main", "main"), ("header", "banner"), ("aside", "complementary"), ("h1", "heading"), ("#line", "status"), ("aside > ol", "list"),
         ("aside > ol > li", "listitem"), ("main ins", "insertion"), ("main del", "deletion"), ("main table", "table"), ("main tr", "row"),
-        ("input[name=view]", "radio"), ("#person", "textbox"), ("#author", "combobox"),
+        ("input[name=view]", "radio"), ("#person", "combobox"), ("#author", "combobox"),
     ]:
         same("role of " + selector, first(selector), role)
     nameless = [role for role, name in driven.spoken(CONTROLS) if not name.strip()]

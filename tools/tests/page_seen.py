@@ -101,6 +101,31 @@ class Seen:
         self.driven.type("#person", name)
         self.driven.keys(TAB)
 
+    def asked(self):
+        """The text of the question that is open, or the empty text."""
+        return self.run("const it = document.querySelector('dialog[open]'); return it ? it.innerText : ''")
+
+    def answer(self, value):
+        """Presses an answer to the question that opens."""
+        selector = 'dialog[open] .answer[value="%s"]' % value
+        wait(lambda: self.run("return document.querySelector(arguments[0]) !== null", selector))
+        self.driven.click(selector)
+        wait(lambda: not self.run("return document.querySelector(arguments[0]) !== null", selector))
+
+    def stay(self):
+        """From now on a change that was decided stays the chosen one."""
+        self.run("const it = document.querySelector('#advance'); if (it.checked) it.click()")
+
+    def pick(self, field, value):
+        """Chooses in a filter, or types into the search."""
+        self.run(
+            "const it = document.querySelector(arguments[0]); it.value = arguments[1]; it.dispatchEvent(new Event('change'));"
+            "if (it.type === 'search') it.dispatchEvent(new KeyboardEvent('keydown', { key: 'Enter' }))", field, value)
+
+    def chosen(self):
+        """The number of the change that is chosen, or 0."""
+        return self.run("const it = document.querySelector('aside li[aria-current]'); return it ? Number(it.id.slice(9)) : 0")
+
     def line(self):
         return self.run("return document.querySelector('#line').textContent")
 
@@ -113,11 +138,12 @@ class Seen:
         return {int(key[9:]): word for key, word in found}
 
     def saved(self, name):
-        """The journal that the page saves under this name."""
+        """The journal that the page saves in a file of this name."""
         file = os.path.join(self.driven.folder, name + ".journal")
         if os.path.exists(file):
             os.remove(file)
         self.driven.click("#save")
+        self.answer("save")
         wait(lambda: os.path.exists(file) and os.path.getsize(file) > 0)
         return page.read(file)
 

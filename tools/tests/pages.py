@@ -13,12 +13,14 @@ import page_hostile
 import page_large
 import page_looks
 import page_round
+import page_store
+import page_work
 from chromium import Chromium
 from firefox import Firefox
 from page_seen import IS_OWN, LOCK, REVIEWERS, Seen, page_of, second_page, told
 
 BROWSERS = [Chromium, Firefox]
-CASES = page_round.CASES + page_looks.CASES + page_hostile.CASES + page_large.CASES
+CASES = page_round.CASES + page_store.CASES + page_work.CASES + page_looks.CASES + page_hostile.CASES + page_large.CASES
 
 
 def same_pages():

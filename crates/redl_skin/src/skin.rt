@@ -2,7 +2,7 @@
 
 /// The security policy of the page: its own style and script alone, and nothing is ever fetched.
 pub const POLICY: &str =
-    "default-src 'none'; script-src 'sha256-/ajLhrxtsvaSQWw/W34dVSJYzU3wN10GoO4JdgIGPw4='; style-src 'sha256-9UeXLGdpaKhVEUSBYAq/GFtkFIO89X9t4PyOtf9nD/o='; base-uri 'none'; form-action 'none'; require-trusted-types-for 'script'";
+    "default-src 'none'; script-src 'sha256-ZY2ApBsR1/A/lOOfVNT/2pU3b2gUlrG3n61xs48/B/0='; style-src 'sha256-Ye4ZKs+YQ3pljAOdC6ALxsUDSCLWV3xdhGBrzSo3FlE='; base-uri 'none'; form-action 'none'; require-trusted-types-for 'script'; trusted-types 'none'";
 
 /// The style sheet of the page.
 pub const STYLE: &str = "/* colours, and what all elements share */
@@ -39,6 +39,29 @@ fieldset { border: 0; margin: 0; padding: 0; display: flex; gap: .8rem; }
 legend { float: left; margin-right: .8rem; padding: 0; }
 legend, label > span { color: var(--soft); }
 #save { background: var(--focus); border-color: var(--focus); color: var(--paper); font-weight: 600; }
+#open, #help { font-size: .9rem; }
+#printed { display: none; }
+
+/* the bars above the list */
+.sign { display: grid; grid-template-columns: 1fr auto; gap: .6rem; padding: .6rem 1rem 0; align-items: end; }
+label { display: grid; }
+fieldset label { display: block; }
+.told { display: flex; min-height: 2.6rem; padding: .3rem 1rem; align-items: center; gap: .6rem; }
+#undo { max-width: 45%; white-space: nowrap; overflow: hidden; text-overflow: ellipsis; }
+#line { margin: 0; flex: 1; overflow-wrap: anywhere; }
+#line.fault { color: var(--no); font-weight: 600; }
+aside > details { border: 0; padding: 0 1rem; }
+summary { cursor: pointer; }
+.filter { display: grid; grid-template-columns: repeat(6, 1fr); gap: .5rem; padding-top: .3rem; }
+.filter > * { grid-column: span 2; }
+.filter > button { grid-column: span 3; }
+.filter label:has(#search) { grid-column: span 4; }
+.filter label:has(#advance) { align-content: space-between; justify-items: start; }
+#advance { width: 1.1rem; height: 1.1rem; margin: .35rem 0; }
+.filter select { padding: .15rem; }
+.keys { margin: 0; padding: .5rem 1rem; color: var(--soft); font-size: .8rem; }
+kbd { border: 1px solid var(--soft); border-radius: 3px; padding: 0 .35em; font: .75rem ui-monospace, monospace; margin-left: .6em; }
+kbd:first-child { margin-left: 0; }
 
 /* the document */
 main { grid-area: text; overflow: auto; padding: 1.5rem; }
@@ -104,25 +127,10 @@ main:is([data-view=\"final\"] *, [data-view=\"original\"] *) :is(.mark, .cell, .
 aside { grid-area: list; display: flex; flex-direction: column; min-height: 0; border-left: 1px solid var(--rule); background: var(--paper); font-size: .9rem; }
 aside > ul { display: none; }
 aside > ol { flex: 1; overflow: auto; margin: 0; padding: 0; list-style: none; border-top: 1px solid var(--rule); }
-.sign { display: grid; grid-template-columns: 1fr auto; gap: .6rem; padding: .6rem 1rem 0; align-items: end; }
-label { display: grid; }
-fieldset label { display: block; }
-.told { display: flex; min-height: 2.3rem; padding: .3rem 1rem; align-items: center; gap: .6rem; }
-#line { margin: 0; flex: 1; overflow-wrap: anywhere; }
-#line.fault { color: var(--no); font-weight: 600; }
-aside > details { border: 0; padding: 0 1rem; }
-summary { cursor: pointer; }
-.filter { display: grid; grid-template-columns: repeat(6, 1fr); gap: .5rem; padding-top: .3rem; }
-.filter > * { grid-column: span 2; }
-.filter > button { grid-column: span 3; }
-.filter select { padding: .15rem; }
-.keys { margin: 0; padding: .5rem 1rem; color: var(--soft); font-size: .8rem; }
-kbd { border: 1px solid var(--soft); border-radius: 3px; padding: 0 .35em; font: .75rem ui-monospace, monospace; margin-left: .6em; }
-kbd:first-child { margin-left: 0; }
-li { min-height: 6.2rem; padding: .6rem 1rem .7rem .8rem; border-bottom: 1px solid var(--rule); border-left: 4px solid transparent; cursor: pointer; }
-li[hidden] { display: none; }
-li[aria-current] { border-left-color: var(--focus); background: color-mix(in srgb, var(--focus) 7%, transparent); }
-li p { margin: 0 0 .2rem; color: var(--soft); overflow-wrap: anywhere; }
+aside > ol > li { min-height: 6.2rem; padding: .6rem 1rem .7rem .8rem; border-bottom: 1px solid var(--rule); border-left: 4px solid transparent; cursor: pointer; }
+aside li[hidden] { display: none; }
+aside li[aria-current] { border-left-color: var(--focus); background: color-mix(in srgb, var(--focus) 7%, transparent); }
+aside li p { margin: 0 0 .2rem; color: var(--soft); overflow-wrap: anywhere; }
 .head { display: flex; justify-content: space-between; gap: .6em; }
 .head b, li .words { color: var(--ink); }
 .who { color: var(--author); font-weight: 600; }
@@ -136,6 +144,42 @@ li p { margin: 0 0 .2rem; color: var(--soft); overflow-wrap: anywhere; }
 .buttons [value=\"accept\"][aria-pressed=\"true\"] { background: var(--yes); border-color: var(--yes); }
 .buttons [value=\"reject\"][aria-pressed=\"true\"] { background: var(--no); border-color: var(--no); }
 
+/* questions, the summary and the help */
+dialog { width: min(44rem, calc(100vw - 2rem)); max-height: calc(100dvh - 2rem); padding: 0; border: 1px solid var(--soft); border-radius: 8px; background: var(--paper); color: var(--ink); font-size: .95rem; box-shadow: 0 .5rem 2rem rgb(0 0 0 / .3); }
+dialog[open] { display: flex; flex-direction: column; }
+dialog::backdrop { background: rgb(0 0 0 / .45); }
+dialog h2 { margin: 0; padding: 1rem 1.4rem .4rem; font: 600 1.15rem/1.3 system-ui, \"Liberation Sans\", sans-serif; color: var(--ink); }
+dialog h3 { margin: .9rem 0 .1rem; font-size: .95rem; }
+dialog p { margin: .4rem 0; overflow-wrap: anywhere; }
+dialog small { color: var(--soft); font-size: .85rem; }
+dialog strong { overflow-wrap: anywhere; }
+.asking { overflow: auto; padding: 0 1.4rem .6rem; min-height: 0; }
+.answers { display: flex; flex-wrap: wrap; justify-content: flex-end; gap: .6rem; padding: .8rem 1.4rem; border-top: 1px solid var(--rule); }
+.answer { padding: .35rem .9rem; max-width: 100%; overflow-wrap: anywhere; }
+.answer:focus-visible, .answer:first-child { font-weight: 600; }
+.answer:first-child { background: var(--focus); border-color: var(--focus); color: var(--paper); }
+.found { display: flex; gap: .6rem; align-items: baseline; margin: .5rem 0; }
+.found > span { color: var(--ink); }
+
+/* the summary */
+.counts { display: flex; flex-wrap: wrap; gap: .6rem; margin: .8rem 0; }
+.counts > div { flex: 1; min-width: 6rem; padding: .4rem .7rem; border: 1px solid var(--rule); border-radius: 5px; display: flex; flex-direction: column-reverse; }
+.counts dt { color: var(--soft); font-size: .85rem; }
+.counts dd { margin: 0; font-size: 1.4rem; font-weight: 600; font-variant-numeric: tabular-nums; }
+.part { border-top: 1px solid var(--rule); padding: .4rem 0; }
+.part > summary { font-weight: 600; }
+.part ul { margin: .3rem 0; padding: 0; list-style: none; }
+.part li { padding: .25rem 0 .25rem 3.4rem; position: relative; }
+.part .words { margin: .1rem 0 0; color: var(--soft); font-family: Georgia, \"Liberation Serif\", serif; }
+.number { position: absolute; left: 0; min-width: 2.8rem; text-align: right; font-variant-numeric: tabular-nums; }
+.about { color: var(--soft); }
+
+/* the help */
+.help-keys { display: grid; grid-template-columns: repeat(auto-fill, minmax(17rem, 1fr)); gap: .3rem 1rem; margin: .5rem 0; }
+.help-keys > div { display: flex; gap: .8rem; align-items: baseline; }
+.help-keys dt { min-width: 2rem; text-align: right; }
+.help-keys dd { margin: 0; }
+
 /* narrow screens, and paper */
 @media (max-width: 60rem) {
   body { grid: \"top\" auto \"text\" minmax(0, 1fr) \"list\" minmax(0, 1fr) / minmax(0, 1fr); }
@@ -147,7 +191,8 @@ li p { margin: 0 0 .2rem; color: var(--soft); overflow-wrap: anywhere; }
 }
 @media print {
   body { display: block; height: auto; background: none; }
-  header, aside { display: none; }
+  header, aside, dialog { display: none; }
+  #printed { display: block; font: .8rem/1.4 system-ui, \"Liberation Sans\", sans-serif; }
   main { overflow: visible; padding: 0; }
   section { border: 0; max-width: none; padding: 0 0 0 2.4rem; }
   .far { content-visibility: visible; }
@@ -163,24 +208,20 @@ pub const SCRIPT: &str =
 // read as markup. A row of the list is filled in when it is nearly seen, so that a page with many changes opens at once.
 \"use strict\";
 
-const { document: digest } = document.body.dataset;
+const { document: digest, title = \"\", rank = \"0\" } = document.body.dataset;
 const main = document.querySelector(\"main\");
 const aside = document.querySelector(\"aside\");
 const list = aside.querySelector(\"ol\");
 const rows = Array.from(list.children);
 const sequences = new Map(Array.from(aside.querySelectorAll(\"ul > li\"), (it) => [it.textContent, Number(it.dataset.sequence)]));
+// The greatest sequence number, and the most bytes of a journal.
 const LARGEST = 4294967295;
+const LARGEST_JOURNAL = 67108864;
+const WORDS = [\"accept\", \"reject\", \"withdraw\"];
 const LETTERS = { accept: \"a\", reject: \"r\", withdraw: \"w\" };
 const DONE = { accept: \"accepted\", reject: \"rejected\", withdraw: \"withdrawn\" };
-const KINDS = {
-  ins: \"inserted\", del: \"deleted\", move: \"moved\", \"move-from\": \"moved away\", \"move-to\": \"moved here\",
-  \"mark-ins\": \"paragraph end inserted\", \"mark-del\": \"paragraph end deleted\",
-  \"mark-from\": \"paragraph end moved away\", \"mark-to\": \"paragraph end moved here\",
-  \"row-ins\": \"row inserted\", \"row-del\": \"row deleted\", \"cell-ins\": \"cell inserted\", \"cell-del\": \"cell deleted\",
-  \"run-props\": \"text formatted\", \"para-props\": \"paragraph formatted\", \"sect-props\": \"page layout changed\",
-  \"table-props\": \"table formatted\", \"except-props\": \"table format of a row changed\", \"row-props\": \"row formatted\",
-  \"cell-props\": \"cell formatted\",
-};
+const ORDERS = { accept: \"Accept\", reject: \"Reject\", withdraw: \"Withdraw\" };
+const SPELLED = { \" \": \"space\", \"\\u00a0\": \"no-break space\", \"\\u202f\": \"narrow no-break space\", \"\\u00ad\": \"soft hyphen\", \"\\u200b\": \"zero-width space\" };
 
 // A new element with properties or attributes, and with texts or elements inside.
 function make(name, properties = {}, ...inside) {
@@ -197,36 +238,61 @@ function labelled(text, field) {
   return make(\"label\", { htmlFor: field.id }, make(\"span\", { textContent: text }), field);
 }
 
+const KINDS = {
+  ins: \"inserted\", del: \"deleted\", move: \"moved\", \"move-from\": \"moved away\", \"move-to\": \"moved here\",
+  \"mark-ins\": \"paragraph end inserted\", \"mark-del\": \"paragraph end deleted\",
+  \"mark-from\": \"paragraph end moved away\", \"mark-to\": \"paragraph end moved here\",
+  \"row-ins\": \"row inserted\", \"row-del\": \"row deleted\", \"cell-ins\": \"cell inserted\", \"cell-del\": \"cell deleted\",
+  \"run-props\": \"text formatted\", \"para-props\": \"paragraph formatted\", \"sect-props\": \"page layout changed\",
+  \"table-props\": \"table formatted\", \"except-props\": \"table format of a row changed\", \"row-props\": \"row formatted\",
+  \"cell-props\": \"cell formatted\",
+};
+
+// What is known of each change by its place, read once.
+
+const kindsOf = rows.map((row) => row.dataset.kind);
+const authorsOf = rows.map((row) => row.dataset.author);
+const verdictsOf = rows.map((row) => row.dataset.verdict);
+const lockedAt = rows.map((row) => row.dataset.locked === \"yes\");
+
 // The bars around the document and the list: what a reviewer presses and types in, and what they are told.
 
 const tally = make(\"p\", { id: \"tally\" });
 const line = make(\"p\", { id: \"line\", role: \"status\" });
-const undo = make(\"button\", { type: \"button\", id: \"undo\", hidden: true });
+const undo = make(\"button\", { type: \"button\", id: \"undo\", textContent: \"Undo\", disabled: true });
+const known = make(\"datalist\", { id: \"known\" });
 const person = make(\"input\", { id: \"person\", type: \"text\", autocomplete: \"name\", spellcheck: false, \"aria-describedby\": \"line\" });
 const save = make(\"button\", { type: \"button\", id: \"save\", textContent: \"Save my journal\" });
+const openButton = make(\"button\", { type: \"button\", id: \"open\", textContent: \"Open my journal\" });
+const file = make(\"input\", { type: \"file\", id: \"file\", hidden: true, ariaLabel: \"Open my journal\" });
+const help = make(\"button\", { type: \"button\", id: \"help\", textContent: \"?\", ariaLabel: \"Help\", title: \"Help (?)\" });
+const search = make(\"input\", { type: \"search\", id: \"search\", spellcheck: false, placeholder: \"words, author, number\" });
+const advance = make(\"input\", { type: \"checkbox\", id: \"advance\", checked: true });
 const [authors, kinds, states] = [\"author\", \"kind\", \"state\"].map((id) => make(\"select\", { id }));
 const [acceptAll, rejectAll] = [\"accept-all\", \"reject-all\"].map((id) => make(\"button\", { type: \"button\", id }));
 
 function build() {
-  const names = counted(\"author\");
-  offer(authors, [\"Author\", names.map(([it, count]) => [\"=\" + it, (it || \"no name\") + \" (\" + count + \")\"])]);
-  offer(kinds, [\"Kind\", counted(\"kind\").map(([it, count]) => [it, KINDS[it] + \" (\" + count + \")\"])]);
-  offer(states,
-    [\"By you\", [[\"s:\", \"not decided\"], ...Object.keys(DONE).map((it) => [\"s:\" + it, DONE[it]])]],
-    [\"In the journals\", [[\"v:open\", \"open\"], [\"v:accept\", \"accepted\"], [\"v:reject\", \"rejected\"], [\"v:disputed\", \"disputed\"]]]);
-  const keys = [[\"j\", \"next\"], [\"k\", \"back\"], [\"a\", \"accept\"], [\"r\", \"reject\"], [\"w\", \"withdraw\"]];
-  document.body.prepend(make(\"header\", {}, make(\"h1\", { textContent: \"Changes to decide\" }), tally, views));
-  aside.prepend(make(\"div\", { className: \"sign\" }, labelled(\"Your name\", person), save),
+  person.setAttribute(\"list\", \"known\");
+  const short = [[\"j\", \"next\"], [\"k\", \"back\"], [\"a\", \"accept\"], [\"r\", \"reject\"], [\"n\", \"undecided\"], [\"u\", \"undo\"], [\"?\", \"help\"]];
+  document.body.prepend(make(\"header\", {}, make(\"h1\", {}, ...(title ? [isolated(title), \": changes to decide\"] : [\"Changes to decide\"])), tally, views, openButton, help),
+    make(\"p\", { id: \"printed\" }));
+  aside.prepend(make(\"div\", { className: \"sign\" }, labelled(\"Your name\", person), known, save, file),
     make(\"div\", { className: \"told\" }, line, undo),
-    make(\"details\", { open: innerWidth > 960 }, make(\"summary\", { textContent: \"Filter, and decide all that is left\" }),
-      make(\"div\", { className: \"filter\" }, labelled(\"Author\", authors), labelled(\"Kind\", kinds), labelled(\"State\", states), acceptAll, rejectAll)),
-    make(\"p\", { className: \"keys\" }, ...keys.flatMap(([key, text]) => [make(\"kbd\", { textContent: key }), \" \" + text + \" \"])));
+    make(\"details\", { className: \"choose\", open: innerWidth > 960 }, make(\"summary\", { textContent: \"Filter, and decide all that is left\" }),
+      make(\"div\", { className: \"filter\" }, labelled(\"Author\", authors), labelled(\"Kind\", kinds), labelled(\"State\", states), labelled(\"Search\", search), labelled(\"Go on by itself\", advance), acceptAll, rejectAll)),
+    make(\"p\", { className: \"keys\" }, ...short.flatMap(([key, text]) => [make(\"kbd\", { textContent: key }), \" \" + text + \" \"])));
+  offerFilters();
   main.setAttribute(\"aria-label\", \"Document\");
   main.tabIndex = list.tabIndex = 0;
   list.setAttribute(\"role\", \"list\");
   list.setAttribute(\"aria-label\", \"List of changes\");
+  colour(Array.from(new Set(authorsOf)));
+}
+
+// A colour for each of the first authors.
+function colour(names) {
   const colours = new CSSStyleSheet();
-  names.slice(0, 64).forEach(([it], place) =>
+  names.slice(0, 64).forEach((it, place) =>
     colours.insertRule('[data-author=\"' + CSS.escape(it) + '\"] { --author: var(--author-' + ((place % 8) + 1) + \"); }\"));
   document.adoptedStyleSheets = [colours];
 }
@@ -234,7 +300,64 @@ function build() {
 function tell(text, isFault = false) {
   line.textContent = text;
   line.classList.toggle(\"fault\", isFault);
-  undo.hidden = true;
+}
+
+// Says on paper what view was printed, of whom and when.
+function sayPrinted() {
+  const view = document.body.dataset.view;
+  const who = reviewer ? \" as decided on this page by \" + spelled(reviewer) : \" as decided on this page\";
+  document.querySelector(\"#printed\").textContent =
+    (title ? title + \": \" : \"\") + \"view \\\"\" + view + \"\\\"\" + who + \", \" + tally.textContent + \". Printed on \" + dated(Date.now()) + \".\";
+}
+
+// Dialogs: questions with their answers, one at a time.
+
+let asked = Promise.resolve(\"\");
+
+// Asks, and gives the value of the answer that is pressed; the Escape key gives the empty value. An answer is a value and
+// its words, the first one has the keyboard.
+function ask(title, inside, answers) {
+  asked = asked.then(() => new Promise((resolve) => openDialog(title, inside, answers, resolve)));
+  return asked;
+}
+
+function openDialog(title, inside, answers, resolve) {
+  const buttons = answers.map(([value, textContent], place) =>
+    make(\"button\", { type: \"button\", value, textContent, autofocus: place === 0, className: \"answer\" }));
+  const dialog = make(\"dialog\", { \"aria-labelledby\": \"asked\" }, make(\"h2\", { id: \"asked\", textContent: title }),
+    make(\"div\", { className: \"asking\", tabIndex: -1 }, ...inside), make(\"div\", { className: \"answers\" }, ...buttons));
+  dialog.addEventListener(\"click\", ({ target }) => target.matches(\".answer\") && dialog.close(target.value));
+  dialog.addEventListener(\"close\", () => {
+    dialog.remove();
+    resolve(dialog.returnValue);
+  });
+  document.body.append(dialog);
+  dialog.showModal();
+}
+
+// Closes the dialog that is open, as the Escape key does.
+function closeDialog() {
+  const dialog = document.querySelector(\"dialog[open]\");
+  if (dialog) dialog.close(\"\");
+}
+
+function paragraph(...inside) {
+  return make(\"p\", {}, ...inside);
+}
+
+// A name, so that its letters turn nothing around it.
+function isolated(name) {
+  return make(\"bdi\", { textContent: spelled(name) || \"no name\" });
+}
+
+function dated(time) {
+  return time ? new Date(time).toLocaleString(\"en-GB\", { dateStyle: \"long\", timeStyle: \"short\" }) : \"an unknown time\";
+}
+
+// Numbers of the changes at places, a few at most.
+function numbersInWords(places) {
+  const few = places.slice(0, 12).map((at) => at + 1).join(\", \");
+  return few + (places.length > 12 ? \" and \" + (places.length - 12) + \" more\" : \"\");
 }
 
 // The three views of the document.
@@ -270,6 +393,14 @@ function placesOf(row) {
     }
   }
   return places.get(row.id) || [];
+}
+
+// Shows where a change is in the document.
+function showPlace(row) {
+  const [place] = placesOf(row);
+  if (!place) return;
+  if (place.closest(\"details\")) place.closest(\"details\").open = true;
+  place.scrollIntoView({ block: \"center\" });
 }
 
 // Excerpts: what a change is about, in a few words.
@@ -339,11 +470,144 @@ function fill(row) {
   press(row);
 }
 
+// Shows in a row which of its buttons is pressed. A word can be withdrawn only where there is one.
 function press(row) {
-  for (const button of row.querySelectorAll(\"button\")) button.ariaPressed = String(button.value === row.dataset.say);
+  const at = numberOf(row) - 1;
+  for (const button of row.querySelectorAll(\"button\")) {
+    button.ariaPressed = String(button.value === words[at]);
+    if (button.value === \"withdraw\") button.disabled = words[at] !== \"withdraw\" && !hasEarlier(at);
+  }
 }
 
-// The change that is chosen.
+function pressAll() {
+  for (const row of rows) if (row.hasAttribute(\"tabindex\")) press(row);
+}
+
+// Shows the rows at these places, and no others.
+let shownAt = new Set(rows.keys());
+
+function showRows(places) {
+  shownAt = new Set(places);
+  rows.forEach((row, at) => (row.hidden = !isShown(at)));
+}
+
+function isShown(at) {
+  return shownAt.has(at);
+}
+
+// The next place that is shown, or -1.
+function nextShown(at, by) {
+  let next = at + by;
+  while (rows[next] && !isShown(next)) next += by;
+  return rows[next] ? next : -1;
+}
+
+// Brings a row into sight.
+function reach(row) {
+  fill(row);
+  row.scrollIntoView({ block: \"nearest\" });
+}
+
+function watchRows() {
+  const near = new IntersectionObserver((seen) => seen.forEach((it) => it.isIntersecting && fill(it.target)), { root: list, rootMargin: \"50%\" });
+  rows.forEach((row) => near.observe(row));
+}
+
+// The picture of a word: what a row and the places of a change show of it.
+
+function redraw(at) {
+  const word = words[at];
+  for (const it of [rows[at], ...placesOf(rows[at])]) {
+    if (word) it.dataset.say = word;
+    else delete it.dataset.say;
+  }
+  press(rows[at]);
+}
+
+function redrawAll() {
+  rows.forEach((_, at) => redraw(at));
+}
+
+// The words: what the reviewer says of each change. They are held by index, which is the number less one; the rows of the
+// list and the elements of the document only show them.
+
+const words = rows.map(() => \"\");
+const counts = { accept: 0, reject: 0, withdraw: 0 };
+// The sequence number with which the word on a change was saved, or will be.
+const sequenceAt = rows.map(() => 0);
+
+// Puts a word on a change, or none.
+function say(at, word, sequence = nextSequence()) {
+  if (words[at]) counts[words[at]] -= 1;
+  if (word) counts[word] += 1;
+  words[at] = word;
+  sequenceAt[at] = sequence;
+  unkept.add(at);
+  redraw(at);
+}
+
+// Puts words on changes, each an index, a word and a sequence number or none. What comes puts the former words there.
+function replace(changes) {
+  const free = changes.filter(([at]) => !lockedAt[at]);
+  const former = free.map(([at]) => [at, words[at], sequenceAt[at]]);
+  for (const [at, word, sequence] of free) say(at, word, sequence);
+  changed();
+  return former;
+}
+
+// The indexes of all changes, in their order.
+function indexes() {
+  return Array.from(rows.keys());
+}
+
+function decidedPlaces() {
+  return indexes().filter((at) => words[at]);
+}
+
+// What reviewers say of a change in the journals of this page: who, word and rank.
+const heard = [];
+
+function saysOn(at) {
+  heard[at] = heard[at] || Array.from(rows[at].querySelectorAll(\":scope > p[data-word]\"), (it) => {
+    const { data = \"\" } = (it.querySelector(\"bdi\") || it).firstChild || {};
+    return { who: data, word: it.dataset.word, rank: Number(it.dataset.rank) };
+  });
+  return heard[at];
+}
+
+// The reviewer's own words on a change in the journals of this page.
+function ownOn(at) {
+  return saysOn(at).filter((it) => it.who === reviewer).map((it) => it.word);
+}
+
+// Whether there is a word of the reviewer that can be withdrawn: in a journal of this page, or in one that was saved.
+function hasEarlier(at) {
+  return ownOn(at).some((it) => it !== \"withdraw\") || (saved.words.get(at) || \"withdraw\") !== \"withdraw\";
+}
+
+// What other reviewers say against the reviewer's word on a change.
+function against(at) {
+  const mine = words[at] ? [words[at]] : ownOn(at);
+  const opposite = mine.includes(\"accept\") ? \"reject\" : mine.includes(\"reject\") ? \"accept\" : \"\";
+  return saysOn(at).filter((it) => it.who !== reviewer && it.word === opposite);
+}
+
+// How many changes have which word, as \"2 accepted, 1 rejected\".
+function countsInWords(all = counts) {
+  return Object.keys(DONE).filter((it) => all[it]).map((it) => all[it] + \" \" + DONE[it]).join(\", \");
+}
+
+function tallied(said) {
+  const all = { accept: 0, reject: 0, withdraw: 0 };
+  for (const word of said) all[word] += 1;
+  return all;
+}
+
+function many(count, one) {
+  return count + \" \" + one + (count === 1 ? \"\" : \"s\");
+}
+
+// The change that is chosen, and the ways to the next one.
 
 let current = null;
 
@@ -351,69 +615,140 @@ let current = null;
 function choose(row, isFromDocument) {
   if (current) for (const it of [current, ...placesOf(current)]) it.removeAttribute(\"aria-current\");
   current = row;
-  fill(row);
+  reach(row);
   for (const it of [row, ...placesOf(row)]) it.setAttribute(\"aria-current\", \"true\");
-  row.scrollIntoView({ block: \"nearest\" });
   row.focus({ preventScroll: true });
-  const [place] = placesOf(row);
-  if (!place || isFromDocument) return;
-  if (place.closest(\"details\")) place.closest(\"details\").open = true;
-  place.scrollIntoView({ block: \"center\" });
+  if (!isFromDocument) showPlace(row);
+}
+
+// The next place from here that is shown and of which this holds, round the end of the list; -1 where there is none.
+function nextPlace(from, by, holds) {
+  for (let count = 1; count <= rows.length; count += 1) {
+    const at = (from + by * count + rows.length * 2) % rows.length;
+    if (isShown(at) && holds(at)) return at;
+  }
+  return -1;
+}
+
+function here(by) {
+  return current ? numberOf(current) - 1 : by < 0 ? rows.length : -1;
 }
 
 function step(by) {
-  let at = current ? numberOf(current) - 1 + by : by < 0 ? rows.length - 1 : 0;
-  while (rows[at] && rows[at].hidden) at += by;
-  if (rows[at]) choose(rows[at]);
+  const next = nextShown(here(by), by);
+  if (next >= 0) choose(rows[next]);
 }
 
-// Decisions. The word on a revision stands in `data-say` of its row and of its places in the document.
-
-function say(row, word) {
-  if (isLocked(row) || (row.dataset.say || \"\") === word) return;
-  for (const it of [row, ...placesOf(row)]) {
-    if (word) it.dataset.say = word;
-    else delete it.dataset.say;
-  }
-  press(row);
+// Goes to the next change of some sort, or says that there is none.
+function seek(by, holds, sort) {
+  const at = nextPlace(here(by), by, holds);
+  if (at < 0) return tell(\"No change that is shown is \" + sort + \".\");
+  choose(rows[at]);
+  tell(\"Change \" + (at + 1) + \" is \" + sort + \".\");
 }
 
-// What a button or a key does: its word, or none where the row has that word already.
+function isDisputed(at) {
+  return verdictsOf[at] === \"disputed\";
+}
+
+function differs(at) {
+  return against(at).length > 0;
+}
+
+// Decisions, of one change or of all that a filter leaves.
+
+// Does what the reviewer asked for, and remembers how it is undone.
+function act(text, changes) {
+  remember(text, replace(changes));
+}
+
+// What a button or a key does: its word, or none where the change has that word already.
 function decide(row, word) {
   if (!row) return tell(\"Choose a change first: the key j goes to the next one.\");
-  if (isLocked(row)) return tell(\"Change \" + numberOf(row) + \" is locked.\");
-  say(row, row.dataset.say === word ? \"\" : word);
-  tell(\"Change \" + numberOf(row) + \": \" + (DONE[row.dataset.say] || \"not decided\") + \".\");
-  changed();
+  const at = numberOf(row) - 1;
+  const name = \"Change \" + (at + 1);
+  if (!isShown(at)) return tell(name + \" is hidden by the filter: the key j goes to the next one.\");
+  if (lockedAt[at]) return tell(name + \" is locked.\");
+  const former = words[at];
+  if (word === \"withdraw\" && former !== word && !hasEarlier(at)) return tell(nothingToWithdraw(name));
+  const next = former === word ? \"\" : word;
+  act(\"change \" + (at + 1) + \" \" + (DONE[next] || \"not decided\"), [[at, next]]);
+  tell(name + \": \" + (DONE[next] || \"not decided\") + (former && next ? \". It was \" + DONE[former] : \"\") + \".\");
+  if (next && advance.checked) goOn(at);
 }
 
-function decideShown(word) {
-  const before = wordsNow();
-  const shown = rows.filter((row) => !row.hidden && !isLocked(row));
-  shown.forEach((row) => say(row, word));
-  tell(shown.length + \" \" + DONE[word] + \".\");
-  offerBack(\"Undo\", before);
-  changed();
+function nothingToWithdraw(name) {
+  return name + \": there is no earlier word \" + (reviewer ? \"of \" + reviewer : \"of yours, as far as this page knows without your name,\") + \" to withdraw.\";
 }
 
+// After a decision the next change that isn't decided is chosen.
+function goOn(at) {
+  const next = nextPlace(at, 1, isUndecided);
+  if (next >= 0) return choose(rows[next]);
+  const hidden = rows.filter((_, place) => isUndecided(place)).length;
+  tell(line.textContent + (hidden ? \" All that is shown is decided; \" + many(hidden, \"change\") + \" that the filter hides \" + (hidden === 1 ? \"is\" : \"are\") + \" not.\" : \" All changes are decided.\"));
+}
+
+function isUndecided(at) {
+  return !words[at] && !lockedAt[at];
+}
+
+// Decides all that the filter leaves, as it is now. Where another word would be replaced, the reviewer is asked.
+async function decideShown(word) {
+  filter();
+  const left = indexes().filter((at) => isShown(at) && !lockedAt[at] && words[at] !== word);
+  const other = left.filter((at) => words[at]);
+  const rest = left.filter((at) => !words[at]);
+  const answer = other.length ? await askToReplace(word, other, rest) : \"all\";
+  if (!answer) return tell(\"Nothing was changed.\");
+  const places = answer === \"all\" ? left : rest;
+  if (places.length) act(places.length + \" \" + DONE[word], places.map((at) => [at, word]));
+  tell(places.length ? places.length + \" \" + DONE[word] + \".\" : \"No change that is shown is without this word.\");
+}
+
+function askToReplace(word, other, rest) {
+  const text = countsInWords(tallied(other.map((at) => words[at])));
+  return ask(\"Replace \" + many(other.length, \"word\") + \" of yours?\", [
+    make(\"p\", {}, \"Of the changes that the filter leaves you have decided \" + other.length + \" otherwise: \" + text + \".\"),
+    make(\"p\", {}, \"Numbers \" + numbersInWords(other) + \".\"),
+  ], [
+    ...(rest.length ? [[\"rest\", ORDERS[word] + \" the other \" + rest.length + \" only\"]] : []),
+    [\"\", \"Change nothing\"],
+    [\"all\", \"Replace them: \" + word + \" all \" + (other.length + rest.length)],
+  ]);
+}
+
+// What follows from every change of words: how many there are, what the buttons say, and that they are kept.
 function changed() {
-  const counts = Object.keys(DONE).map((word) => [rows.filter((row) => row.dataset.say === word).length, DONE[word]]);
-  const all = counts.reduce((sum, [count]) => sum + count, 0);
-  tally.textContent = all + \" of \" + rows.length + \" decided\" + (all ? \": \" : \"\") +
-    counts.filter(([count]) => count).map((it) => it.join(\" \")).join(\", \");
-  waiting = waiting || setTimeout(keep, 300);
+  const all = counts.accept + counts.reject + counts.withdraw;
+  tally.textContent = all + \" of \" + rows.length + \" decided\" + (all ? \": \" + countsInWords() : \"\");
+  recount();
+  keepSoon();
+  document.dispatchEvent(new CustomEvent(\"redline-changed\"));
 }
 
-// Undo: words that were replaced come back.
+// Undo: a stack of all that was done, each with its words and with what brings the former words back.
 
-// A button beside what was told, which brings these words back.
-function offerBack(textContent, words) {
-  const onclick = () => {
-    setWords(words);
-    tell(\"Done.\");
-    changed();
-  };
-  Object.assign(undo, { textContent, onclick, hidden: false });
+const acts = [];
+
+function remember(text, former) {
+  if (former.length) acts.push({ text, former });
+  showUndo();
+}
+
+function takeBack() {
+  const last = acts.pop();
+  if (!last) return tell(\"There is nothing to undo.\");
+  replace(last.former.map(([at, word]) => [at, word]));
+  showUndo();
+  tell(\"Undone: \" + last.text + \".\");
+}
+
+function showUndo() {
+  const last = acts.at(-1);
+  undo.disabled = !last;
+  undo.textContent = last ? \"Undo: \" + last.text : \"Undo\";
+  undo.title = acts.slice(-10).reverse().map((it) => it.text).join(\"\\n\");
 }
 
 // Filters: which rows are shown.
@@ -424,75 +759,342 @@ function offer(select, ...groups) {
     select.append(make(\"optgroup\", { label }, ...options.map(([value, textContent]) => make(\"option\", { value, textContent }))));
 }
 
-function counted(key) {
-  const counts = new Map();
-  for (const row of rows) counts.set(row.dataset[key], (counts.get(row.dataset[key]) || 0) + 1);
-  return Array.from(counts);
+// How often each value is there.
+function counted(values) {
+  const found = new Map();
+  for (const it of values) found.set(it, (found.get(it) || 0) + 1);
+  return Array.from(found);
+}
+
+function offerFilters() {
+  offer(authors, [\"Author\", counted(authorsOf).map(([it, count]) => [\"=\" + it, (it || \"no name\") + \" (\" + count + \")\"])]);
+  offer(kinds, [\"Kind\", counted(kindsOf).map(([it, count]) => [it, KINDS[it] + \" (\" + count + \")\"])]);
+  offer(states,
+    [\"By you\", [[\"s:\", \"not decided\"], ...Object.keys(DONE).map((it) => [\"s:\" + it, DONE[it]])]],
+    [\"By others\", [[\"differ\", \"differ from you\"]]],
+    [\"In the journals\", [[\"v:open\", \"open\"], [\"v:accept\", \"accepted\"], [\"v:reject\", \"rejected\"], [\"v:disputed\", \"disputed\"]]]);
+}
+
+// Whether the row at a place is one that the filter leaves, by what is chosen and typed now.
+function matcher() {
+  const [author, kind, state] = [authors.value, kinds.value, states.value];
+  const sought = plainText(search.value).trim();
+  const hasState = (at) => (state === \"differ\" ? differs(at) :
+    state.startsWith(\"s:\") ? state === \"s:\" + words[at] : state === \"v:\" + verdictsOf[at]);
+  return (at) => (!author || author === \"=\" + authorsOf[at]) && (!kind || kind === kindsOf[at]) &&
+    (!state || hasState(at)) && (!sought || sought === String(at + 1) || searchText(at).includes(sought));
 }
 
 function filter() {
-  const is = (value, wanted) => !wanted || value === wanted;
-  let left = 0;
-  for (const row of rows) {
-    const { author, kind, verdict, say } = row.dataset;
-    const state = states.value.startsWith(\"v:\") ? \"v:\" + verdict : \"s:\" + (say || \"\");
-    row.hidden = !(is(\"=\" + author, authors.value) && is(kind, kinds.value) && is(state, states.value));
-    if (!row.hidden && !isLocked(row)) left += 1;
-  }
-  acceptAll.textContent = \"Accept these \" + left;
-  rejectAll.textContent = \"Reject these \" + left;
-  acceptAll.disabled = rejectAll.disabled = left === 0;
+  showRows(indexes().filter(matcher()));
+  recount();
 }
 
-// The browser's own store keeps, by document and name, a letter for each revision.
+// What the filter leaves as words are now, and how many of these can be decided.
+function left() {
+  const matches = matcher();
+  return rows.reduce((sum, _, at) => sum + (!lockedAt[at] && matches(at) ? 1 : 0), 0);
+}
+
+function recount() {
+  const count = left();
+  acceptAll.textContent = \"Accept these \" + count;
+  rejectAll.textContent = \"Reject these \" + count;
+  acceptAll.disabled = rejectAll.disabled = count === 0;
+}
+
+// The text in which a change is searched: its kind, its author, who spoke of it, and the paragraph or row that it stands in.
+
+const searchTexts = [];
+const blockTexts = new Map();
+
+function plainText(text) {
+  return text.normalize(\"NFKC\").toLowerCase().replace(/\\s+/g, \" \");
+}
+
+function searchText(at) {
+  if (searchTexts[at] === undefined) {
+    const blocks = new Set(placesOf(rows[at]).map(blockOf).filter((it) => it));
+    const said = saysOn(at).map((it) => it.who);
+    searchTexts[at] = plainText([KINDS[kindsOf[at]], authorsOf[at], ...said].join(\" \")) + \" \" + Array.from(blocks, textOfBlock).join(\" \");
+  }
+  return searchTexts[at];
+}
+
+// The row or the paragraph of an element of a change; a change of a table's or a page's format has none.
+function blockOf(place) {
+  return place.closest(\".edge\") ? place.closest(\"tr\") : place.closest(\"p, .p, td\");
+}
+
+function textOfBlock(block) {
+  if (!blockTexts.has(block)) blockTexts.set(block, plainText(block.textContent));
+  return blockTexts.get(block);
+}
+
+// The browser's own store keeps words by document and name, so that a page that is closed loses none.
+//
+//     redline DIGEST          the name that was used last
+//     redline DIGEST/NAME     {\"time\": .., \"words\": [GROUP ..], \"saved\": {\"time\": .., \"sequence\": .., \"words\": [GROUP ..]}}
+//
+// A GROUP is {\"word\": \"accept\", \"sequence\": 2, \"numbers\": \"1-3,7\"}; the word \"\" is one that was taken away. Only places whose
+// word changed are written, after the store was read again, since another window may have written into it.
 
 let reviewer = \"\";
+let saved = { time: 0, sequence: 0, words: new Map() };
+const unkept = new Set();
 let waiting = 0;
+let isKeeping = true;
+// Whether it was answered what becomes of the words that were found on opening.
+let isAnswered = false;
+let isAskingAboutWindow = false;
 
-function wordsNow() {
-  return rows.map((row) => LETTERS[row.dataset.say] || \"-\").join(\"\");
+function storeKey(name) {
+  return \"redline \" + digest + \"/\" + name;
 }
 
-function setWords(letters) {
-  rows.forEach((row, at) => say(row, Object.keys(LETTERS).find((word) => LETTERS[word] === letters[at]) || \"\"));
-}
-
-function stored(name) {
+function stored(key) {
   try {
-    return localStorage.getItem(\"redline \" + digest + name);
+    return localStorage.getItem(key) || \"\";
   } catch {
-    return null;
+    return \"\";
   }
 }
 
+// The names under which this browser keeps words for this document.
+function keptNames() {
+  try {
+    const start = storeKey(\"\");
+    return Object.keys(localStorage).filter((it) => it.startsWith(start)).map((it) => it.slice(start.length));
+  } catch {
+    return [];
+  }
+}
+
+// What is kept under a name. What can't be read is as if nothing were kept.
+function recordOf(name) {
+  return record(stored(storeKey(name)));
+}
+
+function record(text) {
+  try {
+    const { time, words: groups, saved: last } = text.startsWith(\"{\") ? JSON.parse(text) : { words: lettered(text) };
+    const sequence = last && isSequence(last.sequence) ? last.sequence : 0;
+    return {
+      time: Number(time) || 0,
+      words: ungrouped(groups),
+      saved: { time: Number(last && last.time) || 0, sequence, words: new Map(Array.from(ungrouped(last && last.words), ([at, it]) => [at, it.word])) },
+    };
+  } catch {
+    return record(\"\");
+  }
+}
+
+// What pages of former versions kept: a letter for each change.
+function lettered(text) {
+  return Array.from(text, (letter, at) => ({ word: WORDS.find((it) => LETTERS[it] === letter), sequence: 1, numbers: String(at + 1) }));
+}
+
+function isSequence(number) {
+  return Number.isInteger(number) && number > 0 && number <= LARGEST;
+}
+
+// The words of groups by place. A place is in one group at most, so there is an end to what a strange text can ask for.
+function ungrouped(groups) {
+  const found = new Map();
+  let count = 0;
+  for (const { word, sequence, numbers } of groups || []) {
+    if (!(word === \"\" || WORDS.includes(word)) || !isSequence(sequence)) continue;
+    for (const number of listed(numbers)) {
+      count += 1;
+      if (count > rows.length) throw new RangeError(\"more numbers than changes\");
+      found.set(number - 1, { word, sequence });
+    }
+  }
+  return found;
+}
+
+// The numbers of a list such as 1-3,7, of those that the document has.
+function* listed(numbers) {
+  for (const range of String(numbers).split(\",\")) {
+    const [first, last = first] = range.split(\"-\").map(Number);
+    for (let number = first; number > 0 && number <= Math.min(last, rows.length); number += 1) yield number;
+  }
+}
+
+function grouped(entries) {
+  const groups = new Map();
+  for (const [at, { word, sequence }] of Array.from(entries).sort(([one], [other]) => one - other)) {
+    const key = word + \" \" + sequence;
+    if (!groups.has(key)) groups.set(key, { word, sequence, ranges: [] });
+    const { ranges } = groups.get(key);
+    if (ranges.length && ranges.at(-1)[1] === at) ranges.at(-1)[1] = at + 1;
+    else ranges.push([at + 1, at + 1]);
+  }
+  return Array.from(groups.values(), ({ word, sequence, ranges }) =>
+    ({ word, sequence, numbers: ranges.map(([first, last]) => (first === last ? String(first) : first + \"-\" + last)).join(\",\") }));
+}
+
+function recordText({ time, words: entries, saved: last }) {
+  const of = Array.from(last.words, ([at, word]) => [at, { word, sequence: last.sequence }]);
+  return JSON.stringify({ time, words: grouped(entries), saved: { time: last.time, sequence: last.sequence, words: grouped(of) } });
+}
+
+function keepSoon() {
+  if (unkept.size) waiting = waiting || setTimeout(keep, 300);
+}
+
+// Writes the words that changed into what is kept now.
 function keep() {
   clearTimeout(waiting);
   waiting = 0;
+  const now = recordOf(reviewer);
+  if (!unkept.size && saved.sequence <= now.saved.sequence) return;
+  for (const at of unkept) now.words.set(at, { word: words[at], sequence: sequenceAt[at] });
+  unkept.clear();
+  write(reviewer, { time: Date.now(), words: now.words, saved: saved.sequence > now.saved.sequence ? saved : now.saved });
+}
+
+function write(name, now) {
+  store(storeKey(name), recordText(now));
+  store(\"redline \" + digest, reviewer);
+}
+
+function store(key, text) {
   try {
-    localStorage.setItem(\"redline \" + digest + \"/\" + reviewer, wordsNow());
-    localStorage.setItem(\"redline \" + digest, reviewer);
+    localStorage.setItem(key, text);
   } catch {
-    tell(\"This browser keeps nothing: save your journal before you close the page.\", true);
+    if (isKeeping) tell(\"This browser keeps nothing: save your journal before you close the page.\", true);
+    isKeeping = false;
   }
 }
 
-// Names of reviewers.
+// Another window of this browser wrote words under this name: they come in here, and words of this window that would be
+// replaced are asked about.
+async function hearStore({ key }) {
+  if (!isAnswered || key !== storeKey(reviewer)) return;
+  saved = laterSaved();
+  takeIn(wordsElsewhere().filter(([at]) => !words[at]));
+  if (!wordsElsewhere().length || isAskingAboutWindow) return;
+  isAskingAboutWindow = true;
+  const answer = await askAboutWindow(wordsElsewhere());
+  isAskingAboutWindow = false;
+  if (answer === \"theirs\") takeIn(wordsElsewhere());
+  else keepMine(wordsElsewhere());
+}
 
-// A new name brings back what is kept under it. What was decided without a name goes on top of that; where nothing is
-// kept, what is decided now goes on, since the name may have been misspelt.
-function rename() {
-  const name = person.value.replace(/^ +| +$/g, \"\");
-  const why = name && refusal(name);
-  if (why) return tell(why, true);
-  if (name === reviewer) return;
-  if (waiting) keep();
-  const before = wordsNow();
-  const known = stored(\"/\" + name);
-  if (known) setWords(reviewer ? known : known.replace(/./g, (letter, at) => (before[at] === \"-\" ? letter : before[at])));
-  tell(known ? \"What you decided before is back.\" : reviewer ? \"What \" + reviewer + \" decided on this page goes on.\" : \"\");
-  if (!known && reviewer) offerBack(\"Begin anew\", \"\");
-  reviewer = person.value = name;
+// What was saved last under this name: by this window, or by another one.
+function laterSaved() {
+  const other = foundUnder(reviewer).last;
+  return other.sequence > saved.sequence ? other : saved;
+}
+
+// What is kept under this name and isn't what this window has.
+function wordsElsewhere() {
+  return Array.from(recordOf(reviewer).words).filter(([at, it]) =>
+    !lockedAt[at] && !unkept.has(at) && it.word !== words[at] && it.sequence > greatestOf(reviewer));
+}
+
+function takeIn(entries) {
+  if (!entries.length) return;
+  const places = entries.map(([at]) => at);
+  remember(many(places.length, \"word\") + \" from another window\", replace(entries.map(([at, it]) => [at, it.word, it.sequence])));
+  for (const at of places) unkept.delete(at);
+  tell(\"Another window of this page decided \" + many(places.length, \"change\") + \": \" + numbersInWords(places) + \". They are shown here too.\");
+}
+
+function keepMine(entries) {
+  for (const [at] of entries) say(at, words[at]);
   changed();
+}
+
+function askAboutWindow(entries) {
+  const places = entries.map(([at]) => at);
+  return ask(\"Another window replaced \" + many(entries.length, \"word\") + \" of yours\", [
+    paragraph(\"In another window of this page, \" + many(entries.length, \"change\") + \" that you decided here got another word: numbers \" + numbersInWords(places) + \".\"),
+    make(\"ul\", {}, ...entries.slice(0, 12).map(([at, it]) => make(\"li\", {}, (at + 1) + \": here \" + DONE[words[at]] + \", there \" + (DONE[it.word] || \"not decided\")))),
+  ], [[\"mine\", \"Keep the words of this window\"], [\"theirs\", \"Take those of the other window\"]]);
+}
+
+// What this browser kept: it is told, and used only where the reviewer says so.
+
+// Of what is kept under a name: the words that can be used, those of an earlier round, and those on locked changes.
+function foundUnder(name) {
+  const { time, words: entries, saved: last } = recordOf(name);
+  const said = Array.from(entries).filter(([, it]) => it.word);
+  const isLater = ([, it]) => it.sequence > greatestOf(name);
+  return {
+    name, time,
+    // Words that were saved before a later journal of this page count no more.
+    last: last.sequence > greatestOf(name) ? last : { ...last, words: new Map() },
+    usable: said.filter((it) => isLater(it) && !lockedAt[it[0]]),
+    older: said.filter((it) => !isLater(it) && !lockedAt[it[0]]),
+    aside: said.filter(([at]) => lockedAt[at]),
+  };
+}
+
+function isFound({ usable, older, aside, last }) {
+  return usable.length + older.length + aside.length + last.words.size > 0;
+}
+
+// On opening, nothing that was found is applied before the answer.
+async function askOnOpening() {
+  const found = keptNames().map(foundUnder).filter(isFound);
+  if (!found.length) return;
+  const last = stored(\"redline \" + digest);
+  found.sort((one, other) => (other.name === last) - (one.name === last) || other.time - one.time);
+  const answer = await askAboutFound(\"Found in this browser\", found);
+  if (!answer.value) return tell(\"Nothing that this browser kept was used. Type your name to go on.\");
+  useFound(answer.found, answer);
+}
+
+async function askAboutFound(title, found) {
+  const choices = found.map((it, place) => make(\"input\", { type: \"radio\", name: \"found\", value: place, checked: place === 0 }));
+  const older = make(\"input\", { type: \"checkbox\", id: \"older\" });
+  const olderCount = found.reduce((sum, it) => sum + it.older.length, 0);
+  const value = await ask(title, [
+    paragraph(\"For this document, this browser kept what was decided before:\"),
+    ...found.map((it, place) => make(\"label\", { className: \"found\" }, ...(found.length > 1 ? [choices[place]] : []), make(\"span\", {}, ...foundInWords(it)))),
+    ...(olderCount ? [make(\"label\", { className: \"found\" }, older,
+      make(\"span\", { textContent: \"Bring back the words of an earlier round too. They would count above the later ones in this page.\" }))] : []),
+    paragraph(make(\"small\", { textContent: \"Other pages that were opened from this computer's disk can write there too. If this isn't what you decided, begin anew.\" })),
+  ], [[\"use\", \"Use what was found\"], [\"anew\", \"Begin anew\"], [\"\", \"I am someone else\"]]);
+  return { value, found: found[Math.max(0, choices.findIndex((it) => it.checked))], isOlder: older.checked };
+}
+
+function foundInWords({ name, time, last, usable, older, aside }) {
+  const counted = countsInWords(tallied(usable.map(([, it]) => it.word)));
+  return [
+    make(\"strong\", {}, name ? isolated(name) : \"without a name\"), \": \" + many(usable.length, \"word\") + (usable.length ? \" (\" + counted + \")\" : \"\") + \", last changed on \" + dated(time) + \".\",
+    last.sequence ? \" Saved as journal number \" + last.sequence + \" on \" + dated(last.time) + \".\" : \"\",
+    older.length ? \" \" + many(older.length, \"word\") + \" of an earlier round: this page has a later journal of this name.\" : \"\",
+    aside.length ? \" \" + many(aside.length, \"word\") + \" on locked changes: kept, but not used on this page.\" : \"\",
+  ];
+}
+
+// Puts what was found under a name in place of the words of the page, or begins anew under that name. Either is undone as
+// one act; what was found and not used comes back with that.
+function useFound(found, { value, isOlder }) {
+  const isUsed = value === \"use\";
+  beReviewer(found.name, found.last);
+  const come = found.usable.map(([at, it]) => [at, it.word, it.sequence]).concat(isUsed && isOlder ? found.older.map(([at, it]) => [at, it.word]) : []);
+  const there = new Set(come.map(([at]) => at));
+  const gone = isUsed ? decidedPlaces().filter((at) => !there.has(at)) : [];
+  const former = replace([...gone.map((at) => [at, \"\"]), ...come]);
+  for (const [at] of found.usable) unkept.delete(at);
+  const count = many(come.length, \"word\");
+  if (isUsed) remember(count + \" brought back\", former);
+  else act(\"begun anew\", decidedPlaces().map((at) => [at, \"\"]));
+  tell(isUsed ? count + \" of \" + (spelled(reviewer) || \"no name\") + \" brought back.\" : \"Begun anew: nothing is decided.\" + (saved.words.size ? \" Your next journal withdraws what you saved before.\" : \"\"));
+}
+
+// Names of reviewers: which can stand in a journal, which were probably meant, and what goes along with a new name.
+
+function greatestOf(name) {
+  return sequences.get(name) || 0;
+}
+
+function nextSequence() {
+  return Math.max(greatestOf(reviewer), saved.sequence) + 1;
 }
 
 // Why a journal can't be written under a name, or the empty text.
@@ -502,65 +1104,516 @@ function refusal(name) {
   if (bytes > 255) return \"A journal can't hold this name: it has \" + bytes + \" bytes, and may have 255.\";
   if (/[\\u0000-\\u001f\\u007f]/.test(name)) return \"A journal can't hold this name: it has a tab or another control character.\";
   if (/\\p{Surrogate}/u.test(name)) return \"A journal can't hold this name: it has half a character.\";
-  return sequences.get(name) === LARGEST ? \"No sequence number is left for \" + name + \".\" : \"\";
+  const greatest = Math.max(greatestOf(name), name === reviewer ? saved.sequence : recordOf(name).saved.sequence);
+  return greatest === LARGEST ? \"No sequence number is left for \" + name + \".\" : \"\";
 }
 
-// The journal that is saved.
-
-function journal(name) {
-  const sequence = (sequences.get(name) || 0) + 1;
-  const entries = rows.filter((row) => row.dataset.say).map((row) => [sequence, numberOf(row), row.dataset.say, name].join(\"\\t\"));
-  return [\"redline-journal 1\", \"document \" + digest, \"revisions \" + rows.length, ...entries, \"\"].join(\"\\n\");
+// A name with its unusual spaces and its invisible characters spelled out.
+function spelled(name) {
+  return name.replace(/[^\\S ]|\\p{Cf}|\\p{Cc}| {2,}|^ | $/gu, (found) =>
+    Array.from(found, (it) => \"[\" + (SPELLED[it] || \"U+\" + it.codePointAt(0).toString(16).toUpperCase().padStart(4, \"0\")) + \"]\").join(\"\"));
 }
 
-function saveJournal() {
-  rename();
-  const why = refusal(person.value.trim());
+// What two names have in common that differ only in case, in how letters are composed, in spaces or in what isn't seen.
+function likeness(name) {
+  return name.normalize(\"NFKC\").replace(/\\p{Cf}/gu, \"\").replace(/\\s+/g, \" \").trim().toUpperCase().toLowerCase();
+}
+
+function knownNames() {
+  return Array.from(new Set([...sequences.keys(), ...keptNames()])).filter((it) => it);
+}
+
+function offerNames() {
+  known.replaceChildren(...knownNames().map((value) => make(\"option\", { value })));
+}
+
+// The name that was meant: where it is nearly that of a known reviewer, the one who types is asked. Null is no answer.
+async function meant(name) {
+  const names = knownNames();
+  const near = names.includes(name) ? [] : names.filter((it) => likeness(it) === likeness(name));
+  if (!near.length) return name;
+  const answer = await ask(\"Is this your name?\", [
+    paragraph(\"You typed \", make(\"strong\", {}, isolated(name)), \". This document already knows \",
+      ...near.flatMap((it, place) => [place ? \" and \" : \"\", make(\"strong\", {}, isolated(it))]), \", which is another name for a journal.\"),
+  ], [...near.map((it, place) => [String(place), \"I am \" + spelled(it)]), [\"typed\", \"I am \" + spelled(name)], [\"\", \"Go back\"]]);
+  return answer === \"\" ? null : answer === \"typed\" ? name : near[Number(answer)];
+}
+
+// Takes the name that was typed, one at a time. It comes to whether the reviewer now has that name.
+let renaming = Promise.resolve(true);
+
+function rename() {
+  renaming = renaming.then(renameNow);
+  return renaming;
+}
+
+async function renameNow() {
+  const typed = person.value.replace(/^ +| +$/g, \"\");
+  if (!typed || typed === reviewer) return Boolean(typed);
+  const why = refusal(typed);
+  if (why) {
+    tell(why, true);
+    return false;
+  }
+  const name = await meant(typed);
+  if (name === null || (name !== reviewer && !(await take(name)))) {
+    person.value = reviewer;
+    return false;
+  }
+  person.value = name;
+  return true;
+}
+
+// Makes this the reviewer's name. Words of the page go along, and those kept under the name come back, as is answered.
+async function take(name) {
+  keep();
+  const found = foundUnder(name);
+  const count = decidedPlaces().length;
+  if (isFound(found)) return count ? takeBoth(found) : takeFound(found);
+  const answer = count && reviewer ? await askToTakeAlong(name, count) : \"along\";
+  if (answer === \"along\") goAlong(found, decidedPlaces());
+  else if (answer === \"anew\") useFound(found, { value: \"anew\" });
+  return Boolean(answer);
+}
+
+async function takeFound(found) {
+  const answer = await askAboutFound(\"Found under this name\", [found]);
+  if (answer.value) useFound(found, answer);
+  return Boolean(answer.value);
+}
+
+async function takeBoth(found) {
+  const places = decidedPlaces();
+  const kept = new Map(found.usable.map(([at, it]) => [at, it.word]));
+  const other = places.filter((at) => kept.has(at) && kept.get(at) !== words[at]);
+  const answer = await ask(\"This name has words of its own\", [
+    paragraph(\"Kept for \", ...foundInWords(found)),
+    paragraph(\"On this page, \" + many(places.length, \"change\") + \" \" + (places.length === 1 ? \"is\" : \"are\") + \" decided\" + (reviewer ? \" under the name \" : \".\"), ...(reviewer ? [isolated(reviewer), \".\"] : []),
+      other.length ? \" Of these, \" + other.length + \" differ from what is kept: numbers \" + numbersInWords(other) + \".\" : \"\"),
+  ], [
+    [\"both\", other.length ? \"Take both; where they differ, what is on this page\" : \"Take both\"],
+    [\"kept\", \"Take only what is kept\"],
+    [\"\", \"Go back to the former name\"],
+  ]);
+  if (answer === \"kept\") useFound(found, { value: \"use\" });
+  if (answer === \"both\") goAlong(found, places);
+  return Boolean(answer);
+}
+
+function askToTakeAlong(name, count) {
+  return ask(\"Whose words are these?\", [
+    paragraph(many(count, \"change\") + \" on this page \" + (count === 1 ? \"was\" : \"were\") + \" decided under the name \", make(\"strong\", {}, isolated(reviewer)), \". Do they go on under \", make(\"strong\", {}, isolated(name)), \"?\"),
+  ], [[\"along\", \"Yes: the name is mended, the words are the same\"], [\"anew\", \"No: begin anew as \" + spelled(name)], [\"\", \"Go back to \" + spelled(reviewer)]]);
+}
+
+// The words at these places go on under the name, on top of those that are kept under it.
+function goAlong(found, places) {
+  const former = reviewer;
+  const mine = places.map((at) => [at, words[at]]);
+  const here = new Set(places);
+  const kept = found.usable.filter(([at]) => !here.has(at)).map(([at, it]) => [at, it.word, it.sequence]);
+  if (!former) forgetNameless(places);
+  beReviewer(found.name, found.last);
+  remember(many(kept.length, \"word\") + \" brought back\", replace(kept));
+  for (const [at] of kept) unkept.delete(at);
+  replace(mine);
+  keep();
+  tell(!places.length ? \"\" : former ? \"What \" + spelled(former) + \" decided on this page goes on as \" + spelled(reviewer) + \".\" : kept.length ? many(kept.length, \"word\") + \" brought back.\" : \"\");
+}
+
+// Words that were decided without a name are kept under the name that they now have.
+function forgetNameless(places) {
+  const nameless = recordOf(\"\");
+  for (const at of places) nameless.words.delete(at);
+  write(\"\", nameless);
+}
+
+function beReviewer(name, last) {
+  keep();
+  unkept.clear();
+  reviewer = person.value = name;
+  saved = last;
+  store(\"redline \" + digest, name);
+  pressAll();
+  redrawAll();
+  offerNames();
+}
+
+// Journals: the text of one, opening one, and saving the reviewer's own.
+
+const RANK = /^[1-9]$/.test(rank) ? Number(rank) : 0;
+
+// The words of a journal that is saved now, by place. A change that has a word in a journal that was saved before and none
+// now is withdrawn, so that the new journal counts in the same way whether or not the former one is used as well.
+function entriesNow() {
+  const isTakenAway = (at) => !words[at] && !lockedAt[at] && saved.words.has(at);
+  return rows.map((_, at) => [at, words[at] || (isTakenAway(at) ? \"withdraw\" : \"\")]).filter(([, word]) => word);
+}
+
+function journal(name = reviewer) {
+  const entries = entriesNow();
+  const isRanked = RANK > 0 && entries.length > 0;
+  const sequence = name === reviewer ? nextSequence() : greatestOf(name) + 1;
+  const lines = entries.map(([at, word]) => [sequence, at + 1, word, ...(isRanked ? [RANK] : []), name].join(\"\\t\"));
+  return [\"redline-journal \" + (isRanked ? 2 : 1), \"document \" + digest, \"revisions \" + rows.length, ...lines, \"\"].join(\"\\n\");
+}
+
+// The entries of a journal's text, or why it is none of this document, as the program says it.
+function entriesOf(text, file) {
+  const lines = text.split(\"\\n\");
+  const [, version] = /^redline-journal ([12])$/.exec(lines[0]) || [];
+  const [, document] = /^document ([0-9a-f]{64})$/.exec(lines[1]) || [];
+  const [, count] = /^revisions (0|[1-9]\\d{0,9})$/.exec(lines[2]) || [];
+  const form = version === \"2\" ? /^([1-9]\\d{0,9})\\t(0|[1-9]\\d{0,9})\\t(accept|reject|withdraw)\\t\\d\\t([^\\0-\\x1f\\x7f]+)$/ :
+    /^([1-9]\\d{0,9})\\t(0|[1-9]\\d{0,9})\\t(accept|reject|withdraw)\\t([^\\0-\\x1f\\x7f]+)$/;
+  const entries = lines.slice(3, -1).map((it) => form.exec(it)).map((it) => it && { sequence: Number(it[1]), at: Number(it[2]) - 1, word: it[3], who: it[4] });
+  const isRight = (it) => it && it.sequence <= LARGEST && it.at < LARGEST && new TextEncoder().encode(it.who).length <= 255;
+  const start = \"redline: journal \" + file + \": \";
+  if (!version || !document || !count || Number(count) > LARGEST || lines.at(-1) !== \"\" || !entries.every(isRight)) return { why: start + \"malformed\" };
+  if (document !== digest) return { why: start + \"document \" + document + \", expected \" + digest };
+  if (Number(count) !== rows.length) return { why: start + \"revisions \" + count + \", expected \" + rows.length };
+  return { entries };
+}
+
+async function openFile(file) {
+  if (file.size > LARGEST_JOURNAL) return tell(\"redline: limit journal bytes \" + LARGEST_JOURNAL, true);
+  let text;
+  try {
+    text = new TextDecoder(\"utf-8\", { fatal: true, ignoreBOM: true }).decode(await file.arrayBuffer());
+  } catch {
+    return tell(\"redline: journal \" + file.name + \": malformed\", true);
+  }
+  return openJournal(text, file.name);
+}
+
+// Makes the words of a journal those of the page. The next one that is saved counts above it.
+async function openJournal(text, file = \"journal\") {
+  const { entries, why } = entriesOf(text, file);
+  if (why) return tell(\"This file can't be opened here. \" + why, true);
+  const names = Array.from(new Set(entries.map((it) => it.who)));
+  const typed = person.value.trim();
+  const name = names.includes(typed) ? typed : names.length === 1 ? names[0] : \"\";
+  if (!name) return tell(names.length ? \"This journal has words of \" + names.map(spelled).join(\", \") + \": type which name is yours, and open it again.\" : \"This journal says nothing.\", true);
+  const own = entries.filter((it) => it.who === name && rows[it.at]);
+  const sequence = own.reduce((greatest, it) => Math.max(greatest, it.sequence), 0);
+  const come = lastWords(own);
+  if (!(await mayOpen(file, name, come, sequence))) return tell(\"The journal wasn't opened: nothing was changed.\");
+  useJournal(file, name, come, sequence);
+}
+
+// The words with the greatest sequence number on each change; where two of one number differ there is none.
+function lastWords(entries) {
+  const found = new Map();
+  for (const { at, word, sequence } of entries) {
+    const last = found.get(at);
+    if (!last || last.sequence < sequence) found.set(at, { word, sequence });
+    else if (last.sequence === sequence && last.word !== word) last.word = \"\";
+  }
+  return found;
+}
+
+async function mayOpen(file, name, come, sequence) {
+  const lost = decidedPlaces().filter((at) => name !== reviewer || !come.has(at) || come.get(at).word !== words[at]);
+  const isOld = sequence <= greatestOf(name);
+  if (!lost.length && !isOld) return true;
+  return (await ask(\"Open \" + file + \"?\", [
+    paragraph(\"It has \" + many(come.size, \"word\") + \" of \", make(\"strong\", {}, isolated(name)), \", saved as journal number \" + sequence + \".\"),
+    ...(isOld ? [paragraph(\"This page was made with a later journal of this name, number \" + greatestOf(name) + \". What you save would count above that one.\")] : []),
+    ...(lost.length ? [paragraph(\"It takes the place of what is decided on this page: \" + many(lost.length, \"word\") + \" would be replaced or taken away (numbers \" + numbersInWords(lost) + \").\")] : []),
+  ], [[\"\", \"Change nothing\"], [\"open\", \"Open it\" + (lost.length ? \", and replace \" + many(lost.length, \"word\") : \"\")]])) === \"open\";
+}
+
+function useJournal(file, name, come, sequence) {
+  const last = recordOf(name).saved;
+  const said = new Map(Array.from(come, ([at, it]) => [at, it.word]).filter(([, word]) => word));
+  beReviewer(name, last.sequence > sequence ? last : { time: Date.now(), sequence, words: said });
+  const changes = rows.map((_, at) => [at, said.get(at) || \"\"]).filter(([at, word]) => word || words[at]);
+  act(file + \" opened\", changes);
+  keep();
+  const unclear = come.size - said.size;
+  const locked = Array.from(said.keys()).filter((at) => lockedAt[at]).length;
+  tell(many(said.size - locked, \"word\") + \" of \" + spelled(name) + \" opened from \" + file + \".\" +
+    (locked ? \" \" + many(locked, \"word\") + \" on locked changes: left out.\" : \"\") +
+    (unclear ? \" \" + many(unclear, \"change\") + \" had two words at once: please decide again.\" : \"\"));
+}
+
+// The name of the file in which a journal is saved: of at most 200 bytes, and one that every system takes.
+function fileName(name) {
+  const safe = (text) => text.replace(/[<>:\"/\\\\|?*\\u0000-\\u001f\\u007f-\\u009f]|\\p{Cf}/gu, \"_\").replace(/^[. ]+|[. ]+$/g, \"\");
+  const document = fitting(safe(title.replace(/\\.(docx|docm|doc|xml)$/i, \"\")), 80);
+  const whole = (document ? document + \".\" : \"\") + (fitting(safe(name), 190 - bytesOf(document)) || \"_\");
+  return (/^(con|prn|aux|nul|com[0-9\\u00b9\\u00b2\\u00b3]|lpt[0-9\\u00b9\\u00b2\\u00b3])(\\.|$)/i.test(whole) ? \"_\" : \"\") + whole + \".journal\";
+}
+
+function bytesOf(text) {
+  return new TextEncoder().encode(text).length;
+}
+
+// As much of a text as has this many bytes.
+function fitting(text, bytes) {
+  let fit = \"\";
+  for (const letter of text) {
+    if (bytesOf(fit + letter) > bytes) return fit;
+    fit += letter;
+  }
+  return fit;
+}
+
+// Gives the journal to the browser, or to a page around this one that takes it, and remembers what was saved.
+function saveNow() {
+  saved = laterSaved();
+  const [text, name, sequence] = [journal(), fileName(reviewer), nextSequence()];
+  const entries = entriesNow();
+  saved = { time: Date.now(), sequence, words: new Map(entries) };
+  keep();
+  pressAll();
+  const isLeft = document.dispatchEvent(new CustomEvent(\"redline-save\", { cancelable: true, detail: { name, text } }));
+  if (isLeft) download(text, name);
+  tell((isLeft ? \"The browser was given \" : \"Saved as \") + name + (isLeft ? \" for its folder of downloads.\" : \".\") +
+    (entries.length ? \" Send this file back.\" : \" It is empty: it says nothing of any change.\"));
+}
+
+function download(text, name) {
+  const href = URL.createObjectURL(new Blob([text], { type: \"application/octet-stream\" }));
+  make(\"a\", { href, download: name }).click();
+  setTimeout(() => URL.revokeObjectURL(href), 60000);
+}
+
+// The summary that comes before a journal is saved: what the reviewer signs, in words.
+
+// How many changes a part of the summary lists.
+const LISTED = 300;
+
+async function saveJournal() {
+  const typed = person.value.replace(/^ +| +$/g, \"\");
+  const why = refusal(typed);
   if (why) {
     tell(why, true);
     return person.focus();
   }
-  const href = URL.createObjectURL(new Blob([journal(reviewer)], { type: \"application/octet-stream\" }));
-  make(\"a\", { href, download: reviewer + \".journal\" }).click();
-  setTimeout(() => URL.revokeObjectURL(href), 60000);
-  tell(\"Saved as \" + reviewer + \".journal. Send this file back.\");
+  if (!(await rename())) return;
+  const name = fileName(reviewer);
+  const isEmpty = entriesNow().length === 0;
+  const answer = await ask(\"Before you save\", summary(), [
+    [\"save\", isEmpty ? \"Save an empty journal\" : \"Save \" + name],
+    [\"\", \"Go on deciding\"],
+  ]);
+  if (answer === \"save\") saveNow();
+}
+
+function summary() {
+  const entries = entriesNow();
+  const all = tallied(entries.map(([, word]) => word));
+  const undecided = indexes().filter(isUndecided).filter((at) => !saved.words.has(at));
+  const locked = lockedAt.filter((it) => it).length;
+  const opposed = entries.map(([at]) => at).filter((at) => against(at).length);
+  return [
+    paragraph(\"Journal number \" + nextSequence() + \" of \", make(\"strong\", {}, isolated(reviewer)), title ? \" for \" : \"\", title ? make(\"strong\", {}, isolated(title)) : \"\",
+      RANK ? \", with rank \" + RANK : \"\", \".\"),
+    countTable([...Object.keys(DONE).map((word) => [DONE[word], all[word]]), [\"not decided\", undecided.length], ...(locked ? [[\"locked\", locked]] : [])]),
+    part(\"Against another reviewer\", opposed, (at) => againstInWords(at), true),
+    part(\"Decided before, and changed\", changedPlaces(entries), (at) => changeInWords(at), true),
+    part(\"Not decided\", undecided, () => \"\"),
+    part(\"The journal in words\", entries.map(([at]) => at), (at) => DONE[words[at] || \"withdraw\"] + (words[at] ? \"\" : \" (taken away since it was saved)\")),
+  ];
+}
+
+function countTable(counted) {
+  return make(\"dl\", { className: \"counts\" }, ...counted.map(([name, count]) =>
+    make(\"div\", {}, make(\"dt\", { textContent: name }), make(\"dd\", { textContent: count }))));
+}
+
+// A part of the summary: changes, each with its number, what it is about, and what is said of it.
+function part(name, places, told, isOpen = false) {
+  if (!places.length) return \"\";
+  const made = make(\"details\", { className: \"part\", open: isOpen }, make(\"summary\", { textContent: name + \": \" + places.length }));
+  const fillIn = () => made.children.length === 1 && made.append(...linesOf(places, told));
+  made.addEventListener(\"toggle\", fillIn);
+  if (isOpen) fillIn();
+  return made;
+}
+
+function linesOf(places, told) {
+  const lines = places.slice(0, LISTED).map((at) => make(\"li\", {}, goTo(at), \" \", make(\"span\", { className: \"about\" }, KINDS[kindsOf[at]] + \" by \", isolated(authorsOf[at])),
+    told(at) ? \": \" : \"\", make(\"strong\", {}, told(at)), excerpt(rows[at])));
+  return [make(\"ul\", {}, ...lines), places.length > LISTED ? paragraph(\"And \" + (places.length - LISTED) + \" more; the file that is saved has all of them.\") : \"\"];
+}
+
+// The number of a change, which leads to it.
+function goTo(at) {
+  const button = make(\"button\", { type: \"button\", className: \"number\", textContent: at + 1, ariaLabel: \"Go to change \" + (at + 1) });
+  button.addEventListener(\"click\", () => {
+    closeDialog();
+    choose(rows[at]);
+  });
+  return button;
+}
+
+function againstInWords(at) {
+  const others = against(at).map((it) => spelled(it.who) + \" \" + DONE[it.word] + (it.rank ? \" with rank \" + it.rank : \"\"));
+  return \"you \" + DONE[words[at]] + \", \" + others.join(\", \");
+}
+
+// The words that the reviewer had on a change before: in a journal that was saved, else in those of this page.
+function formerWords(at) {
+  return saved.words.has(at) ? [saved.words.get(at)] : ownOn(at);
+}
+
+function changedPlaces(entries) {
+  return entries.filter(([at, word]) => formerWords(at).some((it) => it !== word)).map(([at]) => at);
+}
+
+function changeInWords(at) {
+  return formerWords(at).map((it) => DONE[it]).join(\" and \") + \" before, now \" + DONE[words[at] || \"withdraw\"];
+}
+
+// Help: all that a reviewer has to know, behind the key ?.
+
+const KEYS = [
+  [\"j\", \"go to the next change\"], [\"k\", \"go back\"],
+  [\"a\", \"accept the change that is chosen\"], [\"r\", \"reject it\"], [\"w\", \"withdraw your earlier word on it\"],
+  [\"n\", \"the next change that you haven't decided\"], [\"d\", \"the next disputed one\"], [\"o\", \"the next where others differ from you\"],
+  [\"u\", \"undo\"], [\"/\", \"search\"], [\"?\", \"this help\"],
+];
+const HELP = [
+  [\"What you see\", \"What someone inserted is underlined, what someone deleted is struck through, each in the colour of its author. A \\u00b6 is the end of a paragraph that was inserted or deleted: accept a deleted one, and the two paragraphs become one. Moved text is underlined or struck through twice. A bar at the edge stands for a change of format, or for a row of a table: a full bar for an inserted row, a dashed one for a deleted row.\"],
+  [\"Decide\", \"Choose a change, in the document or in the list, and accept or reject it. The same key or button again takes your word away. A change that you leave alone is left to the others. A locked change can't be decided here. After a decision the next undecided change is chosen; \\\"Go on by itself\\\" under \\\"Filter\\\" switches that off.\"],
+  [\"Withdraw\", \"Takes back what you said in an earlier round. It is there only where the page knows of an earlier word of yours: in the journals with which it was made, or in one that you saved or opened here.\"],
+  [\"Many at once\", \"Filter by author, kind or state, or search. \\\"Accept these 12\\\" accepts what the filter leaves at that moment. Before another word of yours is replaced you are asked. \\\"Undo\\\" takes back one step after the other.\"],
+  [\"Views\", \"With marks you see what was inserted and deleted. \\\"final\\\" shows the document as it comes out, \\\"original\\\" as it was before.\"],
+  [\"Your name\", \"Use the same name each time: it is how your journals are told from those of others. Where a name is nearly one that the document knows, you are asked which one you mean.\"],
+  [\"Save and send\", \"\\\"Save my journal\\\" first shows what you decided, what goes against another reviewer, and what you changed. Then your browser puts the file into its folder for downloads. Send this file back. You may save again: the later journal counts above the former one.\"],
+  [\"Take a break\", \"This browser keeps what you decided, for this document and your name. When the page is opened again it says what it found, and asks. Two windows of this page share their words. What is kept isn't on another computer, in a private window, or where the browser's data were cleared, and in some browsers not where the file was moved or renamed. Then use \\\"Open my journal\\\" with the file that you saved last.\"],
+  [\"Who can change it\", \"Nothing goes over the network. But any page that is opened from this computer's disk can read and change what the browser keeps, so look at the summary before you save.\"],
+];
+
+function showHelp() {
+  if (document.querySelector(\"dialog[open]\")) return;
+  ask(\"Help\", [
+    make(\"dl\", { className: \"help-keys\" }, ...KEYS.map(([key, text]) =>
+      make(\"div\", {}, make(\"dt\", {}, make(\"kbd\", { textContent: key })), make(\"dd\", { textContent: text })))),
+    paragraph(\"With the Shift key, N, D and O go back.\"),
+    ...HELP.flatMap(([name, text]) => [make(\"h3\", { textContent: name }), paragraph(text)]),
+  ], [[\"\", \"Close\"]]);
 }
 
 // What is clicked and which keys are pressed.
 
-document.addEventListener(\"click\", ({ target }) => {
+document.addEventListener(\"click\", ({ target, detail }) => {
   const row = target.closest(\"aside > ol > li\");
   const place = target.closest(\"main [data-revision]\");
   if (row) choose(row);
   else if (place) choose(rows[Number(place.dataset.revision) - 1], true);
-  if (row && target.matches(\".buttons button\")) {
-    decide(row, target.value);
-    target.focus();
-  }
+  if (row && target.matches(\".buttons button\")) pressButton(row, target, detail === 0);
 });
+
+// A button that was pressed by key leaves the keyboard on the same button, of the next row where that is chosen.
+function pressButton(row, button, isByKey) {
+  decide(row, button.value);
+  const next = current.querySelector('.buttons [value=\"' + button.value + '\"]:enabled');
+  if (current === row) button.focus();
+  else if (isByKey && next) next.focus();
+}
+
+const PRESSED = {
+  j: () => step(1), k: () => step(-1), u: takeBack,
+  n: () => seek(1, isUndecided, \"not decided\"), N: () => seek(-1, isUndecided, \"not decided\"),
+  d: () => seek(1, isDisputed, \"disputed\"), D: () => seek(-1, isDisputed, \"disputed\"),
+  o: () => seek(1, differs, \"one where others differ from you\"), O: () => seek(-1, differs, \"one where others differ from you\"),
+  \"?\": showHelp,
+  \"/\": () => {
+    search.closest(\"details\").open = true;
+    search.focus();
+  },
+};
+
+// A key that is held down goes on through the list, and decides once.
 document.addEventListener(\"keydown\", (event) => {
-  if (event.ctrlKey || event.altKey || event.metaKey || event.target.closest(\"input[type=text], select\")) return;
-  const word = Object.keys(LETTERS).find((it) => LETTERS[it] === event.key);
-  if (word) decide(current, word);
-  else if (event.key === \"j\" || event.key === \"k\") step(event.key === \"j\" ? 1 : -1);
+  if (event.ctrlKey || event.altKey || event.metaKey || event.target.closest(\"input[type=text], input[type=search], select, dialog\")) return;
+  const word = WORDS.find((it) => LETTERS[it] === event.key);
+  if (word && !event.repeat) decide(current, word);
+  if (!Object.hasOwn(PRESSED, event.key) || (event.repeat && !\"jk\".includes(event.key))) return;
+  event.preventDefault();
+  PRESSED[event.key]();
 });
+
+search.addEventListener(\"keydown\", ({ key }) => {
+  if (key !== \"Enter\" && key !== \"Escape\") return;
+  if (key === \"Escape\") search.value = \"\";
+  filter();
+  list.focus();
+});
+
+let searching = 0;
+
+search.addEventListener(\"input\", () => {
+  clearTimeout(searching);
+  searching = setTimeout(filter, 200);
+});
+
+// For a page around this one, in whose frame it stands: what it can ask and be told. A page that stands alone has the same,
+// and nobody listens. On every change the document has the event `redline-changed`, and before a journal is saved
+// `redline-save`, which is cancelled by whoever saved it.
+
+window.redline = {
+  journal: (name = reviewer) => journal(name),
+  refusal: (name = reviewer) => refusal(name),
+  name: () => reviewer,
+  choose: (number) => rows[number - 1] && choose(rows[number - 1]),
+  openJournal: (text, file) => openJournal(text, file),
+  state: () => ({ name: reviewer, typed: person.value, record: recordText(recordNow()), acts }),
+  restore,
+};
+
+function recordNow() {
+  const of = decidedPlaces().map((at) => [at, { word: words[at], sequence: sequenceAt[at] }]);
+  return { time: Date.now(), words: new Map(of), saved };
+}
+
+// Puts back what `state` gave, into a page of the same document.
+function restore(state) {
+  closeDialog();
+  isAnswered = true;
+  const former = record(state.record);
+  beReviewer(state.name, former.saved);
+  person.value = state.typed;
+  const gone = decidedPlaces().filter((at) => !former.words.has(at)).map((at) => [at, \"\"]);
+  replace([...gone, ...Array.from(former.words, ([at, it]) => [at, it.word, it.sequence])]);
+  acts.splice(0, acts.length, ...state.acts);
+  showUndo();
+}
 
 // What is heard, and how the page begins.
 
 for (const select of [authors, kinds, states]) select.addEventListener(\"change\", filter);
 acceptAll.addEventListener(\"click\", () => decideShown(\"accept\"));
 rejectAll.addEventListener(\"click\", () => decideShown(\"reject\"));
+undo.addEventListener(\"click\", takeBack);
 person.addEventListener(\"change\", rename);
 save.addEventListener(\"click\", saveJournal);
+help.addEventListener(\"click\", showHelp);
+openButton.addEventListener(\"click\", () => file.click());
+file.addEventListener(\"change\", async () => {
+  if (file.files[0]) await openFile(file.files[0]);
+  file.value = \"\";
+});
+document.addEventListener(\"dragover\", (event) => event.preventDefault());
+document.addEventListener(\"drop\", (event) => {
+  event.preventDefault();
+  if (event.dataTransfer.files[0]) openFile(event.dataTransfer.files[0]);
+});
+advance.addEventListener(\"change\", () => store(\"redline setting advance\", advance.checked ? \"yes\" : \"no\"));
+addEventListener(\"storage\", hearStore);
 addEventListener(\"pagehide\", () => waiting && keep());
+addEventListener(\"beforeprint\", sayPrinted);
 
 build();
 arrange();
 document.body.dataset.view = \"marks\";
-const near = new IntersectionObserver((seen) => seen.forEach((it) => it.isIntersecting && fill(it.target)), { root: list, rootMargin: \"50%\" });
-rows.forEach((row) => near.observe(row));
-person.value = reviewer = stored(\"\") || \"\";
-setWords(stored(\"/\" + reviewer) || \"\");
+watchRows();
+advance.checked = stored(\"redline setting advance\") !== \"no\";
+offerNames();
 filter();
 changed();
+askOnOpening().then(() => (isAnswered = true));
 ";

@@ -1,4 +1,4 @@
-// The change that is chosen.
+// The change that is chosen, and the ways to the next one.
 
 let current = null;
 
@@ -6,18 +6,42 @@ let current = null;
 function choose(row, isFromDocument) {
   if (current) for (const it of [current, ...placesOf(current)]) it.removeAttribute("aria-current");
   current = row;
-  fill(row);
+  reach(row);
   for (const it of [row, ...placesOf(row)]) it.setAttribute("aria-current", "true");
-  row.scrollIntoView({ block: "nearest" });
   row.focus({ preventScroll: true });
-  const [place] = placesOf(row);
-  if (!place || isFromDocument) return;
-  if (place.closest("details")) place.closest("details").open = true;
-  place.scrollIntoView({ block: "center" });
+  if (!isFromDocument) showPlace(row);
+}
+
+// The next place from here that is shown and of which this holds, round the end of the list; -1 where there is none.
+function nextPlace(from, by, holds) {
+  for (let count = 1; count <= rows.length; count += 1) {
+    const at = (from + by * count + rows.length * 2) % rows.length;
+    if (isShown(at) && holds(at)) return at;
+  }
+  return -1;
+}
+
+function here(by) {
+  return current ? numberOf(current) - 1 : by < 0 ? rows.length : -1;
 }
 
 function step(by) {
-  let at = current ? numberOf(current) - 1 + by : by < 0 ? rows.length - 1 : 0;
-  while (rows[at] && rows[at].hidden) at += by;
-  if (rows[at]) choose(rows[at]);
+  const next = nextShown(here(by), by);
+  if (next >= 0) choose(rows[next]);
+}
+
+// Goes to the next change of some sort, or says that there is none.
+function seek(by, holds, sort) {
+  const at = nextPlace(here(by), by, holds);
+  if (at < 0) return tell("No change that is shown is " + sort + ".");
+  choose(rows[at]);
+  tell("Change " + (at + 1) + " is " + sort + ".");
+}
+
+function isDisputed(at) {
+  return verdictsOf[at] === "disputed";
+}
+
+function differs(at) {
+  return against(at).length > 0;
 }

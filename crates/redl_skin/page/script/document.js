@@ -25,3 +25,11 @@ function placesOf(row) {
   }
   return places.get(row.id) || [];
 }
+
+// Shows where a change is in the document.
+function showPlace(row) {
+  const [place] = placesOf(row);
+  if (!place) return;
+  if (place.closest("details")) place.closest("details").open = true;
+  place.scrollIntoView({ block: "center" });
+}

@@ -6,22 +6,74 @@ function offer(select, ...groups) {
     select.append(make("optgroup", { label }, ...options.map(([value, textContent]) => make("option", { value, textContent }))));
 }
 
-function counted(key) {
-  const counts = new Map();
-  for (const row of rows) counts.set(row.dataset[key], (counts.get(row.dataset[key]) || 0) + 1);
-  return Array.from(counts);
+// How often each value is there.
+function counted(values) {
+  const found = new Map();
+  for (const it of values) found.set(it, (found.get(it) || 0) + 1);
+  return Array.from(found);
+}
+
+function offerFilters() {
+  offer(authors, ["Author", counted(authorsOf).map(([it, count]) => ["=" + it, (it || "no name") + " (" + count + ")"])]);
+  offer(kinds, ["Kind", counted(kindsOf).map(([it, count]) => [it, KINDS[it] + " (" + count + ")"])]);
+  offer(states,
+    ["By you", [["s:", "not decided"], ...Object.keys(DONE).map((it) => ["s:" + it, DONE[it]])]],
+    ["By others", [["differ", "differ from you"]]],
+    ["In the journals", [["v:open", "open"], ["v:accept", "accepted"], ["v:reject", "rejected"], ["v:disputed", "disputed"]]]);
+}
+
+// Whether the row at a place is one that the filter leaves, by what is chosen and typed now.
+function matcher() {
+  const [author, kind, state] = [authors.value, kinds.value, states.value];
+  const sought = plainText(search.value).trim();
+  const hasState = (at) => (state === "differ" ? differs(at) :
+    state.startsWith("s:") ? state === "s:" + words[at] : state === "v:" + verdictsOf[at]);
+  return (at) => (!author || author === "=" + authorsOf[at]) && (!kind || kind === kindsOf[at]) &&
+    (!state || hasState(at)) && (!sought || sought === String(at + 1) || searchText(at).includes(sought));
 }
 
 function filter() {
-  const is = (value, wanted) => !wanted || value === wanted;
-  let left = 0;
-  for (const row of rows) {
-    const { author, kind, verdict, say } = row.dataset;
-    const state = states.value.startsWith("v:") ? "v:" + verdict : "s:" + (say || "");
-    row.hidden = !(is("=" + author, authors.value) && is(kind, kinds.value) && is(state, states.value));
-    if (!row.hidden && !isLocked(row)) left += 1;
+  showRows(indexes().filter(matcher()));
+  recount();
+}
+
+// What the filter leaves as words are now, and how many of these can be decided.
+function left() {
+  const matches = matcher();
+  return rows.reduce((sum, _, at) => sum + (!lockedAt[at] && matches(at) ? 1 : 0), 0);
+}
+
+function recount() {
+  const count = left();
+  acceptAll.textContent = "Accept these " + count;
+  rejectAll.textContent = "Reject these " + count;
+  acceptAll.disabled = rejectAll.disabled = count === 0;
+}
+
+// The text in which a change is searched: its kind, its author, who spoke of it, and the paragraph or row that it stands in.
+
+const searchTexts = [];
+const blockTexts = new Map();
+
+function plainText(text) {
+  return text.normalize("NFKC").toLowerCase().replace(/\s+/g, " ");
+}
+
+function searchText(at) {
+  if (searchTexts[at] === undefined) {
+    const blocks = new Set(placesOf(rows[at]).map(blockOf).filter((it) => it));
+    const said = saysOn(at).map((it) => it.who);
+    searchTexts[at] = plainText([KINDS[kindsOf[at]], authorsOf[at], ...said].join(" ")) + " " + Array.from(blocks, textOfBlock).join(" ");
   }
-  acceptAll.textContent = "Accept these " + left;
-  rejectAll.textContent = "Reject these " + left;
-  acceptAll.disabled = rejectAll.disabled = left === 0;
+  return searchTexts[at];
+}
+
+// The row or the paragraph of an element of a change; a change of a table's or a page's format has none.
+function blockOf(place) {
+  return place.closest(".edge") ? place.closest("tr") : place.closest("p, .p, td");
+}
+
+function textOfBlock(block) {
+  if (!blockTexts.has(block)) blockTexts.set(block, plainText(block.textContent));
+  return blockTexts.get(block);
 }

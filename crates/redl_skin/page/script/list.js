@@ -27,6 +27,45 @@ function fill(row) {
   press(row);
 }
 
+// Shows in a row which of its buttons is pressed. A word can be withdrawn only where there is one.
 function press(row) {
-  for (const button of row.querySelectorAll("button")) button.ariaPressed = String(button.value === row.dataset.say);
+  const at = numberOf(row) - 1;
+  for (const button of row.querySelectorAll("button")) {
+    button.ariaPressed = String(button.value === words[at]);
+    if (button.value === "withdraw") button.disabled = words[at] !== "withdraw" && !hasEarlier(at);
+  }
+}
+
+function pressAll() {
+  for (const row of rows) if (row.hasAttribute("tabindex")) press(row);
+}
+
+// Shows the rows at these places, and no others.
+let shownAt = new Set(rows.keys());
+
+function showRows(places) {
+  shownAt = new Set(places);
+  rows.forEach((row, at) => (row.hidden = !isShown(at)));
+}
+
+function isShown(at) {
+  return shownAt.has(at);
+}
+
+// The next place that is shown, or -1.
+function nextShown(at, by) {
+  let next = at + by;
+  while (rows[next] && !isShown(next)) next += by;
+  return rows[next] ? next : -1;
+}
+
+// Brings a row into sight.
+function reach(row) {
+  fill(row);
+  row.scrollIntoView({ block: "nearest" });
+}
+
+function watchRows() {
+  const near = new IntersectionObserver((seen) => seen.forEach((it) => it.isIntersecting && fill(it.target)), { root: list, rootMargin: "50%" });
+  rows.forEach((row) => near.observe(row));
 }

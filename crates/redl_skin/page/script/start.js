@@ -3,16 +3,31 @@
 for (const select of [authors, kinds, states]) select.addEventListener("change", filter);
 acceptAll.addEventListener("click", () => decideShown("accept"));
 rejectAll.addEventListener("click", () => decideShown("reject"));
+undo.addEventListener("click", takeBack);
 person.addEventListener("change", rename);
 save.addEventListener("click", saveJournal);
+help.addEventListener("click", showHelp);
+openButton.addEventListener("click", () => file.click());
+file.addEventListener("change", async () => {
+  if (file.files[0]) await openFile(file.files[0]);
+  file.value = "";
+});
+document.addEventListener("dragover", (event) => event.preventDefault());
+document.addEventListener("drop", (event) => {
+  event.preventDefault();
+  if (event.dataTransfer.files[0]) openFile(event.dataTransfer.files[0]);
+});
+advance.addEventListener("change", () => store("redline setting advance", advance.checked ? "yes" : "no"));
+addEventListener("storage", hearStore);
 addEventListener("pagehide", () => waiting && keep());
+addEventListener("beforeprint", sayPrinted);
 
 build();
 arrange();
 document.body.dataset.view = "marks";
-const near = new IntersectionObserver((seen) => seen.forEach((it) => it.isIntersecting && fill(it.target)), { root: list, rootMargin: "50%" });
-rows.forEach((row) => near.observe(row));
-person.value = reviewer = stored("") || "";
-setWords(stored("/" + reviewer) || "");
+watchRows();
+advance.checked = stored("redline setting advance") !== "no";
+offerNames();
 filter();
 changed();
+askOnOpening().then(() => (isAnswered = true));
