@@ -90,6 +90,10 @@ class Seen:
     def run(self, script, *words):
         return self.driven.run(script, *words)
 
+    def outside(self, script, given=None):
+        """What the page answers to a page around it; `given` is there by this name."""
+        return self.run("const given = arguments[0], { redline } = window.wrappedJSObject || window; return " + script, given)
+
     def press(self, number, word):
         self.run("document.getElementById(arguments[0]).scrollIntoView()", "revision-%d" % number)
         selector = '#revision-%d button[value="%s"]' % (number, word)

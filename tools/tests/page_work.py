@@ -157,6 +157,7 @@ def sums_up(driven):
     driven.click("#save")
     wait(seen.asked)
     text = seen.asked()
+    same("a screen reader is told its name", driven.spoken("dialog[open]"), [("dialog", "Before you save")])
     same("how many", seen.run("return [...document.querySelectorAll('.counts div')].map((it) => it.children[1].textContent + ' ' + it.children[0].textContent)"),
          ["1 accepted", "1 rejected", "1 withdrawn", "41 not decided", "5 locked"])
     told("against another reviewer", "Against another reviewer: 1" in text and "you rejected, Cara Lee accepted" in text, text)
@@ -222,6 +223,15 @@ def in_a_frame(driven):
     same("the journal goes to the page around", taken.split("\n")[0], "Eve Stone.journal")
     told("with its text", taken.endswith("1\t2\treject\tEve Stone\n"), taken)
     told("and no file is saved", not os.path.exists(os.path.join(driven.folder, "Eve Stone.journal")))
+    seen.press(4, "accept")
+    state = seen.outside("JSON.stringify(redline.state())")
+    seen.run("localStorage.clear()")
+    seen = Seen(driven, page_of("plain.xml", ["ann.journal"]))
+    seen.outside("redline.restore(JSON.parse(given))", state)
+    same("a page that is made anew has the words again", [seen.words(), seen.run("return document.querySelector('#person').value")], [{2: "reject", 4: "accept"}, "Eve Stone"])
+    driven.click("#undo")
+    same("with what can be undone", seen.words(), {2: "reject"})
+    told("and the number of the next journal", "\n2\t2\treject\tEve Stone\n" in seen.outside("redline.journal()"), seen.outside("redline.journal()"))
 
 
 def prints(driven):

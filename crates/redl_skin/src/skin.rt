@@ -2,7 +2,7 @@
 
 /// The security policy of the page: its own style and script alone, and nothing is ever fetched.
 pub const POLICY: &str =
-    "default-src 'none'; script-src 'sha256-ZY2ApBsR1/A/lOOfVNT/2pU3b2gUlrG3n61xs48/B/0='; style-src 'sha256-Ye4ZKs+YQ3pljAOdC6ALxsUDSCLWV3xdhGBrzSo3FlE='; base-uri 'none'; form-action 'none'; require-trusted-types-for 'script'; trusted-types 'none'";
+    "default-src 'none'; script-src 'sha256-VImGctbWZBylujKpLU4WgL9nC2y4ToxrUt2O8hmp8Kw='; style-src 'sha256-FSkKOLOFBq7cCvPTkvZU0KVC/U4/zGnKVM3vdbKY+6I='; base-uri 'none'; form-action 'none'; require-trusted-types-for 'script'; trusted-types 'none'";
 
 /// The style sheet of the page.
 pub const STYLE: &str = "/* colours, and what all elements share */
@@ -32,9 +32,9 @@ button:hover { background: var(--desk); }
 button:disabled { color: var(--soft); border-color: var(--rule); cursor: default; }
 
 /* the bar at the top */
-header { grid-area: top; display: flex; flex-wrap: wrap; gap: .4rem 1.4rem; align-items: center; padding: .6rem 1.2rem; background: var(--paper); border-bottom: 1px solid var(--rule); }
+header { grid-area: top; display: flex; flex-wrap: wrap; gap: .4rem 1.2rem; align-items: center; padding: .6rem 1.2rem; background: var(--paper); border-bottom: 1px solid var(--rule); }
 h1 { font-size: 1.05rem; margin: 0; }
-#tally { margin: 0 auto 0 0; color: var(--soft); }
+#tally { flex: 1 1 10rem; margin: 0; color: var(--soft); }
 fieldset { border: 0; margin: 0; padding: 0; display: flex; gap: .8rem; }
 legend { float: left; margin-right: .8rem; padding: 0; }
 legend, label > span { color: var(--soft); }
@@ -161,6 +161,11 @@ dialog strong { overflow-wrap: anywhere; }
 .found { display: flex; gap: .6rem; align-items: baseline; margin: .5rem 0; }
 .found > span { color: var(--ink); }
 
+@media (max-height: 30rem) {
+  dialog[open] { display: block; overflow: auto; }
+  .answers { justify-content: flex-start; }
+}
+
 /* the summary */
 .counts { display: flex; flex-wrap: wrap; gap: .6rem; margin: .8rem 0; }
 .counts > div { flex: 1; min-width: 6rem; padding: .4rem .7rem; border: 1px solid var(--rule); border-radius: 5px; display: flex; flex-direction: column-reverse; }
@@ -259,7 +264,7 @@ const lockedAt = rows.map((row) => row.dataset.locked === \"yes\");
 
 const tally = make(\"p\", { id: \"tally\" });
 const line = make(\"p\", { id: \"line\", role: \"status\" });
-const undo = make(\"button\", { type: \"button\", id: \"undo\", textContent: \"Undo\", disabled: true });
+const undo = make(\"button\", { type: \"button\", id: \"undo\", textContent: \"Undo\", disabled: true, title: \"Undo (u)\" });
 const known = make(\"datalist\", { id: \"known\" });
 const person = make(\"input\", { id: \"person\", type: \"text\", autocomplete: \"name\", spellcheck: false, \"aria-describedby\": \"line\" });
 const save = make(\"button\", { type: \"button\", id: \"save\", textContent: \"Save my journal\" });
@@ -273,7 +278,7 @@ const [acceptAll, rejectAll] = [\"accept-all\", \"reject-all\"].map((id) => make
 
 function build() {
   person.setAttribute(\"list\", \"known\");
-  const short = [[\"j\", \"next\"], [\"k\", \"back\"], [\"a\", \"accept\"], [\"r\", \"reject\"], [\"n\", \"undecided\"], [\"u\", \"undo\"], [\"?\", \"help\"]];
+  const short = [[\"j\", \"next\"], [\"k\", \"back\"], [\"a\", \"accept\"], [\"r\", \"reject\"], [\"?\", \"help\"]];
   document.body.prepend(make(\"header\", {}, make(\"h1\", {}, ...(title ? [isolated(title), \": changes to decide\"] : [\"Changes to decide\"])), tally, views, openButton, help),
     make(\"p\", { id: \"printed\" }));
   aside.prepend(make(\"div\", { className: \"sign\" }, labelled(\"Your name\", person), known, save, file),
@@ -748,7 +753,7 @@ function showUndo() {
   const last = acts.at(-1);
   undo.disabled = !last;
   undo.textContent = last ? \"Undo: \" + last.text : \"Undo\";
-  undo.title = acts.slice(-10).reverse().map((it) => it.text).join(\"\\n\");
+  undo.title = [\"Undo (u)\", ...acts.slice(-10).reverse().map((it) => it.text)].join(\"\\n\");
 }
 
 // Filters: which rows are shown.
@@ -767,7 +772,7 @@ function counted(values) {
 }
 
 function offerFilters() {
-  offer(authors, [\"Author\", counted(authorsOf).map(([it, count]) => [\"=\" + it, (it || \"no name\") + \" (\" + count + \")\"])]);
+  offer(authors, [\"Author\", counted(authorsOf).map(([it, count]) => [\"=\" + it, (spelled(it) || \"no name\") + \" (\" + count + \")\"])]);
   offer(kinds, [\"Kind\", counted(kindsOf).map(([it, count]) => [it, KINDS[it] + \" (\" + count + \")\"])]);
   offer(states,
     [\"By you\", [[\"s:\", \"not decided\"], ...Object.keys(DONE).map((it) => [\"s:\" + it, DONE[it]])]],
@@ -839,6 +844,9 @@ function textOfBlock(block) {
 // A GROUP is {\"word\": \"accept\", \"sequence\": 2, \"numbers\": \"1-3,7\"}; the word \"\" is one that was taken away. Only places whose
 // word changed are written, after the store was read again, since another window may have written into it.
 
+// How far the number of a saved journal is above those of the page, at most.
+const MOST_SAVED = 1000000;
+
 let reviewer = \"\";
 let saved = { time: 0, sequence: 0, words: new Map() };
 const unkept = new Set();
@@ -870,11 +878,14 @@ function keptNames() {
   }
 }
 
-// What is kept under a name. What can't be read is as if nothing were kept.
+// What is kept under a name. A number of a saved journal that is out of all reason was written by another file.
 function recordOf(name) {
-  return record(stored(storeKey(name)));
+  const found = record(stored(storeKey(name)));
+  if (found.saved.sequence <= greatestOf(name) + MOST_SAVED) return found;
+  return { ...found, saved: record(\"\").saved };
 }
 
+// What a text of the store says; what can't be read is as if nothing were kept.
 function record(text) {
   try {
     const { time, words: groups, saved: last } = text.startsWith(\"{\") ? JSON.parse(text) : { words: lettered(text) };
@@ -1043,6 +1054,7 @@ async function askOnOpening() {
   const last = stored(\"redline \" + digest);
   found.sort((one, other) => (other.name === last) - (one.name === last) || other.time - one.time);
   const answer = await askAboutFound(\"Found in this browser\", found);
+  if (isAnswered) return;
   if (!answer.value) return tell(\"Nothing that this browser kept was used. Type your name to go on.\");
   useFound(answer.found, answer);
 }
@@ -1105,7 +1117,7 @@ function refusal(name) {
   if (/[\\u0000-\\u001f\\u007f]/.test(name)) return \"A journal can't hold this name: it has a tab or another control character.\";
   if (/\\p{Surrogate}/u.test(name)) return \"A journal can't hold this name: it has half a character.\";
   const greatest = Math.max(greatestOf(name), name === reviewer ? saved.sequence : recordOf(name).saved.sequence);
-  return greatest === LARGEST ? \"No sequence number is left for \" + name + \".\" : \"\";
+  return greatest === LARGEST ? \"No sequence number is left for \" + spelled(name) + \".\" : \"\";
 }
 
 // A name with its unusual spaces and its invisible characters spelled out.
@@ -1561,7 +1573,7 @@ window.redline = {
   name: () => reviewer,
   choose: (number) => rows[number - 1] && choose(rows[number - 1]),
   openJournal: (text, file) => openJournal(text, file),
-  state: () => ({ name: reviewer, typed: person.value, record: recordText(recordNow()), acts }),
+  state: () => ({ name: reviewer, typed: person.value, record: recordText(recordNow()), acts: Array.from(acts) }),
   restore,
 };
 

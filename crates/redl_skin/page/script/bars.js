@@ -2,7 +2,7 @@
 
 const tally = make("p", { id: "tally" });
 const line = make("p", { id: "line", role: "status" });
-const undo = make("button", { type: "button", id: "undo", textContent: "Undo", disabled: true });
+const undo = make("button", { type: "button", id: "undo", textContent: "Undo", disabled: true, title: "Undo (u)" });
 const known = make("datalist", { id: "known" });
 const person = make("input", { id: "person", type: "text", autocomplete: "name", spellcheck: false, "aria-describedby": "line" });
 const save = make("button", { type: "button", id: "save", textContent: "Save my journal" });
@@ -16,7 +16,7 @@ const [acceptAll, rejectAll] = ["accept-all", "reject-all"].map((id) => make("bu
 
 function build() {
   person.setAttribute("list", "known");
-  const short = [["j", "next"], ["k", "back"], ["a", "accept"], ["r", "reject"], ["n", "undecided"], ["u", "undo"], ["?", "help"]];
+  const short = [["j", "next"], ["k", "back"], ["a", "accept"], ["r", "reject"], ["?", "help"]];
   document.body.prepend(make("header", {}, make("h1", {}, ...(title ? [isolated(title), ": changes to decide"] : ["Changes to decide"])), tally, views, openButton, help),
     make("p", { id: "printed" }));
   aside.prepend(make("div", { className: "sign" }, labelled("Your name", person), known, save, file),

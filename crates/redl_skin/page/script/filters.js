@@ -14,7 +14,7 @@ function counted(values) {
 }
 
 function offerFilters() {
-  offer(authors, ["Author", counted(authorsOf).map(([it, count]) => ["=" + it, (it || "no name") + " (" + count + ")"])]);
+  offer(authors, ["Author", counted(authorsOf).map(([it, count]) => ["=" + it, (spelled(it) || "no name") + " (" + count + ")"])]);
   offer(kinds, ["Kind", counted(kindsOf).map(([it, count]) => [it, KINDS[it] + " (" + count + ")"])]);
   offer(states,
     ["By you", [["s:", "not decided"], ...Object.keys(DONE).map((it) => ["s:" + it, DONE[it]])]],

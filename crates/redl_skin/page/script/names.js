@@ -16,7 +16,7 @@ function refusal(name) {
   if (/[\u0000-\u001f\u007f]/.test(name)) return "A journal can't hold this name: it has a tab or another control character.";
   if (/\p{Surrogate}/u.test(name)) return "A journal can't hold this name: it has half a character.";
   const greatest = Math.max(greatestOf(name), name === reviewer ? saved.sequence : recordOf(name).saved.sequence);
-  return greatest === LARGEST ? "No sequence number is left for " + name + "." : "";
+  return greatest === LARGEST ? "No sequence number is left for " + spelled(name) + "." : "";
 }
 
 // A name with its unusual spaces and its invisible characters spelled out.

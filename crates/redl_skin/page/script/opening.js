@@ -26,6 +26,7 @@ async function askOnOpening() {
   const last = stored("redline " + digest);
   found.sort((one, other) => (other.name === last) - (one.name === last) || other.time - one.time);
   const answer = await askAboutFound("Found in this browser", found);
+  if (isAnswered) return;
   if (!answer.value) return tell("Nothing that this browser kept was used. Type your name to go on.");
   useFound(answer.found, answer);
 }

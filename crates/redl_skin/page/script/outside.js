@@ -8,7 +8,7 @@ window.redline = {
   name: () => reviewer,
   choose: (number) => rows[number - 1] && choose(rows[number - 1]),
   openJournal: (text, file) => openJournal(text, file),
-  state: () => ({ name: reviewer, typed: person.value, record: recordText(recordNow()), acts }),
+  state: () => ({ name: reviewer, typed: person.value, record: recordText(recordNow()), acts: Array.from(acts) }),
   restore,
 };
 

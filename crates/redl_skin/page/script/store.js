@@ -6,6 +6,9 @@
 // A GROUP is {"word": "accept", "sequence": 2, "numbers": "1-3,7"}; the word "" is one that was taken away. Only places whose
 // word changed are written, after the store was read again, since another window may have written into it.
 
+// How far the number of a saved journal is above those of the page, at most.
+const MOST_SAVED = 1000000;
+
 let reviewer = "";
 let saved = { time: 0, sequence: 0, words: new Map() };
 const unkept = new Set();
@@ -37,11 +40,14 @@ function keptNames() {
   }
 }
 
-// What is kept under a name. What can't be read is as if nothing were kept.
+// What is kept under a name. A number of a saved journal that is out of all reason was written by another file.
 function recordOf(name) {
-  return record(stored(storeKey(name)));
+  const found = record(stored(storeKey(name)));
+  if (found.saved.sequence <= greatestOf(name) + MOST_SAVED) return found;
+  return { ...found, saved: record("").saved };
 }
 
+// What a text of the store says; what can't be read is as if nothing were kept.
 function record(text) {
   try {
     const { time, words: groups, saved: last } = text.startsWith("{") ? JSON.parse(text) : { words: lettered(text) };

@@ -19,5 +19,5 @@ function showUndo() {
   const last = acts.at(-1);
   undo.disabled = !last;
   undo.textContent = last ? "Undo: " + last.text : "Undo";
-  undo.title = acts.slice(-10).reverse().map((it) => it.text).join("\n");
+  undo.title = ["Undo (u)", ...acts.slice(-10).reverse().map((it) => it.text)].join("\n");
 }
