@@ -38,6 +38,10 @@ def tells_what_it_found(driven):
     told("it says from when", time.strftime("%d %B %Y").lstrip("0") in seen.asked(), seen.asked())
     seen.answer("")
     same("someone else gets nothing", [seen.words(), seen.run(NAME)], [{}, ""])
+    seen.run("localStorage.setItem('redline ' + arguments[0] + '/Eve Stone', arguments[1])", digest,
+             '{"words":[{"word":"accept","sequence":4294967295,"numbers":"1"}],"saved":{"sequence":4294967294,"words":[]}}')
+    Seen(driven, whole).answer("use")
+    told("a number out of all reason doesn't count", "\n1\t1\taccept\tEve Stone\n" in seen.saved("Eve Stone"))
     seen.run("localStorage.setItem('redline ' + arguments[0] + '/Eve Stone', arguments[1])", digest, '{"words":[{"word":"accept","sequence":1,"numbers":"' + "1-49," * 9 + '"}]}')
     same("what makes no sense isn't found", [Seen(driven, whole).asked(), seen.words()], ["", {}])
 
@@ -100,6 +104,12 @@ def second_round(driven):
     seen = Seen(driven, page_of("plain.xml", ["ann.journal"]))
     seen.answer("use")
     same("what is newer than the page comes back", seen.words(), {9: "accept"})
+    seen.press(8, "reject")
+    until_kept(seen)
+    seen = Seen(driven, page_of("plain.xml"))
+    seen.answer("use")
+    journal = seen.saved("Ann Gray")
+    told("saved in the page of the first round, they still count above", "\n4\t8\treject\tAnn Gray\n4\t9\taccept\tAnn Gray\n" in journal, journal)
 
 
 def locked_page(driven):
@@ -191,7 +201,7 @@ def mended_name(driven):
     seen.answer("anew")
     same("another reviewer has none of them", seen.words(), {})
     driven.click("#undo")
-    same("and undo brings them", seen.words(), {1: "accept", 2: "accept", 3: "reject"})
+    same("and undo brings them, with their name", [seen.words(), seen.run(NAME)], [{1: "accept", 2: "accept", 3: "reject"}, "Ann Gray"])
     until_kept(seen)
     seen = Seen(driven, whole)
     seen.answer("")

@@ -2,7 +2,7 @@
 
 /// The security policy of the page: its own style and script alone, and nothing is ever fetched.
 pub const POLICY: &str =
-    "default-src 'none'; script-src 'sha256-VImGctbWZBylujKpLU4WgL9nC2y4ToxrUt2O8hmp8Kw='; style-src 'sha256-FSkKOLOFBq7cCvPTkvZU0KVC/U4/zGnKVM3vdbKY+6I='; base-uri 'none'; form-action 'none'; require-trusted-types-for 'script'; trusted-types 'none'";
+    "default-src 'none'; script-src 'sha256-Nn3pO7KQYw8KasaPvhVRrfQXJZpTroCr3qbLY5wRbxM='; style-src 'sha256-FSkKOLOFBq7cCvPTkvZU0KVC/U4/zGnKVM3vdbKY+6I='; base-uri 'none'; form-action 'none'; require-trusted-types-for 'script'; trusted-types 'none'";
 
 /// The style sheet of the page.
 pub const STYLE: &str = "/* colours, and what all elements share */
@@ -540,6 +540,7 @@ const words = rows.map(() => \"\");
 const counts = { accept: 0, reject: 0, withdraw: 0 };
 // The sequence number with which the word on a change was saved, or will be.
 const sequenceAt = rows.map(() => 0);
+let furthest = 0;
 
 // Puts a word on a change, or none.
 function say(at, word, sequence = nextSequence()) {
@@ -547,6 +548,7 @@ function say(at, word, sequence = nextSequence()) {
   if (word) counts[word] += 1;
   words[at] = word;
   sequenceAt[at] = sequence;
+  furthest = Math.max(furthest, sequence);
   unkept.add(at);
   redraw(at);
 }
@@ -736,17 +738,20 @@ function changed() {
 
 const acts = [];
 
-function remember(text, former) {
-  if (former.length) acts.push({ text, former });
+// An act that changed the reviewer's name has the former one.
+function remember(text, former, name = null) {
+  if (former.length) acts.push({ text, former, name });
   showUndo();
 }
 
 function takeBack() {
   const last = acts.pop();
   if (!last) return tell(\"There is nothing to undo.\");
+  const isRenamed = last.name !== null && last.name !== reviewer;
+  if (isRenamed) beReviewer(last.name, foundUnder(last.name).last);
   replace(last.former.map(([at, word]) => [at, word]));
   showUndo();
-  tell(\"Undone: \" + last.text + \".\");
+  tell(\"Undone: \" + last.text + \".\" + (isRenamed ? \" The name is \" + (spelled(reviewer) || \"empty\") + \" again.\" : \"\"));
 }
 
 function showUndo() {
@@ -878,11 +883,12 @@ function keptNames() {
   }
 }
 
-// What is kept under a name. A number of a saved journal that is out of all reason was written by another file.
+// What is kept under a name. A number that is out of all reason was written by another file, and doesn't count.
 function recordOf(name) {
   const found = record(stored(storeKey(name)));
-  if (found.saved.sequence <= greatestOf(name) + MOST_SAVED) return found;
-  return { ...found, saved: record(\"\").saved };
+  const most = greatestOf(name) + MOST_SAVED;
+  for (const it of found.words.values()) if (it.sequence > most) it.sequence = greatestOf(name) + 1;
+  return found.saved.sequence <= most ? found : { ...found, saved: record(\"\").saved };
 }
 
 // What a text of the store says; what can't be read is as if nothing were kept.
@@ -1084,9 +1090,10 @@ function foundInWords({ name, time, last, usable, older, aside }) {
 }
 
 // Puts what was found under a name in place of the words of the page, or begins anew under that name. Either is undone as
-// one act; what was found and not used comes back with that.
+// one act, which brings back the former name, or what was found and not used.
 function useFound(found, { value, isOlder }) {
   const isUsed = value === \"use\";
+  const name = reviewer;
   beReviewer(found.name, found.last);
   const come = found.usable.map(([at, it]) => [at, it.word, it.sequence]).concat(isUsed && isOlder ? found.older.map(([at, it]) => [at, it.word]) : []);
   const there = new Set(come.map(([at]) => at));
@@ -1094,8 +1101,8 @@ function useFound(found, { value, isOlder }) {
   const former = replace([...gone.map((at) => [at, \"\"]), ...come]);
   for (const [at] of found.usable) unkept.delete(at);
   const count = many(come.length, \"word\");
-  if (isUsed) remember(count + \" brought back\", former);
-  else act(\"begun anew\", decidedPlaces().map((at) => [at, \"\"]));
+  if (isUsed) remember(count + \" brought back\", former, name);
+  else remember(\"begun anew\", replace(decidedPlaces().map((at) => [at, \"\"])), come.length ? null : name);
   tell(isUsed ? count + \" of \" + (spelled(reviewer) || \"no name\") + \" brought back.\" : \"Begun anew: nothing is decided.\" + (saved.words.size ? \" Your next journal withdraws what you saved before.\" : \"\"));
 }
 
@@ -1105,8 +1112,10 @@ function greatestOf(name) {
   return sequences.get(name) || 0;
 }
 
+// The number of the reviewer's next journal: above those of the page and of the last one that was saved, and not below that of
+// a word that came from a later page.
 function nextSequence() {
-  return Math.max(greatestOf(reviewer), saved.sequence) + 1;
+  return Math.max(greatestOf(reviewer) + 1, saved.sequence + 1, furthest);
 }
 
 // Why a journal can't be written under a name, or the empty text.
@@ -1226,7 +1235,7 @@ function goAlong(found, places) {
   const kept = found.usable.filter(([at]) => !here.has(at)).map(([at, it]) => [at, it.word, it.sequence]);
   if (!former) forgetNameless(places);
   beReviewer(found.name, found.last);
-  remember(many(kept.length, \"word\") + \" brought back\", replace(kept));
+  remember(many(kept.length, \"word\") + \" brought back\", replace(kept), former);
   for (const [at] of kept) unkept.delete(at);
   replace(mine);
   keep();
@@ -1245,6 +1254,7 @@ function beReviewer(name, last) {
   unkept.clear();
   reviewer = person.value = name;
   saved = last;
+  furthest = 0;
   store(\"redline \" + digest, name);
   pressAll();
   redrawAll();

@@ -4,8 +4,10 @@ function greatestOf(name) {
   return sequences.get(name) || 0;
 }
 
+// The number of the reviewer's next journal: above those of the page and of the last one that was saved, and not below that of
+// a word that came from a later page.
 function nextSequence() {
-  return Math.max(greatestOf(reviewer), saved.sequence) + 1;
+  return Math.max(greatestOf(reviewer) + 1, saved.sequence + 1, furthest);
 }
 
 // Why a journal can't be written under a name, or the empty text.
@@ -125,7 +127,7 @@ function goAlong(found, places) {
   const kept = found.usable.filter(([at]) => !here.has(at)).map(([at, it]) => [at, it.word, it.sequence]);
   if (!former) forgetNameless(places);
   beReviewer(found.name, found.last);
-  remember(many(kept.length, "word") + " brought back", replace(kept));
+  remember(many(kept.length, "word") + " brought back", replace(kept), former);
   for (const [at] of kept) unkept.delete(at);
   replace(mine);
   keep();
@@ -144,6 +146,7 @@ function beReviewer(name, last) {
   unkept.clear();
   reviewer = person.value = name;
   saved = last;
+  furthest = 0;
   store("redline " + digest, name);
   pressAll();
   redrawAll();

@@ -56,9 +56,10 @@ function foundInWords({ name, time, last, usable, older, aside }) {
 }
 
 // Puts what was found under a name in place of the words of the page, or begins anew under that name. Either is undone as
-// one act; what was found and not used comes back with that.
+// one act, which brings back the former name, or what was found and not used.
 function useFound(found, { value, isOlder }) {
   const isUsed = value === "use";
+  const name = reviewer;
   beReviewer(found.name, found.last);
   const come = found.usable.map(([at, it]) => [at, it.word, it.sequence]).concat(isUsed && isOlder ? found.older.map(([at, it]) => [at, it.word]) : []);
   const there = new Set(come.map(([at]) => at));
@@ -66,7 +67,7 @@ function useFound(found, { value, isOlder }) {
   const former = replace([...gone.map((at) => [at, ""]), ...come]);
   for (const [at] of found.usable) unkept.delete(at);
   const count = many(come.length, "word");
-  if (isUsed) remember(count + " brought back", former);
-  else act("begun anew", decidedPlaces().map((at) => [at, ""]));
+  if (isUsed) remember(count + " brought back", former, name);
+  else remember("begun anew", replace(decidedPlaces().map((at) => [at, ""])), come.length ? null : name);
   tell(isUsed ? count + " of " + (spelled(reviewer) || "no name") + " brought back." : "Begun anew: nothing is decided." + (saved.words.size ? " Your next journal withdraws what you saved before." : ""));
 }

@@ -40,11 +40,12 @@ function keptNames() {
   }
 }
 
-// What is kept under a name. A number of a saved journal that is out of all reason was written by another file.
+// What is kept under a name. A number that is out of all reason was written by another file, and doesn't count.
 function recordOf(name) {
   const found = record(stored(storeKey(name)));
-  if (found.saved.sequence <= greatestOf(name) + MOST_SAVED) return found;
-  return { ...found, saved: record("").saved };
+  const most = greatestOf(name) + MOST_SAVED;
+  for (const it of found.words.values()) if (it.sequence > most) it.sequence = greatestOf(name) + 1;
+  return found.saved.sequence <= most ? found : { ...found, saved: record("").saved };
 }
 
 // What a text of the store says; what can't be read is as if nothing were kept.

@@ -5,6 +5,7 @@ const words = rows.map(() => "");
 const counts = { accept: 0, reject: 0, withdraw: 0 };
 // The sequence number with which the word on a change was saved, or will be.
 const sequenceAt = rows.map(() => 0);
+let furthest = 0;
 
 // Puts a word on a change, or none.
 function say(at, word, sequence = nextSequence()) {
@@ -12,6 +13,7 @@ function say(at, word, sequence = nextSequence()) {
   if (word) counts[word] += 1;
   words[at] = word;
   sequenceAt[at] = sequence;
+  furthest = Math.max(furthest, sequence);
   unkept.add(at);
   redraw(at);
 }
