@@ -23,7 +23,7 @@ EVIL = [
 ]
 # Control characters, and what they are shown as.
 CONTROLS, CONTROLS_SHOWN = "a\x7fb\u0085c\u009fd", "a\ufffdb\ufffdc\ufffdd"
-NAMES = {"class", "data-revision", "data-author", "data-style", "id", "href", "data-say", "aria-current", "lang", "role", "aria-level", "aria-label", "tabindex"}
+NAMES = {"class", "data-revision", "data-author", "data-style", "id", "href", "data-say", "aria-current", "lang", "role", "aria-level", "aria-label", "tabindex", "title", "data-sign"}
 
 
 def quoted(text):
@@ -71,7 +71,7 @@ def hostile(driven):
     strange = seen.run("return [...new Set([...document.querySelectorAll('main, main *')].flatMap((it) => it.getAttributeNames()))]")
     same("no strange attribute", [it for it in strange if it not in NAMES], [])
     elements = set(seen.run("return [...new Set([...document.querySelectorAll('main *')].map((it) => it.localName))]"))
-    same("no strange element", elements - {"section", "h2", "p", "ins", "del", "sup", "table", "tbody", "tr", "td"}, set())
+    same("no strange element", elements - {"section", "h2", "p", "ins", "del", "sup", "table", "tbody", "tr", "td", "span"}, set())
     texts = seen.run("return [...document.querySelectorAll('main ins.text')].map((it) => it.textContent)")
     same("hostile texts are texts", texts, EVIL)
     texts = seen.run("return [...document.querySelectorAll('main p')].map((it) => it.textContent)")

@@ -6,7 +6,10 @@ import time
 from page_seen import ENTER, LOCK, REVIEWERS, SPACE, TAB, Seen, in_package, page_of, same, told, wait
 
 
-SHOWN = """return [...document.querySelectorAll(arguments[0])].filter((it) => it.getClientRects().length > 0).map((it) => it.textContent)"""
+SHOWN = """
+const isShown = (it) => it.getClientRects().length > 0 && it.checkVisibility({ visibilityProperty: true });
+return [...document.querySelectorAll(arguments[0])].filter(isShown).map((it) => it.textContent);
+"""
 
 
 def views(driven):
@@ -17,7 +20,7 @@ def views(driven):
     driven.click("input[value=final]")
     told("final: what is inserted", "Hay & Sons" in texts("ins.text") and "Hay Brothers" not in texts("del.text"))
     told("final: rows", "Chain" in texts("tr") and "Rope" not in texts("tr"))
-    told("final: no signs", not seen.run(SHOWN, "main :is(.mark, .edge, .props, a)"))
+    told("final: no signs but of ends of paragraphs that are open", not seen.run(SHOWN, "main :is(.edge, .props, a, .mark[data-verdict])"))
     seen.press(3, "reject")
     told("final: what the page rejects is gone", "Hay & Sons" not in texts("ins.text"))
     seen.press(20, "reject")
@@ -48,7 +51,7 @@ def read_whole(driven):
                 nest.append([depth, tag[1]])
             depth += 0 if tag[0] or tag[1] in ("br",) else 1
         came = seen.run(
-            "const depth = (it) => it.matches('main') ? 0 : 1 + depth(it.parentElement) - (it.matches('tbody') ? 1 : 0);"
+            "const depth = (it) => it.matches('main') ? 0 : 1 + depth(it.parentElement) - (it.matches('tbody, .edge') ? 1 : 0);"
             "return [...document.querySelectorAll('main [data-revision]')].map((it) => [depth(it) - 1, it.localName])")
         same("read whole: " + name, came, nest)
 

@@ -95,9 +95,8 @@ class Seen:
         return self.run("const given = arguments[0], { redline } = window.wrappedJSObject || window; return " + script, given)
 
     def press(self, number, word):
-        self.run("document.getElementById(arguments[0]).scrollIntoView()", "revision-%d" % number)
         selector = '#revision-%d button[value="%s"]' % (number, word)
-        wait(lambda: self.run("return document.querySelector(arguments[0]) !== null", selector))
+        self.run("document.querySelector(arguments[0]).scrollIntoView({ block: 'center' })", selector)
         self.driven.click(selector)
 
     def name(self, name):
@@ -137,9 +136,10 @@ class Seen:
         return self.run("return document.querySelector('#tally').textContent")
 
     def words(self):
-        """The decisions that the page shows, by number."""
-        found = self.run("return [...document.querySelectorAll('li[data-say]')].map((it) => [it.id, it.dataset.say])")
-        return {int(key[9:]): word for key, word in found}
+        """The decisions of the page, by number. Those of rows that are in the list are shown there."""
+        found = dict(self.run("return Array.from(recordNow().words, ([at, it]) => [at + 1, it.word])"))
+        shown = self.run("return [...document.querySelectorAll('aside > ol > li[id]')].map((it) => [Number(it.id.slice(9)), it.dataset.say || ''])")
+        return found if all(found.get(number, "") == word for number, word in shown) else {"shown": shown, "decided": found}
 
     def saved(self, name):
         """The journal that the page saves in a file of this name."""

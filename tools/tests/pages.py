@@ -13,6 +13,8 @@ import page_hostile
 import page_large
 import page_looks
 import page_round
+import page_signs
+import page_sizes
 import page_store
 import page_work
 from chromium import Chromium
@@ -20,7 +22,8 @@ from firefox import Firefox
 from page_seen import IS_OWN, LOCK, REVIEWERS, Seen, page_of, second_page, told
 
 BROWSERS = [Chromium, Firefox]
-CASES = page_round.CASES + page_store.CASES + page_work.CASES + page_looks.CASES + page_hostile.CASES + page_large.CASES
+MODULES = [page_round, page_store, page_work, page_looks, page_sizes, page_signs, page_hostile, page_large]
+CASES = [case for module in MODULES for case in module.CASES]
 
 
 def same_pages():

@@ -2,14 +2,14 @@
 
 /// The security policy of the page: its own style and script alone, and nothing is ever fetched.
 pub const POLICY: &str =
-    "default-src 'none'; script-src 'sha256-Nn3pO7KQYw8KasaPvhVRrfQXJZpTroCr3qbLY5wRbxM='; style-src 'sha256-FSkKOLOFBq7cCvPTkvZU0KVC/U4/zGnKVM3vdbKY+6I='; base-uri 'none'; form-action 'none'; require-trusted-types-for 'script'; trusted-types 'none'";
+    "default-src 'none'; script-src 'sha256-/kZD9n8c/2zd1vzjESBNW9Hs3OF2VU2iv2fzj96bbRk='; style-src 'sha256-t+8w49VGGLphayXda2L2Ahk6vTOE20VYYPU/UVaWyXI='; base-uri 'none'; form-action 'none'; require-trusted-types-for 'script'; trusted-types 'none'";
 
 /// The style sheet of the page.
 pub const STYLE: &str = "/* colours, and what all elements share */
 :root {
   color-scheme: light dark;
   --paper: #fff; --desk: #eef0f3; --ink: #1c1e21; --soft: #555a62; --rule: #d3d7dd;
-  --focus: #0b57d0; --yes: #0b6b3a; --no: #a5231d; --author: var(--soft);
+  --open: #fff0b8; --disputed: #ffd9d2; --focus: #0b57d0; --yes: #0b6b3a; --no: #a5231d; --author: var(--soft);
   --author-1: #a3282c; --author-2: #0b5fa5; --author-3: #1b6e35; --author-4: #7a3fa0;
   --author-5: #8a4b00; --author-6: #00666b; --author-7: #a01f6c; --author-8: #4b5320;
   font: 16px/1.5 system-ui, \"Liberation Sans\", sans-serif;
@@ -17,7 +17,7 @@ pub const STYLE: &str = "/* colours, and what all elements share */
 @media (prefers-color-scheme: dark) {
   :root {
     --paper: #1b1d21; --desk: #121316; --ink: #e6e8eb; --soft: #a9afb8; --rule: #3a3e45;
-    --focus: #8ab4f8; --yes: #7bd39a; --no: #ff9d94;
+    --open: #4a3f10; --disputed: #5c2620; --focus: #8ab4f8; --yes: #7bd39a; --no: #ff9d94;
     --author-1: #ff9c9c; --author-2: #8cc4ff; --author-3: #86d99b; --author-4: #d6aaff;
     --author-5: #f5b86b; --author-6: #74d5d9; --author-7: #ff9fd2; --author-8: #c3cf86;
   }
@@ -66,30 +66,47 @@ kbd:first-child { margin-left: 0; }
 /* the document */
 main { grid-area: text; overflow: auto; padding: 1.5rem; }
 section { max-width: 48rem; margin: 0 auto 1.5rem; padding: 2rem 2.5rem 2rem 3rem; background: var(--paper); border: 1px solid var(--rule); border-radius: 3px; font: 1.05rem/1.6 Georgia, \"Liberation Serif\", serif; overflow-wrap: anywhere; }
-.far { content-visibility: auto; contain-intrinsic-size: auto 320rem; margin-left: -1.6rem; padding-left: 1.6rem; }
+.far { content-visibility: auto; contain-intrinsic-size: auto 320rem; }
+section > .far { margin-left: -1.6rem; padding-left: 1.6rem; }
 h2 { font: .8rem/1.4 system-ui, \"Liberation Sans\", sans-serif; color: var(--soft); margin: 0 0 .8rem; }
 main p, main .p { position: relative; margin: 0 0 .6rem; min-height: 1.6em; white-space: pre-wrap; }
 [role=\"heading\"] { font-weight: 700; font-family: system-ui, \"Liberation Sans\", sans-serif; }
 [aria-level=\"2\"] { font-size: 1.5rem; }
 [aria-level=\"3\"] { font-size: 1.25rem; }
 [aria-level=\"4\"] { font-size: 1.1rem; }
-table, tbody { display: block; position: relative; }
-table { margin: .4rem 0 1.2rem; }
-tr { display: grid; grid-auto-flow: column; grid-auto-columns: minmax(2rem, 1fr); position: relative; }
-td { display: block; position: relative; border: 1px solid var(--rule); margin: 0 0 -1px -1px; padding: .2rem .5rem; }
+table { margin: .4rem 0 1.2rem; width: 100%; border-collapse: collapse; position: relative; }
+tr, td { position: relative; }
+td { border: 1px solid var(--rule); padding: .2rem .5rem; vertical-align: top; }
 td > p:last-child { margin: 0; }
+/* a long table is boxes in place of a table, so that rows that are far cost nothing */
+.long, .long > tbody { display: block; }
+.long > tbody > tr { display: grid; grid-auto-flow: column; grid-auto-columns: minmax(2rem, 1fr); }
+.long > tbody > tr > td { display: block; margin: 0 0 -1px -1px; }
+.long > tbody > tr > td[colspan=\"2\"] { grid-column: span 2; }
+.long > tbody > tr > td[colspan=\"3\"] { grid-column: span 3; }
+.long > tbody > tr > td[colspan=\"4\"] { grid-column: span 4; }
 .picture, .box { border: 1px solid var(--soft); padding: .1rem .6rem; font-size: .9em; }
 .picture { color: var(--soft); }
 .box { display: block; }
-.box, details { white-space: normal; }
+.box, main details { white-space: normal; }
+/* letters with many marks reach no further than their paragraph, and characters that aren't seen have a sign */
+.stacked { clip-path: inset(0 -100vmax); }
+.unseen { unicode-bidi: isolate; }
+.unseen:is([data-sign=\"LRM\"], [data-sign=\"RLM\"], [data-sign=\"ALM\"]) { unicode-bidi: normal; }
+.unseen::after { content: attr(data-sign); unicode-bidi: isolate; display: inline-block; font: 600 .6rem/1.3 system-ui, \"Liberation Sans\", sans-serif; color: var(--no); background: var(--paper); border: 1px solid; border-radius: 3px; padding: 0 .2em; margin: 0 .1em; vertical-align: .15em; text-decoration: none; text-indent: 0; }
+/* until all is there, only the first blocks of a story have to be laid out */
+@media (scripting: enabled) {
+  body:not([data-view]) :is(section, tbody) > :nth-child(n + 200), body:not([data-view]) aside { display: none; }
+}
 main details { border-left: 2px solid var(--rule); padding-left: .6rem; }
 main summary { font: .8rem/1.6 system-ui, \"Liberation Sans\", sans-serif; color: var(--soft); }
 
-/* changes in it */
+/* changes in it: each has its own direction */
+ins, del, bdi { unicode-bidi: isolate; }
 ins, del, main a { color: var(--author); text-decoration: underline 1px; text-underline-offset: .2em; }
 del { text-decoration: line-through 1px; }
 .move { text-decoration-style: double; }
-del + ins, .words > * { margin-left: .1em; }
+del + ins { margin-left: .1em; }
 sup { line-height: 0; }
 main [data-revision] { cursor: pointer; border-radius: 2px; }
 .mark, .cell, main a { font: .75rem system-ui, \"Liberation Sans\", sans-serif; padding: 0 .15em; }
@@ -100,13 +117,12 @@ section > .props, .far > .props { position: relative; display: block; }
 caption > .props { left: -1.8rem; height: 100%; }
 td > .props { left: 0; top: 0; height: 100%; }
 caption { display: block; position: absolute; height: 2rem; }
-td.edge { position: absolute; border: 0; padding: 0; left: -1.3rem; top: 0; bottom: 0; width: 6px; }
-.edge ~ .edge { left: -.8rem; }
-.edge ~ .edge ~ .edge { left: -.5rem; }
-.edge > * { left: 0; height: 100%; }
+.edge ~ .edge > * { left: -.8rem; }
+.edge ~ .edge ~ .edge > * { left: -.5rem; }
+.edge > * { top: 0; height: 100%; }
 main .edge > del { border-left-style: dashed; border-radius: 0; }
-tr:has(> .edge > del) { background: color-mix(in srgb, var(--no) 7%, transparent); }
-tr:has(> .edge > ins) { background: color-mix(in srgb, var(--yes) 7%, transparent); }
+tr.deleted { background: color-mix(in srgb, var(--no) 7%, transparent); }
+tr.inserted { background: color-mix(in srgb, var(--yes) 7%, transparent); }
 main [aria-current] { outline: 2px solid var(--focus); outline-offset: 2px; }
 main .text[aria-current] { background: color-mix(in srgb, var(--focus) 10%, transparent); }
 [data-view=\"marks\"] main :is(ins[data-say=\"accept\"], del[data-say=\"reject\"]) { text-decoration: underline dotted 1px; }
@@ -116,19 +132,19 @@ main .text[aria-current] { background: color-mix(in srgb, var(--focus) 10%, tran
 main:is([data-view=\"final\"] *, [data-view=\"original\"] *) :is(ins, del) { color: inherit; text-decoration: none; }
 main:is([data-view=\"final\"] *, [data-view=\"original\"] *) :is(.mark, .cell, .edge, .props, a) { display: none; }
 [data-view=\"final\"] main :is(del.text:not([data-say=\"reject\"]), ins.text[data-say=\"reject\"]),
-[data-view=\"final\"] main tr:has(> .edge > :is(del:not([data-say=\"reject\"]), ins[data-say=\"reject\"])),
+[data-view=\"final\"] main tr:has(> td > .edge > :is(del:not([data-say=\"reject\"]), ins[data-say=\"reject\"])),
 [data-view=\"final\"] main td:has(> :is(del.cell:not([data-say=\"reject\"]), ins.cell[data-say=\"reject\"])),
 [data-view=\"original\"] main :is(ins.text:not([data-say=\"accept\"]), del.text[data-say=\"accept\"]),
-[data-view=\"original\"] main tr:has(> .edge > :is(ins:not([data-say=\"accept\"]), del[data-say=\"accept\"])),
+[data-view=\"original\"] main tr:has(> td > .edge > :is(ins:not([data-say=\"accept\"]), del[data-say=\"accept\"])),
 [data-view=\"original\"] main td:has(> :is(ins.cell:not([data-say=\"accept\"]), del.cell[data-say=\"accept\"])) { display: none; }
 :is([data-view=\"final\"], [data-view=\"original\"]) main tr { background: none; }
 
 /* the list of changes */
-aside { grid-area: list; display: flex; flex-direction: column; min-height: 0; border-left: 1px solid var(--rule); background: var(--paper); font-size: .9rem; }
+aside { grid-area: list; display: flex; flex-direction: column; min-height: 0; overflow: auto; border-left: 1px solid var(--rule); background: var(--paper); font-size: .9rem; }
 aside > ul { display: none; }
-aside > ol { flex: 1; overflow: auto; margin: 0; padding: 0; list-style: none; border-top: 1px solid var(--rule); }
-aside > ol > li { min-height: 6.2rem; padding: .6rem 1rem .7rem .8rem; border-bottom: 1px solid var(--rule); border-left: 4px solid transparent; cursor: pointer; }
-aside li[hidden] { display: none; }
+aside > ol { flex: 1 0 min(20rem, 75vh); overflow: auto; overflow-anchor: none; position: relative; margin: 0; padding: 0; list-style: none; border-top: 1px solid var(--rule); }
+aside > ol > li { overflow: clip; padding: .6rem 1rem .7rem .8rem; border-bottom: 1px solid var(--rule); border-left: 4px solid transparent; cursor: pointer; }
+aside > ol > .room { padding: 0; border: 0; cursor: default; }
 aside li[aria-current] { border-left-color: var(--focus); background: color-mix(in srgb, var(--focus) 7%, transparent); }
 aside li p { margin: 0 0 .2rem; color: var(--soft); overflow-wrap: anywhere; }
 .head { display: flex; justify-content: space-between; gap: .6em; }
@@ -137,7 +153,9 @@ aside li p { margin: 0 0 .2rem; color: var(--soft); overflow-wrap: anywhere; }
 .verdict { white-space: nowrap; }
 [data-verdict=\"accept\"] .verdict { color: var(--yes); }
 :is([data-verdict=\"reject\"], [data-verdict=\"disputed\"]) .verdict { color: var(--no); }
-.words > span { color: var(--author); }
+.words :is(ins, del):not(.own) { opacity: .85; }
+.words .own { color: var(--author); background: color-mix(in srgb, var(--author) 9%, transparent); border-radius: 2px; }
+.words span.own { text-decoration: none; }
 .buttons { display: flex; gap: .4rem; margin-top: .4rem; }
 .buttons button { text-transform: capitalize; }
 .buttons [aria-pressed=\"true\"] { background: var(--soft); border-color: var(--soft); color: var(--paper); }
@@ -193,6 +211,19 @@ dialog strong { overflow-wrap: anywhere; }
   section { padding: 1rem 1rem 1rem 2rem; }
   aside { border-left: 0; border-top: 2px solid var(--rule); }
   .keys { display: none; }
+}
+/* enlarged, or on a telephone held sideways: the page is moved as a whole, and document and list have most of the height */
+@media (max-height: 40rem) and (max-width: 40rem), (max-height: 20rem) {
+  body { display: block; height: auto; }
+  main { max-height: 85vh; min-height: 8rem; }
+  aside { overflow: visible; }
+  aside > ol { height: 85vh; min-height: 8rem; }
+}
+@media (max-height: 40rem) and (min-width: 40.01rem) {
+  body { grid: \"top top\" auto \"text list\" minmax(0, 1fr) / minmax(0, 1fr) minmax(18rem, 40%); }
+  header { padding: .3rem .8rem; gap: .2rem .8rem; }
+  aside { border-top: 0; border-left: 1px solid var(--rule); }
+  aside > ol { flex: 0 0 max(8rem, calc(85vh - 3rem)); }
 }
 @media print {
   body { display: block; height: auto; background: none; }
@@ -365,6 +396,55 @@ function numbersInWords(places) {
   return few + (places.length > 12 ? \" and \" + (places.length - 12) + \" more\" : \"\");
 }
 
+// Signs for characters that can't be seen, or that turn the text around them: each stands where its character is, and
+// what such a character does to others ends with it.
+
+const UNSEEN = /[\\r\\u00ad\\u034f\\u061c\\u115f\\u1160\\u17b4\\u17b5\\u180b-\\u180f\\u200b-\\u200f\\u2028-\\u202e\\u2060-\\u206f\\u3164\\ufeff\\uffa0\\ufff9-\\ufffb]|[\\u{e0000}-\\u{e01ef}]/u;
+const UNSEEN_NAMES = {
+  \"\\r\": [\"CR\", \"carriage return\"], \"\\u00ad\": [\"SHY\", \"soft hyphen\"], \"\\u061c\": [\"ALM\", \"Arabic letter mark\"],
+  \"\\u200b\": [\"ZWSP\", \"space without width\"], \"\\u200c\": [\"ZWNJ\", \"no joining\"], \"\\u200d\": [\"ZWJ\", \"joining\"],
+  \"\\u200e\": [\"LRM\", \"left-to-right mark\"], \"\\u200f\": [\"RLM\", \"right-to-left mark\"],
+  \"\\u2028\": [\"LS\", \"line separator\"], \"\\u2029\": [\"PS\", \"paragraph separator\"],
+  \"\\u202a\": [\"LRE\", \"left-to-right from here\"], \"\\u202b\": [\"RLE\", \"right-to-left from here\"], \"\\u202c\": [\"PDF\", \"end of a direction\"],
+  \"\\u202d\": [\"LRO\", \"all left-to-right from here\"], \"\\u202e\": [\"RLO\", \"all right-to-left from here\"],
+  \"\\u2060\": [\"WJ\", \"no break\"], \"\\u2066\": [\"LRI\", \"left-to-right from here, apart\"], \"\\u2067\": [\"RLI\", \"right-to-left from here, apart\"],
+  \"\\u2068\": [\"FSI\", \"a text apart from here\"], \"\\u2069\": [\"PDI\", \"end of a text apart\"], \"\\ufeff\": [\"BOM\", \"no break, without width\"],
+};
+// So many marks on one letter reach into the lines around it.
+const STACKED = /\\p{M}{4}/u;
+
+function codeOf(character) {
+  return \"U+\" + character.codePointAt(0).toString(16).toUpperCase().padStart(4, \"0\");
+}
+
+function signOf(character) {
+  const [short, words] = UNSEEN_NAMES[character] || [codeOf(character), \"a character that can't be seen\"];
+  return make(\"span\", { className: \"unseen\", role: \"img\", title: codeOf(character) + \", \" + words, ariaLabel: words, \"data-sign\": short }, character);
+}
+
+// A text with signs, as nodes. (Names are spelled out as `isolated` does it.)
+function signed(text) {
+  const nodes = [];
+  let rest = text;
+  for (let found = UNSEEN.exec(rest); found; found = UNSEEN.exec(rest)) {
+    nodes.push(rest.slice(0, found.index), signOf(found[0]));
+    rest = rest.slice(found.index + found[0].length);
+  }
+  return [...nodes, rest];
+}
+
+// Puts signs into a part of the document.
+function showUnseen(part) {
+  if (!UNSEEN.test(part.textContent) && !STACKED.test(part.textContent)) return;
+  const walker = document.createTreeWalker(part, NodeFilter.SHOW_TEXT);
+  const found = [];
+  for (let node = walker.nextNode(); node; node = walker.nextNode()) {
+    if (STACKED.test(node.data)) node.parentElement.closest(\"p, .p, td, section\").classList.add(\"stacked\");
+    if (UNSEEN.test(node.data) && !node.parentElement.matches(\".unseen\")) found.push(node);
+  }
+  for (const node of found) node.replaceWith(...signed(node.data));
+}
+
 // The three views of the document.
 
 const views = make(\"fieldset\", {}, make(\"legend\", { textContent: \"View\" }), ...[\"marks\", \"final\", \"original\"].map((value) =>
@@ -372,107 +452,288 @@ const views = make(\"fieldset\", {}, make(\"legend\", { textContent: \"View\" })
 
 views.addEventListener(\"change\", ({ target }) => (document.body.dataset.view = target.value));
 
-// The document: its headings, its long stories, and what stands in it for a revision.
+// The document: its stories, its headings, and where a change is in it.
 
-// Headings have their role, and what is far from sight in a long story costs nothing.
+// What is far from sight costs nothing: of a long story so many blocks are a group, and of a long table so many rows.
+const FAR = 100;
+const STORIES = { hdr: \"Header\", ftr: \"Footer\", footnotes: \"Footnotes\", endnotes: \"Endnotes\", comments: \"Comments\" };
+
 function arrange() {
-  for (const it of main.querySelectorAll('[data-style^=\"Heading\"], [data-style=\"Title\"]')) {
-    it.setAttribute(\"role\", \"heading\");
-    it.setAttribute(\"aria-level\", Math.min(6, 2 + (parseInt(it.dataset.style.slice(7), 10) || 0)));
+  for (const it of main.querySelectorAll('[data-style^=\"Heading\"], [data-style=\"Title\"]')) head(it);
+  nameStories();
+  for (const edge of Array.from(main.querySelectorAll(\"td.edge\"))) bringIn(edge);
+  for (const story of main.children) group(story, () => make(\"div\", { className: \"far\" }));
+  for (const table of main.querySelectorAll(\"tbody\")) if (table.rows.length > 2 * FAR) groupRows(table);
+  dressNear();
+}
+
+// What stands at the edge of a row is no cell: it goes into the first one.
+function bringIn(edge) {
+  const row = edge.parentNode;
+  const made = make(\"span\", { className: \"edge\" }, ...edge.childNodes);
+  for (const it of made.querySelectorAll(\"ins, del\")) row.classList.add(it.localName === \"ins\" ? \"inserted\" : \"deleted\");
+  let cell = edge.nextElementSibling;
+  while (cell && cell.matches(\".edge\")) cell = cell.nextElementSibling;
+  if (!cell) return;
+  const others = cell.querySelectorAll(\":scope > .edge\");
+  if (others.length) others[others.length - 1].after(made);
+  else cell.prepend(made);
+  edge.remove();
+}
+
+function group(parent, makeGroup) {
+  const nodes = Array.from(parent.childNodes);
+  if (nodes.length <= 2 * FAR) return;
+  for (let at = 0; at < nodes.length; at += FAR) {
+    const made = makeGroup();
+    made.append(...nodes.slice(at, at + FAR));
+    parent.append(made);
   }
-  for (const story of main.children) {
-    const blocks = Array.from(story.childNodes);
-    for (let at = 0; blocks.length > 200 && at < blocks.length; at += 100)
-      story.append(make(\"div\", { className: \"far\" }, ...blocks.slice(at, at + 100)));
+}
+
+function groupRows(body) {
+  body.parentNode.classList.add(\"long\");
+  const rest = Array.from(body.childNodes).slice(FAR);
+  for (let at = rest.length; at > 0; at -= FAR) {
+    const made = make(\"tbody\", { className: \"far\" });
+    made.append(...rest.slice(Math.max(0, at - FAR), at));
+    body.after(made);
   }
+}
+
+// The stories after the first have the names of their parts as headings; what they are is said in words.
+function nameStories() {
+  const counts = {};
+  for (const story of main.querySelectorAll(\":scope > [data-story]\")) {
+    const title = story.querySelector(\":scope > h2\");
+    const words = STORIES[story.dataset.story];
+    counts[words] = (counts[words] || 0) + 1;
+    if (!title || !words) continue;
+    title.title = title.textContent;
+    const isOne = main.querySelectorAll(':scope > [data-story=\"' + story.dataset.story + '\"]').length === 1;
+    title.textContent = words + (isOne ? \"\" : \" \" + counts[words]);
+  }
+}
+
+// A paragraph with the style of a heading is one.
+function head(paragraph) {
+  const style = paragraph.dataset.style || \"\";
+  if (!/^(Heading|Title$)/.test(style)) return;
+  paragraph.setAttribute(\"role\", \"heading\");
+  paragraph.setAttribute(\"aria-level\", Math.min(6, 2 + (parseInt(style.slice(7), 10) || 0)));
+}
+
+// The place of the change that an element of the document is of.
+function placeOf(member) {
+  return Number(member.getAttribute(\"data-revision\")) - 1;
 }
 
 let places = null;
 
 function placesOf(row) {
   if (!places) {
-    places = new Map();
+    places = new Array(rows.length);
     for (const it of main.querySelectorAll(\"[data-revision]\")) {
-      const key = \"revision-\" + it.dataset.revision;
-      places.set(key, (places.get(key) || []).concat(it));
+      const at = placeOf(it);
+      if (places[at]) places[at].push(it);
+      else places[at] = [it];
     }
   }
-  return places.get(row.id) || [];
+  return places[numberOf(row) - 1] || [];
 }
 
-// Shows where a change is in the document.
+// Shows where a change is in the document. Where a view has taken its text away, what is nearest to it is shown.
 function showPlace(row) {
   const [place] = placesOf(row);
   if (!place) return;
-  if (place.closest(\"details\")) place.closest(\"details\").open = true;
-  place.scrollIntoView({ block: \"center\" });
+  for (let it = place.closest(\"details\"); it; it = it.parentElement.closest(\"details\")) it.open = true;
+  const group = place.closest(\".far\");
+  if (group) dress(group);
+  let seen = place;
+  while (seen !== main && !seen.getClientRects().length) seen = seen.previousElementSibling || seen.parentElement;
+  if (seen !== main) seen.scrollIntoView({ block: \"center\" });
 }
 
-// Excerpts: what a change is about, in a few words.
+// What a part of the document gets once it is nearly seen: signs for what can't be seen, and what a screen reader is told.
+
+const ROLES = { TABLE: \"table\", TBODY: \"rowgroup\", TR: \"row\", TD: \"cell\" };
+const dressed = new WeakSet();
+
+function dressNear() {
+  const groups = main.querySelectorAll(\"section > .far\");
+  const near = new IntersectionObserver((seen) => seen.filter((it) => it.isIntersecting).forEach((it) => {
+    near.unobserve(it.target);
+    dress(it.target);
+  }), { root: main, rootMargin: \"100%\" });
+  for (const it of groups) near.observe(it);
+  for (const story of main.children) if (!story.querySelector(\":scope > .far\")) dress(story);
+}
+
+function dress(part) {
+  if (dressed.has(part)) return;
+  dressed.add(part);
+  showUnseen(part);
+  for (const it of part.querySelectorAll(\"table, tbody, tr, td\")) it.setAttribute(\"role\", ROLES[it.tagName]);
+  for (const it of part.querySelectorAll(\"[data-revision]\")) describe(it);
+}
+
+// A change in the text says what it is and whose, and can have the keyboard.
+function describe(place) {
+  const at = placeOf(place);
+  const words = wordsOfChange(at);
+  if (!place.matches(\"a\")) place.tabIndex = -1;
+  place.title = words;
+  if (!place.matches(\".props, .mark, .row, .cell\")) return;
+  place.setAttribute(\"role\", \"img\");
+  place.ariaLabel = words;
+}
+
+function wordsOfChange(at) {
+  const { date } = rows[at].dataset;
+  const kind = KINDS[kindsOf[at]];
+  return \"Change \" + (at + 1) + \": \" + kind + \" by \" + spelled(authorsOf[at] || \"no name\") + (date === \"-\" ? \"\" : \", \" + date.slice(0, 10));
+}
+
+// Excerpts: what a change is about, in a few words, with the changes around it.
+
+const NO_WORDS = \"a, details, sup, .picture, .mark, .row, .cell, .props\";
+
+// The texts of a block on one side of a place, or inside it, until there are so many characters: each with the change that
+// it stands in.
+function piecesFrom(walker, next, isIn, most) {
+  const pieces = [];
+  for (let node = walker[next](), length = 0; node && isIn(node) && length < most; node = walker[next]()) {
+    const other = node.parentElement.closest(NO_WORDS);
+    if (other && walker.root.contains(other)) continue;
+    pieces.push({ text: node.data.replace(/[\\t\\n ]+/g, \" \"), change: changeOf(node, walker.root) });
+    length += pieces.at(-1).text.length;
+  }
+  return pieces;
+}
+
+// Text in an insertion that is deleted is deleted.
+function changeOf(node, block) {
+  const change = node.parentElement.closest(\"del.text\") || node.parentElement.closest(\"ins.text\");
+  return change && block.contains(change) ? change : null;
+}
+
+// The pieces of the block around a place: before it, in it, and behind it.
+function piecesAround(place) {
+  const block = place.closest(\"p, .p, td, section\");
+  const walker = document.createTreeWalker(block, NodeFilter.SHOW_TEXT);
+  walker.currentNode = place;
+  const before = piecesFrom(walker, \"previousNode\", () => true, 48).reverse();
+  walker.currentNode = place;
+  const inside = piecesFrom(walker, \"nextNode\", (node) => place.contains(node), 160);
+  walker.currentNode = lastIn(place);
+  return [before, inside, piecesFrom(walker, \"nextNode\", () => true, 48)];
+}
+
+function lastIn(node) {
+  let last = node;
+  while (last.lastChild) last = last.lastChild;
+  return last;
+}
+
+// So many characters of pieces, from the start or from the end, cut at a space.
+function cutPieces(pieces, most, isFromEnd = false) {
+  let left = most;
+  const kept = [];
+  for (const { text, change } of isFromEnd ? [...pieces].reverse() : pieces) {
+    const cut = text.length <= left ? text : isFromEnd ? \"\\u2026\" + text.slice(-left).replace(/^\\S*\\s/, \"\") : text.slice(0, left).replace(/\\s\\S*$/, \"\") + \"\\u2026\";
+    kept.push({ text: cut, change });
+    left -= text.length;
+    if (left <= 0) break;
+  }
+  return isFromEnd ? kept.reverse() : kept;
+}
+
+// A piece as it looks in the document: inserted, deleted, or neither.
+function shownPiece({ text, change }) {
+  return change ? make(change.localName, { \"data-author\": change.dataset.author }, ...signed(text)) : make(\"span\", {}, ...signed(text));
+}
+
+function textOf(pieces) {
+  return pieces.map((it) => it.text).join(\"\");
+}
+
+// The row, cell or table that a change is about.
+function wholeOf(place) {
+  if (place.matches(\".row, .edge > .props\")) return place.closest(\"tr\");
+  if (place.matches(\".cell, td > .props\")) return place.closest(\"td\");
+  return place.matches(\"caption > .props\") ? place.closest(\"table\") : null;
+}
+
+// What a change is about: its own words between those around it, or the texts of its row, cell or table.
+function excerpt(row) {
+  const found = placesOf(row);
+  const place = found.find((it) => it.matches(\"del, ins\")) || found[0];
+  const made = make(\"p\", { className: \"words\" });
+  if (!place) return made;
+  const whole = wholeOf(place);
+  const sign = place.matches(\".mark\") ? \"\\u00b6\" : place.matches(\".props\") ? \"\\u258e\" : \"\\u2026\";
+  if (whole) {
+    const texts = Array.from(whole.querySelectorAll(\"p, .p\")).slice(0, 20).map((it) => textOf(piecesAround(it)[1]));
+    const words = signed(cut(texts.join(\" | \"), 120) || \"empty\");
+    made.append(...(place.matches(\".props\") ? [make(\"span\", { className: \"own\" }, sign), ...words] : [make(place.localName, { className: \"own\" }, ...words)]));
+    return made;
+  }
+  const [before, inside, after] = piecesAround(place);
+  const words = textOf(inside).trim() ? cutPieces(inside, 120).map((it) => (it.change === place ? { text: it.text } : it)) : [{ text: sign }];
+  made.append(...cutPieces(before, 32, true).map(shownPiece),
+    make(place.localName, { className: \"own\" }, ...words.map(shownPiece)),
+    ...cutPieces(after, 32).map(shownPiece));
+  return made;
+}
 
 function cut(text, length) {
   return text.length > length ? text.slice(0, length).replace(/\\s\\S*$/, \"\") + \"\\u2026\" : text;
 }
 
-// The words of a block before a place in it, in that place, and behind it.
-function wordsAround(place) {
-  const texts = [\"\", \"\", \"\"];
-  const block = place.closest(\"p, .p, td, section\");
-  const walker = document.createTreeWalker(block, NodeFilter.SHOW_TEXT);
-  for (let node = walker.nextNode(); node && texts[2].length < 60; node = walker.nextNode()) {
-    const other = node.parentElement.closest(\"a, details, .picture, .mark, .row, .cell, .props\");
-    if (other && block.contains(other)) continue;
-    const side = place.compareDocumentPosition(node);
-    texts[side & Node.DOCUMENT_POSITION_CONTAINED_BY ? 1 : side & Node.DOCUMENT_POSITION_PRECEDING ? 0 : 2] += node.data;
-  }
-  const [before, words, after] = texts.map((it) => it.replace(/\\s+/g, \" \"));
-  return [before.length > 32 ? \"\\u2026\" + before.slice(-32).replace(/^\\S*\\s/, \"\") : before, cut(words, 120), cut(after, 32)];
-}
+// The list of changes. It holds the rows near sight alone, in the place of all that a filter leaves, with room for the rest
+// above and below.
 
-// What a change is about: its own words between those around it, or the texts of its row or cell.
-function excerpt(row) {
-  const found = placesOf(row);
-  const place = found.find((it) => it.matches(\"del, ins\")) || found[0];
-  const whole = place && place.matches(\".row, .cell\") && place.closest(place.matches(\".row\") ? \"tr\" : \"td\");
-  const made = make(\"p\", { className: \"words\" });
-  if (whole) {
-    const texts = Array.from(whole.querySelectorAll(\"p, .p\"), (it) => wordsAround(it)[1]);
-    made.append(make(place.localName, { textContent: cut(texts.join(\" | \"), 120) || \"empty\" }));
-  } else if (place) {
-    const [before, words, after] = wordsAround(place);
-    const sign = place.matches(\".mark\") ? \"\\u00b6\" : place.matches(\".props\") ? \"\\u258e\" : \"\\u2026\";
-    made.append(before, make(place.localName, { textContent: words.trim() ? words : sign }), after);
-  }
-  return made;
-}
+const HELD = 160;
+const room = [make(\"li\", { className: \"room\", role: \"none\" }), make(\"li\", { className: \"room\", role: \"none\" })];
 
-// The list of changes: what is read and pressed in a row.
+// The places that are shown, whether a place is, and which of the shown ones are held.
+let shownAt = [];
+let isShownAt = new Uint8Array(rows.length);
+let held = { first: 0, end: 0 };
+let rowHeight = 120;
 
 function numberOf(row) {
   return Number(row.id.slice(\"revision-\".length));
-}
-
-function isLocked(row) {
-  return row.dataset.locked === \"yes\";
 }
 
 // Puts into a row what is read and pressed there, once.
 function fill(row) {
   if (row.hasAttribute(\"tabindex\")) return;
   row.tabIndex = -1;
-  const { kind, author, date, verdict } = row.dataset;
-  for (const word of row.querySelectorAll(\":scope > p\"))
-    word.append(\": \" + DONE[word.dataset.word] + (word.dataset.rank === \"0\" ? \"\" : \" with rank \" + word.dataset.rank));
+  const at = numberOf(row) - 1;
+  const { date, verdict } = row.dataset;
   row.prepend(
     make(\"p\", { className: \"head\" },
-      make(\"span\", {}, make(\"b\", { textContent: numberOf(row) }), \" \" + KINDS[kind] + \" by \",
-        make(\"span\", { className: \"who\", textContent: author || \"no name\" }), date === \"-\" ? \"\" : \", \" + date.slice(0, 10)),
+      make(\"span\", {}, make(\"b\", { textContent: at + 1 }), \" \" + KINDS[kindsOf[at]] + \" by \", whoOf(at), date === \"-\" ? \"\" : \", \" + date.slice(0, 10)),
       make(\"span\", { className: \"verdict\", textContent: verdict === \"open\" ? \"\" : DONE[verdict] || verdict })),
     excerpt(row));
-  row.append(isLocked(row) ? make(\"p\", { className: \"locked\", textContent: \"Locked: this change can't be decided here.\" }) :
-    make(\"div\", { className: \"buttons\", role: \"group\", ariaLabel: \"Change \" + numberOf(row) },
+  const said = saysOn(at);
+  row.querySelectorAll(\":scope > p[data-word]\").forEach((it, place) => nameApart(it, said[place].who));
+  row.append(lockedAt[at] ? make(\"p\", { className: \"locked\", textContent: \"Locked: this change can't be decided here.\" }) :
+    make(\"div\", { className: \"buttons\", role: \"group\", ariaLabel: \"Change \" + (at + 1) },
       ...Object.keys(LETTERS).map((value) => make(\"button\", { type: \"button\", value, textContent: value }))));
   press(row);
+}
+
+// The name of who spoke has its own direction, and is spelled out.
+function nameApart(said, who) {
+  const name = said.querySelector(\"bdi\");
+  if (name) return name.replaceWith(isolated(who));
+  said.replaceChildren(isolated(who), \": \" + DONE[said.dataset.word] + (said.dataset.rank === \"0\" ? \"\" : \" with rank \" + said.dataset.rank));
+}
+
+function whoOf(at) {
+  return make(\"span\", { className: \"who\" }, isolated(authorsOf[at]));
 }
 
 // Shows in a row which of its buttons is pressed. A word can be withdrawn only where there is one.
@@ -488,34 +749,101 @@ function pressAll() {
   for (const row of rows) if (row.hasAttribute(\"tabindex\")) press(row);
 }
 
-// Shows the rows at these places, and no others.
-let shownAt = new Set(rows.keys());
-
-function showRows(places) {
-  shownAt = new Set(places);
-  rows.forEach((row, at) => (row.hidden = !isShown(at)));
-}
+// Which rows are shown
 
 function isShown(at) {
-  return shownAt.has(at);
+  return isShownAt[at] === 1;
 }
 
 // The next place that is shown, or -1.
 function nextShown(at, by) {
   let next = at + by;
-  while (rows[next] && !isShown(next)) next += by;
+  while (next >= 0 && next < rows.length && !isShown(next)) next += by;
   return rows[next] ? next : -1;
 }
 
-// Brings a row into sight.
+// Shows the rows at these places, which ascend, and no others. The list stays at the change that is chosen.
+function showRows(places) {
+  shownAt = Array.from(places);
+  isShownAt = new Uint8Array(rows.length);
+  for (const at of shownAt) isShownAt[at] = 1;
+  const from = current && isShown(numberOf(current) - 1) ? indexOf(current) : 0;
+  hold(from);
+  list.scrollTop = 0;
+  if (from) current.scrollIntoView({ block: \"center\" });
+}
+
+// How many of the shown rows come before a row.
+function indexOf(row) {
+  const at = numberOf(row) - 1;
+  let [low, high] = [0, shownAt.length];
+  while (low < high) {
+    const middle = (low + high) >> 1;
+    if (shownAt[middle] < at) low = middle + 1;
+    else high = middle;
+  }
+  return low;
+}
+
+// Holds the rows around one of the shown, and keeps in place what is seen of them.
+function hold(index) {
+  const first = Math.max(0, Math.min(index - HELD / 2, shownAt.length - HELD));
+  const end = Math.min(shownAt.length, first + HELD);
+  const wanted = shownAt.slice(first, end).map((at) => rows[at]);
+  const kept = new Set(wanted);
+  const seen = Array.from(list.children).find((it) => kept.has(it) && it.offsetTop + it.offsetHeight > list.scrollTop);
+  const before = seen ? seen.getBoundingClientRect().top : 0;
+  wanted.forEach(fill);
+  for (const row of Array.from(list.children)) if (!kept.has(row) && !room.includes(row)) row.remove();
+  let next = room[1].parentNode ? room[1] : null;
+  for (const row of wanted.reverse()) {
+    if (row.parentNode !== list) list.insertBefore(row, next);
+    next = row;
+  }
+  held = { first, end };
+  measure();
+  if (seen) list.scrollTop += seen.getBoundingClientRect().top - before;
+}
+
+// Gives the rows that aren't held their room, as high as those that are.
+function measure() {
+  const count = held.end - held.first;
+  if (count === shownAt.length) return room.forEach((it) => it.remove());
+  const [first, last] = [rows[shownAt[held.first]], rows[shownAt[held.end - 1]]];
+  rowHeight = Math.max(40, (last.offsetTop + last.offsetHeight - first.offsetTop) / count);
+  list.prepend(room[0]);
+  list.append(room[1]);
+  room[0].style.height = held.first * rowHeight + \"px\";
+  room[1].style.height = (shownAt.length - held.end) * rowHeight + \"px\";
+  for (let at = held.first; at < held.end; at += 1) {
+    rows[shownAt[at]].ariaSetSize = shownAt.length;
+    rows[shownAt[at]].ariaPosInSet = at + 1;
+  }
+}
+
+// Holds other rows where the list was moved to an end of those that it holds.
+function follow() {
+  if (held.end - held.first === shownAt.length) return;
+  const top = list.scrollTop - room[0].offsetHeight;
+  const bottom = room[1].offsetTop - list.scrollTop - list.clientHeight;
+  const isOutside = top < -list.clientHeight || bottom < -list.clientHeight;
+  if (isOutside) hold(Math.round(list.scrollTop / rowHeight));
+  else if (top < list.clientHeight && held.first > 0) hold(held.first + HELD / 4);
+  else if (bottom < list.clientHeight && held.end < shownAt.length) hold(held.end - HELD / 4);
+}
+
+// Brings a row that is shown into sight.
 function reach(row) {
   fill(row);
+  if (!isShown(numberOf(row) - 1)) return;
+  if (row.parentNode !== list) hold(indexOf(row));
   row.scrollIntoView({ block: \"nearest\" });
 }
 
 function watchRows() {
-  const near = new IntersectionObserver((seen) => seen.forEach((it) => it.isIntersecting && fill(it.target)), { root: list, rootMargin: \"50%\" });
-  rows.forEach((row) => near.observe(row));
+  list.replaceChildren();
+  list.addEventListener(\"scroll\", follow, { passive: true });
+  addEventListener(\"resize\", measure);
 }
 
 // The picture of a word: what a row and the places of a change show of it.

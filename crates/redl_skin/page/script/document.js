@@ -1,35 +1,101 @@
-// The document: its headings, its long stories, and what stands in it for a revision.
+// The document: its stories, its headings, and where a change is in it.
 
-// Headings have their role, and what is far from sight in a long story costs nothing.
+// What is far from sight costs nothing: of a long story so many blocks are a group, and of a long table so many rows.
+const FAR = 100;
+const STORIES = { hdr: "Header", ftr: "Footer", footnotes: "Footnotes", endnotes: "Endnotes", comments: "Comments" };
+
 function arrange() {
-  for (const it of main.querySelectorAll('[data-style^="Heading"], [data-style="Title"]')) {
-    it.setAttribute("role", "heading");
-    it.setAttribute("aria-level", Math.min(6, 2 + (parseInt(it.dataset.style.slice(7), 10) || 0)));
+  for (const it of main.querySelectorAll('[data-style^="Heading"], [data-style="Title"]')) head(it);
+  nameStories();
+  for (const edge of Array.from(main.querySelectorAll("td.edge"))) bringIn(edge);
+  for (const story of main.children) group(story, () => make("div", { className: "far" }));
+  for (const table of main.querySelectorAll("tbody")) if (table.rows.length > 2 * FAR) groupRows(table);
+  dressNear();
+}
+
+// What stands at the edge of a row is no cell: it goes into the first one.
+function bringIn(edge) {
+  const row = edge.parentNode;
+  const made = make("span", { className: "edge" }, ...edge.childNodes);
+  for (const it of made.querySelectorAll("ins, del")) row.classList.add(it.localName === "ins" ? "inserted" : "deleted");
+  let cell = edge.nextElementSibling;
+  while (cell && cell.matches(".edge")) cell = cell.nextElementSibling;
+  if (!cell) return;
+  const others = cell.querySelectorAll(":scope > .edge");
+  if (others.length) others[others.length - 1].after(made);
+  else cell.prepend(made);
+  edge.remove();
+}
+
+function group(parent, makeGroup) {
+  const nodes = Array.from(parent.childNodes);
+  if (nodes.length <= 2 * FAR) return;
+  for (let at = 0; at < nodes.length; at += FAR) {
+    const made = makeGroup();
+    made.append(...nodes.slice(at, at + FAR));
+    parent.append(made);
   }
-  for (const story of main.children) {
-    const blocks = Array.from(story.childNodes);
-    for (let at = 0; blocks.length > 200 && at < blocks.length; at += 100)
-      story.append(make("div", { className: "far" }, ...blocks.slice(at, at + 100)));
+}
+
+function groupRows(body) {
+  body.parentNode.classList.add("long");
+  const rest = Array.from(body.childNodes).slice(FAR);
+  for (let at = rest.length; at > 0; at -= FAR) {
+    const made = make("tbody", { className: "far" });
+    made.append(...rest.slice(Math.max(0, at - FAR), at));
+    body.after(made);
   }
+}
+
+// The stories after the first have the names of their parts as headings; what they are is said in words.
+function nameStories() {
+  const counts = {};
+  for (const story of main.querySelectorAll(":scope > [data-story]")) {
+    const title = story.querySelector(":scope > h2");
+    const words = STORIES[story.dataset.story];
+    counts[words] = (counts[words] || 0) + 1;
+    if (!title || !words) continue;
+    title.title = title.textContent;
+    const isOne = main.querySelectorAll(':scope > [data-story="' + story.dataset.story + '"]').length === 1;
+    title.textContent = words + (isOne ? "" : " " + counts[words]);
+  }
+}
+
+// A paragraph with the style of a heading is one.
+function head(paragraph) {
+  const style = paragraph.dataset.style || "";
+  if (!/^(Heading|Title$)/.test(style)) return;
+  paragraph.setAttribute("role", "heading");
+  paragraph.setAttribute("aria-level", Math.min(6, 2 + (parseInt(style.slice(7), 10) || 0)));
+}
+
+// The place of the change that an element of the document is of.
+function placeOf(member) {
+  return Number(member.getAttribute("data-revision")) - 1;
 }
 
 let places = null;
 
 function placesOf(row) {
   if (!places) {
-    places = new Map();
+    places = new Array(rows.length);
     for (const it of main.querySelectorAll("[data-revision]")) {
-      const key = "revision-" + it.dataset.revision;
-      places.set(key, (places.get(key) || []).concat(it));
+      const at = placeOf(it);
+      if (places[at]) places[at].push(it);
+      else places[at] = [it];
     }
   }
-  return places.get(row.id) || [];
+  return places[numberOf(row) - 1] || [];
 }
 
-// Shows where a change is in the document.
+// Shows where a change is in the document. Where a view has taken its text away, what is nearest to it is shown.
 function showPlace(row) {
   const [place] = placesOf(row);
   if (!place) return;
-  if (place.closest("details")) place.closest("details").open = true;
-  place.scrollIntoView({ block: "center" });
+  for (let it = place.closest("details"); it; it = it.parentElement.closest("details")) it.open = true;
+  const group = place.closest(".far");
+  if (group) dress(group);
+  let seen = place;
+  while (seen !== main && !seen.getClientRects().length) seen = seen.previousElementSibling || seen.parentElement;
+  if (seen !== main) seen.scrollIntoView({ block: "center" });
 }

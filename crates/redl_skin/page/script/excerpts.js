@@ -1,37 +1,95 @@
-// Excerpts: what a change is about, in a few words.
+// Excerpts: what a change is about, in a few words, with the changes around it.
 
-function cut(text, length) {
-  return text.length > length ? text.slice(0, length).replace(/\s\S*$/, "") + "\u2026" : text;
+const NO_WORDS = "a, details, sup, .picture, .mark, .row, .cell, .props";
+
+// The texts of a block on one side of a place, or inside it, until there are so many characters: each with the change that
+// it stands in.
+function piecesFrom(walker, next, isIn, most) {
+  const pieces = [];
+  for (let node = walker[next](), length = 0; node && isIn(node) && length < most; node = walker[next]()) {
+    const other = node.parentElement.closest(NO_WORDS);
+    if (other && walker.root.contains(other)) continue;
+    pieces.push({ text: node.data.replace(/[\t\n ]+/g, " "), change: changeOf(node, walker.root) });
+    length += pieces.at(-1).text.length;
+  }
+  return pieces;
 }
 
-// The words of a block before a place in it, in that place, and behind it.
-function wordsAround(place) {
-  const texts = ["", "", ""];
+// Text in an insertion that is deleted is deleted.
+function changeOf(node, block) {
+  const change = node.parentElement.closest("del.text") || node.parentElement.closest("ins.text");
+  return change && block.contains(change) ? change : null;
+}
+
+// The pieces of the block around a place: before it, in it, and behind it.
+function piecesAround(place) {
   const block = place.closest("p, .p, td, section");
   const walker = document.createTreeWalker(block, NodeFilter.SHOW_TEXT);
-  for (let node = walker.nextNode(); node && texts[2].length < 60; node = walker.nextNode()) {
-    const other = node.parentElement.closest("a, details, .picture, .mark, .row, .cell, .props");
-    if (other && block.contains(other)) continue;
-    const side = place.compareDocumentPosition(node);
-    texts[side & Node.DOCUMENT_POSITION_CONTAINED_BY ? 1 : side & Node.DOCUMENT_POSITION_PRECEDING ? 0 : 2] += node.data;
-  }
-  const [before, words, after] = texts.map((it) => it.replace(/\s+/g, " "));
-  return [before.length > 32 ? "\u2026" + before.slice(-32).replace(/^\S*\s/, "") : before, cut(words, 120), cut(after, 32)];
+  walker.currentNode = place;
+  const before = piecesFrom(walker, "previousNode", () => true, 48).reverse();
+  walker.currentNode = place;
+  const inside = piecesFrom(walker, "nextNode", (node) => place.contains(node), 160);
+  walker.currentNode = lastIn(place);
+  return [before, inside, piecesFrom(walker, "nextNode", () => true, 48)];
 }
 
-// What a change is about: its own words between those around it, or the texts of its row or cell.
+function lastIn(node) {
+  let last = node;
+  while (last.lastChild) last = last.lastChild;
+  return last;
+}
+
+// So many characters of pieces, from the start or from the end, cut at a space.
+function cutPieces(pieces, most, isFromEnd = false) {
+  let left = most;
+  const kept = [];
+  for (const { text, change } of isFromEnd ? [...pieces].reverse() : pieces) {
+    const cut = text.length <= left ? text : isFromEnd ? "\u2026" + text.slice(-left).replace(/^\S*\s/, "") : text.slice(0, left).replace(/\s\S*$/, "") + "\u2026";
+    kept.push({ text: cut, change });
+    left -= text.length;
+    if (left <= 0) break;
+  }
+  return isFromEnd ? kept.reverse() : kept;
+}
+
+// A piece as it looks in the document: inserted, deleted, or neither.
+function shownPiece({ text, change }) {
+  return change ? make(change.localName, { "data-author": change.dataset.author }, ...signed(text)) : make("span", {}, ...signed(text));
+}
+
+function textOf(pieces) {
+  return pieces.map((it) => it.text).join("");
+}
+
+// The row, cell or table that a change is about.
+function wholeOf(place) {
+  if (place.matches(".row, .edge > .props")) return place.closest("tr");
+  if (place.matches(".cell, td > .props")) return place.closest("td");
+  return place.matches("caption > .props") ? place.closest("table") : null;
+}
+
+// What a change is about: its own words between those around it, or the texts of its row, cell or table.
 function excerpt(row) {
   const found = placesOf(row);
   const place = found.find((it) => it.matches("del, ins")) || found[0];
-  const whole = place && place.matches(".row, .cell") && place.closest(place.matches(".row") ? "tr" : "td");
   const made = make("p", { className: "words" });
+  if (!place) return made;
+  const whole = wholeOf(place);
+  const sign = place.matches(".mark") ? "\u00b6" : place.matches(".props") ? "\u258e" : "\u2026";
   if (whole) {
-    const texts = Array.from(whole.querySelectorAll("p, .p"), (it) => wordsAround(it)[1]);
-    made.append(make(place.localName, { textContent: cut(texts.join(" | "), 120) || "empty" }));
-  } else if (place) {
-    const [before, words, after] = wordsAround(place);
-    const sign = place.matches(".mark") ? "\u00b6" : place.matches(".props") ? "\u258e" : "\u2026";
-    made.append(before, make(place.localName, { textContent: words.trim() ? words : sign }), after);
+    const texts = Array.from(whole.querySelectorAll("p, .p")).slice(0, 20).map((it) => textOf(piecesAround(it)[1]));
+    const words = signed(cut(texts.join(" | "), 120) || "empty");
+    made.append(...(place.matches(".props") ? [make("span", { className: "own" }, sign), ...words] : [make(place.localName, { className: "own" }, ...words)]));
+    return made;
   }
+  const [before, inside, after] = piecesAround(place);
+  const words = textOf(inside).trim() ? cutPieces(inside, 120).map((it) => (it.change === place ? { text: it.text } : it)) : [{ text: sign }];
+  made.append(...cutPieces(before, 32, true).map(shownPiece),
+    make(place.localName, { className: "own" }, ...words.map(shownPiece)),
+    ...cutPieces(after, 32).map(shownPiece));
   return made;
+}
+
+function cut(text, length) {
+  return text.length > length ? text.slice(0, length).replace(/\s\S*$/, "") + "\u2026" : text;
 }

@@ -1,0 +1,39 @@
+// What a part of the document gets once it is nearly seen: signs for what can't be seen, and what a screen reader is told.
+
+const ROLES = { TABLE: "table", TBODY: "rowgroup", TR: "row", TD: "cell" };
+const dressed = new WeakSet();
+
+function dressNear() {
+  const groups = main.querySelectorAll("section > .far");
+  const near = new IntersectionObserver((seen) => seen.filter((it) => it.isIntersecting).forEach((it) => {
+    near.unobserve(it.target);
+    dress(it.target);
+  }), { root: main, rootMargin: "100%" });
+  for (const it of groups) near.observe(it);
+  for (const story of main.children) if (!story.querySelector(":scope > .far")) dress(story);
+}
+
+function dress(part) {
+  if (dressed.has(part)) return;
+  dressed.add(part);
+  showUnseen(part);
+  for (const it of part.querySelectorAll("table, tbody, tr, td")) it.setAttribute("role", ROLES[it.tagName]);
+  for (const it of part.querySelectorAll("[data-revision]")) describe(it);
+}
+
+// A change in the text says what it is and whose, and can have the keyboard.
+function describe(place) {
+  const at = placeOf(place);
+  const words = wordsOfChange(at);
+  if (!place.matches("a")) place.tabIndex = -1;
+  place.title = words;
+  if (!place.matches(".props, .mark, .row, .cell")) return;
+  place.setAttribute("role", "img");
+  place.ariaLabel = words;
+}
+
+function wordsOfChange(at) {
+  const { date } = rows[at].dataset;
+  const kind = KINDS[kindsOf[at]];
+  return "Change " + (at + 1) + ": " + kind + " by " + spelled(authorsOf[at] || "no name") + (date === "-" ? "" : ", " + date.slice(0, 10));
+}
