@@ -17,6 +17,7 @@ def decides_contract(driven):
     driven.keys("kkka")
     seen.press(43, "reject")
     seen.press(42, "accept")
+    time.sleep(0.8)
     seen.press(42, "accept")
     same("decided by button and by key", seen.words(), {1: "accept", 2: "accept", 3: "accept", 5: "reject", 6: "reject", 43: "reject"})
     same("how many are decided", seen.tally(), "6 of 49 decided: 3 accepted, 3 rejected")

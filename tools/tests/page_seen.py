@@ -34,8 +34,8 @@ def same(name, came, wanted):
     told(name, came == wanted, "it is %r and not %r" % (str(came)[:200], str(wanted)[:200]))
 
 
-def call(*words):
-    return subprocess.run([REDLINE, *words], cwd=EXAMPLES, capture_output=True)
+def call(*words, folder=EXAMPLES):
+    return subprocess.run([REDLINE, *words], cwd=folder, capture_output=True)
 
 
 def has_page():

@@ -3,7 +3,7 @@ import os
 import shutil
 import time
 
-from page_seen import LOCK, Seen, example, page, page_of, reading, same, told, wait
+from page_seen import EXAMPLES, LOCK, REDLINE, Seen, call, example, page, page_of, reading, same, told, wait
 
 NAME = "return document.querySelector('#person').value"
 
@@ -176,6 +176,9 @@ def foreign_journals(driven):
             out.write(text)
         driven.choose_file("#file", file)
         told("not opened: " + case, wait(lambda: "redline: journal given.journal: " + why in seen.line(), 3), seen.line())
+        if REDLINE:
+            line = call("write", os.path.join(EXAMPLES, "plain.xml"), "given.journal", folder=driven.folder).stderr.decode().split("\n")[0]
+            told("as the program says: " + case, seen.line().endswith(line), line)
     same("nothing was changed", seen.words(), {1: "reject"})
     file = os.path.join(driven.folder, "both.journal")
     with open(file, "w", newline="", encoding="utf-8") as out:

@@ -95,6 +95,10 @@ def holds_keys(driven):
     for is_repeat in [False, True, True]:
         seen.run(DOWN, "a", is_repeat)
     same("a held key decides once", seen.words(), {1: "accept"})
+    held = "const it = new KeyboardEvent('keydown', { key: 'Enter', repeat: true, bubbles: true, cancelable: true }); return !document.querySelector('#revision-1 button').dispatchEvent(it)"
+    same("a held key presses no button again", seen.run(held), True)
+    seen.run("document.querySelector('#revision-1 button').dispatchEvent(new MouseEvent('click', { detail: 2, bubbles: true }))")
+    same("a double click decides once", seen.words(), {1: "accept"})
     seen.pick("#author", "=Bob Hay")
     driven.keys("r")
     told("a hidden change isn't decided", seen.words() == {1: "accept"} and "hidden by the filter" in seen.line(), seen.line())
@@ -117,6 +121,8 @@ def searches(driven):
         same("searched for " + text, seen.run(SHOWN_ROWS), wanted)
     seen.pick("#search", "title to the goods")
     told("both ends of a move", seen.run(SHOWN_ROWS) != [] and 31 in seen.run(SHOWN_ROWS), str(seen.run(SHOWN_ROWS)))
+    seen.run("document.querySelector('#search').value = ''; document.querySelector('#accept-all').click()")
+    told("nothing is decided by a filter that wasn't seen", seen.words() == {} and "press again" in seen.line(), seen.line())
     seen.pick("#search", "")
     same("all again", len(seen.run(SHOWN_ROWS)), 49)
 
@@ -169,6 +175,7 @@ def sums_up(driven):
     journal = seen.saved("Supply _b_.Bob Hay")
     told("saved from there", [line.split("\t")[1:] for line in journal.split("\n")[3:-1]] == [["1", "reject", "Bob Hay"], ["32", "accept", "Bob Hay"], ["33", "withdraw", "Bob Hay"]], journal)
     told("it says what was done", "The browser was given Supply _b_.Bob Hay.journal" in seen.line(), seen.line())
+    seen.pick("#author", "=Ann Gray")
     seen.run("document.querySelector('#save').click()")
     wait(seen.asked)
     seen.run("[...document.querySelectorAll('.part')].forEach((it) => (it.open = true))")

@@ -2,7 +2,7 @@
 
 /// The security policy of the page: its own style and script alone, and nothing is ever fetched.
 pub const POLICY: &str =
-    "default-src 'none'; script-src 'sha256-/kZD9n8c/2zd1vzjESBNW9Hs3OF2VU2iv2fzj96bbRk='; style-src 'sha256-t+8w49VGGLphayXda2L2Ahk6vTOE20VYYPU/UVaWyXI='; base-uri 'none'; form-action 'none'; require-trusted-types-for 'script'; trusted-types 'none'";
+    "default-src 'none'; script-src 'sha256-Ij0wtFGENXzaO53EYYcwLUaOMHy5KhbzaQjsqZRb0Rs='; style-src 'sha256-t+8w49VGGLphayXda2L2Ahk6vTOE20VYYPU/UVaWyXI='; base-uri 'none'; form-action 'none'; require-trusted-types-for 'script'; trusted-types 'none'";
 
 /// The style sheet of the page.
 pub const STYLE: &str = "/* colours, and what all elements share */
@@ -1028,9 +1028,12 @@ function isUndecided(at) {
   return !words[at] && !lockedAt[at];
 }
 
-// Decides all that the filter leaves, as it is now. Where another word would be replaced, the reviewer is asked.
+// Decides all that the filter leaves, as words are now. Where another word would be replaced, the reviewer is asked; where
+// another filter was typed and not yet seen, nothing is decided.
 async function decideShown(word) {
+  const isSeen = filtered === chosenFilter();
   filter();
+  if (!isSeen) return tell(\"The filter is another one now: look at what it leaves, and press again.\");
   const left = indexes().filter((at) => isShown(at) && !lockedAt[at] && words[at] !== word);
   const other = left.filter((at) => words[at]);
   const rest = left.filter((at) => !words[at]);
@@ -1123,9 +1126,22 @@ function matcher() {
     (!state || hasState(at)) && (!sought || sought === String(at + 1) || searchText(at).includes(sought));
 }
 
+// What was chosen and typed when the rows were filtered.
+let filtered = \"\";
+
+function chosenFilter() {
+  return [authors.value, kinds.value, states.value, search.value].join(\"\\n\");
+}
+
 function filter() {
+  filtered = chosenFilter();
   showRows(indexes().filter(matcher()));
   recount();
+}
+
+function showAll() {
+  for (const it of [authors, kinds, states, search]) it.value = \"\";
+  filter();
 }
 
 // What the filter leaves as words are now, and how many of these can be decided.
@@ -1794,6 +1810,7 @@ function goTo(at) {
   const button = make(\"button\", { type: \"button\", className: \"number\", textContent: at + 1, ariaLabel: \"Go to change \" + (at + 1) });
   button.addEventListener(\"click\", () => {
     closeDialog();
+    if (!isShown(at)) showAll();
     choose(rows[at]);
   });
   return button;
@@ -1854,7 +1871,8 @@ document.addEventListener(\"click\", ({ target, detail }) => {
   const place = target.closest(\"main [data-revision]\");
   if (row) choose(row);
   else if (place) choose(rows[Number(place.dataset.revision) - 1], true);
-  if (row && target.matches(\".buttons button\")) pressButton(row, target, detail === 0);
+  // The second click of a double click would take the word away again.
+  if (row && target.matches(\".buttons button\") && detail < 2) pressButton(row, target, detail === 0);
 });
 
 // A button that was pressed by key leaves the keyboard on the same button, of the next row where that is chosen.
@@ -1880,6 +1898,7 @@ const PRESSED = {
 // A key that is held down goes on through the list, and decides once.
 document.addEventListener(\"keydown\", (event) => {
   if (event.ctrlKey || event.altKey || event.metaKey || event.target.closest(\"input[type=text], input[type=search], select, dialog\")) return;
+  if (event.repeat && event.target.closest(\"button\")) event.preventDefault();
   const word = WORDS.find((it) => LETTERS[it] === event.key);
   if (word && !event.repeat) decide(current, word);
   if (!Object.hasOwn(PRESSED, event.key) || (event.repeat && !\"jk\".includes(event.key))) return;

@@ -36,9 +36,12 @@ function isUndecided(at) {
   return !words[at] && !lockedAt[at];
 }
 
-// Decides all that the filter leaves, as it is now. Where another word would be replaced, the reviewer is asked.
+// Decides all that the filter leaves, as words are now. Where another word would be replaced, the reviewer is asked; where
+// another filter was typed and not yet seen, nothing is decided.
 async function decideShown(word) {
+  const isSeen = filtered === chosenFilter();
   filter();
+  if (!isSeen) return tell("The filter is another one now: look at what it leaves, and press again.");
   const left = indexes().filter((at) => isShown(at) && !lockedAt[at] && words[at] !== word);
   const other = left.filter((at) => words[at]);
   const rest = left.filter((at) => !words[at]);

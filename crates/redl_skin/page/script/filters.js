@@ -32,9 +32,22 @@ function matcher() {
     (!state || hasState(at)) && (!sought || sought === String(at + 1) || searchText(at).includes(sought));
 }
 
+// What was chosen and typed when the rows were filtered.
+let filtered = "";
+
+function chosenFilter() {
+  return [authors.value, kinds.value, states.value, search.value].join("\n");
+}
+
 function filter() {
+  filtered = chosenFilter();
   showRows(indexes().filter(matcher()));
   recount();
+}
+
+function showAll() {
+  for (const it of [authors, kinds, states, search]) it.value = "";
+  filter();
 }
 
 // What the filter leaves as words are now, and how many of these can be decided.

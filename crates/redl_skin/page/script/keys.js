@@ -5,7 +5,8 @@ document.addEventListener("click", ({ target, detail }) => {
   const place = target.closest("main [data-revision]");
   if (row) choose(row);
   else if (place) choose(rows[Number(place.dataset.revision) - 1], true);
-  if (row && target.matches(".buttons button")) pressButton(row, target, detail === 0);
+  // The second click of a double click would take the word away again.
+  if (row && target.matches(".buttons button") && detail < 2) pressButton(row, target, detail === 0);
 });
 
 // A button that was pressed by key leaves the keyboard on the same button, of the next row where that is chosen.
@@ -31,6 +32,7 @@ const PRESSED = {
 // A key that is held down goes on through the list, and decides once.
 document.addEventListener("keydown", (event) => {
   if (event.ctrlKey || event.altKey || event.metaKey || event.target.closest("input[type=text], input[type=search], select, dialog")) return;
+  if (event.repeat && event.target.closest("button")) event.preventDefault();
   const word = WORDS.find((it) => LETTERS[it] === event.key);
   if (word && !event.repeat) decide(current, word);
   if (!Object.hasOwn(PRESSED, event.key) || (event.repeat && !"jk".includes(event.key))) return;

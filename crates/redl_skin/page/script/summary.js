@@ -63,6 +63,7 @@ function goTo(at) {
   const button = make("button", { type: "button", className: "number", textContent: at + 1, ariaLabel: "Go to change " + (at + 1) });
   button.addEventListener("click", () => {
     closeDialog();
+    if (!isShown(at)) showAll();
     choose(rows[at]);
   });
   return button;
