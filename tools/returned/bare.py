@@ -1,0 +1,164 @@
+"""Reads bare texts, and makes of each story its paragraphs as a word processor keeps them.
+
+A bare text is what `redline text --view bare` writes. What a word processor counts anew when it stores (page numbers, dates) is
+left out here, and changes of properties of one paragraph come in one order.
+"""
+import itertools
+import re
+
+KINDS = ("ins", "del", "move-to", "move-from", "run-props")
+# A sign of an object, or text up to the next one.
+TOKEN = re.compile(r"\\\[([^\]]*)\]|(?:[^\\]|\\[^\[])+", re.S)
+NO_DATE = ("0-00-00", "0000-", "1970-01-01T00:00")
+SHOWN = {"ins": ("{+", "+}"), "del": ("[-", "-]"), "move-to": ("{~", "~}"), "move-from": ("[~", "~]"), "run-props": ("{=", "=}")}
+# Fields whose result a word processor counts anew by itself. Of the first ones only what can be a number is left out.
+COUNTS = ("PAGE", "NUMPAGES", "SECTIONPAGES", "SECTION", "PAGEREF", "EDITTIME", "FILESIZE", "NUMWORDS", "NUMCHARS", "REVNUM")
+VOLATILE = ("DATE", "TIME", "SAVEDATE", "PRINTDATE", "CREATEDATE", "FILENAME", "LASTSAVEDBY", "STYLEREF")
+COUNTED = re.compile(r"(?:[\d\s.,:ivxlcdmIVXLCDM()\-]|\\[tnr])*")
+
+
+class View:
+    """How much of a bare text is compared: with objects or the text alone, with names and dates ("all", "authors", "none")."""
+
+    def __init__(self, with_objects, names):
+        self.with_objects, self.names = with_objects, names
+
+    def stamp(self, kind, author, minute):
+        if self.names == "none":
+            return (kind, "", "")
+        return (kind, author, "" if self.names == "authors" or minute.startswith(NO_DATE) else minute)
+
+
+class Story:
+    """A story as the lines of its text, and on demand as paragraphs."""
+
+    def __init__(self, kind, text):
+        self.kind, self.text = kind, text
+
+    def paragraphs(self, view):
+        return Reading(view).paragraphs(self.text)
+
+    def is_empty(self):
+        return "|" not in self.text
+
+
+def stories_of(text):
+    """The stories of a bare text, by kind, in the order of the text."""
+    found = {}
+    for piece in re.split(r"^= ", text, flags=re.M)[1:]:
+        kind, _, lines = piece.partition("\n")
+        found.setdefault(kind, []).append(Story(kind, lines))
+    return found
+
+
+def marks_of(line):
+    """The members round the units of a line, and the rest of the line."""
+    found = []
+    while True:
+        kind, tab, rest = line.partition("\t")
+        if not tab or kind not in KINDS:
+            return found, line
+        author, minute, line = rest.split("\t", 2)
+        found.append((kind, author, minute))
+
+
+class Reading:
+    """One pass over the lines of a story. A paragraph is a tuple of items: (marks, text), or (sign, ..) for what has a line."""
+
+    def __init__(self, view):
+        self.view, self.items, self.fields = view, [], []
+
+    def paragraphs(self, text):
+        found = []
+        for line in text.split("\n")[:-1]:
+            marks, rest = marks_of(line)
+            if rest.startswith("+"):
+                self.items.append(("+",) + self.view.stamp(*rest[1:].split("\t")))
+                continue
+            stamps = tuple(sorted({self.view.stamp(*one) for one in marks}))
+            if rest.startswith("|"):
+                self.add_text(stamps, rest[1:])
+            else:
+                self.items.append((rest, stamps))
+                if rest == "*paragraph":
+                    found.append(self.paragraph())
+        return found + ([self.paragraph()] if self.items else [])
+
+    def paragraph(self):
+        """The items so far. Changes of properties at one place are in one order, since writers differ in it."""
+        made = []
+        for is_member, items in itertools.groupby(self.items, key=lambda item: item[0] == "+"):
+            made += sorted(items) if is_member else items
+        self.items = []
+        return tuple(made)
+
+    def add_text(self, stamps, text):
+        for token in TOKEN.finditer(text):
+            if token.group(1) is None:
+                self.put(stamps, token.group())
+            else:
+                self.add_object(stamps, token.group(1), token.group())
+
+    def add_object(self, stamps, name, sign):
+        if name == "field begin":
+            self.fields.append(["", False])
+        elif name == "field separate" and self.fields:
+            self.fields[-1][1] = True
+        elif name == "field end" and self.fields:
+            self.fields.pop()
+        if self.view.with_objects and not self.is_left_out("0"):
+            self.add(stamps, sign)
+
+    def put(self, stamps, text):
+        if self.fields and not self.fields[-1][1]:
+            self.fields[-1][0] += text
+            if not self.view.with_objects:
+                return
+        if not self.is_left_out(text):
+            self.add(stamps, text)
+
+    def is_left_out(self, text):
+        """Whether a text is the result of a field that is counted anew."""
+        for code, shows in self.fields:
+            word = (code.replace("\\t", " ").split(None, 1) or [""])[0].upper()
+            if shows and (word in VOLATILE or (word in COUNTS and COUNTED.fullmatch(text))):
+                return True
+        return False
+
+    def add(self, stamps, text):
+        if self.items and isinstance(self.items[-1][0], tuple) and self.items[-1][0] == stamps:
+            self.items[-1] = (stamps, self.items[-1][1] + text)
+        else:
+            self.items.append((stamps, text))
+
+
+# What a reader sees of a paragraph
+
+
+def unescaped(text):
+    return re.sub(r"\\(.)", lambda found: {"t": " ", "n": " ", "r": " "}.get(found.group(1), found.group(1)), text, flags=re.S)
+
+
+def plain(paragraph):
+    """The text of a paragraph."""
+    return "".join(unescaped(item[1]) for item in paragraph if isinstance(item[0], tuple))
+
+
+def marked(paragraph):
+    """The text of a paragraph with the signs of its changes."""
+    out = ""
+    for item in paragraph:
+        if isinstance(item[0], tuple):
+            out += with_signs(unescaped(item[1]), item[0])
+        elif item[0] == "+":
+            out += "{%s by %s}" % (item[1], unescaped(item[2])) if item[2] else "{%s}" % item[1]
+        elif item[0] != "*paragraph":
+            out += with_signs("[%s]" % item[0][1:], item[1])
+    return out
+
+
+def with_signs(text, stamps):
+    for kind, _, _ in stamps:
+        left, right = SHOWN[kind]
+        text = left + text + right
+    return text

@@ -1,0 +1,143 @@
+"""Compares two packages by their bare texts, story with story.
+
+Headers and footers are paired as the search paired them, notes by the order of their references: parts and ids are named anew
+by whoever stores a document.
+"""
+import re
+
+from returned import bare
+from returned.differences import differences
+from returned.pairs import pair_stories
+
+KINDS = {"document": "document", "hdr": "header", "ftr": "footer"}
+NOTES = ("footnote", "endnote")
+TAG = re.compile(rb"""<(/?)(?:[\w.-]+:)?(Fallback|footnoteReference|endnoteReference)(?=[\s/>])((?:[^<>"']|"[^"]*"|'[^']*')*)>""")
+SIMPLE = re.compile(rb"""<(/?)((?:[\w.-]+:)?)fldSimple(?=[\s/>])((?:[^<>"']|"[^"]*"|'[^']*')*?)(/?)>""")
+CODE = re.compile(rb"""(?:^|[\s:])instr\s*=\s*(?:"([^"]*)"|'([^']*)')""")
+IDENT = re.compile(rb"""(?:^|[\s:])id\s*=\s*["']([^"']*)["']""")
+
+
+def references(package):
+    """The ids of the notes that references name, in their order, by kind. What is kept a second time is left out."""
+    found, depth = {kind: [] for kind in NOTES}, 0
+    for close, name, tail in TAG.findall(package):
+        if name == b"Fallback":
+            depth += -1 if close else 0 if tail.endswith(b"/") else 1
+        elif not close and depth == 0:
+            ident = IDENT.search(tail)
+            if ident:
+                found[name[: -len(b"Reference")].decode()].append(ident.group(1).decode("utf-8", "replace"))
+    return found
+
+
+def with_long_fields(package):
+    """The package with each field in one element as one in several: writers turn the one form into the other."""
+
+    def long(found):
+        close, prefix, tail, is_empty = found.groups()
+        code = CODE.search(tail)
+        begin = b"<%sr><%sfldChar fldCharType='begin'/></%sr><%sr><%sinstrText>" % ((prefix,) * 5)
+        begin += (code and (code.group(1) or code.group(2))) or b""
+        begin += b"</%sinstrText></%sr><%sr><%sfldChar fldCharType='separate'/></%sr>" % ((prefix,) * 5)
+        end = b"<%sr><%sfldChar fldCharType='end'/></%sr>" % ((prefix,) * 3)
+        return end if close else begin + end if is_empty else begin
+
+    return SIMPLE.sub(long, package) if b"fldSimple" in package else package
+
+
+class Comparison:
+    """What is the same for each journal that is tried: the streams of both packages, and the bare text that came back."""
+
+    def __init__(self, program, first, second, back):
+        self.program = program
+        self.back = bare.stories_of(program.bare_text(with_long_fields(back)))
+        self.back_references = references(back)
+        self.index_of = {id(one): index for package in (first, second) for index, one in indexed(package)}
+        self.pairs = pair_stories(first, second)
+        self.extra = self.left_over(second)
+        self.note_index = [notes_by_id(package) for package in (first, second)]
+
+    def left_over(self, second):
+        """The stories that came back and are paired with none."""
+        paired = {id(other) for _, other in self.pairs if other is not None}
+        return [one for one in second.stories() if one.root in KINDS and id(one) not in paired]
+
+    def pairs_with(self, written):
+        """(what the pair is called, the story as it was written, the story that came back); either may be None."""
+        made = bare.stories_of(self.program.bare_text(with_long_fields(written)))
+        for one, other in self.pairs:
+            yield self.named(one), self.story(made, one), other and self.story(self.back, other)
+        for one in self.extra:
+            yield self.named(one), None, self.story(self.back, one)
+        names = references(written)
+        for kind in NOTES:
+            mine = notes_of(made, kind, names[kind], self.note_index[0])
+            its = notes_of(self.back, kind, self.back_references[kind], self.note_index[1])
+            for place in range(max(len(mine), len(its))):
+                pair = [notes[place] if place < len(notes) else None for notes in (mine, its)]
+                yield ("%s %d" % (kind, place + 1), *pair)
+
+    def story(self, stories, stream):
+        return stories[KINDS[stream.root]][self.index_of[id(stream)]]
+
+    def named(self, stream):
+        if stream.root == "document":
+            return "the document"
+        return "%s %d" % (KINDS[stream.root], self.index_of[id(stream)] + 1)
+
+    def unlike(self, written):
+        """The pairs whose texts are not the same bytes."""
+        return [pair for pair in self.pairs_with(written) if not is_same(pair)]
+
+
+def is_same(pair):
+    _, one, other = pair
+    if one is None or other is None:
+        return (one or other).is_empty()
+    return one.text == other.text
+
+
+def indexed(package):
+    """The stories of a package, each with its place among those of its kind."""
+    counts = {}
+    for one in package.stories():
+        if one.root in KINDS:
+            yield counts.get(one.root, 0), one
+            counts[one.root] = counts.get(one.root, 0) + 1
+
+
+def notes_by_id(package):
+    """For each kind of notes the places of those without a type, by their ids."""
+    found = {}
+    for kind in NOTES:
+        notes = [one for one in package.streams if isinstance(one.name, tuple) and one.name[0] == kind and one.kind is None]
+        found[kind] = {one.name[1]: place for place, one in enumerate(notes)}
+    return found
+
+
+def notes_of(stories, kind, idents, places):
+    """The notes that some references name, in their order."""
+    notes = stories.get(kind, [])
+    indexes = [places[kind][ident] for ident in idents if ident in places[kind]]
+    return [notes[index] for index in indexes if index < len(notes)]
+
+
+def differences_of(pairs, view):
+    """The places at which pairs of stories differ, as far as a view sees them."""
+    found = []
+    for name, one, other in pairs:
+        mine, its = (story.paragraphs(view) if story is not None else [] for story in (one, other))
+        if mine != its:
+            found += differences(name, mine, its)
+    return found
+
+
+def objects_differ(pairs):
+    """Whether the stories of a pair have other pictures, references or fields, or in another order."""
+    for _, one, other in pairs:
+        signs = [re.findall(r"\\\[[^\]]*\]", story.text) if story is not None else [] for story in (one, other)]
+        if signs[0] != signs[1]:
+            return True
+    return False
+
+

@@ -1,0 +1,230 @@
+#!/usr/bin/env python3
+"""Tries what redline-docx makes of documents that came back, and tells each case in a line.
+
+    came_back.py PROGRAM [SECONDS]
+
+Documents are decided by the program, written anew by rewriter.py as a word processor would, changed further where a case wants
+that, and found again. Packages are the examples and random ones by their numbers, as many as there are seconds for.
+"""
+import os
+import random
+import re
+import sys
+import time
+
+HERE = os.path.dirname(os.path.realpath(__file__))
+TOP = os.path.dirname(os.path.dirname(HERE))
+EXAMPLES = os.path.join(TOP, "examples")
+sys.dont_write_bytecode = True
+sys.path[:0] = [os.path.join(TOP, "tools"), os.path.join(TOP, "bench"), EXAMPLES, HERE]
+sys.setrecursionlimit(100000)
+
+from packages import small_package
+from returned import bare, reader
+from returned.check import answer_for
+from returned.program import Program
+from rewriter import rewritten
+
+# So many of a thousand random documents may be refused although they were decided and nothing else.
+REFUSED = 5
+EVE = b'w:author="Eve Hall" w:date="2026-11-28T10:00:00Z"'
+
+
+def tell(name, fault=None):
+    print("FAILED %s: %s" % (name, fault) if fault else "ok %s" % name, flush=True)
+
+
+def file_of(name):
+    with open(os.path.join(EXAMPLES, name), "rb") as file:
+        return file.read()
+
+
+class Desk:
+    """The program, a package that was frozen, and what decisions make of it."""
+
+    def __init__(self, path, package):
+        self.program, self.package = Program(path), package
+        self.name = self.program.hold(package)
+        self.count = len(reader.read(package).revisions)
+
+    def close(self):
+        for name in ["/proc/self/fd/%d" % handle for handle in self.program.handles]:
+            self.program.drop(name)
+
+    def decided(self, words):
+        return self.program.written(self.name, "Eve Hall", words)
+
+    def answer(self, back):
+        return answer_for(self.program, (self.name, self.package), (self.program.hold(back), back))
+
+
+def some_words(count, draw):
+    """Words on revisions: all accepted, all rejected, or each by chance."""
+    style = draw.random()
+    if style < 0.2:
+        return dict.fromkeys(range(1, count + 1), "accept" if style < 0.1 else "reject")
+    words = {number: draw.choice(("accept", "reject", None)) for number in range(1, count + 1)}
+    return {number: word for number, word in words.items() if word}
+
+
+class Pairs:
+    """Counts of pairs of a document and the same document decided, written anew and found again."""
+
+    def __init__(self):
+        self.same = self.equal = self.refused = 0
+        self.wrong = []
+
+    def count(self):
+        return self.same + self.equal + self.refused + len(self.wrong)
+
+    def add(self, path, name, package, seed):
+        desk = Desk(path, package)
+        try:
+            decided = desk.decided(some_words(desk.count, random.Random(seed)))
+            answer = desk.answer(rewritten(decided, seed))
+            if answer.differences:
+                self.refused += 1
+                return
+            written = desk.decided(answer.said)
+            if written == decided:
+                self.same += 1
+            elif answer.untold() or desk.program.bare_text(written) == desk.program.bare_text(decided):
+                self.equal += 1
+            else:
+                self.wrong.append("%s with seed %d" % (name, seed))
+        finally:
+            desk.close()
+
+    def told(self):
+        return "%d pairs: %d the same bytes, %d the same bare text, %d refused" % (self.count(), self.same, self.equal, self.refused)
+
+
+def pairs_of_examples(path):
+    pairs = Pairs()
+    for name in sorted(os.listdir(EXAMPLES)):
+        if name.endswith(".xml") and name not in ("unsound.xml", "contract.back.xml"):
+            for seed in range(3):
+                pairs.add(path, name, file_of(name), seed)
+    fault = "refused or wrong: " + pairs.told() if pairs.refused or pairs.wrong else None
+    tell("examples, " + pairs.told(), fault)
+
+
+def pairs_by_chance(path, seconds):
+    """Random packages by their numbers, until the time is over."""
+    pairs, number, end = Pairs(), 0, time.monotonic() + seconds
+    while time.monotonic() < end and number < 1000:
+        pairs.add(path, "package %d" % number, small_package(random.Random(number)), number)
+        number += 1
+    tell("random packages give no other text", "; ".join(pairs.wrong[:5]))
+    few = pairs.refused * 1000 < REFUSED * max(pairs.count(), 400)
+    tell("random packages, " + pairs.told(), None if few else "more than %d of 1,000 are refused" % REFUSED)
+
+
+# Changes on top, in the contract
+
+
+def contract(path, seed=1, words=None):
+    """The contract, decided, and written anew with the usual prefix."""
+    desk = Desk(path, file_of("contract.xml"))
+    words = some_words(desk.count, random.Random(seed)) if words is None else words
+    decided = desk.decided(words)
+    backs = (rewritten(decided, 100 * again + seed) for again in range(100))
+    return desk, words, next(back for back in backs if b"<w:document" in back)
+
+
+def texts_of(data):
+    """The places of the texts of runs that are in no field and have two letters at least."""
+    return [found.span(1) for found in re.finditer(rb"<w:t(?: [^>]*)?>([^<]*\w\w[^<]*)</w:t>", data)]
+
+
+def untracked_edits(path):
+    """A word put into a text by hand is refused, with its place."""
+    for seed in range(12):
+        desk, _, back = contract(path, seed)
+        begin, end = random.Random(seed).choice(texts_of(back))
+        edited = back[:end] + b" zebra" + back[end:]
+        lines = [one.line() for one in desk.answer(edited).differences]
+        if len(lines) != 1 or "zebra" not in lines[0].split(" where the decisions give ")[0]:
+            return tell("an untracked edit", "seed %d, after %r: %s" % (seed, back[begin:end], lines))
+        desk.close()
+    tell("an untracked edit is refused with its place, 12 times")
+
+
+def tracked_edits(path):
+    """A word put in or taken out with a mark is listed, and the decisions are as without it."""
+    for seed in range(6):
+        desk, words, back = contract(path, seed)
+        wanted = desk.answer(back).said
+        draw = random.Random(seed)
+        end = draw.choice([found.end() for found in re.finditer(rb"</w:r>(?=</w:p>)", back) if is_plain(back, found.end())])
+        added = b"<w:ins w:id='9001' %s><w:r><w:t>zebra</w:t></w:r></w:ins>" % EVE
+        answer = desk.answer(back[:end] + added + back[end:])
+        lines = [one.line() for one in answer.proposals]
+        if answer.differences or answer.said != wanted:
+            return tell("a tracked edit", "seed %d: other decisions: %s" % (seed, [one.line() for one in answer.differences]))
+        if len(lines) != 1 or not re.fullmatch(r'new in .*, paragraph \d+(?: \(clause .*\))?: inserted by Eve Hall, "zebra"', lines[0]):
+            return tell("a tracked edit", "seed %d: %s" % (seed, lines))
+        desk.close()
+    tell("a tracked edit is listed, 6 times")
+
+
+def is_plain(data, place):
+    """Whether the paragraph of a place has no field."""
+    return b"fld" not in data[data.rfind(b"<w:p>", 0, place) : place]
+
+
+def deleted_by_reviewer(path):
+    """A text that is deleted with a mark is listed as such, and its words are kept."""
+    desk, _, back = contract(path, 2)
+    found = re.search(rb"<w:r(?: [^>]*)?><w:t(?: [^>]*)?>([^<]*Signed[^<]*)</w:t></w:r>", back) or re.search(
+        rb"<w:r(?: [^>]*)?><w:t(?: [^>]*)?>([^<]*\w\w[^<]*)</w:t></w:r>", back
+    )
+    run = found.group().replace(b"<w:t", b"<w:delText").replace(b"</w:t>", b"</w:delText>")
+    answer = desk.answer(back[: found.start()] + b"<w:del w:id='9002' %s>" % EVE + run + b"</w:del>" + back[found.end() :])
+    lines = [one.line() for one in answer.proposals]
+    fault = None if len(lines) == 1 and "deleted by Eve Hall" in lines[0] and not answer.differences else "%s" % lines
+    tell("a tracked deletion is listed", fault)
+    desk.close()
+
+
+def half_decisions(path):
+    """A part of an insertion that was accepted by itself is no decision, and its place is told."""
+    desk, _, back = contract(path, 3, {})
+    found = re.search(rb"(<w:ins [^>]*>)(<w:r(?: [^>]*)?>(?:<w:rPr>.*?</w:rPr>)?<w:t(?: [^>]*)?>)(\w[^<]{8,})(</w:t></w:r>)", back)
+    whole = found.group(3)
+    half = found.group(2) + whole[:4] + found.group(4) + found.group(1) + found.group(2) + whole[4:] + found.group(4)
+    lines = [one.line() for one in desk.answer(back[: found.start()] + half + back[found.end() :]).differences]
+    fault = None if len(lines) == 1 and "{+" in lines[0] and ", paragraph " in lines[0] else "%s" % lines
+    tell("half a decision is refused with its place", fault)
+    desk.close()
+
+
+def without_names(path):
+    """Names and dates that were left out: changes are compared by kind."""
+    for name, pattern, value in (("dates", rb' w:date="[^"]*"', b""), ("names and dates", rb' w:author="[^"]*"', b' w:author="Author"')):
+        desk, words, back = contract(path, 4)
+        bare_back = re.sub(pattern, value, re.sub(rb' w:date="[^"]*"', b"", back))
+        answer = desk.answer(bare_back)
+        fault = "%s" % [one.line() for one in answer.differences] if answer.differences or answer.view.names == "all" or answer.proposals else None
+        tell("%s were left out" % name, fault)
+        desk.close()
+
+
+def without_picture(path):
+    desk, _, back = contract(path, 5)
+    cut = re.sub(rb"<w:drawing>.*?</w:drawing>", b"", back, count=1, flags=re.S)
+    answer = desk.answer(cut)
+    fault = None if cut != back and not answer.differences and not answer.view.with_objects else "%s" % [one.line() for one in answer.differences]
+    tell("a picture was taken out: the text alone is compared", fault)
+    desk.close()
+
+
+def main(path, seconds=20):
+    pairs_of_examples(path)
+    pairs_by_chance(path, float(seconds))
+    for case in (untracked_edits, tracked_edits, deleted_by_reviewer, half_decisions, without_names, without_picture):
+        case(path)
+
+
+if __name__ == "__main__":
+    main(*sys.argv[1:])

@@ -1,0 +1,236 @@
+"""Writes a package anew as a word processor would: the same document with other runs, ids, rsids and order of attributes.
+
+    python3 rewriter.py IN.xml OUT.xml SEED
+
+Each by chance, drawn from the seed: runs and texts split, neighbouring runs of one look merged, rsids new and dropped, other
+ids, attributes in another order, proofing marks, bookmarks and page breaks put in, neighbouring changes of one author and date
+merged or split, properties that say nothing added, empty changes dropped, dates cut to the minute, other prefixes. The part
+that names the program says that Word wrote it.
+"""
+import copy
+import random
+import re
+import sys
+from xml.etree import ElementTree
+from xml.sax.saxutils import quoteattr
+
+W = "http://schemas.openxmlformats.org/wordprocessingml/2006/main"
+STRICT = "http://purl.oclc.org/ooxml/wordprocessingml/main"
+PACKAGE = "http://schemas.microsoft.com/office/2006/xmlPackage"
+EXTENDED = "http://schemas.openxmlformats.org/officeDocument/2006/extended-properties"
+SPACE = "{http://www.w3.org/XML/1998/namespace}space"
+STORIES = ("document", "hdr", "ftr", "footnotes", "endnotes", "comments")
+PROPERTIES = ("pPr", "rPr", "sectPr", "tblPr", "trPr", "tcPr", "tblPrEx")
+CONTENT = ("ins", "del", "moveFrom", "moveTo")
+CHANGES = ("rPrChange", "pPrChange", "sectPrChange", "tblPrChange", "tblPrExChange", "trPrChange", "tcPrChange")
+REVISIONS = CONTENT + CHANGES + ("cellIns", "cellDel")
+RANGES = ("moveFromRangeStart", "moveFromRangeEnd", "moveToRangeStart", "moveToRangeEnd")
+# What Word says of itself in the part docProps/app.xml.
+APPLICATION = (
+    '<pkg:part xmlns:pkg="%s" pkg:name="/docProps/app.xml" '
+    'pkg:contentType="application/vnd.openxmlformats-officedocument.extended-properties+xml"><pkg:xmlData>'
+    '<Properties xmlns="%s"><Application>Microsoft Office Word</Application></Properties></pkg:xmlData></pkg:part>'
+) % (PACKAGE, EXTENDED)
+
+
+def refill(element, kids):
+    for kid in list(element):
+        element.remove(kid)
+    element.extend(kids)
+
+
+def written(package):
+    """The bytes of a package, with the namespaces of each part on its own root, since parts are files of their own."""
+    out = ['<?xml version="1.0" encoding="UTF-8" standalone="yes"?>\n<pkg:package xmlns:pkg="%s">' % PACKAGE]
+    for part in package:
+        holder = part[0]
+        out.append("<pkg:part %s>" % " ".join("pkg:%s=%s" % (key.rpartition("}")[2], quoteattr(value)) for key, value in part.attrib.items()))
+        data = "".join(ElementTree.tostring(kid, encoding="unicode") for kid in holder) or holder.text or ""
+        name = holder.tag.rpartition("}")[2]
+        out.append("<pkg:%s>%s</pkg:%s></pkg:part>" % (name, data, name))
+    return ("".join(out) + "</pkg:package>\n").encode()
+
+
+class Rewriter:
+    def __init__(self, seed):
+        self.random = random.Random(seed)
+        self.ids, self.ranges, self.space = 90000, {}, W
+        self.to_the_minute = self.chance(0.5)
+
+    def chance(self, share):
+        return self.random.random() < share
+
+    def name(self, local):
+        return "{%s}%s" % (self.space, local)
+
+    def local(self, element):
+        return element.tag.rpartition("}")[2] if isinstance(element.tag, str) and element.tag.startswith("{" + self.space) else ""
+
+    def rewritten(self, data):
+        for name, space in (("pkg", PACKAGE), (self.random.choice(("w", "w", "wx")), W)):
+            ElementTree.register_namespace(name, space)
+        package = ElementTree.fromstring(data)
+        for story in package.findall("{%s}part/{%s}xmlData/*" % (PACKAGE, PACKAGE)):
+            space, _, local = story.tag[1:].partition("}")
+            if space in (W, STRICT) and local in STORIES:
+                self.space, self.ranges = space, {}
+                self.container(story)
+                for element in story.iter():
+                    self.attributes(element)
+        if package.find("{%s}part[@{%s}name='/docProps/app.xml']" % (PACKAGE, PACKAGE)) is None:
+            package.append(ElementTree.fromstring(APPLICATION))
+        return written(package)
+
+    def attributes(self, element):
+        local, ident, date = self.local(element), self.name("id"), self.name("date")
+        if local in REVISIONS and ident in element.attrib:
+            self.ids += self.random.randint(1, 9)
+            element.set(ident, str(self.ids))
+        if self.to_the_minute and date in element.attrib:
+            element.set(date, re.sub(r"(T\d\d:\d\d):\d\d.*", r"\1:00Z", element.get(date)))
+        if local in RANGES and ident in element.attrib:
+            self.ids += 1
+            element.set(ident, self.ranges.setdefault((local[:8], element.get(ident)), str(self.ids)))
+        if local in ("p", "r", "tr", "sectPr"):
+            for key in [one for one in element.attrib if "rsid" in one]:
+                if self.chance(0.5):
+                    del element.attrib[key]
+            if self.chance(0.4):
+                element.set(self.name("rsidR"), "%08X" % self.random.getrandbits(32))
+        pairs = list(element.attrib.items())
+        self.random.shuffle(pairs)
+        element.attrib.clear()
+        element.attrib.update(pairs)
+
+    def container(self, element):
+        for kid in list(element):
+            self.container(kid)
+        if self.local(element) not in PROPERTIES:
+            self.runs(element)
+            self.changes(element)
+            if self.local(element) == "p":
+                self.noise(element)
+
+    # Runs
+
+    def runs(self, element):
+        merged = []
+        for kid in list(element):
+            for one in self.halves(kid) if self.local(kid) == "r" else [kid]:
+                if merged and self.is_one_run(merged[-1], one):
+                    merged[-1].extend([inner for inner in one if self.local(inner) != "rPr"])
+                    merged[-1].tail = (merged[-1].tail or "") + (one.tail or "")
+                else:
+                    merged.append(one)
+        refill(element, merged)
+
+    def is_one_run(self, one, other):
+        """Whether two neighbours are made one run, which they may be where they look alike and neither was changed."""
+        if self.local(one) != "r" or self.local(other) != "r" or (one.tail or "").strip() or not self.chance(0.5):
+            return False
+        return self.look(one) == self.look(other) and b"Change" not in self.look(one)
+
+    def look(self, run):
+        return next((ElementTree.tostring(inner).strip() for inner in run if self.local(inner) == "rPr"), b"")
+
+    def halves(self, run):
+        """A run as it is, or split in two."""
+        props = [one for one in run if self.local(one) == "rPr"]
+        rest = [one for one in run if self.local(one) != "rPr"]
+        for one in props:
+            self.properties(one)
+        if not rest or not self.chance(0.4):
+            return [run]
+        before, after = self.cut(rest, self.random.randrange(len(rest)))
+        if not before:
+            return [run]
+        second = ElementTree.Element(run.tag, dict(run.attrib))
+        second.tail, run.tail = run.tail, None
+        second.extend([copy.deepcopy(one) for one in props])
+        if self.chance(0.1):
+            ElementTree.SubElement(second, self.name("lastRenderedPageBreak"))
+        second.extend(after)
+        refill(run, props + before)
+        return [run, second]
+
+    def cut(self, kids, place):
+        """The kids before and after a place in one of them, whose text is cut where it can be."""
+        one, text = kids[place], kids[place].text or ""
+        if self.local(one) not in ("t", "delText") or len(text) < 2 or len(one):
+            return kids[:place], kids[place:]
+        at = self.random.randint(1, len(text) - 1)
+        left, right = copy.deepcopy(one), copy.deepcopy(one)
+        left.text, right.text, left.tail, right.tail = text[:at], text[at:], None, None
+        for half in (left, right):
+            half.set(SPACE, "preserve")
+        return kids[:place] + [left], [right] + kids[place + 1 :]
+
+    def properties(self, props):
+        if self.chance(0.2) and not any(self.local(kid) == "rPrChange" for kid in props):
+            noise = ElementTree.SubElement(props, self.name(self.random.choice(("lang", "noProof"))))
+            if self.local(noise) == "lang":
+                noise.set(self.name("val"), "en-GB")
+        for kid in props:
+            if self.local(kid) == "b" and not kid.attrib and self.chance(0.3):
+                kid.set(self.name("val"), "1")
+
+    # Changes
+
+    def changes(self, element):
+        out = []
+        for kid in list(element):
+            if self.local(kid) not in CONTENT:
+                out.append(kid)
+            elif not len(kid) and not (kid.text or "").strip() and self.chance(0.5):
+                if out:
+                    out[-1].tail = (out[-1].tail or "") + (kid.tail or "")
+            elif out and self.is_one_change(out[-1], kid):
+                out[-1].extend(list(kid))
+                out[-1].tail = kid.tail
+            else:
+                out += self.parts(kid)
+        refill(element, out)
+
+    def is_one_change(self, one, other):
+        keys = (self.name("author"), self.name("date"))
+        if one.tag != other.tag or (one.tail or "").strip() or [one.get(key) for key in keys] != [other.get(key) for key in keys]:
+            return False
+        return self.chance(0.7)
+
+    def parts(self, change):
+        """A change as it is, or split in two."""
+        if len(change) < 2 or not self.chance(0.3):
+            return [change]
+        place, inner = self.random.randint(1, len(change) - 1), list(change)
+        second = ElementTree.Element(change.tag, dict(change.attrib))
+        second.tail, change.tail = change.tail, None
+        refill(change, inner[:place])
+        second.extend(inner[place:])
+        return [change, second]
+
+    # Marks of proofing and places
+
+    def noise(self, paragraph):
+        out = []
+        for kid in list(paragraph):
+            if self.local(kid) != "pPr" and self.chance(0.15):
+                self.ids += 1
+                if self.chance(0.5):
+                    out.append(ElementTree.Element(self.name("proofErr"), {self.name("type"): "spellStart"}))
+                else:
+                    ident = {self.name("id"): str(self.ids)}
+                    out.append(ElementTree.Element(self.name("bookmarkStart"), {**ident, self.name("name"): "_GoBack"}))
+                    out.append(ElementTree.Element(self.name("bookmarkEnd"), ident))
+            out.append(kid)
+        refill(paragraph, out)
+
+
+def rewritten(data, seed):
+    return Rewriter(seed).rewritten(data)
+
+
+if __name__ == "__main__":
+    with open(sys.argv[1], "rb") as file:
+        made = rewritten(file.read(), int(sys.argv[3]))
+    with open(sys.argv[2], "wb") as file:
+        file.write(made)
