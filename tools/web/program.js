@@ -43,7 +43,7 @@ class Program {
   async ask(action, ...words) {
     const answer = await this.send(action, words);
     if (action === "open") this.history = [["open", ...words]];
-    if (action === "keep" || action === "drop") this.history.push([action, ...words]);
+    if (["keep", "drop", "unpack"].includes(action)) this.history.push([action, ...words]);
     return answer;
   }
 

@@ -75,6 +75,11 @@ async function made(make) {
 
 const isZip = (/** @type {Uint8Array} */ bytes) => bytes[0] === 0x50 && bytes[1] === 0x4b;
 
+/** The package of a .docx, or the package itself, and what `flatopc` told. @param {Uint8Array} bytes @param {boolean} tidy */
+async function packageOf(bytes, tidy) {
+  return isZip(bytes) ? made((say) => flatopc.unpack(bytes, { tidy, say })) : { bytes, said: [] };
+}
+
 const actions = {
   /** Makes the program ready, given as Base64 of gzip. Answers its version. @param {string} packed */
   async start(packed) {
@@ -91,7 +96,7 @@ const actions = {
    * @param {{ tidy?: boolean }} options
    */
   async open(bytes, { tidy = false } = {}) {
-    const { bytes: packageBytes, said } = isZip(bytes) ? await made((say) => flatopc.unpack(bytes, { tidy, say })) : { bytes, said: [] };
+    const { bytes: packageBytes, said } = await packageOf(bytes, tidy);
     const before = new Map(kept);
     kept.clear();
     kept.set(DOCUMENT, packageBytes);
@@ -102,6 +107,18 @@ const actions = {
       before.forEach((it, name) => kept.set(name, it));
       throw error;
     }
+  },
+
+  /**
+   * Keeps the package of a .docx, or a package, under this name beside the document. Answers what `flatopc` told.
+   * @param {string} name
+   * @param {Uint8Array} bytes
+   * @param {{ tidy?: boolean }} options
+   */
+  async unpack(name, bytes, { tidy = false } = {}) {
+    const { bytes: packageBytes, said } = await packageOf(bytes, tidy);
+    kept.set(name, packageBytes);
+    return { said };
   },
 
   /** Keeps a file for calls to name. @param {string} name @param {Uint8Array} bytes */
