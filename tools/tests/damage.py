@@ -13,8 +13,13 @@ import sys
 import types
 
 sys.dont_write_bytecode = True
-flatopc = types.ModuleType("flatopc")
-importlib.machinery.SourceFileLoader("flatopc", sys.argv[1]).exec_module(flatopc)
+
+
+def flatopc_of(path):
+    """The script flatopc as a module."""
+    flatopc = types.ModuleType("flatopc")
+    importlib.machinery.SourceFileLoader("flatopc", path).exec_module(flatopc)
+    return flatopc
 
 
 def damaged(data, number):
@@ -32,6 +37,7 @@ def damaged(data, number):
 
 
 def main():
+    flatopc = flatopc_of(sys.argv[1])
     package = open(sys.argv[2], "rb").read()
     docx = flatopc.pack(package)
     answers = {"written": 0, "refused": 0}
@@ -56,4 +62,5 @@ def main():
     return 1 if odd else 0
 
 
-sys.exit(main())
+if __name__ == "__main__":
+    sys.exit(main())
