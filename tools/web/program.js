@@ -19,7 +19,9 @@ class Program {
    * @param {(state: { action: string, words: any[], read: number, written: number, begun: number, isDone: boolean }) => void} watch
    */
   constructor(make, packed, watch = () => {}) {
-    Object.assign(this, { make, packed, watch });
+    this.make = make;
+    this.packed = packed;
+    this.watch = watch;
     this.waiting = new Map();
     this.last = 0;
     /** What a new worker is told to be as the one before it. @type {[string, ...any[]][]} */

@@ -39,7 +39,7 @@ const xml = (() => {
   const plain = (bytes) => new TextDecoder("latin1").decode(bytes);
   const BYTE_OF = new Map(Array.from(plain(Uint8Array.from({ length: 128 }, (_, i) => 128 + i)), (it, i) => [it, 128 + i]));
   /** The bytes of such a text. @param {string} text */
-  const bytesOf = (text) => Uint8Array.from(text, (it) => BYTE_OF.get(it) ?? it.charCodeAt(0));
+  const bytesOf = (text) => Uint8Array.from(Array.from(text, (it) => BYTE_OF.get(it) ?? it.charCodeAt(0)));
   const encoded = (/** @type {string} */ text) => new TextEncoder().encode(text);
   const isAscii = (/** @type {string} */ text) => !/[^\x00-\x7f]/.test(text);
   /** What such a text says. @param {string} text */

@@ -166,11 +166,12 @@ const zip = (() => {
   /** The files of an archive by name, in its order. @param {Uint8Array} data @returns {Map<string, Uint8Array>} */
   function read(data) {
     const entries = entriesOf(data);
-    for (const entry of entries) entry.name = entry.name.split("\0")[0];
-    if (entries.some((it) => !it.name)) wrong("a part has no name");
-    const files = entries.filter((it) => !it.name.endsWith("/"));
+    // (a name ends at its first 0, whatever follows)
+    const nameHere = (entry) => entry.name.split("\0")[0];
+    if (!entries.every(nameHere)) wrong("a part has no name");
+    const files = entries.filter((it) => !nameHere(it).endsWith("/"));
     if (files.reduce((sum, it) => sum + it.whole, 0) > LIMIT) throw new NotOfTheForm("it unpacks to more than " + LIMIT + " bytes");
-    const items = new Map(files.map((it) => [it.name, contentOf(data, it)]));
+    const items = new Map(files.map((it) => [nameHere(it), contentOf(data, it)]));
     const names = Array.from(items.keys());
     if (new Set(names.map((it) => it.toLowerCase())).size < files.length) throw new NotOfTheForm("two of its parts have one name");
     if (names.some((it) => /[\x00-\x1f\ud800-\udfff\ufffe\uffff]/u.test(it))) throw new NotOfTheForm("one of its parts has a name with a control character");
