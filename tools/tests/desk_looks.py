@@ -1,0 +1,122 @@
+"""How the desk looks and is heard: contrast, size, keyboard, screen reader, print; and its picture for README."""
+import time
+
+from desk_round import JOURNALS
+from desk_seen import Desk, example
+from page_looks import CONTRAST
+from page_seen import TAB, same, told
+
+STEPS = ["decide", "others", "standing", "written", "save"]
+WIDE = "return [document.documentElement.scrollWidth, innerWidth]"
+FOCUS = """
+const it = document.activeElement, style = getComputedStyle(it);
+return [it.id || it.localName, it.localName === "iframe" || (style.outlineStyle !== "none" && parseFloat(style.outlineWidth) >= 2)];
+"""
+
+
+def contract(driven):
+    it = Desk(driven)
+    it.drop(*[(name, example(name)) for name in ["contract.xml", *JOURNALS]])
+    return it
+
+
+def looks(driven):
+    it = Desk(driven)
+    grounds = {}
+    for scheme in ["light", "dark"]:
+        driven.look(1280, 800, scheme)
+        time.sleep(0.2)
+        same("contrast of the first screen, " + scheme, it.run(CONTRAST), [])
+        grounds[scheme] = it.run("return getComputedStyle(document.body).backgroundColor")
+    if driven.name != "webkit":
+        told("dark and light follow the system", grounds["dark"] != grounds["light"], str(grounds))
+    it = contract(driven)
+    for scheme in ["light", "dark"]:
+        driven.look(1280, 800, scheme)
+        for step in STEPS:
+            it.step(step)
+            same("contrast of %s, %s" % (step, scheme), it.run(CONTRAST), [])
+
+
+def sizes(driven):
+    it = contract(driven)
+    for width, height, zoom in [(1280, 800, 1), (1280, 1024, 4), (480, 900, 1)]:
+        if zoom > 1 and driven.name == "webkit":
+            continue
+        driven.look(width, height, "light", "", zoom)
+        time.sleep(0.2)
+        for step in STEPS:
+            it.step(step)
+            wide = it.run(WIDE)
+            told("nothing sticks out of %s, %d wide at %d00 %%" % (step, width, zoom), wide[0] <= wide[1], str(wide))
+            high = it.run("return Math.min(...['decide', 'written'].map((it) => document.querySelector('#' + it + ' iframe').clientHeight).filter(Boolean), 9999)")
+            told("and %s has room" % step, high >= 200, str(high))
+    driven.look(1280, 800)
+
+
+def by_keys(driven):
+    """The whole way with the keyboard alone: to the steps, and to all that can be pressed."""
+    it = contract(driven)
+    it.run("document.getElementById('tab-decide').focus()")
+    driven.keys("\ue014")
+    it.after()
+    same("an arrow goes to the next step", it.run("return [document.activeElement.id, document.getElementById('others').hidden]"), ["tab-others", False])
+    driven.keys("\ue010")
+    it.after()
+    same("End goes to the last step", it.run("return document.activeElement.id"), "tab-save")
+    met = []
+    for _ in range(30):
+        driven.keys(TAB)
+        focus = it.run(FOCUS)
+        if focus in met or focus[0] == "body":
+            break
+        met.append(focus)
+    names = [name for name, _ in met]
+    wanted = {"save-document", "save-journal", "save-joined", "save-text", "save-report", "save-listing", "go-on", "form", "view"}
+    told("the Tab key goes to all that can be pressed", wanted <= set(names), str(names))
+    told("what has the keyboard is seen", all(is_seen for _, is_seen in met), str([name for name, is_seen in met if not is_seen]))
+
+
+def for_readers(driven):
+    """What a screen reader is told."""
+    it = Desk(driven)
+    same("the first screen's buttons", [role for role, name in driven.spoken("#start button") if name], ["button", "button"])
+    it = contract(driven)
+    steps = driven.spoken("#tabs button")
+    same("the steps are tabs", [role for role, _ in steps], ["tab"] * 5)
+    told("with names", all(name for _, name in steps), str(steps))
+    for step in STEPS:
+        it.step(step)
+        bare = [role for role, name in driven.spoken("#%s :is(button, select, input, iframe):not([hidden])" % step) if not name and role not in ("none", "generic")]
+        same("each control of %s has a name" % step, bare, [])
+    same("the page says what it is", it.run("return document.title"), "contract.xml - Redline")
+
+
+def printed(driven):
+    it = contract(driven)
+    it.step("standing")
+    driven.look(1280, 800, "light", "print")
+    shown = lambda selector: it.run("return document.querySelector(arguments[0]).getClientRects().length > 0", selector)
+    told("the tables are printed without the bars", shown("#tables table") and not shown("header") and not shown("#tabs"))
+    driven.look(1280, 800)
+
+
+def picture(file):
+    from chromium import Chromium
+
+    driven = Chromium()
+    try:
+        it = contract(driven)
+        driven.look(1120, 760)
+        it.name("Eve Stone")
+        for number in (2, 3):
+            it.decide(number, "accept")
+        it.run("document.getElementById('dismiss').click()")
+        it.in_page("page.document.querySelector('main').scrollTop = 0")
+        time.sleep(0.5)
+        driven.picture(file)
+    finally:
+        driven.close()
+
+
+CASES = [looks, sizes, by_keys, for_readers, printed]

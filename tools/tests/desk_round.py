@@ -1,0 +1,156 @@
+"""A whole round at the desk: opened, decided, joined, disputed, written, saved, and gone on with; each file is what the commands give."""
+import os
+import subprocess
+
+from desk_seen import DOCX, FLATOPC, REDLINE, Desk, example, for_package, output, read, unpacked
+from page_seen import EXAMPLES, same, told, wait
+
+NAMES = ["ann", "bob", "cara"]
+JOURNALS = ["contract.%s.journal" % name for name in NAMES]
+
+
+def package_round(driven):
+    """The example's package and journals, against the example's results, which are not made by the program."""
+    it = Desk(driven)
+    said = it.drop(*[(name, example(name)) for name in ["contract.xml", *JOURNALS]])
+    told("a package and its journals open at once", "3 journals were added" in said, said)
+    same("what is disputed is told first", it.text("#standing-badge"), "4")
+    it.step("save")
+    same("the document as decided", it.saves("#save-document", "contract.decided.xml"), example("contract.written.xml"))
+    told("how many changes are left is told", "5 changes are still tracked" in it.text("#save-document-told"), it.text("#save-document-told"))
+    same("all journals as one", it.saves("#save-joined", "contract.joined.journal"), example("contract.joined.journal"))
+    same("the listing", it.saves("#save-listing", "contract.listing.json"), example("contract.list.full"))
+    same("the report", it.saves("#save-report", "contract.report.txt"), example("contract.report.table"))
+    for view in ["final", "original", "marked"]:
+        it.run("document.getElementById('view').value = arguments[0]", view)
+        same("the text, " + view, it.saves("#save-text", "contract.%s.txt" % view), example("contract.%s.txt" % view))
+    for word, name in [("accept", "accepted"), ("reject", "rejected")]:
+        it.run("document.querySelector('input[name=how][value=%s]').click()" % word)
+        same("all " + name, it.saves("#save-document", "contract.%s.xml" % name), example("contract.%s.xml" % name))
+    same("nothing is asked for", it.requests(), [])
+    same("no complaint of the browser", driven.complaints(), [])
+
+
+def docx_round(driven):
+    """A .docx, decided in the page, joined with others, written, and looked at by the command line."""
+    docx = os.path.join(driven.folder, "contract.docx")
+    subprocess.run([FLATOPC, "pack", "-f", os.path.join(EXAMPLES, "contract.xml"), docx], check=True)
+    package = unpacked(docx, driven.folder)
+    frozen = os.path.join(driven.folder, "frozen.xml")
+    with open(frozen, "wb") as out:
+        out.write(package)
+    paths = [os.path.join(driven.folder, name) for name in JOURNALS]
+    for path, name in zip(paths, JOURNALS):
+        with open(path, "wb") as out:
+            out.write(for_package(example(name), package))
+    it = Desk(driven)
+    said = it.give(docx)
+    told("a .docx opens", "49 changes" in said, said)
+    it.name("Dee Wood")
+    for number, word in [(3, "accept"), (12, "reject"), (32, "reject")]:
+        it.decide(number, word)
+    decided = it.decisions()
+    same("decided in the page", decided, ["3 accept", "12 reject", "32 reject"])
+    said = it.give(*paths)
+    told("journals are added", "3 journals were added" in said, said)
+    same("decisions stay when journals come", it.decisions(), decided)
+    said = it.drop(("old.journal", example("contract.ann.journal")))
+    told("a journal of another document is refused, with the program's line", it.is_fault() and "redline: journal old.journal: document" in said, said)
+    same("and stays out", it.text("#others-badge"), "3")
+    standing(it)
+    it.step("save")
+    mine = os.path.join(driven.folder, "Dee Wood.journal")
+    journal = it.saves_journal("Dee Wood.journal")
+    told("the journal is of this package", journal.startswith(b"\n".join(for_package(example(JOURNALS[0]), package).split(b"\n")[:2])), str(journal[:200]))
+    it.step("save")
+    saved = it.saves("#save-document", "contract.decided.docx")
+    told("a .docx is saved", saved[:2] == b"PK", str(saved[:20]))
+    with open(mine, "wb") as out:
+        out.write(journal)
+    if REDLINE:
+        same_as_command_line(it, docx, frozen, [*paths, mine])
+    same("nothing is asked for", it.requests(), [])
+
+
+def standing(it):
+    """The tables of where it stands, with what this page decided."""
+    it.step("standing")
+    cells = it.run("return [...document.querySelectorAll('#tables table')].map((it) => [it.caption.textContent, [...it.tBodies[0].rows].map((row) => [...row.cells].map((cell) => cell.textContent))])")
+    disputed = next(rows for caption, rows in cells if caption.startswith("Disputed"))
+    same("the disputed changes are first, by number", [row[0] for row in disputed], ["12", "32", "33", "42", "43"])
+    same("who is against whom", [disputed[1][4], disputed[1][5]], ["Ann Gray", "Bob Hay, Dee Wood"])
+    people = next(rows for caption, rows in cells if caption.startswith("Reviewers"))
+    same("each reviewer has a line", [row[0] for row in people], ["Ann Gray", "Bob Hay", "Cara Lee", "Dee Wood"])
+    it.press("#tables td button, #tables th button")
+    same("a number leads to its change", it.in_page("return page.document.querySelector('li[aria-current]').id"), "revision-12")
+
+
+def same_as_command_line(it, docx, frozen, journals):
+    folder = it.driven.folder
+    saved = os.path.join(folder, "contract.decided.docx")
+    wanted = os.path.join(folder, "wanted.docx")
+    subprocess.run([DOCX, "write", docx, *journals, "-f", "-o", wanted], check=False, capture_output=True)
+    same("the saved .docx has the package that the command line writes", unpacked(saved, folder), unpacked(wanted, folder))
+    same("the saved .docx is the command line's", read(saved), read(wanted))
+    left = output(DOCX, "check", saved).decode()
+    told("the saved .docx is sound", left == "sound 6 revisions\n", left)
+    mine = output(REDLINE, "decide", frozen, "Dee Wood", "--accept", "numbers:3", "--reject", "numbers:12,32")
+    same("the saved journal is what decide writes", read(journals[-1]), mine)
+    it.step("written")
+    shown = it.run("return document.getElementById('result').srcdoc")
+    package = os.path.join(folder, "as-written.xml")
+    with open(package, "wb") as out:
+        out.write(output(REDLINE, "write", frozen, *journals))
+    page = output(REDLINE, "page", package).decode()
+    same("as written: the program's page of what it writes", shown.split("<main", 1)[1], page.split("<main", 1)[1])
+
+
+def locks_and_ranks(driven):
+    it = Desk(driven)
+    it.drop(*[(name, example(name)) for name in ["contract.xml", *JOURNALS]])
+    it.step("others")
+    it.run("document.getElementById('locks').open = true")
+    it.after()
+    it.run("document.getElementById('lock-author').value = 'Dana Fox & Co'")
+    said = it.press("#lock-form button")
+    told("a lock is told, and what does not count under it", "1 lock holds" in said and "on locked changes" in said, said)
+    it.step("save")
+    same("written with a lock", it.saves("#save-document", "contract.decided.xml"), example("contract.locked.xml"))
+    it.step("others")
+    it.press("#lock-list button")
+    it.name("Pat Stone")
+    for number in (32, 33):
+        it.decide(number, "reject")
+    it.run("document.getElementById('ranks').open = true; const it = document.getElementById('rank'); it.value = '2'; it.dispatchEvent(new Event('change'))")
+    it.after()
+    it.step("save")
+    same("a journal with a rank is what decide --rank writes", it.saves_journal("Pat Stone.journal"), example("contract.pat.journal"))
+    it.step("standing")
+    captions = it.run("return [...document.querySelectorAll('#tables caption')].map((it) => it.textContent.split(':')[0].split(',')[0])")
+    told("decided against somebody is shown", "Decided against somebody" in captions, str(captions))
+
+
+def second_sitting(driven):
+    """Two sittings become one journal of the first document."""
+    it = Desk(driven)
+    it.drop(("contract.xml", example("contract.xml")), ("contract.first.journal", example("contract.first.journal")))
+    it.step("save")
+    it.press("#go-on")
+    told("the second document opens", it.wait("document.getElementById('name').textContent === 'contract.decided.xml'"), it.text("#name"))
+    it.after()
+    saved = os.path.join(driven.folder, "contract.decided.xml")
+    told("and is saved", wait(lambda: os.path.exists(saved)) and read(saved) == example("contract.second.xml"), "other bytes")
+    it.drop(("contract.second.journal", example("contract.second.journal")))
+    it.step("save")
+    same("one journal of both", it.saves("#save-both", "contract.both.journal"), example("contract.resumed.journal"))
+    it = Desk(driven)
+    it.drop(("contract.second.xml", example("contract.second.xml")), ("contract.second.journal", example("contract.second.journal")))
+    it.step("others")
+    it.run("document.getElementById('earlier').open = true")
+    said = it.drop(*[(name, example(name)) for name in ["contract.xml", "contract.first.journal"]], on="#earlier")
+    told("the earlier document is added later", "gives this document" in said, said)
+    it.step("save")
+    same("and both are one journal", it.saves("#save-both", "contract.both.journal"), example("contract.resumed.journal"))
+
+
+CASES = [package_round, docx_round, locks_and_ranks, second_sitting]

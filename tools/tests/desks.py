@@ -1,0 +1,52 @@
+"""Opens the desk in browsers, does rounds in it as a person does, and looks at what comes.
+
+    python3 desks.py                     the test: a line for each case, "ok NAME", "FAILED NAME: WHY" or "skipped NAME: WHY"
+    python3 desks.py firefox docx_round  these cases alone, in this browser alone
+    python3 desks.py --picture FILE      the picture of the desk for README
+
+The desk is the one that REDLINE_DESK names, or the one that was built. The cases are in desk_*.py.
+"""
+import sys
+
+import desk_faults
+import desk_hostile
+import desk_large
+import desk_looks
+import desk_round
+from chromium import Chromium
+from desk_seen import built
+from firefox import Firefox
+from page_seen import told
+from webkit import WebKit
+
+BROWSERS = [Chromium, Firefox, WebKit]
+CASES = desk_round.CASES + desk_faults.CASES + desk_hostile.CASES + desk_looks.CASES + desk_large.CASES
+
+
+def run(case, kind):
+    """A case in a browser of its own."""
+    driven = kind()
+    try:
+        case(driven)
+    except (RuntimeError, OSError) as error:
+        told(case.__name__, False, str(error).split("\n")[0])
+    finally:
+        driven.close()
+
+
+def main(words):
+    if not built():
+        return print("skipped the desk: it hasn't been built")
+    if words[:1] == ["--picture"]:
+        return desk_looks.picture(words[1])
+    cases = [case for case in CASES if case.__name__ in words] or CASES
+    for kind in [kind for kind in BROWSERS if kind.name in words] or BROWSERS:
+        if not kind.is_there():
+            print("skipped the desk in %s: it isn't there" % kind.name)
+            continue
+        told.browser = kind.name + ": "
+        for case in cases:
+            run(case, kind)
+
+
+main(sys.argv[1:])

@@ -1,0 +1,104 @@
+// The two frames: the program's page of the document, to decide in, and its page of the document as it would be written.
+"use strict";
+
+const frame = element("page");
+const result = element("result");
+
+/**
+ * What the page in the frame offers to the desk.
+ * @returns {{ name: () => string, refusal: () => string, journal: (name?: string) => string, state: () => any, restore: (state: any) => void, choose: (number: number) => void }}
+ */
+const pageParts = () => frame.contentWindow.redline;
+
+/**
+ * Shows a page in a frame; it is there when this ends.
+ * @param {any} into
+ * @param {string} html
+ */
+async function load(into, html) {
+  const isThere = new Promise((resolve) => into.addEventListener("load", resolve, { once: true }));
+  into.srcdoc = policy.createHTML(html);
+  await isThere;
+  acceptDrops(into.contentWindow);
+  into.contentWindow.addEventListener("keydown", printFrame, true);
+}
+
+/**
+ * Ctrl+P prints the document that is seen, by the rules for paper of its own page.
+ * @param {KeyboardEvent} event
+ */
+function printFrame(event) {
+  const seen = isChosen("decide") ? frame : isChosen("written") ? result : null;
+  if (!opened || !seen || event.key !== "p" || !(event.ctrlKey || event.metaKey)) return;
+  event.preventDefault();
+  seen.contentWindow.print();
+}
+
+/** The program's page of the document, as a text, and the lines of the call. */
+const makePage = () => called(["page", DOCUMENT, ...others.keys(), ...lockWords()]);
+
+/**
+ * Shows the page of the document anew, with what was decided in it so far.
+ * @param {{ out: string, lines: string }} made
+ */
+async function showPage({ out, lines }) {
+  const before = opened?.isShown ? pageParts().state() : null;
+  await load(frame, out);
+  if (before) pageParts().restore(before);
+  frame.contentDocument.addEventListener("redline-changed", decided);
+  frame.contentDocument.addEventListener("redline-save", saveFromPage);
+  /** @type {Opened} */ (opened).isShown = true;
+  decided();
+  isUnsaved = isUnsaved && before !== null;
+  return lines;
+}
+
+/** Something was decided in the page, or the name there is another one. */
+function decided() {
+  isUnsaved = true;
+  stale.standing = stale.written = true;
+}
+
+/**
+ * The page's own button: a frame of Firefox saves nothing, so the desk does.
+ * @param {any} event
+ */
+function saveFromPage(event) {
+  event.preventDefault();
+  save(event.detail.name, ranked(event.detail.text));
+  isUnsaved = false;
+  tell({ what: "Saved as " + fileName(event.detail.name) + ".", todo: IN_DOWNLOADS + " Send it to whoever puts the round together." });
+}
+
+/** What has to be made anew before it is seen. */
+const stale = { standing: true, written: true };
+
+/**
+ * Takes away what can be decided in the page of the written document, since it is there to be read.
+ * @param {any} inner
+ */
+function freeze(inner) {
+  const sheet = new inner.CSSStyleSheet();
+  sheet.replaceSync("body > header, body > aside, dialog { display: none !important } body { grid: 'text' minmax(0, 1fr) / minmax(0, 1fr) !important } main [data-revision] { cursor: auto }");
+  inner.document.adoptedStyleSheets = [...inner.document.adoptedStyleSheets, sheet];
+  for (const kind of ["click", "keydown", "keyup", "beforeunload"])
+    inner.addEventListener(kind, (/** @type {Event} */ event) => event.stopImmediatePropagation(), true);
+}
+
+/** Shows the page of the document that `write` makes of all decisions so far. */
+async function showWritten() {
+  if (!stale.written) return;
+  element("written-told").replaceChildren();
+  const { lines } = await calledOnAll(["write"], { into: WRITTEN });
+  const check = await called(["check", WRITTEN]);
+  const { out } = await called(["page", WRITTEN]);
+  // (a name that no document has, so that nothing which the browser keeps for this one comes in)
+  await load(result, out.replace(/ data-document="[0-9a-f]*"/, ' data-document="as written"'));
+  freeze(result.contentWindow);
+  const left = countIn(check.out);
+  element("written-told").append(
+    make("span", {}, "This is the document that “Save the document” would write now: ",
+      make("b", { textContent: left ? counted(left, "change is", "changes are") + " still tracked in it." : "no change is tracked in it any more." }), lines ? " " + toldOf(lines) : ""),
+    button("Print", () => result.contentWindow.print()));
+  stale.written = false;
+}

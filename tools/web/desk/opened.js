@@ -1,0 +1,139 @@
+// The document that is open, the journals and locks with it, and the words of calls on them.
+"use strict";
+
+const [DOCUMENT, WRITTEN, OWN] = ["document.xml", "written.xml", "your decisions"];
+
+/**
+ * A document: its file, whether that was a .docx, how many changes it has, what was told of its archive, and whether the frame
+ * shows it.
+ * @typedef {{ name: string, bytes: Uint8Array, isZip: boolean, isTidy: boolean, count: number, said: string[], isShown: boolean }} Opened
+ * @type {Opened | null}
+ */
+let opened = null;
+
+/**
+ * The journals of others, by the name that calls have for each.
+ * @type {Map<string, Journal>}
+ */
+const others = new Map();
+/**
+ * The locks, each as the two words of a call.
+ * @type {[string, string][]}
+ */
+const locks = [];
+/** The rank of the decisions of this page. */
+let rank = 0;
+/** Whether something was decided since a journal or the document was last saved. */
+let isUnsaved = false;
+
+const encoded = (/** @type {string} */ text) => new TextEncoder().encode(text);
+const lockWords = () => locks.flat();
+
+/** The journal of what is decided in this page, as calls are given it: empty where nothing is decided. */
+function ownJournal() {
+  if (!opened?.isShown) return "";
+  const parts = pageParts();
+  const name = parts.name();
+  const why = name && parts.refusal();
+  if (why) throw new Told(why, "Your name stands above the list of changes in step 1.");
+  const journal = parts.journal(name || standIn());
+  return hasEntries(journal) ? ranked(journal) : "";
+}
+
+/**
+ * A head has three lines.
+ * @param {string} journal
+ */
+const hasEntries = (journal) => journal.split("\n", 5).length === 5;
+
+/** A name for decisions without one, that no other reviewer has. */
+function standIn() {
+  const taken = new Set(reviewersOf(others.values()).keys());
+  let name = "You";
+  for (let more = 2; taken.has(name); more++) name = "You " + more;
+  return name;
+}
+
+/**
+ * The journal with this page's rank in each entry.
+ * @param {string} journal
+ */
+function ranked(journal) {
+  if (rank === 0 || !journal) return journal;
+  return journal
+    .replace(/^redline-journal 1\n/, "redline-journal 2\n")
+    .replace(/^(\d+\t\d+\t\w+)\t/gm, "$1\t" + rank + "\t");
+}
+
+/** The names of all journals and of what is decided here, and the file of the latter. */
+function joinedWords(own = ownJournal()) {
+  return { words: [...others.keys(), ...(own ? [OWN] : [])], options: own ? { files: { [OWN]: encoded(own) } } : {} };
+}
+
+/**
+ * A call on the document, all journals, all locks, and what is decided here.
+ * @param {string[]} words
+ * @param {object} more
+ */
+function calledOnAll(words, more = {}) {
+  const joined = joinedWords();
+  return called([words[0], DOCUMENT, ...words.slice(1), ...joined.words, ...lockWords()], { ...joined.options, ...more });
+}
+
+/**
+ * How many changes a line of `check` counts.
+ * @param {string} line
+ */
+const countIn = (line) => Number(line.match(/^sound (\d+) revision/)?.[1] ?? 0);
+
+/**
+ * What the lines of a call tell that ended with status 1: how many entries did not count.
+ * @param {string} lines
+ */
+function toldOf(lines) {
+  const refused = lines.split("\n").filter((it) => it.startsWith("redline: refused "));
+  const locked = refused.filter((it) => /: locked (author|kind|span)$/.test(it)).length;
+  const unknown = refused.length - locked;
+  return [
+    locked ? counted(locked, "decision") + (locked === 1 ? " is" : " are") + " on locked changes and did not count." : "",
+    unknown ? counted(unknown, "decision") + (unknown === 1 ? " is" : " are") + " on a change that this document does not have, and did not count." : "",
+  ].filter(Boolean).join(" ");
+}
+
+/**
+ * Opens a document in the place of the one before. Where that is refused, the one before stays with all that belongs to it.
+ * @param {{ name: string, bytes: Uint8Array }} file
+ * @param {boolean} isTidy
+ */
+async function openDocument({ name, bytes }, isTidy = false) {
+  performance.mark("opening");
+  const { isZip, line, said } = await ask("open", bytes, { tidy: isTidy });
+  const page = await called(["page", DOCUMENT]).catch(goBack);
+  opened = { name, bytes, isZip, isTidy, count: countIn(line), said, isShown: false };
+  others.clear();
+  locks.length = 0;
+  forgetEarlier();
+  showLocks();
+  element("name").textContent = name;
+  element("count").textContent = counted(opened.count, "change");
+  document.title = name + " - Redline";
+  document.body.dataset.state = "open";
+  element("form").value = isZip ? "docx" : "xml";
+  isUnsaved = false;
+  await showPage(page);
+  performance.mark("shown");
+  await refresh();
+}
+
+/**
+ * Gives the document and the journals of the screen to the worker again, since the new one can't be shown.
+ * @param {any} error
+ */
+async function goBack(error) {
+  if (opened) {
+    await ask("open", opened.bytes, { tidy: opened.isTidy });
+    for (const { key, bytes } of others.values()) await ask("keep", key, bytes);
+    forgetEarlier();
+  }
+  throw error;
+}
