@@ -2,7 +2,7 @@
 import os
 import subprocess
 
-from desk_seen import DOCX, FLATOPC, REDLINE, Desk, example, for_package, output, read, unpacked
+from desk_seen import DOCX, FLATOPC, REDLINE, Desk, built, example, for_package, output, read, unpacked
 from page_seen import EXAMPLES, same, told, wait
 
 NAMES = ["ann", "bob", "cara"]
@@ -153,4 +153,15 @@ def second_sitting(driven):
     same("and both are one journal", it.saves("#save-both", "contract.both.journal"), example("contract.resumed.journal"))
 
 
-CASES = [package_round, docx_round, locks_and_ranks, second_sitting]
+def sent_along(driven):
+    """A desk with a document and a journal in it opens ready."""
+    file = os.path.join(driven.folder, "sent.html")
+    contract, journal = os.path.join(EXAMPLES, "contract.xml"), os.path.join(EXAMPLES, JOURNALS[0])
+    made = subprocess.run([DOCX, "desk", contract, journal, "-o", file], env={**os.environ, "REDLINE_DESK": built()}, check=False, capture_output=True)
+    told("redline-docx desk", made.returncode == 0, made.stderr.decode())
+    it = Desk(driven, file)
+    told("it opens with its document and journal", it.wait("document.getElementById('message').textContent.includes('was added')"), it.message())
+    same("which are those", [it.text("#name"), it.text("#count"), it.text("#others-badge")], ["contract.xml", "49 changes", "1"])
+
+
+CASES = [package_round, docx_round, locks_and_ranks, second_sitting] + [sent_along] * bool(REDLINE)

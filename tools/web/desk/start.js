@@ -1,7 +1,7 @@
 // The start: files that are chosen, dropped or come with the page, the steps, and the keyboard.
 "use strict";
 
-/** @typedef {{ name: string, bytes: Uint8Array }} Given */
+/** @typedef {{ name: string, bytes: Uint8Array, isTidy?: boolean }} Given */
 
 const LARGEST_FILE = 2 ** 28;
 
@@ -35,7 +35,7 @@ function isJournal({ name, bytes }) {
  * Opens a document; one that only has changes of formatting out of place can be opened tidied.
  * @param {Given} file
  */
-async function openFile(file, isTidy = false) {
+async function openFile(file, isTidy = file.isTidy ?? false) {
   if (opened && isUnsaved && !(await agreed("You have decided changes that are in no saved file yet. Open another document all the same?", "Open it"))) return;
   try {
     await openDocument(file, isTidy);
@@ -193,7 +193,7 @@ async function givenFiles() {
   const text = element("given").textContent.trim();
   if (!text) return [];
   const { document: one, journals } = JSON.parse(text);
-  return Promise.all([one, ...journals].map(async ({ name, bytes }) => ({ name, bytes: await unpacked(bytes) })));
+  return Promise.all([one, ...journals].map(async ({ name, bytes, tidy }) => ({ name, bytes: await unpacked(bytes), isTidy: tidy })));
 }
 
 // The start
