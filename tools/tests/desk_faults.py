@@ -171,8 +171,12 @@ addEventListener("message", () => {
 
 def too_little(driven):
     """What a browser lacks: WebAssembly, memory, stack."""
-    it = Desk(driven, altered(driven, "WebAssembly = undefined;"))
-    told("a browser without WebAssembly", it.is_fault() and "can't run Redline" in it.message() and "administrator" in it.message(), it.message())
+    for lack, script in [
+        ("WebAssembly", "WebAssembly = undefined;"),
+        ("a part of WebAssembly", "WebAssembly.compile = async () => { throw new WebAssembly.CompileError('invalid opcode'); };"),
+    ]:
+        it = Desk(driven, altered(driven, script))
+        told("a browser without " + lack, it.is_fault() and "can't run Redline" in it.message() and "administrator" in it.message(), it.message())
     for word, script, what in [
         ("memory", "put(2, new TextEncoder().encode('redline: no memory\\n')); return { status: 8, memory: 0 };", "too little memory"),
         ("stack", "throw new RangeError('Maximum call stack size exceeded');", "Try another browser"),

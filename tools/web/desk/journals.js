@@ -135,7 +135,7 @@ function showJournals() {
     name,
     Array.from(reviewers.keys()).slice(0, 5).join(", ") + (reviewers.size > 5 ? " and " + (reviewers.size - 5) + " more" : ""),
     Array.from(reviewers.values()).reduce((sum, it) => sum + it, 0),
-    button("Take away", guarded(() => takeAway(key)), { ariaLabel: "Take " + name + " away" }),
+    button("Take away", guarded(() => takeAway(key)), { "aria-label": "Take " + name + " away" }),
   ]);
   element("journals").replaceChildren(...(rows.length ? [table("", ["File", "Reviewer", "#Decisions", ""], rows)] : []));
   element("others-badge").textContent = others.size ? others.size.toLocaleString("en") : "";

@@ -46,7 +46,7 @@ function showLocks() {
       locks.splice(at, 1);
       await locksChanged();
     });
-    return make("li", {}, make("span", { textContent: lockInWords(lock) }), button("Unlock", unlock, { ariaLabel: "Unlock " + lockInWords(lock) }));
+    return make("li", {}, make("span", { textContent: lockInWords(lock) }), button("Unlock", unlock, { "aria-label": "Unlock " + lockInWords(lock) }));
   }));
 }
 

@@ -78,7 +78,7 @@ function whoSaid({ says }, word, className) {
 function changesTable(caption, rows) {
   const heads = ["#No.", "Change", "Kind", "Author", "Accept", "Reject"];
   return table(caption, heads, rows.map((row) => [
-    make("th", { className: "number", scope: "row" }, button(String(row.number), () => goTo(row.number), { ariaLabel: "Show change " + row.number })),
+    make("th", { className: "number", scope: "row" }, button(String(row.number), () => goTo(row.number), { "aria-label": "Show change " + row.number })),
     wordsOf(row), KINDS[row.kind], make("bdi", { className: "who", textContent: row.author || "no name" }),
     whoSaid(row, "accept", "yes"), whoSaid(row, "reject", "no"),
   ]));

@@ -130,7 +130,7 @@ const NEEDS = {
 function choose(step) {
   for (const it of STEPS) {
     element(it).hidden = it !== step;
-    element("tab-" + it).ariaSelected = String(it === step);
+    element("tab-" + it).setAttribute("aria-selected", String(it === step));
     element("tab-" + it).tabIndex = it === step ? 0 : -1;
   }
   if (NEEDS[step]) guarded(NEEDS[step])();
@@ -226,6 +226,15 @@ function ownDecisions() {
 
 addEventListener("keydown", printFrame);
 
+/**
+ * What keeps the program from starting is the browser's.
+ * @param {any} error
+ * @returns {never}
+ */
+function cannotRun(error) {
+  throw new ActionError("browser", String(error?.message ?? error));
+}
+
 guarded(async () => {
   acceptDrops(window);
   prepareSteps();
@@ -233,7 +242,7 @@ guarded(async () => {
   prepareSaving();
   prepareSittings();
   prepareButtons();
-  element("version").textContent = (await program.start()).replace("\n", ", ");
+  element("version").textContent = (await program.start().catch(cannotRun)).replace("\n", ", ");
   document.body.dataset.state = "ready";
   performance.mark("ready");
   const given = await givenFiles();
