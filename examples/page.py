@@ -240,8 +240,9 @@ def policy(style, script):
 # The files of the style and of the script, in the order in which they are put together.
 STYLES = ["base", "bar", "document", "changes", "views", "list", "dialogs", "media"]
 SCRIPTS = [
-    "elements", "kinds", "facts", "bars", "dialogs", "signs", "views", "document", "dress", "excerpts", "list", "picture", "words",
-    "chosen", "decisions", "undo", "filters", "store", "opening", "names", "journal", "summary", "help", "keys", "outside", "start",
+    "elements", "kinds", "facts", "bars", "dialogs", "signs", "views", "document", "dress", "excerpts", "list", "words", "verdicts",
+    "blocks", "passes", "picture", "chosen", "decisions", "undo", "filters", "store", "opening", "names", "journal", "summary", "help",
+    "keys", "outside", "start",
 ]
 
 

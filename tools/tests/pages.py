@@ -16,13 +16,14 @@ import page_round
 import page_signs
 import page_sizes
 import page_store
+import page_views
 import page_work
 from chromium import Chromium
 from firefox import Firefox
 from page_seen import IS_OWN, LOCK, REVIEWERS, Seen, page_of, second_page, told
 
 BROWSERS = [Chromium, Firefox]
-MODULES = [page_round, page_store, page_work, page_looks, page_sizes, page_signs, page_hostile, page_large]
+MODULES = [page_round, page_store, page_work, page_looks, page_sizes, page_signs, page_views, page_hostile, page_large]
 CASES = [case for module in MODULES for case in module.CASES]
 
 

@@ -2,7 +2,7 @@
 
 /// The security policy of the page: its own style and script alone, and nothing is ever fetched.
 pub const POLICY: &str =
-    "default-src 'none'; script-src 'sha256-Ij0wtFGENXzaO53EYYcwLUaOMHy5KhbzaQjsqZRb0Rs='; style-src 'sha256-t+8w49VGGLphayXda2L2Ahk6vTOE20VYYPU/UVaWyXI='; base-uri 'none'; form-action 'none'; require-trusted-types-for 'script'; trusted-types 'none'";
+    "default-src 'none'; script-src 'sha256-Z21u4nvYI5YKnF/9HUhtgoCtA1lw5bWuZMBVS/kobPs='; style-src 'sha256-ZQTj28ti0YZe7DJ0a/9mSgLzlGqQfS4IBIWdmM+/lCQ='; base-uri 'none'; form-action 'none'; require-trusted-types-for 'script'; trusted-types 'none'";
 
 /// The style sheet of the page.
 pub const STYLE: &str = "/* colours, and what all elements share */
@@ -77,6 +77,7 @@ main p, main .p { position: relative; margin: 0 0 .6rem; min-height: 1.6em; whit
 table { margin: .4rem 0 1.2rem; width: 100%; border-collapse: collapse; position: relative; }
 tr, td { position: relative; }
 td { border: 1px solid var(--rule); padding: .2rem .5rem; vertical-align: top; }
+td.merged { border-top: hidden; }
 td > p:last-child { margin: 0; }
 /* a long table is boxes in place of a table, so that rows that are far cost nothing */
 .long, .long > tbody { display: block; }
@@ -128,16 +129,33 @@ main .text[aria-current] { background: color-mix(in srgb, var(--focus) 10%, tran
 [data-view=\"marks\"] main :is(ins[data-say=\"accept\"], del[data-say=\"reject\"]) { text-decoration: underline dotted 1px; }
 [data-view=\"marks\"] main :is(ins[data-say=\"reject\"], del[data-say=\"accept\"]) { text-decoration: line-through 2px; }
 
-/* the views without marks: what is decided is as decided; the rest is as if accepted, or as if rejected */
-main:is([data-view=\"final\"] *, [data-view=\"original\"] *) :is(ins, del) { color: inherit; text-decoration: none; }
-main:is([data-view=\"final\"] *, [data-view=\"original\"] *) :is(.mark, .cell, .edge, .props, a) { display: none; }
-[data-view=\"final\"] main :is(del.text:not([data-say=\"reject\"]), ins.text[data-say=\"reject\"]),
-[data-view=\"final\"] main tr:has(> td > .edge > :is(del:not([data-say=\"reject\"]), ins[data-say=\"reject\"])),
-[data-view=\"final\"] main td:has(> :is(del.cell:not([data-say=\"reject\"]), ins.cell[data-say=\"reject\"])),
-[data-view=\"original\"] main :is(ins.text:not([data-say=\"accept\"]), del.text[data-say=\"accept\"]),
-[data-view=\"original\"] main tr:has(> td > .edge > :is(ins:not([data-say=\"accept\"]), del[data-say=\"accept\"])),
-[data-view=\"original\"] main td:has(> :is(ins.cell:not([data-say=\"accept\"]), del.cell[data-say=\"accept\"])) { display: none; }
+/* the views without marks: what is decided is as decided; the rest is as if accepted, or as if rejected, and tinted */
+:is([data-view=\"final\"], [data-view=\"original\"]) main :is(ins, del) { color: inherit; text-decoration: none; }
+:is([data-view=\"final\"], [data-view=\"original\"]) main :is(.mark, .cell, .edge, .props, a, .gone) { display: none; }
+:is([data-view=\"final\"], [data-view=\"original\"]) main :is(del.text[data-verdict=\"accept\"], ins.text[data-verdict=\"reject\"]) { display: none; }
+:is([data-view=\"final\"], [data-view=\"original\"]) main :is(ins, del):not([data-verdict=\"accept\"], [data-verdict=\"reject\"]) { background: var(--open); }
+:is([data-view=\"final\"], [data-view=\"original\"]) main :is(ins, del)[data-verdict=\"disputed\"] { background: var(--disputed); }
 :is([data-view=\"final\"], [data-view=\"original\"]) main tr { background: none; }
+:is([data-view=\"final\"], [data-view=\"original\"]) main :is(tr, td).undecided { background: var(--open); }
+#view-line { flex-basis: 100%; margin: 0; color: var(--soft); }
+#view-line:empty { display: none; }
+
+/* text that goes by what isn't decided leaves a sign, and so do a row and the end of a paragraph */
+[data-view=\"final\"] main del.text:not([data-verdict=\"accept\"], [data-verdict=\"reject\"]),
+[data-view=\"original\"] main ins.text:not([data-verdict=\"accept\"], [data-verdict=\"reject\"]) { font-size: 0; visibility: hidden; }
+[data-view=\"final\"] main del.text:not([data-verdict=\"accept\"], [data-verdict=\"reject\"]) > *,
+[data-view=\"original\"] main ins.text:not([data-verdict=\"accept\"], [data-verdict=\"reject\"]) > * { display: none; }
+[data-view=\"final\"] main del.text:not([data-verdict=\"accept\"], [data-verdict=\"reject\"])::before,
+[data-view=\"original\"] main ins.text:not([data-verdict=\"accept\"], [data-verdict=\"reject\"])::before { content: \"\\2038\"; visibility: visible; font-size: 1rem; background: inherit; padding: 0 .1em; }
+:is([data-view=\"final\"], [data-view=\"original\"]) main .mark:not([data-verdict=\"accept\"], [data-verdict=\"reject\"]) { display: inline; font-size: .75rem; }
+:is([data-view=\"final\"], [data-view=\"original\"]) main tr.gone.undecided { display: block; height: .5rem; overflow: hidden; visibility: hidden; }
+:is([data-view=\"final\"], [data-view=\"original\"]) main tr.gone.undecided > * { display: none; }
+:is([data-view=\"final\"], [data-view=\"original\"]) main tr.gone.undecided::before { content: \"\"; display: block; height: 100%; visibility: visible; background: repeating-linear-gradient(135deg, var(--open) 0 4px, var(--soft) 4px 5px); }
+
+/* joined paragraphs are one, and one that may have gone says so */
+main .joined { position: relative; margin: 0 0 .6rem; min-height: 1.6em; }
+main .joined > :is(p, .p) { display: inline; font: inherit; }
+:is([data-view=\"final\"], [data-view=\"original\"]) main .doubt::after { content: \"In the written document this empty paragraph may be gone.\"; font: italic .8rem system-ui, \"Liberation Sans\", sans-serif; color: var(--soft); }
 
 /* the list of changes */
 aside { grid-area: list; display: flex; flex-direction: column; min-height: 0; overflow: auto; border-left: 1px solid var(--rule); background: var(--paper); font-size: .9rem; }
@@ -445,12 +463,133 @@ function showUnseen(part) {
   for (const node of found) node.replaceWith(...signed(node.data));
 }
 
-// The three views of the document.
+// The three views of the document, and what becomes of it in those without marks.
 
 const views = make(\"fieldset\", {}, make(\"legend\", { textContent: \"View\" }), ...[\"marks\", \"final\", \"original\"].map((value) =>
   make(\"label\", {}, make(\"input\", { type: \"radio\", name: \"view\", value, checked: value === \"marks\" }), value)));
 
-views.addEventListener(\"change\", ({ target }) => (document.body.dataset.view = target.value));
+// The lists of the elements that have some, and the groups that are joined in a list, by their first paragraph.
+const listsOf = new Map();
+const joinedOf = new Map();
+
+views.addEventListener(\"change\", ({ target }) => seeAs(target.value));
+
+function viewNow() {
+  return document.body.dataset.view;
+}
+
+function seeAs(view) {
+  document.body.dataset.view = view;
+  if (view === \"marks\") Array.from(joinedOf.keys(), takeApart);
+  else {
+    drawVerdicts();
+    seeLists(listedElements());
+  }
+  captionView();
+}
+
+// The elements with lists in which paragraphs may be joined, rows or cells may go.
+function listedElements() {
+  return new Set(Array.from(main.querySelectorAll(\".mark, .row, .cell\"), listedElement));
+}
+
+function listedElement(member) {
+  const block = member.closest(member.matches(\".row, .cell\") ? \"table\" : \"p, .p\") || member;
+  return block.parentElement.closest(\"td, .box, section\");
+}
+
+function seeLists(elements) {
+  for (const it of elements) {
+    if (!listsOf.has(it)) listsOf.set(it, listsIn(it));
+    for (const list of listsOf.get(it)) seeList(list, REST[viewNow()]);
+  }
+}
+
+// Shows what both passes leave of a list.
+function seeList(list, rest) {
+  const { left, doubts } = leftOf(list, rest);
+  const stay = new Set(left.flat());
+  for (const node of list) {
+    if (isElement(node, \"table\")) seeTable(node, rest);
+    if (!isElement(node, PARAGRAPH)) continue;
+    node.classList.toggle(\"gone\", !stay.has(node));
+    node.classList.toggle(\"doubt\", doubts.has(node));
+  }
+  seeJoined(list, left.filter((group) => group.filter((it) => isElement(it, PARAGRAPH)).length > 1));
+}
+
+function seeTable(table, rest) {
+  const [first, second] = passes(rest);
+  const goes = goesBy((member) => cuts(member, first(member) || second(member)));
+  table.classList.toggle(\"gone\", goes.table(table));
+  for (const row of table.rows) {
+    const its = [row, ...row.cells];
+    for (const it of its) {
+      const members = membersOf(it);
+      it.classList.toggle(\"gone\", (it === row ? goes.row : goes.cell)(it));
+      it.classList.toggle(\"undecided\", members.some((member) => !first(member)));
+    }
+  }
+}
+
+// Joined paragraphs stand in one element that looks like the last of them.
+
+function seeJoined(list, groups) {
+  const former = joinedOf.get(list) || new Map();
+  const wanted = new Map(groups.map((group) => [group[0], group]));
+  for (const [start, it] of former) if (!isSame(it.group, wanted.get(start))) undoJoin(it), former.delete(start);
+  for (const [start, group] of wanted) if (!former.has(start)) former.set(start, join(group));
+  joinedOf.set(list, former);
+}
+
+function isSame(one, other) {
+  return other !== undefined && one.length === other.length && one.at(-1) === other.at(-1);
+}
+
+// What is between the paragraphs goes in with them, but for line ends of the page itself.
+function join(group) {
+  const last = group.at(-1);
+  const around = make(\"div\", { className: \"joined\" });
+  const froms = new Map();
+  group[0].before(around);
+  for (const node of group.filter((it) => it.nodeType !== Node.TEXT_NODE)) {
+    const parent = node.parentNode;
+    froms.set(parent, [...(froms.get(parent) || []), node]);
+    around.append(node);
+    unhead(node);
+  }
+  if (last.dataset.style) around.dataset.style = last.dataset.style;
+  around.dir = last.dir;
+  head(around);
+  return { group, around, froms };
+}
+
+function undoJoin({ group, around, froms }) {
+  const [[, ahead], ...others] = Array.from(froms);
+  around.replaceWith(...ahead);
+  for (const [parent, nodes] of others) parent.prepend(...nodes);
+  group.filter((it) => isElement(it, PARAGRAPH)).forEach(head);
+}
+
+function takeApart(list) {
+  joinedOf.get(list).forEach(undoJoin);
+  joinedOf.delete(list);
+}
+
+// What a view shows, in a line above the document.
+
+const viewLine = make(\"p\", { id: \"view-line\", role: \"status\" });
+
+const SEEN_AS = { final: [\"The text that is written once the rest is accepted\", \"accepted\"], original: [\"The text that is written once the rest is rejected\", \"rejected\"] };
+
+function captionView() {
+  const [text, rest] = SEEN_AS[viewNow()] || [];
+  const verdicts = text ? Array.from(rows.keys(), verdictAt) : [];
+  const [open, disputed] = [\"open\", \"disputed\"].map((it) => verdicts.filter((verdict) => verdict === it).length);
+  const some = [open ? open + \" open\" : \"\", disputed ? disputed + \" disputed\" : \"\"].filter(Boolean).join(\" and \");
+  viewLine.textContent = !text ? \"\" : text + \". \" + (some ? \"Tinted: \" + some + \", shown as \" + rest + \".\" : \"All is decided.\") +
+    (main.querySelector(\".doubt\") ? \" Where it isn't known whether an empty paragraph stays, it says so.\" : \"\");
+}
 
 // The document: its stories, its headings, and where a change is in it.
 
@@ -459,6 +598,7 @@ const FAR = 100;
 const STORIES = { hdr: \"Header\", ftr: \"Footer\", footnotes: \"Footnotes\", endnotes: \"Endnotes\", comments: \"Comments\" };
 
 function arrange() {
+  document.querySelector(\"header\").append(viewLine);
   for (const it of main.querySelectorAll('[data-style^=\"Heading\"], [data-style=\"Title\"]')) head(it);
   nameStories();
   for (const edge of Array.from(main.querySelectorAll(\"td.edge\"))) bringIn(edge);
@@ -521,6 +661,11 @@ function head(paragraph) {
   if (!/^(Heading|Title$)/.test(style)) return;
   paragraph.setAttribute(\"role\", \"heading\");
   paragraph.setAttribute(\"aria-level\", Math.min(6, 2 + (parseInt(style.slice(7), 10) || 0)));
+}
+
+function unhead(paragraph) {
+  paragraph.removeAttribute(\"role\");
+  paragraph.removeAttribute(\"aria-level\");
 }
 
 // The place of the change that an element of the document is of.
@@ -846,21 +991,6 @@ function watchRows() {
   addEventListener(\"resize\", measure);
 }
 
-// The picture of a word: what a row and the places of a change show of it.
-
-function redraw(at) {
-  const word = words[at];
-  for (const it of [rows[at], ...placesOf(rows[at])]) {
-    if (word) it.dataset.say = word;
-    else delete it.dataset.say;
-  }
-  press(rows[at]);
-}
-
-function redrawAll() {
-  rows.forEach((_, at) => redraw(at));
-}
-
 // The words: what the reviewer says of each change. They are held by index, which is the number less one; the rows of the
 // list and the elements of the document only show them.
 
@@ -940,6 +1070,224 @@ function tallied(said) {
 
 function many(count, one) {
   return count + \" \" + one + (count === 1 ? \"\" : \"s\");
+}
+
+// Verdicts: what the journals of this page and the reviewer's own words come to on a change.
+
+// The reviewer's own rank, where who sent the page gave one.
+const ownRank = Number(document.body.dataset.rank || 0);
+
+// The verdict on the change at a place. A word that is decided here replaces what the journals have of its reviewer. Of
+// the words that aren't withdrawn those with the highest rank count, and two of them that differ are a dispute.
+function verdictAt(at) {
+  if (!words[at]) return rows[at].dataset.verdict;
+  const others = saysOn(at).filter((it) => it.who !== reviewer);
+  const said = [...others, { word: words[at], rank: ownRank }].filter((it) => it.word !== \"withdraw\");
+  const highest = Math.max(...said.map((it) => it.rank));
+  const deciding = new Set(said.filter((it) => it.rank === highest).map((it) => it.word));
+  return deciding.size > 1 ? \"disputed\" : Array.from(deciding)[0] || \"open\";
+}
+
+function isDecided(verdict) {
+  return verdict === \"accept\" || verdict === \"reject\";
+}
+
+// Lists of blocks, and what a pass leaves of one: which paragraphs are joined and which go, as in the document that is
+// written.
+//
+// The page is written so that each list can be read off it. The kids of a story, a cell or a text box are blocks; a comment
+// `list` begins another list in the one around it, and a comment `other` begins a block whose paragraphs never join.
+
+const PARAGRAPH = \"p, .p\";
+
+function isElement(node, selector) {
+  return node.nodeType === Node.ELEMENT_NODE && node.matches(selector);
+}
+
+// The nodes of a story, a cell or a text box, without what the script put around some of them.
+function* nodesOf(root) {
+  for (const node of root.childNodes) {
+    if (isElement(node, \".far, .joined\")) yield* nodesOf(node);
+    else yield node;
+  }
+}
+
+// Its lists. A comment stands in a list for the list or the other block that it begins.
+function listsIn(root) {
+  const lists = [[]];
+  const around = [lists[0]];
+  const begin = (list) => {
+    around.unshift(list);
+    if (!list.isOther) lists.push(list);
+  };
+  for (const node of nodesOf(root)) {
+    const word = node.nodeType === Node.COMMENT_NODE ? node.data : \"\";
+    if (word.startsWith(\"/\")) around.shift();
+    else around[0].push(node);
+    if (word === \"list\" || word === \"other\") begin(Object.assign([], { isOther: word === \"other\" || around[0].isOther }));
+  }
+  return lists;
+}
+
+// A block by itself. What else is in a list stands between two blocks.
+function isThick(node) {
+  return node.nodeType === Node.COMMENT_NODE || isElement(node, \"p, .p, table, details\");
+}
+
+// What one pass leaves of a list of groups, each of which is a node, or the nodes of several paragraphs that were joined.
+// A paragraph whose end is cut is joined with the next block where that is a paragraph. Before any other block it goes
+// where it holds nothing.
+function passOver(groups, { isCut, holds }) {
+  const left = [];
+  let joined = [];
+  groups.forEach((group, at) => {
+    const isJoining = joined.length > 0;
+    joined.push(...group);
+    const last = group.at(-1);
+    const isEnd = isElement(last, PARAGRAPH);
+    const next = isEnd && isCut(last) ? nextBlock(groups, at) : null;
+    if (isEnd ? next && isElement(next, PARAGRAPH) : isJoining) return;
+    if (!next || holds(joined)) left.push(joined);
+    joined = [];
+  });
+  return left;
+}
+
+function nextBlock(groups, from) {
+  for (let at = from + 1; at < groups.length; at += 1) if (isThick(groups[at].at(-1))) return groups[at].at(-1);
+  return null;
+}
+
+// What a view shows of the document: that of the written document after all that is decided in the journals and here, with
+// the rest accepted, or rejected.
+
+const REST = { final: \"accept\", original: \"reject\" };
+
+// Whether a paragraph that shows nothing has a comment `holds` where it holds an element in no change.
+const TELLS_HELD = false;
+
+function isDecided(verdict) {
+  return verdict === \"accept\" || verdict === \"reject\";
+}
+
+// A pass decides some changes: the first one those with a verdict, and the second one the rest. It has a word on the
+// change of a member, or none.
+function passes(rest) {
+  const first = (member) => (isDecided(verdictAt(placeOf(member))) ? verdictAt(placeOf(member)) : \"\");
+  return [first, (member) => (first(member) ? \"\" : rest)];
+}
+
+function cuts(member, word) {
+  return word !== \"\" && (member.localName === \"del\") === (word === \"accept\");
+}
+
+// The marks of a paragraph, which are its last elements.
+function marksOf(paragraph) {
+  const found = [];
+  for (let it = paragraph.lastElementChild; it && it.matches(\".mark\"); it = it.previousElementSibling) found.push(it);
+  return found;
+}
+
+// Tables: a cell goes where one of its members is cut, a row also where all its cells go, and a table where all rows go.
+
+function membersOf(it) {
+  return Array.from(it.querySelectorAll(it.localName === \"tr\" ? \":scope > td > .edge > :is(ins, del)\" : \":scope > .cell\"));
+}
+
+function allGo(items, goes) {
+  return items.length > 0 && items.every(goes);
+}
+
+function goesBy(isCut) {
+  const cell = (it) => membersOf(it).some(isCut);
+  const row = (it) => membersOf(it).some(isCut) || allGo(Array.from(it.cells), cell);
+  const table = (it) => allGo(Array.from(it.rows), row);
+  return { cell, row, table };
+}
+
+// Whether a joined group holds an element. The page doesn't show every one, so of a paragraph and of content that show
+// nothing it isn't known; they are then taken to stay, and are among the doubts.
+function holdsBy(isCut, isLeft, doubts) {
+  const isContent = (it) => isElement(it, \"ins.text, del.text\");
+  const isSeen = (it) => (it.nodeType === Node.COMMENT_NODE ? !it.data.startsWith(\"/\") : !isElement(it, \".mark, .props, a\"));
+  const one = (node) => {
+    if (!isContent(node)) return isSeen(node) || (isElement(node, \"a\") && isLeft(node)) ? \"yes\" : \"no\";
+    if (isCut(node)) return \"no\";
+    const kids = Array.from(node.childNodes);
+    return isLeft(node) || kids.some((it) => !isContent(it)) ? \"yes\" : kids.length ? has(kids) : \"maybe\";
+  };
+  const has = (kids) => {
+    const found = kids.map(one);
+    return found.includes(\"yes\") ? \"yes\" : found.includes(\"maybe\") ? \"maybe\" : \"no\";
+  };
+  return (group) => {
+    const found = has(group.flatMap((node) => (isElement(node, PARAGRAPH) ? Array.from(node.childNodes) : [])));
+    const isDoubtful = found === \"maybe\" || (found === \"no\" && !TELLS_HELD);
+    if (isDoubtful) doubts.add(group.at(-1));
+    return isDoubtful || found === \"yes\";
+  };
+}
+
+// The groups that both passes leave of a list, and the paragraphs of which it isn't known whether they stay.
+function leftOf(list, rest) {
+  const doubts = new Set();
+  const [first, second] = passes(rest);
+  const isCutFirst = (member) => cuts(member, first(member));
+  const isCut = (member) => cuts(member, first(member) || second(member));
+  const goesFirst = goesBy(isCutFirst).table;
+  const groups = passOver(list.map((node) => [node]), {
+    isCut: (paragraph) => marksOf(paragraph).some(isCutFirst),
+    holds: holdsBy(isCutFirst, (member) => !first(member), doubts),
+  });
+  const stay = groups.filter(([node]) => !isElement(node, \"table\") || !goesFirst(node));
+  const left = passOver(stay, {
+    isCut: (paragraph) => marksOf(paragraph).some((mark) => cuts(mark, second(mark))),
+    holds: holdsBy(isCut, () => false, doubts),
+  });
+  return { left, doubts };
+}
+
+// How words and verdicts are shown: on the row of a change, on its buttons, and on its elements in the document.
+
+// Places whose words changed since they were drawn, and those whose verdicts did.
+let undrawn = new Set();
+let unjudged = new Set(rows.keys());
+
+function redraw(at) {
+  if (!undrawn.size) queueMicrotask(drawWords);
+  undrawn.add(at);
+}
+
+function redrawAll() {
+  for (const at of rows.keys()) redraw(at);
+}
+
+function drawWords() {
+  const now = undrawn;
+  undrawn = new Set();
+  for (const at of now) {
+    for (const it of [rows[at], ...placesOf(rows[at])]) set(it, \"say\", words[at]);
+    press(rows[at]);
+    unjudged.add(at);
+  }
+  if (viewNow() === \"marks\") return;
+  drawVerdicts();
+  seeLists(new Set(Array.from(now).flatMap((at) => placesOf(rows[at]).map(listedElement))));
+  captionView();
+}
+
+function drawVerdicts() {
+  for (const at of unjudged) {
+    const verdict = verdictAt(at);
+    for (const it of placesOf(rows[at])) set(it, \"verdict\", verdict === \"open\" ? \"\" : verdict);
+  }
+  unjudged = new Set();
+}
+
+function set(element, key, value) {
+  if ((element.dataset[key] || \"\") === value) return;
+  if (value) element.dataset[key] = value;
+  else delete element.dataset[key];
 }
 
 // The change that is chosen, and the ways to the next one.
@@ -1847,7 +2195,7 @@ const HELP = [
   [\"Decide\", \"Choose a change, in the document or in the list, and accept or reject it. The same key or button again takes your word away. A change that you leave alone is left to the others. A locked change can't be decided here. After a decision the next undecided change is chosen; \\\"Go on by itself\\\" under \\\"Filter\\\" switches that off.\"],
   [\"Withdraw\", \"Takes back what you said in an earlier round. It is there only where the page knows of an earlier word of yours: in the journals with which it was made, or in one that you saved or opened here.\"],
   [\"Many at once\", \"Filter by author, kind or state, or search. \\\"Accept these 12\\\" accepts what the filter leaves at that moment. Before another word of yours is replaced you are asked. \\\"Undo\\\" takes back one step after the other.\"],
-  [\"Views\", \"With marks you see what was inserted and deleted. \\\"final\\\" shows the document as it comes out, \\\"original\\\" as it was before.\"],
+  [\"Views\", \"With marks you see what was inserted and deleted. \\\"final\\\" shows the text that is written once the rest is accepted: what the journals and you decided is done, and what is open or disputed is tinted. \\\"original\\\" shows the rest as rejected.\"],
   [\"Your name\", \"Use the same name each time: it is how your journals are told from those of others. Where a name is nearly one that the document knows, you are asked which one you mean.\"],
   [\"Save and send\", \"\\\"Save my journal\\\" first shows what you decided, what goes against another reviewer, and what you changed. Then your browser puts the file into its folder for downloads. Send this file back. You may save again: the later journal counts above the former one.\"],
   [\"Take a break\", \"This browser keeps what you decided, for this document and your name. When the page is opened again it says what it found, and asks. Two windows of this page share their words. What is kept isn't on another computer, in a private window, or where the browser's data were cleared, and in some browsers not where the file was moved or renamed. Then use \\\"Open my journal\\\" with the file that you saved last.\"],

@@ -5,6 +5,7 @@ const FAR = 100;
 const STORIES = { hdr: "Header", ftr: "Footer", footnotes: "Footnotes", endnotes: "Endnotes", comments: "Comments" };
 
 function arrange() {
+  document.querySelector("header").append(viewLine);
   for (const it of main.querySelectorAll('[data-style^="Heading"], [data-style="Title"]')) head(it);
   nameStories();
   for (const edge of Array.from(main.querySelectorAll("td.edge"))) bringIn(edge);
@@ -67,6 +68,11 @@ function head(paragraph) {
   if (!/^(Heading|Title$)/.test(style)) return;
   paragraph.setAttribute("role", "heading");
   paragraph.setAttribute("aria-level", Math.min(6, 2 + (parseInt(style.slice(7), 10) || 0)));
+}
+
+function unhead(paragraph) {
+  paragraph.removeAttribute("role");
+  paragraph.removeAttribute("aria-level");
 }
 
 // The place of the change that an element of the document is of.

@@ -1,14 +1,42 @@
-// The picture of a word: what a row and the places of a change show of it.
+// How words and verdicts are shown: on the row of a change, on its buttons, and on its elements in the document.
+
+// Places whose words changed since they were drawn, and those whose verdicts did.
+let undrawn = new Set();
+let unjudged = new Set(rows.keys());
 
 function redraw(at) {
-  const word = words[at];
-  for (const it of [rows[at], ...placesOf(rows[at])]) {
-    if (word) it.dataset.say = word;
-    else delete it.dataset.say;
-  }
-  press(rows[at]);
+  if (!undrawn.size) queueMicrotask(drawWords);
+  undrawn.add(at);
 }
 
 function redrawAll() {
-  rows.forEach((_, at) => redraw(at));
+  for (const at of rows.keys()) redraw(at);
+}
+
+function drawWords() {
+  const now = undrawn;
+  undrawn = new Set();
+  for (const at of now) {
+    for (const it of [rows[at], ...placesOf(rows[at])]) set(it, "say", words[at]);
+    press(rows[at]);
+    unjudged.add(at);
+  }
+  if (viewNow() === "marks") return;
+  drawVerdicts();
+  seeLists(new Set(Array.from(now).flatMap((at) => placesOf(rows[at]).map(listedElement))));
+  captionView();
+}
+
+function drawVerdicts() {
+  for (const at of unjudged) {
+    const verdict = verdictAt(at);
+    for (const it of placesOf(rows[at])) set(it, "verdict", verdict === "open" ? "" : verdict);
+  }
+  unjudged = new Set();
+}
+
+function set(element, key, value) {
+  if ((element.dataset[key] || "") === value) return;
+  if (value) element.dataset[key] = value;
+  else delete element.dataset[key];
 }
