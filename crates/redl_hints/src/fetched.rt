@@ -45,6 +45,11 @@ impl Ends {
         self.last == Some(b'\n')
     }
 
+    /// Whether its last byte ends a tag or a line.
+    pub fn ends_a_tag(&self) -> bool {
+        self.last == Some(b'>') || self.ends_a_line()
+    }
+
     fn note(&mut self, bytes: &[u8]) {
         self.front.clear();
         self.length = bytes.len();

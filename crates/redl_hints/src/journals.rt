@@ -37,6 +37,11 @@ pub(crate) fn add_journal_hint(text: &Ends, hints: &mut Vec<u8>) -> Result<(), A
     Ok(())
 }
 
+/// Whether a text is a journal that ends with its head.
+pub(crate) fn has_no_entry(text: &Ends) -> bool {
+    text.is_whole() && text.front().starts_with(NAME) && text.front().lines().count() == 3
+}
+
 // What the file is where it is no text of lines as a journal has them.
 fn guess_of_form(text: &Ends) -> Option<&'static str> {
     let front = text.front();
@@ -46,15 +51,27 @@ fn guess_of_form(text: &Ends) -> Option<&'static str> {
         );
     }
     if front.starts_with(b"\xef\xbb\xbf") {
-        return Some("the journal begins with a byte order mark; save it as UTF-8 without one");
+        return Some(if front.contains_str(b"\r\n") {
+            "the journal begins with a byte order mark and has Windows line ends; save it as UTF-8 without the mark, with a newline alone at the end of each line"
+        } else {
+            "the journal begins with a byte order mark; save it as UTF-8 without one"
+        });
     }
     if front.starts_with(b"\xff\xfe") || front.starts_with(b"\xfe\xff") {
         return Some("the journal is in UTF-16; save it as UTF-8");
     }
-    if front.starts_with(b"<") || front.starts_with(b"PK") {
+    if front.starts_with(b"<") {
         return Some(
             "the journal is a document; the package comes first, and the journals after it",
         );
+    }
+    if front.starts_with(b"PK") {
+        return Some(
+            "the journal is a ZIP file, as a document of a word processor is; a journal is plain text, so take the file as it came, or save it as plain text",
+        );
+    }
+    if is_mail(front) {
+        return Some("the journal is a mail; save the file that is attached to it");
     }
     if front.contains_str(b"\r\n") {
         return Some(
@@ -62,6 +79,14 @@ fn guess_of_form(text: &Ends) -> Option<&'static str> {
         );
     }
     None
+}
+
+// Whether a file begins as a saved mail does.
+fn is_mail(front: &[u8]) -> bool {
+    front.starts_with(b"From")
+        || front.starts_with(b"Return-Path:")
+        || front.starts_with(b"Received:")
+        || front.starts_with(b"MIME-Version:")
 }
 
 // The version that the first line names, where it is another one.

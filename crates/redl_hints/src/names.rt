@@ -23,7 +23,19 @@ fn add_reviewer_hints(name: &[u8], hints: &mut Vec<u8>) -> Result<(), AllocError
     if has_odd_spaces(name) {
         add_hint(
             hints,
-            "the reviewer's name begins or ends with a space, or has two in a row; with other spaces it is another reviewer",
+            "the reviewer's name begins or ends with a space, or has two in a row or a no-break space; with other spaces it is another reviewer",
+        )?;
+    }
+    if name.starts_with(b"-") {
+        add_hint(
+            hints,
+            "the reviewer's name begins with a dash; options come after the reviewer",
+        )?;
+    }
+    if is_selection(name) {
+        add_hint(
+            hints,
+            "the reviewer's name looks like a choice; the reviewer comes after the package, and choices after --accept or --reject",
         )?;
     }
     if is_file_name(name) {
@@ -39,7 +51,7 @@ fn add_author_hints(name: &[u8], hints: &mut Vec<u8>) -> Result<(), AllocError> 
     if has_odd_spaces(name) {
         add_hint(
             hints,
-            "a locked author's name begins or ends with a space, or has two in a row; only exactly this author is locked",
+            "a locked author's name begins or ends with a space, or has two in a row or a no-break space; only exactly this author is locked",
         )?;
     }
     if is_file_name(name) {
@@ -51,11 +63,18 @@ fn add_author_hints(name: &[u8], hints: &mut Vec<u8>) -> Result<(), AllocError> 
     Ok(())
 }
 
-// Whether a name begins or ends with a space, or has two in a row.
+fn is_selection(name: &[u8]) -> bool {
+    name.starts_with(b"author:")
+        || name.starts_with(b"kind:")
+        || name.starts_with(b"numbers:")
+        || name.starts_with(b"span:")
+}
+
+// Whether a name begins or ends with a space, or has two in a row, or a no-break space (U+00A0).
 fn has_odd_spaces(name: &[u8]) -> bool {
     name.first() == Some(&b' ')
         || name.last() == Some(&b' ')
-        || name.windows(2).any(|pair| pair == b"  ".as_slice())
+        || name.windows(2).any(|pair| pair == b"  ".as_slice() || pair == b"\xc2\xa0".as_slice())
 }
 
 fn is_file_name(name: &[u8]) -> bool {

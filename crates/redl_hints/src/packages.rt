@@ -17,7 +17,15 @@ pub(crate) fn guess_of_package(text: &Ends) -> Option<&'static str> {
     let front = &whole[..FRONT.min(whole.len())];
     match guess_by_first_bytes(front) {
         Some(guess) => Some(guess),
-        None => guess_by_text(front),
+        None => match guess_by_text(front) {
+            Some(guess) => Some(guess),
+            None if front.contains_str(b"<pkg:package") && !text.ends_a_tag() => {
+                Some(
+                    "the package does not end with a tag, so the file was cut off; copy or save it once more",
+                )
+            }
+            None => None,
+        },
     }
 }
 
@@ -42,6 +50,14 @@ fn guess_by_first_bytes(front: &[u8]) -> Option<&'static str> {
     }
     if front.starts_with(b"%PDF") {
         return Some("the package is a PDF");
+    }
+    if front.starts_with(b"\x1f\x8b") {
+        return Some("the package is compressed by gzip; unpack it first, as with gunzip");
+    }
+    if front.starts_with(b"UEsDB") {
+        return Some(
+            "the package is a ZIP file in base64, as mail carries it; save the attachment once more, or decode it with base64 -d",
+        );
     }
     if front.starts_with(b"redline-journal") {
         return Some(

@@ -8,6 +8,8 @@ use std::alloc::AllocError;
 /// `decide` a word that is none. `Err` means out of memory.
 pub(crate) fn add_place_hints(words: &[Text], hints: &mut Vec<u8>) -> Result<(), AllocError> {
     match words {
+        // (a dash or a quote of a word processor has a hint of its own)
+        _ if words.iter().any(|word| has_long_letter(word.as_bytes())) => Ok(()),
         [_, first, ..] if first.as_bytes().starts_with(b"-") => {
             add_hint(
                 hints,
@@ -23,6 +25,13 @@ pub(crate) fn add_place_hints(words: &[Text], hints: &mut Vec<u8>) -> Result<(),
         }
         _ => Ok(()),
     }
+}
+
+// Whether a word has a dash or a quote of a word processor: U+2012 to U+201F, whose first two bytes are these.
+fn has_long_letter(word: &[u8]) -> bool {
+    word.windows(3).any(|bytes| bytes[0] == 0xe2
+        && bytes[1] == 0x80
+        && (0x92..=0x9f).contains(&bytes[2]))
 }
 
 fn add_reviewer_hint(name: &[u8], hints: &mut Vec<u8>) -> Result<(), AllocError> {

@@ -3,7 +3,7 @@
 use crate::choices::add_choice_hint;
 use crate::fetched::Ends;
 use crate::hint::add_hint;
-use crate::journals::add_journal_hint;
+use crate::journals::{add_journal_hint, has_no_entry};
 use crate::names::add_name_hints;
 use crate::packages::guess_of_package;
 use crate::rules::sentence_of_rule;
@@ -51,10 +51,24 @@ fn hints_of(
             return Ok(hints);
         }
         Some(line) => add_refusal_hint(line, text, &mut hints)?,
-        None => add_choice_hint(words, out, &mut hints)?,
+        None => {
+            add_choice_hint(words, out, &mut hints)?;
+            add_entry_hint(text, &mut hints)?;
+        }
     }
     add_name_hints(words, &mut hints)?;
     Ok(hints)
+}
+
+// A hint where the last journal that was read decides nothing.
+fn add_entry_hint(text: &Ends, hints: &mut Vec<u8>) -> Result<(), AllocError> {
+    if has_no_entry(text) {
+        return add_hint(
+            hints,
+            "the last journal has no entry, so it decides nothing",
+        );
+    }
+    Ok(())
 }
 
 // A hint on the line of a refused package or journal, which is the file that was read last.

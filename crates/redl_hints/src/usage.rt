@@ -18,8 +18,12 @@ pub(crate) fn add_usage_hints(
     hints: &mut Vec<u8>,
 ) -> Result<(), AllocError> {
     if let Some(first) = words.first() {
-        add_command_hint(alloc, text_of(first), help, hints)?;
+        match other_command(text_of(first)) {
+            Some(meant) => add_hint(hints, meant)?,
+            None => add_command_hint(alloc, text_of(first), help, hints)?,
+        }
     }
+    add_letter_hint(words, hints)?;
     add_option_hints(alloc, words, help, hints)?;
     add_place_hints(words, hints)?;
     add_value_hints(words, help, hints)?;
@@ -28,6 +32,44 @@ pub(crate) fn add_usage_hints(
 
 fn text_of(word: &Text) -> &str {
     std::str::from_utf8(word.as_bytes()).unwrap_or("")
+}
+
+// What is meant by a word that other programs have as a command.
+fn other_command(name: &str) -> Option<&'static str> {
+    match name {
+        "version" | "-v" | "-V" => Some("redline --version tells the version"),
+        "accept" => Some("redline settle accept P accepts all changes of P"),
+        "reject" => Some("redline settle reject P rejects all changes of P"),
+        _ => None,
+    }
+}
+
+// A hint where a word processor put letters of its own in the place of dashes and quotes.
+fn add_letter_hint(words: &[Text], hints: &mut Vec<u8>) -> Result<(), AllocError> {
+    if words
+        .iter()
+        .any(|word| begins_with_long_dash(text_of(word)))
+    {
+        add_hint(
+            hints,
+            "a dash of a word processor is no option; write two hyphens, as --accept",
+        )?;
+    }
+    if words.iter().any(|word| has_curly_quote(text_of(word))) {
+        add_hint(
+            hints,
+            "the quotes of a word processor do not keep words together; write straight ones, as \"Ann Gray\"",
+        )?;
+    }
+    Ok(())
+}
+
+fn begins_with_long_dash(word: &str) -> bool {
+    word.starts_with(['\u{2012}', '\u{2013}', '\u{2014}', '\u{2212}'])
+}
+
+fn has_curly_quote(word: &str) -> bool {
+    word.contains(['\u{201c}', '\u{201d}', '\u{201e}', '\u{201f}'])
 }
 
 // The forms of the command with this name, or the command with the nearest name.
@@ -105,6 +147,12 @@ fn add_option_hint(
     // The two dashes of other programs stand near any short option.
     if !word.starts_with("--") || word == "--" || names.iter().any(|name| *name == word) {
         return Ok(());
+    }
+    if word == "--author" {
+        return add_hint(
+            hints,
+            "author:NAME is a selection, as in --only author:NAME",
+        );
     }
     match word.split_once('=') {
         Some((name, _)) if names.iter().any(|known| *known == name) => {
