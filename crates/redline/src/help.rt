@@ -1,7 +1,7 @@
 //! What the program tells of itself.
 
 /// The text of `--version`: the program's version, and the logic that it is proved with.
-pub const VERSION: &str = "redline 0.3.0\nlogic dac8208d650f15bf\n";
+pub const VERSION: &str = "redline 1.0.0\nlogic dac8208d650f15bf\n";
 
 /// The text of `--help`.
 pub const HELP: &str =
