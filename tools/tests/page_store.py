@@ -99,6 +99,12 @@ def second_round(driven):
     told("words of an earlier round are told", "of an earlier round" in seen.asked(), seen.asked())
     seen.answer("use")
     same("and don't come back", seen.words(), {})
+    seen = Seen(driven, page_of("plain.xml", ["ann.journal"]))
+    seen.run("document.querySelector('#older').click()")
+    seen.answer("use")
+    same("unless they are asked for", seen.words(), {4: "accept"})
+    driven.click("#undo")
+    same("which is undone", [seen.words(), seen.run(NAME)], [{}, "Ann Gray"])
     seen.press(9, "accept")
     same("a third one has the new words alone", seen.saved("Ann Gray"), reading.journal(package, [("Ann Gray", 3, 9, "accept")]))
     seen = Seen(driven, page_of("plain.xml", ["ann.journal"]))
@@ -218,6 +224,26 @@ def mended_name(driven):
     seen = Seen(driven, whole)
     seen.answer("use")
     same("and are kept", seen.words(), {1: "accept", 2: "reject", 3: "reject", 4: "accept"})
+    seen = Seen(driven, whole)
+    place = seen.run("return [...document.querySelectorAll('dialog .found')].findIndex((it) => it.textContent.startsWith('Ann Gary'))")
+    driven.click("dialog .found:nth-of-type(%d) input" % (place + 1))
+    seen.answer("use")
+    same("what was kept under the other name too", [seen.words(), seen.run(NAME)], [{1: "accept", 2: "accept"}, "Ann Gary"])
+
+
+def emptied_store(driven):
+    """Where the browser's data are cleared while the page is open, it keeps its words again."""
+    whole = page_of("plain.xml")
+    seen = Seen(driven, whole)
+    seen.name("Ann Gray")
+    seen.press(1, "accept")
+    seen.press(2, "reject")
+    until_kept(seen)
+    seen.run("localStorage.clear()")
+    seen.press(3, "accept")
+    until_kept(seen)
+    Seen(driven, whole).answer("use")
+    same("no word is lost", seen.words(), {1: "accept", 2: "reject", 3: "accept"})
 
 
 def without_store(driven):
@@ -230,4 +256,4 @@ def without_store(driven):
     told("and saves", "accept\tAnn Gray" in seen.saved("Ann Gray"))
 
 
-CASES = [tells_what_it_found, two_windows, second_round, locked_page, moved_file, foreign_journals, mended_name, without_store]
+CASES = [tells_what_it_found, two_windows, second_round, locked_page, moved_file, foreign_journals, mended_name, emptied_store, without_store]

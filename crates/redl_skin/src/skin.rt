@@ -2,7 +2,7 @@
 
 /// The security policy of the page: its own style and script alone, and nothing is ever fetched.
 pub const POLICY: &str =
-    "default-src 'none'; script-src 'sha256-Z21u4nvYI5YKnF/9HUhtgoCtA1lw5bWuZMBVS/kobPs='; style-src 'sha256-ZQTj28ti0YZe7DJ0a/9mSgLzlGqQfS4IBIWdmM+/lCQ='; base-uri 'none'; form-action 'none'; require-trusted-types-for 'script'; trusted-types 'none'";
+    "default-src 'none'; script-src 'sha256-f4Vq5SfKDJiLAoY3wsyBGcSH4VmY5R8eETaO1N2dUXA='; style-src 'sha256-ZQTj28ti0YZe7DJ0a/9mSgLzlGqQfS4IBIWdmM+/lCQ='; base-uri 'none'; form-action 'none'; require-trusted-types-for 'script'; trusted-types 'none'";
 
 /// The style sheet of the page.
 pub const STYLE: &str = "/* colours, and what all elements share */
@@ -1649,14 +1649,15 @@ function recordText({ time, words: entries, saved: last }) {
 }
 
 function keepSoon() {
-  if (unkept.size) waiting = waiting || setTimeout(keep, 300);
+  waiting = waiting || setTimeout(keep, 300);
 }
 
-// Writes the words that changed into what is kept now.
+// Writes the words that changed into what is kept now, and those that are there no more.
 function keep() {
   clearTimeout(waiting);
   waiting = 0;
   const now = recordOf(reviewer);
+  for (const at of decidedPlaces()) if (!now.words.has(at)) unkept.add(at);
   if (!unkept.size && saved.sequence <= now.saved.sequence) return;
   for (const at of unkept) now.words.set(at, { word: words[at], sequence: sequenceAt[at] });
   unkept.clear();
@@ -1680,7 +1681,8 @@ function store(key, text) {
 // Another window of this browser wrote words under this name: they come in here, and words of this window that would be
 // replaced are asked about.
 async function hearStore({ key }) {
-  if (!isAnswered || key !== storeKey(reviewer)) return;
+  if (!isAnswered || (key !== null && key !== storeKey(reviewer))) return;
+  keepSoon();
   saved = laterSaved();
   takeIn(wordsElsewhere().filter(([at]) => !words[at]));
   if (!wordsElsewhere().length || isAskingAboutWindow) return;
@@ -1787,7 +1789,7 @@ function useFound(found, { value, isOlder }) {
   const isUsed = value === \"use\";
   const name = reviewer;
   beReviewer(found.name, found.last);
-  const come = found.usable.map(([at, it]) => [at, it.word, it.sequence]).concat(isUsed && isOlder ? found.older.map(([at, it]) => [at, it.word]) : []);
+  const come = found.usable.map(([at, it]) => [at, it.word, it.sequence]);
   const there = new Set(come.map(([at]) => at));
   const gone = isUsed ? decidedPlaces().filter((at) => !there.has(at)) : [];
   const former = replace([...gone.map((at) => [at, \"\"]), ...come]);
@@ -1795,6 +1797,7 @@ function useFound(found, { value, isOlder }) {
   const count = many(come.length, \"word\");
   if (isUsed) remember(count + \" brought back\", former, name);
   else remember(\"begun anew\", replace(decidedPlaces().map((at) => [at, \"\"])), come.length ? null : name);
+  if (isUsed && isOlder) act(many(found.older.length, \"word\") + \" of an earlier round brought back\", found.older.map(([at, it]) => [at, it.word]));
   tell(isUsed ? count + \" of \" + (spelled(reviewer) || \"no name\") + \" brought back.\" : \"Begun anew: nothing is decided.\" + (saved.words.size ? \" Your next journal withdraws what you saved before.\" : \"\"));
 }
 
@@ -1925,8 +1928,8 @@ function goAlong(found, places) {
   const mine = places.map((at) => [at, words[at]]);
   const here = new Set(places);
   const kept = found.usable.filter(([at]) => !here.has(at)).map(([at, it]) => [at, it.word, it.sequence]);
-  if (!former) forgetNameless(places);
   beReviewer(found.name, found.last);
+  if (!former) forgetNameless(places);
   remember(many(kept.length, \"word\") + \" brought back\", replace(kept), former);
   for (const [at] of kept) unkept.delete(at);
   replace(mine);

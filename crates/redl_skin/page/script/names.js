@@ -125,8 +125,8 @@ function goAlong(found, places) {
   const mine = places.map((at) => [at, words[at]]);
   const here = new Set(places);
   const kept = found.usable.filter(([at]) => !here.has(at)).map(([at, it]) => [at, it.word, it.sequence]);
-  if (!former) forgetNameless(places);
   beReviewer(found.name, found.last);
+  if (!former) forgetNameless(places);
   remember(many(kept.length, "word") + " brought back", replace(kept), former);
   for (const [at] of kept) unkept.delete(at);
   replace(mine);

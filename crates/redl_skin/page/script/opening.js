@@ -61,7 +61,7 @@ function useFound(found, { value, isOlder }) {
   const isUsed = value === "use";
   const name = reviewer;
   beReviewer(found.name, found.last);
-  const come = found.usable.map(([at, it]) => [at, it.word, it.sequence]).concat(isUsed && isOlder ? found.older.map(([at, it]) => [at, it.word]) : []);
+  const come = found.usable.map(([at, it]) => [at, it.word, it.sequence]);
   const there = new Set(come.map(([at]) => at));
   const gone = isUsed ? decidedPlaces().filter((at) => !there.has(at)) : [];
   const former = replace([...gone.map((at) => [at, ""]), ...come]);
@@ -69,5 +69,6 @@ function useFound(found, { value, isOlder }) {
   const count = many(come.length, "word");
   if (isUsed) remember(count + " brought back", former, name);
   else remember("begun anew", replace(decidedPlaces().map((at) => [at, ""])), come.length ? null : name);
+  if (isUsed && isOlder) act(many(found.older.length, "word") + " of an earlier round brought back", found.older.map(([at, it]) => [at, it.word]));
   tell(isUsed ? count + " of " + (spelled(reviewer) || "no name") + " brought back." : "Begun anew: nothing is decided." + (saved.words.size ? " Your next journal withdraws what you saved before." : ""));
 }

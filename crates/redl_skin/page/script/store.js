@@ -114,14 +114,15 @@ function recordText({ time, words: entries, saved: last }) {
 }
 
 function keepSoon() {
-  if (unkept.size) waiting = waiting || setTimeout(keep, 300);
+  waiting = waiting || setTimeout(keep, 300);
 }
 
-// Writes the words that changed into what is kept now.
+// Writes the words that changed into what is kept now, and those that are there no more.
 function keep() {
   clearTimeout(waiting);
   waiting = 0;
   const now = recordOf(reviewer);
+  for (const at of decidedPlaces()) if (!now.words.has(at)) unkept.add(at);
   if (!unkept.size && saved.sequence <= now.saved.sequence) return;
   for (const at of unkept) now.words.set(at, { word: words[at], sequence: sequenceAt[at] });
   unkept.clear();
@@ -145,7 +146,8 @@ function store(key, text) {
 // Another window of this browser wrote words under this name: they come in here, and words of this window that would be
 // replaced are asked about.
 async function hearStore({ key }) {
-  if (!isAnswered || key !== storeKey(reviewer)) return;
+  if (!isAnswered || (key !== null && key !== storeKey(reviewer))) return;
+  keepSoon();
   saved = laterSaved();
   takeIn(wordsElsewhere().filter(([at]) => !words[at]));
   if (!wordsElsewhere().length || isAskingAboutWindow) return;
