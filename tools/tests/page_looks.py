@@ -146,7 +146,12 @@ def by_keys_alone(driven):
     same("a button is pressed by the space bar", seen.words(), {2: "reject"})
     seen.run("document.querySelector('#person').focus()")
     driven.keys("Raja Wirk" + TAB + ENTER)
-    time.sleep(0.3)
+    wait(seen.asked)
+    told("the summary has the keyboard, and not the button that saves", seen.run("return document.activeElement.matches('.asking')"))
+    for _ in range(20):
+        driven.keys(TAB)
+        if seen.run("return document.activeElement.value === 'save'"):
+            break
     driven.keys(ENTER)
     file = os.path.join(driven.folder, "Raja Wirk.journal")
     told("a name may have the letters of the keys", wait(lambda: os.path.exists(file)) and seen.words() == {2: "reject"}, str(seen.words()))

@@ -2,7 +2,7 @@
 
 /// The security policy of the page: its own style and script alone, and nothing is ever fetched.
 pub const POLICY: &str =
-    "default-src 'none'; script-src 'sha256-f4Vq5SfKDJiLAoY3wsyBGcSH4VmY5R8eETaO1N2dUXA='; style-src 'sha256-ZQTj28ti0YZe7DJ0a/9mSgLzlGqQfS4IBIWdmM+/lCQ='; base-uri 'none'; form-action 'none'; require-trusted-types-for 'script'; trusted-types 'none'";
+    "default-src 'none'; script-src 'sha256-22G9GGCj4ixD6DTHfzwuHQyjXXmwaDh0TMkp7AVQOLg='; style-src 'sha256-jlc32WgIomwkpJKY3g7B0ehBbfoktEnfjxvDbIwAPSs='; base-uri 'none'; form-action 'none'; require-trusted-types-for 'script'; trusted-types 'none'";
 
 /// The style sheet of the page.
 pub const STYLE: &str = "/* colours, and what all elements share */
@@ -190,6 +190,7 @@ dialog p { margin: .4rem 0; overflow-wrap: anywhere; }
 dialog small { color: var(--soft); font-size: .85rem; }
 dialog strong { overflow-wrap: anywhere; }
 .asking { overflow: auto; padding: 0 1.4rem .6rem; min-height: 0; }
+.asking:focus-visible { outline-offset: -2px; }
 .answers { display: flex; flex-wrap: wrap; justify-content: flex-end; gap: .6rem; padding: .8rem 1.4rem; border-top: 1px solid var(--rule); }
 .answer { padding: .35rem .9rem; max-width: 100%; overflow-wrap: anywhere; }
 .answer:focus-visible, .answer:first-child { font-weight: 600; }
@@ -262,7 +263,7 @@ pub const SCRIPT: &str =
 // read as markup. A row of the list is filled in when it is nearly seen, so that a page with many changes opens at once.
 \"use strict\";
 
-const { document: digest, title = \"\", rank = \"0\" } = document.body.dataset;
+const { document: digest, title = \"\" } = document.body.dataset;
 const main = document.querySelector(\"main\");
 const aside = document.querySelector(\"aside\");
 const list = aside.querySelector(\"ol\");
@@ -369,17 +370,17 @@ function sayPrinted() {
 let asked = Promise.resolve(\"\");
 
 // Asks, and gives the value of the answer that is pressed; the Escape key gives the empty value. An answer is a value and
-// its words, the first one has the keyboard.
-function ask(title, inside, answers) {
-  asked = asked.then(() => new Promise((resolve) => openDialog(title, inside, answers, resolve)));
+// its words. The first one has the keyboard, unless there is more to be read: then that has it.
+function ask(title, inside, answers, isLong = false) {
+  asked = asked.then(() => new Promise((resolve) => openDialog(title, inside, answers, isLong, resolve)));
   return asked;
 }
 
-function openDialog(title, inside, answers, resolve) {
+function openDialog(title, inside, answers, isLong, resolve) {
   const buttons = answers.map(([value, textContent], place) =>
-    make(\"button\", { type: \"button\", value, textContent, autofocus: place === 0, className: \"answer\" }));
+    make(\"button\", { type: \"button\", value, textContent, autofocus: place === 0 && !isLong, className: \"answer\" }));
   const dialog = make(\"dialog\", { \"aria-labelledby\": \"asked\" }, make(\"h2\", { id: \"asked\", textContent: title }),
-    make(\"div\", { className: \"asking\", tabIndex: -1 }, ...inside), make(\"div\", { className: \"answers\" }, ...buttons));
+    make(\"div\", { className: \"asking\", tabIndex: isLong ? 0 : -1, autofocus: isLong, role: \"group\", ariaLabel: title }, ...inside), make(\"div\", { className: \"answers\" }, ...buttons));
   dialog.addEventListener(\"click\", ({ target }) => target.matches(\".answer\") && dialog.close(target.value));
   dialog.addEventListener(\"close\", () => {
     dialog.remove();
@@ -991,7 +992,7 @@ function watchRows() {
   addEventListener(\"resize\", measure);
 }
 
-// The words: what the reviewer says of each change. They are held by index, which is the number less one; the rows of the
+// The words: what the reviewer says of each change. They are held by place, which is the number less one; the rows of the
 // list and the elements of the document only show them.
 
 const words = rows.map(() => \"\");
@@ -1011,7 +1012,7 @@ function say(at, word, sequence = nextSequence()) {
   redraw(at);
 }
 
-// Puts words on changes, each an index, a word and a sequence number or none. What comes puts the former words there.
+// Puts words on changes, each a place, a word and a sequence number or none. What comes puts the former words there.
 function replace(changes) {
   const free = changes.filter(([at]) => !lockedAt[at]);
   const former = free.map(([at]) => [at, words[at], sequenceAt[at]]);
@@ -1020,13 +1021,13 @@ function replace(changes) {
   return former;
 }
 
-// The indexes of all changes, in their order.
-function indexes() {
+// The places of all changes, in their order.
+function allPlaces() {
   return Array.from(rows.keys());
 }
 
 function decidedPlaces() {
-  return indexes().filter((at) => words[at]);
+  return allPlaces().filter((at) => words[at]);
 }
 
 // What reviewers say of a change in the journals of this page: who, word and rank.
@@ -1382,7 +1383,7 @@ async function decideShown(word) {
   const isSeen = filtered === chosenFilter();
   filter();
   if (!isSeen) return tell(\"The filter is another one now: look at what it leaves, and press again.\");
-  const left = indexes().filter((at) => isShown(at) && !lockedAt[at] && words[at] !== word);
+  const left = allPlaces().filter((at) => isShown(at) && !lockedAt[at] && words[at] !== word);
   const other = left.filter((at) => words[at]);
   const rest = left.filter((at) => !words[at]);
   const answer = other.length ? await askToReplace(word, other, rest) : \"all\";
@@ -1483,7 +1484,7 @@ function chosenFilter() {
 
 function filter() {
   filtered = chosenFilter();
-  showRows(indexes().filter(matcher()));
+  showRows(allPlaces().filter(matcher()));
   recount();
 }
 
@@ -1958,8 +1959,6 @@ function beReviewer(name, last) {
 
 // Journals: the text of one, opening one, and saving the reviewer's own.
 
-const RANK = /^[1-9]$/.test(rank) ? Number(rank) : 0;
-
 // The words of a journal that is saved now, by place. A change that has a word in a journal that was saved before and none
 // now is withdrawn, so that the new journal counts in the same way whether or not the former one is used as well.
 function entriesNow() {
@@ -1969,9 +1968,9 @@ function entriesNow() {
 
 function journal(name = reviewer) {
   const entries = entriesNow();
-  const isRanked = RANK > 0 && entries.length > 0;
+  const isRanked = ownRank > 0 && entries.length > 0;
   const sequence = name === reviewer ? nextSequence() : greatestOf(name) + 1;
-  const lines = entries.map(([at, word]) => [sequence, at + 1, word, ...(isRanked ? [RANK] : []), name].join(\"\\t\"));
+  const lines = entries.map(([at, word]) => [sequence, at + 1, word, ...(isRanked ? [ownRank] : []), name].join(\"\\t\"));
   return [\"redline-journal \" + (isRanked ? 2 : 1), \"document \" + digest, \"revisions \" + rows.length, ...lines, \"\"].join(\"\\n\");
 }
 
@@ -2114,19 +2113,19 @@ async function saveJournal() {
   const answer = await ask(\"Before you save\", summary(), [
     [\"save\", isEmpty ? \"Save an empty journal\" : \"Save \" + name],
     [\"\", \"Go on deciding\"],
-  ]);
+  ], true);
   if (answer === \"save\") saveNow();
 }
 
 function summary() {
   const entries = entriesNow();
   const all = tallied(entries.map(([, word]) => word));
-  const undecided = indexes().filter(isUndecided).filter((at) => !saved.words.has(at));
+  const undecided = allPlaces().filter(isUndecided).filter((at) => !saved.words.has(at));
   const locked = lockedAt.filter((it) => it).length;
   const opposed = entries.map(([at]) => at).filter((at) => against(at).length);
   return [
     paragraph(\"Journal number \" + nextSequence() + \" of \", make(\"strong\", {}, isolated(reviewer)), title ? \" for \" : \"\", title ? make(\"strong\", {}, isolated(title)) : \"\",
-      RANK ? \", with rank \" + RANK : \"\", \".\"),
+      ownRank ? \", with rank \" + ownRank : \"\", \".\"),
     countTable([...Object.keys(DONE).map((word) => [DONE[word], all[word]]), [\"not decided\", undecided.length], ...(locked ? [[\"locked\", locked]] : [])]),
     part(\"Against another reviewer\", opposed, (at) => againstInWords(at), true),
     part(\"Decided before, and changed\", changedPlaces(entries), (at) => changeInWords(at), true),
@@ -2212,7 +2211,7 @@ function showHelp() {
       make(\"div\", {}, make(\"dt\", {}, make(\"kbd\", { textContent: key })), make(\"dd\", { textContent: text })))),
     paragraph(\"With the Shift key, N, D and O go back.\"),
     ...HELP.flatMap(([name, text]) => [make(\"h3\", { textContent: name }), paragraph(text)]),
-  ], [[\"\", \"Close\"]]);
+  ], [[\"\", \"Close\"]], true);
 }
 
 // What is clicked and which keys are pressed.

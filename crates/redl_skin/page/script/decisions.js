@@ -42,7 +42,7 @@ async function decideShown(word) {
   const isSeen = filtered === chosenFilter();
   filter();
   if (!isSeen) return tell("The filter is another one now: look at what it leaves, and press again.");
-  const left = indexes().filter((at) => isShown(at) && !lockedAt[at] && words[at] !== word);
+  const left = allPlaces().filter((at) => isShown(at) && !lockedAt[at] && words[at] !== word);
   const other = left.filter((at) => words[at]);
   const rest = left.filter((at) => !words[at]);
   const answer = other.length ? await askToReplace(word, other, rest) : "all";

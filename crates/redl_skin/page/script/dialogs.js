@@ -3,17 +3,17 @@
 let asked = Promise.resolve("");
 
 // Asks, and gives the value of the answer that is pressed; the Escape key gives the empty value. An answer is a value and
-// its words, the first one has the keyboard.
-function ask(title, inside, answers) {
-  asked = asked.then(() => new Promise((resolve) => openDialog(title, inside, answers, resolve)));
+// its words. The first one has the keyboard, unless there is more to be read: then that has it.
+function ask(title, inside, answers, isLong = false) {
+  asked = asked.then(() => new Promise((resolve) => openDialog(title, inside, answers, isLong, resolve)));
   return asked;
 }
 
-function openDialog(title, inside, answers, resolve) {
+function openDialog(title, inside, answers, isLong, resolve) {
   const buttons = answers.map(([value, textContent], place) =>
-    make("button", { type: "button", value, textContent, autofocus: place === 0, className: "answer" }));
+    make("button", { type: "button", value, textContent, autofocus: place === 0 && !isLong, className: "answer" }));
   const dialog = make("dialog", { "aria-labelledby": "asked" }, make("h2", { id: "asked", textContent: title }),
-    make("div", { className: "asking", tabIndex: -1 }, ...inside), make("div", { className: "answers" }, ...buttons));
+    make("div", { className: "asking", tabIndex: isLong ? 0 : -1, autofocus: isLong, role: "group", ariaLabel: title }, ...inside), make("div", { className: "answers" }, ...buttons));
   dialog.addEventListener("click", ({ target }) => target.matches(".answer") && dialog.close(target.value));
   dialog.addEventListener("close", () => {
     dialog.remove();

@@ -4,7 +4,7 @@
 // read as markup. A row of the list is filled in when it is nearly seen, so that a page with many changes opens at once.
 "use strict";
 
-const { document: digest, title = "", rank = "0" } = document.body.dataset;
+const { document: digest, title = "" } = document.body.dataset;
 const main = document.querySelector("main");
 const aside = document.querySelector("aside");
 const list = aside.querySelector("ol");

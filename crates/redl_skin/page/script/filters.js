@@ -41,7 +41,7 @@ function chosenFilter() {
 
 function filter() {
   filtered = chosenFilter();
-  showRows(indexes().filter(matcher()));
+  showRows(allPlaces().filter(matcher()));
   recount();
 }
 

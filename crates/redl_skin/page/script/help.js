@@ -25,5 +25,5 @@ function showHelp() {
       make("div", {}, make("dt", {}, make("kbd", { textContent: key })), make("dd", { textContent: text })))),
     paragraph("With the Shift key, N, D and O go back."),
     ...HELP.flatMap(([name, text]) => [make("h3", { textContent: name }), paragraph(text)]),
-  ], [["", "Close"]]);
+  ], [["", "Close"]], true);
 }

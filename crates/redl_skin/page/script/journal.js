@@ -1,7 +1,5 @@
 // Journals: the text of one, opening one, and saving the reviewer's own.
 
-const RANK = /^[1-9]$/.test(rank) ? Number(rank) : 0;
-
 // The words of a journal that is saved now, by place. A change that has a word in a journal that was saved before and none
 // now is withdrawn, so that the new journal counts in the same way whether or not the former one is used as well.
 function entriesNow() {
@@ -11,9 +9,9 @@ function entriesNow() {
 
 function journal(name = reviewer) {
   const entries = entriesNow();
-  const isRanked = RANK > 0 && entries.length > 0;
+  const isRanked = ownRank > 0 && entries.length > 0;
   const sequence = name === reviewer ? nextSequence() : greatestOf(name) + 1;
-  const lines = entries.map(([at, word]) => [sequence, at + 1, word, ...(isRanked ? [RANK] : []), name].join("\t"));
+  const lines = entries.map(([at, word]) => [sequence, at + 1, word, ...(isRanked ? [ownRank] : []), name].join("\t"));
   return ["redline-journal " + (isRanked ? 2 : 1), "document " + digest, "revisions " + rows.length, ...lines, ""].join("\n");
 }
 

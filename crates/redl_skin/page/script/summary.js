@@ -16,19 +16,19 @@ async function saveJournal() {
   const answer = await ask("Before you save", summary(), [
     ["save", isEmpty ? "Save an empty journal" : "Save " + name],
     ["", "Go on deciding"],
-  ]);
+  ], true);
   if (answer === "save") saveNow();
 }
 
 function summary() {
   const entries = entriesNow();
   const all = tallied(entries.map(([, word]) => word));
-  const undecided = indexes().filter(isUndecided).filter((at) => !saved.words.has(at));
+  const undecided = allPlaces().filter(isUndecided).filter((at) => !saved.words.has(at));
   const locked = lockedAt.filter((it) => it).length;
   const opposed = entries.map(([at]) => at).filter((at) => against(at).length);
   return [
     paragraph("Journal number " + nextSequence() + " of ", make("strong", {}, isolated(reviewer)), title ? " for " : "", title ? make("strong", {}, isolated(title)) : "",
-      RANK ? ", with rank " + RANK : "", "."),
+      ownRank ? ", with rank " + ownRank : "", "."),
     countTable([...Object.keys(DONE).map((word) => [DONE[word], all[word]]), ["not decided", undecided.length], ...(locked ? [["locked", locked]] : [])]),
     part("Against another reviewer", opposed, (at) => againstInWords(at), true),
     part("Decided before, and changed", changedPlaces(entries), (at) => changeInWords(at), true),

@@ -1,4 +1,4 @@
-// The words: what the reviewer says of each change. They are held by index, which is the number less one; the rows of the
+// The words: what the reviewer says of each change. They are held by place, which is the number less one; the rows of the
 // list and the elements of the document only show them.
 
 const words = rows.map(() => "");
@@ -18,7 +18,7 @@ function say(at, word, sequence = nextSequence()) {
   redraw(at);
 }
 
-// Puts words on changes, each an index, a word and a sequence number or none. What comes puts the former words there.
+// Puts words on changes, each a place, a word and a sequence number or none. What comes puts the former words there.
 function replace(changes) {
   const free = changes.filter(([at]) => !lockedAt[at]);
   const former = free.map(([at]) => [at, words[at], sequenceAt[at]]);
@@ -27,13 +27,13 @@ function replace(changes) {
   return former;
 }
 
-// The indexes of all changes, in their order.
-function indexes() {
+// The places of all changes, in their order.
+function allPlaces() {
   return Array.from(rows.keys());
 }
 
 function decidedPlaces() {
-  return indexes().filter((at) => words[at]);
+  return allPlaces().filter((at) => words[at]);
 }
 
 // What reviewers say of a change in the journals of this page: who, word and rank.
