@@ -1,14 +1,10 @@
 """A large document at the desk: how long it takes until it is on the screen, and until a decision is seen."""
-import os
-import sys
-
 from desk_seen import Desk
 from page_large import large_package
-from page_seen import same, told
+from page_seen import same, told, told_times
 
-# What a person waits for, in seconds, on a machine with nothing else to do; a busy one takes some times as long.
+# What a person waits for, in seconds, on a machine with nothing else to do.
 WANTED = {"start": 0.3, "on screen": 4, "decided": 0.1}
-PATIENCE = 4
 DECIDE = """
 const done = arguments[arguments.length - 1], page = document.getElementById("page").contentWindow;
 page.redline.choose(7);
@@ -31,12 +27,7 @@ def large(driven):
     told("its tables are shown in parts", 0 < it.run("return document.querySelectorAll('#tables tr').length") < 1000)
     it.step("written")
     told("and it is shown as written", "19,999 changes" in it.text("#written-told"), it.text("#written-told"))
-    times = {"start": started, "on screen": shown, "decided": decided}
-    print("\n".join("large desk: %-10s %6.2f s" % row for row in times.items()), file=sys.stderr)
-    if os.getloadavg()[0] > 3 * os.cpu_count():
-        return print("skipped large desk, times: the machine has too much else to do")
-    for name, seconds in times.items():
-        told("large desk, " + name, seconds <= PATIENCE * WANTED[name], "%.2f s" % seconds)
+    told_times("large desk", [("start", started), ("on screen", shown), ("decided", decided)], WANTED)
 
 
 CASES = [large]
