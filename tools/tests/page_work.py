@@ -152,6 +152,18 @@ def asks_about_names(driven):
     same("a name that was meant as typed", seen.run("return document.querySelector('#person').value"), "ann gray")
 
 
+def keeps_controls_in_names(driven):
+    """A name with one of the characters from U+0080 to U+009F is the same reviewer's, with the next number."""
+    seen = Seen(driven, page_of("plain.xml", ["ann.journal", "bob.journal"]).replace(b"Bob Hay", "Bob\u0085Hay".encode()))
+    put = "const it = document.querySelector('#person'); it.value = arguments[0]; it.dispatchEvent(new Event('change'))"
+    seen.press(5, "accept")
+    seen.run(put, "Bob Hay")
+    told("a near miss of it is asked about", wait(lambda: "Bob[U+0085]Hay" in seen.asked(), 3), seen.asked())
+    seen.answer("0")
+    journal = seen.saved("Bob_Hay")
+    told("its number is one above", journal.endswith("\n3\t5\taccept\tBob\u0085Hay\n"), journal)
+
+
 def sums_up(driven):
     """A summary comes before saving: counts, what goes against others, what was changed, and all in words."""
     seen = Seen(driven, with_title(page_of("contract.xml", REVIEWERS, [LOCK]), "Supply <b>.docx"))
@@ -263,4 +275,4 @@ def keeps_policy(driven):
     same("no complaint", [it for it in driven.complaints() if "trusted" not in it.lower()], [])
 
 
-CASES = [many_at_once, undoes, goes_on, holds_keys, searches, asks_about_names, sums_up, names_files, ranked, in_a_frame, prints, keeps_policy]
+CASES = [many_at_once, undoes, goes_on, holds_keys, searches, asks_about_names, keeps_controls_in_names, sums_up, names_files, ranked, in_a_frame, prints, keeps_policy]

@@ -2,7 +2,7 @@
 
 /// The security policy of the page: its own style and script alone, and nothing is ever fetched.
 pub const POLICY: &str =
-    "default-src 'none'; script-src 'sha256-22G9GGCj4ixD6DTHfzwuHQyjXXmwaDh0TMkp7AVQOLg='; style-src 'sha256-jlc32WgIomwkpJKY3g7B0ehBbfoktEnfjxvDbIwAPSs='; base-uri 'none'; form-action 'none'; require-trusted-types-for 'script'; trusted-types 'none'";
+    "default-src 'none'; script-src 'sha256-4h4Yo8PSPWJUg9lLRuP8n6PH6ZCPmYQpXUtyLE3uUOU='; style-src 'sha256-jlc32WgIomwkpJKY3g7B0ehBbfoktEnfjxvDbIwAPSs='; base-uri 'none'; form-action 'none'; require-trusted-types-for 'script'; trusted-types 'none'";
 
 /// The style sheet of the page.
 pub const STYLE: &str = "/* colours, and what all elements share */
@@ -1833,7 +1833,7 @@ function spelled(name) {
 
 // What two names have in common that differ only in case, in how letters are composed, in spaces or in what isn't seen.
 function likeness(name) {
-  return name.normalize(\"NFKC\").replace(/\\p{Cf}/gu, \"\").replace(/\\s+/g, \" \").trim().toUpperCase().toLowerCase();
+  return name.normalize(\"NFKC\").replace(/\\p{Cf}/gu, \"\").replace(/[\\s\\p{Cc}]+/gu, \" \").trim().toUpperCase().toLowerCase();
 }
 
 function knownNames() {

@@ -29,7 +29,7 @@ function spelled(name) {
 
 // What two names have in common that differ only in case, in how letters are composed, in spaces or in what isn't seen.
 function likeness(name) {
-  return name.normalize("NFKC").replace(/\p{Cf}/gu, "").replace(/\s+/g, " ").trim().toUpperCase().toLowerCase();
+  return name.normalize("NFKC").replace(/\p{Cf}/gu, "").replace(/[\s\p{Cc}]+/gu, " ").trim().toUpperCase().toLowerCase();
 }
 
 function knownNames() {
