@@ -85,7 +85,9 @@ class Contents:
         stream.tables.append(stream.open_tables[-1])
 
     def start_box(self, frame, at):
+        frame.extra = len(self.stream.box_begins)
         self.stream.box_begins.append(self.stream.length)
+        self.stream.box_ends.append(None)
 
     def start_note(self, frame, at):
         if len(self.stack) != self.depth_of_story + 1:
@@ -249,6 +251,9 @@ class Contents:
             if row is not None:
                 row.holds = True  # (a cell that stays)
 
+    def end_box(self, frame, at):
+        self.stream.box_ends[frame.extra] = self.stream.length
+
     def end_table(self, frame, at):
         self.stream.open_tables.pop().end = self.stream.length
 
@@ -270,5 +275,5 @@ class Contents:
 
     ENDS = {
         "t": end_text, "delText": end_text, "r": end_run, "p": end_paragraph, "instrText": end_code, "delInstrText": end_code,
-        "fldSimple": end_simple, "tr": end_row, "tc": end_cell, "tbl": end_table,
+        "fldSimple": end_simple, "tr": end_row, "tc": end_cell, "tbl": end_table, "txbxContent": end_box,
     }

@@ -6,6 +6,10 @@ import itertools
 # How many characters both texts need to have for going on there, and how far the second text is looked at.
 ANCHOR, SHORT_ANCHOR = 24, 8
 WINDOW = 4000
+# Each place is tried as far as this, and then every seventh, up to so many.
+NEAR, FAR = 400, 80000
+# A short text has to be nearer than this share of the way to a long one.
+NEARER = 0.6
 # Above so many pairs of places nothing is guessed.
 PAIRS = 4000000
 
@@ -64,14 +68,22 @@ def last_sure(node):
 
 
 def next_anchor(search, index, at, its):
-    """The next text without changes round it that both have: its stretch, its place, and its place in the second text."""
-    for piece in range(index, len(search.pieces)):
-        start, stop, members, _ = search.pieces[piece]
-        if not members:
-            found = anchor_in(search, max(start, at), stop, at, its)
-            if found is not None:
-                return begun(search, index, piece, at, its, *found)
-    return None
+    """The nearest text without changes round it that both have: its stretch, its place, and its place in the second text.
+
+    A short one has to be nearer than a long one, since it may be there by chance.
+    """
+    best, cost = None, FAR
+    for size in (ANCHOR, SHORT_ANCHOR):
+        for piece in range(index, len(search.pieces)):
+            start, stop, members, _ = search.pieces[piece]
+            if max(start, at) - at >= cost:
+                break
+            if not members:
+                found = anchor_in(search, (max(start, at), stop), at, its, size, cost)
+                if found is not None:
+                    cost, best = found[0], (piece,) + found[1:]
+        cost = FAR if best is None else int(cost * NEARER)
+    return begun(search, index, best[0], at, its, *best[1:]) if best is not None else None
 
 
 def begun(search, index, piece, at, its, probe, hit):
@@ -86,17 +98,20 @@ def begun(search, index, piece, at, its, probe, hit):
     return piece, probe, hit
 
 
-def anchor_in(search, start, stop, at, its):
+def anchor_in(search, stretch, at, its, size, cost):
+    """What a stretch has of an anchor of this size that costs less: how far it is in both, and its two places."""
     text, other = search.stream.text, search.second.text
-    for size in (ANCHOR, SHORT_ANCHOR):
-        probe = start
-        while probe + size <= stop and probe - at < 20 * WINDOW:
-            key = text[probe : probe + size]
-            hit = other.find(key, its, its + WINDOW + 2 * max(0, probe - at))
-            if hit >= 0 and (size == ANCHOR or len(set(key)) > 4):
-                return probe, hit
-            probe += 1 if size == ANCHOR and probe - at < 400 else 7
-    return None
+    probe, stop = stretch
+    best = None
+    while probe + size <= stop and probe - at < cost:
+        key = text[probe : probe + size]
+        reach = min(its + WINDOW + 2 * (probe - at), its + cost - (probe - at) + size)
+        hit = other.find(key, its, reach)
+        if hit >= 0 and (size == ANCHOR or len(set(key)) > 4):
+            cost = probe - at + hit - its
+            best = (cost, probe, hit)
+        probe += 1 if probe - at < NEAR else 7
+    return best
 
 
 def vote(search, index, first, second):

@@ -77,7 +77,7 @@ class Stream:
         self.others = []  # (place, properties, change or None) of content controls and of signs of a formula
         self.holds = set()  # places of ends of paragraphs that hold an element which no change round text can take away
         self.loose_rows = set()  # places of rows all whose cells may go
-        self.box_begins = []  # where the texts of text boxes begin
+        self.box_begins, self.box_ends = [], []  # where the texts of text boxes begin and end
         self.follows = {}  # place of a paragraph's end -> "p" or "other", what comes after the paragraph; none where nothing does
         self.text = ""
 

@@ -95,7 +95,7 @@ class Looker:
         return self.open.get((holder,) + change.member.sign(), ())
 
     def run_word(self, change):
-        spots = [self.places.of(place) for place in range(change.begin, min(change.end, change.begin + PLACES))]
+        spots = [self.places.of(place) for place in self.own_places(change)]
         spots = [spot for spot in spots if spot is not None]
         if not spots:
             return self.empty_run_word(change) if change.begin == change.end else GONE
@@ -108,6 +108,18 @@ class Looker:
         if len(words) > 1:
             words.pop(EITHER, None)
         return max(words, key=words.get)
+
+    def own_places(self, change):
+        """The places of a changed run, without those in a text box of it: these have properties of their own."""
+        begins, ends = self.stream.box_begins, self.stream.box_ends
+        found, begin = [], change.begin
+        for index in range(bisect.bisect_left(begins, begin), len(begins)):
+            if begins[index] >= change.end or len(found) >= PLACES:
+                break
+            if begins[index] >= begin and ends[index] <= change.end:
+                found += range(begin, min(begins[index], begin + PLACES))
+                begin = ends[index]
+        return found + list(range(begin, min(change.end, begin + PLACES)))
 
     def empty_run_word(self, change):
         """The word of a run without text: by a marked change of its kind near, or by the properties of what the run holds."""
