@@ -30,13 +30,10 @@ class View:
 
 
 class Story:
-    """A story as the lines of its text, and on demand as paragraphs."""
+    """A story and the lines of its text."""
 
     def __init__(self, kind, text):
         self.kind, self.text = kind, text
-
-    def paragraphs(self, view):
-        return Reading(view).paragraphs(self.text)
 
     def is_empty(self):
         return "|" not in self.text

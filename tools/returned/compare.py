@@ -8,9 +8,11 @@ import re
 from returned import bare
 from returned.differences import differences
 from returned.pairs import pair_stories
+from returned.partings import common
 
 KINDS = {"document": "document", "hdr": "header", "ftr": "footer"}
 NOTES = ("footnote", "endnote")
+PARAGRAPH, FIELD_BEGIN, FIELD_END = "*paragraph\n", "\\[field begin]", "\\[field end]"
 TAG = re.compile(rb"""<(/?)(?:[\w.-]+:)?(Fallback|footnoteReference|endnoteReference)(?=[\s/>])((?:[^<>"']|"[^"]*"|'[^']*')*)>""")
 SIMPLE = re.compile(rb"""<(/?)((?:[\w.-]+:)?)fldSimple(?=[\s/>])((?:[^<>"']|"[^"]*"|'[^']*')*?)(/?)>""")
 CODE = re.compile(rb"""(?:^|[\s:])instr\s*=\s*(?:"([^"]*)"|'([^']*)')""")
@@ -126,10 +128,44 @@ def differences_of(pairs, view):
     """The places at which pairs of stories differ, as far as a view sees them."""
     found = []
     for name, one, other in pairs:
-        mine, its = (story.paragraphs(view) if story is not None else [] for story in (one, other))
+        texts = [story.text if story is not None else "" for story in (one, other)]
+        before, windows = 0, texts
+        if view.with_objects:
+            before, windows = differing_windows(*texts)
+        mine, its = (bare.Reading(view).paragraphs(text) for text in windows)
         if mine != its:
-            found += differences(name, mine, its)
+            found += differences(name, mine, its, before)
     return found
+
+
+def differing_windows(one, other):
+    """Two texts without the paragraphs at their beginnings and ends that are the same, and how many the first ones are."""
+    begin = after_paragraph(one, common(one, 0, len(one), other, 0))
+    if one.count(FIELD_BEGIN, 0, begin) != one.count(FIELD_END, 0, begin):
+        begin = 0  # (what a field shows depends on what is before)
+    most = min(len(one), len(other)) - begin
+    low, high = 0, most
+    while low < high:
+        middle = (low + high + 1) // 2
+        if one.endswith(other[len(other) - middle :]):
+            low = middle
+        else:
+            high = middle - 1
+    end = one.find(PARAGRAPH, len(one) - low)
+    same = 0 if end < 0 else len(one) - end - len(PARAGRAPH)
+    return one.count(PARAGRAPH, 0, begin), (one[begin : len(one) - same], other[begin : len(other) - same])
+
+
+def after_paragraph(text, place):
+    """The end of the last paragraph before a place, or 0."""
+    while place > 0:
+        place = text.rfind(PARAGRAPH, 0, place)
+        if place < 0:
+            return 0
+        begin = text.rfind("\n", 0, place) + 1
+        if bare.marks_of(text[begin : place + len(PARAGRAPH) - 1])[1] == PARAGRAPH[:-1]:
+            return place + len(PARAGRAPH)
+    return 0
 
 
 def objects_differ(pairs):
@@ -139,5 +175,3 @@ def objects_differ(pairs):
         if signs[0] != signs[1]:
             return True
     return False
-
-

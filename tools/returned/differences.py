@@ -23,8 +23,8 @@ def quoted(text):
     return '"%s"' % text if text else "nothing"
 
 
-def differences(place, wanted, got):
-    """The differences between the paragraphs that the decisions give and those that came back."""
+def differences(place, wanted, got, before):
+    """The differences between the paragraphs that the decisions give and those that came back, after so many that are the same."""
     found = []
     for begin, end, its_begin, its_end in differing(wanted, got):
         if end - begin == its_end - its_begin:
@@ -33,7 +33,7 @@ def differences(place, wanted, got):
             pairs = [(wanted[begin:end], got[its_begin:its_end], its_begin)]
         for mine, its, at in pairs:
             if mine != its:
-                found.append(Difference(place, at + 1, *excerpts(mine, its)))
+                found.append(Difference(place, before + at + 1, *excerpts(mine, its)))
     return found
 
 
