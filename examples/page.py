@@ -242,7 +242,7 @@ STYLES = ["base", "bar", "document", "changes", "views", "list", "dialogs", "med
 SCRIPTS = [
     "elements", "kinds", "facts", "bars", "dialogs", "signs", "views", "document", "dress", "excerpts", "list", "words", "verdicts",
     "blocks", "passes", "picture", "chosen", "decisions", "undo", "filters", "store", "opening", "names", "journal", "summary", "help",
-    "keys", "outside", "start",
+    "keys", "outside", "copies", "start",
 ]
 
 

@@ -176,4 +176,20 @@ def for_readers(driven):
     same("each control has a name", [role for role in nameless if role not in ("none", "listitem")], [])
 
 
-CASES = [views, read_whole, two_forms, looks, by_keys_alone, for_readers]
+def saved_copy(driven):
+    """A page that a browser saved as it is seen says that it is a copy, and has nothing twice."""
+    seen = Seen(driven, page_of("contract.xml", REVIEWERS))
+    seen.press(2, "reject")
+    whole = seen.run("return '<!DOCTYPE html>' + document.documentElement.outerHTML")
+    driven.complaints()
+    copy = Seen(driven, whole.encode())
+    same("one header, one list, one of each control", copy.run("return ['header', 'aside > ol', '#save', '#person', 'dialog'].map((it) => document.querySelectorAll(it).length)"), [1, 1, 1, 1, 0])
+    same("each change is there once", copy.run("return document.querySelectorAll('aside > ol > li').length"), 49)
+    told("it says what it is", "This is a copy" in copy.run("return document.querySelector('main .copy').textContent"))
+    told("nothing can be pressed", copy.run("return document.querySelector('aside').inert && document.querySelector('header').inert"))
+    driven.keys("jja")
+    same("nor decided by key", copy.run("return [...document.querySelectorAll('li[data-say]')].map((it) => it.id + it.dataset.say)"), ["revision-2reject"])
+    same("no complaint", driven.complaints(), [])
+
+
+CASES = [views, read_whole, two_forms, looks, by_keys_alone, for_readers, saved_copy]

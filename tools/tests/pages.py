@@ -69,7 +69,7 @@ def main(words):
         return picture(words[1])
     if IS_OWN:
         same_pages()
-    cases = [case for case in CASES if case.__name__ in words] or CASES
+    cases = [case for case in CASES + page_large.MEASURES if case.__name__ in words] or CASES
     for kind in [kind for kind in BROWSERS if kind.name in words] or BROWSERS:
         if not kind.is_there():
             print("skipped pages in %s: it isn't there" % kind.name)

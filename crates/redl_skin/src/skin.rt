@@ -2,7 +2,7 @@
 
 /// The security policy of the page: its own style and script alone, and nothing is ever fetched.
 pub const POLICY: &str =
-    "default-src 'none'; script-src 'sha256-4h4Yo8PSPWJUg9lLRuP8n6PH6ZCPmYQpXUtyLE3uUOU='; style-src 'sha256-jlc32WgIomwkpJKY3g7B0ehBbfoktEnfjxvDbIwAPSs='; base-uri 'none'; form-action 'none'; require-trusted-types-for 'script'; trusted-types 'none'";
+    "default-src 'none'; script-src 'sha256-OmOMhh2UXH+zE+a0iVJSzOr/zhm4teganHVHYXIx0oY='; style-src 'sha256-jwIC+kDESEy3cdYfuR6AHIYIwd4KKVKmYTqTCchUAH8='; base-uri 'none'; form-action 'none'; require-trusted-types-for 'script'; trusted-types 'none'";
 
 /// The style sheet of the page.
 pub const STYLE: &str = "/* colours, and what all elements share */
@@ -95,6 +95,7 @@ td > p:last-child { margin: 0; }
 .unseen { unicode-bidi: isolate; }
 .unseen:is([data-sign=\"LRM\"], [data-sign=\"RLM\"], [data-sign=\"ALM\"]) { unicode-bidi: normal; }
 .unseen::after { content: attr(data-sign); unicode-bidi: isolate; display: inline-block; font: 600 .6rem/1.3 system-ui, \"Liberation Sans\", sans-serif; color: var(--no); background: var(--paper); border: 1px solid; border-radius: 3px; padding: 0 .2em; margin: 0 .1em; vertical-align: .15em; text-decoration: none; text-indent: 0; }
+.copy { max-width: 48rem; margin: 0 auto 1.5rem; padding: .8rem 1.2rem; border: 2px solid var(--no); border-radius: 3px; background: var(--paper); }
 /* until all is there, only the first blocks of a story have to be laid out */
 @media (scripting: enabled) {
   body:not([data-view]) :is(section, tbody) > :nth-child(n + 200), body:not([data-view]) aside { display: none; }
@@ -469,7 +470,9 @@ function showUnseen(part) {
 const views = make(\"fieldset\", {}, make(\"legend\", { textContent: \"View\" }), ...[\"marks\", \"final\", \"original\"].map((value) =>
   make(\"label\", {}, make(\"input\", { type: \"radio\", name: \"view\", value, checked: value === \"marks\" }), value)));
 
-// The lists of the elements that have some, and the groups that are joined in a list, by their first paragraph.
+// The elements with lists in which something may be joined or go, their lists, and the groups that are joined in a list, by
+// their first paragraph.
+let withLists = new Set();
 const listsOf = new Map();
 const joinedOf = new Map();
 
@@ -484,16 +487,13 @@ function seeAs(view) {
   if (view === \"marks\") Array.from(joinedOf.keys(), takeApart);
   else {
     drawVerdicts();
-    seeLists(listedElements());
+    withLists = new Set(Array.from(main.querySelectorAll(\".mark, .row, .cell\"), listedElement));
+    seeLists(withLists);
   }
   captionView();
 }
 
-// The elements with lists in which paragraphs may be joined, rows or cells may go.
-function listedElements() {
-  return new Set(Array.from(main.querySelectorAll(\".mark, .row, .cell\"), listedElement));
-}
-
+// The element whose lists a change may change.
 function listedElement(member) {
   const block = member.closest(member.matches(\".row, .cell\") ? \"table\" : \"p, .p\") || member;
   return block.parentElement.closest(\"td, .box, section\");
@@ -589,6 +589,7 @@ function captionView() {
   const [open, disputed] = [\"open\", \"disputed\"].map((it) => verdicts.filter((verdict) => verdict === it).length);
   const some = [open ? open + \" open\" : \"\", disputed ? disputed + \" disputed\" : \"\"].filter(Boolean).join(\" and \");
   viewLine.textContent = !text ? \"\" : text + \". \" + (some ? \"Tinted: \" + some + \", shown as \" + rest + \".\" : \"All is decided.\") +
+    (!text || main.querySelector(\"[data-story]\") ? \"\" : \" Around content controls paragraphs may be joined otherwise.\") +
     (main.querySelector(\".doubt\") ? \" Where it isn't known whether an empty paragraph stays, it says so.\" : \"\");
 }
 
@@ -598,13 +599,18 @@ function captionView() {
 const FAR = 100;
 const STORIES = { hdr: \"Header\", ftr: \"Footer\", footnotes: \"Footnotes\", endnotes: \"Endnotes\", comments: \"Comments\" };
 
+// It is taken out of the page for that: a browser looks at all that follows a block that is moved.
 function arrange() {
   document.querySelector(\"header\").append(viewLine);
+  const { scrollTop, nextSibling } = main;
+  main.remove();
   for (const it of main.querySelectorAll('[data-style^=\"Heading\"], [data-style=\"Title\"]')) head(it);
   nameStories();
   for (const edge of Array.from(main.querySelectorAll(\"td.edge\"))) bringIn(edge);
   for (const story of main.children) group(story, () => make(\"div\", { className: \"far\" }));
-  for (const table of main.querySelectorAll(\"tbody\")) if (table.rows.length > 2 * FAR) groupRows(table);
+  for (const table of Array.from(main.querySelectorAll(\"tbody\"))) if (table.rows.length > 2 * FAR) groupRows(table);
+  nextSibling.before(main);
+  main.scrollTop = scrollTop;
   dressNear();
 }
 
@@ -1081,7 +1087,7 @@ const ownRank = Number(document.body.dataset.rank || 0);
 // The verdict on the change at a place. A word that is decided here replaces what the journals have of its reviewer. Of
 // the words that aren't withdrawn those with the highest rank count, and two of them that differ are a dispute.
 function verdictAt(at) {
-  if (!words[at]) return rows[at].dataset.verdict;
+  if (!words[at]) return verdictsOf[at];
   const others = saysOn(at).filter((it) => it.who !== reviewer);
   const said = [...others, { word: words[at], rank: ownRank }].filter((it) => it.word !== \"withdraw\");
   const highest = Math.max(...said.map((it) => it.rank));
@@ -1273,7 +1279,8 @@ function drawWords() {
   }
   if (viewNow() === \"marks\") return;
   drawVerdicts();
-  seeLists(new Set(Array.from(now).flatMap((at) => placesOf(rows[at]).map(listedElement))));
+  const touched = new Set(Array.from(now).flatMap((at) => placesOf(rows[at]).map(listedElement)));
+  seeLists(Array.from(touched).filter((it) => withLists.has(it)));
   captionView();
 }
 
@@ -2302,6 +2309,20 @@ function restore(state) {
   showUndo();
 }
 
+// A page that a browser saved as it was seen holds what this script had made, so it can't begin anew: it is only read.
+
+const isCopy = document.querySelector(\"body > header\") !== null;
+
+function tellCopy() {
+  for (const it of document.querySelectorAll(\"dialog, .copy\")) it.remove();
+  for (const it of document.querySelectorAll(\"body > header, aside\")) it.inert = true;
+  addEventListener(\"keydown\", (event) => event.stopImmediatePropagation(), true);
+  addEventListener(\"click\", (event) => event.stopImmediatePropagation(), true);
+  main.prepend(make(\"p\", { className: \"copy\", role: \"alert\" },
+    make(\"strong\", {}, \"This is a copy that a browser saved. \"),
+    \"It shows what was seen then, and nothing can be decided in it. To decide, open the file that you were sent, or ask its sender for it once more. To keep that file, copy it, and don't save it from a browser.\"));
+}
+
 // What is heard, and how the page begins.
 
 for (const select of [authors, kinds, states]) select.addEventListener(\"change\", filter);
@@ -2326,13 +2347,18 @@ addEventListener(\"storage\", hearStore);
 addEventListener(\"pagehide\", () => waiting && keep());
 addEventListener(\"beforeprint\", sayPrinted);
 
-build();
-arrange();
-document.body.dataset.view = \"marks\";
-watchRows();
-advance.checked = stored(\"redline setting advance\") !== \"no\";
-offerNames();
-filter();
-changed();
-askOnOpening().then(() => (isAnswered = true));
+function begin() {
+  build();
+  arrange();
+  document.body.dataset.view = \"marks\";
+  watchRows();
+  advance.checked = stored(\"redline setting advance\") !== \"no\";
+  offerNames();
+  filter();
+  changed();
+  askOnOpening().then(() => (isAnswered = true));
+}
+
+if (isCopy) tellCopy();
+else begin();
 ";

@@ -4,13 +4,18 @@
 const FAR = 100;
 const STORIES = { hdr: "Header", ftr: "Footer", footnotes: "Footnotes", endnotes: "Endnotes", comments: "Comments" };
 
+// It is taken out of the page for that: a browser looks at all that follows a block that is moved.
 function arrange() {
   document.querySelector("header").append(viewLine);
+  const { scrollTop, nextSibling } = main;
+  main.remove();
   for (const it of main.querySelectorAll('[data-style^="Heading"], [data-style="Title"]')) head(it);
   nameStories();
   for (const edge of Array.from(main.querySelectorAll("td.edge"))) bringIn(edge);
   for (const story of main.children) group(story, () => make("div", { className: "far" }));
-  for (const table of main.querySelectorAll("tbody")) if (table.rows.length > 2 * FAR) groupRows(table);
+  for (const table of Array.from(main.querySelectorAll("tbody"))) if (table.rows.length > 2 * FAR) groupRows(table);
+  nextSibling.before(main);
+  main.scrollTop = scrollTop;
   dressNear();
 }
 

@@ -23,7 +23,8 @@ function drawWords() {
   }
   if (viewNow() === "marks") return;
   drawVerdicts();
-  seeLists(new Set(Array.from(now).flatMap((at) => placesOf(rows[at]).map(listedElement))));
+  const touched = new Set(Array.from(now).flatMap((at) => placesOf(rows[at]).map(listedElement)));
+  seeLists(Array.from(touched).filter((it) => withLists.has(it)));
   captionView();
 }
 

@@ -22,12 +22,17 @@ addEventListener("storage", hearStore);
 addEventListener("pagehide", () => waiting && keep());
 addEventListener("beforeprint", sayPrinted);
 
-build();
-arrange();
-document.body.dataset.view = "marks";
-watchRows();
-advance.checked = stored("redline setting advance") !== "no";
-offerNames();
-filter();
-changed();
-askOnOpening().then(() => (isAnswered = true));
+function begin() {
+  build();
+  arrange();
+  document.body.dataset.view = "marks";
+  watchRows();
+  advance.checked = stored("redline setting advance") !== "no";
+  offerNames();
+  filter();
+  changed();
+  askOnOpening().then(() => (isAnswered = true));
+}
+
+if (isCopy) tellCopy();
+else begin();

@@ -6,7 +6,7 @@ const ownRank = Number(document.body.dataset.rank || 0);
 // The verdict on the change at a place. A word that is decided here replaces what the journals have of its reviewer. Of
 // the words that aren't withdrawn those with the highest rank count, and two of them that differ are a dispute.
 function verdictAt(at) {
-  if (!words[at]) return rows[at].dataset.verdict;
+  if (!words[at]) return verdictsOf[at];
   const others = saysOn(at).filter((it) => it.who !== reviewer);
   const said = [...others, { word: words[at], rank: ownRank }].filter((it) => it.word !== "withdraw");
   const highest = Math.max(...said.map((it) => it.rank));

@@ -3,7 +3,9 @@
 const views = make("fieldset", {}, make("legend", { textContent: "View" }), ...["marks", "final", "original"].map((value) =>
   make("label", {}, make("input", { type: "radio", name: "view", value, checked: value === "marks" }), value)));
 
-// The lists of the elements that have some, and the groups that are joined in a list, by their first paragraph.
+// The elements with lists in which something may be joined or go, their lists, and the groups that are joined in a list, by
+// their first paragraph.
+let withLists = new Set();
 const listsOf = new Map();
 const joinedOf = new Map();
 
@@ -18,16 +20,13 @@ function seeAs(view) {
   if (view === "marks") Array.from(joinedOf.keys(), takeApart);
   else {
     drawVerdicts();
-    seeLists(listedElements());
+    withLists = new Set(Array.from(main.querySelectorAll(".mark, .row, .cell"), listedElement));
+    seeLists(withLists);
   }
   captionView();
 }
 
-// The elements with lists in which paragraphs may be joined, rows or cells may go.
-function listedElements() {
-  return new Set(Array.from(main.querySelectorAll(".mark, .row, .cell"), listedElement));
-}
-
+// The element whose lists a change may change.
 function listedElement(member) {
   const block = member.closest(member.matches(".row, .cell") ? "table" : "p, .p") || member;
   return block.parentElement.closest("td, .box, section");
@@ -123,5 +122,6 @@ function captionView() {
   const [open, disputed] = ["open", "disputed"].map((it) => verdicts.filter((verdict) => verdict === it).length);
   const some = [open ? open + " open" : "", disputed ? disputed + " disputed" : ""].filter(Boolean).join(" and ");
   viewLine.textContent = !text ? "" : text + ". " + (some ? "Tinted: " + some + ", shown as " + rest + "." : "All is decided.") +
+    (!text || main.querySelector("[data-story]") ? "" : " Around content controls paragraphs may be joined otherwise.") +
     (main.querySelector(".doubt") ? " Where it isn't known whether an empty paragraph stays, it says so." : "");
 }
