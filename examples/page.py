@@ -16,14 +16,14 @@ import reading
 
 SKIN = os.path.join(os.path.dirname(os.path.dirname(os.path.abspath(__file__))), "crates", "redl_skin", "page")
 
-REFERENCES = {"&": "&amp;", "<": "&lt;", ">": "&gt;", '"': "&quot;", "'": "&#39;"}
-# The control characters that HTML doesn't allow.
-FORBIDDEN = re.compile("[\x00-\x08\x0b\x0e-\x1f\x7f-\x9f]")
+REFERENCES = {"&": "&amp;", "<": "&lt;", ">": "&gt;", '"': "&quot;", "'": "&#39;", "\r": "&#13;"}
+# The control characters of ASCII that HTML doesn't allow.
+FORBIDDEN = re.compile("[\x00-\x08\x0b\x0e-\x1f\x7f]")
 
 
 def escaped(text):
-    """Text from outside, as it stands in the page: five characters as references, and no control character."""
-    return FORBIDDEN.sub("\ufffd", re.sub("[&<>\"']", lambda found: REFERENCES[found.group()], text))
+    """Text from outside, as it stands in the page: six characters as references, and no control character of ASCII."""
+    return FORBIDDEN.sub("\ufffd", re.sub("[&<>\"'\r]", lambda found: REFERENCES[found.group()], text))
 
 
 # The document

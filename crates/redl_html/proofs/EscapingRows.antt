@@ -11,5 +11,9 @@ reference = refl
 controls : escaped (codes "a" ++ (0 ∷ 27 ∷ 9 ∷ 127 ∷ [])) ≡ codes "a" ++ (replacement ++ (replacement ++ (9 ∷ replacement)))
 controls = refl
 
-high_controls : escaped (0xC2 ∷ 0x80 ∷ 0xC2 ∷ 0xA0 ∷ 0xC3 ∷ 0x84 ∷ []) ≡ replacement ++ (0xC2 ∷ 0xA0 ∷ 0xC3 ∷ 0x84 ∷ [])
+-- U+0085 in a name stays, so that the page's name is that of the journal
+high_controls : escaped (0xC2 ∷ 0x85 ∷ 0xC2 ∷ 0xA0 ∷ 0xC3 ∷ 0x84 ∷ []) ≡ 0xC2 ∷ 0x85 ∷ 0xC2 ∷ 0xA0 ∷ 0xC3 ∷ 0x84 ∷ []
 high_controls = refl
+
+carriage_return : escaped (codes "a\r\nb") ≡ codes "a&#13;\nb"
+carriage_return = refl

@@ -5,7 +5,7 @@ ghost use Rattle.redl_html.specs.Escaping.{is_safe};
 ghost use Rattle.redl_html.specs.Pieces.{outside, piece_text};
 
 /// No text from outside becomes markup or ends a quoted value: what is written of it has no `<`, no `>` and no quote, and a `&` only
-/// where a reference of the five characters begins.
+/// where a reference of the six characters begins.
 ///
 /// A page is a list of pieces, and a text from outside can stand in a piece of this kind alone: the others hold constants of the
 /// definitions and numbers.

@@ -2,12 +2,12 @@
 //! markup.
 //!
 //! Read `put_escaped`. A page is a list of pieces, of `specs/Pieces.antt`: a text of the program's own, a number, or a text from
-//! outside, which alone holds bytes and is written escaped. `put_part` and `put_waiting` put a text that comes in parts.
+//! outside, which alone holds bytes and is written escaped. A text that comes in parts is put part by part.
 //! Which pieces a page has is left to the crates above.
 #![tactic(auto)]
 
 mod escape;
 mod laws;
 
-pub use escape::{put_escaped, put_part, put_waiting};
+pub use escape::put_escaped;
 pub use laws::texts_from_outside_are_safe;

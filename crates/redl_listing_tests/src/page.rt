@@ -75,13 +75,14 @@ const DOCUMENTS: [(&[(&str, &str)], &str); 13] = [
         )],
         "<section>\n<div class=\"p\"><span class=\"picture\">picture</span><span class=\"box\"><p></p>\n</span><details><summary>kept in another form</summary><span class=\"picture\">picture</span></details></div>\n</section>\n",
     ),
-    // characters: references, CDATA, a comment, a hyphen that does not break, a line break, and a control character
+    // characters: references, CDATA, a comment, a hyphen that does not break, a line break, and control characters: one of two bytes,
+    // which stays, one of one byte, and a carriage return
     (
         &[(
             "/a",
-            "<w:document><w:p><w:r><w:t>a<!-- n --><![CDATA[<b>]]>&#x85;</w:t><w:noBreakHyphen/><w:br/><w:instrText>i</w:instrText></w:r></w:p></w:document>",
+            "<w:document><w:p><w:r><w:t>a<!-- n --><![CDATA[<b>]]>&#x85;\u{7f}&#13;</w:t><w:noBreakHyphen/><w:br/><w:instrText>i</w:instrText></w:r></w:p></w:document>",
         )],
-        "<section>\n<p>a&lt;b&gt;\u{FFFD}&#8209;<br></p>\n</section>\n",
+        "<section>\n<p>a&lt;b&gt;\u{85}\u{FFFD}&#13;&#8209;<br></p>\n</section>\n",
     ),
     // a style that tries to be markup, bold and italic runs, and notes
     (

@@ -1,15 +1,14 @@
 //! What the text of a document shows, as it is written in the page.
 
-ghost use Rattle.std.specs.Prelude.{◌≡◌, IfOk, false};
 ghost use Rattle.redl_io.specs.Sink.{Puts};
 ghost use Rattle.redl_shown.specs.Pieces.{piece_text};
 ghost use Rattle.redl_shown.specs.Shown.{shown};
 ghost use Rattle.redl_page_stories.specs.Document.{bytes_pieces};
-ghost use Rattle.redl_html.specs.Escaping.{escaped, escaped_so_far, waits_after};
+ghost use Rattle.redl_html.specs.Escaping.{escaped};
 ghost use Rattle.redl_html.specs.Pieces.{pieces_text};
 
 use crate::place::Place;
-use redl_html::{put_part, put_waiting};
+use redl_html::put_escaped;
 use redl_io::{Failed, Sink};
 use redl_shown::{Piece, next_shown, start};
 
@@ -27,37 +26,24 @@ pub(crate) fn put_bytes<K: Sink>(place: Place, bytes: &[u8], out: &mut K) -> Res
 pub(crate) fn put_shown<K: Sink>(bytes: &[u8], out: &mut K) -> Result<(), Failed>
     ensures { Puts K.told K.faults K.settled K.lenders out.old out.new (escaped (shown bytes.now)) result }
 {
-    let waits = put_steps(bytes, out)?;
-    put_waiting(waits, out)
-}
-
-// Puts all but the byte that waits at the end, and says whether one does.
-fn put_steps<K: Sink>(bytes: &[u8], out: &mut K) -> Result<bool, Failed>
-    ensures puts { Puts K.told K.faults K.settled K.lenders out.old out.new (escaped_so_far false (shown bytes.now)) result }
-    ensures waits { IfOk result (λ after. after ≡ waits_after false (shown bytes.now)) }
-{
     let mut here = start();
-    let mut waits = false;
     let mut left = bytes;
     while let Some(step) = next_shown(here, left) {
-        waits = put_step(waits, step.piece, out)?;
+        put_step(step.piece, out)?;
         here = step.here;
         left = step.rest;
     }
-    Ok(waits)
+    Ok(())
 }
 
-fn put_step<K: Sink>(waits: bool, piece: Piece<'_>, out: &mut K) -> Result<bool, Failed>
-    ensures puts { Puts K.told K.faults K.settled K.lenders out.old out.new (escaped_so_far waits (piece_text piece.entry)) result }
-    ensures waits { IfOk result (λ after. after ≡ waits_after waits (piece_text piece.entry)) }
+fn put_step<K: Sink>(piece: Piece<'_>, out: &mut K) -> Result<(), Failed>
+    ensures { Puts K.told K.faults K.settled K.lenders out.old out.new (escaped (piece_text piece.entry)) result }
 {
     match piece {
-        Piece::Nothing => Ok(waits),
-        Piece::Bytes(bytes) => put_part(waits, bytes, out),
-        Piece::Character(character) => put_part(
-            waits,
-            character.encode_utf8(&mut [0; 4]).as_bytes(),
-            out,
-        ),
+        Piece::Nothing => Ok(()),
+        Piece::Bytes(bytes) => put_escaped(bytes, out),
+        Piece::Character(character) => {
+            put_escaped(character.encode_utf8(&mut [0; 4]).as_bytes(), out)
+        }
     }
 }

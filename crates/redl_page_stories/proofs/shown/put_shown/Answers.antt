@@ -1,14 +1,23 @@
-use Rattle.std.proofs.Common.{ap, sym, ◌∙◌, ◌++◌, false}
-use Rattle.redl_io.proofs.Puts.{puts_then, puts_fails}
-use Rattle.redl_shown.specs.Shown.{shown}
-use Rattle.redl_html.specs.Escaping.{escaped_so_far, waiting}
-use Rattle.redl_html.proofs.EscapingLaws.{escaped_from-so_far}
+use Rattle.std.proofs.Common.{ap, ◌∙◌}
+use Rattle.redl_io.proofs.Puts.{so_far_goes_on, so_far_stops}
+use Rattle.redl_shown.specs.Shown.{shown_from}
+use Rattle.redl_shown.specs.Pieces.{piece_text}
+use Rattle.redl_html.specs.Escaping.{escaped}
+use Rattle.redl_html.proofs.EscapingLaws.{escaped-append}
 use Rattle.redl_page_stories.proofs.shown.put_shown.Goals as goal
 
-pub returns-in_err-waits : goal.returns-in_err-waits
-returns-in_err-waits g c = puts_fails _ (escaped_from-so_far false (shown c.args.bytes.now)) c.from_residual.ensures.1 c.in_err-waits.ensures.puts
+pub returns-in_err-put_step : goal.returns-in_err-put_step
+returns-in_err-put_step g c =
+    let step = c.in-Some.step in
+    let text = piece_text step.piece in
+    let left = shown_from step.here step.rest.now in
+    so_far_stops (escaped text) (escaped left) (ap escaped c.in-Some.ensures.shown ∙ escaped-append text left)
+    c.from_residual.ensures.1 c.loop-step.invariant c.in_err-put_step.ensures
 
-pub returns : goal.returns
-returns g c =
-    puts_then (escaped_from-so_far false (shown c.args.bytes.now) ∙ ap (λ w. escaped_so_far false (shown c.args.bytes.now) ++ waiting w) (sym c.in_ok-waits.ensures.waits))
-    c.in_ok-waits.ensures.puts c.put_waiting.ensures
+pub loop-step-preserved : goal.loop-step-preserved
+loop-step-preserved g c =
+    let step = c.in-Some.step in
+    let text = piece_text step.piece in
+    let left = shown_from step.here step.rest.now in
+    so_far_goes_on (escaped text) (escaped left) (ap escaped c.in-Some.ensures.shown ∙ escaped-append text left)
+    c.loop-step.invariant c.in_ok-put_step.ensures
