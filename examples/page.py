@@ -41,9 +41,15 @@ def properties(element, name, local):
     return [it for props in reading.kids_named(element.kids, name) for it in reading.kids_named(props.kids, local)]
 
 
-def style_of(para):
-    named = [it.written_value("val") for it in properties(para, "pPr", "pStyle")]
-    return next((style for style in named if style is not None), None)
+def first_value(element, name, local):
+    """The first value of a property that is given."""
+    values = [it.written_value("val") for it in properties(element, name, local)]
+    return next((value for value in values if value is not None), None)
+
+
+def switch(element, name, local):
+    """The value of the first property of this name, which may be empty; none where there is no such property."""
+    return next(((it.written_value("val") or "") for it in properties(element, name, local)), None)
 
 
 def is_on(run, local):
@@ -115,11 +121,19 @@ class Page:
     # All elements
 
     def paragraph(self, element):
-        style = style_of(element)
+        style = first_value(element, "pPr", "pStyle")
         start, end = ('<div class="p"', "</div>\n") if holds_blocks(element) else ("<p", "</p>\n")
+        if switch(element, "pPr", "bidi") not in (None, "0", "false", "off"):
+            start += ' dir="rtl"'
         if style is not None:
             start += ' data-style="%s"' % escaped(shown(style))
         return start + ">", "".join(self.sign(mark, "mark", "&para;") for mark in marks_of(element)) + end
+
+    def cell(self, element):
+        columns = first_value(element, "tcPr", "gridSpan")
+        span = "" if columns is None else ' colspan="%s"' % escaped(shown(columns))
+        merged = "" if switch(element, "tcPr", "vMerge") in (None, "restart") else ' class="merged"'
+        return "<td" + span + merged + ">", "</td>"
 
     def around(self, element):
         """What stands before and behind what an element holds."""
@@ -129,16 +143,25 @@ class Page:
             return "", ""
         if is_second_form(element):
             return "<details><summary>kept in another form</summary>", "</details>"
+        if element.space == "other" or element.is_w("altChunk"):
+            return "<!--other-->", "<!--/other-->"
         if element.space != "W":
             return "", ""
         if element.local == "p":
             return self.paragraph(element)
+        if element.local == "tc":
+            return self.cell(element)
         if element.local == "r":
             names = [name for name in "bi" if is_on(element, name)]
             return "".join("<%s>" % it for it in names), "".join("</%s>" % it for it in reversed(names))
-        is_note = element.is_w("footnote", "endnote") and element.attribute("type") is None
-        if is_note or element.is_w("footnoteReference", "endnoteReference"):
-            return "<sup>%s</sup>" % escaped(shown(element.written_value("id") or "")), ""
+        sign = "<sup>%s</sup>" % escaped(shown(element.written_value("id") or ""))
+        if element.is_w("footnoteReference", "endnoteReference"):
+            return sign, ""
+        if element.is_w("sdt", "customXml", "footnote", "endnote", "comment"):
+            is_note = element.is_w("footnote", "endnote") and element.attribute("type") is None
+            return "<!--list-->" + (sign if is_note else ""), "<!--/list-->"
+        if element.local == "sym":
+            return symbol(element.written_value("char") or ""), ""
         return FIXED.get(element.local, ("", ""))
 
     def nodes(self, nodes, parent):
@@ -155,7 +178,7 @@ class Page:
         out = ""
         for place, (name, root) in enumerate(self.package.stories):
             heading = "<h2>%s</h2>\n" % escaped(name) if place else ""
-            out += "<section>\n" + heading + self.nodes(root.kids, root) + "</section>\n"
+            out += '<section data-story="%s">\n' % escaped(root.local) + heading + self.nodes(root.kids, root) + "</section>\n"
         return out
 
     # The list of changes
@@ -184,6 +207,13 @@ class Page:
         return "".join('<li data-sequence="%d">%s</li>\n' % (sequence, escaped(who)) for who, sequence in greatest.items())
 
 
+def symbol(digits):
+    """A symbol by its number: a box where only its font knows what it shows."""
+    number = int(digits, 16) if re.fullmatch("[0-9A-Fa-f]{4}", digits) else 0
+    agreed = 0x20 <= number < 0x7F or 0xA0 <= number < 0xD800 or 0xF900 <= number < 0xFFFE
+    return '<span class="symbol">%s</span>' % (escaped(chr(number)) if agreed else "&#9633;")
+
+
 def edge(inside):
     return '<td class="edge">' + inside + "</td>"
 
@@ -195,7 +225,6 @@ def rank_of(entry):
 FIXED = {
     "tbl": ("<table>\n", "</table>\n"),
     "tr": ("<tr>", "</tr>\n"),
-    "tc": ("<td>", "</td>"),
     "txbxContent": ('<span class="box">', "</span>"),
     "tab": ("\t", ""),
     "br": ("<br>", ""),

@@ -79,6 +79,24 @@ heading =
     ⊕ opened "r" (opened "rPr" (closed "b" "" ⊕ closed "i" " w:val=\"0\"") ⊕ opened "t" (words "Price") ⊕ closed "footnoteReference" " w:id=\"3\""))
     ⊕ opened_with "footnote" " w:type=\"separator\" w:id=\"0\"" no_nodes
 
-shown_heading : written heading ≡ codes "<p data-style=\"Heading1\"><b>Price<sup>3</sup></b></p>\n"
+shown_heading : written heading ≡ codes "<p data-style=\"Heading1\"><b>Price<sup>3</sup></b></p>\n<!--list--><!--/list-->"
 unfolding heading attributes_of attribute_in attribute_at name_at word_at char_at name_end name_step may_start may_follow is_name_start is_name_character is_space equated_at quoted_at field_at quote_at is_value
 shown_heading = refl
+
+-- a cell over two columns that goes on from the one above, with a paragraph from right to left, and one that begins a column of merged cells
+cells : Nodes
+cells =
+    opened "tc" (opened "tcPr" (closed "gridSpan" " w:val=\"2\"" ⊕ closed "vMerge" "") ⊕ opened "p" (opened "pPr" (closed "bidi" "")))
+    ⊕ opened "tc" (opened "tcPr" (closed "vMerge" " w:val=\"restart\""))
+
+merged : written cells ≡ codes "<td colspan=\"2\" class=\"merged\"><p dir=\"rtl\"></p>\n</td><td></td>"
+unfolding cells attributes_of attribute_in attribute_at name_at word_at char_at name_end name_step may_start may_follow is_name_start is_name_character is_space equated_at quoted_at field_at quote_at is_value
+merged = refl
+
+-- blocks that are not joined with those outside
+control : Nodes
+control = opened "sdt" (opened "sdtContent" (opened "p" no_nodes)) ⊕ opened "altChunk" no_nodes
+
+apart : written control ≡ codes "<!--list--><p></p>\n<!--/list--><!--other--><!--/other-->"
+unfolding control attributes_of
+apart = refl

@@ -21,8 +21,8 @@ use Rattle.redl_page_stories.specs.declared.shape.Shape.TheVariants as shape
 use Rattle.redl_page_stories.specs.Document.{bytes_pieces, element_pieces, end_as, inside, marks_in, nodes_pieces, start_as}
 use Rattle.redl_page_stories.specs.Inside.Idle.{behind_idle, idle_within, idle_named, idle_place, idle_shape, idle_start, idle_text, page_rule}
 use Rattle.redl_html.specs.Pieces.{own, pieces_text}
-use Rattle.redl_page_stories.specs.Shapes.{behind_opening, closing, has_property, holds_blocks, inline_named, inline_shape, is_note, is_other_form, is_paragraph, is_reference, opening, run_shape, shape_named, shape_of}
-use Rattle.redl_page_stories.proofs.PastLaws.{other_none}
+use Rattle.redl_page_stories.specs.Shapes.{behind_opening, closing, has_property, holds_blocks, holds_list, inline_named, inline_shape, is_foreign, is_note, is_other, is_other_form, is_paragraph, is_reference, opening, run_shape, shape_named, shape_of}
+use Rattle.redl_page_stories.proofs.PastLaws.{no_other, other_none}
 use Rattle.redl_html.proofs.PieceLaws.{pieces_text-append}
 use Rattle.redl_page_stories.proofs.NodeLaws.{element_text-by, shape_end-text}
 
@@ -31,21 +31,32 @@ use Rattle.redl_page_stories.proofs.NodeLaws.{element_text-by, shape_end-text}
 reference_same : (in_run : Bool) (tag : Tag) → Idle in_run tag → is_reference tag ≡ is_reference (of_w tag.local)
 reference_same in_run tag i = by_local (λ w local. (w && bytes_eq local (codes "footnoteReference")) || (w && bytes_eq local (codes "endnoteReference"))) in_run tag i
 
--- it is no note but a reference to one
-note_same : (in_run : Bool) (tag : Tag) → Idle in_run tag → is_note tag ≡ is_reference (of_w tag.local)
-note_same in_run tag i =
+-- it is no note, holds no list of blocks, and is not foreign
+note_none : (in_run : Bool) (tag : Tag) → Idle in_run tag → is_note tag ≡ false
+note_none in_run tag i =
     let kept = not (is_some (attribute_value tag.tail (codes "type"))) in
-    ap (λ f. is_reference tag || ((f || is "endnote" tag) && kept)) (has-not "footnote" in_run tag i refl)
-    ∙ ap (λ e. is_reference tag || ((false || e) && kept)) (has-not "endnote" in_run tag i refl)
-    ∙ or-false (is_reference tag) ∙ reference_same in_run tag i
+    ap (λ f. (f || is "endnote" tag) && kept) (has-not "footnote" in_run tag i refl)
+    ∙ ap (λ e. e && kept) (has-not "endnote" in_run tag i refl)
 
-inline_same : (note : Bool) (in_run : Bool) (tag : Tag) → Idle in_run tag → inline_shape note tag ≡ inline_shape note (of_w tag.local)
-inline_same note in_run tag i =
+list_none : (in_run : Bool) (tag : Tag) → Idle in_run tag → holds_list tag ≡ false
+list_none in_run tag i =
+    ap (λ b. b || is "customXml" tag || is "footnote" tag || is "endnote" tag || is "comment" tag) (has-not "sdt" in_run tag i refl)
+    ∙ ap (λ b. b || is "footnote" tag || is "endnote" tag || is "comment" tag) (has-not "customXml" in_run tag i refl)
+    ∙ ap (λ b. b || is "endnote" tag || is "comment" tag) (has-not "footnote" in_run tag i refl)
+    ∙ ap (λ b. b || is "comment" tag) (has-not "endnote" in_run tag i refl)
+    ∙ has-not "comment" in_run tag i refl
+
+foreign_none : (in_run : Bool) (tag : Tag) → Idle in_run tag → is_foreign tag ≡ false
+foreign_none in_run tag i = ap (λ b. b || is_other tag.space) (has-not "altChunk" in_run tag i refl) ∙ no_other tag.space i.space
+
+inline_same : (reference : Bool) (in_run : Bool) (tag : Tag) → Idle in_run tag → inline_shape reference tag ≡ inline_shape reference (of_w tag.local)
+inline_same reference in_run tag i =
     by_local (λ w local. if (w && bytes_eq local (codes "tab")) then shape.Tab
     else if ((w && bytes_eq local (codes "br")) || (w && bytes_eq local (codes "cr"))) then shape.Break
     else if (w && bytes_eq local (codes "noBreakHyphen")) then shape.Hyphen
+    else if (w && bytes_eq local (codes "sym")) then shape.Symbol
     else if ((w && bytes_eq local (codes "drawing")) || (w && bytes_eq local (codes "pict")) || (w && bytes_eq local (codes "object"))) then shape.Picture
-    else if note then shape.Note
+    else if reference then shape.Reference
     else shape.Nothing) in_run tag i
 
 -- it is shown as its local name says
@@ -54,7 +65,9 @@ named_same in_run tag kids i =
     let run = run_shape (has_property (codes "b") kids) (has_property (codes "i") kids) in
     let para = if holds_blocks kids then shape.Division else shape.Paragraph in
     let inline = inline_named tag in
-    let after_form = λ (o : Bool). if o then shape.OtherForm else inline in
+    let after_list = λ (l : Bool). if l then shape.Blocks else if is_foreign tag then shape.Foreign else inline in
+    let after_note = λ (n : Bool). if n then shape.Note else after_list (holds_list tag) in
+    let after_form = λ (o : Bool). if o then shape.OtherForm else after_note (is_note tag) in
     let after_box = λ (x : Bool). if x then shape.TextBox else after_form (is_other_form tag) in
     let after_cell = λ (c : Bool). if c then shape.Cell else after_box (is "txbxContent" tag) in
     let after_row = λ (r : Bool). if r then shape.Row else after_cell (is "tc" tag) in
@@ -62,8 +75,9 @@ named_same in_run tag kids i =
     let after_run = λ (r : Bool). if r then run else after_table (is "tbl" tag) in
     let others : after_table (is "tbl" tag) ≡ inline_shape (is_reference (of_w tag.local)) (of_w tag.local) =
     ap after_table (has-not "tbl" in_run tag i refl) ∙ ap after_row (has-not "tr" in_run tag i refl) ∙ ap after_cell (has-not "tc" in_run tag i refl)
-    ∙ ap after_box (has-not "txbxContent" in_run tag i refl) ∙ ap after_form (other_none in_run tag i)
-    ∙ ap (λ n. inline_shape n tag) (note_same in_run tag i) ∙ inline_same (is_reference (of_w tag.local)) in_run tag i in
+    ∙ ap after_box (has-not "txbxContent" in_run tag i refl) ∙ ap after_form (other_none in_run tag i) ∙ ap after_note (note_none in_run tag i)
+    ∙ ap after_list (list_none in_run tag i) ∙ ap (λ (f : Bool). if f then shape.Foreign else inline) (foreign_none in_run tag i)
+    ∙ ap (λ n. inline_shape n tag) (reference_same in_run tag i) ∙ inline_same (is_reference (of_w tag.local)) in_run tag i in
     ap (λ p. if p then para else after_run (is "r" tag)) (has-not "p" in_run tag i refl)
     ∙ ap after_run (name_same in_run tag i (codes "r"))
     ∙ ap (λ o. if is "r" (of_w tag.local) then run else o) others
@@ -71,48 +85,63 @@ named_same in_run tag kids i =
 shape_same : (loud : Bool) (in_run : Bool) (tag : Tag) (kids : Nodes) → Idle in_run tag → shape_of loud tag kids ≡ idle_shape loud tag.local kids
 shape_same loud in_run tag kids i = ap (λ s. if loud then s else shape.Nothing) (named_same in_run tag kids i)
 
--- that is no paragraph
-inline_none : (tab line hyphen picture note : Bool) →
-    is_paragraph (if tab then shape.Tab else if line then shape.Break else if hyphen then shape.Hyphen else if picture then shape.Picture else if note then shape.Note else shape.Nothing) ≡ false
-inline_none true line hyphen picture note = refl
-inline_none false true hyphen picture note = refl
-inline_none false false true picture note = refl
-inline_none false false false true note = refl
-inline_none false false false false true = refl
-inline_none false false false false false = refl
+-- the shapes of which something of the kids comes behind the opening
+abbrev tells_kids : Shape → Bool
+tells_kids shape.Paragraph = true
+tells_kids shape.Division = true
+tells_kids shape.Cell = true
+tells_kids _ = false
 
-run_none : (bold italic : Bool) → is_paragraph (run_shape bold italic) ≡ false
+-- that is none of them
+inline_none : (tab line hyphen symbol picture reference : Bool) →
+    tells_kids (if tab then shape.Tab else if line then shape.Break else if hyphen then shape.Hyphen else if symbol then shape.Symbol else if picture then shape.Picture else if reference then shape.Reference else shape.Nothing) ≡ false
+inline_none true line hyphen symbol picture reference = refl
+inline_none false true hyphen symbol picture reference = refl
+inline_none false false true symbol picture reference = refl
+inline_none false false false true picture reference = refl
+inline_none false false false false true reference = refl
+inline_none false false false false false true = refl
+inline_none false false false false false false = refl
+
+run_none : (bold italic : Bool) → tells_kids (run_shape bold italic) ≡ false
 run_none false false = refl
 run_none true false = refl
 run_none false true = refl
 run_none true true = refl
 
-paragraph_none : (loud : Bool) (local : List ℕ) (kids : Nodes) → is_paragraph (idle_shape loud local kids) ≡ false
-paragraph_none loud local kids = by loud (is "r" (of_w local)) where
+kids_none : (loud : Bool) (local : List ℕ) (kids : Nodes) → tells_kids (idle_shape loud local kids) ≡ false
+kids_none loud local kids = by loud (is "r" (of_w local)) where
   by : (loud run : Bool) →
-      is_paragraph (if loud then (if run then run_shape (has_property (codes "b") kids) (has_property (codes "i") kids) else inline_shape (is_reference (of_w local)) (of_w local)) else shape.Nothing) ≡ false
+      tells_kids (if loud then (if run then run_shape (has_property (codes "b") kids) (has_property (codes "i") kids) else inline_shape (is_reference (of_w local)) (of_w local)) else shape.Nothing) ≡ false
   by false run = refl
   by true true = run_none (has_property (codes "b") kids) (has_property (codes "i") kids)
   by true false =
-      inline_none (is "tab" (of_w local)) (is "br" (of_w local) || is "cr" (of_w local)) (is "noBreakHyphen" (of_w local))
+      inline_none (is "tab" (of_w local)) (is "br" (of_w local) || is "cr" (of_w local)) (is "noBreakHyphen" (of_w local)) (is "sym" (of_w local))
       (is "drawing" (of_w local) || is "pict" (of_w local) || is "object" (of_w local)) (is_reference (of_w local))
 
-behind_same : (s : Shape) (tag : Tag) (kids : Nodes) → is_paragraph s ≡ false → behind_opening s tag kids ≡ behind_idle s tag.tail
+-- and so no paragraph
+no_paragraph : (s : Shape) → tells_kids s ≡ false → is_paragraph s ≡ false
+no_paragraph shape.Paragraph h = absurd cc
+no_paragraph shape.Division h = absurd cc
+no_paragraph _ h = refl
+
+behind_same : (s : Shape) (tag : Tag) (kids : Nodes) → tells_kids s ≡ false → behind_opening s tag kids ≡ behind_idle s tag.tail
 behind_same shape.Paragraph tag kids h = absurd cc
 behind_same shape.Division tag kids h = absurd cc
+behind_same shape.Cell tag kids h = absurd cc
 behind_same _ tag kids h = refl
 
 -- what comes before its kids, and after them
-start_same : (revisions : List Revision) (s : Shape) (in_run : Bool) (tag : Tag) (kids : Nodes) → Idle in_run tag → is_paragraph s ≡ false →
+start_same : (revisions : List Revision) (s : Shape) (in_run : Bool) (tag : Tag) (kids : Nodes) → Idle in_run tag → tells_kids s ≡ false →
     start_as revisions s tag kids tag.kind ≡ idle_start s tag.tail
 start_same revisions s in_run tag kids i h =
     ap (start_as revisions s tag kids) i.kind ∙ ap (λ l. own (opening s) ∷ l) (behind_same s tag kids h)
 
-end_same : (revisions : List Revision) (s : Shape) (in_run : Bool) (tag : Tag) (kids : Nodes) → Idle in_run tag → is_paragraph s ≡ false →
+end_same : (revisions : List Revision) (s : Shape) (in_run : Bool) (tag : Tag) (kids : Nodes) → Idle in_run tag → tells_kids s ≡ false →
     pieces_text (end_as revisions s kids tag.kind) ≡ codes (closing s)
 end_same revisions s in_run tag kids i h =
     ap (λ k. pieces_text (end_as revisions s kids k)) i.kind ∙ shape_end-text revisions s kids
-    ∙ ap (λ p. pieces_text (if p then marks_in revisions Kids kids else []) ++ codes (closing s)) h
+    ∙ ap (λ p. pieces_text (if p then marks_in revisions Kids kids else []) ++ codes (closing s)) (no_paragraph s h)
 
 place_same : (place : Place) (in_run : Bool) (tag : Tag) → Idle in_run tag → inside tag place ≡ idle_place place tag.local
 place_same place in_run tag i =
@@ -133,7 +162,7 @@ page_of revisions around in_run (element tag kids rest) h =
     let p = idle_parts in_run tag kids rest h in
     let s = idle_shape around.place.loud tag.local kids in
     let within = idle_within around tag.local kids in
-    let none = paragraph_none around.place.loud tag.local kids in
+    let none = kids_none around.place.loud tag.local kids in
     let later = nodes_pieces shown revisions around.place rest in
     let held = nodes_pieces shown revisions (inside tag around.place) kids in
     let inner : pieces_text held ≡ shows page_rule within kids =

@@ -2,6 +2,7 @@ mod DocumentRows
 mod IdleRows
 pub mod PastLaws
 pub mod NodeLaws
+pub mod StartLaws
 pub mod EmphasisLaws
 pub mod IdleLaws
 pub mod MemberLaws

@@ -25,11 +25,11 @@ use Rattle.redl_opc.proofs.StoryLaws.{stories-parts}
 use Rattle.redl_page_stories.specs.declared.marks.Depth.TheVariants.{Kids, Properties, RunProperties}
 use Rattle.redl_page_stories.specs.declared.place.Place.{Place}
 use Rattle.redl_page_stories.specs.declared.shape.Shape.TheVariants.{Division, Paragraph}
-use Rattle.redl_html.specs.Pieces.{own}
+use Rattle.redl_html.specs.Pieces.{Piece, own}
 use Rattle.redl_html.proofs.NumberLaws.{has-left, has-right}
 use Rattle.redl_page_stories.specs.Shapes.{shape_of, holds_blocks}
 use Rattle.redl_page_stories.specs.Signs.{opens_number, has_element, before, member, is_member, has_member}
-use Rattle.redl_page_stories.specs.Document.{marks_in, bytes_pieces, start_as, end_as, inside, element_pieces, nodes_pieces, in_story, section_head, section, section_in, sections, is_first_after}
+use Rattle.redl_page_stories.specs.Document.{marks_in, bytes_pieces, start_as, end_as, inside, element_pieces, nodes_pieces, in_story, section_name, section_start, section, section_in, sections, is_first_after}
 use Rattle.redl_page_stories.specs.Inside.Items.{element_marks}
 
 -- ---- the element of a member
@@ -252,9 +252,12 @@ module _ (shown : List ℕ → List ℕ) (revisions : List Revision) (v : ℕ) w
       at (inl here) = here
       at (inr waits) = absurd (none_waits story.tag story.kids is.root waits)
 
-  section-has : (first : Bool) (name : List ℕ) (root : Element) → IsStory root → has_member v root.kids ≡ true → has_element v (section shown revisions first name root.kids) ≡ true
+  section-has : (first : Bool) (name : List ℕ) (root : Element) → IsStory root → has_member v root.kids ≡ true → has_element v (section shown revisions first name root.tag.local root.kids) ≡ true
   section-has first name root is h =
-      has-right opens_number v (section_head first name) _ (has-left opens_number v (nodes_pieces shown revisions in_story root.kids) (own "</section>\n" ∷ []) (story-has root is h))
+      let held = nodes_pieces shown revisions in_story root.kids in
+      let end : List Piece = own "</section>\n" ∷ [] in
+      has-right opens_number v (section_start root.tag.local) (section_name first name ++ (held ++ end))
+      (has-right opens_number v (section_name first name) (held ++ end) (has-left opens_number v held end (story-has root is h)))
 
   sections-have : (first : Bool) (parts : List Element) → AreStories (filter_map story_of parts) → list_any (λ story. has_member v story.kids) (filter_map story_of parts) ≡ true →
       has_element v (sections shown revisions first parts) ≡ true
@@ -269,9 +272,9 @@ module _ (shown : List ℕ → List ℕ) (revisions : List Revision) (v : ℕ) w
       at (Some root) are h same later = by (or_cases (has_member v root.kids) _ h)
         where
           by : (has_member v root.kids ≡ true) ⊎ (list_any (λ story. has_member v story.kids) (filter_map story_of parts) ≡ true) →
-              has_element v (section shown revisions first (name_in part.tag) root.kids ++ sections shown revisions false parts) ≡ true
-          by (inl here) = has-left opens_number v (section shown revisions first (name_in part.tag) root.kids) (sections shown revisions false parts) (section-has first (name_in part.tag) root are.0 here)
-          by (inr there) = has-right opens_number v (section shown revisions first (name_in part.tag) root.kids) (sections shown revisions false parts) (later are.1 there)
+              has_element v (section shown revisions first (name_in part.tag) root.tag.local root.kids ++ sections shown revisions false parts) ≡ true
+          by (inl here) = has-left opens_number v (section shown revisions first (name_in part.tag) root.tag.local root.kids) (sections shown revisions false parts) (section-has first (name_in part.tag) root are.0 here)
+          by (inr there) = has-right opens_number v (section shown revisions first (name_in part.tag) root.tag.local root.kids) (sections shown revisions false parts) (later are.1 there)
 
 -- each member of an indexed package has an element with its number
 pub document-has : (shown : List ℕ → List ℕ) (revisions : List Revision) (value : Value) (nodes : Nodes) (v : ℕ) → refusal nodes ≡ None → IsIndexed value nodes →

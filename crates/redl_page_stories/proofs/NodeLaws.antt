@@ -1,6 +1,6 @@
 -- What is written of a story: of signs, and of the nodes of a list one after the other.
 use Prim.Native.String.{String}
-use Rattle.std.proofs.Common.{◌≡◌, ℕ, List, [], ◌++◌, Bool, true, false, ◌||◌, ◌+◌, ◌<◌, length, drop, slice_get, None, Some, option_map, refl, sym, ap, ◌∙◌, append-nil, codes, if◌then◌else◌}
+use Rattle.std.proofs.Common.{◌≡◌, ℕ, List, [], ◌∷◌, ◌++◌, Bool, true, false, ◌||◌, ◌+◌, ◌<◌, length, drop, slice_get, None, Some, option_map, refl, sym, ap, ◌∙◌, append-nil, codes, if◌then◌else◌}
 use Rattle.std.specs.Prelude.{decimal, unwrap_or}
 use Rattle.std.specs.Option.{option_or}
 use Rattle.redl_tree.specs.Model.IdleTexts.{idle_nodes}
@@ -15,15 +15,16 @@ use Rattle.redl_index.specs.declared.revision.Revision.{Revision}
 use Rattle.redl_page_stories.specs.declared.marks.Depth.{Depth}
 use Rattle.redl_page_stories.specs.declared.marks.Depth.TheVariants.{Kids, Properties, RunProperties}
 use Rattle.redl_page_stories.specs.declared.place.Place.{Place}
+use Rattle.redl_page_stories.specs.declared.values.Property.{Property}
 use Rattle.redl_html.specs.Escaping.{escaped}
-use Rattle.redl_html.specs.Pieces.{Piece, pieces_text}
+use Rattle.redl_html.specs.Pieces.{Piece, own, pieces_text}
 use Rattle.redl_html.proofs.PieceLaws.{pieces_text-append}
-use Rattle.redl_page_stories.specs.Shapes.{closing, has_property, holds_blocks, is_paragraph, shape_of, style_in, style_of, switched_on}
+use Rattle.redl_page_stories.specs.Shapes.{closing, has_property, holds_blocks, is_paragraph, shape_of, switched_on, value_in, value_of}
 use Rattle.redl_page_stories.specs.declared.shape.Shape.{Shape}
 use Rattle.redl_page_stories.specs.Signs.{author_at, sign, sign_text, edge}
-use Rattle.redl_page_stories.specs.Document.{in_story, section_head, section, shape_end, start_as, end_as, element_pieces, marks_in, nodes_pieces, section_in, sections, section_at, name_at, is_first_after}
-use Rattle.redl_page_stories.specs.Inside.Items.{item_has_property, item_holds, item_marks, item_pieces, item_style, item_style_in, item_switches}
-use Rattle.redl_page_stories.proofs.PastLaws.{has_property_past, holds_past, marks_past, pieces-⊕, style_in-⊕, style_of_past, switched_on-⊕}
+use Rattle.redl_page_stories.specs.Document.{in_story, section_name, section_start, section, shape_end, start_as, end_as, element_pieces, marks_in, nodes_pieces, section_in, sections, section_at, name_at, is_first_after}
+use Rattle.redl_page_stories.specs.Inside.Items.{item_has_property, item_holds, item_marks, item_pieces, item_switches, item_value, item_value_in}
+use Rattle.redl_page_stories.proofs.PastLaws.{has_property_past, holds_past, marks_past, pieces-⊕, switched_on-⊕, value_in-⊕, value_of_past}
 
 -- ---- signs
 
@@ -110,27 +111,27 @@ has_property-front name (idle_item t) rest = has_property_past name (idle_nodes 
 pub has_property-next : (name : List ℕ) (nodes : Nodes) (x : Item) (rest : Nodes) → nodes ≡ in_front x rest → has_property name nodes ≡ (item_has_property name x || has_property name rest)
 has_property-next name nodes x rest e = ap (has_property name) e ∙ has_property-front name x rest
 
-style_in-front : (x : Item) (rest : Nodes) → style_in (in_front x rest) ≡ option_or (item_style_in x) (style_in rest)
-style_in-front (bytes_item b) rest = refl
-style_in-front (element_item tag kids) rest = refl
-style_in-front (idle_item t) rest = style_in-⊕ (idle_nodes t) rest
+value_in-front : (property : Property) (x : Item) (rest : Nodes) → value_in property (in_front x rest) ≡ option_or (item_value_in property x) (value_in property rest)
+value_in-front property (bytes_item b) rest = refl
+value_in-front property (element_item tag kids) rest = refl
+value_in-front property (idle_item t) rest = value_in-⊕ property (idle_nodes t) rest
 
-pub style_in-later : (nodes : Nodes) (x : Item) (rest : Nodes) → nodes ≡ in_front x rest → item_style_in x ≡ None → style_in rest ≡ style_in nodes
-style_in-later nodes x rest e h = sym (ap style_in e ∙ style_in-front x rest ∙ ap (λ o. option_or o (style_in rest)) h)
+pub value_in-later : (property : Property) (nodes : Nodes) (x : Item) (rest : Nodes) → nodes ≡ in_front x rest → item_value_in property x ≡ None → value_in property rest ≡ value_in property nodes
+value_in-later property nodes x rest e h = sym (ap (value_in property) e ∙ value_in-front property x rest ∙ ap (λ o. option_or o (value_in property rest)) h)
 
-pub style_in-here : (nodes : Nodes) (x : Item) (rest : Nodes) (style : List ℕ) → nodes ≡ in_front x rest → item_style_in x ≡ Some style → style_in nodes ≡ Some style
-style_in-here nodes x rest style e h = ap style_in e ∙ style_in-front x rest ∙ ap (λ o. option_or o (style_in rest)) h
+pub value_in-here : (property : Property) (nodes : Nodes) (x : Item) (rest : Nodes) (value : List ℕ) → nodes ≡ in_front x rest → item_value_in property x ≡ Some value → value_in property nodes ≡ Some value
+value_in-here property nodes x rest value e h = ap (value_in property) e ∙ value_in-front property x rest ∙ ap (λ o. option_or o (value_in property rest)) h
 
-style_of-front : (x : Item) (rest : Nodes) → style_of (in_front x rest) ≡ option_or (item_style x) (style_of rest)
-style_of-front (bytes_item b) rest = refl
-style_of-front (element_item tag kids) rest = refl
-style_of-front (idle_item t) rest = style_of_past (idle_nodes t) rest (nodes_are_idle t)
+value_of-front : (property : Property) (x : Item) (rest : Nodes) → value_of property (in_front x rest) ≡ option_or (item_value property x) (value_of property rest)
+value_of-front property (bytes_item b) rest = refl
+value_of-front property (element_item tag kids) rest = refl
+value_of-front property (idle_item t) rest = value_of_past property (idle_nodes t) rest (nodes_are_idle t)
 
-pub style_of-later : (nodes : Nodes) (x : Item) (rest : Nodes) → nodes ≡ in_front x rest → item_style x ≡ None → style_of rest ≡ style_of nodes
-style_of-later nodes x rest e h = sym (ap style_of e ∙ style_of-front x rest ∙ ap (λ o. option_or o (style_of rest)) h)
+pub value_of-later : (property : Property) (nodes : Nodes) (x : Item) (rest : Nodes) → nodes ≡ in_front x rest → item_value property x ≡ None → value_of property rest ≡ value_of property nodes
+value_of-later property nodes x rest e h = sym (ap (value_of property) e ∙ value_of-front property x rest ∙ ap (λ o. option_or o (value_of property rest)) h)
 
-pub style_of-here : (nodes : Nodes) (x : Item) (rest : Nodes) (style : List ℕ) → nodes ≡ in_front x rest → item_style x ≡ Some style → style_of nodes ≡ Some style
-style_of-here nodes x rest style e h = ap style_of e ∙ style_of-front x rest ∙ ap (λ o. option_or o (style_of rest)) h
+pub value_of-here : (property : Property) (nodes : Nodes) (x : Item) (rest : Nodes) (value : List ℕ) → nodes ≡ in_front x rest → item_value property x ≡ Some value → value_of property nodes ≡ Some value
+value_of-here property nodes x rest value e h = ap (value_of property) e ∙ value_of-front property x rest ∙ ap (λ o. option_or o (value_of property rest)) h
 
 pub shape_end-text : (revisions : List Revision) (shape : Shape) (kids : Nodes) → pieces_text (shape_end revisions shape kids)
     ≡ pieces_text (if is_paragraph shape then marks_in revisions Kids kids else []) ++ codes (closing shape)
@@ -140,14 +141,20 @@ shape_end-text revisions shape kids =
 
 -- ---- parts
 
-pub head-named : (first : Bool) (name : List ℕ) → first ≡ false → pieces_text (section_head first name) ≡ codes "<section>\n<h2>" ++ (escaped name ++ codes "</h2>\n")
-head-named first name e = rw e refl
+pub name-named : (first : Bool) (name : List ℕ) → first ≡ false → pieces_text (section_name first name) ≡ codes "<h2>" ++ (escaped name ++ codes "</h2>\n")
+name-named first name e = rw e refl
 
-pub section-text : (shown : List ℕ → List ℕ) (revisions : List Revision) (first : Bool) (name : List ℕ) (kids : Nodes) → pieces_text (section shown revisions first name kids)
-    ≡ pieces_text (section_head first name) ++ (pieces_text (nodes_pieces shown revisions in_story kids) ++ codes "</section>\n")
-section-text shown revisions first name kids =
-    pieces_text-append (section_head first name) _
-    ∙ ap (λ l. pieces_text (section_head first name) ++ l) (pieces_text-append (nodes_pieces shown revisions in_story kids) _)
+pub name-none : (first : Bool) (name : List ℕ) → first ≡ true → pieces_text (section_name first name) ≡ []
+name-none first name e = rw e refl
+
+pub section-text : (shown : List ℕ → List ℕ) (revisions : List Revision) (first : Bool) (name sort : List ℕ) (kids : Nodes) → pieces_text (section shown revisions first name sort kids)
+    ≡ pieces_text (section_start sort) ++ (pieces_text (section_name first name) ++ (pieces_text (nodes_pieces shown revisions in_story kids) ++ codes "</section>\n"))
+section-text shown revisions first name sort kids =
+    let held = nodes_pieces shown revisions in_story kids in
+    let end : List Piece = own "</section>\n" ∷ [] in
+    pieces_text-append (section_start sort) (section_name first name ++ (held ++ end))
+    ∙ ap (λ l. pieces_text (section_start sort) ++ l) (pieces_text-append (section_name first name) (held ++ end)
+    ∙ ap (λ l. pieces_text (section_name first name) ++ l) (pieces_text-append held end))
 
 pub sections-part : (shown : List ℕ → List ℕ) (revisions : List Revision) (first : Bool) (nodes : Nodes) (number : ℕ) → number < length (parts_of nodes) →
     pieces_text (sections shown revisions first (drop number (parts_of nodes)))

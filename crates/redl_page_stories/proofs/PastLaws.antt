@@ -12,12 +12,13 @@ use Rattle.redl_tree.specs.declared.kinds.Space.{Space}
 use Rattle.redl_tree.specs.declared.kinds.Space.TheVariants.{W, M, Pkg, Other}
 use Rattle.redl_tree.proofs.Idle.Tags.{Idle, idle_parts, has-not}
 use Rattle.redl_index.specs.declared.revision.Revision.{Revision}
-use Rattle.redl_stamp.specs.Attribute.{written_value}
 use Rattle.redl_page_stories.specs.declared.marks.Depth.{Depth}
 use Rattle.redl_page_stories.specs.declared.marks.Depth.TheVariants.{Kids, Properties, RunProperties}
 use Rattle.redl_page_stories.specs.declared.place.Place.{Place}
+use Rattle.redl_page_stories.specs.declared.values.Property.{Property}
+use Rattle.redl_page_stories.specs.declared.values.Property.TheVariants.{Style, Direction, Span, Merge}
 use Rattle.redl_page_stories.specs.Document.{bytes_pieces, element_pieces, inside, marks_in, nodes_pieces}
-use Rattle.redl_page_stories.specs.Shapes.{has_property, holds_blocks, is_block, is_other, is_other_form, style_in, style_of, switched_on, switches}
+use Rattle.redl_page_stories.specs.Shapes.{given_by, has_property, holds, holds_blocks, is_block, is_other, is_other_form, switched_on, switches, value_in, value_of}
 use Rattle.redl_page_stories.specs.Signs.{member}
 
 -- ---- nodes one after the other
@@ -44,12 +45,11 @@ or_later : (a b c : Option (List ℕ)) → option_or (option_or a b) c ≡ optio
 or_later None b c = refl
 or_later (Some x) b c = refl
 
-pub style_in-⊕ : (x y : Nodes) → style_in (x ⊕ y) ≡ option_or (style_in x) (style_in y)
-style_in-⊕ no_nodes y = refl
-style_in-⊕ (bytes b rest) y = style_in-⊕ rest y
-style_in-⊕ (element tag kids rest) y =
-    let own = if is "pStyle" tag then written_value tag.tail (codes "val") else None in
-    ap (option_or own) (style_in-⊕ rest y) ∙ sym (or_later own (style_in rest) (style_in y))
+pub value_in-⊕ : (property : Property) (x y : Nodes) → value_in property (x ⊕ y) ≡ option_or (value_in property x) (value_in property y)
+value_in-⊕ property no_nodes y = refl
+value_in-⊕ property (bytes b rest) y = value_in-⊕ property rest y
+value_in-⊕ property (element tag kids rest) y =
+    ap (option_or (given_by property tag)) (value_in-⊕ property rest y) ∙ sym (or_later (given_by property tag) (value_in property rest) (value_in property y))
 
 -- ---- what idle nodes don't have
 
@@ -61,13 +61,19 @@ has_property_past name (element tag kids rest) y h =
     ap (λ b. (b && switched_on name kids) || has_property name (rest ⊕ y)) (has-not "rPr" false tag p.own refl)
     ∙ has_property_past name rest y p.later
 
-pub style_of_past : (x y : Nodes) → is_idle_in false x ≡ true → style_of (x ⊕ y) ≡ style_of y
-style_of_past no_nodes y h = refl
-style_of_past (bytes b rest) y h = style_of_past rest y h
-style_of_past (element tag kids rest) y h =
+holds_none : (property : Property) (in_run : Bool) (tag : Tag) → Idle in_run tag → holds property tag ≡ false
+holds_none Style in_run tag i = has-not "pPr" in_run tag i refl
+holds_none Direction in_run tag i = has-not "pPr" in_run tag i refl
+holds_none Span in_run tag i = has-not "tcPr" in_run tag i refl
+holds_none Merge in_run tag i = has-not "tcPr" in_run tag i refl
+
+pub value_of_past : (property : Property) (x y : Nodes) → is_idle_in false x ≡ true → value_of property (x ⊕ y) ≡ value_of property y
+value_of_past property no_nodes y h = refl
+value_of_past property (bytes b rest) y h = value_of_past property rest y h
+value_of_past property (element tag kids rest) y h =
     let p = idle_parts false tag kids rest h in
-    ap (λ b. option_or (if b then style_in kids else None) (style_of (rest ⊕ y))) (has-not "pPr" false tag p.own refl)
-    ∙ style_of_past rest y p.later
+    ap (λ b. option_or (if b then value_in property kids else None) (value_of property (rest ⊕ y))) (holds_none property false tag p.own)
+    ∙ value_of_past property rest y p.later
 
 pub marks_past : (revisions : List Revision) (depth : Depth) (x y : Nodes) → is_idle_in false x ≡ true → marks_in revisions depth (x ⊕ y) ≡ marks_in revisions depth y
 marks_past revisions depth no_nodes y h = refl
@@ -85,7 +91,7 @@ marks_past revisions RunProperties (element tag kids rest) y h =
     ap (λ (k : Kind). (if is_mark k then member revisions k tag.rev else []) ++ marks_in revisions RunProperties (rest ⊕ y)) p.own.kind
     ∙ marks_past revisions RunProperties rest y p.later
 
-no_other : (s : Space) → is_w s ≡ true → is_other s ≡ false
+pub no_other : (s : Space) → is_w s ≡ true → is_other s ≡ false
 no_other W h = refl
 no_other M h = absurd cc
 no_other Pkg h = refl

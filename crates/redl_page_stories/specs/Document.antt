@@ -87,20 +87,24 @@ nodes_pieces shown revisions place (element tag kids rest) =
 abbrev pub in_story : Place
 in_story = record { loud = true; shows = false }
 
+-- a story says of which sort it is: by the local name of its root
+abbrev pub section_start : List ℕ → List Piece
+section_start sort = own "<section data-story=\"" ∷ outside sort ∷ own "\">\n" ∷ []
+
 -- each story but the first has the name of its part as its heading
-abbrev pub section_head : Bool → List ℕ → List Piece
-section_head true name = own "<section>\n" ∷ []
-section_head false name = own "<section>\n<h2>" ∷ outside name ∷ own "</h2>\n" ∷ []
+abbrev pub section_name : Bool → List ℕ → List Piece
+section_name true name = []
+section_name false name = own "<h2>" ∷ outside name ∷ own "</h2>\n" ∷ []
 
 -- a story with these kids of its root
-abbrev pub section : (List ℕ → List ℕ) → List Revision → Bool → List ℕ → Nodes → List Piece
-section shown revisions first name kids =
-    section_head first name ++ (nodes_pieces shown revisions in_story kids ++ (own "</section>\n" ∷ []))
+abbrev pub section : (List ℕ → List ℕ) → List Revision → Bool → List ℕ → List ℕ → Nodes → List Piece
+section shown revisions first name sort kids =
+    section_start sort ++ (section_name first name ++ (nodes_pieces shown revisions in_story kids ++ (own "</section>\n" ∷ [])))
 
 -- the story of a part with this name, if it has one
 abbrev pub section_in : (List ℕ → List ℕ) → List Revision → Bool → List ℕ → Option Element → List Piece
 section_in shown revisions first name None = []
-section_in shown revisions first name (Some root) = section shown revisions first name root.kids
+section_in shown revisions first name (Some root) = section shown revisions first name root.tag.local root.kids
 
 -- whether no story comes before what follows such a part
 abbrev pub is_first_after : Bool → Option Element → Bool

@@ -1,7 +1,8 @@
 -- How elements are shown that are in no revision (ECMA-376 Part 1, 17.3, 17.4 and 17.11; HTML, the living standard; our own rule):
--- by their names, where no ancestor holds properties. Of properties, bold and italic runs and the style of a paragraph are shown.
+-- by their names, where no ancestor holds properties. Of properties, bold and italic runs are shown, the style and the direction of a
+-- paragraph, and which cells are merged.
 use Prim.Native.String.{String}
-use Rattle.std.specs.Prelude.{ℕ, Bool, true, false, ◌&&◌, ◌||◌, not, List, [], ◌∷◌, Option, Some, None, bytes_eq, codes, is_some, if◌then◌else◌}
+use Rattle.std.specs.Prelude.{ℕ, Bool, true, false, ◌&&◌, ◌||◌, not, List, [], ◌∷◌, ◌++◌, Option, Some, None, unwrap_or, bytes_eq, codes, encode_utf8, is_some, nat_le, nat_lt, if◌then◌else◌}
 use Rattle.std.specs.Option.{option_or}
 use Rattle.redl_tree.specs.Model.Nodes.{Tag, Nodes, no_nodes, bytes, element}
 use Rattle.redl_tree.specs.Roles.Names.{is, named}
@@ -10,8 +11,11 @@ use Rattle.redl_tree.specs.declared.kinds.Space.TheVariants.{Other}
 use Rattle.redl_shown.specs.Shown.{shown}
 use Rattle.redl_stamp.specs.Attribute.{attribute_value, written_value}
 use Rattle.redl_html.specs.Pieces.{Piece, own, outside}
+use Rattle.redl_grammar.specs.References.{reference_at}
+use Rattle.redl_page_stories.specs.declared.values.Property.{Property}
+use Rattle.redl_page_stories.specs.declared.values.Property.TheVariants.{Style, Direction, Span, Merge}
 use Rattle.redl_page_stories.specs.declared.shape.Shape.{Shape}
-use Rattle.redl_page_stories.specs.declared.shape.Shape.TheVariants.{Nothing, Paragraph, Division, Table, Row, Cell, TextBox, Bold, Italic, BoldItalic, Tab, Break, Hyphen, Picture, Note, OtherForm}
+use Rattle.redl_page_stories.specs.declared.shape.Shape.TheVariants.{Nothing, Paragraph, Division, Table, Row, Cell, TextBox, Bold, Italic, BoldItalic, Tab, Break, Hyphen, Symbol, Picture, Reference, Note, Blocks, Foreign, OtherForm}
 
 abbrev pub is_other : Space → Bool
 is_other Other = true
@@ -67,24 +71,35 @@ run_shape true true = BoldItalic
 abbrev pub is_reference : Tag → Bool
 is_reference tag = is "footnoteReference" tag || is "endnoteReference" tag
 
--- a reference to a note, or a note that is no separator (17.11)
+-- a note that is no separator (17.11)
 abbrev pub is_note : Tag → Bool
-is_note tag = is_reference tag || ((is "footnote" tag || is "endnote" tag) && not (is_some (attribute_value tag.tail (codes "type"))))
+is_note tag = (is "footnote" tag || is "endnote" tag) && not (is_some (attribute_value tag.tail (codes "type")))
+
+-- ---- lists of blocks
+
+-- an element that may hold a list of blocks of its own: no paragraph in it is joined with one outside
+abbrev pub holds_list : Tag → Bool
+holds_list tag = is "sdt" tag || is "customXml" tag || is "footnote" tag || is "endnote" tag || is "comment" tag
+
+-- an element that among blocks is one of its own, and no paragraph
+abbrev pub is_foreign : Tag → Bool
+is_foreign tag = is "altChunk" tag || is_other tag.space
 
 -- ---- shapes
 
--- what an element is shown as by its name, where it is no block, and is a note or none
+-- what an element is shown as by its name, where it is no block, and is a reference to a note or none
 abbrev pub inline_shape : Bool → Tag → Shape
-inline_shape note tag =
+inline_shape reference tag =
     if is "tab" tag then Tab
     else if is "br" tag || is "cr" tag then Break
     else if is "noBreakHyphen" tag then Hyphen
+    else if is "sym" tag then Symbol
     else if is "drawing" tag || is "pict" tag || is "object" tag then Picture
-    else if note then Note
+    else if reference then Reference
     else Nothing
 
 abbrev pub inline_named : Tag → Shape
-inline_named tag = inline_shape (is_note tag) tag
+inline_named tag = inline_shape (is_reference tag) tag
 
 -- what an element is shown as by its name
 abbrev pub shape_named : Tag → Nodes → Shape
@@ -96,20 +111,24 @@ shape_named tag kids =
     else if is "tc" tag then Cell
     else if is "txbxContent" tag then TextBox
     else if is_other_form tag then OtherForm
+    else if is_note tag then Note
+    else if holds_list tag then Blocks
+    else if is_foreign tag then Foreign
     else inline_named tag
 
 -- the same where no ancestor holds properties, and else nothing
 abbrev pub shape_of : Bool → Tag → Nodes → Shape
 shape_of loud tag kids = if loud then shape_named tag kids else Nothing
 
--- what comes before the kids; in the start tag of a paragraph its style comes behind it, and behind the start of a note its id
+-- what comes before the kids; the rest of the start tag of a paragraph and of a cell comes behind it, and behind the start of a note
+-- its id. A comment says where blocks begin and end that are not joined with those outside.
 abbrev pub opening : Shape → String
 opening Nothing = ""
 opening Paragraph = "<p"
 opening Division = "<div class=\"p\""
 opening Table = "<table>\n"
 opening Row = "<tr>"
-opening Cell = "<td>"
+opening Cell = "<td"
 opening TextBox = "<span class=\"box\">"
 opening Bold = "<b>"
 opening Italic = "<i>"
@@ -118,7 +137,11 @@ opening Tab = "\t"
 opening Break = "<br>"
 opening Hyphen = "&#8209;"
 opening Picture = "<span class=\"picture\">picture</span>"
-opening Note = "<sup>"
+opening Symbol = "<span class=\"symbol\">"
+opening Reference = "<sup>"
+opening Note = "<!--list--><sup>"
+opening Blocks = "<!--list-->"
+opening Foreign = "<!--other-->"
 opening OtherForm = "<details><summary>kept in another form</summary>"
 
 -- what comes after them
@@ -137,7 +160,11 @@ closing Tab = ""
 closing Break = ""
 closing Hyphen = ""
 closing Picture = ""
-closing Note = ""
+closing Symbol = ""
+closing Reference = ""
+closing Note = "<!--/list-->"
+closing Blocks = "<!--/list-->"
+closing Foreign = "<!--/other-->"
 closing OtherForm = "</details>"
 
 -- a paragraph
@@ -148,17 +175,57 @@ is_paragraph _ = false
 
 -- ---- values of attributes
 
--- the style among the properties of a paragraph (17.3.1.27): the first one that is named
-abbrev pub style_in : Nodes → Option (List ℕ)
-style_in no_nodes = None
-style_in (bytes b rest) = style_in rest
-style_in (element tag kids rest) = option_or (if is "pStyle" tag then written_value tag.tail (codes "val") else None) (style_in rest)
+-- the name of a property
+abbrev pub property_name : Property → List ℕ
+property_name Style = codes "pStyle"
+property_name Direction = codes "bidi"
+property_name Span = codes "gridSpan"
+property_name Merge = codes "vMerge"
 
--- the style of a paragraph with these kids
-abbrev pub style_of : Nodes → Option (List ℕ)
-style_of no_nodes = None
-style_of (bytes b rest) = style_of rest
-style_of (element tag kids rest) = option_or (if is "pPr" tag then style_in kids else None) (style_of rest)
+-- what a property with this tail gives: its value as it is written; a style and a span without one give nothing
+abbrev pub given : Property → List ℕ → Option (List ℕ)
+given Style tail = written_value tail (codes "val")
+given Direction tail = Some (unwrap_or (written_value tail (codes "val")) [])
+given Span tail = written_value tail (codes "val")
+given Merge tail = Some (unwrap_or (written_value tail (codes "val")) [])
+
+-- what an element gives as this property (17.3.1.27, 17.3.1.6, 17.4.17 and 17.4.84)
+abbrev pub given_by : Property → Tag → Option (List ℕ)
+given_by property tag = if named (property_name property) tag then given property tag.tail else None
+
+-- the first value of a property that is given among these
+abbrev pub value_in : Property → Nodes → Option (List ℕ)
+value_in property no_nodes = None
+value_in property (bytes b rest) = value_in property rest
+value_in property (element tag kids rest) = option_or (given_by property tag) (value_in property rest)
+
+-- an element that holds properties of this sort: those of a paragraph, or those of a cell
+abbrev pub holds : Property → Tag → Bool
+holds Style tag = is "pPr" tag
+holds Direction tag = is "pPr" tag
+holds Span tag = is "tcPr" tag
+holds Merge tag = is "tcPr" tag
+
+-- the value of a property of an element with these kids
+abbrev pub value_of : Property → Nodes → Option (List ℕ)
+value_of property no_nodes = None
+value_of property (bytes b rest) = value_of property rest
+value_of property (element tag kids rest) = option_or (if holds property tag then value_in property kids else None) (value_of property rest)
+
+-- a paragraph from right to left
+abbrev pub direction_pieces : Option (List ℕ) → List Piece
+direction_pieces None = []
+direction_pieces (Some value) = if is_off (Some value) then [] else own " dir=\"rtl\"" ∷ []
+
+-- a cell over several columns
+abbrev pub span_pieces : Option (List ℕ) → List Piece
+span_pieces None = []
+span_pieces (Some value) = own " colspan=\"" ∷ outside (shown value) ∷ own "\"" ∷ []
+
+-- a cell that goes on from the one above
+abbrev pub merge_pieces : Option (List ℕ) → List Piece
+merge_pieces None = []
+merge_pieces (Some value) = if bytes_eq value (codes "restart") then [] else own " class=\"merged\"" ∷ []
 
 -- the end of the start tag of a paragraph with this style, as it is written, if it has one
 abbrev pub style_pieces : Option (List ℕ) → List Piece
@@ -170,9 +237,46 @@ abbrev pub note_pieces : Option (List ℕ) → List Piece
 note_pieces None = own "</sup>" ∷ []
 note_pieces (Some id) = outside (shown id) ∷ own "</sup>" ∷ []
 
--- what comes behind the opening
+-- ---- symbols
+
+-- a character that fonts agree on: no control character, and none for private use
+abbrev pub is_agreed : ℕ → Bool
+is_agreed c = (nat_le 0x20 c && nat_lt c 0x7F) || (nat_le 0xA0 c && nat_lt c 0xE000) || nat_le 0xF900 c
+
+-- a character that is shown, or else a box
+abbrev pub character_piece : ℕ → Piece
+character_piece c = if is_agreed c then outside (encode_utf8 c) else own "&#9633;"
+
+-- the character of a reference
+abbrev pub referenced : Option (ℕ × List ℕ) → Piece
+referenced None = own "&#9633;"
+referenced (Some x) = character_piece x.0
+
+-- the symbol with this number, of four hexadecimal digits (17.3.3.30)
+unfoldable pub numbered : List ℕ → Piece
+numbered (a ∷ b ∷ c ∷ d ∷ []) = referenced (reference_at (35 ∷ 120 ∷ a ∷ b ∷ c ∷ d ∷ 59 ∷ []))
+numbered _ = own "&#9633;"
+
+abbrev pub symbol_piece : Option (List ℕ) → Piece
+symbol_piece None = own "&#9633;"
+symbol_piece (Some digits) = numbered digits
+
+abbrev pub symbol_pieces : Option (List ℕ) → List Piece
+symbol_pieces digits = symbol_piece digits ∷ own "</span>" ∷ []
+
+-- ---- what comes behind the opening
+
+abbrev pub paragraph_pieces : Nodes → List Piece
+paragraph_pieces kids = direction_pieces (value_of Direction kids) ++ style_pieces (value_of Style kids)
+
+abbrev pub cell_pieces : Nodes → List Piece
+cell_pieces kids = span_pieces (value_of Span kids) ++ (merge_pieces (value_of Merge kids) ++ (own ">" ∷ []))
+
 abbrev pub behind_opening : Shape → Tag → Nodes → List Piece
-behind_opening Paragraph tag kids = style_pieces (style_of kids)
-behind_opening Division tag kids = style_pieces (style_of kids)
+behind_opening Paragraph tag kids = paragraph_pieces kids
+behind_opening Division tag kids = paragraph_pieces kids
+behind_opening Cell tag kids = cell_pieces kids
+behind_opening Symbol tag kids = symbol_pieces (written_value tag.tail (codes "char"))
+behind_opening Reference tag kids = note_pieces (written_value tag.tail (codes "id"))
 behind_opening Note tag kids = note_pieces (written_value tag.tail (codes "id"))
 behind_opening _ tag kids = []

@@ -145,7 +145,8 @@ fn is_switched_off(tail: &[u8]) -> bool
     }
 }
 
-fn is_off(value: &[u8]) -> bool
+/// Whether a value switches a property off.
+pub(crate) fn is_off(value: &[u8]) -> bool
     ensures { result ≡ is_off (Some value.now) }
 {
     value == b"0".as_slice() || value == b"false".as_slice() || value == b"off".as_slice()

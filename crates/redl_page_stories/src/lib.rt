@@ -16,6 +16,7 @@ mod sections;
 mod shape;
 mod shown;
 mod sign;
+mod starts;
 mod values;
 
 pub use laws::each_member_has_an_element;

@@ -16,7 +16,8 @@ use crate::place::Place;
 use crate::shape::Shape;
 use crate::shown::put_bytes;
 use crate::sign::{content_end, put_edge, put_member};
-use crate::values::{put_note, put_style, style_of, written_value};
+use crate::starts::{put_cell_start, put_paragraph_start, put_symbol};
+use crate::values::{put_note, written_value};
 use redl_index::Index;
 use redl_io::{Failed, Sink, put_piece};
 use redl_tree::{Elem, Kind, Node};
@@ -82,13 +83,16 @@ fn put_opening<K: Sink>(shape: Shape, elem: &Elem, out: &mut K) -> Result<(), Fa
     put_behind_opening(shape, elem, out)
 }
 
-// Puts what comes behind the opening: the style of a paragraph, or the id of a note.
+// Puts what comes behind the opening of a paragraph, a cell, a symbol or a note.
 fn put_behind_opening<K: Sink>(shape: Shape, elem: &Elem, out: &mut K) -> Result<(), Failed>
     ensures { Puts K.told K.faults K.settled K.lenders out.old out.new (pieces_text (behind_opening shape (tag_of elem.now) (kids_of elem.now))) result }
 {
     match shape {
-        Shape::Paragraph => put_style(style_of(elem.kids()), out),
-        Shape::Division => put_style(style_of(elem.kids()), out),
+        Shape::Paragraph => put_paragraph_start(elem.kids(), out),
+        Shape::Division => put_paragraph_start(elem.kids(), out),
+        Shape::Cell => put_cell_start(elem.kids(), out),
+        Shape::Symbol => put_symbol(written_value(elem.tail(), b"char"), out),
+        Shape::Reference => put_note(written_value(elem.tail(), b"id"), out),
         Shape::Note => put_note(written_value(elem.tail(), b"id"), out),
         _ => Ok(()),
     }

@@ -7,7 +7,7 @@ ghost use Rattle.redl_opc.specs.Elements.{element_of};
 ghost use Rattle.redl_opc.specs.Parts.{story};
 ghost use Rattle.redl_opc.specs.Shape.{parts_of};
 ghost use Rattle.redl_shown.specs.Shown.{shown};
-ghost use Rattle.redl_page_stories.specs.Document.{is_first_after, name_at, section, section_at, section_head, sections};
+ghost use Rattle.redl_page_stories.specs.Document.{is_first_after, name_at, section, section_at, section_name, section_start, sections};
 ghost use Rattle.redl_html.specs.Pieces.{pieces_text};
 
 use crate::nodes::put_nodes;
@@ -65,20 +65,32 @@ fn put_section<K: Sink>(
     root: &Elem,
     out: &mut K,
 ) -> Result<(), Failed>
-    ensures { Puts K.told K.faults K.settled K.lenders out.old out.new (pieces_text (section shown index.now first name.now (kids_of root.now))) result }
+    ensures { Puts K.told K.faults K.settled K.lenders out.old out.new
+        (pieces_text (section shown index.now first name.now (tag_of root.now).local (kids_of root.now))) result }
 {
-    put_head(first, name, out)?;
+    put_start(root.local(), out)?;
+    put_name(first, name, out)?;
     put_nodes(index, Place::in_story(), root.kids(), out)?;
     put_piece(b"</section>\n", out)
 }
 
-fn put_head<K: Sink>(first: bool, name: &[u8], out: &mut K) -> Result<(), Failed>
-    ensures { Puts K.told K.faults K.settled K.lenders out.old out.new (pieces_text (section_head first name.now)) result }
+// Puts the start of the story whose root has this local name.
+fn put_start<K: Sink>(sort: &[u8], out: &mut K) -> Result<(), Failed>
+    ensures { Puts K.told K.faults K.settled K.lenders out.old out.new (pieces_text (section_start sort.now)) result }
+{
+    put_piece(b"<section data-story=\"", out)?;
+    put_escaped(sort, out)?;
+    put_piece(b"\">\n", out)
+}
+
+// Puts the heading of a story, unless it is the first one.
+fn put_name<K: Sink>(first: bool, name: &[u8], out: &mut K) -> Result<(), Failed>
+    ensures { Puts K.told K.faults K.settled K.lenders out.old out.new (pieces_text (section_name first name.now)) result }
 {
     if first {
-        return put_piece(b"<section>\n", out);
+        return Ok(());
     }
-    put_piece(b"<section>\n<h2>", out)?;
+    put_piece(b"<h2>", out)?;
     put_escaped(name, out)?;
     put_piece(b"</h2>\n", out)
 }

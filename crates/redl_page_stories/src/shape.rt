@@ -5,12 +5,12 @@ ghost use Rattle.redl_tree.specs.Model.View.{nodes_of, item_of, tag_of, kids_of}
 ghost use Rattle.redl_tree.specs.Roles.Names.{is, of_w};
 ghost use Rattle.redl_idle.specs.Ahead.{Begins};
 ghost use Rattle.redl_page_stories.specs.Inside.Idle.{idle_shape};
-ghost use Rattle.redl_page_stories.specs.Shapes.{closing, has_property, holds_blocks, inline_named, inline_shape, is_block, is_note, is_other_form, is_paragraph, is_reference, opening, run_shape, shape_named, shape_of};
+ghost use Rattle.redl_page_stories.specs.Shapes.{closing, has_property, holds_blocks, holds_list, inline_named, inline_shape, is_block, is_foreign, is_note, is_other_form, is_paragraph, is_reference, opening, run_shape, shape_named, shape_of};
 ghost use Rattle.redl_page_stories.specs.Inside.Items.{item_holds};
 
 use crate::emphasis::Emphasis;
 use redl_stamp::has_attribute;
-use redl_tree::{Elem, Node, Space, Word, is_named, is_word};
+use redl_tree::{Elem, Node, Space, Word, is_word};
 
 /// What an element is shown as that is in no revision.
 #[derive(Clone, Copy, Debug, PartialEq, Eq)]
@@ -32,9 +32,16 @@ pub(crate) enum Shape {
     Tab,
     Break,
     Hyphen,
+    Symbol,
     Picture,
-    /// A note, or a reference to one.
+    /// A reference to a note.
+    Reference,
+    /// A note that is no separator.
     Note,
+    /// What may hold a list of blocks of its own.
+    Blocks,
+    /// What among blocks is one of its own, and no paragraph.
+    Foreign,
     /// The second form of content that is kept in two.
     OtherForm,
 }
@@ -74,6 +81,23 @@ impl Shape {
         if is_other_form(elem) {
             return Shape::OtherForm;
         }
+        Shape::among_blocks(elem)
+    }
+
+    // The shape of an element that none of the names above is.
+    fn among_blocks(elem: &Elem) -> Shape
+        ensures { result ≡ (if is_note (tag_of elem.now) then Shape.Note else if holds_list (tag_of elem.now) then Shape.Blocks
+            else if is_foreign (tag_of elem.now) then Shape.Foreign else inline_named (tag_of elem.now)) }
+    {
+        if is_note(elem) {
+            return Shape::Note;
+        }
+        if holds_list(elem) {
+            return Shape::Blocks;
+        }
+        if is_foreign(elem) {
+            return Shape::Foreign;
+        }
         Shape::inline(elem)
     }
 
@@ -110,12 +134,12 @@ impl Shape {
         if elem.space() != Space::W {
             return Shape::Nothing;
         }
-        Shape::inline_by(elem.local(), is_note(elem))
+        Shape::inline_by(elem.local(), is_reference(elem.local()))
     }
 
-    // The shape of an element of W with this local name, which is a note or none.
-    fn inline_by(local: &[u8], is_note: bool) -> Shape
-        ensures { result ≡ inline_shape is_note (of_w local.now) }
+    // The shape of an element of W with this local name, which is a reference to a note or none.
+    fn inline_by(local: &[u8], is_reference: bool) -> Shape
+        ensures { result ≡ inline_shape is_reference (of_w local.now) }
     {
         if local == b"tab".as_slice() {
             return Shape::Tab;
@@ -126,11 +150,14 @@ impl Shape {
         if local == b"noBreakHyphen".as_slice() {
             return Shape::Hyphen;
         }
+        if local == b"sym".as_slice() {
+            return Shape::Symbol;
+        }
         if is_picture(local) {
             return Shape::Picture;
         }
-        if is_note {
-            return Shape::Note;
+        if is_reference {
+            return Shape::Reference;
         }
         Shape::Nothing
     }
@@ -157,7 +184,7 @@ impl Shape {
         matches!(self, Shape::Paragraph | Shape::Division)
     }
 
-    /// What comes before the kids; the style of a paragraph and the id of a note come behind it.
+    /// What comes before the kids; the rest of the start tag of a paragraph and of a cell and the id of a note come behind it.
     pub(crate) fn opening(self) -> &'static [u8]
         ensures { result.now ≡ codes (opening self) }
     {
@@ -167,7 +194,7 @@ impl Shape {
             Shape::Division => b"<div class=\"p\"",
             Shape::Table => b"<table>\n",
             Shape::Row => b"<tr>",
-            Shape::Cell => b"<td>",
+            Shape::Cell => b"<td",
             Shape::TextBox => b"<span class=\"box\">",
             Shape::Bold => b"<b>",
             Shape::Italic => b"<i>",
@@ -176,7 +203,11 @@ impl Shape {
             Shape::Break => b"<br>",
             Shape::Hyphen => b"&#8209;",
             Shape::Picture => b"<span class=\"picture\">picture</span>",
-            Shape::Note => b"<sup>",
+            Shape::Symbol => b"<span class=\"symbol\">",
+            Shape::Reference => b"<sup>",
+            Shape::Note => b"<!--list--><sup>",
+            Shape::Blocks => b"<!--list-->",
+            Shape::Foreign => b"<!--other-->",
             Shape::OtherForm => b"<details><summary>kept in another form</summary>",
         }
     }
@@ -200,8 +231,12 @@ impl Shape {
             Shape::Tab => b"",
             Shape::Break => b"",
             Shape::Hyphen => b"",
+            Shape::Symbol => b"",
             Shape::Picture => b"",
-            Shape::Note => b"",
+            Shape::Reference => b"",
+            Shape::Note => b"<!--/list-->",
+            Shape::Blocks => b"<!--/list-->",
+            Shape::Foreign => b"<!--/other-->",
         }
     }
 }
@@ -220,14 +255,30 @@ fn is_reference(local: &[u8]) -> bool
     local == b"footnoteReference".as_slice() || local == b"endnoteReference".as_slice()
 }
 
-// Whether an element is a reference to a note, or a note that is no separator.
+// Whether an element is a note that is no separator.
 fn is_note(elem: &Elem) -> bool
     ensures { result ≡ is_note (tag_of elem.now) }
 {
-    is_named(elem, b"footnoteReference")
-        || is_named(elem, b"endnoteReference")
-        || ((is_word(elem, Word::Footnote) || is_word(elem, Word::Endnote))
-            && !has_attribute(elem.tail(), b"type"))
+    (is_word(elem, Word::Footnote) || is_word(elem, Word::Endnote))
+        && !has_attribute(elem.tail(), b"type")
+}
+
+// Whether an element may hold a list of blocks of its own.
+fn holds_list(elem: &Elem) -> bool
+    ensures { result ≡ holds_list (tag_of elem.now) }
+{
+    is_word(elem, Word::Sdt)
+        || is_word(elem, Word::CustomXml)
+        || is_word(elem, Word::Footnote)
+        || is_word(elem, Word::Endnote)
+        || is_word(elem, Word::Comment)
+}
+
+// Whether an element is, among blocks, one of its own and no paragraph.
+fn is_foreign(elem: &Elem) -> bool
+    ensures { result ≡ is_foreign (tag_of elem.now) }
+{
+    is_word(elem, Word::AltChunk) || elem.space() == Space::Other
 }
 
 // Whether an element is the second form of content that a file keeps in two.

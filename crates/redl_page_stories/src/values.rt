@@ -1,6 +1,6 @@
-//! What a page shows of the values of attributes: the style of a paragraph, and the ids of notes.
+//! What a page shows of the values of attributes: those of properties, and the ids of notes.
 
-ghost use Rattle.std.specs.Prelude.{◌≡◌, ◌&&◌, Some, bytes_eq, codes};
+ghost use Rattle.std.specs.Prelude.{◌≡◌, ◌&&◌, [], Some, bytes_eq, codes, unwrap_or};
 ghost use Rattle.std.specs.Option.{option_map};
 ghost use Rattle.redl_io.specs.Sink.{Puts};
 ghost use Rattle.redl_reading.specs.Steps.{Gives};
@@ -8,17 +8,17 @@ ghost use Rattle.redl_markup.specs.Views.{attribute_view};
 ghost use Rattle.redl_stamp.specs.Attribute.{has_local_name, written_value};
 ghost use Rattle.redl_laid.specs.Firsts.{first_item};
 ghost use Rattle.redl_tree.specs.Model.IdleTexts.{idle_nodes};
-ghost use Rattle.redl_tree.specs.Model.View.{nodes_of, item_of};
+ghost use Rattle.redl_tree.specs.Model.View.{nodes_of, item_of, tag_of};
 ghost use Rattle.redl_tree.specs.Roles.Names.{is_w};
 ghost use Rattle.redl_html.specs.Pieces.{pieces_text};
-ghost use Rattle.redl_page_stories.specs.Shapes.{note_pieces, style_in, style_of, style_pieces};
-ghost use Rattle.redl_page_stories.specs.Inside.Items.{item_style, item_style_in};
+ghost use Rattle.redl_page_stories.specs.Shapes.{given, holds, note_pieces, property_name, style_pieces, value_in, value_of};
+ghost use Rattle.redl_page_stories.specs.Inside.Items.{item_value, item_value_in};
 
 use crate::shown::put_shown;
 use redl_io::{Failed, Sink, put_piece};
 use redl_laid::{First, Laid};
 use redl_markup::{Attribute, next_attribute};
-use redl_tree::{Node, Plain, Space, Tag, Word, is_named, is_word};
+use redl_tree::{Elem, Node, Plain, Space, Tag, Word, is_named, is_word};
 
 /// The value of the first attribute of a tag's tail with this local name, as it is written. It takes no memory.
 pub(crate) fn written_value<'a>(tail: &'a [u8], local: &[u8]) -> Option<&'a [u8]>
@@ -41,76 +41,133 @@ fn has_local_name(attribute: &Attribute<'_>, local: &[u8]) -> bool
     attribute.name.local == local && attribute.name.prefix != b"xmlns".as_slice()
 }
 
-/// The style of a paragraph with these kids, as it is written, if it names one.
-pub(crate) fn style_of<'a>(kids: &'a [Node]) -> Option<&'a [u8]>
-    ensures { Gives (λ style. style.now) result (style_of (nodes_of kids.now)) }
+/// A property whose value a page shows: of a paragraph its style and its direction, of a cell the columns that it spans, and whether
+/// it is merged with those above or below.
+#[derive(Clone, Copy, Debug, PartialEq, Eq)]
+pub(crate) enum Property {
+    Style,
+    Direction,
+    Span,
+    Merge,
+}
+
+impl Property {
+    fn name(self) -> &'static [u8]
+        ensures { result.now ≡ property_name self }
+    {
+        match self {
+            Property::Style => b"pStyle",
+            Property::Direction => b"bidi",
+            Property::Span => b"gridSpan",
+            Property::Merge => b"vMerge",
+        }
+    }
+
+    // What a property with this tail gives.
+    fn given<'a>(self, tail: &'a [u8]) -> Option<&'a [u8]>
+        ensures { Gives (λ value. value.now) result (given self tail.now) }
+    {
+        match self {
+            Property::Style => written_value(tail, b"val"),
+            Property::Span => written_value(tail, b"val"),
+            Property::Direction => Some(value_or_none(tail)),
+            Property::Merge => Some(value_or_none(tail)),
+        }
+    }
+
+    // Whether an element holds properties of this sort.
+    fn is_held_by(self, elem: &Elem) -> bool
+        ensures { result ≡ holds self (tag_of elem.now) }
+    {
+        match self {
+            Property::Style | Property::Direction => is_word(elem, Word::PPr),
+            Property::Span | Property::Merge => is_word(elem, Word::TcPr),
+        }
+    }
+}
+
+// The value in a tag's tail, or the empty one.
+fn value_or_none<'a>(tail: &'a [u8]) -> &'a [u8]
+    ensures { result.now ≡ unwrap_or (written_value tail.now (codes "val")) [] }
+{
+    match written_value(tail, b"val") {
+        Some(value) => value,
+        None => b"",
+    }
+}
+
+/// The value of a property of an element with these kids, as it is written, if it is given.
+pub(crate) fn value_of<'a>(property: Property, kids: &'a [Node]) -> Option<&'a [u8]>
+    ensures { Gives (λ value. value.now) result (value_of property (nodes_of kids.now)) }
 {
     for node in kids {
-        if let Some(style) = node_style(node) {
-            return Some(style);
+        if let Some(value) = node_value(property, node) {
+            return Some(value);
         }
     }
     None
 }
 
-fn node_style<'a>(node: &'a Node) -> Option<&'a [u8]>
-    ensures { Gives (λ style. style.now) result (item_style (item_of node.now)) }
+fn node_value<'a>(property: Property, node: &'a Node) -> Option<&'a [u8]>
+    ensures { Gives (λ value. value.now) result (item_value property (item_of node.now)) }
 {
     match node {
-        Node::Elem(elem) if is_word(elem, Word::PPr) => style_in(elem.kids()),
+        Node::Elem(elem) if property.is_held_by(elem) => value_in(property, elem.kids()),
         _ => None,
     }
 }
 
-fn style_in<'a>(nodes: &'a [Node]) -> Option<&'a [u8]>
-    ensures { Gives (λ style. style.now) result (style_in (nodes_of nodes.now)) }
+fn value_in<'a>(property: Property, nodes: &'a [Node]) -> Option<&'a [u8]>
+    ensures { Gives (λ value. value.now) result (value_in property (nodes_of nodes.now)) }
 {
     for node in nodes {
-        if let Some(style) = node_style_in(node) {
-            return Some(style);
+        if let Some(value) = node_value_in(property, node) {
+            return Some(value);
         }
     }
     None
 }
 
-fn node_style_in<'a>(node: &'a Node) -> Option<&'a [u8]>
-    ensures { Gives (λ style. style.now) result (item_style_in (item_of node.now)) }
+fn node_value_in<'a>(property: Property, node: &'a Node) -> Option<&'a [u8]>
+    ensures { Gives (λ value. value.now) result (item_value_in property (item_of node.now)) }
 {
     match node {
-        Node::Elem(elem) if is_named(elem, b"pStyle") => written_value(elem.tail(), b"val"),
-        Node::Plain(plain) => idle_style_in(plain),
+        Node::Elem(elem) if is_named(elem, property.name()) => property.given(elem.tail()),
+        Node::Plain(plain) => idle_value_in(property, plain),
         _ => None,
     }
 }
 
-// The style among properties that a list keeps as text.
-fn idle_style_in<'a>(plain: &Plain<'a>) -> Option<&'a [u8]>
-    ensures { Gives (λ style. style.now) result (style_in (idle_nodes plain.now)) }
+// The value among properties that a list keeps as text.
+fn idle_value_in<'a>(property: Property, plain: &Plain<'a>) -> Option<&'a [u8]>
+    ensures { Gives (λ value. value.now) result (value_in property (idle_nodes plain.now)) }
 {
     let mut left = Laid::of(plain);
     while let Some((first, rest)) = left.first() {
-        if let Some(style) = first_style_in(&first) {
-            return Some(style);
+        if let Some(value) = first_value_in(property, &first) {
+            return Some(value);
         }
         left = rest;
     }
     None
 }
 
-fn first_style_in<'a>(first: &First<'a>) -> Option<&'a [u8]>
-    ensures { Gives (λ style. style.now) result (item_style_in (first_item first.now)) }
+fn first_value_in<'a>(property: Property, first: &First<'a>) -> Option<&'a [u8]>
+    ensures { Gives (λ value. value.now) result (item_value_in property (first_item first.now)) }
 {
     match first {
-        First::Elem(elem) if is_style(&elem.tag) => written_value(elem.tag.tail(), b"val"),
+        First::Elem(elem) if has_name(&elem.tag, property.name()) => {
+            property.given(elem.tag.tail())
+        }
         _ => None,
     }
 }
 
-// Whether a tag is that of the style of a paragraph.
-fn is_style(tag: &Tag<'_>) -> bool
-    ensures { result ≡ (is_w tag.now.space && bytes_eq tag.now.local (codes "pStyle")) }
+// Whether a tag is that of an element of W with this local name.
+fn has_name(tag: &Tag<'_>, name: &[u8]) -> bool
+    ensures { result ≡ (is_w tag.now.space && bytes_eq tag.now.local name.now) }
 {
-    tag.space() == Space::W && tag.local() == b"pStyle".as_slice()
+    tag.space() == Space::W && tag.local() == name
 }
 
 /// Puts the style of a paragraph, if it has one, and the end of its start tag. It takes no memory.

@@ -5,13 +5,13 @@ use Rattle.redl_tree.specs.Model.Nodes.{Tag, Nodes, Item, bytes_item, element_it
 use Rattle.redl_tree.specs.Roles.Kinds.{is_mark}
 use Rattle.redl_tree.specs.Roles.Names.{is}
 use Rattle.redl_index.specs.declared.revision.Revision.{Revision}
-use Rattle.redl_stamp.specs.Attribute.{written_value}
+use Rattle.redl_page_stories.specs.declared.values.Property.{Property}
 use Rattle.redl_page_stories.specs.declared.marks.Depth.{Depth}
 use Rattle.redl_page_stories.specs.declared.marks.Depth.TheVariants.{Kids, Properties, RunProperties}
 use Rattle.redl_page_stories.specs.declared.place.Place.{Place}
 use Rattle.redl_page_stories.specs.Document.{bytes_pieces, element_pieces, inside, marks_in, nodes_pieces}
 use Rattle.redl_html.specs.Pieces.{Piece}
-use Rattle.redl_page_stories.specs.Shapes.{holds_blocks, is_block, style_in, switched_on, switches}
+use Rattle.redl_page_stories.specs.Shapes.{given_by, holds, holds_blocks, is_block, switched_on, switches, value_in}
 use Rattle.redl_page_stories.specs.Signs.{member}
 
 -- ---- blocks
@@ -36,19 +36,19 @@ item_has_property name (bytes_item b) = false
 item_has_property name (element_item tag kids) = is "rPr" tag && switched_on name kids
 item_has_property name (idle_item t) = false
 
--- ---- the style of a paragraph
+-- ---- values of properties
 
--- the one that it names
-abbrev pub item_style_in : Item → Option (List ℕ)
-item_style_in (bytes_item b) = None
-item_style_in (element_item tag kids) = if is "pStyle" tag then written_value tag.tail (codes "val") else None
-item_style_in (idle_item t) = style_in (idle_nodes t)
+-- what it gives as a property
+abbrev pub item_value_in : Property → Item → Option (List ℕ)
+item_value_in property (bytes_item b) = None
+item_value_in property (element_item tag kids) = given_by property tag
+item_value_in property (idle_item t) = value_in property (idle_nodes t)
 
--- the one that its properties name
-abbrev pub item_style : Item → Option (List ℕ)
-item_style (bytes_item b) = None
-item_style (element_item tag kids) = if is "pPr" tag then style_in kids else None
-item_style (idle_item t) = None
+-- what the properties that it is give
+abbrev pub item_value : Property → Item → Option (List ℕ)
+item_value property (bytes_item b) = None
+item_value property (element_item tag kids) = if holds property tag then value_in property kids else None
+item_value property (idle_item t) = None
 
 -- ---- the marks of a paragraph
 

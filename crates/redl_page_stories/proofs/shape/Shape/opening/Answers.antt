@@ -48,3 +48,15 @@ returns-in-BoldItalic c = rw c.in-BoldItalic.is refl
 
 pub returns-in-Note : goal.returns-in-Note
 returns-in-Note c = rw c.in-Note.is refl
+
+pub returns-in-Symbol : goal.returns-in-Symbol
+returns-in-Symbol c = rw c.in-Symbol.is refl
+
+pub returns-in-Reference : goal.returns-in-Reference
+returns-in-Reference c = rw c.in-Reference.is refl
+
+pub returns-in-Blocks : goal.returns-in-Blocks
+returns-in-Blocks c = rw c.in-Blocks.is refl
+
+pub returns-in-Foreign : goal.returns-in-Foreign
+returns-in-Foreign c = rw c.in-Foreign.is refl

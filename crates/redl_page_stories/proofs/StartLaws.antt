@@ -1,0 +1,23 @@
+-- What is written behind the opening of a paragraph and of a cell.
+use Rattle.std.proofs.Common.{◌≡◌, ℕ, List, [], ◌∷◌, ◌++◌, Option, None, Some, option_map, Bor, ap, sym, ◌∙◌, codes}
+use Rattle.redl_reading.specs.Steps.{Gives}
+use Rattle.redl_tree.specs.Model.Nodes.{Nodes}
+use Rattle.redl_html.specs.Pieces.{own, pieces_text}
+use Rattle.redl_html.proofs.PieceLaws.{pieces_text-append}
+use Rattle.redl_page_stories.specs.Shapes.{cell_pieces, direction_pieces, merge_pieces, paragraph_pieces, span_pieces, style_pieces, value_of}
+use Rattle.redl_page_stories.specs.declared.values.Property.TheVariants.{Style, Direction, Span, Merge}
+
+-- a value that was found, as plain data
+pub found_is : (found : Option (Bor (List ℕ))) (value : Option (List ℕ)) → Gives (λ v. v.now) found value → option_map (λ v. v.now) found ≡ value
+found_is None value gives = sym gives
+found_is (Some x) value gives = sym gives
+
+pub paragraph-text : (kids : Nodes) → pieces_text (paragraph_pieces kids)
+    ≡ pieces_text (direction_pieces (value_of Direction kids)) ++ pieces_text (style_pieces (value_of Style kids))
+paragraph-text kids = pieces_text-append (direction_pieces (value_of Direction kids)) (style_pieces (value_of Style kids))
+
+pub cell-text : (kids : Nodes) → pieces_text (cell_pieces kids)
+    ≡ pieces_text (span_pieces (value_of Span kids)) ++ (pieces_text (merge_pieces (value_of Merge kids)) ++ codes ">")
+cell-text kids =
+    pieces_text-append (span_pieces (value_of Span kids)) _
+    ∙ ap (λ l. pieces_text (span_pieces (value_of Span kids)) ++ l) (pieces_text-append (merge_pieces (value_of Merge kids)) (own ">" ∷ []))

@@ -1,8 +1,0 @@
-use Rattle.std.proofs.Common.{◌≡◌, drop}
-use Rattle.redl_tree.specs.Model.View.{nodes_of}
-use Rattle.redl_page_stories.specs.Shapes.{style_in}
-use Rattle.redl_page_stories.proofs.values.style_in.Given as goal
-
--- the answer is that of the nodes that are left
-abbrev pub invariant-loop-node : goal.invariant-loop-node
-invariant-loop-node l = style_in (nodes_of (drop l.node-index l.nodes)) ≡ style_in (nodes_of l.nodes)
