@@ -11,7 +11,7 @@ use Rattle.redl_join.specs.LastWords.{last_words}
 use Rattle.redl_join.specs.Verdicts.{verdict_at}
 use Rattle.redl_join.specs.declared.verdict.Verdict.{Verdict}
 use Rattle.redl_formats.specs.Dates.{date_text}
-use Rattle.redl_page.specs.Changes.{opens_item, has_item, change, change_head, change_state, changes, saying, verdict_before, locked_before, reviewer_item, reviewers_after, is_last}
+use Rattle.redl_page.specs.Changes.{opens_item, has_item, change, change_head, change_state, changes, saying, verdict_before, locked_before}
 use Rattle.redl_html.specs.Escaping.{escaped}
 use Rattle.redl_html.specs.Pieces.{own, pieces_text}
 use Rattle.redl_html.proofs.NumberLaws.{has-left, has-right}
@@ -56,11 +56,6 @@ changes-here book revisions locked place revision lock other within also r l =
 
 pub changes-end : (book : List Entry) (revisions : List Revision) (locked : List Bool) (place : ℕ) → length revisions ≤ place → pieces_text (changes book (drop place revisions) (drop place locked)) ≡ []
 changes-end book revisions locked place past = ap (λ rs. pieces_text (changes book rs (drop place locked))) (drop_all place revisions past)
-
-pub reviewers-more : (book : List Entry) (last : Option (List ℕ)) (entry : Entry) (entries : List Entry) → pieces_text (reviewers_after book last (entry ∷ entries))
-    ≡ pieces_text (if is_last last entry.reviewer then [] else reviewer_item book entry.reviewer) ++ pieces_text (reviewers_after book (Some entry.reviewer) entries)
-reviewers-more book last entry entries =
-    pieces_text-append (if is_last last entry.reviewer then [] else reviewer_item book entry.reviewer) (reviewers_after book (Some entry.reviewer) entries)
 
 -- ---- items
 

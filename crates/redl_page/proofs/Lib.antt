@@ -1,2 +1,3 @@
 pub mod ChangeLaws
 pub mod PageLaws
+pub mod ReviewerLaws

@@ -1,3 +1,4 @@
 pub mod Changes
+pub mod Reviewers
 pub mod Page
 pub mod PageViews

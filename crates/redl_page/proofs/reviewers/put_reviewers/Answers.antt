@@ -1,9 +1,9 @@
-use Rattle.std.proofs.Common.{ap, sym, ◌∙◌, ◌++◌, [], Some, option_map}
-use Rattle.std.specs.Prelude.{if◌then◌else◌}
+use Rattle.std.proofs.Common.{ap, sym, ◌∙◌, ◌++◌, [], None, Some, append-nil, option_map, refl}
 use Rattle.redl_io.proofs.Puts.{so_far_begins, so_far_goes_on, so_far_stops, so_far_ends}
-use Rattle.redl_page.specs.Changes.{is_last, reviewer_item, reviewers_after}
+use Rattle.redl_page.specs.Reviewers.{item_at_end, item_before, items_from}
 use Rattle.redl_html.specs.Pieces.{pieces_text}
-use Rattle.redl_page.proofs.ChangeLaws.{reviewers-more}
+use Rattle.redl_html.proofs.PieceLaws.{puts_is}
+use Rattle.redl_page.proofs.ReviewerLaws.{items-more, reviewers_same}
 use Rattle.redl_page.proofs.reviewers.put_reviewers.Goals as goal
 
 pub loop-entry-init : goal.loop-entry-init
@@ -12,24 +12,34 @@ loop-entry-init g c =
 
 pub loop-entry-preserved : goal.loop-entry-preserved
 loop-entry-preserved g c =
-    let book = c.args.book.now in
     let last = option_map (λ last. last.now) c.loop-entry.last in
-    let reviewer = c.as_bytes-reviewer.result.now in
-    so_far_goes_on (pieces_text (if is_last last reviewer then [] else reviewer_item book reviewer)) (pieces_text (reviewers_after book (Some reviewer) c.next.new.self))
-    (ap (λ es. pieces_text (reviewers_after book last es)) c.in-Some.ensures.steps ∙ reviewers-more book last c.in-Some.entry.now c.next.new.self
-    ∙ ap (λ r. pieces_text (if is_last last r then [] else reviewer_item book r) ++ pieces_text (reviewers_after book (Some r) c.next.new.self)) (sym c.as_bytes-reviewer.ensures))
-    c.loop-entry.invariant c.in_ok-put_new_reviewer.ensures
+    let entry = c.in-Some.entry.now in
+    so_far_goes_on (pieces_text (item_before last entry)) (pieces_text (items_from (Some entry) c.next.new.self))
+    (ap (λ es. pieces_text (items_from last es)) c.in-Some.ensures.steps ∙ items-more last entry c.next.new.self)
+    c.loop-entry.invariant c.in_ok-put_ended.ensures
 
-pub returns-in_err-put_new_reviewer : goal.returns-in_err-put_new_reviewer
-returns-in_err-put_new_reviewer g c =
-    let book = c.args.book.now in
+pub returns-in_err-put_ended : goal.returns-in_err-put_ended
+returns-in_err-put_ended g c =
     let last = option_map (λ last. last.now) c.loop-entry.last in
-    let reviewer = c.as_bytes-reviewer.result.now in
-    so_far_stops (pieces_text (if is_last last reviewer then [] else reviewer_item book reviewer)) (pieces_text (reviewers_after book (Some reviewer) c.next.new.self))
-    (ap (λ es. pieces_text (reviewers_after book last es)) c.in-Some.ensures.steps ∙ reviewers-more book last c.in-Some.entry.now c.next.new.self
-    ∙ ap (λ r. pieces_text (if is_last last r then [] else reviewer_item book r) ++ pieces_text (reviewers_after book (Some r) c.next.new.self)) (sym c.as_bytes-reviewer.ensures))
-    c.from_residual.ensures.1 c.loop-entry.invariant c.in_err-put_new_reviewer.ensures
+    let entry = c.in-Some.entry.now in
+    puts_is (ap pieces_text (sym (reviewers_same c.args.book.now c.entries-entry-items.ensures.ordered)))
+    (so_far_stops (pieces_text (item_before last entry)) (pieces_text (items_from (Some entry) c.next.new.self))
+    (ap (λ es. pieces_text (items_from last es)) c.in-Some.ensures.steps ∙ items-more last entry c.next.new.self)
+    c.from_residual.ensures.1 c.loop-entry.invariant c.in_err-put_ended.ensures)
+
+pub returns-in_err-put_last : goal.returns-in_err-put_last
+returns-in_err-put_last g c =
+    let last = option_map (λ last. last.now) c.loop-entry.last in
+    puts_is (ap pieces_text (sym (reviewers_same c.args.book.now c.entries-entry-items.ensures.ordered)))
+    (so_far_stops (pieces_text (item_at_end last)) []
+    (ap (λ es. pieces_text (items_from last es)) c.in-None.ensures.steps.0 ∙ sym (append-nil (pieces_text (item_at_end last))))
+    c.from_residual-in_err-put_last.ensures.1 c.loop-entry.invariant c.in_err-put_last.ensures)
 
 pub returns : goal.returns
 returns g c =
-    so_far_ends (ap (λ es. pieces_text (reviewers_after c.args.book.now (option_map (λ last. last.now) c.loop-entry.last) es)) c.in-None.ensures.steps.0) c.loop-entry.invariant
+    let last = option_map (λ last. last.now) c.loop-entry.last in
+    puts_is (ap pieces_text (sym (reviewers_same c.args.book.now c.entries-entry-items.ensures.ordered)))
+    (so_far_ends refl
+    (so_far_goes_on (pieces_text (item_at_end last)) []
+    (ap (λ es. pieces_text (items_from last es)) c.in-None.ensures.steps.0 ∙ sym (append-nil (pieces_text (item_at_end last))))
+    c.loop-entry.invariant c.in_ok-put_last.ensures))
