@@ -188,7 +188,8 @@ class Page:
         latest = {}
         for entry in here:
             latest[entry[0]] = max(entry[1], latest.get(entry[0], 0))
-        say = lambda word, rank, who: '<p data-word="%s" data-rank="%d">%s</p>' % (word, rank, escaped(who))
+        ranked = lambda rank: " with rank %d" % rank if rank else ""
+        say = lambda word, rank, who: '<p data-word="%s" data-rank="%d"><bdi>%s</bdi>: %s%s</p>' % (word, rank, escaped(who), DONE[word], ranked(rank))
         return "".join(say(entry[3], rank_of(entry), entry[0]) for entry in here if entry[1] == latest[entry[0]])
 
     def row(self, number, revision):
@@ -205,6 +206,9 @@ class Page:
         for who, sequence, *_ in self.book:
             greatest[who] = max(sequence, greatest.get(who, 0))
         return "".join('<li data-sequence="%d">%s</li>\n' % (sequence, escaped(who)) for who, sequence in greatest.items())
+
+
+DONE = {"accept": "accepted", "reject": "rejected", "withdraw": "withdrawn"}
 
 
 def symbol(digits):
@@ -248,6 +252,7 @@ WHOLE = """<!DOCTYPE html>
 <main lang="">
 {document}</main>
 <aside aria-label="Changes">
+<noscript><p>Deciding needs the script of this page, which does not run here. The words below are what the journals say.</p></noscript>
 <ol>
 {rows}</ol>
 <ul>

@@ -1,17 +1,18 @@
 -- The list of changes: what is written of it, and that each revision has an item.
-use Rattle.std.proofs.Common.{◌≡◌, ℕ, ◌+◌, ◌<◌, ◌≤◌, List, [], ◌∷◌, ◌++◌, length, drop, get_or, Bool, true, ◌&&◌, Option, Some, eqb, eq-eqb, refl, sym, ap, ◌∙◌, append_assoc, append-nil, arith, codes, if◌then◌else◌}
-use Rattle.std.specs.Prelude.{decimal}
+use Rattle.std.proofs.Common.{◌≡◌, ℕ, ◌+◌, ◌<◌, ◌≤◌, List, [], ◌∷◌, ◌++◌, length, drop, get_or, Bool, true, false, ◌&&◌, Option, Some, eqb, eq-eqb, refl, sym, ap, ◌∙◌, append_assoc, append-nil, arith, codes, if◌then◌else◌}
+use Rattle.std.specs.Prelude.{◌==◌, decimal}
 use Rattle.std.specs.List.{flat_map, AllByRecursion}
 use Rattle.std.proofs.lemmas.List.{drop_more, drop_all}
 use Rattle.std.proofs.lemmas.Bool.{or_left, and_from}
 use Rattle.redl_kinds.specs.KindNames.{kind_name}
 use Rattle.redl_index.specs.declared.revision.Revision.{Revision}
 use Rattle.redl_journal.specs.declared.entry.Entry.{Entry}
+use Rattle.redl_journal.specs.declared.entry.Word.{Word}
 use Rattle.redl_join.specs.LastWords.{last_words}
 use Rattle.redl_join.specs.Verdicts.{verdict_at}
 use Rattle.redl_join.specs.declared.verdict.Verdict.{Verdict}
 use Rattle.redl_formats.specs.Dates.{date_text}
-use Rattle.redl_page.specs.Changes.{opens_item, has_item, change, change_head, change_state, changes, saying, verdict_before, locked_before}
+use Rattle.redl_page.specs.Changes.{opens_item, has_item, change, change_head, change_state, changes, rank_words, saying, saying_end, saying_start, verdict_before, word_after, word_before, locked_before}
 use Rattle.redl_html.specs.Escaping.{escaped}
 use Rattle.redl_html.specs.Pieces.{own, pieces_text}
 use Rattle.redl_html.proofs.NumberLaws.{has-left, has-right}
@@ -40,6 +41,20 @@ head-text revision =
 
 pub state-text : (verdict : Verdict) (locked : Bool) → pieces_text (change_state verdict locked) ≡ codes (verdict_before verdict) ++ codes (locked_before locked)
 state-text verdict locked = ap (λ l. codes (verdict_before verdict) ++ l) (append-nil (codes (locked_before locked)))
+
+pub saying-text : (entry : Entry) → pieces_text (saying entry)
+    ≡ (codes (word_before entry.word) ++ (decimal entry.rank ++ (codes "\"><bdi>" ++ []))) ++ (escaped entry.reviewer ++ pieces_text (saying_end entry.word entry.rank))
+saying-text entry =
+    pieces_text-append (saying_start entry) (saying_end entry.word entry.rank)
+    ∙ saying_parts (codes (word_before entry.word)) (decimal entry.rank) (codes "\"><bdi>") (escaped entry.reviewer) (pieces_text (saying_end entry.word entry.rank)) where
+      saying_parts : (before rank name reviewer end : List ℕ) → (before ++ (rank ++ (name ++ (reviewer ++ [])))) ++ end ≡ (before ++ (rank ++ (name ++ []))) ++ (reviewer ++ end)
+      saying_parts before rank name reviewer end = simp (append_assoc, append-nil)
+
+pub rank_words-text : (rank : ℕ) → (rank == 0) ≡ false → pieces_text (rank_words rank) ≡ codes " with rank " ++ (decimal rank ++ [])
+rank_words-text rank e = rw e refl
+
+pub saying_end-text : (word : Word) (rank : ℕ) → pieces_text (saying_end word rank) ≡ codes (word_after word) ++ (pieces_text (rank_words rank) ++ codes "</p>")
+saying_end-text word rank = ap (λ l. codes (word_after word) ++ l) (pieces_text-append (rank_words rank) (own "</p>" ∷ []))
 
 pub sayings-more : (entry : Entry) (entries : List Entry) → pieces_text (flat_map saying (entry ∷ entries)) ≡ pieces_text (saying entry) ++ pieces_text (flat_map saying entries)
 sayings-more entry entries = pieces_text-append (saying entry) (flat_map saying entries)

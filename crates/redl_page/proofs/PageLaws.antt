@@ -5,7 +5,7 @@ use Rattle.redl_opc.specs.Shape.{parts_of}
 use Rattle.redl_shown.specs.Shown.{shown}
 use Rattle.redl_page.specs.Changes.{changes, reviewers}
 use Rattle.redl_page_stories.specs.Document.{sections}
-use Rattle.redl_page.specs.Page.{Shown, body, body_head, lists, reviewer_list}
+use Rattle.redl_page.specs.Page.{Shown, before_changes, body, body_head, lists, reviewer_list}
 use Rattle.redl_html.specs.Pieces.{pieces_text}
 use Rattle.redl_html.proofs.PieceLaws.{pieces_text-append}
 
@@ -13,9 +13,9 @@ pub reviewer_list-text : (book : List Entry) → pieces_text (reviewer_list book
 reviewer_list-text book = ap (λ l. codes "</ol>\n<ul>\n" ++ l) (pieces_text-append (reviewers book) _)
 
 pub lists-text : (page : Shown) → pieces_text (lists page)
-    ≡ codes "</main>\n<aside aria-label=\"Changes\">\n<ol>\n" ++ (pieces_text (changes page.book page.revisions page.locked) ++ pieces_text (reviewer_list page.book))
+    ≡ codes before_changes ++ (pieces_text (changes page.book page.revisions page.locked) ++ pieces_text (reviewer_list page.book))
 lists-text page =
-    ap (λ l. codes "</main>\n<aside aria-label=\"Changes\">\n<ol>\n" ++ l) (pieces_text-append (changes page.book page.revisions page.locked) (reviewer_list page.book))
+    ap (λ l. codes before_changes ++ l) (pieces_text-append (changes page.book page.revisions page.locked) (reviewer_list page.book))
 
 pub body-text : (page : Shown) → pieces_text (body page)
     ≡ pieces_text (body_head page.digest (length page.revisions)) ++ (pieces_text (sections shown page.revisions true (parts_of page.nodes)) ++ pieces_text (lists page))

@@ -1,7 +1,7 @@
 -- The list of changes beside the document (our own rule): an item for each revision in the order of the numbers, with the last words
 -- of each reviewer on it; and the reviewers, each with the greatest sequence number of their entries.
 use Prim.Native.String.{String}
-use Rattle.std.specs.Prelude.{ℕ, List, [], ◌∷◌, ◌++◌, Bool, true, false, Option, Some, None, codes, if◌then◌else◌}
+use Rattle.std.specs.Prelude.{ℕ, ◌==◌, List, [], ◌∷◌, ◌++◌, Bool, true, false, Option, Some, None, codes, if◌then◌else◌}
 use Rattle.std.specs.List.{flat_map}
 use Rattle.std.specs.Str.{bytes_eq}
 use Rattle.redl_kinds.specs.KindNames.{kind_name}
@@ -24,8 +24,23 @@ word_before Accept = "<p data-word=\"accept\" data-rank=\""
 word_before Reject = "<p data-word=\"reject\" data-rank=\""
 word_before Withdraw = "<p data-word=\"withdraw\" data-rank=\""
 
+abbrev pub word_after : Word → String
+word_after Accept = "</bdi>: accepted"
+word_after Reject = "</bdi>: rejected"
+word_after Withdraw = "</bdi>: withdrawn"
+
+-- the rank in words, but for the lowest one
+abbrev pub rank_words : ℕ → List Piece
+rank_words rank = if rank == 0 then [] else own " with rank " ∷ number rank ∷ []
+
+abbrev pub saying_start : Entry → List Piece
+saying_start entry = own (word_before entry.word) ∷ number entry.rank ∷ own "\"><bdi>" ∷ outside entry.reviewer ∷ []
+
+abbrev pub saying_end : Word → ℕ → List Piece
+saying_end word rank = own (word_after word) ∷ (rank_words rank ++ (own "</p>" ∷ []))
+
 abbrev pub saying : Entry → List Piece
-saying entry = own (word_before entry.word) ∷ number entry.rank ∷ own "\">" ∷ outside entry.reviewer ∷ own "</p>" ∷ []
+saying entry = saying_start entry ++ saying_end entry.word entry.rank
 
 -- what was decided on it, and whether it is locked
 abbrev pub verdict_before : Verdict → String

@@ -1,5 +1,6 @@
 -- The page: one document of HTML (the living standard) that shows a package with its changes. It is a function of the package, of the
 -- book, of what is locked, of the digest, and of the skin: the program's own policy, style and script.
+use Prim.Native.String.{String}
 use Rattle.std.specs.Prelude.{ℕ, List, [], ◌∷◌, ◌++◌, Bool, true, length}
 use Rattle.hex.specs.Hex.{encode_lower}
 use Rattle.redl_tree.specs.Model.Nodes.{Nodes}
@@ -41,9 +42,14 @@ body_head digest count =
 abbrev pub reviewer_list : List Entry → List Piece
 reviewer_list book = own "</ol>\n<ul>\n" ∷ (reviewers book ++ (own "</ul>\n</aside>\n<script>" ∷ []))
 
+-- before the list of changes: without its script a page says so
+abbrev pub before_changes : String
+before_changes =
+    "</main>\n<aside aria-label=\"Changes\">\n<noscript><p>Deciding needs the script of this page, which does not run here. The words below are what the journals say.</p></noscript>\n<ol>\n"
+
 abbrev pub lists : Shown → List Piece
 lists page =
-    own "</main>\n<aside aria-label=\"Changes\">\n<ol>\n" ∷ (changes page.book page.revisions page.locked ++ reviewer_list page.book)
+    own before_changes ∷ (changes page.book page.revisions page.locked ++ reviewer_list page.book)
 
 -- the document, the list of changes, and the reviewers
 abbrev pub body : Shown → List Piece

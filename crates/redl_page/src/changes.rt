@@ -1,6 +1,6 @@
 //! The list of changes.
 
-ghost use Rattle.std.specs.Prelude.{◌≡◌, ◌++◌, ℕ, All, IfSome, codes, decimal, length, map};
+ghost use Rattle.std.specs.Prelude.{◌≡◌, ◌==◌, ◌++◌, [], ℕ, All, IfSome, codes, decimal, length, map};
 ghost use Rattle.std.specs.List.{flat_map};
 ghost use Rattle.std.specs.Map.Iter.{deref};
 ghost use Rattle.redl_io.specs.Sink.{Puts};
@@ -9,7 +9,7 @@ ghost use Rattle.redl_index.specs.Revisions.{IsListable};
 ghost use Rattle.redl_join.specs.LastWords.{last_words, words_on};
 ghost use Rattle.redl_formats.specs.Dates.{date_text, moment_text};
 ghost use Rattle.redl_stamp.specs.Moment.{IsMoment};
-ghost use Rattle.redl_page.specs.Changes.{change, change_head, change_state, changes, locked_before, saying, verdict_before, word_before};
+ghost use Rattle.redl_page.specs.Changes.{change, change_head, change_state, changes, locked_before, rank_words, saying, saying_end, verdict_before, word_after, word_before};
 ghost use Rattle.redl_html.specs.Escaping.{escaped};
 ghost use Rattle.redl_html.specs.Pieces.{pieces_text};
 
@@ -115,8 +115,8 @@ fn put_number<K: Sink>(number: u32, out: &mut K) -> Result<(), Failed>
     put_pieces(&[b"<li id=\"revision-".as_slice(), digits], out)
 }
 
-// Puts what comes before a text from outside, and the text.
-fn put_attribute<K: Sink>(before: &[u8], text: &[u8], out: &mut K) -> Result<(), Failed>
+/// Puts what comes before a text from outside, and the text.
+pub(crate) fn put_attribute<K: Sink>(before: &[u8], text: &[u8], out: &mut K) -> Result<(), Failed>
     ensures { Puts K.told K.faults K.settled K.lenders out.old out.new (before.now ++ escaped text.now) result }
 {
     put_piece(before, out)?;
@@ -183,9 +183,41 @@ fn put_saying<K: Sink>(entry: &Entry, out: &mut K) -> Result<(), Failed>
     let mut buffer = Buffer::new();
     let rank = buffer.format(entry.rank).as_bytes();
     let reviewer = entry.reviewer.as_bytes();
-    put_pieces(&[word_before(entry.word), rank, b"\">"], out)?;
+    put_pieces(&[word_before(entry.word), rank, b"\"><bdi>"], out)?;
     put_escaped(reviewer, out)?;
+    put_saying_end(entry.word, entry.rank, out)
+}
+
+// Puts what comes after the name of a reviewer: the word and the rank in words.
+fn put_saying_end<K: Sink>(word: Word, rank: u8, out: &mut K) -> Result<(), Failed>
+    ensures { Puts K.told K.faults K.settled K.lenders out.old out.new (pieces_text (saying_end word rank)) result }
+{
+    put_piece(word_after(word), out)?;
+    put_rank_words(rank, out)?;
     put_piece(b"</p>", out)
+}
+
+fn put_rank_words<K: Sink>(rank: u8, out: &mut K) -> Result<(), Failed>
+    ensures { Puts K.told K.faults K.settled K.lenders out.old out.new (pieces_text (rank_words rank)) result }
+{
+    if is_lowest(rank) {
+        return Ok(());
+    }
+    put_rank(rank, out)
+}
+
+fn is_lowest(rank: u8) -> bool
+    ensures { result ≡ (rank == 0) }
+{
+    rank == 0
+}
+
+fn put_rank<K: Sink>(rank: u8, out: &mut K) -> Result<(), Failed>
+    ensures { Puts K.told K.faults K.settled K.lenders out.old out.new (codes " with rank " ++ (decimal rank ++ [])) result }
+{
+    let mut buffer = Buffer::new();
+    let digits = buffer.format(rank).as_bytes();
+    put_pieces(&[b" with rank ".as_slice(), digits], out)
 }
 
 fn word_before(word: Word) -> &'static [u8]
@@ -195,5 +227,15 @@ fn word_before(word: Word) -> &'static [u8]
         Word::Accept => b"<p data-word=\"accept\" data-rank=\"",
         Word::Reject => b"<p data-word=\"reject\" data-rank=\"",
         Word::Withdraw => b"<p data-word=\"withdraw\" data-rank=\"",
+    }
+}
+
+fn word_after(word: Word) -> &'static [u8]
+    ensures { result.now ≡ codes (word_after word) }
+{
+    match word {
+        Word::Accept => b"</bdi>: accepted",
+        Word::Reject => b"</bdi>: rejected",
+        Word::Withdraw => b"</bdi>: withdrawn",
     }
 }

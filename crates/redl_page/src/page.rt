@@ -45,12 +45,15 @@ pub struct Shown<'a, 'b> {
     pub digest: &'a [u8; 32],
 }
 
-// What comes before the policy, between policy and style, and after the script.
+// What comes before the policy, between policy and style, before the list of changes, and after the script.
 const BEFORE_POLICY: &[u8] =
     b"<!DOCTYPE html>\n<html lang=\"en\">\n<head>\n<meta charset=\"utf-8\">\n<meta http-equiv=\"Content-Security-Policy\" content=\"";
 
 const BEFORE_STYLE: &[u8] =
     b"\">\n<meta name=\"viewport\" content=\"width=device-width, initial-scale=1\">\n<title>Redline: changes to decide</title>\n<style>";
+
+const BEFORE_CHANGES: &[u8] =
+    b"</main>\n<aside aria-label=\"Changes\">\n<noscript><p>Deciding needs the script of this page, which does not run here. The words below are what the journals say.</p></noscript>\n<ol>\n";
 
 const AFTER_SCRIPT: &[u8] = b"</script>\n</body>\n</html>\n";
 
@@ -137,7 +140,7 @@ fn put_lists<K: Sink>(
     requires locked { length page.now.locked.now ≡ length page.now.index.now }
     ensures { Puts K.told K.faults K.settled K.lenders out.old out.new (pieces_text (lists (shown_by page.now))) result }
 {
-    put_piece(b"</main>\n<aside aria-label=\"Changes\">\n<ol>\n", out)?;
+    put_piece(BEFORE_CHANGES, out)?;
     put_changes(page.index, page.book, words, page.locked, out)?;
     put_reviewer_list(page.book, out)
 }

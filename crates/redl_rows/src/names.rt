@@ -62,7 +62,7 @@ const NAMES: [(&str, &str); 23] = [
     ),
     (
         "{changes}",
-        "</main>\n<aside aria-label=\"Changes\">\n<ol>\n",
+        "</main>\n<aside aria-label=\"Changes\">\n<noscript><p>Deciding needs the script of this page, which does not run here. The words below are what the journals say.</p></noscript>\n<ol>\n",
     ),
     (
         "{/page}",
