@@ -1,10 +1,11 @@
 """A second writer of the page that a reviewer opens in a browser, as docs/PROGRAMS.md tells it.
 
-    python3 page.py PACKAGE [--lock AUTHOR ..] [JOURNAL ..]        the page, on standard output
+    python3 page.py PACKAGE [--title TEXT] [--rank N] [--lock AUTHOR ..] [JOURNAL ..]        the page, on standard output
 
 It shares no code with the program but the page's script and style, which are texts of their own. The gate compares the
 program's pages with what this makes of the same files, and the browser's test can run on either.
 """
+import argparse
 import base64
 import datetime
 import hashlib
@@ -245,10 +246,10 @@ WHOLE = """<!DOCTYPE html>
 <meta charset="utf-8">
 <meta http-equiv="Content-Security-Policy" content="{policy}">
 <meta name="viewport" content="width=device-width, initial-scale=1">
-<title>Redline: changes to decide</title>
+<title>{title}</title>
 <style>{style}</style>
 </head>
-<body data-document="{digest}" data-revisions="{count}">
+<body data-document="{digest}" data-revisions="{count}"{given}>
 <main lang="">
 {document}</main>
 <aside aria-label="Changes">
@@ -291,8 +292,8 @@ def skin():
     return policy(style, script), style, script
 
 
-def page(package, entries, locks=()):
-    """The page of a package with the entries of journals, as text."""
+def page(package, entries, locks=(), title=None, rank=None):
+    """The page of a package with the entries of journals, and with the title and the rank that the sender gives, as text."""
     rules, style, script = skin()
     of = Page(package, entries, locks)
     values = {
@@ -301,6 +302,8 @@ def page(package, entries, locks=()):
         "script": script,
         "digest": hashlib.sha256(package.text.encode()).hexdigest(),
         "count": str(len(package.revisions)),
+        "title": "Redline: changes to decide" if title is None else escaped(title),
+        "given": "".join(' data-%s="%s"' % (name, escaped(value)) for name, value in (("title", title), ("rank", rank)) if value is not None),
         "document": of.document(),
         "rows": "".join(of.row(number, it) for number, it in enumerate(package.revisions, 1)),
         "reviewers": of.reviewers(),
@@ -320,11 +323,16 @@ def entries_of(journal):
 
 
 def main(words):
-    locks = [words[place + 1] for place, word in enumerate(words) if word == "--lock"]
-    names = [word for place, word in enumerate(words) if word != "--lock" and (place == 0 or words[place - 1] != "--lock")]
-    entries = sum((entries_of(read(name)) for name in names[1:]), [])
+    parser = argparse.ArgumentParser()
+    parser.add_argument("package")
+    parser.add_argument("journals", nargs="*")
+    parser.add_argument("--title")
+    parser.add_argument("--rank")
+    parser.add_argument("--lock", action="append", default=[])
+    given = parser.parse_intermixed_args(words)
+    entries = sum((entries_of(read(name)) for name in given.journals), [])
     sys.stdout.reconfigure(encoding="utf-8", newline="")
-    sys.stdout.write(page(reading.Package(read(names[0])), entries, locks))
+    sys.stdout.write(page(reading.Package(read(given.package)), entries, given.lock, given.title, given.rank))
 
 
 if __name__ == "__main__":

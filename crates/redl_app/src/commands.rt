@@ -61,11 +61,7 @@ pub(crate) fn carry_out<'a, F: Shelf, O: Sink>(
             report_package(alloc, command, text.unwrap(), shelf, reports),
             out,
         ),
-        Command::Page {
-            locks,
-            journals,
-            ..
-        } => put_page(alloc, locks, journals, text.unwrap(), shelf, skin, out),
+        Command::Page(command) => put_page(alloc, command, text.unwrap(), shelf, skin, out),
         Command::Write {
             locks,
             journals,

@@ -17,11 +17,11 @@ pub(crate) fn package(command: &Command) -> Option<&str>
     match command {
         Command::Settle { package, .. }
         | Command::Text { package, .. }
-        | Command::Page { package, .. }
         | Command::Write { package, .. }
         | Command::Check { package } => Some(name_of(package)),
         Command::List(command) => Some(name_of(&command.package)),
         Command::Report(command) => Some(name_of(&command.package)),
+        Command::Page(command) => Some(name_of(&command.package)),
         Command::Decide(command) => Some(name_of(&command.package)),
         Command::Resume(command) => Some(name_of(&command.package)),
         Command::Join { .. } | Command::Sample { .. } => None,

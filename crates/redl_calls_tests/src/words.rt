@@ -5,7 +5,8 @@ use redl_io::Text;
 use redl_journal::Word;
 use redl_kinds::{Lock, Selection};
 use redl_words::{
-    Command, DecideCommand, ListCommand, Only, ReportCommand, ResumeCommand, WordsError, read_words,
+    Command, DecideCommand, ListCommand, Only, PageCommand, ReportCommand, ResumeCommand,
+    WordsError, read_words,
 };
 use std::alloc::{AllocError, Global};
 use std::str::from_utf8;
@@ -147,14 +148,21 @@ fn report_shown(alloc: Global, command: &ReportCommand) -> Result<String, AllocE
     with_texts(alloc, front.as_str(), &command.locks, &command.journals)
 }
 
-fn page_shown(
-    alloc: Global,
-    package: &Text,
-    locks: &[Lock],
-    journals: &[Text],
-) -> Result<String, AllocError> {
-    let front = format!(in alloc; "page {}", shown(package))?;
-    with_texts(alloc, front.as_str(), locks, journals)
+fn title_shown(alloc: Global, title: &Option<Text>) -> Result<String, AllocError> {
+    match title {
+        Some(title) => format!(in alloc; " title {}", shown(title)),
+        None => Ok(String::new(alloc)),
+    }
+}
+
+fn page_shown(alloc: Global, command: &PageCommand) -> Result<String, AllocError> {
+    let title = title_shown(alloc, &command.title)?;
+    let front = format!(in alloc;
+        "page {}{title} rank {:?}",
+        shown(&command.package),
+        command.rank
+    )?;
+    with_texts(alloc, front.as_str(), &command.locks, &command.journals)
 }
 
 fn write_shown(
@@ -190,11 +198,7 @@ fn command_shown(alloc: Global, command: &Command) -> Result<String, AllocError>
         Command::Text { package, view } => format!(in alloc; "text {} {view:?}", shown(package)),
         Command::List(command) => list_shown(alloc, command),
         Command::Report(command) => report_shown(alloc, command),
-        Command::Page {
-            package,
-            locks,
-            journals,
-        } => page_shown(alloc, package, locks, journals),
+        Command::Page(command) => page_shown(alloc, command),
         Command::Write {
             package,
             locks,
@@ -258,10 +262,18 @@ const COMMANDS: [(&str, &str); 35] = [
         "report|P|J|--by|kind|--lock|--by|--format|json",
         "report by kind P as json locks --by, journals J,",
     ),
-    ("page|P", "page P locks  journals "),
+    ("page|P", "page P rank None locks  journals "),
     (
         "page|P|J|--lock|Cy & Co|--lock-kind|row-ins|K|J",
-        "page P locks Cy & Co,kind Row(Ins), journals J,K,J,",
+        "page P rank None locks Cy & Co,kind Row(Ins), journals J,K,J,",
+    ),
+    (
+        "page|P|--title|Supply <July>|--rank|9|J",
+        "page P title Supply <July> rank Some(9) locks  journals J,",
+    ),
+    (
+        "page|P|J|--rank|0|--lock|--title|K|--title|--rank",
+        "page P title --rank rank Some(0) locks --title, journals J,K,",
     ),
     ("write|P", "write P locks  journals "),
     (
@@ -369,6 +381,17 @@ const NO_COMMANDS: [&str; 98] = [
     "page",
     "page|P|--format|tab",
     "page|P|--journal|J",
+    "page|P|--title",
+    "page|P|--title|a|J|--title|a",
+    "page|P|--title=a",
+    "page|P|--rank|1|--rank|1",
+    "page|P|--rank|10",
+    "page|P|--rank|01",
+    "page|P|--rank",
+    "write|P|--title|a",
+    "list|P|--title|a",
+    "report|P|--title|a",
+    "decide|P|Dee|--accept|all|--title|a",
     "list|P|--only",
     "list|P|--only|",
     "list|P|--only|Open",

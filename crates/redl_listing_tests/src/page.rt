@@ -7,7 +7,7 @@ use redl_join::Book;
 use redl_journal::read;
 use redl_opc::Package;
 use redl_outline::{package, part};
-use redl_page::{Shown, Skin, write_page};
+use redl_page::{Heading, Shown, Skin, write_page};
 use redl_page_stories::put_document;
 use redl_test_journals::{book_of, journal_text};
 use std::alloc::{AllocError, Global};
@@ -188,7 +188,7 @@ fn documents_are_written(rt: HostRuntime) -> Result<(), Fail> {
 const LINES: &[u8] = b"2\t1\taccept\tAnn & Co\n7\t1\treject\tBob\n";
 
 const WHOLE: &str =
-    "<!DOCTYPE html>\n<html lang=\"en\">\n<head>\n<meta charset=\"utf-8\">\n<meta http-equiv=\"Content-Security-Policy\" content=\"default-src 'none'\">\n<meta name=\"viewport\" content=\"width=device-width, initial-scale=1\">\n<title>Redline: changes to decide</title>\n<style>p{}</style>\n</head>\n<body data-document=\"e3b0c44298fc1c149afbf4c8996fb92427ae41e4649b934ca495991b7852b855\" data-revisions=\"1\">\n<main lang=\"\">\n<section data-story=\"document\">\n<p><ins class=\"text\" data-revision=\"1\" data-author=\"Eve\">x</ins></p>\n</section>\n</main>\n<aside aria-label=\"Changes\">\n<noscript><p>Deciding needs the script of this page, which does not run here. The words below are what the journals say.</p></noscript>\n<ol>\n<li id=\"revision-1\" data-kind=\"ins\" data-author=\"Eve\" data-date=\"2024-05-06T07:08:00Z\" data-verdict=\"disputed\" data-locked=\"yes\"><p data-word=\"accept\" data-rank=\"0\"><bdi>Ann &amp; Co</bdi>: accepted</p><p data-word=\"reject\" data-rank=\"0\"><bdi>Bob</bdi>: rejected</p></li>\n</ol>\n<ul>\n<li data-sequence=\"2\">Ann &amp; Co</li>\n<li data-sequence=\"7\">Bob</li>\n</ul>\n</aside>\n<script>1 < 2</script>\n</body>\n</html>\n";
+    "<!DOCTYPE html>\n<html lang=\"en\">\n<head>\n<meta charset=\"utf-8\">\n<meta http-equiv=\"Content-Security-Policy\" content=\"default-src 'none'\">\n<meta name=\"viewport\" content=\"width=device-width, initial-scale=1\">\n<title>&lt;Supply&gt;</title>\n<style>p{}</style>\n</head>\n<body data-document=\"e3b0c44298fc1c149afbf4c8996fb92427ae41e4649b934ca495991b7852b855\" data-revisions=\"1\" data-title=\"&lt;Supply&gt;\" data-rank=\"4\">\n<main lang=\"\">\n<section data-story=\"document\">\n<p><ins class=\"text\" data-revision=\"1\" data-author=\"Eve\">x</ins></p>\n</section>\n</main>\n<aside aria-label=\"Changes\">\n<noscript><p>Deciding needs the script of this page, which does not run here. The words below are what the journals say.</p></noscript>\n<ol>\n<li id=\"revision-1\" data-kind=\"ins\" data-author=\"Eve\" data-date=\"2024-05-06T07:08:00Z\" data-verdict=\"disputed\" data-locked=\"yes\"><p data-word=\"accept\" data-rank=\"0\"><bdi>Ann &amp; Co</bdi>: accepted</p><p data-word=\"reject\" data-rank=\"0\"><bdi>Bob</bdi>: rejected</p></li>\n</ol>\n<ul>\n<li data-sequence=\"2\">Ann &amp; Co</li>\n<li data-sequence=\"7\">Bob</li>\n</ul>\n</aside>\n<script>1 < 2</script>\n</body>\n</html>\n";
 
 // The page of the package with this document, whose one revision is locked, under this book.
 fn page_of(alloc: Global, book: &Book, digest: &[u8; 32]) -> Result<MemSink, Fail> {
@@ -205,11 +205,11 @@ fn page_of(alloc: Global, book: &Book, digest: &[u8; 32]) -> Result<MemSink, Fai
     Ok(out)
 }
 
-fn put_page(
-    package: &Package,
-    index: &Index,
-    book: &Book,
-    digest: &[u8; 32],
+fn put_page<'a>(
+    package: &'a Package<'_>,
+    index: &'a Index,
+    book: &'a Book,
+    digest: &'a [u8; 32],
     out: &mut MemSink,
 ) -> Result<(), Fail> {
     let skin = Skin {
@@ -221,12 +221,17 @@ fn put_page(
         return Ok(());
     }
     let words = book.last_words()?;
+    let heading = Heading {
+        title: Some(b"<Supply>"),
+        rank: Some(4),
+    };
     let page = Shown {
         package,
         index,
         locked: &[true],
         book,
         digest,
+        heading,
     };
     write_page(&skin, &page, &words, out)?;
     Ok(())

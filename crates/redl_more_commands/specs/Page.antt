@@ -1,4 +1,4 @@
--- `page P` with journals and locks: a page on which a reviewer sees the revisions of the package and decides in a browser.
+-- `page P` with a title, a rank, journals and locks: a page on which a reviewer sees the revisions of the package and decides in a browser.
 use Rattle.std.specs.Prelude.{ℕ, Bool, List, map, is_some, Result, Ok}
 use Rattle.redl_inputs.specs.Admission.{Admission, opened}
 use Rattle.redl_inputs.specs.Readers.{Reader}
@@ -7,7 +7,7 @@ use Rattle.redl_commands.specs.Writing.{Writing}
 use Rattle.redl_index.specs.declared.revision.Revision.{Revision}
 use Rattle.redl_io.specs.Shelf.{Files}
 use Rattle.redl_lines.specs.Failures.{Failure}
-use Rattle.redl_page.specs.Page.{Shown, Skin, page_text}
+use Rattle.redl_page.specs.Page.{Heading, Shown, Skin, page_text}
 use Rattle.redl_kinds.specs.declared.lock.Lock.{Lock}
 use Rattle.redl_session.specs.Bars.{bar_of}
 use Rattle.redl_session.specs.Sessions.{SessionState}
@@ -16,21 +16,23 @@ use Rattle.redl_session.specs.Sessions.{SessionState}
 abbrev pub is_locked : List Lock → Revision → Bool
 is_locked locks revision = is_some (bar_of locks revision)
 
--- what the page of a session shows: its package and revisions, which of these are locked, the admitted entries, and the digest
-abbrev pub shown_of : SessionState → List Bool → List ℕ → Shown
-shown_of state locked digest = record { nodes = state.nodes; revisions = state.revisions; locked = locked; book = state.book; digest = digest }
+-- what the page of a session shows: its package and revisions, which of these are locked, the admitted entries, the digest, and what
+-- the sender gives
+abbrev pub shown_of : SessionState → List Bool → List ℕ → Heading → Shown
+shown_of state locked digest heading =
+    record { nodes = state.nodes; revisions = state.revisions; locked = locked; book = state.book; digest = digest; heading = heading }
 
 -- the same under these locks
-abbrev pub shown_in : List Lock → Admission → Shown
-shown_in locks admission =
-    shown_of admission.state (map (is_locked locks) admission.state.revisions) admission.document.digest
+abbrev pub shown_in : Heading → List Lock → Admission → Shown
+shown_in heading locks admission =
+    shown_of admission.state (map (is_locked locks) admission.state.revisions) admission.document.digest heading
 
--- the page of a session, with this skin
-abbrev pub page_of : Skin → List Lock → Admission → Writing
-page_of skin locks admission = record { bytes = page_text skin (shown_in locks admission); remarks = admission.remarks }
+-- the page of a session, with this skin and what the sender gives
+abbrev pub page_of : Skin → Heading → List Lock → Admission → Writing
+page_of skin heading locks admission = record { bytes = page_text skin (shown_in heading locks admission); remarks = admission.remarks }
 
 -- what is written of the package with this text
-abbrev pub paged : Reader → Files → Skin → List Lock → List (List ℕ) → List ℕ → Result Writing Failure
-paged reader files skin locks journals whole = do
+abbrev pub paged : Reader → Files → Skin → Heading → List Lock → List (List ℕ) → List ℕ → Result Writing Failure
+paged reader files skin heading locks journals whole = do
   admission ← opened reader files locks journals whole
-  Ok (page_of skin locks admission)
+  Ok (page_of skin heading locks admission)

@@ -11,6 +11,7 @@ use Rattle.redl_commands.specs.Join.{book_text, document_in, joined, union_of}
 use Rattle.redl_more_commands.specs.Report.{report_named, reported}
 use Rattle.redl_more_commands.specs.List.{listed, listing_named}
 use Rattle.redl_more_commands.specs.Page.{page_of}
+use Rattle.redl_page.specs.Page.{heading_with}
 use Rattle.redl_commands.specs.Write.{resolved}
 use Rattle.redl_outcome.specs.Brought.{Brought}
 use Rattle.redl_outcome.specs.Outcome.{carried_out, writing_of}
@@ -215,8 +216,8 @@ carried_same reader files brought (report p format by_kind locks journals) names
     let first = both_ok (has_asked brought asked) (λ there. package_file files p >>= (λ whole. reported reader files brought.reports format by_kind locks names whole)) one is in
     let again = both_ok (has_asked brought asked) (λ there. package_file files p >>= (λ whole. reported reader files brought.reports format by_kind locks others whole)) other too in
     after_opening reader files locks names others p (λ admission. report_named brought.reports format by_kind admission) one other same first.second again.second
-carried_same reader files brought (page p locks journals) names others one other same is too =
-    after_opening reader files locks names others p (λ admission. Ok (page_of brought.skin locks admission)) one other same is too
+carried_same reader files brought (page p title rank locks journals) names others one other same is too =
+    after_opening reader files locks names others p (λ admission. Ok (page_of brought.skin (heading_with title rank) locks admission)) one other same is too
 carried_same reader files brought (write p locks journals) names others one other same is too =
     after_opening reader files locks names others p (λ admission. Ok (resolved admission)) one other same is too
 carried_same reader files brought (decide p reviewer journals locks choices rank) names others one other same is too =

@@ -5,6 +5,7 @@ use Rattle.redl_commands.specs.Decide.{chosen_journal}
 use Rattle.redl_commands.specs.Join.{joined}
 use Rattle.redl_more_commands.specs.List.{listed}
 use Rattle.redl_more_commands.specs.Page.{paged}
+use Rattle.redl_page.specs.Page.{heading_with}
 use Rattle.redl_more_commands.specs.Report.{reported}
 use Rattle.redl_more_commands.specs.Resume.{resumed}
 use Rattle.redl_commands.specs.Sample.{sampled}
@@ -68,7 +69,7 @@ plan (report p name by_kind locks journals) = record (only (of_package p (λ rea
   locks = locks;
   report = Some name;
 }
-plan (page p locks journals) = record (only (of_package p (λ reader files brought whole. paged reader files brought.skin locks journals whole))) {
+plan (page p title rank locks journals) = record (only (of_package p (λ reader files brought whole. paged reader files brought.skin (heading_with title rank) locks journals whole))) {
   journals = journals;
   locks = locks;
 }

@@ -1,13 +1,33 @@
 -- What is written of the page, part by part.
-use Rattle.std.proofs.Common.{◌≡◌, List, ◌++◌, true, length, ap, ◌∙◌, codes}
+use Rattle.std.proofs.Common.{◌≡◌, ℕ, List, [], ◌∷◌, ◌++◌, true, length, Option, ap, ◌∙◌, codes, append_assoc, append-nil}
 use Rattle.redl_journal.specs.declared.entry.Entry.{Entry}
 use Rattle.redl_opc.specs.Shape.{parts_of}
 use Rattle.redl_shown.specs.Shown.{shown}
 use Rattle.redl_page.specs.Changes.{changes, reviewers}
 use Rattle.redl_page_stories.specs.Document.{sections}
-use Rattle.redl_page.specs.Page.{Shown, before_changes, body, body_head, lists, reviewer_list}
-use Rattle.redl_html.specs.Pieces.{pieces_text}
+use Rattle.redl_page.specs.Page.{Heading, Shown, Skin, before_changes, before_policy, before_style, body, body_head, body_start, head_text, heading_attributes, lists, rank_attribute, reviewer_list, title_attribute, title_piece}
+use Rattle.redl_html.specs.Pieces.{Piece, own, piece_text, pieces_text}
 use Rattle.redl_html.proofs.PieceLaws.{pieces_text-append}
+
+pub head-text : (skin : Skin) (title : Option (List ℕ)) → head_text skin title
+    ≡ (pieces_text before_policy ++ (skin.policy ++ (codes "\">\n<meta name=\"viewport\" content=\"width=device-width, initial-scale=1\">\n<title>" ++ [])))
+    ++ (piece_text (title_piece title) ++ (codes "</title>\n<style>" ++ (skin.style ++ [])))
+head-text skin title =
+    parts (pieces_text before_policy) skin.policy (codes "\">\n<meta name=\"viewport\" content=\"width=device-width, initial-scale=1\">\n<title>") (piece_text (title_piece title))
+    (codes "</title>\n<style>") skin.style where
+      parts : (start policy before title after style : List ℕ) → start ++ (policy ++ ((before ++ (title ++ (after ++ []))) ++ style))
+          ≡ (start ++ (policy ++ (before ++ []))) ++ (title ++ (after ++ (style ++ [])))
+      parts start policy before title after style = simp (append_assoc, append-nil)
+
+pub body_head-text : (digest : List ℕ) (count : ℕ) (heading : Heading) → pieces_text (body_head digest count heading)
+    ≡ pieces_text (body_start digest count) ++ (pieces_text (heading_attributes heading) ++ codes "\">\n<main lang=\"\">\n")
+body_head-text digest count heading =
+    let end : List Piece = own "\">\n<main lang=\"\">\n" ∷ [] in
+    pieces_text-append (body_start digest count) (heading_attributes heading ++ end)
+    ∙ ap (λ l. pieces_text (body_start digest count) ++ l) (pieces_text-append (heading_attributes heading) end)
+
+pub heading-text : (heading : Heading) → pieces_text (heading_attributes heading) ≡ pieces_text (title_attribute heading.title) ++ pieces_text (rank_attribute heading.rank)
+heading-text heading = pieces_text-append (title_attribute heading.title) (rank_attribute heading.rank)
 
 pub reviewer_list-text : (book : List Entry) → pieces_text (reviewer_list book) ≡ codes "</ol>\n<ul>\n" ++ (pieces_text (reviewers book) ++ codes "</ul>\n</aside>\n<script>")
 reviewer_list-text book = ap (λ l. codes "</ol>\n<ul>\n" ++ l) (pieces_text-append (reviewers book) _)
@@ -18,7 +38,7 @@ lists-text page =
     ap (λ l. codes before_changes ++ l) (pieces_text-append (changes page.book page.revisions page.locked) (reviewer_list page.book))
 
 pub body-text : (page : Shown) → pieces_text (body page)
-    ≡ pieces_text (body_head page.digest (length page.revisions)) ++ (pieces_text (sections shown page.revisions true (parts_of page.nodes)) ++ pieces_text (lists page))
+    ≡ pieces_text (body_head page.digest (length page.revisions) page.heading) ++ (pieces_text (sections shown page.revisions true (parts_of page.nodes)) ++ pieces_text (lists page))
 body-text page =
-    pieces_text-append (body_head page.digest (length page.revisions)) (sections shown page.revisions true (parts_of page.nodes) ++ lists page)
-    ∙ ap (λ l. pieces_text (body_head page.digest (length page.revisions)) ++ l) (pieces_text-append (sections shown page.revisions true (parts_of page.nodes)) (lists page))
+    pieces_text-append (body_head page.digest (length page.revisions) page.heading) (sections shown page.revisions true (parts_of page.nodes) ++ lists page)
+    ∙ ap (λ l. pieces_text (body_head page.digest (length page.revisions) page.heading) ++ l) (pieces_text-append (sections shown page.revisions true (parts_of page.nodes)) (lists page))

@@ -1,7 +1,7 @@
 -- The page: one document of HTML (the living standard) that shows a package with its changes. It is a function of the package, of the
--- book, of what is locked, of the digest, and of the skin: the program's own policy, style and script.
+-- book, of what is locked, of the digest, of what the sender gives, and of the skin: the program's own policy, style and script.
 use Prim.Native.String.{String}
-use Rattle.std.specs.Prelude.{ℕ, List, [], ◌∷◌, ◌++◌, Bool, true, length}
+use Rattle.std.specs.Prelude.{ℕ, List, [], ◌∷◌, ◌++◌, Bool, true, Option, Some, None, length}
 use Rattle.hex.specs.Hex.{encode_lower}
 use Rattle.redl_tree.specs.Model.Nodes.{Nodes}
 use Rattle.redl_opc.specs.Shape.{parts_of}
@@ -18,26 +18,55 @@ pub record Skin : Type 0 where
   pub style : List ℕ
   pub script : List ℕ
 
--- a package with its revisions, which of these are locked, the book of its journals, and its digest
+-- what the sender of a page gives: a title of the document, and a rank for what is decided on the page
+pub record Heading : Type 0 where
+  pub title : Option (List ℕ)
+  pub rank : Option ℕ
+
+abbrev pub heading_with : Option (List ℕ) → Option ℕ → Heading
+heading_with title rank = record { title = title; rank = rank }
+
+-- a package with its revisions, which of these are locked, the book of its journals, its digest, and what the sender gives
 pub record Shown : Type 0 where
   pub nodes : Nodes
   pub revisions : List Revision
   pub locked : List Bool
   pub book : List Entry
   pub digest : List ℕ
+  pub heading : Heading
 
--- before the policy, between policy and style, and what ends the head
+-- before the policy, and between policy and style
 abbrev pub before_policy : List Piece
 before_policy =
     own "<!DOCTYPE html>\n<html lang=\"en\">\n<head>\n<meta charset=\"utf-8\">\n<meta http-equiv=\"Content-Security-Policy\" content=\"" ∷ []
 
-abbrev pub before_style : List Piece
-before_style =
-    own "\">\n<meta name=\"viewport\" content=\"width=device-width, initial-scale=1\">\n<title>Redline: changes to decide</title>\n<style>" ∷ []
+-- the title, or the program's own
+abbrev pub title_piece : Option (List ℕ) → Piece
+title_piece None = own "Redline: changes to decide"
+title_piece (Some title) = outside title
 
-abbrev pub body_head : List ℕ → ℕ → List Piece
-body_head digest count =
-    own "</style>\n</head>\n<body data-document=\"" ∷ outside (encode_lower digest) ∷ own "\" data-revisions=\"" ∷ number count ∷ own "\">\n<main lang=\"\">\n" ∷ []
+abbrev pub before_style : Option (List ℕ) → List Piece
+before_style title =
+    own "\">\n<meta name=\"viewport\" content=\"width=device-width, initial-scale=1\">\n<title>" ∷ title_piece title ∷ own "</title>\n<style>" ∷ []
+
+-- the body has the digest and the number of revisions, and the title and the rank where they are given
+abbrev pub title_attribute : Option (List ℕ) → List Piece
+title_attribute None = []
+title_attribute (Some title) = own "\" data-title=\"" ∷ outside title ∷ []
+
+abbrev pub rank_attribute : Option ℕ → List Piece
+rank_attribute None = []
+rank_attribute (Some rank) = own "\" data-rank=\"" ∷ number rank ∷ []
+
+abbrev pub body_start : List ℕ → ℕ → List Piece
+body_start digest count =
+    own "</style>\n</head>\n<body data-document=\"" ∷ outside (encode_lower digest) ∷ own "\" data-revisions=\"" ∷ number count ∷ []
+
+abbrev pub heading_attributes : Heading → List Piece
+heading_attributes heading = title_attribute heading.title ++ rank_attribute heading.rank
+
+abbrev pub body_head : List ℕ → ℕ → Heading → List Piece
+body_head digest count heading = body_start digest count ++ (heading_attributes heading ++ (own "\">\n<main lang=\"\">\n" ∷ []))
 
 abbrev pub reviewer_list : List Entry → List Piece
 reviewer_list book = own "</ol>\n<ul>\n" ∷ (reviewers book ++ (own "</ul>\n</aside>\n<script>" ∷ []))
@@ -54,18 +83,18 @@ lists page =
 -- the document, the list of changes, and the reviewers
 abbrev pub body : Shown → List Piece
 body page =
-    body_head page.digest (length page.revisions) ++ (sections shown page.revisions true (parts_of page.nodes) ++ lists page)
+    body_head page.digest (length page.revisions) page.heading ++ (sections shown page.revisions true (parts_of page.nodes) ++ lists page)
 
 abbrev pub after_script : List Piece
 after_script = own "</script>\n</body>\n</html>\n" ∷ []
 
--- what comes before the body's pieces, and after them
-abbrev pub head_text : Skin → List ℕ
-head_text skin = pieces_text before_policy ++ (skin.policy ++ (pieces_text before_style ++ skin.style))
+-- what comes before the body's pieces under this title, and after them
+abbrev pub head_text : Skin → Option (List ℕ) → List ℕ
+head_text skin title = pieces_text before_policy ++ (skin.policy ++ (pieces_text (before_style title) ++ skin.style))
 
 abbrev pub end_text : Skin → List ℕ
 end_text skin = skin.script ++ pieces_text after_script
 
 -- the whole page: its head, its body and its end
 abbrev pub page_text : Skin → Shown → List ℕ
-page_text skin page = head_text skin ++ (pieces_text (body page) ++ end_text skin)
+page_text skin page = head_text skin page.heading.title ++ (pieces_text (body page) ++ end_text skin)

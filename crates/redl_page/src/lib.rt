@@ -12,4 +12,4 @@ mod page;
 mod reviewers;
 
 pub use laws::each_revision_has_an_item;
-pub use page::{Shown, Skin, write_page};
+pub use page::{Heading, Shown, Skin, write_page};

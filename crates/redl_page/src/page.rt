@@ -1,14 +1,14 @@
 //! The whole page.
 
-ghost use Rattle.std.specs.Prelude.{◌≡◌, ◌++◌, ℕ, codes, decimal, length};
+ghost use Rattle.std.specs.Prelude.{◌≡◌, ◌++◌, [], ℕ, Some, codes, decimal, length, option_map};
 ghost use Rattle.hex.specs.Hex.{encode_lower};
 ghost use Rattle.redl_io.specs.Sink.{Puts};
 ghost use Rattle.redl_join.specs.LastWords.{last_words, words_on};
-ghost use Rattle.redl_page.specs.Page.{body, body_head, end_text, head_text, lists, page_text, reviewer_list};
-ghost use Rattle.redl_html.specs.Pieces.{pieces_text};
-ghost use Rattle.redl_page.specs.PageViews.{shown_by, skin_view};
+ghost use Rattle.redl_page.specs.Page.{body, body_head, body_start, end_text, head_text, heading_attributes, lists, page_text, rank_attribute, reviewer_list, title_attribute, title_piece};
+ghost use Rattle.redl_html.specs.Pieces.{piece_text, pieces_text};
+ghost use Rattle.redl_page.specs.PageViews.{heading_view, shown_by, skin_view};
 
-use crate::changes::put_changes;
+use crate::changes::{put_attribute, put_changes};
 use crate::reviewers::put_reviewers;
 use itoa::Buffer;
 use redl_html::put_escaped;
@@ -30,6 +30,15 @@ pub struct Skin<'a> {
     pub script: &'a [u8],
 }
 
+/// What the sender of a page gives. A part that is `None` is not in the page.
+#[derive(Clone, Copy)]
+pub struct Heading<'a> {
+    /// A title of the document.
+    pub title: Option<&'a [u8]>,
+    /// A rank for what is decided on the page.
+    pub rank: Option<u8>,
+}
+
 /// What a page shows, of a package whose revisions are numbered.
 #[derive(Clone, Copy)]
 pub struct Shown<'a, 'b> {
@@ -43,14 +52,18 @@ pub struct Shown<'a, 'b> {
     pub book: &'a Book,
     /// The SHA-256 of the text of the package.
     pub digest: &'a [u8; 32],
+    /// What the sender gives.
+    pub heading: Heading<'a>,
 }
 
-// What comes before the policy, between policy and style, before the list of changes, and after the script.
+// What comes before the policy, between policy and title, between title and style, before the list of changes, and after the script.
 const BEFORE_POLICY: &[u8] =
     b"<!DOCTYPE html>\n<html lang=\"en\">\n<head>\n<meta charset=\"utf-8\">\n<meta http-equiv=\"Content-Security-Policy\" content=\"";
 
-const BEFORE_STYLE: &[u8] =
-    b"\">\n<meta name=\"viewport\" content=\"width=device-width, initial-scale=1\">\n<title>Redline: changes to decide</title>\n<style>";
+const BEFORE_TITLE: &[u8] =
+    b"\">\n<meta name=\"viewport\" content=\"width=device-width, initial-scale=1\">\n<title>";
+
+const BEFORE_STYLE: &[u8] = b"</title>\n<style>";
 
 const BEFORE_CHANGES: &[u8] =
     b"</main>\n<aside aria-label=\"Changes\">\n<noscript><p>Deciding needs the script of this page, which does not run here. The words below are what the journals say.</p></noscript>\n<ol>\n";
@@ -72,15 +85,27 @@ pub fn write_page<K: Sink>(
     requires locked { length page.now.locked.now ≡ length page.now.index.now }
     ensures { Puts K.told K.faults K.settled K.lenders out.old out.new (page_text (skin_view skin.now) (shown_by page.now)) result }
 {
-    put_head(skin, out)?;
+    put_head(skin, page.heading.title, out)?;
     put_body(page, words, out)?;
     put_end(skin, out)
 }
 
-fn put_head<K: Sink>(skin: &Skin<'_>, out: &mut K) -> Result<(), Failed>
-    ensures { Puts K.told K.faults K.settled K.lenders out.old out.new (head_text (skin_view skin.now)) result }
+fn put_head<K: Sink>(skin: &Skin<'_>, title: Option<&[u8]>, out: &mut K) -> Result<(), Failed>
+    ensures { Puts K.told K.faults K.settled K.lenders out.old out.new (head_text (skin_view skin.now) (option_map (λ title. title.now) title.entry)) result }
 {
-    put_pieces(&[BEFORE_POLICY, skin.policy, BEFORE_STYLE, skin.style], out)
+    put_pieces(&[BEFORE_POLICY, skin.policy, BEFORE_TITLE], out)?;
+    put_title(title, out)?;
+    put_pieces(&[BEFORE_STYLE, skin.style], out)
+}
+
+// Puts a title, or the program's own.
+fn put_title<K: Sink>(title: Option<&[u8]>, out: &mut K) -> Result<(), Failed>
+    ensures { Puts K.told K.faults K.settled K.lenders out.old out.new (piece_text (title_piece (option_map (λ title. title.now) title.entry))) result }
+{
+    match title {
+        Some(title) => put_escaped(title, out),
+        None => put_piece(b"Redline: changes to decide", out),
+    }
 }
 
 fn put_end<K: Sink>(skin: &Skin<'_>, out: &mut K) -> Result<(), Failed>
@@ -94,13 +119,66 @@ fn put_body<K: Sink>(page: &Shown<'_, '_>, words: &LastWords<'_>, out: &mut K) -
     requires locked { length page.now.locked.now ≡ length page.now.index.now }
     ensures { Puts K.told K.faults K.settled K.lenders out.old out.new (pieces_text (body (shown_by page.now))) result }
 {
-    put_body_head(page.digest, page.index.count(), out)?;
+    put_body_head(page.digest, page.index.count(), page.heading, out)?;
     put_document(page.package, page.index, out)?;
     put_lists(page, words, out)
 }
 
-fn put_body_head<K: Sink>(digest: &[u8; 32], count: u32, out: &mut K) -> Result<(), Failed>
-    ensures { Puts K.told K.faults K.settled K.lenders out.old out.new (pieces_text (body_head digest.now count)) result }
+fn put_body_head<K: Sink>(
+    digest: &[u8; 32],
+    count: u32,
+    heading: Heading<'_>,
+    out: &mut K,
+) -> Result<(), Failed>
+    ensures { Puts K.told K.faults K.settled K.lenders out.old out.new (pieces_text (body_head digest.now count (heading_view heading.entry))) result }
+{
+    put_body_start(digest, count, out)?;
+    put_heading(heading, out)?;
+    put_piece(b"\">\n<main lang=\"\">\n", out)
+}
+
+// Puts the attributes for what the sender gives.
+fn put_heading<K: Sink>(heading: Heading<'_>, out: &mut K) -> Result<(), Failed>
+    ensures { Puts K.told K.faults K.settled K.lenders out.old out.new (pieces_text (heading_attributes (heading_view heading.entry))) result }
+{
+    put_title_attribute(heading.title, out)?;
+    put_rank_attribute(heading.rank, out)
+}
+
+fn put_title_attribute<K: Sink>(title: Option<&[u8]>, out: &mut K) -> Result<(), Failed>
+    ensures { Puts K.told K.faults K.settled K.lenders out.old out.new (pieces_text (title_attribute (option_map (λ title. title.now) title.entry))) result }
+{
+    match title {
+        Some(title) => put_given_title(title, out),
+        None => Ok(()),
+    }
+}
+
+fn put_given_title<K: Sink>(title: &[u8], out: &mut K) -> Result<(), Failed>
+    ensures { Puts K.told K.faults K.settled K.lenders out.old out.new (pieces_text (title_attribute (Some title.now))) result }
+{
+    put_attribute(b"\" data-title=\"", title, out)
+}
+
+fn put_rank_attribute<K: Sink>(rank: Option<u8>, out: &mut K) -> Result<(), Failed>
+    ensures { Puts K.told K.faults K.settled K.lenders out.old out.new (pieces_text (rank_attribute rank)) result }
+{
+    match rank {
+        Some(rank) => put_rank(rank, out),
+        None => Ok(()),
+    }
+}
+
+fn put_rank<K: Sink>(rank: u8, out: &mut K) -> Result<(), Failed>
+    ensures { Puts K.told K.faults K.settled K.lenders out.old out.new (pieces_text (rank_attribute (Some rank))) result }
+{
+    let mut buffer = Buffer::new();
+    let digits = buffer.format(rank).as_bytes();
+    put_pieces(&[b"\" data-rank=\"".as_slice(), digits], out)
+}
+
+fn put_body_start<K: Sink>(digest: &[u8; 32], count: u32, out: &mut K) -> Result<(), Failed>
+    ensures { Puts K.told K.faults K.settled K.lenders out.old out.new (pieces_text (body_start digest.now count)) result }
 {
     put_piece(b"</style>\n</head>\n<body data-document=\"", out)?;
     put_escaped(&digits(digest), out)?;
@@ -108,18 +186,11 @@ fn put_body_head<K: Sink>(digest: &[u8; 32], count: u32, out: &mut K) -> Result<
 }
 
 fn put_count<K: Sink>(count: u32, out: &mut K) -> Result<(), Failed>
-    ensures { Puts K.told K.faults K.settled K.lenders out.old out.new (codes "\" data-revisions=\"" ++ (decimal count ++ codes "\">\n<main lang=\"\">\n")) result }
+    ensures { Puts K.told K.faults K.settled K.lenders out.old out.new (codes "\" data-revisions=\"" ++ (decimal count ++ [])) result }
 {
     let mut buffer = Buffer::new();
     let digits = buffer.format(count).as_bytes();
-    put_pieces(
-        &[
-            b"\" data-revisions=\"".as_slice(),
-            digits,
-            b"\">\n<main lang=\"\">\n",
-        ],
-        out,
-    )
+    put_pieces(&[b"\" data-revisions=\"".as_slice(), digits], out)
 }
 
 // A digest in lower-case hexadecimal digits.

@@ -8,7 +8,7 @@ pub(crate) const FRONT: &str = "{package}{document}";
 pub(crate) const BACK: &str = "{/document}{/package}";
 
 // Each name and its text. A text that holds another one comes first.
-const NAMES: [(&str, &str); 23] = [
+const NAMES: [(&str, &str); 25] = [
     (
         "{A}",
         " w:id=\"1\" w:author=\"Ann\" w:date=\"2024-05-06T07:08:09Z\"",
@@ -59,6 +59,14 @@ const NAMES: [(&str, &str); 23] = [
     (
         "{page}",
         "<!DOCTYPE html>\n<html lang=\"en\">\n<head>\n<meta charset=\"utf-8\">\n<meta http-equiv=\"Content-Security-Policy\" content=\"default-src 'none'\">\n<meta name=\"viewport\" content=\"width=device-width, initial-scale=1\">\n<title>Redline: changes to decide</title>\n<style>p{}</style>\n</head>\n<body data-document=\"",
+    ),
+    (
+        "{titled}",
+        "<!DOCTYPE html>\n<html lang=\"en\">\n<head>\n<meta charset=\"utf-8\">\n<meta http-equiv=\"Content-Security-Policy\" content=\"default-src 'none'\">\n<meta name=\"viewport\" content=\"width=device-width, initial-scale=1\">\n<title>",
+    ),
+    (
+        "{/titled}",
+        "</title>\n<style>p{}</style>\n</head>\n<body data-document=\"",
     ),
     (
         "{changes}",

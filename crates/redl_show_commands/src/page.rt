@@ -1,8 +1,8 @@
-//! `page P` with journals and locks.
+//! `page P` with a title, a rank, journals and locks.
 //!
 //! A page isn't made before it is put: its words are borrowed from the session's book, and its text would be as long as the package.
 
-ghost use Rattle.std.specs.Prelude.{◌≡◌, ℕ, Ok, All, IfOk, IsUtf8, OnErr, OnOk, length, map};
+ghost use Rattle.std.specs.Prelude.{◌≡◌, ℕ, Ok, All, IfOk, IsUtf8, OnErr, OnOk, length, map, option_map};
 ghost use Rattle.std.specs.Io.KnownBytes.{append_known};
 ghost use Rattle.redl_more_commands.specs.Page.{is_locked, page_of, paged, shown_of};
 ghost use Rattle.redl_commands.specs.Endings.{Ends, EndsAlone, Finishes};
@@ -11,38 +11,58 @@ ghost use Rattle.redl_io.specs.Sink.{CountsPut, GrowsByFront};
 ghost use Rattle.redl_join.specs.LastWords.{last_words, words_on};
 ghost use Rattle.redl_lines.specs.Ends.{end_view};
 ghost use Rattle.redl_lines.specs.Remarks.{remarks_view};
-ghost use Rattle.redl_page.specs.Page.{page_text};
-ghost use Rattle.redl_page.specs.PageViews.{shown_by, skin_view};
+ghost use Rattle.redl_page.specs.Page.{heading_with, page_text};
+ghost use Rattle.redl_page.specs.PageViews.{heading_view, shown_by, skin_view};
 
 use redl_index::Revision;
 use redl_inputs::{Admitted, open};
-use redl_io::{Failed, Shelf, Sink, Staged, Text};
+use redl_io::{Failed, Shelf, Sink, Staged};
 use redl_join::LastWords;
 use redl_kinds::Lock;
 use redl_lines::{End, Failure, Remarks};
-use redl_page::{Shown, Skin, write_page};
+use redl_page::{Heading, Shown, Skin, write_page};
 use redl_select::any_holds;
 use redl_session::Session;
+use redl_words::PageCommand;
 use std::alloc::{AllocError, Global};
 
-/// Puts the page of the package with this text, under the journals of these names and with these locks, through a stage, and gives how
-/// the call ends.
+/// Puts the page that the command asks for, of the package with this text, through a stage, and gives how the call ends.
 pub fn put_page<'a, F: Shelf, O: Sink>(
     alloc: Global,
-    locks: &[Lock],
-    journals: &'a [Text],
+    command: &'a PageCommand,
     bytes: &[u8],
     shelf: &mut F,
     skin: &Skin<'_>,
     out: &mut O,
 ) -> End<'a>
-    requires { All IsUtf8 journals.now }
-    ensures { Ends F.told F.faults F.asked shelf.old shelf.new O.told O.faults out.old out.new journals.now
-        (λ reader files. paged reader files (skin_view skin.now) locks.now journals.now bytes.now) (end_view result) }
+    requires { All IsUtf8 command.now.journals.items }
+    ensures { Ends F.told F.faults F.asked shelf.old shelf.new O.told O.faults out.old out.new command.now.journals.items
+        (λ reader files. paged reader files (skin_view skin.now) (heading_with command.now.title command.now.rank) command.now.locks.items command.now.journals.items bytes.now)
+        (end_view result) }
 {
-    match open(alloc, locks, journals, bytes, shelf) {
-        Ok(admitted) => show(alloc, locks, admitted, skin, out),
+    let heading = heading_of(command);
+    match open(alloc, &command.locks, &command.journals, bytes, shelf) {
+        Ok(admitted) => show(alloc, &command.locks, heading, admitted, skin, out),
         Err(failure) => End::Failed(failure),
+    }
+}
+
+// What the sender of the page gives.
+fn heading_of(command: &PageCommand) -> Heading<'_>
+    ensures { heading_view result ≡ heading_with command.now.title command.now.rank }
+{
+    Heading {
+        title: title_of(command),
+        rank: command.rank,
+    }
+}
+
+fn title_of(command: &PageCommand) -> Option<&[u8]>
+    ensures { option_map (λ title. title.now) result ≡ command.now.title }
+{
+    match &command.title {
+        Some(title) => Some(title.as_bytes()),
+        None => None,
     }
 }
 
@@ -50,12 +70,13 @@ pub fn put_page<'a, F: Shelf, O: Sink>(
 fn show<'a, O: Sink>(
     alloc: Global,
     locks: &[Lock],
+    heading: Heading<'_>,
     admitted: Admitted<'_>,
     skin: &Skin<'_>,
     out: &mut O,
 ) -> End<'a>
     ensures { EndsAlone O.told O.faults out.old out.new
-        (λ _. Ok (page_of (skin_view skin.now) locks.now (admission_view admitted.entry))) (end_view result) }
+        (λ _. Ok (page_of (skin_view skin.now) (heading_view heading.entry) locks.now (admission_view admitted.entry))) (end_view result) }
 {
     let Admitted {
         document,
@@ -67,7 +88,7 @@ fn show<'a, O: Sink>(
     let Ok(locked) = locked_revisions(alloc, session.index().revisions(), locks) else {
         return End::Failed(Failure::NoMemory);
     };
-    put_session(&session, &locked, &digest, remarks, skin, out)
+    put_session(&session, &locked, &digest, heading, remarks, skin, out)
 }
 
 // Puts the page of a session, of whose revisions these are locked, and of whose package this is the digest.
@@ -75,13 +96,14 @@ fn put_session<'a, O: Sink>(
     session: &Session<'_>,
     locked: &[bool],
     digest: &[u8; 32],
+    heading: Heading<'_>,
     remarks: Remarks,
     skin: &Skin<'_>,
     out: &mut O,
 ) -> End<'a>
     requires { length locked.now ≡ length session.now.revisions }
     ensures { EndsAlone O.told O.faults out.old out.new
-        (λ _. Ok (record { bytes = page_text (skin_view skin.now) (shown_of session.now locked.now digest.now); remarks = remarks_view remarks }))
+        (λ _. Ok (record { bytes = page_text (skin_view skin.now) (shown_of session.now locked.now digest.now (heading_view heading.entry)); remarks = remarks_view remarks }))
         (end_view result) }
 {
     let Ok(words) = session.book().last_words() else {
@@ -93,6 +115,7 @@ fn put_session<'a, O: Sink>(
         locked,
         book: session.book(),
         digest,
+        heading,
     };
     put_shown(skin, &page, &words, remarks, out)
 }

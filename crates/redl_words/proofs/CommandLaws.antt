@@ -1,5 +1,5 @@
 -- Command lines: what was read is what the words are, and what the words are is read. So a list of words has one command at most.
-use Rattle.std.proofs.Common.{◌≡◌, ◌≢◌, ℕ, zero, suc, ◌<◌, ◌≤◌, get_or, lit<, Bool, true, false, cond, List, [], ◌∷◌, length, Option, Some, None, Result, Ok, Err, refl, sym, ap, subst, ◌∙◌, inl, inr, ◌⊎◌, arith, IsTrue, All, IsUtf8, IfOk}
+use Rattle.std.proofs.Common.{◌≡◌, ◌≢◌, ℕ, zero, suc, ◌<◌, ◌≤◌, get_or, lit<, Bool, true, false, cond, List, [], ◌∷◌, length, Option, Some, None, Result, Ok, Err, refl, sym, ap, subst, ◌∙◌, inl, inr, ◌⊎◌, arith, IsTrue, All, IsUtf8, IfOk, IfSome}
 use Rattle.std.specs.Prelude.{◌&&◌, codes, decimal, option_to_list, option_map, IsErrOf}
 use Rattle.std.specs.List.{flat_map, list_all, AllByRecursion}
 use Rattle.std.specs.Str.{bytes_eq}
@@ -26,7 +26,7 @@ use Rattle.redl_words.specs.declared.command.Command as code
 use Rattle.redl_words.specs.declared.command.View.{View}
 use Rattle.redl_words.specs.declared.command.View.TheVariants.{Original, Final, Marked}
 use Rattle.redl_words.specs.Commands.{Command, settle, view_text, list, report, page, write, decide, join, check, sample, say_word, view_name, IsSettle, IsText, AsksFor, IsPage, IsWrite, IsDecide, IsJoin, IsCheck, IsSample, IsCommand, HasNoCommand, HasUtf8, LockHasUtf8, resume, IsResume}
-use Rattle.redl_words.specs.Items.{Item, format, lock, journal, named_journal, choice, rank, by_kind, item_words, Admits, of_list, of_report, of_write, of_decide, Form as Kind, is_name, formats_of, locks_of, journals_of, ranks_of, bys_of, if_so, only, onlys_of}
+use Rattle.redl_words.specs.Items.{Item, format, lock, journal, named_journal, choice, rank, by_kind, item_words, Admits, of_list, of_report, of_page, of_write, of_decide, Form as Kind, is_name, formats_of, locks_of, journals_of, ranks_of, bys_of, if_so, only, onlys_of, title, titles_of}
 use Rattle.redl_words.specs.Shown.{Only}
 use Rattle.redl_words.specs.Selections.{MeansLock}
 use Rattle.redl_words.specs.Views.{command_of}
@@ -214,6 +214,7 @@ unsplit k none (choice word text selection ∷ items) h = unsplit k none items h
 unsplit k none (rank number ∷ items) h = unsplit k none items h.1
 unsplit k none (by_kind ∷ items) h = absurd (none h.0)
 unsplit k none (only text wanted ∷ items) h = unsplit k none items h.1
+unsplit k none (title text ∷ items) h = unsplit k none items h.1
 
 -- so it is said at most once
 one_split : (b : Bool) (bys : List Bool) → if_so b ≡ bys → length bys ≤ 1
@@ -245,6 +246,7 @@ unshown k none (choice word text selection ∷ items) h = unshown k none items h
 unshown k none (rank number ∷ items) h = unshown k none items h.1
 unshown k none (by_kind ∷ items) h = unshown k none items h.1
 unshown k none (only text wanted ∷ items) h = absurd (none text wanted h.0)
+unshown k none (title text ∷ items) h = unshown k none items h.1
 
 list_takes : (rest : List (List ℕ)) (c : Command) → list_in rest ≡ Some c → IsCommand (codes "list" ∷ rest) c
 list_takes rest c e =
@@ -276,15 +278,29 @@ unranked k none (choice word text selection ∷ items) h = unranked k none items
 unranked k none (by_kind ∷ items) h = unranked k none items h.1
 unranked k none (rank number ∷ items) h = absurd (none number h.0)
 unranked k none (only text wanted ∷ items) h = unranked k none items h.1
+unranked k none (title text ∷ items) h = unranked k none items h.1
 
-asked_again : (form : Form) → ((number : ℕ) → Admits (form_of form) (rank number) → ⊥) → (word p name : List ℕ) (by : Bool) (locks : List Lock) (journals : List (List ℕ)) (onlys : List Only) (words : List (List ℕ))
+-- a command that admits no title has none
+untitled : (k : Kind) → ((text : List ℕ) → Admits k (title text) → ⊥) → (items : List Item) → AllByRecursion (Admits k) items → length (titles_of items) ≤ 1
+untitled k none [] h = omega arith
+untitled k none (format name ∷ items) h = untitled k none items h.1
+untitled k none (lock text of_lock ∷ items) h = untitled k none items h.1
+untitled k none (journal name ∷ items) h = untitled k none items h.1
+untitled k none (named_journal name ∷ items) h = untitled k none items h.1
+untitled k none (choice word text selection ∷ items) h = untitled k none items h.1
+untitled k none (rank number ∷ items) h = untitled k none items h.1
+untitled k none (by_kind ∷ items) h = untitled k none items h.1
+untitled k none (only text wanted ∷ items) h = untitled k none items h.1
+untitled k none (title text ∷ items) h = absurd (none text h.0)
+
+asked_again : (form : Form) → ((number : ℕ) → Admits (form_of form) (rank number) → ⊥) → ((text : List ℕ) → Admits (form_of form) (title text) → ⊥) → (word p name : List ℕ) (by : Bool) (locks : List Lock) (journals : List (List ℕ)) (onlys : List Only) (words : List (List ℕ))
     (h : AsksFor (form_of form) word words p name by locks journals onlys)
     → asked_in form (p ∷ h.rest) ≡ Some (record { package_name = p; format = name; by_kind = by; locks = locks; journals = journals; onlys = onlys })
 unfolding asked_in
-asked_again form none word p name by locks journals onlys words h =
+asked_again form none plain word p name by locks journals onlys words h =
     let items = h.items in
     let each = recursion_from_All (Admits (form_of form)) items h.are_items.admitted in
-    let r = read_again form items h.rest h.are_items.written each (once (formats_of items) name (codes "text") h.format) (unranked (form_of form) none items each) (one_split by (bys_of items) h.kinds) in
+    let r = read_again form items h.rest h.are_items.written each (once (formats_of items) name (codes "text") h.format) (unranked (form_of form) none items each) (one_split by (bys_of items) h.kinds) (untitled (form_of form) plain items each) in
     let f : format_or_text r.after.format ≡ name = format_again r.after.format (formats_of items) name r.format h.format in
     let b : r.after.by_kind ≡ by = same_split r.after.by_kind by (r.by_kind ∙ sym h.kinds) in
     let ls : r.after.locks ≡ locks = r.locks ∙ sym h.locks_are in
@@ -330,50 +346,70 @@ unformatted k none (choice word text selection ∷ items) h = unformatted k none
 unformatted k none (rank number ∷ items) h = unformatted k none items h.1
 unformatted k none (by_kind ∷ items) h = unformatted k none items h.1
 unformatted k none (only text wanted ∷ items) h = unformatted k none items h.1
+unformatted k none (title text ∷ items) h = unformatted k none items h.1
 
 write_again : (p : List ℕ) (locks : List Lock) (journals rest : List (List ℕ)) (items : List Item) → is_name p ≡ true → rest ≡ flat_map item_words items → All (Admits of_write) items
     → locks ≡ locks_of items → journals ≡ journals_of items → write_in (p ∷ rest) ≡ Some (write p locks journals)
 unfolding write_in
 write_again p locks journals rest items h written admitted l j =
     let each = recursion_from_All (Admits of_write) items admitted in
-    let r = read_again forms.Write items rest written each (unformatted of_write (λ name h. h) items each) (unranked of_write (λ number h. h) items each) (not_split of_write (λ h. h) items each) in
+    let r = read_again forms.Write items rest written each (unformatted of_write (λ name h. h) items each) (unranked of_write (λ number h. h) items each) (not_split of_write (λ h. h) items each) (untitled of_write (λ text h. h) items each) in
     let ls : r.after.locks ≡ locks = r.locks ∙ sym l in
     let js : r.after.journals ≡ journals = r.journals ∙ sym j in
     rw (h, r.reads) (same_write r.after.locks locks r.after.journals journals ls js) where
       same_write : (ls locks : List Lock) (js journals : List (List ℕ)) → ls ≡ locks → js ≡ journals → Some (write p ls js) ≡ Some (write p locks journals)
       same_write ls locks js journals a b = cc
 
--- ---- page, whose items are those of write
+-- ---- page
+
+-- what an option holds, as a list, is at most one
+at_most_given : {A : Type 0} (given : Option A) (xs : List A) → option_to_list given ≡ xs → length xs ≤ 1
+at_most_given None xs e = let none : length xs ≡ 0 = ap length (sym e) in omega arith
+at_most_given (Some x) xs e = let one : length xs ≡ 1 = ap length (sym e) in omega arith
+
+-- and the list says which
+same_given : {A : Type 0} (one other : Option A) → option_to_list one ≡ option_to_list other → one ≡ other
+same_given None None e = refl
+same_given None (Some other) e = absurd cc
+same_given (Some one) None e = absurd cc
+same_given (Some one) (Some other) e = cc
 
 page_takes : (rest : List (List ℕ)) (c : Command) → page_in rest ≡ Some c → IsCommand (codes "page" ∷ rest) c
 unfolding page_in
 page_takes [] c e = absurd cc
 page_takes (p ∷ rest) c e =
-    let n = needs (is_name p) (option_map (λ items. page p items.locks items.journals) (gathered forms.Write nothing rest)) c e in
-    let g = map_some (λ (items : Gathered). page p items.locks items.journals) (gathered forms.Write nothing rest) c n.1 in
-    let r = items_take forms.Write rest nothing g.0 g.1 in
-    let means : IsPage (codes "page" ∷ p ∷ rest) p g.0.locks g.0.journals = record {
+    let n = needs (is_name p) (option_map (λ items. page p items.title items.rank items.locks items.journals) (gathered forms.Page nothing rest)) c e in
+    let g = map_some (λ (items : Gathered). page p items.title items.rank items.locks items.journals) (gathered forms.Page nothing rest) c n.1 in
+    let r = items_take forms.Page rest nothing g.0 g.1 in
+    let means : IsPage (codes "page" ∷ p ∷ rest) p g.0.title g.0.rank g.0.locks g.0.journals = record {
       items = r.items;
       rest = rest;
       written = refl;
       package_name = n.0;
-      are_items = record { written = r.written; admitted = All-from_recursion (Admits of_write) r.items r.admitted };
+      are_items = record { written = r.written; admitted = All-from_recursion (Admits of_page) r.items r.admitted };
+      title_is = r.says.title;
+      rank_is = r.says.rank;
       locks_are = r.says.locks;
       journals_are = r.says.journals;
     } in
     subst (IsCommand (codes "page" ∷ p ∷ rest)) g.2 means
 
-page_again : (p : List ℕ) (locks : List Lock) (journals rest : List (List ℕ)) (items : List Item) → is_name p ≡ true → rest ≡ flat_map item_words items → All (Admits of_write) items
-    → locks ≡ locks_of items → journals ≡ journals_of items → page_in (p ∷ rest) ≡ Some (page p locks journals)
+page_again : (words : List (List ℕ)) (p : List ℕ) (name : Option (List ℕ)) (number : Option ℕ) (locks : List Lock) (journals : List (List ℕ)) (h : IsPage words p name number locks journals)
+    → page_in (p ∷ h.rest) ≡ Some (page p name number locks journals)
 unfolding page_in
-page_again p locks journals rest items h written admitted l j =
-    let each = recursion_from_All (Admits of_write) items admitted in
-    let r = read_again forms.Write items rest written each (unformatted of_write (λ name h. h) items each) (unranked of_write (λ number h. h) items each) (not_split of_write (λ h. h) items each) in
-    let ls : r.after.locks ≡ locks = r.locks ∙ sym l in
-    let js : r.after.journals ≡ journals = r.journals ∙ sym j in
-    rw (h, r.reads) (same_page r.after.locks locks r.after.journals journals ls js) where
-      same_page : (ls locks : List Lock) (js journals : List (List ℕ)) → ls ≡ locks → js ≡ journals → Some (page p ls js) ≡ Some (page p locks journals)
-      same_page ls locks js journals a b = cc
+page_again words p name number locks journals h =
+    let items = h.items in
+    let each = recursion_from_All (Admits of_page) items h.are_items.admitted in
+    let r = read_again forms.Page items h.rest h.are_items.written each (unformatted of_page (λ name h. h) items each) (at_most_given number (ranks_of items) h.rank_is) (not_split of_page (λ h. h) items each)
+    (at_most_given name (titles_of items) h.title_is) in
+    let ts : r.after.title ≡ name = same_given r.after.title name (r.title ∙ sym h.title_is) in
+    let ns : r.after.rank ≡ number = same_given r.after.rank number (r.rank ∙ sym h.rank_is) in
+    let ls : r.after.locks ≡ locks = r.locks ∙ sym h.locks_are in
+    let js : r.after.journals ≡ journals = r.journals ∙ sym h.journals_are in
+    rw (h.package_name, r.reads) (same_page r.after.title name r.after.rank number r.after.locks locks r.after.journals journals ts ns ls js) where
+      same_page : (ts name : Option (List ℕ)) (ns number : Option ℕ) (ls locks : List Lock) (js journals : List (List ℕ)) → ts ≡ name → ns ≡ number → ls ≡ locks → js ≡ journals
+          → Some (page p ts ns ls js) ≡ Some (page p name number locks journals)
+      same_page ts name ns number ls locks js journals a b d e = cc
 
 -- ---- decide
 
@@ -427,7 +463,7 @@ decide_again : (words : List (List ℕ)) (p reviewer : List ℕ) (journals : Lis
 unfolding decide_in
 decide_again words p reviewer journals locks choices number h =
     let each = recursion_from_All (Admits of_decide) h.items h.are_items.admitted in
-    let r = read_again forms.Decide h.items h.rest h.are_items.written each (unformatted of_decide (λ name h. h) h.items each) (once (ranks_of h.items) number 0 h.rank) (not_split of_decide (λ h. h) h.items each) in
+    let r = read_again forms.Decide h.items h.rest h.are_items.written each (unformatted of_decide (λ name h. h) h.items each) (once (ranks_of h.items) number 0 h.rank) (not_split of_decide (λ h. h) h.items each) (untitled of_decide (λ text h. h) h.items each) in
     let js : r.after.journals ≡ journals = r.journals ∙ sym h.journals_are in
     let ls : r.after.locks ≡ locks = r.locks ∙ sym h.locks_are in
     let cs : r.after.choices ≡ choices = r.choices ∙ sym h.choices_are in
@@ -598,11 +634,11 @@ command_again words (view_text p view) h = by h.written where
   by (inl w) = ap command_in w.0 ∙ text_line (p ∷ []) ∙ text_again (p ∷ []) p view h.name (inl (refl, w.1))
   by (inr w) = ap command_in w ∙ text_line (p ∷ codes "--view" ∷ view_name view ∷ []) ∙ text_again (p ∷ codes "--view" ∷ view_name view ∷ []) p view h.name (inr refl)
 command_again words (list p name locks journals onlys) h =
-    ap command_in h.written ∙ list_line (p ∷ h.rest) ∙ ap (option_map as_list) (asked_again forms.List (λ number h. h) (codes "list") p name false locks journals onlys words h)
+    ap command_in h.written ∙ list_line (p ∷ h.rest) ∙ ap (option_map as_list) (asked_again forms.List (λ number h. h) (λ text h. h) (codes "list") p name false locks journals onlys words h)
 command_again words (report p name by locks journals) h =
-    ap command_in h.written ∙ report_line (p ∷ h.rest) ∙ ap (option_map as_report) (asked_again forms.Report (λ number h. h) (codes "report") p name by locks journals [] words h)
-command_again words (page p locks journals) h =
-    ap command_in h.written ∙ page_line (p ∷ h.rest) ∙ page_again p locks journals h.rest h.items h.package_name h.are_items.written h.are_items.admitted h.locks_are h.journals_are
+    ap command_in h.written ∙ report_line (p ∷ h.rest) ∙ ap (option_map as_report) (asked_again forms.Report (λ number h. h) (λ text h. h) (codes "report") p name by locks journals [] words h)
+command_again words (page p name number locks journals) h =
+    ap command_in h.written ∙ page_line (p ∷ h.rest) ∙ page_again words p name number locks journals h
 command_again words (write p locks journals) h =
     ap command_in h.written ∙ write_line (p ∷ h.rest) ∙ write_again p locks journals h.rest h.items h.package_name h.are_items.written h.are_items.admitted h.locks_are h.journals_are
 command_again words (decide p reviewer journals locks choices number) h =
@@ -627,38 +663,42 @@ pub record AreUtf8 (items : List Item) : Type 0 where
   pub formats : AllByRecursion IsUtf8 (formats_of items)
   pub locks : AllByRecursion LockHasUtf8 (locks_of items)
   pub journals : AllByRecursion IsUtf8 (journals_of items)
+  pub titles : AllByRecursion IsUtf8 (titles_of items)
 
 -- a lock that some command admits is well formed
 lock_means : (k : Kind) (text : List ℕ) (of_lock : Lock) → Admits k (lock text of_lock) → MeansLock text of_lock
 lock_means of_list text of_lock h = h
 lock_means of_report text of_lock h = h
+lock_means of_page text of_lock h = h
 lock_means of_write text of_lock h = h
 lock_means of_decide text of_lock h = h
 
 items_utf8 : (k : Kind) (items : List Item) → AllByRecursion (Admits k) items → AllByRecursion IsUtf8 (flat_map item_words items) → AreUtf8 items
-items_utf8 k [] a h = record { formats = tt; locks = tt; journals = tt }
-items_utf8 k (format name ∷ items) a h = let r = items_utf8 k items a.1 h.1.1 in record { formats = (h.1.0, r.formats); locks = r.locks; journals = r.journals }
+items_utf8 k [] a h = record { formats = tt; locks = tt; journals = tt; titles = tt }
+items_utf8 k (format name ∷ items) a h = let r = items_utf8 k items a.1 h.1.1 in record { formats = (h.1.0, r.formats); locks = r.locks; journals = r.journals; titles = r.titles }
 items_utf8 k (lock text of_lock ∷ items) a h =
     let r = items_utf8 k items a.1 h.1.1 in
-    record { formats = r.formats; locks = (lock_utf8 text of_lock (lock_means k text of_lock a.0) h.1.0, r.locks); journals = r.journals }
-items_utf8 k (journal name ∷ items) a h = let r = items_utf8 k items a.1 h.1 in record { formats = r.formats; locks = r.locks; journals = (h.0, r.journals) }
-items_utf8 k (named_journal name ∷ items) a h = let r = items_utf8 k items a.1 h.1.1 in record { formats = r.formats; locks = r.locks; journals = (h.1.0, r.journals) }
-items_utf8 k (choice word text selection ∷ items) a h = let r = items_utf8 k items a.1 h.1.1 in record { formats = r.formats; locks = r.locks; journals = r.journals }
-items_utf8 k (rank number ∷ items) a h = let r = items_utf8 k items a.1 h.1.1 in record { formats = r.formats; locks = r.locks; journals = r.journals }
-items_utf8 k (by_kind ∷ items) a h = let r = items_utf8 k items a.1 h.1.1 in record { formats = r.formats; locks = r.locks; journals = r.journals }
-items_utf8 k (only text wanted ∷ items) a h = let r = items_utf8 k items a.1 h.1.1 in record { formats = r.formats; locks = r.locks; journals = r.journals }
+    record { formats = r.formats; locks = (lock_utf8 text of_lock (lock_means k text of_lock a.0) h.1.0, r.locks); journals = r.journals; titles = r.titles }
+items_utf8 k (journal name ∷ items) a h = let r = items_utf8 k items a.1 h.1 in record { formats = r.formats; locks = r.locks; journals = (h.0, r.journals); titles = r.titles }
+items_utf8 k (named_journal name ∷ items) a h = let r = items_utf8 k items a.1 h.1.1 in record { formats = r.formats; locks = r.locks; journals = (h.1.0, r.journals); titles = r.titles }
+items_utf8 k (choice word text selection ∷ items) a h = let r = items_utf8 k items a.1 h.1.1 in record { formats = r.formats; locks = r.locks; journals = r.journals; titles = r.titles }
+items_utf8 k (rank number ∷ items) a h = let r = items_utf8 k items a.1 h.1.1 in record { formats = r.formats; locks = r.locks; journals = r.journals; titles = r.titles }
+items_utf8 k (by_kind ∷ items) a h = let r = items_utf8 k items a.1 h.1.1 in record { formats = r.formats; locks = r.locks; journals = r.journals; titles = r.titles }
+items_utf8 k (only text wanted ∷ items) a h = let r = items_utf8 k items a.1 h.1.1 in record { formats = r.formats; locks = r.locks; journals = r.journals; titles = r.titles }
+items_utf8 k (title text ∷ items) a h = let r = items_utf8 k items a.1 h.1.1 in record { formats = r.formats; locks = r.locks; journals = r.journals; titles = (h.1.0, r.titles) }
 
 -- ranks are at most 9
-low_ranks : (items : List Item) → AllByRecursion (Admits of_decide) items → AllByRecursion (λ number. number ≤ 9) (ranks_of items)
-low_ranks [] a = tt
-low_ranks (format name ∷ items) a = absurd a.0
-low_ranks (lock text of_lock ∷ items) a = low_ranks items a.1
-low_ranks (journal name ∷ items) a = absurd a.0
-low_ranks (named_journal name ∷ items) a = low_ranks items a.1
-low_ranks (choice word text selection ∷ items) a = low_ranks items a.1
-low_ranks (rank number ∷ items) a = (a.0, low_ranks items a.1)
-low_ranks (by_kind ∷ items) a = absurd a.0
-low_ranks (only text wanted ∷ items) a = absurd a.0
+low_ranks : (k : Kind) → ((number : ℕ) → Admits k (rank number) → number ≤ 9) → (items : List Item) → AllByRecursion (Admits k) items → AllByRecursion (λ number. number ≤ 9) (ranks_of items)
+low_ranks k low [] a = tt
+low_ranks k low (format name ∷ items) a = low_ranks k low items a.1
+low_ranks k low (lock text of_lock ∷ items) a = low_ranks k low items a.1
+low_ranks k low (journal name ∷ items) a = low_ranks k low items a.1
+low_ranks k low (named_journal name ∷ items) a = low_ranks k low items a.1
+low_ranks k low (choice word text selection ∷ items) a = low_ranks k low items a.1
+low_ranks k low (rank number ∷ items) a = (low number a.0, low_ranks k low items a.1)
+low_ranks k low (by_kind ∷ items) a = low_ranks k low items a.1
+low_ranks k low (only text wanted ∷ items) a = low_ranks k low items a.1
+low_ranks k low (title text ∷ items) a = low_ranks k low items a.1
 
 low_rank : (ranks : List ℕ) (number : ℕ) → AllByRecursion (λ n. n ≤ 9) ranks → ((ranks ≡ []) × (number ≡ 0)) ⊎ (ranks ≡ number ∷ []) → number ≤ 9
 low_rank ranks number h (inl e) = let none = e.1 in omega arith
@@ -676,6 +716,11 @@ text_utf8 = IsUtf8-from_ascii (codes "text") low where
 format_utf8 : (formats : List (List ℕ)) (name : List ℕ) → AllByRecursion IsUtf8 formats → ((formats ≡ []) × (name ≡ codes "text")) ⊎ (formats ≡ name ∷ []) → IsUtf8 name
 format_utf8 formats name h (inl e) = subst IsUtf8 (sym e.1) text_utf8
 format_utf8 formats name h (inr e) = let all : AllByRecursion IsUtf8 (name ∷ []) = subst (AllByRecursion IsUtf8) e h in all.0
+
+-- what an option holds is as what the items say
+if_given : {A : Type 0} (P : A → Type 0) (given : Option A) (xs : List A) → AllByRecursion P xs → option_to_list given ≡ xs → IfSome given P
+if_given P None xs h e = tt
+if_given P (Some x) xs h e = let all : AllByRecursion P (x ∷ []) = subst (AllByRecursion P) (sym e) h in all.0
 
 all_locks : (locks more : List Lock) → AllByRecursion LockHasUtf8 more → locks ≡ more → All LockHasUtf8 locks
 all_locks locks more h e = All-from_recursion LockHasUtf8 locks (subst (AllByRecursion LockHasUtf8) (sym e) h)
@@ -699,10 +744,16 @@ command_utf8 words (view_text p view) h u = by h.written where
   by (inr w) = let v : AllByRecursion IsUtf8 (codes "text" ∷ p ∷ codes "--view" ∷ view_name view ∷ []) = subst (AllByRecursion IsUtf8) w u in v.1.0
 command_utf8 words (list p name locks journals onlys) h u = asked_utf8 of_list (codes "list") words p name false locks journals onlys h u
 command_utf8 words (report p name by locks journals) h u = asked_utf8 of_report (codes "report") words p name by locks journals [] h u
-command_utf8 words (page p locks journals) h u =
+command_utf8 words (page p name number locks journals) h u =
     let v : AllByRecursion IsUtf8 (codes "page" ∷ p ∷ h.rest) = subst (AllByRecursion IsUtf8) h.written u in
-    let i = items_utf8 of_write h.items (recursion_from_All (Admits of_write) h.items h.are_items.admitted) (subst (AllByRecursion IsUtf8) h.are_items.written v.1.1) in
-    (v.1.0, all_locks locks (locks_of h.items) i.locks h.locks_are, all_utf8 journals (journals_of h.items) i.journals h.journals_are)
+    let each = recursion_from_All (Admits of_page) h.items h.are_items.admitted in
+    let i = items_utf8 of_page h.items each (subst (AllByRecursion IsUtf8) h.are_items.written v.1.1) in (
+      v.1.0,
+      if_given IsUtf8 name (titles_of h.items) i.titles h.title_is,
+      if_given (λ n. n ≤ 9) number (ranks_of h.items) (low_ranks of_page (λ number low. low) h.items each) h.rank_is,
+      all_locks locks (locks_of h.items) i.locks h.locks_are,
+      all_utf8 journals (journals_of h.items) i.journals h.journals_are,
+    )
 command_utf8 words (write p locks journals) h u =
     let v : AllByRecursion IsUtf8 (codes "write" ∷ p ∷ h.rest) = subst (AllByRecursion IsUtf8) h.written u in
     let i = items_utf8 of_write h.items (recursion_from_All (Admits of_write) h.items h.are_items.admitted) (subst (AllByRecursion IsUtf8) h.are_items.written v.1.1) in
@@ -711,7 +762,7 @@ command_utf8 words (decide p reviewer journals locks choices number) h u =
     let v : AllByRecursion IsUtf8 (codes "decide" ∷ p ∷ reviewer ∷ h.rest) = subst (AllByRecursion IsUtf8) h.written u in
     let each = recursion_from_All (Admits of_decide) h.items h.are_items.admitted in
     let i = items_utf8 of_decide h.items each (subst (AllByRecursion IsUtf8) h.are_items.written v.1.1.1) in
-    (v.1.0, h.reviewer_name, all_utf8 journals (journals_of h.items) i.journals h.journals_are, all_locks locks (locks_of h.items) i.locks h.locks_are, low_rank (ranks_of h.items) number (low_ranks h.items each) h.rank)
+    (v.1.0, h.reviewer_name, all_utf8 journals (journals_of h.items) i.journals h.journals_are, all_locks locks (locks_of h.items) i.locks h.locks_are, low_rank (ranks_of h.items) number (low_ranks of_decide (λ number low. low) h.items each) h.rank)
 command_utf8 words (resume p q firsts journals) h u =
     let v : AllByRecursion IsUtf8 (codes "resume" ∷ p ∷ q ∷ h.rest) = subst (AllByRecursion IsUtf8) h.written u in
     let each : AllByRecursion IsUtf8 (flat_map sitting_words h.named) = subst (AllByRecursion IsUtf8) h.journals_written v.1.1.1 in

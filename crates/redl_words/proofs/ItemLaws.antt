@@ -13,7 +13,7 @@ use Rattle.redl_kinds.specs.Selections.{Selection}
 use Rattle.redl_kinds.specs.declared.lock.Lock.{Lock}
 use Rattle.redl_kinds.specs.declared.lock.Lock.TheVariants.{Author, Kind as OfKind, Span}
 use Rattle.redl_words.specs.Selections.{Means, MeansLock}
-use Rattle.redl_words.specs.Items.{Item, format, lock, journal, named_journal, choice, rank, by_kind, item_words, Admits, of_list, of_report, of_write, of_decide, Form as Kind, formats_of, locks_of, journals_of, choices_of, ranks_of, bys_of, if_so, is_name, option_of, lock_option, only, onlys_of}
+use Rattle.redl_words.specs.Items.{Item, format, lock, journal, named_journal, choice, rank, by_kind, item_words, Admits, of_list, of_report, of_page, of_write, of_decide, Form as Kind, formats_of, locks_of, journals_of, choices_of, ranks_of, bys_of, if_so, is_name, option_of, lock_option, only, onlys_of, title, titles_of}
 use Rattle.redl_words.specs.declared.options.Form.{Form}
 use Rattle.redl_words.specs.declared.options.Form.TheVariants as forms
 use Rattle.redl_words.specs.declared.options.Locked.{Locked}
@@ -26,7 +26,7 @@ use Rattle.redl_words.specs.Reading.Answers.{Fails, Finds}
 use Rattle.redl_words.specs.Reading.Locks.{lock_in}
 use Rattle.redl_words.specs.Reading.Ranks.{rank_in}
 use Rattle.redl_words.specs.Reading.Selections.{selection_in}
-use Rattle.redl_words.specs.Reading.Items.{Goes, Gathered, nothing, with_journal, with_plain_journal, has_plain_journals, reporting_option, deciding_option, locking_option, own_option, lock_or, option_in, with_format, with_by, with_rank, with_option, with_word, gathered}
+use Rattle.redl_words.specs.Reading.Items.{Goes, Gathered, nothing, with_journal, with_plain_journal, has_plain_journals, reporting_option, deciding_option, paging_option, locking_option, own_option, lock_or, option_in, with_format, with_by, with_rank, with_title, with_option, with_word, gathered}
 use Rattle.redl_words.specs.Reading.Shown.{only_in}
 use Rattle.redl_words.specs.Shown.{Only, MeansOnly}
 use Rattle.redl_words.proofs.LockLaws.{lock_on, locked_option, no_name, lock_takes, lock_again}
@@ -38,6 +38,7 @@ use Rattle.redl_words.proofs.SelectionLaws.{bytes_same, pick, selection_takes, s
 abbrev pub form_of : Form → Kind
 form_of forms.List = of_list
 form_of forms.Report = of_report
+form_of forms.Page = of_page
 form_of forms.Write = of_write
 form_of forms.Decide = of_decide
 
@@ -84,6 +85,7 @@ pub record Says (before after : Gathered) (items : List Item) : Type 0 where
   pub rank : option_to_list after.rank ≡ option_to_list before.rank ++ ranks_of items
   pub by_kind : if_so after.by_kind ≡ if_so before.by_kind ++ bys_of items
   pub onlys : after.onlys ≡ before.onlys ++ onlys_of items
+  pub title : option_to_list after.title ≡ option_to_list before.title ++ titles_of items
 
 -- the words are those of one item that the form admits
 pub record Turned (form : Form) (words : List (List ℕ)) (before after : Gathered) : Type 0 where
@@ -99,11 +101,12 @@ plain_takes : (form : Form) (word : List ℕ) (before after : Gathered) → is_n
 unfolding with_plain_journal
 plain_takes form word before after name e = of form e where
   says : Says before (with_journal word before) (journal word ∷ [])
-  says = record { format = sym (append-nil _); locks = sym (append-nil _); journals = refl; choices = sym (append-nil _); rank = sym (append-nil _); by_kind = sym (append-nil _); onlys = sym (append-nil _) }
+  says = record { format = sym (append-nil _); locks = sym (append-nil _); journals = refl; choices = sym (append-nil _); rank = sym (append-nil _); by_kind = sym (append-nil _); onlys = sym (append-nil _); title = sym (append-nil _) }
 
   of : (form : Form) → cond (has_plain_journals form) (Some (with_journal word before)) None ≡ Some after → Turned form (word ∷ []) before after
   of forms.List e = record { item = journal word; written = refl; admitted = name; says = says_same before after (with_journal word before) (journal word ∷ []) (same_Some (with_journal word before) after e) says }
   of forms.Report e = record { item = journal word; written = refl; admitted = name; says = says_same before after (with_journal word before) (journal word ∷ []) (same_Some (with_journal word before) after e) says }
+  of forms.Page e = record { item = journal word; written = refl; admitted = name; says = says_same before after (with_journal word before) (journal word ∷ []) (same_Some (with_journal word before) after e) says }
   of forms.Write e = record { item = journal word; written = refl; admitted = name; says = says_same before after (with_journal word before) (journal word ∷ []) (same_Some (with_journal word before) after e) says }
   of forms.Decide e = absurd cc
 
@@ -113,6 +116,8 @@ Has forms.List word options.Format = word ≡ codes "--format"
 Has forms.List word options.Only = word ≡ codes "--only"
 Has forms.Report word options.Format = word ≡ codes "--format"
 Has forms.Report word options.By = word ≡ codes "--by"
+Has forms.Page word options.Title = word ≡ codes "--title"
+Has forms.Page word options.Rank = word ≡ codes "--rank"
 Has form word (options.Lock on) = word ≡ locked_option on
 Has forms.Decide word options.Journal = word ≡ codes "--journal"
 Has forms.Decide word (options.Choice decision) = word ≡ option_of decision
@@ -134,6 +139,12 @@ reporting_takes word o e =
     pick (Has forms.Report word) (bytes_eq word (codes "--format")) options.Format _ o e (λ hit. bytes_same word (codes "--format") hit) (λ e.
     pick (Has forms.Report word) (bytes_eq word (codes "--by")) options.By _ o e (λ hit. bytes_same word (codes "--by") hit) (λ e. absurd cc))
 
+paging_takes : (word : List ℕ) (o : ItemOption) → paging_option word ≡ Some o → Has forms.Page word o
+unfolding paging_option
+paging_takes word o e =
+    pick (Has forms.Page word) (bytes_eq word (codes "--title")) options.Title _ o e (λ hit. bytes_same word (codes "--title") hit) (λ e.
+    pick (Has forms.Page word) (bytes_eq word (codes "--rank")) options.Rank _ o e (λ hit. bytes_same word (codes "--rank") hit) (λ e. absurd cc))
+
 locking_takes : (word : List ℕ) (on : Locked) → locking_option word ≡ Some on → word ≡ locked_option on
 unfolding locking_option
 locking_takes word on e =
@@ -148,12 +159,14 @@ own_takes forms.List word o e =
     pick (Has forms.List word) (bytes_eq word (codes "--format")) options.Format _ o e (λ hit. bytes_same word (codes "--format") hit) (λ e.
     pick (Has forms.List word) (bytes_eq word (codes "--only")) options.Only _ o e (λ hit. bytes_same word (codes "--only") hit) (λ e. absurd cc))
 own_takes forms.Report word o e = reporting_takes word o e
+own_takes forms.Page word o e = paging_takes word o e
 own_takes forms.Write word o e = absurd cc
 own_takes forms.Decide word o e = deciding_takes word o e
 
 has_lock : (form : Form) (word : List ℕ) (on : Locked) → word ≡ locked_option on → Has form word (options.Lock on)
 has_lock forms.List word on h = h
 has_lock forms.Report word on h = h
+has_lock forms.Page word on h = h
 has_lock forms.Write word on h = h
 has_lock forms.Decide word on h = h
 
@@ -181,12 +194,14 @@ value_takes form word value options.Format before after has e = of form has befo
       rank = sym (append-nil _);
       by_kind = sym (append-nil _);
       onlys = sym (append-nil _);
+      title = sym (append-nil _);
     });
   }
 
   of : (form : Form) → Has form word options.Format → (f : Option (List ℕ)) → before.format ≡ f → with_format value f before ≡ Some after → Turned form (word ∷ value ∷ []) before after
   of forms.List has = turned forms.List has tt
   of forms.Report has = turned forms.Report has tt
+  of forms.Page has = absurd has
   of forms.Write has = absurd has
   of forms.Decide has = absurd has
 value_takes form word value options.By before after has e = of form has before.by_kind refl e where
@@ -208,8 +223,10 @@ value_takes form word value options.By before after has e = of form has before.b
           rank = sym (append-nil _);
           by_kind = ap (λ (b : Bool). if_so b ++ true ∷ []) (sym is);
           onlys = sym (append-nil _);
+          title = sym (append-nil _);
         });
       }
+  of forms.Page has b is e = absurd has
   of forms.Write has b is e = absurd has
   of forms.Decide has b is e = absurd has
 value_takes form word value (options.Lock on) before after has e = of form has where
@@ -232,18 +249,21 @@ value_takes form word value (options.Lock on) before after has e = of form has w
       rank = sym (append-nil _);
       by_kind = sym (append-nil _);
       onlys = sym (append-nil _);
+      title = sym (append-nil _);
     });
   }
 
   of : (form : Form) → Has form word (options.Lock on) → Turned form (word ∷ value ∷ []) before after
   of forms.List has = turned forms.List has takes.1
   of forms.Report has = turned forms.Report has takes.1
+  of forms.Page has = turned forms.Page has takes.1
   of forms.Write has = turned forms.Write has takes.1
   of forms.Decide has = turned forms.Decide has takes.1
 value_takes form word value options.Journal before after has e = of form has where
   of : (form : Form) → Has form word options.Journal → Turned form (word ∷ value ∷ []) before after
   of forms.List has = absurd has
   of forms.Report has = absurd has
+  of forms.Page has = absurd has
   of forms.Write has = absurd has
   of forms.Decide has =
       let c = cond_some (is_name value) (with_journal value before) after e in
@@ -259,12 +279,14 @@ value_takes form word value options.Journal before after has e = of form has whe
           rank = sym (append-nil _);
           by_kind = sym (append-nil _);
           onlys = sym (append-nil _);
+          title = sym (append-nil _);
         });
       }
 value_takes form word value (options.Choice decision) before after has e = of form has where
   of : (form : Form) → Has form word (options.Choice decision) → Turned form (word ∷ value ∷ []) before after
   of forms.List has = absurd has
   of forms.Report has = absurd has
+  of forms.Page has = absurd has
   of forms.Write has = absurd has
   of forms.Decide has =
       let s = bind_some (selection_in value) _ after e in
@@ -281,22 +303,21 @@ value_takes form word value (options.Choice decision) before after has e = of fo
           rank = sym (append-nil _);
           by_kind = sym (append-nil _);
           onlys = sym (append-nil _);
+          title = sym (append-nil _);
         });
       }
 value_takes form word value options.Rank before after has e = of form has before.rank refl e where
-  of : (form : Form) → Has form word options.Rank → (r : Option ℕ) → before.rank ≡ r → with_rank value r before ≡ Some after → Turned form (word ∷ value ∷ []) before after
-  of forms.List has r is e = absurd has
-  of forms.Report has r is e = absurd has
-  of forms.Write has r is e = absurd has
-  of forms.Decide has (Some other) is e = absurd cc
-  of forms.Decide has None is e =
+  turned : (form : Form) → word ≡ codes "--rank" → ((number : ℕ) → number ≤ 9 → Admits (form_of form) (rank number)) → (r : Option ℕ) → before.rank ≡ r → with_rank value r before ≡ Some after
+      → Turned form (word ∷ value ∷ []) before after
+  turned form has admits (Some other) is e = absurd cc
+  turned form has admits None is e =
       let r = bind_some (rank_in value) _ after e in
       let takes = rank_takes value r.0 r.1 in
       let made : Gathered = record before { rank = Some r.0 } in
       record {
         item = rank r.0;
         written = ap (λ (w : List ℕ). w ∷ value ∷ []) has ∙ ap (λ (w : List ℕ). codes "--rank" ∷ w ∷ []) (sym takes.0);
-        admitted = takes.1;
+        admitted = admits r.0 takes.1;
         says = says_same before after made (rank r.0 ∷ []) (same_Some made after r.2) (record {
           format = sym (append-nil _);
           locks = sym (append-nil _);
@@ -305,11 +326,20 @@ value_takes form word value options.Rank before after has e = of form has before
           rank = ap (λ (o : Option ℕ). option_to_list o ++ r.0 ∷ []) (sym is);
           by_kind = sym (append-nil _);
           onlys = sym (append-nil _);
+          title = sym (append-nil _);
         });
       }
+
+  of : (form : Form) → Has form word options.Rank → (r : Option ℕ) → before.rank ≡ r → with_rank value r before ≡ Some after → Turned form (word ∷ value ∷ []) before after
+  of forms.List has = absurd has
+  of forms.Report has = absurd has
+  of forms.Write has = absurd has
+  of forms.Page has = turned forms.Page has (λ number low. low)
+  of forms.Decide has = turned forms.Decide has (λ number low. low)
 value_takes form word value options.Only before after has e = of form has where
   of : (form : Form) → Has form word options.Only → Turned form (word ∷ value ∷ []) before after
   of forms.Report has = absurd has
+  of forms.Page has = absurd has
   of forms.Write has = absurd has
   of forms.Decide has = absurd has
   of forms.List has =
@@ -327,6 +357,31 @@ value_takes form word value options.Only before after has e = of form has where
           rank = sym (append-nil _);
           by_kind = sym (append-nil _);
           onlys = refl;
+          title = sym (append-nil _);
+        });
+      }
+value_takes form word value options.Title before after has e = of form has before.title refl e where
+  of : (form : Form) → Has form word options.Title → (t : Option (List ℕ)) → before.title ≡ t → with_title value t before ≡ Some after → Turned form (word ∷ value ∷ []) before after
+  of forms.List has t is e = absurd has
+  of forms.Report has t is e = absurd has
+  of forms.Write has t is e = absurd has
+  of forms.Decide has t is e = absurd has
+  of forms.Page has (Some other) is e = absurd cc
+  of forms.Page has None is e =
+      let made : Gathered = record before { title = Some value } in
+      record {
+        item = title value;
+        written = ap (λ (w : List ℕ). w ∷ value ∷ []) has;
+        admitted = tt;
+        says = says_same before after made (title value ∷ []) (same_Some made after e) (record {
+          format = sym (append-nil _);
+          locks = sym (append-nil _);
+          journals = sym (append-nil _);
+          choices = sym (append-nil _);
+          rank = sym (append-nil _);
+          by_kind = sym (append-nil _);
+          onlys = sym (append-nil _);
+          title = ap (λ (f : Option (List ℕ)). option_to_list f ++ value ∷ []) (sym is);
         });
       }
 
@@ -353,6 +408,7 @@ formats_more (choice word text selection) items = refl
 formats_more (rank number) items = refl
 formats_more by_kind items = refl
 formats_more (only text wanted) items = refl
+formats_more (title text) items = refl
 
 locks_more : (item : Item) (items : List Item) → locks_of (item ∷ items) ≡ locks_of (item ∷ []) ++ locks_of items
 locks_more (format name) items = refl
@@ -363,6 +419,7 @@ locks_more (choice word text selection) items = refl
 locks_more (rank number) items = refl
 locks_more by_kind items = refl
 locks_more (only text wanted) items = refl
+locks_more (title text) items = refl
 
 journals_more : (item : Item) (items : List Item) → journals_of (item ∷ items) ≡ journals_of (item ∷ []) ++ journals_of items
 journals_more (format name) items = refl
@@ -373,6 +430,7 @@ journals_more (choice word text selection) items = refl
 journals_more (rank number) items = refl
 journals_more by_kind items = refl
 journals_more (only text wanted) items = refl
+journals_more (title text) items = refl
 
 choices_more : (item : Item) (items : List Item) → choices_of (item ∷ items) ≡ choices_of (item ∷ []) ++ choices_of items
 choices_more (format name) items = refl
@@ -383,6 +441,7 @@ choices_more (choice word text selection) items = refl
 choices_more (rank number) items = refl
 choices_more by_kind items = refl
 choices_more (only text wanted) items = refl
+choices_more (title text) items = refl
 
 ranks_more : (item : Item) (items : List Item) → ranks_of (item ∷ items) ≡ ranks_of (item ∷ []) ++ ranks_of items
 ranks_more (format name) items = refl
@@ -393,6 +452,7 @@ ranks_more (choice word text selection) items = refl
 ranks_more (rank number) items = refl
 ranks_more by_kind items = refl
 ranks_more (only text wanted) items = refl
+ranks_more (title text) items = refl
 
 bys_more : (item : Item) (items : List Item) → bys_of (item ∷ items) ≡ bys_of (item ∷ []) ++ bys_of items
 bys_more (format name) items = refl
@@ -403,6 +463,7 @@ bys_more (choice word text selection) items = refl
 bys_more (rank number) items = refl
 bys_more by_kind items = refl
 bys_more (only text wanted) items = refl
+bys_more (title text) items = refl
 
 onlys_more : (item : Item) (items : List Item) → onlys_of (item ∷ items) ≡ onlys_of (item ∷ []) ++ onlys_of items
 onlys_more (format name) items = refl
@@ -413,6 +474,18 @@ onlys_more (choice word text selection) items = refl
 onlys_more (rank number) items = refl
 onlys_more by_kind items = refl
 onlys_more (only text wanted) items = refl
+onlys_more (title text) items = refl
+
+titles_more : (item : Item) (items : List Item) → titles_of (item ∷ items) ≡ titles_of (item ∷ []) ++ titles_of items
+titles_more (format name) items = refl
+titles_more (lock text of_lock) items = refl
+titles_more (journal name) items = refl
+titles_more (named_journal name) items = refl
+titles_more (choice word text selection) items = refl
+titles_more (rank number) items = refl
+titles_more by_kind items = refl
+titles_more (only text wanted) items = refl
+titles_more (title text) items = refl
 
 regroup : {A : Type 0} (before one more all between after : List A) → after ≡ between ++ more → between ≡ before ++ one → all ≡ one ++ more → after ≡ before ++ all
 regroup before one more all between after e f g = e ∙ ap (λ l. l ++ more) f ∙ append_assoc before one more ∙ ap (λ l. before ++ l) (sym g)
@@ -429,6 +502,7 @@ one_more form words later before between after t r = record {
     choices = regroup before.choices (choices_of (t.item ∷ [])) (choices_of r.items) (choices_of (t.item ∷ r.items)) between.choices after.choices r.says.choices t.says.choices (choices_more t.item r.items);
     rank = regroup (option_to_list before.rank) (ranks_of (t.item ∷ [])) (ranks_of r.items) (ranks_of (t.item ∷ r.items)) (option_to_list between.rank) (option_to_list after.rank) r.says.rank t.says.rank (ranks_more t.item r.items);
     by_kind = regroup (if_so before.by_kind) (bys_of (t.item ∷ [])) (bys_of r.items) (bys_of (t.item ∷ r.items)) (if_so between.by_kind) (if_so after.by_kind) r.says.by_kind t.says.by_kind (bys_more t.item r.items);
+    title = regroup (option_to_list before.title) (titles_of (t.item ∷ [])) (titles_of r.items) (titles_of (t.item ∷ r.items)) (option_to_list between.title) (option_to_list after.title) r.says.title t.says.title (titles_more t.item r.items);
     onlys = regroup before.onlys (onlys_of (t.item ∷ [])) (onlys_of r.items) (onlys_of (t.item ∷ r.items)) between.onlys after.onlys r.says.onlys t.says.onlys (onlys_more t.item r.items);
   };
 }
@@ -438,7 +512,7 @@ nothing_more form before after e = record {
   items = [];
   written = refl;
   admitted = tt;
-  says = says_same before after before [] e (record { format = sym (append-nil _); locks = sym (append-nil _); journals = sym (append-nil _); choices = sym (append-nil _); rank = sym (append-nil _); by_kind = sym (append-nil _); onlys = sym (append-nil _) });
+  says = says_same before after before [] e (record { format = sym (append-nil _); locks = sym (append-nil _); journals = sym (append-nil _); choices = sym (append-nil _); rank = sym (append-nil _); by_kind = sym (append-nil _); onlys = sym (append-nil _); title = sym (append-nil _) });
 }
 
 pub items_take : (form : Form) (words : List (List ℕ)) (before after : Gathered) → gathered form before words ≡ Some after → Read form words before after
@@ -479,17 +553,19 @@ with_item (choice word text selection) items = record items { choices = items.ch
 with_item (rank number) items = record items { rank = Some number }
 with_item by_kind items = record items { by_kind = true }
 with_item (only text wanted) items = record items { onlys = items.onlys ++ wanted ∷ [] }
+with_item (title text) items = record items { title = Some text }
 
 -- what is gathered with items more
 abbrev pub with_items : List Item → Gathered → Gathered
 with_items [] items = items
 with_items (item ∷ more) items = with_items more (with_item item items)
 
--- a format comes at most once, and so do a rank and that it goes by kind
+-- a format comes at most once, and so do a rank, a title and that it goes by kind
 pub record Single (before : Gathered) (items : List Item) : Type 0 where
   pub format : length (option_to_list before.format) + length (formats_of items) ≤ 1
   pub rank : length (option_to_list before.rank) + length (ranks_of items) ≤ 1
   pub by_kind : length (if_so before.by_kind) + length (bys_of items) ≤ 1
+  pub title : length (option_to_list before.title) + length (titles_of items) ≤ 1
 
 choice_option : (word : Word) (value : List ℕ) (items : Gathered) → with_word forms.Decide (option_of word) value items ≡ with_option (options.Choice word) value items
 unfolding with_word option_in locking_option deciding_option
@@ -527,6 +603,10 @@ rank_option : (value : List ℕ) (items : Gathered) → with_word forms.Decide (
 unfolding with_word option_in locking_option deciding_option
 rank_option value items = refl
 
+page_rank_option : (value : List ℕ) (items : Gathered) → with_word forms.Page (codes "--rank") value items ≡ with_option options.Rank value items
+unfolding with_word option_in locking_option paging_option
+page_rank_option value items = refl
+
 with_one_rank : (number : ℕ) (items : Gathered) → number ≤ 9 → length (option_to_list items.rank) + 1 ≤ 1 → with_option options.Rank (decimal number) items ≡ Some (with_item (rank number) items)
 unfolding with_option
 with_one_rank number items low single = fresh items.rank refl single where
@@ -544,7 +624,7 @@ only_option value items = refl
 
 turn_again : (form : Form) (item : Item) (before : Gathered) (later : List (List ℕ)) → Admits (form_of form) item → Single before (item ∷ [])
     → gathered form before (item_words item ++ later) ≡ gathered form (with_item item before) later
-unfolding with_plain_journal with_word option_in locking_option reporting_option deciding_option with_option
+unfolding with_plain_journal with_word option_in locking_option reporting_option deciding_option paging_option with_option
 turn_again forms.List (format name) before later h single = goes_pair forms.List before (with_item (format name) before) (codes "--format") name later refl (fresh before.format refl single.format) where
   fresh : (f : Option (List ℕ)) → before.format ≡ f → length (option_to_list f) + 1 ≤ 1 → with_format name f before ≡ Some (with_item (format name) before)
   fresh None is single = refl
@@ -557,6 +637,7 @@ turn_again forms.List (rank number) before later h single = absurd h
 turn_again forms.List by_kind before later h single = absurd h
 turn_again forms.List (only text wanted) before later h single =
     goes_pair forms.List before (with_item (only text wanted) before) (codes "--only") text later refl (only_option text before ∙ with_only text wanted before h)
+turn_again forms.List (title text) before later h single = absurd h
 turn_again forms.Report (format name) before later h single = goes_pair forms.Report before (with_item (format name) before) (codes "--format") name later refl (fresh before.format refl single.format) where
   fresh : (f : Option (List ℕ)) → before.format ≡ f → length (option_to_list f) + 1 ≤ 1 → with_format name f before ≡ Some (with_item (format name) before)
   fresh None is single = refl
@@ -571,6 +652,7 @@ turn_again forms.Report by_kind before later h single = goes_pair forms.Report b
   fresh : (b : Bool) → before.by_kind ≡ b → length (if_so b) + 1 ≤ 1 → with_by (codes "kind") b before ≡ Some (with_item by_kind before)
   fresh false is single = refl
   fresh true is single = absurd (omega arith)
+turn_again forms.Report (title text) before later h single = absurd h
 turn_again forms.Write (format name) before later h single = absurd h
 turn_again forms.Write (lock text of_lock) before later h single = lock_again_in forms.Write of_lock text before later h
 turn_again forms.Write (journal name) before later h single = goes_plain forms.Write before (with_item (journal name) before) name later h refl
@@ -579,6 +661,7 @@ turn_again forms.Write (choice word text selection) before later h single = absu
 turn_again forms.Write (rank number) before later h single = absurd h
 turn_again forms.Write by_kind before later h single = absurd h
 turn_again forms.Write (only text wanted) before later h single = absurd h
+turn_again forms.Write (title text) before later h single = absurd h
 turn_again forms.Decide (format name) before later h single = absurd h
 turn_again forms.Decide (lock text of_lock) before later h single = lock_again_in forms.Decide of_lock text before later h
 turn_again forms.Decide (journal name) before later h single = absurd h
@@ -590,26 +673,42 @@ turn_again forms.Decide (rank number) before later h single =
     goes_pair forms.Decide before (with_item (rank number) before) (codes "--rank") (decimal number) later refl (rank_option (decimal number) before ∙ with_one_rank number before h single.rank)
 turn_again forms.Decide by_kind before later h single = absurd h
 turn_again forms.Decide (only text wanted) before later h single = absurd h
+turn_again forms.Decide (title text) before later h single = absurd h
+turn_again forms.Page (format name) before later h single = absurd h
+turn_again forms.Page (lock text of_lock) before later h single = lock_again_in forms.Page of_lock text before later h
+turn_again forms.Page (journal name) before later h single = goes_plain forms.Page before (with_item (journal name) before) name later h refl
+turn_again forms.Page (named_journal name) before later h single = absurd h
+turn_again forms.Page (choice word text selection) before later h single = absurd h
+turn_again forms.Page (rank number) before later h single =
+    goes_pair forms.Page before (with_item (rank number) before) (codes "--rank") (decimal number) later refl (page_rank_option (decimal number) before ∙ with_one_rank number before h single.rank)
+turn_again forms.Page by_kind before later h single = absurd h
+turn_again forms.Page (only text wanted) before later h single = absurd h
+turn_again forms.Page (title text) before later h single = goes_pair forms.Page before (with_item (title text) before) (codes "--title") text later refl (fresh before.title refl single.title) where
+  fresh : (t : Option (List ℕ)) → before.title ≡ t → length (option_to_list t) + 1 ≤ 1 → with_title text t before ≡ Some (with_item (title text) before)
+  fresh None is single = refl
+  fresh (Some other) is single = absurd (omega arith)
 
 single_first : (item : Item) (before : Gathered) (more : List Item) → Single before (item ∷ more) → Single before (item ∷ [])
-single_first (format name) before more h = record { format = omega arith; rank = omega arith; by_kind = omega arith }
-single_first (lock text of_lock) before more h = record { format = omega arith; rank = omega arith; by_kind = omega arith }
-single_first (journal name) before more h = record { format = omega arith; rank = omega arith; by_kind = omega arith }
-single_first (named_journal name) before more h = record { format = omega arith; rank = omega arith; by_kind = omega arith }
-single_first (choice word text selection) before more h = record { format = omega arith; rank = omega arith; by_kind = omega arith }
-single_first (rank number) before more h = record { format = omega arith; rank = omega arith; by_kind = omega arith }
-single_first by_kind before more h = record { format = omega arith; rank = omega arith; by_kind = omega arith }
-single_first (only text wanted) before more h = record { format = omega arith; rank = omega arith; by_kind = omega arith }
+single_first (format name) before more h = record { format = omega arith; rank = omega arith; by_kind = omega arith; title = omega arith }
+single_first (lock text of_lock) before more h = record { format = omega arith; rank = omega arith; by_kind = omega arith; title = omega arith }
+single_first (journal name) before more h = record { format = omega arith; rank = omega arith; by_kind = omega arith; title = omega arith }
+single_first (named_journal name) before more h = record { format = omega arith; rank = omega arith; by_kind = omega arith; title = omega arith }
+single_first (choice word text selection) before more h = record { format = omega arith; rank = omega arith; by_kind = omega arith; title = omega arith }
+single_first (rank number) before more h = record { format = omega arith; rank = omega arith; by_kind = omega arith; title = omega arith }
+single_first by_kind before more h = record { format = omega arith; rank = omega arith; by_kind = omega arith; title = omega arith }
+single_first (only text wanted) before more h = record { format = omega arith; rank = omega arith; by_kind = omega arith; title = omega arith }
+single_first (title text) before more h = record { format = omega arith; rank = omega arith; by_kind = omega arith; title = omega arith }
 
 single_later : (item : Item) (before : Gathered) (more : List Item) → Single before (item ∷ more) → Single (with_item item before) more
-single_later (format name) before more h = record { format = omega arith; rank = h.rank; by_kind = h.by_kind }
-single_later (lock text of_lock) before more h = record { format = h.format; rank = h.rank; by_kind = h.by_kind }
-single_later (journal name) before more h = record { format = h.format; rank = h.rank; by_kind = h.by_kind }
-single_later (named_journal name) before more h = record { format = h.format; rank = h.rank; by_kind = h.by_kind }
-single_later (choice word text selection) before more h = record { format = h.format; rank = h.rank; by_kind = h.by_kind }
-single_later (rank number) before more h = record { format = h.format; rank = omega arith; by_kind = h.by_kind }
-single_later by_kind before more h = record { format = h.format; rank = h.rank; by_kind = omega arith }
-single_later (only text wanted) before more h = record { format = h.format; rank = h.rank; by_kind = h.by_kind }
+single_later (format name) before more h = record { format = omega arith; rank = h.rank; by_kind = h.by_kind; title = h.title }
+single_later (lock text of_lock) before more h = record { format = h.format; rank = h.rank; by_kind = h.by_kind; title = h.title }
+single_later (journal name) before more h = record { format = h.format; rank = h.rank; by_kind = h.by_kind; title = h.title }
+single_later (named_journal name) before more h = record { format = h.format; rank = h.rank; by_kind = h.by_kind; title = h.title }
+single_later (choice word text selection) before more h = record { format = h.format; rank = h.rank; by_kind = h.by_kind; title = h.title }
+single_later (rank number) before more h = record { format = h.format; rank = omega arith; by_kind = h.by_kind; title = h.title }
+single_later by_kind before more h = record { format = h.format; rank = h.rank; by_kind = omega arith; title = h.title }
+single_later (only text wanted) before more h = record { format = h.format; rank = h.rank; by_kind = h.by_kind; title = h.title }
+single_later (title text) before more h = record { format = h.format; rank = h.rank; by_kind = h.by_kind; title = omega arith }
 
 pub items_again : (form : Form) (items : List Item) (before : Gathered) → AllByRecursion (Admits (form_of form)) items → Single before items
     → gathered form before (flat_map item_words items) ≡ Some (with_items items before)
@@ -620,7 +719,7 @@ items_again form (item ∷ items) before h single =
 
 -- what items say on top of nothing
 says_items : (items : List Item) (before : Gathered) → Single before items → Says before (with_items items before) items
-says_items [] before single = record { format = sym (append-nil _); locks = sym (append-nil _); journals = sym (append-nil _); choices = sym (append-nil _); rank = sym (append-nil _); by_kind = sym (append-nil _); onlys = sym (append-nil _) }
+says_items [] before single = record { format = sym (append-nil _); locks = sym (append-nil _); journals = sym (append-nil _); choices = sym (append-nil _); rank = sym (append-nil _); by_kind = sym (append-nil _); onlys = sym (append-nil _); title = sym (append-nil _) }
 says_items (item ∷ items) before single =
     let first = says_item item before (single_first item before items single) in
     let rest = says_items items (with_item item before) (single_later item before items single) in
@@ -631,26 +730,31 @@ says_items (item ∷ items) before single =
       choices = regroup before.choices (choices_of (item ∷ [])) (choices_of items) (choices_of (item ∷ items)) (with_item item before).choices (with_items (item ∷ items) before).choices rest.choices first.choices (choices_more item items);
       rank = regroup (option_to_list before.rank) (ranks_of (item ∷ [])) (ranks_of items) (ranks_of (item ∷ items)) (option_to_list (with_item item before).rank) (option_to_list (with_items (item ∷ items) before).rank) rest.rank first.rank (ranks_more item items);
       by_kind = regroup (if_so before.by_kind) (bys_of (item ∷ [])) (bys_of items) (bys_of (item ∷ items)) (if_so (with_item item before).by_kind) (if_so (with_items (item ∷ items) before).by_kind) rest.by_kind first.by_kind (bys_more item items);
+      title = regroup (option_to_list before.title) (titles_of (item ∷ [])) (titles_of items) (titles_of (item ∷ items)) (option_to_list (with_item item before).title) (option_to_list (with_items (item ∷ items) before).title) rest.title first.title (titles_more item items);
       onlys = regroup before.onlys (onlys_of (item ∷ [])) (onlys_of items) (onlys_of (item ∷ items)) (with_item item before).onlys (with_items (item ∷ items) before).onlys rest.onlys first.onlys (onlys_more item items);
     } where
       says_item : (item : Item) (before : Gathered) → Single before (item ∷ []) → Says before (with_item item before) (item ∷ [])
-      says_item (format name) before single = record { format = fresh before.format single.format; locks = sym (append-nil _); journals = sym (append-nil _); choices = sym (append-nil _); rank = sym (append-nil _); by_kind = sym (append-nil _); onlys = sym (append-nil _) } where
+      says_item (format name) before single = record { format = fresh before.format single.format; locks = sym (append-nil _); journals = sym (append-nil _); choices = sym (append-nil _); rank = sym (append-nil _); by_kind = sym (append-nil _); onlys = sym (append-nil _); title = sym (append-nil _) } where
         fresh : (f : Option (List ℕ)) → length (option_to_list f) + 1 ≤ 1 → name ∷ [] ≡ option_to_list f ++ name ∷ []
         fresh None single = refl
         fresh (Some other) single = absurd (omega arith)
-      says_item (lock text of_lock) before single = record { format = sym (append-nil _); locks = refl; journals = sym (append-nil _); choices = sym (append-nil _); rank = sym (append-nil _); by_kind = sym (append-nil _); onlys = sym (append-nil _) }
-      says_item (journal name) before single = record { format = sym (append-nil _); locks = sym (append-nil _); journals = refl; choices = sym (append-nil _); rank = sym (append-nil _); by_kind = sym (append-nil _); onlys = sym (append-nil _) }
-      says_item (named_journal name) before single = record { format = sym (append-nil _); locks = sym (append-nil _); journals = refl; choices = sym (append-nil _); rank = sym (append-nil _); by_kind = sym (append-nil _); onlys = sym (append-nil _) }
-      says_item (choice word text selection) before single = record { format = sym (append-nil _); locks = sym (append-nil _); journals = sym (append-nil _); choices = refl; rank = sym (append-nil _); by_kind = sym (append-nil _); onlys = sym (append-nil _) }
-      says_item (rank number) before single = record { format = sym (append-nil _); locks = sym (append-nil _); journals = sym (append-nil _); choices = sym (append-nil _); rank = fresh before.rank single.rank; by_kind = sym (append-nil _); onlys = sym (append-nil _) } where
+      says_item (lock text of_lock) before single = record { format = sym (append-nil _); locks = refl; journals = sym (append-nil _); choices = sym (append-nil _); rank = sym (append-nil _); by_kind = sym (append-nil _); onlys = sym (append-nil _); title = sym (append-nil _) }
+      says_item (journal name) before single = record { format = sym (append-nil _); locks = sym (append-nil _); journals = refl; choices = sym (append-nil _); rank = sym (append-nil _); by_kind = sym (append-nil _); onlys = sym (append-nil _); title = sym (append-nil _) }
+      says_item (named_journal name) before single = record { format = sym (append-nil _); locks = sym (append-nil _); journals = refl; choices = sym (append-nil _); rank = sym (append-nil _); by_kind = sym (append-nil _); onlys = sym (append-nil _); title = sym (append-nil _) }
+      says_item (choice word text selection) before single = record { format = sym (append-nil _); locks = sym (append-nil _); journals = sym (append-nil _); choices = refl; rank = sym (append-nil _); by_kind = sym (append-nil _); onlys = sym (append-nil _); title = sym (append-nil _) }
+      says_item (rank number) before single = record { format = sym (append-nil _); locks = sym (append-nil _); journals = sym (append-nil _); choices = sym (append-nil _); rank = fresh before.rank single.rank; by_kind = sym (append-nil _); onlys = sym (append-nil _); title = sym (append-nil _) } where
         fresh : (r : Option ℕ) → length (option_to_list r) + 1 ≤ 1 → number ∷ [] ≡ option_to_list r ++ number ∷ []
         fresh None single = refl
         fresh (Some other) single = absurd (omega arith)
-      says_item by_kind before single = record { format = sym (append-nil _); locks = sym (append-nil _); journals = sym (append-nil _); choices = sym (append-nil _); rank = sym (append-nil _); by_kind = fresh before.by_kind single.by_kind; onlys = sym (append-nil _) } where
+      says_item by_kind before single = record { format = sym (append-nil _); locks = sym (append-nil _); journals = sym (append-nil _); choices = sym (append-nil _); rank = sym (append-nil _); by_kind = fresh before.by_kind single.by_kind; onlys = sym (append-nil _); title = sym (append-nil _) } where
         fresh : (b : Bool) → length (if_so b) + 1 ≤ 1 → true ∷ [] ≡ if_so b ++ true ∷ []
         fresh false single = refl
         fresh true single = absurd (omega arith)
-      says_item (only text wanted) before single = record { format = sym (append-nil _); locks = sym (append-nil _); journals = sym (append-nil _); choices = sym (append-nil _); rank = sym (append-nil _); by_kind = sym (append-nil _); onlys = refl }
+      says_item (only text wanted) before single = record { format = sym (append-nil _); locks = sym (append-nil _); journals = sym (append-nil _); choices = sym (append-nil _); rank = sym (append-nil _); by_kind = sym (append-nil _); onlys = refl; title = sym (append-nil _) }
+      says_item (title text) before single = record { format = sym (append-nil _); locks = sym (append-nil _); journals = sym (append-nil _); choices = sym (append-nil _); rank = sym (append-nil _); by_kind = sym (append-nil _); onlys = sym (append-nil _); title = fresh before.title single.title } where
+        fresh : (t : Option (List ℕ)) → length (option_to_list t) + 1 ≤ 1 → text ∷ [] ≡ option_to_list t ++ text ∷ []
+        fresh None single = refl
+        fresh (Some other) single = absurd (omega arith)
 
 -- the words of items are read, and give what the items say
 pub record ReadAgain (form : Form) (words : List (List ℕ)) (items : List Item) : Type 0 where
@@ -663,11 +767,12 @@ pub record ReadAgain (form : Form) (words : List (List ℕ)) (items : List Item)
   pub rank : option_to_list after.rank ≡ ranks_of items
   pub by_kind : if_so after.by_kind ≡ bys_of items
   pub onlys : after.onlys ≡ onlys_of items
+  pub title : option_to_list after.title ≡ titles_of items
 
 pub read_again : (form : Form) (items : List Item) (words : List (List ℕ)) → words ≡ flat_map item_words items → AllByRecursion (Admits (form_of form)) items
-    → length (formats_of items) ≤ 1 → length (ranks_of items) ≤ 1 → length (bys_of items) ≤ 1 → ReadAgain form words items
-read_again form items words e h formats ranks bys =
-    let one : Single nothing items = record { format = omega (arith, formats); rank = omega (arith, ranks); by_kind = omega (arith, bys) } in
+    → length (formats_of items) ≤ 1 → length (ranks_of items) ≤ 1 → length (bys_of items) ≤ 1 → length (titles_of items) ≤ 1 → ReadAgain form words items
+read_again form items words e h formats ranks bys titles =
+    let one : Single nothing items = record { format = omega (arith, formats); rank = omega (arith, ranks); by_kind = omega (arith, bys); title = omega (arith, titles) } in
     let says = says_items items nothing one in
     record {
       after = with_items items nothing;
@@ -679,6 +784,7 @@ read_again form items words e h formats ranks bys =
       rank = says.rank;
       by_kind = says.by_kind;
       onlys = says.onlys;
+      title = says.title;
     }
 
 -- ---- the same from the facts of the code

@@ -34,6 +34,8 @@ pub data Item : Type 0 where
   rank : ℕ → Item
   -- `--only` and the text of what is shown
   only : List ℕ → Only → Item
+  -- `--title` and a title
+  title : List ℕ → Item
 
 -- the option that decides by this word
 abbrev pub option_of : Word → List ℕ
@@ -57,11 +59,13 @@ item_words (named_journal name) = codes "--journal" ∷ name ∷ []
 item_words (choice word text selection) = option_of word ∷ text ∷ []
 item_words (rank number) = codes "--rank" ∷ decimal number ∷ []
 item_words (only text wanted) = codes "--only" ∷ text ∷ []
+item_words (title text) = codes "--title" ∷ text ∷ []
 
 -- the commands that have items
 pub data Form : Type 0 where
   of_list : Form
   of_report : Form
+  of_page : Form
   of_write : Form
   of_decide : Form
 
@@ -75,6 +79,10 @@ Admits of_report (format name) = Unit {0}
 Admits of_report by_kind = Unit {0}
 Admits of_report (lock text of_lock) = MeansLock text of_lock
 Admits of_report (journal name) = IsTrue (is_name name)
+Admits of_page (lock text of_lock) = MeansLock text of_lock
+Admits of_page (journal name) = IsTrue (is_name name)
+Admits of_page (rank number) = number ≤ 9
+Admits of_page (title text) = Unit {0}
 Admits of_write (lock text of_lock) = MeansLock text of_lock
 Admits of_write (journal name) = IsTrue (is_name name)
 Admits of_decide (lock text of_lock) = MeansLock text of_lock
@@ -126,6 +134,11 @@ abbrev pub onlys_of : List Item → List Only
 onlys_of [] = []
 onlys_of (only text wanted ∷ items) = wanted ∷ onlys_of items
 onlys_of (_ ∷ items) = onlys_of items
+
+abbrev pub titles_of : List Item → List (List ℕ)
+titles_of [] = []
+titles_of (title text ∷ items) = text ∷ titles_of items
+titles_of (_ ∷ items) = titles_of items
 
 -- the words are those of these items, in any order and with repeats, and the command may have each of them
 pub record AreItems (form : Form) (words : List (List ℕ)) (items : List Item) : Type 0 where

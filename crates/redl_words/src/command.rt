@@ -31,6 +31,21 @@ pub struct ListCommand {
     pub only: Vec<Only>,
 }
 
+/// A page of the package's revisions, on which a reviewer decides in a browser.
+#[derive(Drop)]
+pub struct PageCommand {
+    /// The name of the package.
+    pub package: Text,
+    /// The title of the document, if it is given.
+    pub title: Option<Text>,
+    /// The rank of what is decided on the page, if it is given.
+    pub rank: Option<u8>,
+    /// The locks.
+    pub locks: Vec<Lock>,
+    /// The names of the journals.
+    pub journals: Vec<Text>,
+}
+
 /// Where each reviewer and each author of the package's revisions stands, in the format of this name, and of an author's revisions
 /// each kind, if this is asked for.
 #[derive(Drop)]
@@ -93,11 +108,7 @@ pub enum Command {
     /// A list of a package's revisions.
     List(ListCommand),
     /// A page of the package's revisions, on which a reviewer decides in a browser.
-    Page {
-        package: Text,
-        locks: Vec<Lock>,
-        journals: Vec<Text>,
-    },
+    Page(PageCommand),
     /// Where each reviewer and each author stands.
     Report(ReportCommand),
     /// The package under the joined verdicts of the journals.

@@ -27,6 +27,7 @@ pub(crate) struct Items {
     pub choices: Vec<(Word, Selection)>,
     pub rank: Option<u8>,
     pub only: Vec<Only>,
+    pub title: Option<Text>,
 }
 
 impl Items {
@@ -42,6 +43,7 @@ impl Items {
             choices: Vec::new(alloc),
             rank: None,
             only: Vec::new(alloc),
+            title: None,
         }
     }
 
@@ -56,7 +58,9 @@ impl Items {
         ensures { Finds (λ _. items_view self.new) result (with_plain_journal form name.now (items_view self.old)) }
     {
         match form {
-            Form::List | Form::Report | Form::Write => add_copy(alloc, &mut self.journals, name)?,
+            Form::List | Form::Report | Form::Page | Form::Write => {
+                add_copy(alloc, &mut self.journals, name)?
+            }
             Form::Decide => return Err(WordsError::Usage),
         }
         Ok(())
@@ -149,6 +153,18 @@ impl Items {
         Ok(())
     }
 
+    // Sets the title, which may come once.
+    #[tactic(auto, unfolding(crate::specs::Reading::Items::with_option))]
+    fn set_title(&mut self, alloc: Global, text: &Text) -> Result<(), WordsError>
+        ensures { Finds (λ _. items_view self.new) result (with_option ItemOption.Title text.now (items_view self.old)) }
+    {
+        if self.title.is_some() {
+            return Err(WordsError::Usage);
+        }
+        self.title = Some(text.copy(alloc)?);
+        Ok(())
+    }
+
     // Adds what an option and its value say.
     fn add_option(
         &mut self,
@@ -167,6 +183,7 @@ impl Items {
             ItemOption::Choice(word) => self.add_choice(alloc, word, value),
             ItemOption::Rank => self.set_rank(value),
             ItemOption::Only => self.add_only(alloc, value),
+            ItemOption::Title => self.set_title(alloc, value),
         }
     }
 

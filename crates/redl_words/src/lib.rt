@@ -18,7 +18,9 @@ mod selections;
 mod sittings;
 mod verb;
 
-pub use command::{Command, DecideCommand, ListCommand, ReportCommand, ResumeCommand, View};
+pub use command::{
+    Command, DecideCommand, ListCommand, PageCommand, ReportCommand, ResumeCommand, View,
+};
 pub use error::WordsError;
 pub use laws::one_command;
 pub use only::Only;

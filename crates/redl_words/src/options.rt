@@ -1,7 +1,7 @@
 //! Options: the words that say what the next word is.
 
 ghost use Rattle.std.specs.Prelude.{◌≡◌};
-ghost use Rattle.redl_words.specs.Reading.Items.{option_in, locking_option, own_option, reporting_option, deciding_option};
+ghost use Rattle.redl_words.specs.Reading.Items.{option_in, locking_option, own_option, reporting_option, deciding_option, paging_option};
 
 use redl_journal::Word;
 
@@ -10,6 +10,7 @@ use redl_journal::Word;
 pub(crate) enum Form {
     List,
     Report,
+    Page,
     Write,
     Decide,
 }
@@ -23,7 +24,7 @@ pub(crate) enum Locked {
 }
 
 /// What an option says of the word after it: the name of a format, by what a report counts, what is locked, the name of a
-/// journal, what the reviewer decides on a selection, the reviewer's rank, or which revisions are shown.
+/// journal, what the reviewer decides on a selection, the reviewer's rank, which revisions are shown, or the document's title.
 #[derive(Clone, Copy)]
 pub(crate) enum ItemOption {
     Format,
@@ -33,6 +34,7 @@ pub(crate) enum ItemOption {
     Choice(Word),
     Rank,
     Only,
+    Title,
 }
 
 /// The option that a word is in a command of this form.
@@ -71,6 +73,7 @@ fn own_option(form: Form, word: &[u8]) -> Option<ItemOption>
         Form::List if word == b"--only".as_slice() => Some(ItemOption::Only),
         Form::List | Form::Write => None,
         Form::Report => reporting_option(word),
+        Form::Page => paging_option(word),
         Form::Decide => deciding_option(word),
     }
 }
@@ -84,6 +87,20 @@ fn reporting_option(word: &[u8]) -> Option<ItemOption>
         Some(ItemOption::Format)
     } else if word == b"--by".as_slice() {
         Some(ItemOption::By)
+    } else {
+        None
+    }
+}
+
+// The option that a word is, besides those for locks, for a page.
+#[tactic(auto, unfolding(crate::specs::Reading::Items::paging_option))]
+fn paging_option(word: &[u8]) -> Option<ItemOption>
+    ensures { result ≡ paging_option word.now }
+{
+    if word == b"--title".as_slice() {
+        Some(ItemOption::Title)
+    } else if word == b"--rank".as_slice() {
+        Some(ItemOption::Rank)
     } else {
         None
     }

@@ -6,7 +6,9 @@ ghost use Rattle.redl_words.specs.Reading.Answers.{Finds};
 ghost use Rattle.redl_words.specs.Reading.Commands.{asked_in, asked_view, check_in, command_in, decide_in, format_or_text, rank_or_0, join_in, list_in, report_in, page_in, resume_in, sample_in, say_in, settle_in, text_in, text_with, view_in, write_in};
 ghost use Rattle.redl_words.specs.Views.{command_of};
 
-use crate::command::{Command, DecideCommand, ListCommand, ReportCommand, ResumeCommand, View};
+use crate::command::{
+    Command, DecideCommand, ListCommand, PageCommand, ReportCommand, ResumeCommand, View,
+};
 use crate::error::WordsError;
 use crate::items::read_items;
 use crate::names::{is_file_name, read_names};
@@ -222,13 +224,15 @@ fn read_page(alloc: Global, words: &[Text]) -> Result<Command, WordsError>
     if !is_file_name(package.as_bytes()) {
         return Err(WordsError::Usage);
     }
-    let items = read_items(alloc, Form::Write, rest)?;
+    let items = read_items(alloc, Form::Page, rest)?;
     let package = package.copy(alloc)?;
-    Ok(Command::Page {
+    Ok(Command::Page(PageCommand {
         package,
+        title: items.title,
+        rank: items.rank,
         locks: items.locks,
         journals: items.journals,
-    })
+    }))
 }
 
 // The words after `write`.

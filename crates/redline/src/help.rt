@@ -27,7 +27,8 @@ ITEM is --lock AUTHOR, --lock-kind KIND or --lock-span SPAN: nobody decides thes
   for list also --format text, words, tab, json or full, and --only SHOWN, once or more;
   for report also --format text, json or table, and --by kind for each kind of an author's changes;
   for decide also --accept CHANGES, --reject CHANGES or --withdraw CHANGES, once at least,
-  and --rank N, from 0 to 9: the highest rank that has a word on a change decides it.
+  and --rank N, from 0 to 9: the highest rank that has a word on a change decides it;
+  for page also --title TEXT, the name of the document, and --rank N for what is decided there.
 CHANGES is all, numbers:3,7-9, \"author:Ann Gray\", kind:KIND, kind:GROUP or span:SPAN.
 SHOWN is open, accept, reject or disputed, or else CHANGES: only these changes are listed.
 GROUP is content, marks, rows, cells or props: all changes of text, of paragraph ends and so on.

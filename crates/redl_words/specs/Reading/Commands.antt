@@ -101,7 +101,7 @@ report_in rest = option_map as_report (asked_in forms.Report rest)
 
 unfoldable pub page_in : List (List ℕ) → Option Command
 page_in [] = None
-page_in (p ∷ rest) = if is_name p then option_map (λ items. page p items.locks items.journals) (gathered forms.Write nothing rest) else None
+page_in (p ∷ rest) = if is_name p then option_map (λ items. page p items.title items.rank items.locks items.journals) (gathered forms.Page nothing rest) else None
 
 unfoldable pub write_in : List (List ℕ) → Option Command
 write_in [] = None

@@ -33,6 +33,7 @@ pub record Gathered : Type 0 where
   pub choices : List (Word × Selection)
   pub rank : Option ℕ
   pub onlys : List Only
+  pub title : Option (List ℕ)
 
 -- the code's items as plain data
 abbrev pub items_view : code.Items → Gathered
@@ -44,15 +45,17 @@ items_view items = record {
   choices = choices_view items.choices.items;
   rank = items.rank;
   onlys = onlys_view items.only.items;
+  title = items.title;
 }
 
 abbrev pub nothing : Gathered
-nothing = record { format = None; by_kind = false; locks = []; journals = []; choices = []; rank = None; onlys = [] }
+nothing = record { format = None; by_kind = false; locks = []; journals = []; choices = []; rank = None; onlys = []; title = None }
 
 -- a command of this form may have journals without an option
 abbrev pub has_plain_journals : Form → Bool
 has_plain_journals forms.List = true
 has_plain_journals forms.Report = true
+has_plain_journals forms.Page = true
 has_plain_journals forms.Write = true
 has_plain_journals forms.Decide = false
 
@@ -81,6 +84,13 @@ reporting_option word =
     else if bytes_eq word (codes "--by") then Some options.By
     else None
 
+-- the option that a word is, for a page
+unfoldable pub paging_option : List ℕ → Option ItemOption
+paging_option word =
+    if bytes_eq word (codes "--title") then Some options.Title
+    else if bytes_eq word (codes "--rank") then Some options.Rank
+    else None
+
 -- what the option is on that a word is, if it is one of the three for locks
 unfoldable pub locking_option : List ℕ → Option Locked
 locking_option word =
@@ -93,6 +103,7 @@ locking_option word =
 abbrev pub own_option : Form → List ℕ → Option ItemOption
 own_option forms.List word = if bytes_eq word (codes "--format") then Some options.Format else if bytes_eq word (codes "--only") then Some options.Only else None
 own_option forms.Report word = reporting_option word
+own_option forms.Page word = paging_option word
 own_option forms.Write word = None
 own_option forms.Decide word = deciding_option word
 
@@ -122,6 +133,11 @@ with_rank value None items = do
   Some (record items { rank = Some rank })
 with_rank value (Some other) items = None
 
+-- with a title, where there is none so far
+abbrev pub with_title : List ℕ → Option (List ℕ) → Gathered → Option Gathered
+with_title text None items = Some (record items { title = Some text })
+with_title text (Some other) items = None
+
 -- with an option and its value
 unfoldable pub with_option : ItemOption → List ℕ → Gathered → Option Gathered
 with_option options.Format value items = with_format value items.format items
@@ -137,6 +153,7 @@ with_option options.Rank value items = with_rank value items.rank items
 with_option options.Only value items = do
   wanted ← only_in value
   Some (record items { onlys = items.onlys ++ wanted ∷ [] })
+with_option options.Title value items = with_title value items.title items
 
 -- with the option that a word is, and its value
 unfoldable pub with_word : Form → List ℕ → List ℕ → Gathered → Option Gathered

@@ -10,10 +10,10 @@ pub list_package-requires-clause-utf8 : goal.list_package-requires-clause-utf8
 list_package-requires-clause-utf8 g c = (rw c.in-List.is at c.requires.utf8).3
 
 pub put_page-requires : goal.put_page-requires
-put_page-requires g c = rw c.deref-in-Page.ensures.value (rw c.in-Page.is at c.requires.utf8).2
+put_page-requires g c = (rw c.in-Page.is at c.requires.utf8).4
 
 pub write_package-requires : goal.write_package-requires
-write_package-requires g c = rw c.deref-in-Write-2.ensures.value (rw c.in-Write.is at c.requires.utf8).2
+write_package-requires g c = rw c.deref-in-Write.ensures.value (rw c.in-Write.is at c.requires.utf8).2
 
 pub join_files-requires : goal.join_files-requires
 join_files-requires g c = rw c.deref-in-Join.ensures.value (rw c.in-Join.is at c.requires.utf8)
@@ -42,14 +42,14 @@ returns-in-List-clause-ends g c = record {
 pub returns-in-Page-clause-ends : goal.returns-in-Page-clause-ends
 returns-in-Page-clause-ends g c = record {
   made = c.put_page.ensures.made;
-  reads = rw (c.in-Page.is, c.unwrap-in-Page.ensures) (rw (c.deref.ensures.value, c.deref-in-Page.ensures.value) at c.put_page.ensures.reads);
+  reads = rw (c.in-Page.is, c.unwrap-in-Page.ensures) c.put_page.ensures.reads;
   finishes = c.put_page.ensures.finishes;
 }
 
 pub returns-in-Write-clause-ends : goal.returns-in-Write-clause-ends
 returns-in-Write-clause-ends g c = record {
   made = result_view writing_view c.write_package.result;
-  reads = rw (c.in-Write.is, c.unwrap-in-Write.ensures) (rw (c.deref-in-Write.ensures.value, c.deref-in-Write-2.ensures.value) at c.write_package.ensures);
+  reads = rw (c.in-Write.is, c.unwrap-in-Write.ensures) (rw (c.deref.ensures.value, c.deref-in-Write.ensures.value) at c.write_package.ensures);
   finishes = c.put-in-Write.ensures;
 }
 

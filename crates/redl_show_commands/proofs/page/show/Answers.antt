@@ -6,7 +6,7 @@ use Rattle.redl_inputs.specs.Views.{admission_view}
 use Rattle.redl_lines.specs.Failures.{no_memory}
 use Rattle.redl_lines.specs.Remarks.{remarks_view}
 use Rattle.redl_page.specs.Page.{Shown, page_text}
-use Rattle.redl_page.specs.PageViews.{skin_view}
+use Rattle.redl_page.specs.PageViews.{heading_view, skin_view}
 use Rattle.redl_show_commands.proofs.page.show.Goals as goal
 
 pub put_session-requires : goal.put_session-requires
@@ -25,9 +25,9 @@ pub returns : goal.returns
 returns g c =
     let locked : c.deref.result.now ≡ map (is_locked c.args.locks.now) c.args.admitted.session.revisions =
     c.deref.ensures.value ∙ c.in-Ok.ensures ∙ ap (map (is_locked c.args.locks.now)) (c.revisions.ensures.value ∙ c.index.ensures) in
-    let same : shown_of c.args.admitted.session c.deref.result.now c.id.result.digest ≡ shown_in c.args.locks.now (admission_view c.args.admitted) =
-    ap (λ (flags : List Bool). shown_of c.args.admitted.session flags c.id.result.digest) locked
-    ∙ ap (λ id. shown_of c.args.admitted.session (map (is_locked c.args.locks.now) c.args.admitted.session.revisions) id.digest) c.id.ensures.id in
+    let same : shown_of c.args.admitted.session c.deref.result.now c.id.result.digest (heading_view c.args.heading) ≡ shown_in (heading_view c.args.heading) c.args.locks.now (admission_view c.args.admitted) =
+    ap (λ (flags : List Bool). shown_of c.args.admitted.session flags c.id.result.digest (heading_view c.args.heading)) locked
+    ∙ ap (λ id. shown_of c.args.admitted.session (map (is_locked c.args.locks.now) c.args.admitted.session.revisions) id.digest (heading_view c.args.heading)) c.id.ensures.id in
     record {
       made = c.put_session.ensures.made;
       reads = subst
