@@ -67,16 +67,17 @@ def example(name):
     return page.read(os.path.join(EXAMPLES, name))
 
 
-def second_page(name, journals=(), locks=()):
+def second_page(name, journals=(), locks=(), title=None, rank=None):
     entries = sum((page.entries_of(example(it)) for it in journals), [])
-    return page.page(reading.Package(example(name)), entries, locks).encode()
+    return page.page(reading.Package(example(name)), entries, locks, title, rank).encode()
 
 
-def page_of(name, journals=(), locks=()):
+def page_of(name, journals=(), locks=(), title=None, rank=None):
     """The page of a package, a file in examples/ or named whole."""
     if not IS_OWN:
-        return second_page(name, journals, locks)
-    made = call("page", name, *journals, *[word for lock in locks for word in ("--lock", lock)])
+        return second_page(name, journals, locks, title, rank)
+    given = [*[("--lock", lock) for lock in locks], ("--title", title), ("--rank", rank)]
+    made = call("page", name, *journals, *[word for pair in given if pair[1] is not None for word in pair])
     return made.stdout
 
 

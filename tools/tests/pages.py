@@ -29,12 +29,14 @@ CASES = [case for module in MODULES for case in module.CASES]
 
 def same_pages():
     """The program's pages are those of the second writer, byte for byte."""
-    for name, journals, locks in [
+    for name, journals, locks, *given in [
         ("contract.xml", REVIEWERS, []), ("contract.xml", REVIEWERS[::-1] + REVIEWERS, [LOCK]), ("contract.xml", [], []),
+        ("contract.xml", REVIEWERS, [LOCK], 'Supply <July> & "Co"', "0"), ("contract.xml", [], [], None, "9"), ("contract.xml", [], [], ""),
         ("plain.xml", ["ann.journal", "bob.journal"], []), ("letter.xml", [], []), ("terms.xml", ["terms.ann.journal"], []),
         ("joins.xml", [], []), ("properties.xml", [], []), ("rows.xml", [], []), ("moves.xml", [], []),
     ]:
-        told("the page of " + " ".join([name, *journals, *locks]), page_of(name, journals, locks) == second_page(name, journals, locks), "other bytes")
+        said = " ".join([name, *journals, *locks, *map(str, given)])
+        told("the page of " + said, page_of(name, journals, locks, *given) == second_page(name, journals, locks, *given), "other bytes")
 
 
 def picture(file):
