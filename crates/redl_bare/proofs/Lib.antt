@@ -1,0 +1,6 @@
+mod Rows
+pub mod LineLaws
+pub mod TextLaws
+pub mod TextPuts
+pub mod IdleLaws
+pub mod WalkLaws

@@ -1,0 +1,70 @@
+-- Worked rows: the bare text, by computing.
+use Rattle.std.proofs.Common.{◌≡◌, ℕ, List, [], codes, refl}
+use Rattle.redl_tree.specs.Model.Nodes.{Nodes, no_nodes, Empty, End, ◌⊕◌}
+use Rattle.redl_tree.specs.declared.kinds.Kind.TheVariants.{Mark, Row, Change}
+use Rattle.redl_tree.specs.declared.kinds.Trace.TheVariants.{Ins, Del}
+use Rattle.redl_tree.specs.declared.kinds.Space.TheVariants.{W, Other}
+use Rattle.redl_tree.specs.declared.kinds.Prop.TheVariants.{Run}
+use Rattle.redl_tree.proofs.Model.Build.{tag_in, one, opened, closed, member, content, words, run, deleted_run}
+use Rattle.redl_markup.specs.Attributes.{attributes_of}
+use Rattle.redl_grammar.specs.Characters.{is_name_start, is_name_character, is_space}
+use Rattle.redl_grammar.specs.Names.{may_start, may_follow}
+use Rattle.redl_grammar.specs.References.{reference_at, named_at}
+use Rattle.redl_grammar.specs.ScanNames.{name_at, word_at, char_at, name_end, name_step}
+use Rattle.redl_grammar.specs.ScanTags.{attribute_in, attribute_at, equated_at, quoted_at, quote_at, is_value}
+use Rattle.redl_reading.specs.Lists.{field_at}
+use lib.Utf8.{encode}
+use Rattle.redl_bare.specs.Units.{story_units}
+use Rattle.redl_bare.specs.BareText.{units_text}
+
+-- the bare text of the document with this body
+abbrev bare : Nodes → List ℕ
+bare body = units_text (story_units (record { tag = tag_in W "w" "document" "" (End []); kids = opened "body" body }))
+
+-- text without changes, and an element that shows a character
+plain : bare (opened "p" (run "a" ⊕ opened "r" (closed "tab" "" ⊕ opened "t" (words "b"))))
+    ≡ codes "= document\n|a\\tb\n*paragraph\n"
+unfolding attributes_of attribute_in attribute_at name_at word_at char_at name_end name_step may_start may_follow is_name_start is_name_character is_space equated_at quoted_at field_at quote_at is_value
+plain = refl
+
+-- one word, inserted in two elements by one author in one minute, is one line; the second that is written is of no account
+inserted : bare (opened "p" (content Ins 1 "ins" " w:id=\"1\" w:author=\"Ann Gray\" w:date=\"2026-03-01T10:00:00Z\"" (run "new ") ⊕ content Ins 2 "ins" " w:author=\"Ann Gray\" w:date=\"2026-03-01T10:00:59+01:00\"" (run "words")))
+    ≡ codes "= document\nins\tAnn Gray\t2026-03-01T10:00\t|new words\n*paragraph\n"
+unfolding attributes_of attribute_in attribute_at name_at word_at char_at name_end name_step may_start may_follow is_name_start is_name_character is_space equated_at quoted_at field_at quote_at is_value
+inserted = refl
+
+-- a deletion in an insertion has both marks
+nested : bare (opened "p" (content Ins 1 "ins" " w:id=\"1\" w:author=\"Ann Gray\" w:date=\"2026-03-01T10:00:00Z\"" (run "a" ⊕ content Del 2 "del" " w:author=\"Bob\"" (deleted_run "b"))))
+    ≡ codes "= document\nins\tAnn Gray\t2026-03-01T10:00\t|a\nins\tAnn Gray\t2026-03-01T10:00\tdel\tBob\t\t|b\n*paragraph\n"
+unfolding attributes_of attribute_in attribute_at name_at word_at char_at name_end name_step may_start may_follow is_name_start is_name_character is_space equated_at quoted_at field_at quote_at is_value
+nested = refl
+
+-- the mark of a paragraph's end has a line at the begin of the paragraph
+marked : bare (opened "p" (opened "pPr" (opened "rPr" (member (Mark Del) 1 "del" " w:author=\"Bob\"" Empty no_nodes)) ⊕ run "a"))
+    ≡ codes "= document\n+mark-del\tBob\t\n|a\n*paragraph\n"
+unfolding attributes_of attribute_in attribute_at name_at word_at char_at name_end name_step may_start may_follow is_name_start is_name_character is_space equated_at quoted_at field_at quote_at is_value
+marked = refl
+
+-- a change of a run's properties is a mark of its texts
+formatted : bare (opened "p" (opened "r" (opened "rPr" (member (Change Run) 1 "rPrChange" " w:author=\"Bob\"" Empty no_nodes) ⊕ opened "t" (words "a")) ⊕ run "b"))
+    ≡ codes "= document\nrun-props\tBob\t\t|a\n|b\n*paragraph\n"
+unfolding attributes_of attribute_in attribute_at name_at word_at char_at name_end name_step may_start may_follow is_name_start is_name_character is_space equated_at quoted_at field_at quote_at is_value
+formatted = refl
+
+-- a row and a cell
+row : bare (opened "tbl" (opened "tr" (opened "trPr" (member (Row Ins) 1 "ins" " w:author=\"Bob\"" Empty no_nodes) ⊕ opened "tc" (opened "p" (run "a")))))
+    ≡ codes "= document\n*row\n+row-ins\tBob\t\n*cell\n|a\n*paragraph\n"
+unfolding attributes_of attribute_in attribute_at name_at word_at char_at name_end name_step may_start may_follow is_name_start is_name_character is_space equated_at quoted_at field_at quote_at is_value
+row = refl
+
+-- a picture and the parts of a field; the second form of what is kept twice is left out
+objects : bare (opened "p" (opened "r" (opened "drawing" no_nodes ⊕ closed "fldChar" " w:fldCharType=\"begin\"") ⊕ one (tag_in Other "mc" "Fallback" "" (End [])) (run "no")))
+    ≡ codes "= document\n|\\[picture]\\[field begin]\n*paragraph\n"
+unfolding attributes_of attribute_in attribute_at name_at word_at char_at name_end name_step may_start may_follow is_name_start is_name_character is_space equated_at quoted_at field_at quote_at is_value
+objects = refl
+
+-- what would be taken for a sign is escaped, and a reference is its character
+escapes : bare (opened "p" (run "a\\[b] &lt;|"))
+    ≡ codes "= document\n|a\\\\[b] <|\n*paragraph\n"
+unfolding attributes_of attribute_in attribute_at name_at word_at char_at name_end name_step may_start may_follow is_name_start is_name_character is_space equated_at quoted_at field_at quote_at is_value reference_at named_at encode
+escapes = refl

@@ -1,0 +1,166 @@
+-- Texts with equal marks are one line.
+use Rattle.std.proofs.Common.{◌≡◌, ℕ, List, [], ◌∷◌, ◌++◌, map, length, ◌≤◌, ◌<◌, arith, Bool, true, false, ◌||◌, not, codes, bytes_eq, Option, Some, None, refl, sym, ap, ◌∙◌, append_assoc, eqb, if◌then◌else◌}
+use Rattle.std.proofs.lemmas.Bool.{and_from, eqb-true}
+use Rattle.std.proofs.lemmas.List.{nil_from_length}
+use Rattle.std.proofs.lemmas.List.Concat.{flat_map-append}
+use Rattle.std.proofs.lemmas.Slice.Eq.{bytes_eq-Decides}
+use Rattle.redl_reading.specs.Lists.{front, after}
+use Rattle.redl_bare.specs.Marks.{Stamp, Marks, same_stamp, same_marks}
+use Rattle.redl_bare.specs.Units.{Text, byte, object, in_marks}
+use Rattle.redl_bare.specs.BareText.{byte_escaped, escaped, text_body, texts_body, goes_on, closing, marks_text, text_begin, lines, line_after_all}
+use Rattle.redl_bare.specs.Inside.Escapes.{is_plain, is_empty}
+
+-- ---- marks are the same as themselves
+
+bytes_same : (xs : List ℕ) → bytes_eq xs xs ≡ true
+bytes_same xs = (bytes_eq-Decides xs xs).1 refl
+
+stamp_same : (slot : Option Stamp) → same_stamp slot slot ≡ true
+stamp_same None = refl
+stamp_same (Some stamp) = and_from (bytes_eq stamp.author stamp.author) (bytes_eq stamp.minute stamp.minute) (bytes_same stamp.author) (bytes_same stamp.minute)
+
+pub marks_same : (marks : Marks) → same_marks marks marks ≡ true
+marks_same marks = rw (stamp_same marks.inserted, stamp_same marks.deleted, stamp_same marks.moved_to, stamp_same marks.moved_from, stamp_same marks.formatted) refl
+
+-- ---- a text is never empty
+
+byte_not_empty : (b : ℕ) (rest : List ℕ) → is_empty (byte_escaped b ++ rest) ≡ false
+byte_not_empty b rest = at (eqb b 92) (eqb b 9) (eqb b 10) (eqb b 13)
+  where
+    at : (slash tab line return : Bool)
+        → is_empty ((if slash then 92 ∷ 92 ∷ [] else if tab then 92 ∷ codes "t" else if line then 92 ∷ codes "n" else if return then 92 ∷ codes "r" else b ∷ []) ++ rest) ≡ false
+    at true tab line return = refl
+    at false true line return = refl
+    at false false true return = refl
+    at false false false true = refl
+    at false false false false = refl
+
+text_not_empty : (t : Text) (rest : List ℕ) → is_empty (text_body t ++ rest) ≡ false
+text_not_empty (byte b) rest = byte_not_empty b rest
+text_not_empty (object o) rest = refl
+
+pub body_empty : (texts : List Text) → is_empty (texts_body texts) ≡ is_empty texts
+body_empty [] = refl
+body_empty (t ∷ ts) = text_not_empty t (texts_body ts)
+
+empty_list : {A : Type 0} (xs : List A) → is_empty xs ≡ true → xs ≡ []
+empty_list [] e = refl
+empty_list (x ∷ xs) e = absurd cc
+
+pub no_texts : (texts : List Text) → texts_body texts ≡ [] → texts ≡ []
+no_texts texts e = empty_list texts (sym (body_empty texts) ∙ ap is_empty e)
+
+-- ---- texts in a line that is open with their marks
+
+going : (line : Option Marks) (marks : Marks) (texts : List Text) → goes_on line marks ≡ true
+    → (lines line (in_marks marks texts) ≡ texts_body texts) × (line_after_all line (in_marks marks texts) ≡ line)
+going line marks [] g = (refl, refl)
+going line marks (t ∷ ts) g =
+    let later = going line marks ts g in (
+      ap (λ b. ((if b then [] else closing line ++ (marks_text marks ++ codes "|")) ++ text_body t) ++ lines (if b then line else Some marks) (in_marks marks ts)) g
+          ∙ ap (λ l. text_body t ++ l) later.0,
+      ap (λ b. line_after_all (if b then line else Some marks) (in_marks marks ts)) g ∙ later.1,
+    )
+
+-- the line that is open once texts with these marks have begun
+abbrev pub begun : Option Marks → Marks → Option Marks
+begun line marks = if goes_on line marks then line else Some marks
+
+begun_goes_on : (line : Option Marks) (marks : Marks) → goes_on (begun line marks) marks ≡ true
+begun_goes_on line marks = at (goes_on line marks) refl
+  where
+    at : (b : Bool) → goes_on line marks ≡ b → goes_on (if b then line else Some marks) marks ≡ true
+    at true e = e
+    at false e = marks_same marks
+
+-- texts with the same marks, of which there is one
+pub texts_line : (line : Option Marks) (marks : Marks) (texts : List Text) → is_empty texts ≡ false
+    → (lines line (in_marks marks texts) ≡ text_begin line marks ++ texts_body texts) × (line_after_all line (in_marks marks texts) ≡ begun line marks)
+texts_line line marks [] e = absurd cc
+texts_line line marks (t ∷ ts) e =
+    let later = going (begun line marks) marks ts (begun_goes_on line marks) in (
+      ap (λ l. (text_begin line marks ++ text_body t) ++ l) later.0 ∙ append_assoc (text_begin line marks) (text_body t) (texts_body ts),
+      later.1,
+    )
+
+-- ---- bytes
+
+pub bytes_body : (b : List ℕ) → texts_body (map byte b) ≡ escaped b
+bytes_body [] = refl
+bytes_body (x ∷ xs) = ap (λ l. byte_escaped x ++ l) (bytes_body xs)
+
+pub bytes_empty : (b : List ℕ) → is_empty (map byte b) ≡ is_empty b
+bytes_empty [] = refl
+bytes_empty (x ∷ xs) = refl
+
+pub escaped-append : (xs ys : List ℕ) → escaped (xs ++ ys) ≡ escaped xs ++ escaped ys
+escaped-append xs ys = flat_map-append byte_escaped xs ys
+
+byte_plain : (b : ℕ) → is_plain b ≡ true → byte_escaped b ≡ b ∷ []
+byte_plain b h = at (eqb b 92) (eqb b 9) (eqb b 10) (eqb b 13) refl refl refl refl h
+  where
+    at : (slash tab line return : Bool) → eqb b 92 ≡ slash → eqb b 9 ≡ tab → eqb b 10 ≡ line → eqb b 13 ≡ return → not (slash || (tab || (line || return))) ≡ true
+        → byte_escaped b ≡ b ∷ []
+    at false false false false e0 e1 e2 e3 t = rw (e0, e1, e2, e3) refl
+    at slash tab line return e0 e1 e2 e3 t = cc
+
+-- bytes that are written as they are
+pub escaped-plain : (bs : List ℕ) → escaped bs ≡ front is_plain bs ++ escaped (after is_plain bs)
+escaped-plain [] = refl
+escaped-plain (b ∷ bs) = by (is_plain b) refl (escaped-plain bs) where
+  by : (t : Bool) → is_plain b ≡ t → escaped bs ≡ front is_plain bs ++ escaped (after is_plain bs)
+      → escaped (b ∷ bs) ≡ front is_plain (b ∷ bs) ++ escaped (after is_plain (b ∷ bs))
+  by true e h = ap (λ l. l ++ escaped bs) (byte_plain b e) ∙ ap (λ l. b ∷ l) h ∙ simp e
+  by false e h = simp e
+
+after_short : (p : ℕ → Bool) (bs : List ℕ) → length (after p bs) ≤ length bs
+after_short p [] = omega arith
+after_short p (b ∷ bs) = by (p b) (after_short p bs) where
+  by : (t : Bool) → length (after p bs) ≤ length bs → length (if t then after p bs else b ∷ bs) ≤ length (b ∷ bs)
+  by true h = omega arith
+  by false h = omega arith
+
+pub plain_shorter : (left : List ℕ) (b : ℕ) (bs rest : List ℕ) → left ≡ b ∷ bs → rest ≡ after is_plain bs → length rest < length left
+plain_shorter left b bs rest e r = rw (r, e) (omega (arith, after_short is_plain bs))
+
+-- one byte, and then the bytes that are written as they are
+pub escaped-step : (left : List ℕ) (b : ℕ) (bs rest : List ℕ) → left ≡ b ∷ bs → rest ≡ after is_plain bs
+    → escaped left ≡ byte_escaped b ++ (front is_plain bs ++ escaped rest)
+escaped-step left b bs rest e r =
+    ap escaped e ∙ ap (λ l. byte_escaped b ++ l) (escaped-plain bs ∙ ap (λ l. front is_plain bs ++ escaped l) (sym r))
+
+-- a text that begins with a piece
+pub escaped-piece : (whole piece rest : List ℕ) → whole ≡ piece ++ rest → escaped whole ≡ escaped piece ++ escaped rest
+escaped-piece whole piece rest e = ap escaped e ∙ escaped-append piece rest
+
+-- ---- what is empty
+
+pub empty-append : (piece rest : List ℕ) → is_empty piece ≡ true → is_empty (piece ++ rest) ≡ is_empty rest
+empty-append [] rest e = refl
+empty-append (x ∷ xs) rest e = absurd cc
+
+pub not_empty-append : (piece rest : List ℕ) → is_empty piece ≡ false → is_empty (piece ++ rest) ≡ false
+not_empty-append [] rest e = absurd cc
+not_empty-append (x ∷ xs) rest e = refl
+
+pub nothing_shown : (xs : List ℕ) → not (is_empty xs) ≡ false → xs ≡ []
+nothing_shown [] e = refl
+nothing_shown (x ∷ xs) e = absurd cc
+
+pub something_shown : (xs : List ℕ) → not (is_empty xs) ≡ true → is_empty xs ≡ false
+something_shown [] e = absurd cc
+something_shown (x ∷ xs) e = refl
+
+-- ---- the line of a member
+
+pub own_line : (name rest : List ℕ) → 43 ∷ (name ++ (9 ∷ rest)) ≡ (43 ∷ (name ++ (9 ∷ []))) ++ rest
+own_line name rest = ap (λ l. 43 ∷ l) (sym (append_assoc name (9 ∷ []) rest))
+
+-- ---- a list by its length
+
+pub none_by_length : (xs : List ℕ) (b : Bool) → b ≡ eqb (length xs) 0 → b ≡ true → xs ≡ []
+none_by_length xs b e f = nil_from_length xs (eqb-true (length xs) 0 (sym e ∙ f))
+
+pub some_by_length : (xs : List ℕ) (b : Bool) → b ≡ eqb (length xs) 0 → b ≡ false → is_empty xs ≡ false
+some_by_length [] b e f = absurd cc
+some_by_length (x ∷ xs) b e f = refl

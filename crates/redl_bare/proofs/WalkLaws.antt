@@ -1,0 +1,62 @@
+-- The walk goes over a list node by node.
+use Rattle.std.proofs.Common.{◌≡◌, ◌++◌, Bool, true, false, Some, None, refl, sym, ap, ◌∙◌, append_assoc, if◌then◌else◌}
+use Rattle.redl_reading.specs.Steps.{or_else}
+use Rattle.redl_tree.specs.Model.Nodes.{Tag, Nodes, no_nodes, bytes, element, Item, bytes_item, element_item, idle_item, in_front, ◌⊕◌}
+use Rattle.redl_tree.specs.Model.IdleTexts.{idle_nodes}
+use Rattle.redl_bare.specs.Marks.{Stamp, Marks, stamp_in, is_run_change, change_in, run_change, marks_inside}
+use Rattle.redl_bare.specs.Units.{in_marks, byte_texts, place_inside, start_units, end_units, units_in}
+use Rattle.redl_bare.specs.Inside.Items.{element_units, item_units, item_change_in, item_change}
+use Rattle.redl_bare.specs.declared.place.Place.{Place}
+use Rattle.redl_bare.proofs.IdleLaws.{change_in_idle, run_change_idle}
+
+units-⊕ : (place : Place) (marks : Marks) (xs ys : Nodes) → units_in place marks (xs ⊕ ys) ≡ units_in place marks xs ++ units_in place marks ys
+units-⊕ place marks no_nodes ys = refl
+units-⊕ place marks (bytes b rest) ys =
+    ap (λ us. in_marks marks (byte_texts place b) ++ us) (units-⊕ place marks rest ys)
+    ∙ sym (append_assoc (in_marks marks (byte_texts place b)) (units_in place marks rest) (units_in place marks ys))
+units-⊕ place marks (element tag kids rest) ys =
+    ap (λ us. element_units place marks tag kids ++ us) (units-⊕ place marks rest ys)
+    ∙ sym (append_assoc (element_units place marks tag kids) (units_in place marks rest) (units_in place marks ys))
+
+pub units-in_front : (place : Place) (marks : Marks) (x : Item) (rest : Nodes) → units_in place marks (in_front x rest) ≡ item_units place marks x ++ units_in place marks rest
+units-in_front place marks (bytes_item b) rest = refl
+units-in_front place marks (element_item tag kids) rest = refl
+units-in_front place marks (idle_item t) rest = units-⊕ place marks (idle_nodes t) rest
+
+-- an element's units, with its kids, their place and their marks as the code has them
+pub element_read : (place inner : Place) (marks inside : Marks) (tag : Tag) (kids read : Nodes) → inner ≡ place_inside place tag → inside ≡ marks_inside marks tag kids → read ≡ kids
+    → element_units place marks tag kids ≡ start_units place marks tag ++ (units_in inner inside read ++ end_units place marks tag)
+element_read place inner marks inside tag kids read e f g =
+    ap (λ p. start_units place marks tag ++ (units_in p (marks_inside marks tag kids) kids ++ end_units place marks tag)) (sym e)
+    ∙ ap (λ m. start_units place marks tag ++ (units_in inner m kids ++ end_units place marks tag)) (sym f)
+    ∙ ap (λ n. start_units place marks tag ++ (units_in inner inside n ++ end_units place marks tag)) (sym g)
+
+-- ---- the change of a run
+
+change_in-in_front : (x : Item) (rest : Nodes) → change_in (in_front x rest) ≡ or_else (item_change_in x) (change_in rest)
+change_in-in_front (bytes_item b) rest = refl
+change_in-in_front (element_item tag kids) rest = at (is_run_change tag.kind)
+  where
+    at : (b : Bool) → (if b then Some (stamp_in tag.tail) else change_in rest) ≡ or_else (if b then Some (stamp_in tag.tail) else None) (change_in rest)
+    at true = refl
+    at false = refl
+change_in-in_front (idle_item t) rest = change_in_idle t rest
+
+run_change-in_front : (x : Item) (rest : Nodes) → run_change (in_front x rest) ≡ or_else (item_change x) (run_change rest)
+run_change-in_front (bytes_item b) rest = refl
+run_change-in_front (element_item tag kids) rest = refl
+run_change-in_front (idle_item t) rest = run_change_idle t rest
+
+pub change_in-here : (nodes : Nodes) (x : Item) (rest : Nodes) (stamp : Stamp) → nodes ≡ in_front x rest → Some stamp ≡ item_change_in x → Some stamp ≡ change_in nodes
+change_in-here nodes x rest stamp e f =
+    sym (ap change_in e ∙ change_in-in_front x rest ∙ ap (λ c. or_else c (change_in rest)) (sym f))
+
+pub change_in-later : (nodes : Nodes) (x : Item) (rest : Nodes) → nodes ≡ in_front x rest → None ≡ item_change_in x → change_in rest ≡ change_in nodes
+change_in-later nodes x rest e f = sym (ap change_in e ∙ change_in-in_front x rest ∙ ap (λ c. or_else c (change_in rest)) (sym f))
+
+pub run_change-here : (nodes : Nodes) (x : Item) (rest : Nodes) (stamp : Stamp) → nodes ≡ in_front x rest → Some stamp ≡ item_change x → Some stamp ≡ run_change nodes
+run_change-here nodes x rest stamp e f =
+    sym (ap run_change e ∙ run_change-in_front x rest ∙ ap (λ c. or_else c (run_change rest)) (sym f))
+
+pub run_change-later : (nodes : Nodes) (x : Item) (rest : Nodes) → nodes ≡ in_front x rest → None ≡ item_change x → run_change rest ≡ run_change nodes
+run_change-later nodes x rest e f = sym (ap run_change e ∙ run_change-in_front x rest ∙ ap (λ c. or_else c (run_change rest)) (sym f))

@@ -1,0 +1,4 @@
+pub mod Marks
+pub mod Units
+pub mod BareText
+pub mod Inside

@@ -1,0 +1,192 @@
+-- The units of a document (our own rule; ECMA-376 Part 1, 17.3 and 17.4 for the elements): what a reader can see and decide, in order,
+-- each with its marks. Nothing in properties is a unit, but a member of a revision there has a line of its own where it is.
+use Rattle.std.specs.Prelude.{ℕ, List, [], ◌∷◌, ◌++◌, map, Bool, true, false, ◌&&◌, ◌||◌, codes, bytes_eq, is_some, if◌then◌else◌}
+use Rattle.std.specs.List.{flat_map}
+use Rattle.redl_tree.specs.Model.Nodes.{Tag, Nodes, no_nodes, bytes, element}
+use Rattle.redl_tree.specs.Model.View.{Element}
+use Rattle.redl_tree.specs.Roles.Names.{is, is_any}
+use Rattle.redl_tree.specs.Roles.Places.{is_quiet}
+use Rattle.redl_tree.specs.Decisions.Packages.{stories}
+use Rattle.redl_tree.specs.declared.kinds.Space.{Space}
+use Rattle.redl_tree.specs.declared.kinds.Space.TheVariants as space
+use Rattle.redl_tree.specs.declared.kinds.Kind.{Kind}
+use Rattle.redl_tree.specs.declared.kinds.Kind.TheVariants.{Mark, Row as RowMember, Cell as CellMember, Change}
+use Rattle.redl_shown.specs.Shown.{shown}
+use Rattle.redl_stamp.specs.Attribute.{attribute_value}
+use Rattle.redl_bare.specs.Marks.{Stamp, Marks, stamp_in, no_marks, marks_inside, value_in}
+use Rattle.redl_bare.specs.declared.place.Place.{Place}
+use Rattle.redl_bare.specs.declared.place.Place.TheVariants.{Open, InText, InRun, Quiet, Silent}
+use Rattle.redl_bare.specs.declared.units.Thing.{Thing}
+use Rattle.redl_bare.specs.declared.units.Thing.TheVariants.{Paragraph, Row, Cell}
+use Rattle.redl_bare.specs.declared.units.Story.{Story}
+use Rattle.redl_bare.specs.declared.units.Story.TheVariants.{Document, Header, Footer, Footnote, Endnote}
+
+-- ---- units
+
+-- what is seen in a line and is no character: a picture, the reference of a note, a symbol of a font, a tab to a place, a hyphen that
+-- shows where a line may break, and the three parts of a field
+pub data Object : Type 0 where
+  picture : Object
+  footnote_reference : Object
+  endnote_reference : Object
+  symbol : Object
+  place_tab : Object
+  soft_hyphen : Object
+  field_begin : Object
+  field_separate : Object
+  field_end : Object
+
+-- what is in a line: the characters by their bytes, and objects
+pub data Text : Type 0 where
+  byte : ℕ → Text
+  object : Object → Text
+
+-- A unit: a text with its marks; the end of a paragraph or the begin of a row or a cell, with theirs; a member of a revision in
+-- properties; or the begin of a story.
+pub data BareUnit : Type 0 where
+  text : Marks → Text → BareUnit
+  thing : Marks → Thing → BareUnit
+  member : Kind → Stamp → BareUnit
+  story : Story → BareUnit
+
+-- these texts with the same marks
+abbrev pub in_marks : Marks → List Text → List BareUnit
+in_marks marks texts = map (text marks) texts
+
+-- ---- where nodes are
+
+abbrev pub is_other : Space → Bool
+is_other space.Other = true
+is_other _ = false
+
+-- the second form of content that is kept twice (ECMA-376 Part 3, 10.2), and a separator of notes
+abbrev pub is_left_out : Tag → Bool
+is_left_out tag =
+    (is_other tag.space && bytes_eq tag.local (codes "Fallback"))
+    || (is_any ("footnote" ∷ "endnote" ∷ []) tag && is_some (attribute_value tag.tail (codes "type")))
+
+-- text, live or deleted, and the code of a field
+abbrev pub is_text : Tag → Bool
+is_text tag = is_any ("t" ∷ "delText" ∷ "instrText" ∷ "delInstrText" ∷ []) tag
+
+abbrev pub open_inside : Tag → Place
+open_inside tag =
+    if is_left_out tag then Silent
+    else if is_quiet tag then Quiet
+    else if is_text tag then InText
+    else if is "r" tag then InRun
+    else Open
+
+-- the place of what an element holds; the change of a run's properties is a mark of what is in the run, so these are silent
+abbrev pub place_inside : Place → Tag → Place
+place_inside Silent tag = Silent
+place_inside Quiet tag = Quiet
+place_inside InRun tag = if is "rPr" tag then Silent else open_inside tag
+place_inside InText tag = open_inside tag
+place_inside Open tag = open_inside tag
+
+-- ---- what an element is
+
+-- the characters and the object that an element shows in its line
+abbrev pub field_part : List ℕ → List Text
+field_part kind =
+    if bytes_eq kind (codes "begin") then object field_begin ∷ []
+    else if bytes_eq kind (codes "separate") then object field_separate ∷ []
+    else if bytes_eq kind (codes "end") then object field_end ∷ []
+    else []
+
+abbrev pub sign_texts : Tag → List Text
+sign_texts tag =
+    if is "sym" tag then object symbol ∷ []
+    else if is "ptab" tag then object place_tab ∷ []
+    else if is "softHyphen" tag then object soft_hyphen ∷ []
+    else if is "fldChar" tag then field_part (value_in tag.tail (codes "fldCharType"))
+    else []
+
+abbrev pub object_texts : Tag → List Text
+object_texts tag =
+    if is_any ("drawing" ∷ "pict" ∷ "object" ∷ []) tag then object picture ∷ []
+    else if is "footnoteReference" tag then object footnote_reference ∷ []
+    else if is "endnoteReference" tag then object endnote_reference ∷ []
+    else sign_texts tag
+
+abbrev pub start_texts : Tag → List Text
+start_texts tag =
+    if is "tab" tag then byte 9 ∷ []
+    else if is_any ("br" ∷ "cr" ∷ []) tag then byte 10 ∷ []
+    else if is "noBreakHyphen" tag then byte 226 ∷ byte 128 ∷ byte 145 ∷ []
+    else object_texts tag
+
+-- the lines that an element begins
+abbrev pub start_things : Marks → Tag → List BareUnit
+start_things marks tag =
+    if is "tr" tag then thing marks Row ∷ []
+    else if is "tc" tag then thing marks Cell ∷ []
+    else if is_left_out tag then []
+    else if is "footnote" tag then story Footnote ∷ []
+    else if is "endnote" tag then story Endnote ∷ []
+    else []
+
+-- a member of a revision that has a line of its own: of the end of a paragraph, a row or a cell, or a change of properties
+abbrev pub has_line : Kind → Bool
+has_line (Mark trace) = true
+has_line (RowMember trace) = true
+has_line (CellMember trace) = true
+has_line (Change prop) = true
+has_line _ = false
+
+abbrev pub member_units : Tag → List BareUnit
+member_units tag =
+    if has_line tag.kind then member tag.kind (stamp_in tag.tail) ∷ [] else []
+
+abbrev pub open_units : Marks → Tag → List BareUnit
+open_units marks tag = in_marks marks (start_texts tag) ++ start_things marks tag
+
+-- the units of an element before those that it holds
+abbrev pub start_units : Place → Marks → Tag → List BareUnit
+start_units Silent marks tag = []
+start_units Quiet marks tag = member_units tag
+start_units InRun marks tag = open_units marks tag
+start_units InText marks tag = open_units marks tag
+start_units Open marks tag = open_units marks tag
+
+abbrev pub is_open_place : Place → Bool
+is_open_place Silent = false
+is_open_place Quiet = false
+is_open_place _ = true
+
+-- and after them: a paragraph has its end
+abbrev pub end_units : Place → Marks → Tag → List BareUnit
+end_units place marks tag =
+    if is_open_place place && is "p" tag then thing marks Paragraph ∷ [] else []
+
+-- the texts of bytes
+abbrev pub byte_texts : Place → List ℕ → List Text
+byte_texts InText b = map byte (shown b)
+byte_texts _ b = []
+
+-- ---- the units of nodes, stories and packages
+
+abbrev pub units_in : Place → Marks → Nodes → List BareUnit
+units_in place marks no_nodes = []
+units_in place marks (bytes b rest) = in_marks marks (byte_texts place b) ++ units_in place marks rest
+units_in place marks (element tag kids rest) =
+    (start_units place marks tag
+    ++ (units_in (place_inside place tag) (marks_inside marks tag kids) kids ++ end_units place marks tag))
+    ++ units_in place marks rest
+
+-- the line with which a story begins; notes begin each for itself
+abbrev pub root_units : Tag → List BareUnit
+root_units tag =
+    if is "document" tag then story Document ∷ []
+    else if is "hdr" tag then story Header ∷ []
+    else if is "ftr" tag then story Footer ∷ []
+    else []
+
+-- the units of a story; comments have none
+abbrev pub story_units : Element → List BareUnit
+story_units root = if is "comments" root.tag then [] else root_units root.tag ++ units_in Open no_marks root.kids
+
+-- the units of a package, story by story, in the order of its parts
+abbrev pub package_units : Nodes → List BareUnit
+package_units nodes = flat_map story_units (stories nodes)

@@ -1,0 +1,168 @@
+//! The texts of idle elements that a list keeps as text.
+
+ghost use Rattle.std.specs.Prelude.{◌≡◌, not};
+ghost use Rattle.redl_io.specs.Sink.{Puts};
+ghost use Rattle.redl_tree.specs.Model.IdleTexts.{idle_nodes};
+ghost use Rattle.redl_idle.specs.Shows.{shows};
+ghost use Rattle.redl_bare.specs.Units.{byte_texts, units_in};
+ghost use Rattle.redl_bare.specs.Inside.Escapes.{is_empty};
+ghost use Rattle.redl_bare.specs.Inside.Idle.{idle_rule, tag_with, texts_at};
+ghost use Rattle.redl_bare.specs.Inside.Looks.{ShowsSo};
+ghost use Rattle.redl_bare.specs.BareText.{texts_body};
+ghost use Rattle.redl_bare.specs.Inside.Views.{marks_view, line_view};
+ghost use Rattle.redl_bare.specs.Inside.Puts.{PutsUnits};
+
+use crate::escape::{is_shown, put_shown};
+use crate::line::begin;
+use crate::marks::Marks;
+use crate::place::Place;
+use crate::starts::start_body;
+use redl_idle::{Shows, show};
+use redl_io::{Failed, Sink, put_piece};
+use redl_tree::Plain;
+
+/// Puts the texts of idle elements with these marks. It takes no memory.
+pub(crate) fn put_idle<'a, K: Sink>(
+    plain: &Plain<'_>,
+    place: Place,
+    marks: Marks<'a>,
+    line: Option<Marks<'a>>,
+    out: &mut K,
+) -> Result<Option<Marks<'a>>, Failed>
+    ensures { PutsUnits K.told K.faults K.settled K.lenders out.old out.new (line_view line.entry) (units_in place (marks_view marks.entry) (idle_nodes plain.now)) result }
+{
+    if !shows_something(plain, place) {
+        return Ok(line);
+    }
+    let now = begin(marks, line, out)?;
+    show(plain, &place, out)?;
+    Ok(now)
+}
+
+impl<K: Sink> Shows<K> for Place {
+    ghost use Rattle.redl_idle.specs.Takings.{by_puts};
+    ghost use Rattle.redl_bare.specs.Inside.Idle.{idle_rule};
+
+    type Error = Failed;
+
+    ghost rule = { idle_rule };
+
+    ghost taking = { by_puts K.told K.faults K.settled K.lenders };
+
+    fn put_bytes(&self, bytes: &[u8], out: &mut K) -> Result<(), Failed> {
+        put_idle_bytes(*self, bytes, out)
+    }
+
+    fn enter(
+        &self,
+        local: &[u8],
+        tail: &[u8],
+        _ahead: &[u8],
+        out: &mut K,
+    ) -> Result<Place, Failed> {
+        put_idle_start(*self, local, tail, out)?;
+        Ok(self.inside_idle(local))
+    }
+
+    fn leave(&self, _out: &mut K) -> Result<(), Failed> {
+        Ok(())
+    }
+}
+
+fn put_idle_bytes<K: Sink>(place: Place, bytes: &[u8], out: &mut K) -> Result<(), Failed>
+    ensures { Puts K.told K.faults K.settled K.lenders out.old out.new (texts_body (byte_texts place bytes.now)) result }
+{
+    match place {
+        Place::InText => put_shown(bytes, out),
+        _ => Ok(()),
+    }
+}
+
+fn put_idle_start<K: Sink>(
+    place: Place,
+    local: &[u8],
+    tail: &[u8],
+    out: &mut K,
+) -> Result<(), Failed>
+    ensures { Puts K.told K.faults K.settled K.lenders out.old out.new (texts_body (texts_at place (tag_with local.now tail.now))) result }
+{
+    if place.is_open() {
+        return put_piece(start_body(local, tail), out);
+    }
+    Ok(())
+}
+
+// Whether idle elements here show something. It reads no further than to the first text.
+fn shows_something(plain: &Plain<'_>, place: Place) -> bool
+    ensures { result ≡ not (is_empty (shows idle_rule place (idle_nodes plain.now))) }
+{
+    match show(plain, &place, &mut Nothing) {
+        Ok(()) => false,
+        Err(Something) => true,
+    }
+}
+
+// What takes no text: the first one ends the walk.
+#[derive(Clone, Copy)]
+struct Nothing;
+
+// A text was shown.
+#[derive(Clone, Copy)]
+struct Something;
+
+impl Shows<Nothing> for Place {
+    ghost use Rattle.redl_bare.specs.Inside.Idle.{idle_rule};
+    ghost use Rattle.redl_bare.specs.Inside.Looks.{takes_nothing};
+
+    type Error = Something;
+
+    ghost rule = { idle_rule };
+
+    ghost taking = { takes_nothing };
+
+    fn put_bytes(&self, bytes: &[u8], _out: &mut Nothing) -> Result<(), Something> {
+        look_at_bytes(*self, bytes)
+    }
+
+    fn enter(
+        &self,
+        local: &[u8],
+        tail: &[u8],
+        _ahead: &[u8],
+        _out: &mut Nothing,
+    ) -> Result<Place, Something> {
+        look_at_start(*self, local, tail)?;
+        Ok(self.inside_idle(local))
+    }
+
+    fn leave(&self, _out: &mut Nothing) -> Result<(), Something> {
+        Ok(())
+    }
+}
+
+fn look_at_bytes(place: Place, bytes: &[u8]) -> Result<(), Something>
+    ensures { ShowsSo (texts_body (byte_texts place bytes.now)) result }
+{
+    match place {
+        Place::InText if is_shown(bytes) => Err(Something),
+        _ => Ok(()),
+    }
+}
+
+fn look_at_start(place: Place, local: &[u8], tail: &[u8]) -> Result<(), Something>
+    ensures { ShowsSo (texts_body (texts_at place (tag_with local.now tail.now))) result }
+{
+    if place.is_open() {
+        return look_at(start_body(local, tail));
+    }
+    Ok(())
+}
+
+fn look_at(body: &[u8]) -> Result<(), Something>
+    ensures { ShowsSo body.now result }
+{
+    if body.is_empty() {
+        return Ok(());
+    }
+    Err(Something)
+}

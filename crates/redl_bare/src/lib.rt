@@ -1,0 +1,23 @@
+//! The bare text of a document: a package with its revisions numbered goes in, and what a reader can see and decide goes out, with
+//! nothing of how the file is made.
+//!
+//! Read `put_bare`, `specs/Units.antt` for the units of a document, `specs/Marks.antt` for who changed them, and `specs/BareText.antt`
+//! for how both are written. It goes over the original once and takes no memory.
+//! Numbers, and what is decided, are left to the crates below and above.
+#![tactic(auto)]
+
+mod escape;
+mod idle;
+mod line;
+mod marks;
+mod package;
+mod place;
+mod stamp_text;
+mod starts;
+mod units;
+mod values;
+mod walk;
+
+pub use package::put_bare;
+pub use place::Place;
+pub use units::{Story, Thing};

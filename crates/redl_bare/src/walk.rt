@@ -1,0 +1,199 @@
+//! The walk over the nodes of a story, which puts their units.
+
+ghost use Rattle.std.specs.Prelude.{◌≡◌, map, false};
+ghost use Rattle.redl_tree.specs.Model.View.{nodes_of, item_of, tag_of, kids_of};
+ghost use Rattle.redl_bare.specs.Units.{byte, in_marks, byte_texts, start_texts, start_things, member_units, open_units, start_units, end_units, units_in};
+ghost use Rattle.redl_bare.specs.BareText.{texts_body};
+ghost use Rattle.redl_bare.specs.Inside.Escapes.{is_empty};
+ghost use Rattle.redl_shown.specs.Shown.{shown};
+ghost use Rattle.redl_bare.specs.Inside.Items.{element_units, item_units};
+ghost use Rattle.redl_bare.specs.Inside.Views.{marks_view, line_view};
+ghost use Rattle.redl_bare.specs.Inside.Puts.{PutsUnits};
+
+use crate::escape::{is_shown, put_shown};
+use crate::idle::put_idle;
+use crate::line::{begin, put_member, put_story, put_texts, put_thing};
+use crate::marks::{Marks, Stamp};
+use crate::place::{Place, is_left_out};
+use crate::starts::start_body;
+use crate::units::{Story, Thing, has_line};
+use redl_io::{Failed, Sink};
+use redl_tree::{Elem, Node, Space, Word, is_word};
+
+/// Puts the units of nodes at this place and with these marks, and gives the line that is open then.
+#[cycle(units)]
+pub(crate) fn put_nodes<'a, K: Sink>(
+    nodes: &[Node<'a>],
+    place: Place,
+    marks: Marks<'a>,
+    line: Option<Marks<'a>>,
+    out: &mut K,
+) -> Result<Option<Marks<'a>>, Failed>
+    ensures { PutsUnits K.told K.faults K.settled K.lenders out.old out.new (line_view line.entry) (units_in place (marks_view marks.entry) (nodes_of nodes.now)) result }
+{
+    let mut now = line;
+    for node in nodes {
+        now = put_node(node, place, marks, now, out)?;
+    }
+    Ok(now)
+}
+
+#[cycle(units)]
+fn put_node<'a, K: Sink>(
+    node: &Node<'a>,
+    place: Place,
+    marks: Marks<'a>,
+    line: Option<Marks<'a>>,
+    out: &mut K,
+) -> Result<Option<Marks<'a>>, Failed>
+    ensures { PutsUnits K.told K.faults K.settled K.lenders out.old out.new (line_view line.entry) (item_units place (marks_view marks.entry) (item_of node.now)) result }
+{
+    match node {
+        Node::Elem(elem) => put_elem(elem, place, marks, line, out),
+        Node::Bytes(bytes) => put_bytes(bytes, place, marks, line, out),
+        Node::Plain(plain) => put_idle(plain, place, marks, line, out),
+    }
+}
+
+#[cycle(units)]
+fn put_elem<'a, K: Sink>(
+    elem: &Elem<'a>,
+    place: Place,
+    marks: Marks<'a>,
+    line: Option<Marks<'a>>,
+    out: &mut K,
+) -> Result<Option<Marks<'a>>, Failed>
+    ensures { PutsUnits K.told K.faults K.settled K.lenders out.old out.new (line_view line.entry) (element_units place (marks_view marks.entry) (tag_of elem.now) (kids_of elem.now)) result }
+{
+    let begun = put_start(elem, place, marks, line, out)?;
+    let walked = put_nodes(
+        elem.kids(),
+        place.inside(elem),
+        marks.inside(elem),
+        begun,
+        out,
+    )?;
+    put_end(elem, place, marks, walked, out)
+}
+
+// Puts the texts of bytes.
+fn put_bytes<'a, K: Sink>(
+    bytes: &[u8],
+    place: Place,
+    marks: Marks<'a>,
+    line: Option<Marks<'a>>,
+    out: &mut K,
+) -> Result<Option<Marks<'a>>, Failed>
+    ensures { PutsUnits K.told K.faults K.settled K.lenders out.old out.new (line_view line.entry) (in_marks (marks_view marks.entry) (byte_texts place bytes.now)) result }
+{
+    match place {
+        Place::InText if is_shown(bytes) => put_shown_bytes(bytes, marks, line, out),
+        _ => Ok(line),
+    }
+}
+
+fn put_shown_bytes<'a, K: Sink>(
+    bytes: &[u8],
+    marks: Marks<'a>,
+    line: Option<Marks<'a>>,
+    out: &mut K,
+) -> Result<Option<Marks<'a>>, Failed>
+    requires { is_empty (shown bytes.now) ≡ false }
+    ensures { PutsUnits K.told K.faults K.settled K.lenders out.old out.new (line_view line.entry) (in_marks (marks_view marks.entry) (map byte (shown bytes.now))) result }
+{
+    let now = begin(marks, line, out)?;
+    put_shown(bytes, out)?;
+    Ok(now)
+}
+
+// Puts the units of an element before those that it holds.
+fn put_start<'a, K: Sink>(
+    elem: &Elem<'a>,
+    place: Place,
+    marks: Marks<'a>,
+    line: Option<Marks<'a>>,
+    out: &mut K,
+) -> Result<Option<Marks<'a>>, Failed>
+    ensures { PutsUnits K.told K.faults K.settled K.lenders out.old out.new (line_view line.entry) (start_units place (marks_view marks.entry) (tag_of elem.now)) result }
+{
+    match place {
+        Place::Silent => Ok(line),
+        Place::Quiet => put_own_member(elem, line, out),
+        Place::InRun | Place::InText | Place::Open => put_open_start(elem, marks, line, out),
+    }
+}
+
+fn put_own_member<'a, K: Sink>(
+    elem: &Elem<'_>,
+    line: Option<Marks<'a>>,
+    out: &mut K,
+) -> Result<Option<Marks<'a>>, Failed>
+    ensures { PutsUnits K.told K.faults K.settled K.lenders out.old out.new (line_view line.entry) (member_units (tag_of elem.now)) result }
+{
+    if has_line(elem.kind()) {
+        return put_member(elem.kind(), Stamp::in_tail(elem.tail()), line, out);
+    }
+    Ok(line)
+}
+
+fn put_open_start<'a, K: Sink>(
+    elem: &Elem<'a>,
+    marks: Marks<'a>,
+    line: Option<Marks<'a>>,
+    out: &mut K,
+) -> Result<Option<Marks<'a>>, Failed>
+    ensures { PutsUnits K.told K.faults K.settled K.lenders out.old out.new (line_view line.entry) (open_units (marks_view marks.entry) (tag_of elem.now)) result }
+{
+    let now = put_texts(start_of(elem), marks, line, out)?;
+    put_things(elem, marks, now, out)
+}
+
+// What an element shows in its line at its start tag, as it is written there.
+fn start_of(elem: &Elem) -> &'static [u8]
+    ensures { result.now ≡ texts_body (start_texts (tag_of elem.now)) }
+{
+    match elem.space() {
+        Space::W => start_body(elem.local(), elem.tail()),
+        _ => b"",
+    }
+}
+
+// Puts the lines that an element begins.
+fn put_things<'a, K: Sink>(
+    elem: &Elem<'a>,
+    marks: Marks<'a>,
+    line: Option<Marks<'a>>,
+    out: &mut K,
+) -> Result<Option<Marks<'a>>, Failed>
+    ensures { PutsUnits K.told K.faults K.settled K.lenders out.old out.new (line_view line.entry) (start_things (marks_view marks.entry) (tag_of elem.now)) result }
+{
+    if is_word(elem, Word::Tr) {
+        put_thing(Thing::Row, marks, line, out)
+    } else if is_word(elem, Word::Tc) {
+        put_thing(Thing::Cell, marks, line, out)
+    } else if is_left_out(elem) {
+        Ok(line)
+    } else if is_word(elem, Word::Footnote) {
+        put_story(Story::Footnote, line, out)
+    } else if is_word(elem, Word::Endnote) {
+        put_story(Story::Endnote, line, out)
+    } else {
+        Ok(line)
+    }
+}
+
+// Puts the units of an element after those that it holds.
+fn put_end<'a, K: Sink>(
+    elem: &Elem<'a>,
+    place: Place,
+    marks: Marks<'a>,
+    line: Option<Marks<'a>>,
+    out: &mut K,
+) -> Result<Option<Marks<'a>>, Failed>
+    ensures { PutsUnits K.told K.faults K.settled K.lenders out.old out.new (line_view line.entry) (end_units place (marks_view marks.entry) (tag_of elem.now)) result }
+{
+    if place.is_open() && is_word(elem, Word::P) {
+        return put_thing(Thing::Paragraph, marks, line, out);
+    }
+    Ok(line)
+}
