@@ -9,6 +9,7 @@ worked out by hand are not made, but compared with that reading.
 import os
 import sys
 
+import bare
 import contract
 import page
 import reading
@@ -186,6 +187,7 @@ def make_contract(folder):
         folder.save("contract.kinds." + form, report.report(read, entries, form, by_kind=True))
     for view in VIEWS:
         folder.save("contract.%s.txt" % view, texts.text(read, view))
+    folder.save("contract.bare.txt", bare.bare_text(read).decode())
     # Ann accepts all of Cara's changes in one go, but for the two in the sentence on prices.
     of_cara = [number for number, it in enumerate(read.revisions, 1) if it.author == "Cara Lee"]
     book, _ = reading.decide(read, "Ann Gray", CONTRACT_SAYS["ann"], [("accept", of_cara), ("withdraw", [5])])

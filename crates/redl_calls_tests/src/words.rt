@@ -229,11 +229,12 @@ fn line_told(alloc: Global, line: &str) -> Result<String, AllocError> {
 }
 
 // Lines, and what they ask for.
-const COMMANDS: [(&str, &str); 35] = [
+const COMMANDS: [(&str, &str); 36] = [
     ("settle|accept|P", "settle true P"),
     ("settle|reject|P", "settle false P"),
     ("text|P", "text P Final"),
     ("text|P|--view|marked", "text P Marked"),
+    ("text|P|--view|bare", "text P Bare"),
     ("list|P", "list P as text locks  journals "),
     (
         "list|P|J|--lock|A|--format|tab|K|--lock|A|J",

@@ -13,7 +13,7 @@ pub(crate) fn fault_of_value(help: &str, option: &str, value: &str) -> Option<&'
         ),
         "--lock-span" => fault_of_labelled(help, "span", value),
         "--rank" if !is_rank(value) => Some("a rank is one digit, from 0 to 9"),
-        "--view" if !is_view(value) => Some("--view takes original, final or marked"),
+        "--view" if !is_view(value) => Some("--view takes original, final, marked or bare"),
         "--by" if value != "kind" => Some("--by takes kind, for each kind of an author's changes"),
         _ => None,
     }
@@ -24,7 +24,7 @@ fn is_rank(value: &str) -> bool {
 }
 
 fn is_view(name: &str) -> bool {
-    matches!(name, "original" | "final" | "marked")
+    matches!(name, "original" | "final" | "marked" | "bare")
 }
 
 // The names of the groups of kinds.

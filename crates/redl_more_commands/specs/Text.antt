@@ -1,5 +1,6 @@
--- `text P`: the plain text of the package before or after its revisions, or the original with its changes marked.
+-- `text P`: the plain text of the package before or after its revisions, the original with its changes marked, or its bare text.
 use Rattle.std.specs.Prelude.{ℕ, List, Result, Ok}
+use Rattle.redl_bare.specs.BareText.{bare_text}
 use Rattle.redl_commands.specs.Settle.{same_says}
 use Rattle.redl_commands.specs.Writing.{Writing, only_bytes}
 use Rattle.redl_index.specs.Numbers.{numbered_package}
@@ -15,7 +16,7 @@ use Rattle.redl_tree.specs.declared.kinds.Say.{Say}
 use Rattle.redl_tree.specs.declared.kinds.Say.TheVariants.{Accept, Reject}
 use Rattle.redl_views.specs.PlainText.{plain_text}
 use Rattle.redl_words.specs.declared.command.View.{View}
-use Rattle.redl_words.specs.declared.command.View.TheVariants.{Original, Final, Marked}
+use Rattle.redl_words.specs.declared.command.View.TheVariants.{Original, Final, Marked, Bare}
 
 -- the plain text of what a pass leaves of a package, where all its revisions have one say
 abbrev pub plain_under : Say → Nodes → List ℕ
@@ -26,6 +27,7 @@ abbrev pub text_in : View → Nodes → List ℕ
 text_in Original nodes = plain_under Reject nodes
 text_in Final nodes = plain_under Accept nodes
 text_in Marked nodes = marked_text (numbered_package nodes)
+text_in Bare nodes = bare_text (numbered_package nodes)
 
 -- what is written of the package with this text
 abbrev pub viewed : Reader → View → List ℕ → Result Writing Failure

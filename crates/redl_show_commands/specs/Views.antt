@@ -1,21 +1,17 @@
 -- What a clause sees of the code's values.
-use Rattle.std.specs.Prelude.{ℕ, List, Option, Some, None}
-use Rattle.std.specs.Global.{Vec}
+use Rattle.std.specs.Prelude.{ℕ, List}
+use Rattle.redl_bare.specs.BareText.{bare_text}
 use Rattle.redl_commands.specs.Writing.{Writing, only_bytes}
 use Rattle.redl_marked.specs.MarkedText.{marked_text}
 use Rattle.redl_show_commands.specs.declared.text.Shown.{Shown}
-use Rattle.redl_tree.specs.Model.Nodes.{Nodes}
-use Rattle.redl_tree.specs.declared.kinds.Say.{Say}
+use Rattle.redl_show_commands.specs.declared.text.Shown.TheVariants.{Plain, Marked, Bare}
 use Rattle.redl_views.specs.Walks.{walk_text}
 
--- the plain text of a package under these says, or without them its marked text
-abbrev pub text_under : Option (Vec Say) → Nodes → List ℕ
-text_under None nodes = marked_text nodes
-text_under (Some says) nodes = walk_text says.items nodes
-
--- what a reader sees of a package
+-- what a reader sees of a package: its plain text under says, its marked text or its bare text
 abbrev pub shown_text : Shown → List ℕ
-shown_text shown = text_under shown.says shown.pkg
+shown_text (Plain pkg says) = walk_text says.items pkg
+shown_text (Marked pkg) = marked_text pkg
+shown_text (Bare pkg) = bare_text pkg
 
 -- it goes out, and nothing is remarked
 abbrev pub shown_view : Shown → Writing

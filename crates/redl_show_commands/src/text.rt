@@ -13,6 +13,7 @@ ghost use Rattle.redl_io.specs.Sink.{CountsPut, GrowsByFront, Puts};
 ghost use Rattle.redl_lines.specs.Ends.{end_view};
 ghost use Rattle.redl_views.specs.Walks.{walk_text};
 
+use redl_bare::put_bare;
 use redl_index::{Counted, Surveyed};
 use redl_inputs::read_package;
 use redl_io::{Failed, Sink, Staged};
@@ -23,13 +24,20 @@ use redl_tree::Say;
 use redl_words::View;
 use std::alloc::{AllocError, Global};
 
-/// A package with its numbers, and what its reader sees of it.
+/// A package whose members have their numbers, and what its reader sees of it.
 #[derive(Drop)]
-pub struct Shown<'b> {
-    /// The package, whose members have their numbers.
-    pub pkg: Package<'b>,
-    /// A say for each revision, under which its plain text is shown; without them its text is shown with its changes marked.
-    pub says: Option<Vec<Say>>,
+pub enum Shown<'b> {
+    /// Its plain text under a say for each revision.
+    Plain {
+        /// The package.
+        pkg: Package<'b>,
+        /// The says.
+        says: Vec<Say>,
+    },
+    /// Its text with its changes marked.
+    Marked(Package<'b>),
+    /// Its bare text.
+    Bare(Package<'b>),
 }
 
 /// Puts the text of the package with this text, in a view, and gives how the call ends.
@@ -58,10 +66,8 @@ fn show_package(alloc: Global, view: View, pkg: Surveyed) -> Result<Shown, Alloc
     match view {
         View::Original => show_plain(alloc, counted, Say::Reject),
         View::Final => show_plain(alloc, counted, Say::Accept),
-        View::Marked => Ok(Shown {
-            pkg: counted.pkg,
-            says: None,
-        }),
+        View::Marked => Ok(Shown::Marked(counted.pkg)),
+        View::Bare => Ok(Shown::Bare(counted.pkg)),
     }
 }
 
@@ -70,9 +76,9 @@ fn show_plain(alloc: Global, counted: Counted, say: Say) -> Result<Shown, AllocE
     ensures { IfOk result (λ shown. shown_text shown ≡ walk_text (replicate counted.entry.count say) counted.entry.pkg) }
 {
     let says = vec![in alloc; say; counted.count as usize]?;
-    Ok(Shown {
+    Ok(Shown::Plain {
         pkg: counted.pkg,
-        says: Some(says),
+        says,
     })
 }
 
@@ -100,8 +106,9 @@ fn put_staged<O: Sink>(shown: &Shown, out: &mut O) -> Result<(), Failed>
 fn put_pieces<K: Sink>(shown: &Shown, out: &mut K) -> Result<(), Failed>
     ensures { Puts K.told K.faults K.settled K.lenders out.old out.new (shown_text shown.now) result }
 {
-    match &shown.says {
-        Some(says) => redl_views::view(&shown.pkg, says, out),
-        None => put_marked(&shown.pkg, out),
+    match shown {
+        Shown::Plain { pkg, says } => redl_views::view(pkg, says, out),
+        Shown::Marked(pkg) => put_marked(pkg, out),
+        Shown::Bare(pkg) => put_bare(pkg, out),
     }
 }

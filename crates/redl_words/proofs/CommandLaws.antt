@@ -24,7 +24,7 @@ use Rattle.redl_words.specs.declared.verb.Verb.{Verb}
 use Rattle.redl_words.specs.declared.verb.Verb.TheVariants as verbs
 use Rattle.redl_words.specs.declared.command.Command as code
 use Rattle.redl_words.specs.declared.command.View.{View}
-use Rattle.redl_words.specs.declared.command.View.TheVariants.{Original, Final, Marked}
+use Rattle.redl_words.specs.declared.command.View.TheVariants.{Original, Final, Marked, Bare}
 use Rattle.redl_words.specs.Commands.{Command, settle, view_text, list, report, page, write, decide, join, check, sample, say_word, view_name, IsSettle, IsText, AsksFor, IsPage, IsWrite, IsDecide, IsJoin, IsCheck, IsSample, IsCommand, HasNoCommand, HasUtf8, LockHasUtf8, resume, IsResume}
 use Rattle.redl_words.specs.Items.{Item, format, lock, journal, named_journal, choice, rank, by_kind, item_words, Admits, of_list, of_report, of_page, of_write, of_decide, Form as Kind, is_name, formats_of, locks_of, journals_of, ranks_of, bys_of, if_so, only, onlys_of, title, titles_of}
 use Rattle.redl_words.specs.Shown.{Only}
@@ -124,7 +124,8 @@ unfolding view_in
 view_takes name view e =
     pick P (bytes_eq name (view_name Original)) Original _ view e (λ hit. bytes_same name (view_name Original) hit) (λ e.
     pick P (bytes_eq name (view_name Final)) Final _ view e (λ hit. bytes_same name (view_name Final) hit) (λ e.
-    pick P (bytes_eq name (view_name Marked)) Marked _ view e (λ hit. bytes_same name (view_name Marked) hit) (λ e. absurd cc))) where
+    pick P (bytes_eq name (view_name Marked)) Marked _ view e (λ hit. bytes_same name (view_name Marked) hit) (λ e.
+    pick P (bytes_eq name (view_name Bare)) Bare _ view e (λ hit. bytes_same name (view_name Bare) hit) (λ e. absurd cc)))) where
       P : View → Type 0
       P view = name ≡ view_name view
 
@@ -133,6 +134,7 @@ unfolding view_in
 view_again Original = refl
 view_again Final = refl
 view_again Marked = refl
+view_again Bare = refl
 
 -- the text of a package in a view that is there
 with_view : (p : List ℕ) (view : Option View) (c : Command) → text_with p view ≡ Some c → (found : View) × (view ≡ Some found) × (is_name p ≡ true) × (view_text p found ≡ c)

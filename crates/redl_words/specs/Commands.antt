@@ -7,7 +7,7 @@ use Rattle.redl_kinds.specs.Selections.{Selection}
 use Rattle.redl_kinds.specs.declared.lock.Lock.{Lock}
 use Rattle.redl_kinds.specs.declared.lock.Lock.TheVariants.{Author, Kind, Span}
 use Rattle.redl_words.specs.declared.command.View.{View}
-use Rattle.redl_words.specs.declared.command.View.TheVariants.{Original, Final, Marked}
+use Rattle.redl_words.specs.declared.command.View.TheVariants.{Original, Final, Marked, Bare}
 use Rattle.redl_words.specs.Items.{Item, AreItems, Form, of_list, of_report, of_page, of_write, of_decide, is_name, formats_of, bys_of, if_so, locks_of, journals_of, choices_of, ranks_of, onlys_of, titles_of}
 use Rattle.redl_words.specs.Shown.{Only}
 use Rattle.redl_words.specs.Sittings.{SittingJournal, sitting_words, sitting_name, firsts_of, seconds_of}
@@ -56,6 +56,7 @@ abbrev pub view_name : View → List ℕ
 view_name Original = codes "original"
 view_name Final = codes "final"
 view_name Marked = codes "marked"
+view_name Bare = codes "bare"
 
 -- `text P`, which has the final view, and `text P --view NAME`
 pub record IsText (words : List (List ℕ)) (p : List ℕ) (view : View) : Type 0 where

@@ -5,7 +5,8 @@ use redl_io::Text;
 use redl_journal::Word;
 use redl_kinds::{Lock, Selection};
 
-/// What is shown of a document: its text before its revisions, its text after them, or the original with its changes marked.
+/// What is shown of a document: its text before its revisions, its text after them, the original with its changes marked, or what can
+/// be seen and decided in it, with nothing of how its file is made.
 #[derive(Clone, Copy, Debug, PartialEq, Eq)]
 pub enum View {
     /// The text before the revisions.
@@ -14,6 +15,8 @@ pub enum View {
     Final,
     /// The original with its changes marked.
     Marked,
+    /// What can be seen and decided in the original, with nothing of how its file is made.
+    Bare,
 }
 
 /// A list of the package's revisions in the format of this name, of those alone that each of `only` shows.

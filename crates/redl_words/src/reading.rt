@@ -131,6 +131,8 @@ fn read_view(name: &[u8]) -> Option<View>
         Some(View::Final)
     } else if name == b"marked".as_slice() {
         Some(View::Marked)
+    } else if name == b"bare".as_slice() {
+        Some(View::Bare)
     } else {
         None
     }

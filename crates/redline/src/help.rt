@@ -35,7 +35,7 @@ GROUP is content, marks, rows, cells or props: all changes of text, of paragraph
 KIND is ins, del, move, move-from, move-to, mark-ins, mark-del, mark-from, mark-to, row-ins,
   row-del, cell-ins, cell-del, run-props, para-props, sect-props, table-props, except-props,
   row-props or cell-props.
-V is original, final or marked; without --view the text is final, with each change accepted.
+V is original, final, marked or bare; without --view the text is final, with each change accepted.
 SPAN is two dates, the second not included: 2026-11-01T00:00:00Z/2026-11-02T00:00:00Z.
 
 Exit status: 0 done, 1 done and some entries refused, 2 usage, 3 package, 4 journal,

@@ -13,7 +13,7 @@ use Rattle.redl_words.specs.declared.reading.Asked as code
 use Rattle.redl_words.specs.declared.verb.Verb.{Verb}
 use Rattle.redl_words.specs.declared.verb.Verb.TheVariants as verbs
 use Rattle.redl_words.specs.declared.command.View.{View}
-use Rattle.redl_words.specs.declared.command.View.TheVariants.{Original, Final, Marked}
+use Rattle.redl_words.specs.declared.command.View.TheVariants.{Original, Final, Marked, Bare}
 use Rattle.redl_words.specs.Commands.{Command, settle, view_text, list, report, page, write, decide, resume, join, check, sample, say_word, view_name}
 use Rattle.redl_words.specs.Items.{is_name}
 use Rattle.redl_words.specs.Reading.Items.{Gathered, nothing, gathered}
@@ -50,6 +50,7 @@ view_in name =
     if bytes_eq name (view_name Original) then Some Original
     else if bytes_eq name (view_name Final) then Some Final
     else if bytes_eq name (view_name Marked) then Some Marked
+    else if bytes_eq name (view_name Bare) then Some Bare
     else None
 
 -- the text of this package, where there is a view

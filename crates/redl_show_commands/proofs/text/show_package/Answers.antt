@@ -1,4 +1,5 @@
 use Rattle.std.proofs.Common.{ap, sym, ◌∙◌}
+use Rattle.redl_bare.specs.BareText.{bare_text}
 use Rattle.redl_more_commands.specs.Text.{text_in}
 use Rattle.redl_marked.specs.MarkedText.{marked_text}
 use Rattle.redl_tree.specs.declared.kinds.Say.TheVariants.{Accept, Reject}
@@ -18,3 +19,7 @@ returns-in-Final c =
 pub returns-in-Marked : goal.returns-in-Marked
 returns-in-Marked c =
     ap marked_text c.into_counted-counted.ensures.nodes ∙ ap (λ view. text_in view c.args.pkg) (sym c.in-Marked.is)
+
+pub returns-in-Bare : goal.returns-in-Bare
+returns-in-Bare c =
+    ap bare_text c.into_counted-counted.ensures.nodes ∙ ap (λ view. text_in view c.args.pkg) (sym c.in-Bare.is)

@@ -1,0 +1,133 @@
+"""A second writer of the bare text of a package, as docs/DEFINITIONS.md tells it.
+
+    python3 bare.py PACKAGE        the bare text, on standard output
+
+It shares no code with the program. make.py makes by it what `text --view bare` is to write of the examples.
+"""
+import sys
+
+import reading
+import texts
+
+STORIES = {"document": "document", "hdr": "header", "ftr": "footer"}
+NOTES = {"footnotes": "footnote", "endnotes": "endnote"}
+# What is round a unit, in the order of a line.
+MARKS = ("ins", "del", "move-to", "move-from", "run-props")
+TRACES = {"inserted": "ins", "deleted": "del", "to": "move-to", "from": "move-from"}
+TEXTS = ("t", "delText", "instrText", "delInstrText")
+CHARACTERS = {"tab": "\t", "br": "\n", "cr": "\n", "noBreakHyphen": "\u2011"}
+OBJECTS = {
+    "drawing": "picture", "pict": "picture", "object": "picture", "footnoteReference": "footnote", "endnoteReference": "endnote",
+    "sym": "symbol", "ptab": "ptab", "softHyphen": "softHyphen",
+}
+FIELDS = ("begin", "separate", "end")
+ESCAPES = str.maketrans({"\\": "\\\\", "\t": "\\t", "\n": "\\n", "\r": "\\r"})
+
+
+def escaped(text):
+    return text.translate(ESCAPES)
+
+
+def stamp(element):
+    """Author and minute of a member, each as a field of a line."""
+    minute = (element.attribute("date") or "").encode()[:16].decode(errors="ignore")
+    return "%s\t%s" % (escaped(element.attribute("author") or ""), escaped(minute))
+
+
+class Writer:
+    """The lines so far, the last of which may be one of text that goes on."""
+
+    def __init__(self):
+        self.lines, self.marks = [], None
+
+    def line(self, text):
+        self.lines.append(text)
+        self.marks = None
+
+    def text(self, round_it, text):
+        """Units of text, under the stamps of what is round them by kind."""
+        if not text:
+            return
+        marks = fields(round_it)
+        if marks == self.marks:
+            self.lines[-1] += text
+        else:
+            self.lines.append(marks + "|" + text)
+        self.marks = marks
+
+
+def fields(round_it):
+    return "".join("%s\t%s\t" % (kind, round_it[kind]) for kind in MARKS if kind in round_it)
+
+
+def run_change(run):
+    """The change of the properties of a run, where it has one."""
+    for props in reading.kids_named(run.kids, "rPr"):
+        for change in reading.kids_named(props.kids, "rPrChange"):
+            if change.role == "run-props":
+                return change
+    return None
+
+
+def is_change_of_run(element):
+    above = element.ancestors()
+    return element.role == "run-props" and above[0].is_w("rPr") and above[1].is_w("r")
+
+
+def put(writer, nodes, round_it):
+    for node in nodes:
+        if isinstance(node, reading.Element):
+            put_element(writer, node, round_it)
+
+
+def put_element(writer, element, round_it):
+    local = element.local
+    if element.space == "other" and local == "Fallback":
+        return
+    if element.role == "content":
+        round_it = dict(round_it, **{TRACES[element.trace]: stamp(element)})
+    elif element.role not in (None, "marker") and not is_change_of_run(element):
+        writer.line("+%s\t%s" % (reading.kind_name(element), stamp(element)))
+    is_w = element.space == "W" and reading.is_open(element) and not reading.is_quiet(element)
+    if is_w and local == "r" and run_change(element) is not None:
+        round_it = dict(round_it, **{"run-props": stamp(run_change(element))})
+    if is_w:
+        put_begin(writer, element, round_it)
+    put(writer, element.kids, round_it)
+    if is_w and local == "p":
+        writer.line(fields(round_it) + "*paragraph")
+
+
+def put_begin(writer, element, round_it):
+    """What an element shows at its place, before what it holds."""
+    local = element.local
+    if local in ("tr", "tc"):
+        writer.line("%s*%s" % (fields(round_it), {"tr": "row", "tc": "cell"}[local]))
+    elif local in TEXTS:
+        writer.text(round_it, "".join(escaped(texts.shown(kid)) for kid in element.kids if isinstance(kid, str)))
+    elif local in CHARACTERS:
+        writer.text(round_it, escaped(CHARACTERS[local]))
+    elif local in OBJECTS:
+        writer.text(round_it, "\\[%s]" % OBJECTS[local])
+    elif local == "fldChar" and element.attribute("fldCharType") in FIELDS:
+        writer.text(round_it, "\\[field %s]" % element.attribute("fldCharType"))
+
+
+def bare_text(package):
+    """The bare text, as bytes."""
+    writer = Writer()
+    for _, root in package.stories:
+        if root.local in STORIES:
+            writer.line("= " + STORIES[root.local])
+            put(writer, root.kids, {})
+        elif root.local in NOTES:
+            for note in reading.kids_named(root.kids, NOTES[root.local]):
+                if note.attribute("type") is None:
+                    writer.line("= " + NOTES[root.local])
+                    put(writer, note.kids, {})
+    return "".join(line + "\n" for line in writer.lines).encode()
+
+
+if __name__ == "__main__":
+    with open(sys.argv[1], newline="", encoding="utf-8") as file:
+        sys.stdout.buffer.write(bare_text(reading.Package(file.read())))
