@@ -1,0 +1,51 @@
+-- Worked rows of the definitions.
+use Rattle.std.proofs.Common.{◌≡◌, List, [], ◌∷◌, ℕ, refl, codes}
+use Rattle.redl_tree.specs.Model.Nodes.{no_nodes, element}
+use Rattle.redl_tree.specs.Roles.Names.{of_w}
+use Rattle.redl_tree.specs.declared.kinds.Kind.TheVariants.{Content, Marker}
+use Rattle.redl_tree.specs.declared.kinds.Trace.TheVariants as traces
+use Rattle.redl_left.specs.declared.fact.Fact.TheVariants.{Ins, CommentMark}
+use Rattle.redl_left.specs.declared.name.Name.TheVariants as names
+use Rattle.redl_left.specs.declared.row.Place.TheVariants.{Word}
+use Rattle.redl_left.specs.declared.row.When.TheVariants.{Always}
+use Rattle.redl_left.specs.declared.row.Value.TheVariants.{Nothing}
+use Rattle.redl_left.specs.declared.row.Row.{Row}
+use Rattle.redl_left.specs.declared.line.Line.{Line}
+use Rattle.redl_left.specs.Finds.{Find, finds, found}
+use Rattle.redl_left.specs.Lines.{noted}
+
+part : List ℕ
+part = codes "/a"
+
+find : List ℕ → Find
+find value = record { fact = CommentMark; part = part; value = value }
+
+line : List ℕ → ℕ → Line
+line value count = record { fact = CommentMark; part = part; value = value; count = count }
+
+rows : List Row
+rows = record { fact = CommentMark; place = Word names.CommentReference; when = Always; value = Nothing } ∷ []
+
+-- an element that a row asks for, below one that none does
+asked : finds rows part [] (element (of_w (codes "r")) (element (of_w (codes "commentReference")) no_nodes no_nodes) no_nodes) ≡ find [] ∷ []
+unfolding rows part find
+asked = refl
+
+-- a member of a revision, whatever the rows
+member : found [] part [] (record (of_w (codes "ins")) { kind = Content traces.Ins }) no_nodes ≡ record { fact = Ins; part = part; value = [] } ∷ []
+unfolding part
+member = refl
+
+-- the marker of a paired move is none
+marker : found rows part [] (record (of_w (codes "commentReference")) { kind = Marker }) no_nodes ≡ []
+unfolding rows part
+marker = refl
+
+-- two finds of which the same is told, and two of which other things are told
+twice : noted (noted [] (find (codes "b"))) (find (codes "b")) ≡ line (codes "b") 2 ∷ []
+unfolding part find line
+twice = refl
+
+apart : noted (noted [] (find (codes "b"))) (find (codes "c")) ≡ line (codes "b") 1 ∷ line (codes "c") 1 ∷ []
+unfolding part find line
+apart = refl

@@ -1,0 +1,90 @@
+-- The facts that are told, each with its name and its place in the order of the lines, from 0 (our own rule).
+use Rattle.std.specs.Prelude.{ℕ, List, codes}
+use Rattle.redl_left.specs.declared.fact.Fact.{Fact}
+use Rattle.redl_left.specs.declared.fact.Fact.TheVariants.{Ins, Del, MoveFrom, MoveTo, MarkIns, MarkDel, MarkFrom, MarkTo, RowIns, RowDel, CellIns, CellDel, RunProps, ParaProps, SectProps, TableProps, ExceptProps, RowProps, CellProps, Undecided, LooseMarker, Comment, CommentMark, HiddenText, Tracking, Protection, Rsid, Creator, LastEditor, Title, Subject, Manager, Company, Person, CustomProperty, Variable, MailMerge, External, Embedded, Macros, CustomXml}
+
+abbrev pub fact_name : Fact → List ℕ
+fact_name Ins = codes "ins"
+fact_name Del = codes "del"
+fact_name MoveFrom = codes "move-from"
+fact_name MoveTo = codes "move-to"
+fact_name MarkIns = codes "mark-ins"
+fact_name MarkDel = codes "mark-del"
+fact_name MarkFrom = codes "mark-from"
+fact_name MarkTo = codes "mark-to"
+fact_name RowIns = codes "row-ins"
+fact_name RowDel = codes "row-del"
+fact_name CellIns = codes "cell-ins"
+fact_name CellDel = codes "cell-del"
+fact_name RunProps = codes "run-props"
+fact_name ParaProps = codes "para-props"
+fact_name SectProps = codes "sect-props"
+fact_name TableProps = codes "table-props"
+fact_name ExceptProps = codes "except-props"
+fact_name RowProps = codes "row-props"
+fact_name CellProps = codes "cell-props"
+fact_name Undecided = codes "undecided"
+fact_name LooseMarker = codes "loose-marker"
+fact_name Comment = codes "comment"
+fact_name CommentMark = codes "comment-mark"
+fact_name HiddenText = codes "hidden-text"
+fact_name Tracking = codes "tracking"
+fact_name Protection = codes "protection"
+fact_name Rsid = codes "rsid"
+fact_name Creator = codes "creator"
+fact_name LastEditor = codes "last-editor"
+fact_name Title = codes "title"
+fact_name Subject = codes "subject"
+fact_name Manager = codes "manager"
+fact_name Company = codes "company"
+fact_name Person = codes "person"
+fact_name CustomProperty = codes "custom-property"
+fact_name Variable = codes "variable"
+fact_name MailMerge = codes "mail-merge"
+fact_name External = codes "external"
+fact_name Embedded = codes "embedded"
+fact_name Macros = codes "macros"
+fact_name CustomXml = codes "custom-xml"
+
+abbrev pub fact_number : Fact → ℕ
+fact_number Ins = 0
+fact_number Del = 1
+fact_number MoveFrom = 2
+fact_number MoveTo = 3
+fact_number MarkIns = 4
+fact_number MarkDel = 5
+fact_number MarkFrom = 6
+fact_number MarkTo = 7
+fact_number RowIns = 8
+fact_number RowDel = 9
+fact_number CellIns = 10
+fact_number CellDel = 11
+fact_number RunProps = 12
+fact_number ParaProps = 13
+fact_number SectProps = 14
+fact_number TableProps = 15
+fact_number ExceptProps = 16
+fact_number RowProps = 17
+fact_number CellProps = 18
+fact_number Undecided = 19
+fact_number LooseMarker = 20
+fact_number Comment = 21
+fact_number CommentMark = 22
+fact_number HiddenText = 23
+fact_number Tracking = 24
+fact_number Protection = 25
+fact_number Rsid = 26
+fact_number Creator = 27
+fact_number LastEditor = 28
+fact_number Title = 29
+fact_number Subject = 30
+fact_number Manager = 31
+fact_number Company = 32
+fact_number Person = 33
+fact_number CustomProperty = 34
+fact_number Variable = 35
+fact_number MailMerge = 36
+fact_number External = 37
+fact_number Embedded = 38
+fact_number Macros = 39
+fact_number CustomXml = 40

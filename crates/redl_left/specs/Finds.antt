@@ -1,0 +1,185 @@
+-- What elements are found to be: the rows of a table are asked in their order, and an element is a find of the first one that asks
+-- for it. A member of a revision is a find by its kind, whatever the rows (our own rule).
+use Rattle.std.specs.Prelude.{ℕ, List, [], ◌∷◌, ◌++◌, Bool, true, false, not, ◌&&◌, ◌||◌, Option, Some, None, is_some, find, length, ◌==◌, bytes_eq, codes, if◌then◌else◌}
+use Rattle.redl_reading.specs.Lists.{begins}
+use Rattle.redl_shown.specs.Shown.{shown}
+use Rattle.redl_stamp.specs.Attribute.{attribute_value}
+use Rattle.redl_tree.specs.Model.Nodes.{Tag, Nodes, no_nodes, bytes, element}
+use Rattle.redl_tree.specs.Model.Kids.{has_element}
+use Rattle.redl_tree.specs.Roles.Names.{is_w}
+use Rattle.redl_tree.specs.Decisions.Packages.{is_pkg}
+use Rattle.redl_tree.specs.declared.kinds.Space.{Space}
+use Rattle.redl_tree.specs.declared.kinds.Space.TheVariants as spaces
+use Rattle.redl_tree.specs.declared.kinds.Kind.{Kind}
+use Rattle.redl_tree.specs.declared.kinds.Kind.TheVariants as kinds
+use Rattle.redl_tree.specs.declared.kinds.Trace.{Trace}
+use Rattle.redl_tree.specs.declared.kinds.Trace.TheVariants as traces
+use Rattle.redl_tree.specs.declared.kinds.Prop.{Prop}
+use Rattle.redl_tree.specs.declared.kinds.Prop.TheVariants as props
+use Rattle.redl_left.specs.Names.{name_text}
+use Rattle.redl_left.specs.declared.fact.Fact.{Fact}
+use Rattle.redl_left.specs.declared.fact.Fact.TheVariants as fact
+use Rattle.redl_left.specs.declared.row.Place.{Place}
+use Rattle.redl_left.specs.declared.row.Place.TheVariants.{Word, Inside, Part}
+use Rattle.redl_left.specs.declared.row.When.{When}
+use Rattle.redl_left.specs.declared.row.When.TheVariants.{Always, On, Has, Is, Begins}
+use Rattle.redl_left.specs.declared.row.Value.{Value}
+use Rattle.redl_left.specs.declared.row.Value.TheVariants.{Nothing, Attribute, Made, Shown}
+use Rattle.redl_left.specs.declared.row.Row.{Row}
+
+-- a find: the fact, the part that it is in, and what is told of it
+pub record Find : Type 0 where
+  pub fact : Fact
+  pub part : List ℕ
+  pub value : List ℕ
+
+-- ---- which elements a row asks for
+
+-- a namespace that is not known here
+abbrev pub is_other : Space → Bool
+is_other spaces.Other = true
+is_other _ = false
+
+abbrev pub is_part_name : Space → List ℕ → Bool
+is_part_name space local = is_pkg space && bytes_eq local (codes "part")
+
+-- by its namespace and local name, and the local name of its parent
+abbrev pub asks_place : Place → List ℕ → Space → List ℕ → Bool
+asks_place (Word name) parent space local = is_w space && bytes_eq local (name_text name)
+asks_place (Inside outer name) parent space local = is_other space && (bytes_eq parent (name_text outer) && bytes_eq local (name_text name))
+asks_place Part parent space local = is_part_name space local
+
+-- a property is switched off by such a value (ECMA-376 Part 1, 17.17.4)
+abbrev pub is_off : Option (List ℕ) → Bool
+is_off None = false
+is_off (Some value) = bytes_eq value (codes "0") || (bytes_eq value (codes "false") || bytes_eq value (codes "off"))
+
+abbrev pub is_value : List ℕ → Option (List ℕ) → Bool
+is_value wanted None = false
+is_value wanted (Some value) = bytes_eq value wanted
+
+abbrev pub begins_value : List ℕ → Option (List ℕ) → Bool
+begins_value front None = false
+begins_value front (Some value) = begins front value
+
+-- by an attribute
+abbrev pub asks_when : When → List ℕ → Bool
+asks_when Always tail = true
+asks_when On tail = not (is_off (attribute_value tail (codes "val")))
+asks_when (Has name) tail = is_some (attribute_value tail (name_text name))
+asks_when (Is name wanted) tail = is_value (name_text wanted) (attribute_value tail (name_text name))
+asks_when (Begins name front) tail = begins_value (name_text front) (attribute_value tail (name_text name))
+
+abbrev pub asks : List ℕ → Space → List ℕ → List ℕ → Row → Bool
+asks parent space local tail row = asks_place row.place parent space local && asks_when row.when tail
+
+-- the first row that asks for the element
+abbrev pub first_row : List Row → List ℕ → Space → List ℕ → List ℕ → Option Row
+first_row rows parent space local tail = find (asks parent space local tail) rows
+
+-- ---- what is told of an element
+
+-- who made it, after a space
+abbrev pub by_whom : Option (List ℕ) → List ℕ
+by_whom None = []
+by_whom (Some author) = 32 ∷ author
+
+abbrev pub value_or_nothing : Option (List ℕ) → List ℕ
+value_or_nothing None = []
+value_or_nothing (Some value) = value
+
+abbrev pub front_shown : Nodes → List ℕ
+front_shown (bytes b rest) = shown b
+front_shown _ = []
+
+-- what an element shows that holds no other; of an element of W nothing is told here
+abbrev pub shown_alone : Space → Nodes → List ℕ
+shown_alone space kids = if is_w space || has_element kids then [] else front_shown kids
+
+abbrev pub value_of : Value → Space → List ℕ → List ℕ → Nodes → List ℕ
+value_of Nothing space local tail kids = []
+value_of (Attribute name) space local tail kids = value_or_nothing (attribute_value tail (name_text name))
+value_of Made space local tail kids = local ++ by_whom (attribute_value tail (codes "author"))
+value_of Shown space local tail kids = shown_alone space kids
+
+-- ---- the finds
+
+abbrev pub content_fact : Trace → Fact
+content_fact traces.Ins = fact.Ins
+content_fact traces.Del = fact.Del
+content_fact traces.From = fact.MoveFrom
+content_fact traces.To = fact.MoveTo
+
+abbrev pub mark_fact : Trace → Fact
+mark_fact traces.Ins = fact.MarkIns
+mark_fact traces.Del = fact.MarkDel
+mark_fact traces.From = fact.MarkFrom
+mark_fact traces.To = fact.MarkTo
+
+abbrev pub prop_fact : Prop → Fact
+prop_fact props.Run = fact.RunProps
+prop_fact props.Para = fact.ParaProps
+prop_fact props.Sect = fact.SectProps
+prop_fact props.Table = fact.TableProps
+prop_fact props.Except = fact.ExceptProps
+prop_fact props.Row = fact.RowProps
+prop_fact props.Cell = fact.CellProps
+
+-- what a member of a revision is, by its kind; rows and cells are not moved, and a marker of a paired move is told by its move
+abbrev pub member_fact : Kind → Option Fact
+member_fact (kinds.Content trace) = Some (content_fact trace)
+member_fact (kinds.Mark trace) = Some (mark_fact trace)
+member_fact (kinds.Row traces.Ins) = Some fact.RowIns
+member_fact (kinds.Row traces.Del) = Some fact.RowDel
+member_fact (kinds.Row traces.From) = None
+member_fact (kinds.Row traces.To) = None
+member_fact (kinds.Cell traces.Ins) = Some fact.CellIns
+member_fact (kinds.Cell traces.Del) = Some fact.CellDel
+member_fact (kinds.Cell traces.From) = None
+member_fact (kinds.Cell traces.To) = None
+member_fact (kinds.Change prop) = Some (prop_fact prop)
+member_fact kinds.Marker = None
+member_fact kinds.Plain = None
+
+abbrev pub found_member : List ℕ → Option Fact → List Find
+found_member part None = []
+found_member part (Some fact) = record { fact = fact; part = part; value = [] } ∷ []
+
+-- an element that shows nothing is no find of a row that tells what it shows
+abbrev pub is_nothing : Value → List ℕ → Bool
+is_nothing Shown value = length value == 0
+is_nothing _ value = false
+
+abbrev pub found_value : List ℕ → Row → List ℕ → List Find
+found_value part row value = if is_nothing row.value value then [] else record { fact = row.fact; part = part; value = value } ∷ []
+
+abbrev pub found_row : List ℕ → Space → List ℕ → List ℕ → Nodes → Option Row → List Find
+found_row part space local tail kids None = []
+found_row part space local tail kids (Some row) = found_value part row (value_of row.value space local tail kids)
+
+abbrev pub found_plain : List Row → List ℕ → List ℕ → Space → List ℕ → List ℕ → Nodes → List Find
+found_plain rows part parent space local tail kids = found_row part space local tail kids (first_row rows parent space local tail)
+
+-- an element in this part, in a parent with this local name
+abbrev pub found_by : Kind → List Row → List ℕ → List ℕ → Space → List ℕ → List ℕ → Nodes → List Find
+found_by kinds.Plain rows part parent space local tail kids = found_plain rows part parent space local tail kids
+found_by kind rows part parent space local tail kids = found_member part (member_fact kind)
+
+abbrev pub found : List Row → List ℕ → List ℕ → Tag → Nodes → List Find
+found rows part parent tag kids = found_by tag.kind rows part parent tag.space tag.local tag.tail kids
+
+-- the part in which an element and all below it are, by the part round it
+abbrev pub part_of : List ℕ → Tag → List ℕ
+part_of part tag =
+    if is_part_name tag.space tag.local then value_or_nothing (attribute_value tag.tail (codes "name")) else part
+
+-- the finds among nodes, in the order of their start tags
+abbrev pub finds : List Row → List ℕ → List ℕ → Nodes → List Find
+finds rows part parent no_nodes = []
+finds rows part parent (bytes b rest) = finds rows part parent rest
+finds rows part parent (element tag kids rest) =
+    (found rows (part_of part tag) parent tag kids ++ finds rows (part_of part tag) tag.local kids) ++ finds rows part parent rest
+
+-- an element and all below it, and a node
+abbrev pub element_finds : List Row → List ℕ → List ℕ → Tag → Nodes → List Find
+element_finds rows part parent tag kids = found rows part parent tag kids ++ finds rows part tag.local kids

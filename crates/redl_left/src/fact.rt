@@ -1,0 +1,111 @@
+//! The facts that are told, in the order of their lines.
+
+ghost use Rattle.std.specs.Prelude.{◌≡◌};
+ghost use Rattle.redl_left.specs.Facts.{fact_name, fact_number};
+
+/// What a document holds.
+#[derive(Clone, Copy, Debug, PartialEq, Eq)]
+pub enum Fact {
+    Ins = 0,
+    Del = 1,
+    MoveFrom = 2,
+    MoveTo = 3,
+    MarkIns = 4,
+    MarkDel = 5,
+    MarkFrom = 6,
+    MarkTo = 7,
+    RowIns = 8,
+    RowDel = 9,
+    CellIns = 10,
+    CellDel = 11,
+    RunProps = 12,
+    ParaProps = 13,
+    SectProps = 14,
+    TableProps = 15,
+    ExceptProps = 16,
+    RowProps = 17,
+    CellProps = 18,
+    Undecided = 19,
+    LooseMarker = 20,
+    Comment = 21,
+    CommentMark = 22,
+    HiddenText = 23,
+    Tracking = 24,
+    Protection = 25,
+    Rsid = 26,
+    Creator = 27,
+    LastEditor = 28,
+    Title = 29,
+    Subject = 30,
+    Manager = 31,
+    Company = 32,
+    Person = 33,
+    CustomProperty = 34,
+    Variable = 35,
+    MailMerge = 36,
+    External = 37,
+    Embedded = 38,
+    Macros = 39,
+    CustomXml = 40,
+}
+
+/// How many facts there are.
+pub const FACTS: usize = 41;
+
+impl Fact {
+    // Its place in the order of the lines, from 0.
+    pub(crate) fn number(self) -> usize
+        ensures { result ≡ fact_number self }
+    {
+        self as usize
+    }
+
+    /// Its name in the lines.
+    pub fn name(self) -> &'static str
+        ensures { result.now ≡ fact_name self }
+    {
+        match self {
+            Fact::Ins => "ins",
+            Fact::Del => "del",
+            Fact::MoveFrom => "move-from",
+            Fact::MoveTo => "move-to",
+            Fact::MarkIns => "mark-ins",
+            Fact::MarkDel => "mark-del",
+            Fact::MarkFrom => "mark-from",
+            Fact::MarkTo => "mark-to",
+            Fact::RowIns => "row-ins",
+            Fact::RowDel => "row-del",
+            Fact::CellIns => "cell-ins",
+            Fact::CellDel => "cell-del",
+            Fact::RunProps => "run-props",
+            Fact::ParaProps => "para-props",
+            Fact::SectProps => "sect-props",
+            Fact::TableProps => "table-props",
+            Fact::ExceptProps => "except-props",
+            Fact::RowProps => "row-props",
+            Fact::CellProps => "cell-props",
+            Fact::Undecided => "undecided",
+            Fact::LooseMarker => "loose-marker",
+            Fact::Comment => "comment",
+            Fact::CommentMark => "comment-mark",
+            Fact::HiddenText => "hidden-text",
+            Fact::Tracking => "tracking",
+            Fact::Protection => "protection",
+            Fact::Rsid => "rsid",
+            Fact::Creator => "creator",
+            Fact::LastEditor => "last-editor",
+            Fact::Title => "title",
+            Fact::Subject => "subject",
+            Fact::Manager => "manager",
+            Fact::Company => "company",
+            Fact::Person => "person",
+            Fact::CustomProperty => "custom-property",
+            Fact::Variable => "variable",
+            Fact::MailMerge => "mail-merge",
+            Fact::External => "external",
+            Fact::Embedded => "embedded",
+            Fact::Macros => "macros",
+            Fact::CustomXml => "custom-xml",
+        }
+    }
+}

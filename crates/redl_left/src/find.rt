@@ -1,0 +1,186 @@
+//! What an element is found to be.
+
+ghost use Rattle.std.specs.Prelude.{◌≡◌, IfOk};
+ghost use Rattle.std.specs.Option.{option_copied};
+ghost use Rattle.redl_stamp.specs.Attribute.{attribute_value};
+ghost use Rattle.redl_left.specs.Names.{name_text};
+ghost use Rattle.redl_left.specs.Finds.{asks, asks_place, asks_when, begins_value, first_row, is_off, is_part_name, is_value, member_fact, content_fact, mark_fact, prop_fact};
+
+use crate::fact::Fact;
+use crate::name::Name;
+use crate::row::{Place, Row, When};
+use redl_io::Text;
+use redl_reading::skip;
+use redl_stamp::{attribute, has_attribute};
+use redl_tree::{Kind, Prop, Space, Trace};
+use std::alloc::{AllocError, Global};
+
+// What an element is, as far as rows ask: its namespace, its local name and its tail, and the local name of its parent.
+#[derive(Clone, Copy)]
+pub(crate) struct Asked<'a> {
+    pub(crate) parent: &'a [u8],
+    pub(crate) space: Space,
+    pub(crate) local: &'a [u8],
+    pub(crate) tail: &'a [u8],
+}
+
+/// Whether an element with this name is a part of the package.
+pub(crate) fn is_part_name(space: Space, local: &[u8]) -> bool
+    ensures { result ≡ is_part_name space local.now }
+{
+    match space {
+        Space::Pkg => local == b"part".as_slice(),
+        _ => false,
+    }
+}
+
+fn asks_place(place: &Place, asked: &Asked<'_>) -> bool
+    ensures { result ≡ asks_place place.now asked.now.parent.now asked.now.space asked.now.local.now }
+{
+    match place {
+        Place::Word(name) => match asked.space {
+            Space::W => asked.local == name.text(),
+            _ => false,
+        },
+        Place::Inside(outer, name) => match asked.space {
+            Space::Other => asked.parent == outer.text() && asked.local == name.text(),
+            _ => false,
+        },
+        Place::Part => is_part_name(asked.space, asked.local),
+    }
+}
+
+fn is_off(value: &[u8]) -> bool
+    ensures { result ≡ is_off (Some value.now) }
+{
+    value == b"0".as_slice() || value == b"false".as_slice() || value == b"off".as_slice()
+}
+
+// Whether bytes begin so.
+fn begins(value: &[u8], front: &[u8]) -> bool
+    ensures { result ≡ begins_value front.now (Some value.now) }
+{
+    match skip(value, front) {
+        Some(_) => true,
+        None => false,
+    }
+}
+
+// Whether a tag with this tail switches its property on. `Err` means out of memory.
+fn is_on(alloc: Global, tail: &[u8]) -> Result<bool, AllocError>
+    ensures { IfOk result (λ on. on ≡ asks_when When.On tail.now) }
+{
+    match attribute(alloc, tail, b"val")? {
+        Some(value) => Ok(!is_off(value.as_bytes())),
+        None => Ok(true),
+    }
+}
+
+fn has_value(alloc: Global, tail: &[u8], name: Name, wanted: Name) -> Result<bool, AllocError>
+    ensures { IfOk result (λ has. has ≡ is_value (name_text wanted) (attribute_value tail.now (name_text name))) }
+{
+    match attribute(alloc, tail, name.text())? {
+        Some(value) => Ok(value.as_bytes() == wanted.text()),
+        None => Ok(false),
+    }
+}
+
+fn has_front(alloc: Global, tail: &[u8], name: Name, front: Name) -> Result<bool, AllocError>
+    ensures { IfOk result (λ has. has ≡ begins_value (name_text front) (attribute_value tail.now (name_text name))) }
+{
+    match attribute(alloc, tail, name.text())? {
+        Some(value) => Ok(begins(value.as_bytes(), front.text())),
+        None => Ok(false),
+    }
+}
+
+// Whether a row asks for elements whose tag has this tail. `Err` means out of memory.
+fn asks_when(alloc: Global, when: &When, tail: &[u8]) -> Result<bool, AllocError>
+    ensures { IfOk result (λ asks. asks ≡ asks_when when.now tail.now) }
+{
+    match when {
+        When::Always => Ok(true),
+        When::On => is_on(alloc, tail),
+        When::Has(name) => Ok(has_attribute(tail, name.text())),
+        When::Is(name, wanted) => has_value(alloc, tail, *name, *wanted),
+        When::Begins(name, front) => has_front(alloc, tail, *name, *front),
+    }
+}
+
+// Whether a row asks for an element. `Err` means out of memory.
+fn asks(alloc: Global, row: &Row, asked: &Asked<'_>) -> Result<bool, AllocError>
+    ensures { IfOk result (λ so. so ≡ asks asked.now.parent.now asked.now.space asked.now.local.now asked.now.tail.now row.now) }
+{
+    if !asks_place(&row.place, asked) {
+        return Ok(false);
+    }
+    asks_when(alloc, &row.when, asked.tail)
+}
+
+/// The first row that asks for an element. `Err` means out of memory.
+pub(crate) fn first_row<'r>(
+    alloc: Global,
+    rows: &'r [Row],
+    asked: &Asked<'_>,
+) -> Result<Option<&'r Row>, AllocError>
+    ensures { IfOk result (λ found. option_copied found ≡ first_row rows.now asked.now.parent.now asked.now.space asked.now.local.now asked.now.tail.now) }
+{
+    for row in rows {
+        if asks(alloc, row, asked)? {
+            return Ok(Some(row));
+        }
+    }
+    Ok(None)
+}
+
+fn content_fact(trace: Trace) -> Fact
+    ensures { result ≡ content_fact trace }
+{
+    match trace {
+        Trace::Ins => Fact::Ins,
+        Trace::Del => Fact::Del,
+        Trace::From => Fact::MoveFrom,
+        Trace::To => Fact::MoveTo,
+    }
+}
+
+fn mark_fact(trace: Trace) -> Fact
+    ensures { result ≡ mark_fact trace }
+{
+    match trace {
+        Trace::Ins => Fact::MarkIns,
+        Trace::Del => Fact::MarkDel,
+        Trace::From => Fact::MarkFrom,
+        Trace::To => Fact::MarkTo,
+    }
+}
+
+fn prop_fact(prop: Prop) -> Fact
+    ensures { result ≡ prop_fact prop }
+{
+    match prop {
+        Prop::Run => Fact::RunProps,
+        Prop::Para => Fact::ParaProps,
+        Prop::Sect => Fact::SectProps,
+        Prop::Table => Fact::TableProps,
+        Prop::Except => Fact::ExceptProps,
+        Prop::Row => Fact::RowProps,
+        Prop::Cell => Fact::CellProps,
+    }
+}
+
+/// What a member of a revision is, by its kind. `None` for all other elements, and for the markers of a move.
+pub(crate) fn member_fact(kind: Kind) -> Option<Fact>
+    ensures { result ≡ member_fact kind }
+{
+    match kind {
+        Kind::Content(trace) => Some(content_fact(trace)),
+        Kind::Mark(trace) => Some(mark_fact(trace)),
+        Kind::Row(Trace::Ins) => Some(Fact::RowIns),
+        Kind::Row(Trace::Del) => Some(Fact::RowDel),
+        Kind::Cell(Trace::Ins) => Some(Fact::CellIns),
+        Kind::Cell(Trace::Del) => Some(Fact::CellDel),
+        Kind::Change(prop) => Some(prop_fact(prop)),
+        Kind::Row(_) | Kind::Cell(_) | Kind::Marker | Kind::Plain => None,
+    }
+}

@@ -1,0 +1,26 @@
+//! What a document still holds that a reader doesn't see: the nodes of a package go in, lines come out.
+//!
+//! Read `lines` first. It goes once over all nodes, and asks for each element which row of a table (`ROWS`) it is a find of: a row
+//! is a fact, a test of an element, and what is told of it. `lines` promises the finds of each fact in their order, where
+//! neighbours in one part with one value are one line. Which revisions a package has, how their members are marked, and the texts
+//! of the lines are left to other crates.
+#![tactic(auto)]
+
+mod fact;
+mod find;
+mod left;
+mod line;
+mod name;
+mod notes;
+mod row;
+mod rows;
+mod seen;
+mod told;
+mod walk;
+
+pub use fact::Fact;
+pub use left::lines;
+pub use line::Line;
+pub use name::Name;
+pub use row::{Place, Row, Value, When};
+pub use rows::ROWS;

@@ -1,0 +1,56 @@
+//! A row of the table: a fact, and a test of an element.
+
+use crate::fact::Fact;
+use crate::name::Name;
+
+/// Which elements a row asks for, by their names.
+#[derive(Clone, Copy, Debug, PartialEq, Eq)]
+pub enum Place {
+    /// Those of WordprocessingML with this local name that are in no revision.
+    Word(Name),
+    /// Those of no namespace that is known here, with this local name, in an element with that one.
+    Inside(Name, Name),
+    /// The parts of the package.
+    Part,
+}
+
+/// Which of these a row asks for, by an attribute.
+#[derive(Clone, Copy, Debug, PartialEq, Eq)]
+pub enum When {
+    /// Each.
+    Always,
+    /// Those that are switched on.
+    On,
+    /// Those that have this attribute.
+    Has(Name),
+    /// Those of which this attribute has this value.
+    Is(Name, Name),
+    /// Those of which this attribute begins so.
+    Begins(Name, Name),
+}
+
+/// What is told of an element.
+#[derive(Clone, Copy, Debug, PartialEq, Eq)]
+pub enum Value {
+    /// Nothing.
+    Nothing,
+    /// This attribute.
+    Attribute(Name),
+    /// Its local name, and who made it.
+    Made,
+    /// What it shows, unless it is of WordprocessingML.
+    Shown,
+}
+
+/// A fact, and which elements are its finds.
+#[derive(Clone, Copy, Debug, PartialEq, Eq)]
+pub struct Row {
+    /// The fact.
+    pub fact: Fact,
+    /// Which elements, by their names.
+    pub place: Place,
+    /// Which of these, by an attribute.
+    pub when: When,
+    /// What is told of them.
+    pub value: Value,
+}

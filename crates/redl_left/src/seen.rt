@@ -1,0 +1,52 @@
+//! The lines so far.
+
+ghost use Rattle.std.specs.Prelude.{◌≡◌, IfOk, OnOk};
+ghost use Rattle.redl_left.specs.Lines.{all_lines, no_lines, noted_in};
+ghost use Rattle.redl_left.specs.Seen.{tables_of};
+
+use crate::fact::{FACTS, Fact};
+use crate::line::Line;
+use crate::notes::note;
+use std::alloc::{AllocError, Global};
+
+/// The lines of each fact, in the order of the facts.
+#[derive(Drop)]
+pub(crate) struct Seen {
+    pub(crate) alloc: Global,
+    pub(crate) tables: Vec<Vec<Line>>,
+}
+
+impl Seen {
+    /// Of no find. `Err` means out of memory.
+    pub(crate) fn none(alloc: Global) -> Result<Seen, AllocError>
+        ensures { IfOk result (λ seen. tables_of seen ≡ no_lines) }
+    {
+        let mut tables = Vec::with_capacity(alloc, FACTS)?;
+        while tables.len() < FACTS {
+            tables.push(Vec::new(alloc))?;
+        }
+        Ok(Seen { alloc, tables })
+    }
+
+    /// Notes a find. `Err` means out of memory.
+    pub(crate) fn note(&mut self, fact: Fact, part: &[u8], value: &[u8]) -> Result<(), AllocError>
+        ensures { OnOk result (tables_of self.new ≡ noted_in (tables_of self.old) (record { fact = fact; part = part.now; value = value.now })) }
+    {
+        let alloc = self.alloc;
+        match self.tables.get_mut(fact.number()) {
+            Some(lines) => note(alloc, lines, fact, part, value),
+            None => Ok(()),
+        }
+    }
+
+    /// All lines. `Err` means out of memory.
+    pub(crate) fn into_lines(self) -> Result<Vec<Line>, AllocError>
+        ensures { IfOk result (λ lines. lines.items ≡ all_lines (tables_of self)) }
+    {
+        let mut all = Vec::new(self.alloc);
+        for mut lines in self.tables {
+            all.append(&mut lines)?;
+        }
+        Ok(all)
+    }
+}

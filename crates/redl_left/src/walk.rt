@@ -1,0 +1,199 @@
+//! The walk over all nodes of a package.
+
+ghost use Rattle.std.specs.Prelude.{◌≡◌, [], List, ℕ, OnOk};
+ghost use Rattle.redl_tree.specs.Model.Nodes.{no_nodes, in_front};
+ghost use Rattle.redl_tree.specs.Model.IdleTexts.{idle_nodes};
+ghost use Rattle.redl_tree.specs.Model.View.{nodes_of, item_of, tag_of, kids_of};
+ghost use Rattle.redl_left.specs.Finds.{finds, found, found_plain, found_value, is_nothing, element_finds, part_of};
+ghost use Rattle.redl_left.specs.Lines.{noted_all};
+ghost use Rattle.redl_left.specs.Seen.{tables_of};
+
+use crate::find::{Asked, first_row, is_part_name, member_fact};
+use crate::row::{Row, Value};
+use crate::seen::Seen;
+use crate::told::{attribute_or_nothing, value_of};
+use redl_idle::{Shows, show};
+use redl_tree::{Elem, Kind, Node, Plain, Space};
+use std::alloc::AllocError;
+
+/// The rows that are asked, and the name of the part in which nodes are.
+#[derive(Clone, Copy)]
+pub(crate) struct Below<'a> {
+    pub(crate) rows: &'a [Row],
+    pub(crate) part: &'a [u8],
+}
+
+// Notes a find of a row, of which this is told. `Err` means out of memory.
+fn note_value(part: &[u8], row: &Row, value: &[u8], seen: &mut Seen) -> Result<(), AllocError>
+    ensures { OnOk result (tables_of seen.new ≡ noted_all (tables_of seen.old) (found_value part.now row.now value.now)) }
+{
+    if is_nothing(&row.value, value) {
+        return Ok(());
+    }
+    seen.note(row.fact, part, value)
+}
+
+fn is_nothing(value: &Value, told: &[u8]) -> bool
+    ensures { result ≡ is_nothing value.now told.now }
+{
+    match value {
+        Value::Shown => told.is_empty(),
+        Value::Nothing | Value::Attribute(_) | Value::Made => false,
+    }
+}
+
+// Notes what an element is, which is in no revision. `Err` means out of memory.
+fn note_plain(
+    below: Below<'_>,
+    asked: &Asked<'_>,
+    kids: &[Node],
+    seen: &mut Seen,
+) -> Result<(), AllocError>
+    ensures { OnOk result (tables_of seen.new
+        ≡ noted_all (tables_of seen.old) (found_plain below.entry.rows.now below.entry.part.now asked.now.parent.now asked.now.space asked.now.local.now asked.now.tail.now (nodes_of kids.now))) }
+{
+    let alloc = seen.alloc;
+    match first_row(alloc, below.rows, asked)? {
+        Some(row) => {
+            let value = value_of(alloc, &row.value, asked, kids)?;
+            note_value(below.part, row, value.as_bytes(), seen)
+        }
+        None => Ok(()),
+    }
+}
+
+// Notes what an element is, in a parent with this local name. `Err` means out of memory.
+fn note_elem(
+    below: Below<'_>,
+    parent: &[u8],
+    elem: &Elem,
+    seen: &mut Seen,
+) -> Result<(), AllocError>
+    ensures { OnOk result (tables_of seen.new
+        ≡ noted_all (tables_of seen.old) (found below.entry.rows.now below.entry.part.now parent.now (tag_of elem.now) (kids_of elem.now))) }
+{
+    if elem.kind() == Kind::Plain {
+        let asked = Asked {
+            parent,
+            space: elem.space(),
+            local: elem.local(),
+            tail: elem.tail(),
+        };
+        return note_plain(below, &asked, elem.kids(), seen);
+    }
+    match member_fact(elem.kind()) {
+        Some(fact) => seen.note(fact, below.part, b""),
+        None => Ok(()),
+    }
+}
+
+impl Shows<Seen> for Below<'_> {
+    ghost use Rattle.redl_left.specs.Encoded.{idle_rule};
+    ghost use Rattle.redl_left.specs.Seen.{by_notes};
+
+    type Error = AllocError;
+
+    ghost rule = { idle_rule };
+
+    ghost taking = { by_notes };
+
+    fn put_bytes(&self, _bytes: &[u8], _seen: &mut Seen) -> Result<(), AllocError> {
+        Ok(())
+    }
+
+    fn enter(
+        &self,
+        local: &[u8],
+        tail: &[u8],
+        _ahead: &[u8],
+        seen: &mut Seen,
+    ) -> Result<Self, AllocError> {
+        let asked = Asked {
+            parent: b"",
+            space: Space::W,
+            local,
+            tail,
+        };
+        note_plain(*self, &asked, &[], seen)?;
+        Ok(*self)
+    }
+
+    fn leave(&self, _seen: &mut Seen) -> Result<(), AllocError> {
+        Ok(())
+    }
+}
+
+// Notes what idle elements are that are kept as text. `Err` means out of memory.
+fn look_plain(below: Below<'_>, plain: &Plain<'_>, seen: &mut Seen) -> Result<(), AllocError>
+    ensures { (parent : List ℕ) → OnOk result (tables_of seen.new ≡ noted_all (tables_of seen.old) (finds below.entry.rows.now below.entry.part.now parent (idle_nodes plain.now))) }
+{
+    show(plain, &below, seen)
+}
+
+/// Notes what all elements among nodes are, in a parent with this local name. `Err` means out of memory.
+#[cycle(look)]
+pub(crate) fn look_nodes(
+    below: Below<'_>,
+    parent: &[u8],
+    nodes: &[Node],
+    seen: &mut Seen,
+) -> Result<(), AllocError>
+    ensures { OnOk result (tables_of seen.new ≡ noted_all (tables_of seen.old) (finds below.entry.rows.now below.entry.part.now parent.now (nodes_of nodes.now))) }
+{
+    for node in nodes {
+        look_node(below, parent, node, seen)?;
+    }
+    Ok(())
+}
+
+#[cycle(look)]
+fn look_node(
+    below: Below<'_>,
+    parent: &[u8],
+    node: &Node,
+    seen: &mut Seen,
+) -> Result<(), AllocError>
+    ensures { OnOk result (tables_of seen.new ≡ noted_all (tables_of seen.old) (finds below.entry.rows.now below.entry.part.now parent.now (in_front (item_of node.now) no_nodes))) }
+{
+    match node {
+        Node::Elem(elem) => look_elem(below, parent, elem, seen),
+        Node::Plain(plain) => look_plain(below, plain, seen),
+        Node::Bytes(_) => Ok(()),
+    }
+}
+
+#[cycle(look)]
+fn look_elem(
+    below: Below<'_>,
+    parent: &[u8],
+    elem: &Elem,
+    seen: &mut Seen,
+) -> Result<(), AllocError>
+    ensures { OnOk result (tables_of seen.new
+        ≡ noted_all (tables_of seen.old) (element_finds below.entry.rows.now (part_of below.entry.part.now (tag_of elem.now)) parent.now (tag_of elem.now) (kids_of elem.now))) }
+{
+    if is_part_name(elem.space(), elem.local()) {
+        let name = attribute_or_nothing(seen.alloc, elem.tail(), b"name")?;
+        let inside = Below {
+            rows: below.rows,
+            part: name.as_bytes(),
+        };
+        return look_inside(inside, parent, elem, seen);
+    }
+    look_inside(below, parent, elem, seen)
+}
+
+// The same of an element in this part.
+#[cycle(look)]
+fn look_inside(
+    below: Below<'_>,
+    parent: &[u8],
+    elem: &Elem,
+    seen: &mut Seen,
+) -> Result<(), AllocError>
+    ensures { OnOk result (tables_of seen.new
+        ≡ noted_all (tables_of seen.old) (element_finds below.entry.rows.now below.entry.part.now parent.now (tag_of elem.now) (kids_of elem.now))) }
+{
+    note_elem(below, parent, elem, seen)?;
+    look_nodes(below, elem.local(), elem.kids(), seen)
+}
