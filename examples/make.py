@@ -11,6 +11,7 @@ import sys
 
 import bare
 import contract
+import left
 import page
 import reading
 import report
@@ -161,6 +162,7 @@ def make_plain(folder):
 def make_letter(folder):
     whole = LETTER_FRONT + "".join("\n<w:p w:rsidR='00A77B3E'>%s</w:p >" % paragraph for paragraph in LETTER) + LETTER_BACK
     folder.save("letter.xml", whole)
+    folder.save("letter.left.text", left.written(reading.Package(whole), "text"))
     folder.save("letter.accepted.xml", reading.decided(reading.Package(whole), lambda number: "accept"))
 
 
@@ -185,6 +187,8 @@ def make_contract(folder):
     for form in report.FORMS:
         folder.save("contract.report." + form, report.report(read, entries, form))
         folder.save("contract.kinds." + form, report.report(read, entries, form, by_kind=True))
+    for form in ["text", "json"]:
+        folder.save("contract.left." + form, left.written(read, form))
     for view in VIEWS:
         folder.save("contract.%s.txt" % view, texts.text(read, view))
     folder.save("contract.bare.txt", bare.bare_text(read).decode())

@@ -6,6 +6,7 @@ class Help:
     """The text of --help, read as a table: commands with their words and their lines, options with their values."""
 
     def __init__(self, text):
+        self.text = text
         self.blocks = [block.split("\n") for block in text.rstrip("\n").split("\n\n")]
         self.about = " ".join(self.blocks[0])
         self.commands = self.read_commands()
@@ -74,6 +75,10 @@ class Help:
             listed = re.search(r"(?<![\w-])%s ((?:[a-z-]+, )*[a-z-]+,? or [a-z-]+)(?![\w:])" % option, clause)
             if listed:
                 return re.split(r",? or |, ", listed.group(1))
+            called = re.search(r"(?<![\w-])%s ([A-Z]+)\b" % option, clause)
+            told = re.search(r"^%s is ((?:[a-z-]+, )*[a-z-]+,? or [a-z-]+)" % called.group(1), self.text, re.M) if called else None
+            if told:
+                return re.split(r",? or |, ", told.group(1))
         return None
 
     def selections(self):

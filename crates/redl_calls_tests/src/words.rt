@@ -229,12 +229,15 @@ fn line_told(alloc: Global, line: &str) -> Result<String, AllocError> {
 }
 
 // Lines, and what they ask for.
-const COMMANDS: [(&str, &str); 36] = [
+const COMMANDS: [(&str, &str); 41] = [
     ("settle|accept|P", "settle true P"),
     ("settle|reject|P", "settle false P"),
     ("text|P", "text P Final"),
     ("text|P|--view|marked", "text P Marked"),
     ("text|P|--view|bare", "text P Bare"),
+    ("left|P", "text P Left"),
+    ("left|P|--format|text", "text P Left"),
+    ("left|P|--format|json", "text P LeftJson"),
     ("list|P", "list P as text locks  journals "),
     (
         "list|P|J|--lock|A|--format|tab|K|--lock|A|J",
@@ -343,8 +346,14 @@ fn lines_of_each_command(rt: HostRuntime) -> Result<(), Fail> {
 }
 
 // Lines that are those of no command.
-const NO_COMMANDS: [&str; 98] = [
+const NO_COMMANDS: [&str; 115] = [
     "text",
+    "left",
+    "left|P|--format",
+    "left|P|--format|tab",
+    "left|P|--view|final",
+    "left|P|P",
+    "text|P|--format|text",
     "text|--view|final",
     "text|P|--view",
     "text|P|--view|now",

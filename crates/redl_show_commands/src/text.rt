@@ -1,4 +1,4 @@
-//! `text P`.
+//! `text P` and `left P`.
 //!
 //! A text isn't made before it is put: it goes out while the package is walked over.
 
@@ -10,13 +10,17 @@ ghost use Rattle.redl_show_commands.specs.Views.{shown_text, shown_view};
 ghost use Rattle.redl_inputs.specs.Reading.{Reads};
 ghost use Rattle.redl_inputs.specs.Views.{result_view};
 ghost use Rattle.redl_io.specs.Sink.{CountsPut, GrowsByFront, Puts};
+ghost use Rattle.redl_left.specs.Lines.{left_lines};
+ghost use Rattle.redl_left_texts.specs.Texts.{left_json, left_text};
 ghost use Rattle.redl_lines.specs.Ends.{end_view};
 ghost use Rattle.redl_views.specs.Walks.{walk_text};
 
 use redl_bare::put_bare;
 use redl_index::{Counted, Surveyed};
 use redl_inputs::read_package;
-use redl_io::{Failed, Sink, Staged};
+use redl_io::{Failed, Sink, Staged, put_piece};
+use redl_left::lines;
+use redl_left_texts::{json_of, text_of};
 use redl_lines::{End, Failure, Remarks};
 use redl_marked::put_marked;
 use redl_opc::Package;
@@ -38,6 +42,8 @@ pub enum Shown<'b> {
     Marked(Package<'b>),
     /// Its bare text.
     Bare(Package<'b>),
+    /// This text, made of it.
+    Made(Vec<u8>),
 }
 
 /// Puts the text of the package with this text, in a view, and gives how the call ends.
@@ -68,6 +74,8 @@ fn show_package(alloc: Global, view: View, pkg: Surveyed) -> Result<Shown, Alloc
         View::Final => show_plain(alloc, counted, Say::Accept),
         View::Marked => Ok(Shown::Marked(counted.pkg)),
         View::Bare => Ok(Shown::Bare(counted.pkg)),
+        View::Left => show_left(alloc, counted),
+        View::LeftJson => show_left_json(alloc, counted),
     }
 }
 
@@ -80,6 +88,22 @@ fn show_plain(alloc: Global, counted: Counted, say: Say) -> Result<Shown, AllocE
         pkg: counted.pkg,
         says,
     })
+}
+
+// What is left in the package that a reader doesn't see.
+fn show_left(alloc: Global, counted: Counted) -> Result<Shown, AllocError>
+    ensures { IfOk result (λ shown. shown_text shown ≡ left_text (left_lines counted.entry.pkg)) }
+{
+    let lines = lines(alloc, counted.pkg.nodes())?;
+    Ok(Shown::Made(text_of(alloc, &lines)?))
+}
+
+// The same in JSON.
+fn show_left_json(alloc: Global, counted: Counted) -> Result<Shown, AllocError>
+    ensures { IfOk result (λ shown. shown_text shown ≡ left_json (left_lines counted.entry.pkg)) }
+{
+    let lines = lines(alloc, counted.pkg.nodes())?;
+    Ok(Shown::Made(json_of(alloc, &lines)?))
 }
 
 // Puts what is shown of a package, and gives how the call ends.
@@ -110,5 +134,6 @@ fn put_pieces<K: Sink>(shown: &Shown, out: &mut K) -> Result<(), Failed>
         Shown::Plain { pkg, says } => redl_views::view(pkg, says, out),
         Shown::Marked(pkg) => put_marked(pkg, out),
         Shown::Bare(pkg) => put_bare(pkg, out),
+        Shown::Made(text) => put_piece(text, out),
     }
 }

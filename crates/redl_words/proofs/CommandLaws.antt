@@ -24,15 +24,15 @@ use Rattle.redl_words.specs.declared.verb.Verb.{Verb}
 use Rattle.redl_words.specs.declared.verb.Verb.TheVariants as verbs
 use Rattle.redl_words.specs.declared.command.Command as code
 use Rattle.redl_words.specs.declared.command.View.{View}
-use Rattle.redl_words.specs.declared.command.View.TheVariants.{Original, Final, Marked, Bare}
-use Rattle.redl_words.specs.Commands.{Command, settle, view_text, list, report, page, write, decide, join, check, sample, say_word, view_name, IsSettle, IsText, AsksFor, IsPage, IsWrite, IsDecide, IsJoin, IsCheck, IsSample, IsCommand, HasNoCommand, HasUtf8, LockHasUtf8, resume, IsResume}
+use Rattle.redl_words.specs.declared.command.View.TheVariants.{Original, Final, Marked, Bare, Left, LeftJson}
+use Rattle.redl_words.specs.Commands.{Command, settle, view_text, list, report, page, write, decide, join, check, sample, say_word, view_name, view_word, view_option, first_view, IsSettle, IsText, AsksFor, IsPage, IsWrite, IsDecide, IsJoin, IsCheck, IsSample, IsCommand, HasNoCommand, HasUtf8, LockHasUtf8, resume, IsResume}
 use Rattle.redl_words.specs.Items.{Item, format, lock, journal, named_journal, choice, rank, by_kind, item_words, Admits, of_list, of_report, of_page, of_write, of_decide, Form as Kind, is_name, formats_of, locks_of, journals_of, ranks_of, bys_of, if_so, only, onlys_of, title, titles_of}
 use Rattle.redl_words.specs.Shown.{Only}
 use Rattle.redl_words.specs.Selections.{MeansLock}
 use Rattle.redl_words.specs.Views.{command_of}
 use Rattle.redl_words.specs.Reading.Answers.{Finds}
 use Rattle.redl_words.specs.Reading.Items.{Gathered, nothing, gathered}
-use Rattle.redl_words.specs.Reading.Commands.{verb_in, say_in, settle_in, view_in, text_with, text_in, format_or_text, rank_or_0, Asked, asked_of, asked_in, as_list, as_report, list_in, report_in, page_in, write_in, decide_with, decide_in, resume_in, names_in, join_in, check_in, sample_in, command_with, command_in}
+use Rattle.redl_words.specs.Reading.Commands.{verb_in, say_in, settle_in, view_in, text_with, text_in, form_in, left_in, format_or_text, rank_or_0, Asked, asked_of, asked_in, as_list, as_report, list_in, report_in, page_in, write_in, decide_with, decide_in, resume_in, names_in, join_in, check_in, sample_in, command_with, command_in}
 use Rattle.redl_words.proofs.SelectionLaws.{bytes_same, pick}
 use Rattle.redl_words.proofs.LockLaws.{lock_utf8}
 use Rattle.redl_words.proofs.ItemLaws.{form_of, items_take, read_again}
@@ -50,6 +50,7 @@ needs false x y e = absurd cc
 verb_text : Verb → List ℕ
 verb_text verbs.Settle = codes "settle"
 verb_text verbs.Text = codes "text"
+verb_text verbs.Left = codes "left"
 verb_text verbs.List = codes "list"
 verb_text verbs.Report = codes "report"
 verb_text verbs.Page = codes "page"
@@ -65,6 +66,7 @@ unfolding verb_in verb_text
 verb_takes word v e =
     pick P (bytes_eq word (codes "settle")) verbs.Settle _ v e (λ hit. bytes_same word (codes "settle") hit) (λ e.
     pick P (bytes_eq word (codes "text")) verbs.Text _ v e (λ hit. bytes_same word (codes "text") hit) (λ e.
+    pick P (bytes_eq word (codes "left")) verbs.Left _ v e (λ hit. bytes_same word (codes "left") hit) (λ e.
     pick P (bytes_eq word (codes "list")) verbs.List _ v e (λ hit. bytes_same word (codes "list") hit) (λ e.
     pick P (bytes_eq word (codes "report")) verbs.Report _ v e (λ hit. bytes_same word (codes "report") hit) (λ e.
     pick P (bytes_eq word (codes "page")) verbs.Page _ v e (λ hit. bytes_same word (codes "page") hit) (λ e.
@@ -73,7 +75,7 @@ verb_takes word v e =
     pick P (bytes_eq word (codes "resume")) verbs.Resume _ v e (λ hit. bytes_same word (codes "resume") hit) (λ e.
     pick P (bytes_eq word (codes "join")) verbs.Join _ v e (λ hit. bytes_same word (codes "join") hit) (λ e.
     pick P (bytes_eq word (codes "check")) verbs.Check _ v e (λ hit. bytes_same word (codes "check") hit) (λ e.
-    pick P (bytes_eq word (codes "sample")) verbs.Sample _ v e (λ hit. bytes_same word (codes "sample") hit) (λ e. absurd cc))))))))))) where
+    pick P (bytes_eq word (codes "sample")) verbs.Sample _ v e (λ hit. bytes_same word (codes "sample") hit) (λ e. absurd cc)))))))))))) where
       P : Verb → Type 0
       P v = word ≡ verb_text v
 
@@ -81,6 +83,7 @@ verb_again : (v : Verb) → verb_in (verb_text v) ≡ Some v
 unfolding verb_in verb_text
 verb_again verbs.Settle = refl
 verb_again verbs.Text = refl
+verb_again verbs.Left = refl
 verb_again verbs.List = refl
 verb_again verbs.Report = refl
 verb_again verbs.Page = refl
@@ -119,27 +122,38 @@ settle_again false p h = rw h refl
 
 -- ---- text
 
-view_takes : (name : List ℕ) (view : View) → view_in name ≡ Some view → name ≡ view_name view
+-- a view that `text` or `left` writes, by its name
+abbrev OfWord : List ℕ → List ℕ → List ℕ → View → Type 0
+OfWord word option name view = (name ≡ view_name view) × (view_word view ≡ word) × (view_option view ≡ option)
+
+view_takes : (name : List ℕ) (view : View) → view_in name ≡ Some view → OfWord (codes "text") (codes "--view") name view
 unfolding view_in
 view_takes name view e =
-    pick P (bytes_eq name (view_name Original)) Original _ view e (λ hit. bytes_same name (view_name Original) hit) (λ e.
-    pick P (bytes_eq name (view_name Final)) Final _ view e (λ hit. bytes_same name (view_name Final) hit) (λ e.
-    pick P (bytes_eq name (view_name Marked)) Marked _ view e (λ hit. bytes_same name (view_name Marked) hit) (λ e.
-    pick P (bytes_eq name (view_name Bare)) Bare _ view e (λ hit. bytes_same name (view_name Bare) hit) (λ e. absurd cc)))) where
+    pick P (bytes_eq name (view_name Original)) Original _ view e (λ hit. (bytes_same name (view_name Original) hit, refl, refl)) (λ e.
+    pick P (bytes_eq name (view_name Final)) Final _ view e (λ hit. (bytes_same name (view_name Final) hit, refl, refl)) (λ e.
+    pick P (bytes_eq name (view_name Marked)) Marked _ view e (λ hit. (bytes_same name (view_name Marked) hit, refl, refl)) (λ e.
+    pick P (bytes_eq name (view_name Bare)) Bare _ view e (λ hit. (bytes_same name (view_name Bare) hit, refl, refl)) (λ e. absurd cc)))) where
       P : View → Type 0
-      P view = name ≡ view_name view
+      P view = OfWord (codes "text") (codes "--view") name view
 
-view_again : (view : View) → view_in (view_name view) ≡ Some view
-unfolding view_in
-view_again Original = refl
-view_again Final = refl
-view_again Marked = refl
-view_again Bare = refl
+form_takes : (name : List ℕ) (view : View) → form_in name ≡ Some view → OfWord (codes "left") (codes "--format") name view
+unfolding form_in
+form_takes name view e =
+    pick P (bytes_eq name (view_name Left)) Left _ view e (λ hit. (bytes_same name (view_name Left) hit, refl, refl)) (λ e.
+    pick P (bytes_eq name (view_name LeftJson)) LeftJson _ view e (λ hit. (bytes_same name (view_name LeftJson) hit, refl, refl)) (λ e. absurd cc)) where
+      P : View → Type 0
+      P view = OfWord (codes "left") (codes "--format") name view
 
 -- the text of a package in a view that is there
 with_view : (p : List ℕ) (view : Option View) (c : Command) → text_with p view ≡ Some c → (found : View) × (view ≡ Some found) × (is_name p ≡ true) × (view_text p found ≡ c)
 with_view p None c e = absurd cc
 with_view p (Some found) c e = let n = cond_some (is_name p) (view_text p found) c e in (found, refl, n.0, n.1)
+
+-- these words are those of a view
+named_words : (word option p name : List ℕ) (view : View) → OfWord word option name view → word ∷ p ∷ option ∷ name ∷ [] ≡ view_word view ∷ p ∷ view_option view ∷ view_name view ∷ []
+named_words word option p name view o =
+    ap (λ (w : List ℕ). w ∷ p ∷ option ∷ name ∷ []) (sym o.1) ∙ ap (λ (w : List ℕ). view_word view ∷ p ∷ w ∷ name ∷ []) (sym o.2)
+    ∙ ap (λ (w : List ℕ). view_word view ∷ p ∷ view_option view ∷ w ∷ []) o.0
 
 text_takes : (rest : List (List ℕ)) (c : Command) → text_in rest ≡ Some c → IsCommand (codes "text" ∷ rest) c
 unfolding text_in
@@ -154,22 +168,71 @@ text_takes (p ∷ option ∷ name ∷ []) c e =
     let v = with_view p (view_in name) c n.1 in
     let same : option ≡ codes "--view" = bytes_same option (codes "--view") n.0 in
     let means : IsText (codes "text" ∷ p ∷ option ∷ name ∷ []) p v.0 = record {
-      written = inr (ap (λ (w : List ℕ). codes "text" ∷ p ∷ w ∷ name ∷ []) same ∙ ap (λ (w : List ℕ). codes "text" ∷ p ∷ codes "--view" ∷ w ∷ []) (view_takes name v.0 v.1));
+      written = inr (ap (λ (w : List ℕ). codes "text" ∷ p ∷ w ∷ name ∷ []) same ∙ named_words (codes "text") (codes "--view") p name v.0 (view_takes name v.0 v.1));
       name = v.2;
     } in
     subst (IsCommand (codes "text" ∷ p ∷ option ∷ name ∷ [])) v.3 means
 text_takes (p ∷ option ∷ name ∷ other ∷ more) c e = absurd cc
 
-text_again : (rest : List (List ℕ)) (p : List ℕ) (view : View) → is_name p ≡ true
-    → ((codes "text" ∷ rest ≡ codes "text" ∷ p ∷ []) × (view ≡ Final)) ⊎ (codes "text" ∷ rest ≡ codes "text" ∷ p ∷ codes "--view" ∷ view_name view ∷ [])
-    → text_in rest ≡ Some (view_text p view)
+left_takes : (rest : List (List ℕ)) (c : Command) → left_in rest ≡ Some c → IsCommand (codes "left" ∷ rest) c
+unfolding left_in
+left_takes [] c e = absurd cc
+left_takes (p ∷ []) c e =
+    let n = cond_some (is_name p) (view_text p Left) c e in
+    let means : IsText (codes "left" ∷ p ∷ []) p Left = record { written = inl (refl, refl); name = n.0 } in
+    subst (IsCommand (codes "left" ∷ p ∷ [])) n.1 means
+left_takes (p ∷ option ∷ []) c e = absurd cc
+left_takes (p ∷ option ∷ name ∷ []) c e =
+    let n = needs (bytes_eq option (codes "--format")) (text_with p (form_in name)) c e in
+    let v = with_view p (form_in name) c n.1 in
+    let same : option ≡ codes "--format" = bytes_same option (codes "--format") n.0 in
+    let means : IsText (codes "left" ∷ p ∷ option ∷ name ∷ []) p v.0 = record {
+      written = inr (ap (λ (w : List ℕ). codes "left" ∷ p ∷ w ∷ name ∷ []) same ∙ named_words (codes "left") (codes "--format") p name v.0 (form_takes name v.0 v.1));
+      name = v.2;
+    } in
+    subst (IsCommand (codes "left" ∷ p ∷ option ∷ name ∷ [])) v.3 means
+left_takes (p ∷ option ∷ name ∷ other ∷ more) c e = absurd cc
+
+-- a view by its name, and by no name
+text_named : (p : List ℕ) (view : View) → view_in (view_name view) ≡ Some view → is_name p ≡ true → text_in (p ∷ codes "--view" ∷ view_name view ∷ []) ≡ Some (view_text p view)
 unfolding text_in
-text_again rest p view h (inl w) =
-    let same : rest ≡ p ∷ [] = let written = w.0 in cc in
-    ap text_in same ∙ rw (h, w.1) refl
-text_again rest p view h (inr w) =
-    let same : rest ≡ p ∷ codes "--view" ∷ view_name view ∷ [] = cc in
-    ap text_in same ∙ rw (view_again view, h) refl
+text_named p view known h = rw (known, h) refl
+
+text_alone : (p : List ℕ) → is_name p ≡ true → text_in (p ∷ []) ≡ Some (view_text p Final)
+unfolding text_in
+text_alone p h = rw h refl
+
+left_named : (p : List ℕ) (view : View) → form_in (view_name view) ≡ Some view → is_name p ≡ true → left_in (p ∷ codes "--format" ∷ view_name view ∷ []) ≡ Some (view_text p view)
+unfolding left_in
+left_named p view known h = rw (known, h) refl
+
+left_alone : (p : List ℕ) → is_name p ≡ true → left_in (p ∷ []) ≡ Some (view_text p Left)
+unfolding left_in
+left_alone p h = rw h refl
+
+view_again_original : view_in (view_name Original) ≡ Some Original
+unfolding view_in
+view_again_original = refl
+
+view_again_final : view_in (view_name Final) ≡ Some Final
+unfolding view_in
+view_again_final = refl
+
+view_again_marked : view_in (view_name Marked) ≡ Some Marked
+unfolding view_in
+view_again_marked = refl
+
+view_again_bare : view_in (view_name Bare) ≡ Some Bare
+unfolding view_in
+view_again_bare = refl
+
+form_again_left : form_in (view_name Left) ≡ Some Left
+unfolding form_in
+form_again_left = refl
+
+form_again_leftjson : form_in (view_name LeftJson) ≡ Some LeftJson
+unfolding form_in
+form_again_leftjson = refl
 
 -- ---- list
 
@@ -562,6 +625,7 @@ with_takes : (v : Verb) (rest : List (List ℕ)) (c : Command) → command_with 
 unfolding verb_text
 with_takes verbs.Settle rest c e = settle_takes rest c e
 with_takes verbs.Text rest c e = text_takes rest c e
+with_takes verbs.Left rest c e = left_takes rest c e
 with_takes verbs.List rest c e = list_takes rest c e
 with_takes verbs.Report rest c e = report_takes rest c e
 with_takes verbs.Page rest c e = page_takes rest c e
@@ -591,6 +655,10 @@ settle_line rest = command_of_verb verbs.Settle rest
 text_line : (rest : List (List ℕ)) → command_in (codes "text" ∷ rest) ≡ text_in rest
 unfolding verb_text
 text_line rest = command_of_verb verbs.Text rest
+
+left_line : (rest : List (List ℕ)) → command_in (codes "left" ∷ rest) ≡ left_in rest
+unfolding verb_text
+left_line rest = command_of_verb verbs.Left rest
 
 list_line : (rest : List (List ℕ)) → command_in (codes "list" ∷ rest) ≡ list_in rest
 unfolding verb_text
@@ -631,10 +699,30 @@ sample_line rest = command_of_verb verbs.Sample rest
 -- a command that is written in words is read again
 pub command_again : (words : List (List ℕ)) (c : Command) → IsCommand words c → command_in words ≡ Some c
 command_again words (settle accept p) h = ap command_in h.written ∙ settle_line (say_word accept ∷ p ∷ []) ∙ settle_again accept p h.name
-command_again words (view_text p view) h = by h.written where
-  by : ((words ≡ codes "text" ∷ p ∷ []) × (view ≡ Final)) ⊎ (words ≡ codes "text" ∷ p ∷ codes "--view" ∷ view_name view ∷ []) → command_in words ≡ Some (view_text p view)
-  by (inl w) = ap command_in w.0 ∙ text_line (p ∷ []) ∙ text_again (p ∷ []) p view h.name (inl (refl, w.1))
-  by (inr w) = ap command_in w ∙ text_line (p ∷ codes "--view" ∷ view_name view ∷ []) ∙ text_again (p ∷ codes "--view" ∷ view_name view ∷ []) p view h.name (inr refl)
+command_again words (view_text p Original) h = by h.written where
+  by : ((words ≡ codes "text" ∷ p ∷ []) × (Original ≡ Final)) ⊎ (words ≡ codes "text" ∷ p ∷ codes "--view" ∷ view_name Original ∷ []) → command_in words ≡ Some (view_text p Original)
+  by (inl w) = absurd (let same = w.1 in cc)
+  by (inr w) = ap command_in w ∙ text_line (p ∷ codes "--view" ∷ view_name Original ∷ []) ∙ text_named p Original view_again_original h.name
+command_again words (view_text p Final) h = by h.written where
+  by : ((words ≡ codes "text" ∷ p ∷ []) × (Final ≡ Final)) ⊎ (words ≡ codes "text" ∷ p ∷ codes "--view" ∷ view_name Final ∷ []) → command_in words ≡ Some (view_text p Final)
+  by (inl w) = ap command_in w.0 ∙ text_line (p ∷ []) ∙ text_alone p h.name
+  by (inr w) = ap command_in w ∙ text_line (p ∷ codes "--view" ∷ view_name Final ∷ []) ∙ text_named p Final view_again_final h.name
+command_again words (view_text p Marked) h = by h.written where
+  by : ((words ≡ codes "text" ∷ p ∷ []) × (Marked ≡ Final)) ⊎ (words ≡ codes "text" ∷ p ∷ codes "--view" ∷ view_name Marked ∷ []) → command_in words ≡ Some (view_text p Marked)
+  by (inl w) = absurd (let same = w.1 in cc)
+  by (inr w) = ap command_in w ∙ text_line (p ∷ codes "--view" ∷ view_name Marked ∷ []) ∙ text_named p Marked view_again_marked h.name
+command_again words (view_text p Bare) h = by h.written where
+  by : ((words ≡ codes "text" ∷ p ∷ []) × (Bare ≡ Final)) ⊎ (words ≡ codes "text" ∷ p ∷ codes "--view" ∷ view_name Bare ∷ []) → command_in words ≡ Some (view_text p Bare)
+  by (inl w) = absurd (let same = w.1 in cc)
+  by (inr w) = ap command_in w ∙ text_line (p ∷ codes "--view" ∷ view_name Bare ∷ []) ∙ text_named p Bare view_again_bare h.name
+command_again words (view_text p Left) h = by h.written where
+  by : ((words ≡ codes "left" ∷ p ∷ []) × (Left ≡ Left)) ⊎ (words ≡ codes "left" ∷ p ∷ codes "--format" ∷ view_name Left ∷ []) → command_in words ≡ Some (view_text p Left)
+  by (inl w) = ap command_in w.0 ∙ left_line (p ∷ []) ∙ left_alone p h.name
+  by (inr w) = ap command_in w ∙ left_line (p ∷ codes "--format" ∷ view_name Left ∷ []) ∙ left_named p Left form_again_left h.name
+command_again words (view_text p LeftJson) h = by h.written where
+  by : ((words ≡ codes "left" ∷ p ∷ []) × (LeftJson ≡ Left)) ⊎ (words ≡ codes "left" ∷ p ∷ codes "--format" ∷ view_name LeftJson ∷ []) → command_in words ≡ Some (view_text p LeftJson)
+  by (inl w) = absurd (let same = w.1 in cc)
+  by (inr w) = ap command_in w ∙ left_line (p ∷ codes "--format" ∷ view_name LeftJson ∷ []) ∙ left_named p LeftJson form_again_leftjson h.name
 command_again words (list p name locks journals onlys) h =
     ap command_in h.written ∙ list_line (p ∷ h.rest) ∙ ap (option_map as_list) (asked_again forms.List (λ number h. h) (λ text h. h) (codes "list") p name false locks journals onlys words h)
 command_again words (report p name by locks journals) h =
@@ -741,9 +829,9 @@ pub command_utf8 : (words : List (List ℕ)) (c : Command) → IsCommand words c
 command_utf8 words (settle accept p) h u =
     let v : AllByRecursion IsUtf8 (codes "settle" ∷ say_word accept ∷ p ∷ []) = subst (AllByRecursion IsUtf8) h.written u in v.1.1.0
 command_utf8 words (view_text p view) h u = by h.written where
-  by : ((words ≡ codes "text" ∷ p ∷ []) × (view ≡ Final)) ⊎ (words ≡ codes "text" ∷ p ∷ codes "--view" ∷ view_name view ∷ []) → IsUtf8 p
-  by (inl w) = let v : AllByRecursion IsUtf8 (codes "text" ∷ p ∷ []) = subst (AllByRecursion IsUtf8) w.0 u in v.1.0
-  by (inr w) = let v : AllByRecursion IsUtf8 (codes "text" ∷ p ∷ codes "--view" ∷ view_name view ∷ []) = subst (AllByRecursion IsUtf8) w u in v.1.0
+  by : ((words ≡ view_word view ∷ p ∷ []) × (view ≡ first_view view)) ⊎ (words ≡ view_word view ∷ p ∷ view_option view ∷ view_name view ∷ []) → IsUtf8 p
+  by (inl w) = let v : AllByRecursion IsUtf8 (view_word view ∷ p ∷ []) = subst (AllByRecursion IsUtf8) w.0 u in v.1.0
+  by (inr w) = let v : AllByRecursion IsUtf8 (view_word view ∷ p ∷ view_option view ∷ view_name view ∷ []) = subst (AllByRecursion IsUtf8) w u in v.1.0
 command_utf8 words (list p name locks journals onlys) h u = asked_utf8 of_list (codes "list") words p name false locks journals onlys h u
 command_utf8 words (report p name by locks journals) h u = asked_utf8 of_report (codes "report") words p name by locks journals [] h u
 command_utf8 words (page p name number locks journals) h u =

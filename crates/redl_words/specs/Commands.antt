@@ -7,7 +7,7 @@ use Rattle.redl_kinds.specs.Selections.{Selection}
 use Rattle.redl_kinds.specs.declared.lock.Lock.{Lock}
 use Rattle.redl_kinds.specs.declared.lock.Lock.TheVariants.{Author, Kind, Span}
 use Rattle.redl_words.specs.declared.command.View.{View}
-use Rattle.redl_words.specs.declared.command.View.TheVariants.{Original, Final, Marked, Bare}
+use Rattle.redl_words.specs.declared.command.View.TheVariants.{Original, Final, Marked, Bare, Left, LeftJson}
 use Rattle.redl_words.specs.Items.{Item, AreItems, Form, of_list, of_report, of_page, of_write, of_decide, is_name, formats_of, bys_of, if_so, locks_of, journals_of, choices_of, ranks_of, onlys_of, titles_of}
 use Rattle.redl_words.specs.Shown.{Only}
 use Rattle.redl_words.specs.Sittings.{SittingJournal, sitting_words, sitting_name, firsts_of, seconds_of}
@@ -57,10 +57,28 @@ view_name Original = codes "original"
 view_name Final = codes "final"
 view_name Marked = codes "marked"
 view_name Bare = codes "bare"
+view_name Left = codes "text"
+view_name LeftJson = codes "json"
 
--- `text P`, which has the final view, and `text P --view NAME`
+-- the command that writes a view, the option before its name, and what the command writes without that
+abbrev pub view_word : View → List ℕ
+view_word Left = codes "left"
+view_word LeftJson = codes "left"
+view_word _ = codes "text"
+
+abbrev pub view_option : View → List ℕ
+view_option Left = codes "--format"
+view_option LeftJson = codes "--format"
+view_option _ = codes "--view"
+
+abbrev pub first_view : View → View
+first_view Left = Left
+first_view LeftJson = Left
+first_view _ = Final
+
+-- `text P`, which has the final view, and `text P --view NAME`; `left P`, which is a text, and `left P --format NAME`
 pub record IsText (words : List (List ℕ)) (p : List ℕ) (view : View) : Type 0 where
-  pub written : ((words ≡ codes "text" ∷ p ∷ []) × (view ≡ Final)) ⊎ (words ≡ codes "text" ∷ p ∷ codes "--view" ∷ view_name view ∷ [])
+  pub written : ((words ≡ view_word view ∷ p ∷ []) × (view ≡ first_view view)) ⊎ (words ≡ view_word view ∷ p ∷ view_option view ∷ view_name view ∷ [])
   pub name : IsTrue (is_name p)
 
 -- this word, a package and items of this form; without `--format` the format is `text`, and it is given once at most, as is `--by kind`

@@ -17,6 +17,10 @@ pub enum View {
     Marked,
     /// What can be seen and decided in the original, with nothing of how its file is made.
     Bare,
+    /// What is left in the package that a reader doesn't see, as a text.
+    Left,
+    /// The same in JSON.
+    LeftJson,
 }
 
 /// A list of the package's revisions in the format of this name, of those alone that each of `only` shows.

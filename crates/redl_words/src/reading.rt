@@ -3,7 +3,7 @@
 ghost use Rattle.std.specs.Prelude.{◌≡◌, All, IfOk, IsErrOf, IsUtf8};
 ghost use Rattle.redl_words.specs.Commands.{HasNoCommand, HasUtf8, IsCommand};
 ghost use Rattle.redl_words.specs.Reading.Answers.{Finds};
-ghost use Rattle.redl_words.specs.Reading.Commands.{asked_in, asked_view, check_in, command_in, decide_in, format_or_text, rank_or_0, join_in, list_in, report_in, page_in, resume_in, sample_in, say_in, settle_in, text_in, text_with, view_in, write_in};
+ghost use Rattle.redl_words.specs.Reading.Commands.{asked_in, asked_view, check_in, command_in, decide_in, format_or_text, rank_or_0, join_in, form_in, left_in, list_in, report_in, page_in, resume_in, sample_in, say_in, settle_in, text_in, text_with, view_in, write_in};
 ghost use Rattle.redl_words.specs.Views.{command_of};
 
 use crate::command::{
@@ -47,6 +47,7 @@ fn read_command(alloc: Global, words: &[Text]) -> Result<Command, WordsError>
     match read_verb(word.as_bytes()) {
         Some(Verb::Settle) => read_settle(alloc, rest),
         Some(Verb::Text) => read_text(alloc, rest),
+        Some(Verb::Left) => read_left(alloc, rest),
         Some(Verb::List) => read_list(alloc, rest),
         Some(Verb::Report) => read_report(alloc, rest),
         Some(Verb::Page) => read_page(alloc, rest),
@@ -133,6 +134,34 @@ fn read_view(name: &[u8]) -> Option<View>
         Some(View::Marked)
     } else if name == b"bare".as_slice() {
         Some(View::Bare)
+    } else {
+        None
+    }
+}
+
+// The words after `left`.
+#[tactic(auto, unfolding(crate::specs::Reading::Commands::left_in))]
+fn read_left(alloc: Global, words: &[Text]) -> Result<Command, WordsError>
+    ensures { Finds command_of result (left_in words.now) }
+{
+    match words {
+        [package] => make_text(alloc, package, Some(View::Left)),
+        [package, option, name] if option.as_bytes() == b"--format".as_slice() => {
+            make_text(alloc, package, read_form(name.as_bytes()))
+        }
+        _ => Err(WordsError::Usage),
+    }
+}
+
+// The form of this name in which what is left is told.
+#[tactic(auto, unfolding(crate::specs::Reading::Commands::form_in))]
+fn read_form(name: &[u8]) -> Option<View>
+    ensures { result ≡ form_in name.now }
+{
+    if name == b"text".as_slice() {
+        Some(View::Left)
+    } else if name == b"json".as_slice() {
+        Some(View::LeftJson)
     } else {
         None
     }

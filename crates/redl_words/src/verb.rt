@@ -8,6 +8,7 @@ ghost use Rattle.redl_words.specs.Reading.Commands.{verb_in};
 pub(crate) enum Verb {
     Settle,
     Text,
+    Left,
     List,
     Report,
     Page,
@@ -28,6 +29,8 @@ pub(crate) fn read_verb(word: &[u8]) -> Option<Verb>
         Some(Verb::Settle)
     } else if word == b"text".as_slice() {
         Some(Verb::Text)
+    } else if word == b"left".as_slice() {
+        Some(Verb::Left)
     } else if word == b"list".as_slice() {
         Some(Verb::List)
     } else if word == b"report".as_slice() {

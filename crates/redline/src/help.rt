@@ -14,6 +14,7 @@ pub const HELP: &str =
   redline decide P WHO ITEM ..  writes the journal of what the reviewer WHO decides
   redline write P ITEM ..       writes P with the changes decided as its reviewers agree
   redline text P --view V       writes the text of P: before its changes, after them, or with signs
+  redline left P --format F     tells what P still holds that a reader doesn't see
   redline settle accept P       writes P with each change accepted
   redline settle reject P       writes P with each change rejected
   redline join J ..             writes the journal of several journals together
@@ -36,6 +37,7 @@ KIND is ins, del, move, move-from, move-to, mark-ins, mark-del, mark-from, mark-
   row-del, cell-ins, cell-del, run-props, para-props, sect-props, table-props, except-props,
   row-props or cell-props.
 V is original, final, marked or bare; without --view the text is final, with each change accepted.
+F is text or json; without --format it is text.
 SPAN is two dates, the second not included: 2026-11-01T00:00:00Z/2026-11-02T00:00:00Z.
 
 Exit status: 0 done, 1 done and some entries refused, 2 usage, 3 package, 4 journal,

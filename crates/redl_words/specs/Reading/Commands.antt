@@ -13,7 +13,7 @@ use Rattle.redl_words.specs.declared.reading.Asked as code
 use Rattle.redl_words.specs.declared.verb.Verb.{Verb}
 use Rattle.redl_words.specs.declared.verb.Verb.TheVariants as verbs
 use Rattle.redl_words.specs.declared.command.View.{View}
-use Rattle.redl_words.specs.declared.command.View.TheVariants.{Original, Final, Marked, Bare}
+use Rattle.redl_words.specs.declared.command.View.TheVariants.{Original, Final, Marked, Bare, Left, LeftJson}
 use Rattle.redl_words.specs.Commands.{Command, settle, view_text, list, report, page, write, decide, resume, join, check, sample, say_word, view_name}
 use Rattle.redl_words.specs.Items.{is_name}
 use Rattle.redl_words.specs.Reading.Items.{Gathered, nothing, gathered}
@@ -25,6 +25,7 @@ unfoldable pub verb_in : List ℕ → Option Verb
 verb_in word =
     if bytes_eq word (codes "settle") then Some verbs.Settle
     else if bytes_eq word (codes "text") then Some verbs.Text
+    else if bytes_eq word (codes "left") then Some verbs.Left
     else if bytes_eq word (codes "list") then Some verbs.List
     else if bytes_eq word (codes "report") then Some verbs.Report
     else if bytes_eq word (codes "page") then Some verbs.Page
@@ -62,6 +63,15 @@ unfoldable pub text_in : List (List ℕ) → Option Command
 text_in (p ∷ []) = text_with p (Some Final)
 text_in (p ∷ option ∷ name ∷ []) = if bytes_eq option (codes "--view") then text_with p (view_in name) else None
 text_in _ = None
+
+-- the form of this name
+unfoldable pub form_in : List ℕ → Option View
+form_in name = if bytes_eq name (view_name Left) then Some Left else if bytes_eq name (view_name LeftJson) then Some LeftJson else None
+
+unfoldable pub left_in : List (List ℕ) → Option Command
+left_in (p ∷ []) = text_with p (Some Left)
+left_in (p ∷ option ∷ name ∷ []) = if bytes_eq option (codes "--format") then text_with p (form_in name) else None
+left_in _ = None
 
 -- the format of this name, or `text` without one
 abbrev pub format_or_text : Option (List ℕ) → List ℕ
@@ -150,6 +160,7 @@ sample_in _ = None
 abbrev pub command_with : Verb → List (List ℕ) → Option Command
 command_with verbs.Settle rest = settle_in rest
 command_with verbs.Text rest = text_in rest
+command_with verbs.Left rest = left_in rest
 command_with verbs.List rest = list_in rest
 command_with verbs.Report rest = report_in rest
 command_with verbs.Page rest = page_in rest

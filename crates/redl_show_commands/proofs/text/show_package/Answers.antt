@@ -23,3 +23,9 @@ returns-in-Marked c =
 pub returns-in-Bare : goal.returns-in-Bare
 returns-in-Bare c =
     ap bare_text c.into_counted-counted.ensures.nodes ∙ ap (λ view. text_in view c.args.pkg) (sym c.in-Bare.is)
+
+pub returns-in-Left : goal.returns-in-Left
+returns-in-Left c = rw c.in-Left.is (rw c.into_counted-counted.ensures.nodes at c.show_left.ensures)
+
+pub returns-in-LeftJson : goal.returns-in-LeftJson
+returns-in-LeftJson c = rw c.in-LeftJson.is (rw c.into_counted-counted.ensures.nodes at c.show_left_json.ensures)
