@@ -35,7 +35,7 @@ function printFrame(event) {
 }
 
 /** The program's page of the document, as a text, and the lines of the call. */
-const makePage = () => called(["page", DOCUMENT, ...others.keys(), ...lockWords()]);
+const makePage = () => called(["page", DOCUMENT, ...signWords(), ...others.keys(), ...lockWords()]);
 
 /**
  * Shows the page of the document anew, with what was decided in it so far.
@@ -65,7 +65,7 @@ function decided() {
  */
 function saveFromPage(event) {
   event.preventDefault();
-  save(event.detail.name, ranked(event.detail.text));
+  save(event.detail.name, event.detail.text);
   isUnsaved = false;
   tell({ what: "Saved as " + fileName(event.detail.name) + ".", todo: IN_DOWNLOADS + " Send it to whoever puts the round together." });
 }

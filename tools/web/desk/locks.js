@@ -72,7 +72,7 @@ function prepareLocks() {
   for (let it = 0; it <= 9; it++) element("rank").append(make("option", { value: String(it), textContent: String(it) }));
   element("rank").addEventListener("change", guarded(async () => {
     rank = Number(element("rank").value);
-    stale.standing = stale.written = true;
+    await showPage(await makePage());
     await refresh();
   }));
 }

@@ -29,6 +29,9 @@ let isUnsaved = false;
 const encoded = (/** @type {string} */ text) => new TextEncoder().encode(text);
 const lockWords = () => locks.flat();
 
+/** What the page is told of a journal that is saved in it: the document's name, and the rank of its words. */
+const signWords = () => ["--title", opened?.name ?? "", ...(rank ? ["--rank", String(rank)] : [])];
+
 /** The journal of what is decided in this page, as calls are given it: empty where nothing is decided. */
 function ownJournal() {
   if (!opened?.isShown) return "";
@@ -37,7 +40,7 @@ function ownJournal() {
   const why = name && parts.refusal();
   if (why) throw new Told(why, "Your name stands above the list of changes in step 1.");
   const journal = parts.journal(name || standIn());
-  return hasEntries(journal) ? ranked(journal) : "";
+  return hasEntries(journal) ? journal : "";
 }
 
 /**
@@ -52,17 +55,6 @@ function standIn() {
   let name = "You";
   for (let more = 2; taken.has(name); more++) name = "You " + more;
   return name;
-}
-
-/**
- * The journal with this page's rank in each entry.
- * @param {string} journal
- */
-function ranked(journal) {
-  if (rank === 0 || !journal) return journal;
-  return journal
-    .replace(/^redline-journal 1\n/, "redline-journal 2\n")
-    .replace(/^(\d+\t\d+\t\w+)\t/gm, "$1\t" + rank + "\t");
 }
 
 /** The names of all journals and of what is decided here, and the file of the latter. */
@@ -108,10 +100,11 @@ function toldOf(lines) {
 async function openDocument({ name, bytes }, isTidy = false) {
   performance.mark("opening");
   const { isZip, line, said } = await ask("open", bytes, { tidy: isTidy });
-  const page = await called(["page", DOCUMENT]).catch(goBack);
+  const page = await called(["page", DOCUMENT, "--title", name]).catch(goBack);
   opened = { name, bytes, isZip, isTidy, count: countIn(line), said, isShown: false };
   others.clear();
-  locks.length = 0;
+  locks.length = rank = 0;
+  element("rank").value = "0";
   forgetEarlier();
   showLocks();
   element("name").textContent = name;
