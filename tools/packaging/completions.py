@@ -4,7 +4,7 @@ import re
 
 HERE = os.path.dirname(os.path.realpath(__file__))
 # The options of redline-docx itself.
-DOCX = "-o -f --package --tidy --drop-unused-notes"
+DOCX = "-o -f --package --tidy --drop-unused-notes --idle-locks"
 # The commands that redline-batch has for each document of a folder.
 MANY = ("check", "list", "report", "page", "text", "write", "settle")
 

@@ -34,6 +34,16 @@ const flatopc = (() => {
 
   // From a .docx
 
+  /** What a ZIP file is that is no .docx, and what to do with it. @param {Map<string, Uint8Array>} items */
+  function otherArchive(items) {
+    const inside = [...items.keys()].find((it) => /\.doc[xm]$/i.test(it));
+    const type = items.get("mimetype");
+    if (type && startsWith(type, encoded("application/vnd.oasis.opendocument")))
+      return "it is an OpenDocument file (.odt); open it in a word processor, and save it as .docx";
+    if (inside) return "it is a ZIP file with " + inside.replace(/(?! )[\p{C}\p{Z}]/gu, "?") + " in it; take that out first, and name it";
+    return "it is a ZIP file without " + TYPES_ITEM + ", and so no .docx";
+  }
+
   /** The content types of a ZIP package: by extension, and by the name of the part. @param {Uint8Array} bytes */
   function typesOf(bytes) {
     const [byExtension, byName] = [new Map(), new Map()];
@@ -102,7 +112,7 @@ const flatopc = (() => {
     if (startsWith(data, OLD)) throw new NotOfTheForm("it has a password, or it is of the older form .doc");
     const items = zip.read(data);
     const list = items.get(TYPES_ITEM);
-    if (!list) throw new NotOfTheForm("it is a ZIP file without " + TYPES_ITEM + ", and so no .docx");
+    if (!list) throw new NotOfTheForm(otherArchive(items));
     const [byExtension, byName] = typesOf(list);
     items.delete(TYPES_ITEM);
     const out = [encoded(DECLARATION + '\r\n<?mso-application progid="Word.Document"?>\r\n<pkg:package xmlns:pkg="' + PACKAGE + '">')];
