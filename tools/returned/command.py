@@ -5,9 +5,10 @@ import sys
 
 from returned.check import answer_for
 from returned.program import NOTHING, CallFailed, Program
+from returned.reader import Unreadable
 from returned.words import ACCEPT, OPEN, REJECT
 
-WRITTEN, WITH_LINES, USAGE, OTHERWISE_CHANGED = 0, 1, 2, 13
+WRITTEN, WITH_LINES, USAGE, UNREADABLE, NO_MEMORY, OTHERWISE_CHANGED = 0, 1, 2, 3, 8, 13
 # So many places are told, and the count of all.
 PLACES = 200
 FORM = "returned takes IN BACK REVIEWER, and --journal J any number of times"
@@ -57,6 +58,12 @@ def returned(words, call, find_redline):
     except CallFailed as failed:
         pass_on(failed.lines, call)
         return failed.status, None
+    except Unreadable as error:
+        call.say("the documents can't be read: %s" % error)
+        return UNREADABLE, None
+    except MemoryError:
+        call.say("no memory")
+        return NO_MEMORY, None
 
 
 def pass_on(lines, call, of_back=False):
