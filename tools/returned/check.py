@@ -61,7 +61,7 @@ def attempt(program, package, back, first, second, view):
     answer = Answer()
     answer.view = view
     known = {one.sign() for one in first.members}
-    answer.proposals = proposals(second, known)
+    answer.proposals = proposals(second, known, back[1])
     answer.comments = pair_comments(first, second)[1]
     left = back[1]
     foreign = foreign_revisions(second, known)

@@ -1,6 +1,7 @@
 """What the document that came back alone has: tracked changes and comments of the reviewer, a proposal for a further round."""
-import re
+import bisect
 
+from returned.clauses import clauses
 from returned.streams import CELL, ESCAPE, OBJECT_SIGNS, PARA, ROW
 
 VERBS = {"ins": "inserted", "del": "deleted", "to": "moved here", "from": "moved away"}
@@ -12,8 +13,6 @@ CHANGED = {
 NAMES = {"hdr": "a header", "ftr": "a footer", "footnote": "a footnote", "endnote": "an endnote", "comment": "a comment"}
 SHOWN = {ord(sign): "[%s]" % name for name, sign in OBJECT_SIGNS.items()}
 SHOWN.update({ord(PARA): "\u00b6", ord(ROW): None, ord(CELL): None, ord(ESCAPE): None, ord("\n"): " ", ord("\t"): " "})
-# A clause's number as it is typed: 4., 4.2, (a), § 4.
-CLAUSE = re.compile(r"\s*(?:(\d+(?:\.\d+)+)\.?|(\d+)\.|(\(\w{1,4}\))|(\u00a7\s?\d+\w?))(?=[\s\u00a0])")
 
 
 def foreign_revisions(package, known):
@@ -25,12 +24,11 @@ class Proposal:
     """A stretch that changes with one sign cover, and where it is."""
 
     def __init__(self, stream, sign, begin, end):
-        self.stream, self.sign, self.begin, self.end = stream, sign, begin, end
+        self.stream, self.sign, self.begin, self.end, self.clause = stream, sign, begin, end, None
 
     def line(self):
         name = NAMES.get(self.stream.root, "the document")
-        clause = clause_at(self.stream, self.begin)
-        place = "paragraph %d%s" % (self.stream.paragraph_of(self.begin), " (clause %s)" % clause if clause else "")
+        place = "paragraph %d%s" % (self.stream.paragraph_of(self.begin), " (clause %s)" % self.clause if self.clause else "")
         role, trace, author, _ = self.sign
         what = CHANGED[trace] + " changed" if role == "change" else MATTERS.get(role, "") + VERBS[trace]
         text = self.stream.text[self.begin : self.end].translate(SHOWN).strip()
@@ -38,34 +36,41 @@ class Proposal:
         return "new in %s, %s: %s by %s%s" % (name, place, what, author or "nobody", ', "%s"' % text if text and role == "content" else "")
 
 
-def clause_at(stream, place):
-    """The number that is typed before the paragraph of a place, or before the nearest one above that has one."""
-    end = place
-    while end >= 0:
-        begin = stream.text.rfind(PARA, 0, end) + 1
-        found = CLAUSE.match(stream.text, begin, begin + 40)
-        if found:
-            return next(group for group in found.groups() if group)
-        end = begin - 1
-    return None
+def clause_at(stream, ends, numbers, place):
+    """The number of the paragraph of a place, else of the nearest one above that has one."""
+    index = bisect.bisect_left(ends, place)
+    if index == len(ends) or ends[index] != stream.text.find(PARA, place):
+        index -= 1
+    return numbers[index] if index >= 0 else None
 
 
-def proposals(package, known):
-    """What the package has besides the changes with these signs, in the order of its stories."""
-    found = []
+def proposals(package, known, data):
+    """What the package has besides the changes with these signs, in the order of its stories. `data` are its bytes."""
+    found, numbered = [], {}
     for stream in package.streams:
-        last = {}  # by sign the last proposal, which a stretch right after it goes on
-        for begin, end, members, shown in stream.stretches():
-            for sign in dict.fromkeys(one.sign() for one in members if one.role == "content" or one in shown):
-                if sign in known:
-                    continue
-                if sign in last and last[sign].end == begin:
-                    last[sign].end = end
-                else:
-                    last[sign] = Proposal(stream, sign, begin, end)
-                    found.append(last[sign])
-        for change in stream.changes:
-            if change.member.sign() not in known:
-                place = max(stream.length - 1, 0) if change.begin == "end" else change.begin
-                found.append(Proposal(stream, change.member.sign(), place, place))
+        found += proposals_in(stream, known)
+    for one in found:
+        if one.stream not in numbered:
+            counted = clauses(one.stream, data)
+            numbered[one.stream] = [end for end, _ in counted], [text for _, text in counted]
+        one.clause = clause_at(one.stream, *numbered[one.stream], one.begin)
+    return found
+
+
+def proposals_in(stream, known):
+    found = []
+    last = {}  # by sign the last proposal, which a stretch right after it goes on
+    for begin, end, members, shown in stream.stretches():
+        for sign in dict.fromkeys(one.sign() for one in members if one.role == "content" or one in shown):
+            if sign in known:
+                continue
+            if sign in last and last[sign].end == begin:
+                last[sign].end = end
+            else:
+                last[sign] = Proposal(stream, sign, begin, end)
+                found.append(last[sign])
+    for change in stream.changes:
+        if change.member.sign() not in known:
+            place = max(stream.length - 1, 0) if change.begin == "end" else change.begin
+            found.append(Proposal(stream, change.member.sign(), place, place))
     return found
