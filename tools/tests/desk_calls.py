@@ -11,8 +11,6 @@ import base64
 import importlib.machinery
 import json
 import os
-import random
-import resource
 import subprocess
 import sys
 import tempfile
@@ -61,7 +59,7 @@ class Pair:
                 file.write(data)
 
     def native(self, words):
-        ended = subprocess.run([PROGRAM, *words], cwd=self.folder, stdin=subprocess.DEVNULL, capture_output=True, timeout=120, check=False)
+        ended = subprocess.run([PROGRAM, *words], cwd=self.folder, stdin=subprocess.DEVNULL, capture_output=True, timeout=600, check=False)
         return ended.returncode, ended.stdout, ended.stderr
 
     def compare(self, name, words, wanted=None):
@@ -135,13 +133,13 @@ def little_memory(pair, words, least):
         refused += 1
         if answer["out"] or not answer["lines"].startswith(b"redline: no memory\n"):
             pair.differ.append("%s with %d pages: %r" % (words, pages, answer))
-        pages += max(1, pages // 16)
+        pages += max(1, pages // 8)
     if (answer.get("status"), answer.get("out"), answer.get("lines")) != wanted or not refused:
         pair.differ.append("%s with %d pages, after %d that were too few: %r" % (words, pages, refused, str(answer)[:300]))
 
 
 def compare_faults(pair):
-    pair.put(P=make.reviewed_package(300000).encode(), J=b"redline-journal 1\n", K="redline-journal 1\n".encode("utf-16"))
+    pair.put(P=make.reviewed_package(100000).encode(), J=b"redline-journal 1\n", K="redline-journal 1\n".encode("utf-16"))
     for words in (["check", "P"], ["settle", "accept", "P"], ["page", "P"], ["list", "P", "--format", "full"], ["decide", "P", "Ann", "--accept", "all"]):
         little_memory(pair, words, 24)
     os.makedirs(os.path.join(pair.folder, "folder"), exist_ok=True)
@@ -158,19 +156,19 @@ def compare_faults(pair):
 
 
 def used_by(words, folder):
-    """Processor seconds and the most memory of the program itself."""
-    before = resource.getrusage(resource.RUSAGE_CHILDREN)
+    """Processor seconds and the most memory of the program itself. (A child of this process would be told to have its memory.)"""
+    told = os.path.join(folder, "told")
     with open(os.devnull, "wb") as out:
-        child = subprocess.Popen([PROGRAM, *words], cwd=folder, stdin=subprocess.DEVNULL, stdout=out)
+        child = subprocess.Popen(["/usr/bin/time", "-f", "%M", "-o", told, PROGRAM, *words], cwd=folder, stdin=subprocess.DEVNULL, stdout=out)
         _, _, used = os.wait4(child.pid, 0)
-    del before
-    return used.ru_utime + used.ru_stime, used.ru_maxrss * 1024
+    with open(told, encoding="utf-8") as file:
+        return used.ru_utime + used.ru_stime, int(file.read().split()[-1]) * 1024
 
 
 def compare_speed(pair, count):
     """The least of some calls each: what they take in both programs. Where a call takes more than 2.5 times, that differs."""
-    for size in (5_000_000, 20_000_000, 60_000_000):
-        pair.put(P=make.reviewed_package(size).encode())
+    for size, made in ((5_000_000, make.reviewed_package), (20_000_000, make.reviewed_package), (60_000_000, make.package)):
+        pair.put(P=made(size).encode())
         for line in ("check P", "write P", "settle accept P", "list P", "page P"):
             words = line.split()
             native = [used_by(words, pair.folder) for _ in range(count)]

@@ -159,7 +159,7 @@ def main():
     with tempfile.TemporaryDirectory() as folder:
         build(folder, made)
         files = [os.path.join(folder, name) for name in ("64.wasm", "32.wasm")]
-        ended = subprocess.run([sys.argv[1], "--experimental-wasm-memory64", "-e", RUN, *files], input=json.dumps(made.calls).encode(), check=False, timeout=120)
+        ended = subprocess.run([sys.argv[1], "--experimental-wasm-memory64", "-e", RUN, *files], input=json.dumps(made.calls).encode(), check=False, timeout=500)
     return ended.returncode
 
 

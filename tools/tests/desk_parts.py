@@ -39,7 +39,7 @@ def main():
         words = [word for word in build.LINK_WORDS if word != "--export=main"]
         build.run(linker, *words, *["--export=" + name for name in EXPORTS], "--initial-memory=2097152", "-o", linked, *objects)
         build.run(os.path.join(WEB, "lower32"), linked, lowered)
-        return subprocess.run([sys.argv[1], os.path.join(HERE, "desk", "parts.js"), lowered], check=False, timeout=120).returncode
+        return subprocess.run([sys.argv[1], os.path.join(HERE, "desk", "parts.js"), lowered], check=False, timeout=500).returncode
 
 
 if __name__ == "__main__":

@@ -66,7 +66,7 @@ def main(node, wasm):
                 file.write(data)
         worker = os.path.join(HERE, "desk", "worker.js")
         for words in ([worker, wasm, folder], ["--stack-size=150", worker, wasm, folder, "stack"]):
-            ended = subprocess.run([node, *words], timeout=300, check=False)
+            ended = subprocess.run([node, *words], timeout=800, check=False)
             if ended.returncode != 0:
                 print("FAILED worker: it ended with status %d" % ended.returncode)
         with open(os.path.join(folder, "written.docx"), "rb") as file:
