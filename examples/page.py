@@ -7,7 +7,6 @@ program's pages with what this makes of the same files, and the browser's test c
 """
 import argparse
 import base64
-import datetime
 import hashlib
 import os
 import re
@@ -196,7 +195,7 @@ class Page:
     def row(self, number, revision):
         date = "-"
         if revision.date is not None:
-            date = datetime.datetime.fromtimestamp(revision.date, datetime.timezone.utc).strftime("%Y-%m-%dT%H:%M:%SZ")
+            date = reading.date_of(revision.date)
         locked = "yes" if reading.refusal(self.package, ("", 1, number, "accept"), self.locks) else "no"
         values = (number, revision.kind, escaped(revision.author), date, reading.verdict(number, self.book), locked)
         start = '<li id="revision-%d" data-kind="%s" data-author="%s" data-date="%s" data-verdict="%s" data-locked="%s">'

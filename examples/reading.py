@@ -595,17 +595,44 @@ def resumed(package, entries, second, later):
 # Listings
 
 
+# What the calendar repeats after 400 years, and its first day that is counted from here: 2000-01-01, as days from 1970 on.
+CYCLE, START = 146097, 10957
+# 0000-01-01T00:00:00Z and 9999-12-31T23:59:59Z
+FIRST, LAST = -62167219200, 253402300799
+
+
 def moment(text):
-    """The seconds of a date from 1970 on in UTC, or None."""
-    found = re.fullmatch(r"(\d{4}-\d\d-\d\dT\d\d:\d\d:\d\d)(?:\.\d{1,9})?(Z|[+-]\d\d:\d\d)?", text or "")
+    """The seconds of a date from 1970 on in UTC, or None where it can't be read or is in no year from 0000 to 9999."""
+    pattern = "([0-9]{4})-([0-9]{2})-([0-9]{2})T([0-9]{2}):([0-9]{2}):([0-9]{2})(?:[.][0-9]{1,9})?(?:Z|([+-])([0-9]{2}):([0-9]{2}))?"
+    found = re.fullmatch(pattern, text or "")
     if not found:
         return None
-    zone = found.group(2) or "Z"
+    year, month, day, hour, minute, second = map(int, found.groups()[:6])
+    hours, minutes = int(found.group(8) or 0), int(found.group(9) or 0)
+    if hour > 23 or minute > 59 or second > 59 or hours > 14 or minutes > 59:
+        return None
     try:
-        civil = datetime.datetime.fromisoformat(found.group(1) + ("+00:00" if zone == "Z" else zone))
+        in_cycle = datetime.date(2000 + year % 400, month, day) - datetime.date(2000, 1, 1)
     except ValueError:
         return None
-    return int(civil.timestamp())
+    days = START + (year // 400 - 5) * CYCLE + in_cycle.days
+    ahead = (hours * 3600 + minutes * 60) * (-1 if found.group(7) == "-" else 1)
+    seconds = days * 86400 + hour * 3600 + minute * 60 + second - ahead
+    return seconds if FIRST <= seconds <= LAST else None
+
+
+def date_of(seconds):
+    """The date of a moment, in UTC."""
+    days, second = divmod(seconds, 86400)
+    cycles, day = divmod(days - START, CYCLE)
+    date = datetime.date(2000, 1, 1) + datetime.timedelta(day)
+    time = "%02d:%02d:%02d" % (second // 3600, second // 60 % 60, second % 60)
+    return "%04d-%02d-%02dT%sZ" % (date.year + 400 * cycles, date.month, date.day, time)
+
+
+def masked(text):
+    """A text as a line shows it: control characters of ASCII are question marks."""
+    return re.sub("[\x00-\x1f\x7f]", "?", text)
 
 
 def listed(package, entries, form, locks=(), shown=None):
@@ -615,13 +642,10 @@ def listed(package, entries, form, locks=(), shown=None):
     for number, it in enumerate(package.revisions, 1):
         if shown is not None and number not in shown:
             continue
-        date = None
-        if it.date is not None:
-            date = datetime.datetime.fromtimestamp(it.date, datetime.timezone.utc).strftime("%Y-%m-%dT%H:%M:%SZ")
+        date = None if it.date is None else date_of(it.date)
         rows.append((number, it, verdict(number, book), date))
     if form == "text":
-        plain = lambda author: re.sub("[\x00-\x1f\x7f]", "?", author)
-        return "".join("%7d %-12s %-8s %-20s %s\n" % (number, it.kind, word, date or "-", plain(it.author)) for number, it, word, date in rows)
+        return "".join("%7d %-12s %-8s %-20s %s\n" % (number, it.kind, word, date or "-", masked(it.author)) for number, it, word, date in rows)
     if form == "tab":
         plain = lambda text: text.replace("\\", "\\\\").replace("\t", "\\t").replace("\n", "\\n").replace("\r", "\\r")
         line = lambda number, it, word, date: (str(number), it.kind, word, date or "-", str(it.members), plain(it.part), plain(it.author))

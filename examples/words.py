@@ -141,9 +141,10 @@ def listed(package, entries, shown=None):
         words, before, after = excerpt(package, number)
         verdict = reading.verdict(number, entries)
         begin, end = signs_of(revision.kind)
-        quoted = near_end(before) + begin + shortened(words, 30) + end + shortened(after, 10)
-        line = "%5d %-12s %-8s %-13s %s" % (number, revision.kind, verdict, shortened(revision.author, 12), quoted)
-        said = "".join("  %s: %s" % (entry.reviewer, entry.word) for entry in says_of(number, entries))
+        masked = reading.masked
+        quoted = masked(near_end(before)) + begin + masked(shortened(words, 30)) + end + masked(shortened(after, 10))
+        line = "%5d %-12s %-8s %-13s %s" % (number, revision.kind, verdict, shortened(masked(revision.author), 12), quoted)
+        said = "".join("  %s: %s" % (masked(entry.reviewer), entry.word) for entry in says_of(number, entries))
         out.append(line + (said if verdict == "disputed" else "") + "\n")
     return "".join(out)
 
