@@ -2,8 +2,6 @@
 import os
 import subprocess
 
-from returned.bare_writer import bare_text
-
 # A choice that chooses nothing: a span in which no moment is.
 NOTHING = ("--accept", "span:2000-01-01T00:00:00Z/2000-01-01T00:00:00Z")
 # A word of a call has at most so many numbers, and a call so many bytes of them: the system bounds both.
@@ -91,11 +89,6 @@ class Program:
     def bare_text(self, package):
         """The bare text of a package."""
         held = self.hold(package)
-        status, made, lines = self.answer("text", held, "--view", "bare")
+        made = self.made("text", held, "--view", "bare")
         self.drop(held)
-        if status == 2:
-            # (a program from before it had this view)
-            return bare_text(package)
-        if status:
-            raise CallFailed(status, lines)
         return made.decode("utf-8")
