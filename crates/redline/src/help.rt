@@ -50,5 +50,5 @@ A whole round:
   redline join ann.journal bob.journal > all.journal
   redline write contract.xml all.journal > decided.xml
 
-The manual is docs/MANUAL.md, or /usr/share/doc/redline/MANUAL.md where it is installed.
+The manual is man redline-manual, and docs/MANUAL.md in /usr/share/doc/redline.
 ";
