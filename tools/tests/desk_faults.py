@@ -80,7 +80,7 @@ def documents(driven):
         ("scan.pdf", b"%PDF-1.7\n", "is a PDF"),
         ("page.html", b"<!DOCTYPE html><p>", "is a web page"),
         ("other.xml", b"<other/>", "is another kind of XML file"),
-        ("letter.odt", archive(("mimetype", "application/vnd.oasis.opendocument.text")), "is an archive, but no Word document"),
+        ("letter.odt", archive(("mimetype", "application/vnd.oasis.opendocument.text")), "is an OpenDocument file (.odt)"),
         ("sheet.xlsx", archive(("[Content_Types].xml", TYPES), ("xl/workbook.xml", "<workbook/>")), "isn't as a word processor writes documents"),
         ("cut.docx", docx[:600], "is damaged"),
         ("bent.docx", bent(docx), "is damaged"),
