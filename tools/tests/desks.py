@@ -1,6 +1,8 @@
 """Opens the desk in browsers, does rounds in it as a person does, and looks at what comes.
 
-    python3 desks.py                     the test: a line for each case, "ok NAME", "FAILED NAME: WHY" or "skipped NAME: WHY"
+    python3 desks.py                     the test: a line for each case, "ok NAME", "FAILED NAME: WHY" or "skipped NAME: WHY".
+                                         All cases run in Chromium, and in the other browsers whole rounds
+    python3 desks.py firefox             all cases in this browser
     python3 desks.py firefox docx_round  these cases alone, in this browser alone
     python3 desks.py --picture FILE      the picture of the desk for README
 
@@ -21,6 +23,7 @@ from webkit import WebKit
 
 BROWSERS = [Chromium, Firefox, WebKit]
 CASES = desk_round.CASES + desk_faults.CASES + desk_hostile.CASES + desk_looks.CASES + desk_large.CASES
+IN_EACH = [desk_round.package_round, desk_round.docx_round, desk_round.second_sitting]
 
 
 def run(case, kind):
@@ -39,8 +42,9 @@ def main(words):
         return print("skipped the desk: it hasn't been built")
     if words[:1] == ["--picture"]:
         return desk_looks.picture(words[1])
-    cases = [case for case in CASES if case.__name__ in words] or CASES
+    named = [case for case in CASES if case.__name__ in words]
     for kind in [kind for kind in BROWSERS if kind.name in words] or BROWSERS:
+        cases = named or (CASES if kind is Chromium or words else IN_EACH)
         if not kind.is_there():
             print("skipped the desk in %s: it isn't there" % kind.name)
             continue

@@ -21,9 +21,9 @@ EVIL = [
     "url(//evil.example/x)}*{background:url(//evil.example/y)",
     "\"]{}*{color:red}",
 ]
-# Control characters, and what they are shown as.
-CONTROLS, CONTROLS_SHOWN = "a\x7fb\u0085c\u009fd", "a\ufffdb\ufffdc\ufffdd"
-NAMES = {"class", "data-revision", "data-author", "data-style", "id", "href", "data-say", "aria-current", "lang", "role", "aria-level", "aria-label", "tabindex", "title", "data-sign"}
+# Control characters: what HTML can't hold is shown as U+FFFD, the others have a sign.
+CONTROLS, CONTROLS_SHOWN = "a\x7fb\u0085c\u009fd", ["a\ufffdb\u0085c\u009fd", 2]
+NAMES = {"class", "data-revision", "data-author", "data-style", "id", "href", "data-say", "aria-current", "lang", "role", "aria-level", "aria-label", "tabindex", "title", "data-sign", "data-story"}
 
 
 def quoted(text):
@@ -74,10 +74,10 @@ def hostile(driven):
     same("no strange element", elements - {"section", "h2", "p", "ins", "del", "sup", "table", "tbody", "tr", "td", "span"}, set())
     texts = seen.run("return [...document.querySelectorAll('main ins.text')].map((it) => it.textContent)")
     same("hostile texts are texts", texts, EVIL)
-    texts = seen.run("return [...document.querySelectorAll('main p')].map((it) => it.textContent)")
+    texts = seen.run("return [...document.querySelectorAll('main p')].map((it) => [it.textContent, it.querySelectorAll('.unseen').length])")
     told("control characters are seen as such", CONTROLS_SHOWN in texts)
-    texts = seen.run("return [...document.querySelectorAll('h2')].map((it) => it.textContent)")
-    same("hostile names of parts are texts", texts, EVIL)
+    texts = seen.run("return [...document.querySelectorAll('h2')].map((it) => [it.textContent, it.title])")
+    same("hostile names of parts are texts", texts, [["Header %d" % number, evil] for number, evil in enumerate(EVIL, 1)])
     styles = seen.run("return [...document.querySelectorAll('main [data-style]')].map((it) => it.dataset.style)")
     same("hostile styles are texts", styles, EVIL)
     authors = seen.run("return [...new Set([...document.querySelectorAll('aside > ol > li')].map((it) => it.dataset.author))]")

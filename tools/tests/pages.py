@@ -1,6 +1,8 @@
 """Opens pages in browsers, decides in them as a reviewer does, and looks at what comes.
 
-    python3 pages.py                     the test: a line for each case, "ok NAME", "FAILED NAME: WHY" or "skipped NAME: WHY"
+    python3 pages.py                     the test: a line for each case, "ok NAME", "FAILED NAME: WHY" or "skipped NAME: WHY".
+                                         All cases run in Chromium, and in Firefox the rounds and those of what is kept
+    python3 pages.py firefox             all cases in this browser
     python3 pages.py firefox large       these cases alone, in this browser alone
     python3 pages.py --picture FILE      the picture of a page for README
 
@@ -25,6 +27,7 @@ from page_seen import IS_OWN, LOCK, REVIEWERS, Seen, page_of, second_page, told
 BROWSERS = [Chromium, Firefox]
 MODULES = [page_round, page_store, page_work, page_looks, page_sizes, page_signs, page_views, page_hostile, page_large]
 CASES = [case for module in MODULES for case in module.CASES]
+IN_EACH = page_round.CASES + page_store.CASES
 
 
 def same_pages():
@@ -71,8 +74,9 @@ def main(words):
         return picture(words[1])
     if IS_OWN:
         same_pages()
-    cases = [case for case in CASES + page_large.MEASURES if case.__name__ in words] or CASES
+    named = [case for case in CASES + page_large.MEASURES if case.__name__ in words]
     for kind in [kind for kind in BROWSERS if kind.name in words] or BROWSERS:
+        cases = named or (CASES if kind is Chromium or words else IN_EACH)
         if not kind.is_there():
             print("skipped pages in %s: it isn't there" % kind.name)
             continue

@@ -2,7 +2,7 @@
 
 /// The security policy of the page: its own style and script alone, and nothing is ever fetched.
 pub const POLICY: &str =
-    "default-src 'none'; script-src 'sha256-OmOMhh2UXH+zE+a0iVJSzOr/zhm4teganHVHYXIx0oY='; style-src 'sha256-jwIC+kDESEy3cdYfuR6AHIYIwd4KKVKmYTqTCchUAH8='; base-uri 'none'; form-action 'none'; require-trusted-types-for 'script'; trusted-types 'none'";
+    "default-src 'none'; script-src 'sha256-fNJ5/ACj6dDBCpGkl6+L1pTBZzjniC+zvOOqbcXcvsc='; style-src 'sha256-jwIC+kDESEy3cdYfuR6AHIYIwd4KKVKmYTqTCchUAH8='; base-uri 'none'; form-action 'none'; require-trusted-types-for 'script'; trusted-types 'none'";
 
 /// The style sheet of the page.
 pub const STYLE: &str = "/* colours, and what all elements share */
@@ -419,7 +419,7 @@ function numbersInWords(places) {
 // Signs for characters that can't be seen, or that turn the text around them: each stands where its character is, and
 // what such a character does to others ends with it.
 
-const UNSEEN = /[\\r\\u00ad\\u034f\\u061c\\u115f\\u1160\\u17b4\\u17b5\\u180b-\\u180f\\u200b-\\u200f\\u2028-\\u202e\\u2060-\\u206f\\u3164\\ufeff\\uffa0\\ufff9-\\ufffb]|[\\u{e0000}-\\u{e01ef}]/u;
+const UNSEEN = /[\\r\\u0080-\\u009f\\u00ad\\u034f\\u061c\\u115f\\u1160\\u17b4\\u17b5\\u180b-\\u180f\\u200b-\\u200f\\u2028-\\u202e\\u2060-\\u206f\\u3164\\ufeff\\uffa0\\ufff9-\\ufffb]|[\\u{e0000}-\\u{e01ef}]/u;
 const UNSEEN_NAMES = {
   \"\\r\": [\"CR\", \"carriage return\"], \"\\u00ad\": [\"SHY\", \"soft hyphen\"], \"\\u061c\": [\"ALM\", \"Arabic letter mark\"],
   \"\\u200b\": [\"ZWSP\", \"space without width\"], \"\\u200c\": [\"ZWNJ\", \"no joining\"], \"\\u200d\": [\"ZWJ\", \"joining\"],

@@ -1,7 +1,7 @@
 // Signs for characters that can't be seen, or that turn the text around them: each stands where its character is, and
 // what such a character does to others ends with it.
 
-const UNSEEN = /[\r\u00ad\u034f\u061c\u115f\u1160\u17b4\u17b5\u180b-\u180f\u200b-\u200f\u2028-\u202e\u2060-\u206f\u3164\ufeff\uffa0\ufff9-\ufffb]|[\u{e0000}-\u{e01ef}]/u;
+const UNSEEN = /[\r\u0080-\u009f\u00ad\u034f\u061c\u115f\u1160\u17b4\u17b5\u180b-\u180f\u200b-\u200f\u2028-\u202e\u2060-\u206f\u3164\ufeff\uffa0\ufff9-\ufffb]|[\u{e0000}-\u{e01ef}]/u;
 const UNSEEN_NAMES = {
   "\r": ["CR", "carriage return"], "\u00ad": ["SHY", "soft hyphen"], "\u061c": ["ALM", "Arabic letter mark"],
   "\u200b": ["ZWSP", "space without width"], "\u200c": ["ZWNJ", "no joining"], "\u200d": ["ZWJ", "joining"],
