@@ -4,6 +4,7 @@ import shutil
 import sys
 
 TOP = os.path.dirname(os.path.dirname(os.path.dirname(os.path.abspath(__file__))))
+PROGRAM = "redline"
 
 
 class Failed(Exception):
