@@ -18,12 +18,23 @@ import desk_round
 from chromium import Chromium
 from desk_seen import built
 from firefox import Firefox
-from page_seen import run, told
+from page_seen import told
 from webkit import WebKit
 
 BROWSERS = [Chromium, Firefox, WebKit]
 CASES = desk_round.CASES + desk_faults.CASES + desk_hostile.CASES + desk_looks.CASES + desk_large.CASES
 IN_EACH = [desk_round.package_round, desk_round.docx_round, desk_round.second_sitting]
+
+
+def run(case, kind):
+    """A case in a browser of its own."""
+    driven = kind()
+    try:
+        case(driven)
+    except (RuntimeError, OSError) as error:
+        told(case.__name__, False, str(error).split("\n")[0])
+    finally:
+        driven.close()
 
 
 def main(words):

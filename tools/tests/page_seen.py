@@ -3,8 +3,6 @@
 The pages are those of the program that REDLINE names, where it has the command `page`, else those of examples/page.py.
 What a journal comes to is the program's `write`, else that of examples/reading.py.
 """
-import contextlib
-import io
 import os
 import subprocess
 import sys
@@ -30,31 +28,6 @@ def told(name, is_right, why=""):
 
 
 told.browser = ""
-
-
-def run_once(case, kind):
-    """Runs a case in a browser of its own, and gives what it told."""
-    lines = io.StringIO()
-    with contextlib.redirect_stdout(lines):
-        driven = kind()
-        try:
-            case(driven)
-        except (RuntimeError, OSError) as error:
-            told(case.__name__, False, str(error).split("\n")[0])
-        finally:
-            driven.close()
-    return lines.getvalue()
-
-
-def run(case, kind):
-    """Tells how a case went. A browser that other work holds up can stumble, so a case that failed is run once more; then its lines
-    are those of the second time, and the first one's faults are told on standard error."""
-    lines = run_once(case, kind)
-    faults = [line for line in lines.split("\n") if line.startswith("FAILED ")]
-    if faults:
-        print("\n".join("once more, after " + line for line in faults), file=sys.stderr)
-        lines = run_once(case, kind)
-    print(lines, end="", flush=True)
 
 
 def same(name, came, wanted):

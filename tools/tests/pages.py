@@ -22,7 +22,7 @@ import page_views
 import page_work
 from chromium import Chromium
 from firefox import Firefox
-from page_seen import IS_OWN, LOCK, REVIEWERS, Seen, page_of, run, second_page, told
+from page_seen import IS_OWN, LOCK, REVIEWERS, Seen, page_of, second_page, told
 
 BROWSERS = [Chromium, Firefox]
 MODULES = [page_round, page_store, page_work, page_looks, page_sizes, page_signs, page_views, page_hostile, page_large]
@@ -54,6 +54,17 @@ def picture(file):
         seen.run("document.querySelector('main').scrollTop = 0; document.querySelector('aside > ol').scrollTop = 105")
         time.sleep(0.3)
         driven.picture(file)
+    finally:
+        driven.close()
+
+
+def run(case, kind):
+    """A case in a browser of its own."""
+    driven = kind()
+    try:
+        case(driven)
+    except (RuntimeError, OSError) as error:
+        told(case.__name__, False, str(error).split("\n")[0])
     finally:
         driven.close()
 
