@@ -11,9 +11,9 @@ WORDS_OF_CALLS = {
     # so many journals of twenty words each
     "journals": ["write P JS", "list P JS", "report P JS", "page P JS", "join JS"],
     # so many changes, each by an author of its own
-    "authors": ["check P", "list P", "report P --by author", "page P", "left P"],
+    "authors": ["check P", "list P", "report P", "page P", "left P"],
     # so many ranges that each choose the most of the changes
-    "ranges": ["decide P Ann accept numbers:RANGES", "list P --only numbers:RANGES"],
+    "ranges": ["decide P Ann --accept numbers:RANGES", "list P --only numbers:RANGES"],
     # so many insertions in one another, each with a text of its own
     "nested": ["check P", "list P", "list P --format words", "list P --format full", "list P --format words --only numbers:1", "page P", "text P --view marked", "text P --view bare"],
 }
