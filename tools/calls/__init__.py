@@ -1,1 +1,1 @@
-"""What redline-docx does besides its calls of redline: locks that hold nothing, and journals in a folder."""
+"""What redline-docx does: its words, its calls of redline with files in memory, and what it makes of their output."""

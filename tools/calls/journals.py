@@ -1,8 +1,14 @@
 """The journals in a folder that were made for a document: the second line of a journal says which one that is."""
+import hashlib
 import os
 
 # More than the first two lines of a journal have.
 HEAD = 200
+
+
+def digest_of(package):
+    """The digest of a package, by which its journals name it."""
+    return hashlib.sha256(package).hexdigest()
 
 
 def document_of(path):

@@ -7,7 +7,7 @@ Makes a .docx of PACKAGE, damages it N times by bytes that are changed and ends 
 the same with the package and packs it. Each try has to end with the statuses 0 or 1: with 1 in a line, with 0 in bytes that
 can be turned back or are refused in turn. Damage is drawn from the number of the try, so each run tries the same.
 """
-import importlib.machinery
+import os
 import random
 import sys
 import types
@@ -16,10 +16,11 @@ sys.dont_write_bytecode = True
 
 
 def flatopc_of(path):
-    """The script flatopc as a module."""
-    flatopc = types.ModuleType("flatopc")
-    importlib.machinery.SourceFileLoader("flatopc", path).exec_module(flatopc)
-    return flatopc
+    """What the script flatopc is made of: the modules beside it."""
+    sys.path.insert(0, os.path.dirname(os.path.abspath(path)))
+    from opc import archive, pack, unpack, xml
+
+    return types.SimpleNamespace(unpack=unpack.unpack, pack=pack.pack, NotOfTheForm=xml.NotOfTheForm, OLDER=archive.OLDER, TYPES=archive.TYPES)
 
 
 def damaged(data, number):

@@ -12,18 +12,15 @@ import os
 import re
 import sys
 
-from came_back import TOP, Desk, tell
-import importlib.machinery
-import types
+from came_back import Desk, tell
+from opc.unpack import unpack
 
-flatopc = types.ModuleType("flatopc")
-importlib.machinery.SourceFileLoader("flatopc", os.path.join(TOP, "tools", "flatopc")).exec_module(flatopc)
 HALVES = 4
 
 
 def package_of(folder, name):
     with open(os.path.join(folder, name), "rb") as file:
-        return flatopc.unpack(file.read(), name != "contract.docx", lambda line: None)
+        return unpack(file.read(), name != "contract.docx", lambda line: None)
 
 
 def new_words(before, after):
