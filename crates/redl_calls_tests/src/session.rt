@@ -54,7 +54,7 @@ fn session_of<'t>(alloc: Global, text: &'t [u8], words: &[&[u8]]) -> Result<Sess
     let mut pkg = Package::make(alloc, redl_xml::read(alloc, text)?)?;
     check(alloc, &pkg)?;
     let index = Index::build(alloc, &mut pkg)?;
-    Ok(Session::start(alloc, pkg, index, locks)?)
+    Ok(Session::start(alloc, pkg, index, locks))
 }
 
 // What becomes of an entry.
@@ -161,7 +161,7 @@ fn decided(
     let mut session = session_of(alloc, text.as_bytes(), &[author])?;
     let refused = session.admit_many(entries_of(alloc, lines)?)?;
     let verdicts = session.verdicts()?;
-    let kept = session.says() == [Say::Accept, Say::Keep].as_slice();
+    let kept = session.says()?.as_slice() == [Say::Accept, Say::Keep].as_slice();
     Ok((refused.len(), verdicts, kept))
 }
 

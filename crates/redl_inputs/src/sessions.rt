@@ -104,7 +104,7 @@ pub fn start<'b>(
             digest: LazyDigest::Of(bytes),
             count,
         },
-        session: Session::start(alloc, numbered.pkg, numbered.index, locks)?,
+        session: Session::start(alloc, numbered.pkg, numbered.index, locks),
         remarks: Remarks {
             refused: RefusedEntries::new(alloc),
             second: RefusedEntries::new(alloc),

@@ -5,17 +5,19 @@ use Rattle.std.proofs.lemmas.Bool.{not-true}
 use Rattle.redl_editor.specs.Documents.{Document}
 use Rattle.redl_index.specs.Numbers.{numbered_package}
 use Rattle.redl_index.specs.declared.revision.Revision.{Revision}
+use Rattle.redl_join.proofs.Lists.{sorted_insert}
 use Rattle.redl_join.proofs.Unions.{book-none, book-union, without-with}
 use Rattle.redl_join.specs.Books.{has_entry, union, with_entry, without_entry}
 use Rattle.redl_join.specs.Verdicts.{verdict_at}
+use Rattle.redl_journal.proofs.EntryOrder.{entry_order-total}
 use Rattle.redl_journal.specs.declared.entry.Entry.{Entry}
+use Rattle.redl_live_session.specs.Consistency.{IsConsistent}
 use Rattle.redl_rules.specs.Attributes.{broken_rule}
 use Rattle.redl_kinds.specs.declared.lock.Lock.{Lock}
-use Rattle.redl_session.proofs.Consistency.{consistent-with}
-use Rattle.redl_session.proofs.SaysLaws.{says_of-none}
+use Rattle.redl_session.proofs.SaysLaws.{says_of-none, says_of-with}
 use Rattle.redl_session.specs.Refusals.{admitted}
 use Rattle.redl_session.specs.Says.{say_of_verdict, says_of}
-use Rattle.redl_session.specs.Sessions.{IsConsistent, SessionState}
+use Rattle.redl_session.specs.Sessions.{SessionState}
 use Rattle.redl_tree.specs.Leaves.Settings.{set_say}
 use Rattle.redl_tree.specs.Model.Nodes.{Nodes}
 use Rattle.redl_tree.specs.declared.kinds.Say.{Say}
@@ -32,9 +34,7 @@ pub live-begun : (editor : Document) (pkg : Nodes) (revisions : List Revision) (
 live-begun editor pkg revisions book count is many none numbered sound =
     subst (λ (d : Document). IsConsistent d.nodes revisions book d.says) (sym is)
     (record {
-      numbered = numbered;
-      sound = sound;
-      ordered = rw none book-none;
+      session = record { numbered = numbered; sound = sound; ordered = rw none book-none };
       decided = ap (λ (n : ℕ). replicate n Keep) many ∙ says_of-none (length revisions) ∙ ap (λ (b : List Entry). says_of b (length revisions)) (sym none);
     })
 
@@ -44,6 +44,26 @@ set-is said zero say some = absurd (omega (arith, some))
 set-is said (suc n) say some = let at : suc n - 1 ≡ n = omega arith in ap (λ (k : ℕ). set said k say) at
 
 -- a new entry, whose revision got the say of its verdict
+consistent-with : (nodes : Nodes) (revisions : List Revision) (book new : List Entry) (says : List Say) (entry : Entry) (say : Say)
+    → IsConsistent nodes revisions book says → 0 < entry.rev → entry.rev ≤ length revisions
+    → new ≡ with_entry book entry → say ≡ say_of_verdict (verdict_at new entry.rev)
+    → IsConsistent nodes revisions new (set says (entry.rev - 1) say)
+consistent-with nodes revisions book new says entry say kept some within is said =
+    let place : ℕ = entry.rev - 1 in
+    let count : ℕ = length revisions in
+    record {
+      session = record {
+        numbered = kept.session.numbered;
+        sound = kept.session.sound;
+        ordered = rw is (sorted_insert entry_order-total book entry kept.session.ordered);
+      };
+      decided = ap (λ (old : List Say). set old place say) kept.decided
+          ∙ ap (λ (one : Say). set (says_of book count) place one) (said ∙ ap (λ (b : List Entry). say_of_verdict (verdict_at b entry.rev)) is)
+          ∙ says_of-with book entry count kept.session.ordered some within
+          ∙ ap (λ (b : List Entry). says_of b count) (sym is);
+    }
+
+-- the same in the document of the editor
 pub live-with : (old new : Document) (revisions : List Revision) (book later : List Entry) (entry : Entry) (say : Say)
     → IsConsistent old.nodes revisions book old.says → 0 < entry.rev → entry.rev ≤ length revisions
     → later ≡ with_entry book entry → say ≡ say_of_verdict (verdict_at later entry.rev)
@@ -66,8 +86,10 @@ pub live-turned : (old new : Document) (revisions : List Revision) (locks : List
     → new.nodes ≡ old.nodes → new.says ≡ says_of later (length revisions)
     → IsConsistent new.nodes revisions later new.says
 live-turned old new revisions locks book later entries kept is nodes said = record {
-  numbered = rw nodes kept.numbered;
-  sound = rw nodes kept.sound;
-  ordered = rw is (book-union book (admitted revisions locks entries) kept.ordered);
+  session = record {
+    numbered = rw nodes kept.session.numbered;
+    sound = rw nodes kept.session.sound;
+    ordered = rw is (book-union book (admitted revisions locks entries) kept.session.ordered);
+  };
   decided = said;
 }

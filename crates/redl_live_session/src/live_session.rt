@@ -40,7 +40,8 @@ pub struct LiveSession<'a> {
 
 impl<'a> Model for LiveSession<'a> {
     ghost use Rattle.std.specs.Coded.{codes};
-    ghost use Rattle.redl_session.specs.Sessions.{SessionState, state_code, IsConsistent};
+    ghost use Rattle.redl_live_session.specs.Consistency.{IsConsistent};
+    ghost use Rattle.redl_session.specs.Sessions.{SessionState, state_code};
 
     ghost Value = { SessionState };
 

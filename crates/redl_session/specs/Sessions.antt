@@ -50,10 +50,8 @@ pub record StopsAfter (old new : SessionState) (entries : List Entry) : Type 0 w
   pub splits : entries ≡ first ++ rest
   pub state : new ≡ after old first
 
--- the invariant of a session: its package has the numbers of its revisions and is sound, its book
--- is in order, and the says are the book's
-pub record IsConsistent (nodes : Nodes) (revisions : List Revision) (book : List Entry) (says : List Say) : Type 0 where
+-- the invariant of a session: its package has the numbers of its revisions and is sound, and its book is in order
+pub record IsInOrder (nodes : Nodes) (book : List Entry) : Type 0 where
   pub numbered : numbered_package nodes ≡ nodes
   pub sound : broken_rule nodes ≡ None
   pub ordered : IsBook book
-  pub decided : says ≡ says_of book (length revisions)

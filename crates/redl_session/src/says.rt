@@ -17,8 +17,8 @@ pub fn say_of(verdict: Verdict) -> Say
     }
 }
 
-/// Sets each say to that of the book's verdict. The first is that of revision 1.
-pub(crate) fn decide(book: &Book, says: &mut Vec<Say>, count: u32)
+// Sets each say to that of the book's verdict. The first is that of revision 1.
+fn decide(book: &Book, says: &mut Vec<Say>, count: u32)
     requires { length says.old.items ≡ count }
     ensures { says.new.items ≡ says_of book.now count }
 {

@@ -19,7 +19,7 @@ ghost use Rattle.redl_tree.specs.Model.View.{nodes_of};
 use crate::admission::{add_copy, cause, take_in};
 use crate::locks::Locks;
 use crate::refusal::{AdmitError, Refusal, SessionWriteError, Taken};
-use crate::says::{decide, say_of, verdicts};
+use crate::says::{book_says, verdicts};
 use redl_index::Index;
 use redl_io::Sink;
 use redl_join::{Book, Verdict};
@@ -31,8 +31,8 @@ use redl_tree::{Node, Say};
 use std::alloc::{AllocError, Global};
 use std::marker::Model;
 
-/// A sound package, its revisions, the locks, and the book of the entries that were admitted. Contracts see these
-/// four; the say of each revision is always that of the book's verdict.
+/// A sound package, its revisions, the locks, and the book of the entries that were admitted. Contracts see these four. The says
+/// are made of the book when they are asked for, so that entries cost the same however many revisions there are.
 #[derive(Drop)]
 pub struct Session<'a> {
     alloc: Global,
@@ -40,12 +40,11 @@ pub struct Session<'a> {
     index: Index,
     locks: Locks,
     book: Book,
-    says: Vec<Say>,
 }
 
 impl<'a> Model for Session<'a> {
     ghost use Rattle.std.specs.Coded.{codes};
-    ghost use Rattle.redl_session.specs.Sessions.{SessionState, state_code, IsConsistent};
+    ghost use Rattle.redl_session.specs.Sessions.{SessionState, state_code, IsInOrder};
 
     ghost Value = { SessionState };
 
@@ -53,33 +52,26 @@ impl<'a> Model for Session<'a> {
 
     ghost view = { λ session. record { nodes = session.original; revisions = session.index; locks = session.locks; book = session.book } };
 
-    ghost invariant = { λ session. IsConsistent session.original session.index session.book session.says.items };
+    ghost invariant = { λ session. IsInOrder session.original session.book };
 }
 
 impl<'a> Session<'a> {
-    /// A session with no entries. `Err` means out of memory, and drops all three.
+    /// A session with no entries.
     ///
     /// The package has the kinds and numbers that its index gave it, and is sound.
-    pub fn start(
-        alloc: Global,
-        pkg: Package<'a>,
-        index: Index,
-        locks: Locks,
-    ) -> Result<Session<'a>, AllocError>
+    pub fn start(alloc: Global, pkg: Package<'a>, index: Index, locks: Locks) -> Session<'a>
         requires numbered { numbered_package pkg ≡ pkg }
         requires index { index ≡ revisions_of pkg }
         requires sound { broken_rule pkg ≡ None }
-        ensures { IfOk result (λ session. session ≡ record { nodes = pkg.entry; revisions = index; locks = locks; book = [] }) }
+        ensures { result ≡ record { nodes = pkg.entry; revisions = index; locks = locks; book = [] } }
     {
-        let says = vec![in alloc; Say::Keep; index.count() as usize]?;
-        Ok(Session {
+        Session {
             alloc,
             original: pkg,
             index,
             locks,
             book: Book::new(alloc),
-            says,
-        })
+        }
     }
 
     /// Admits the entry. A refusal hands it back and changes nothing.
@@ -104,10 +96,7 @@ impl<'a> Session<'a> {
             return Err(Refusal { entry, why });
         }
         match add_copy(self.alloc, &mut self.book, &entry) {
-            Ok(true) => {
-                self.says[entry.rev as usize - 1] = say_of(self.book.verdict(entry.rev));
-                Ok(Taken::New)
-            }
+            Ok(true) => Ok(Taken::New),
             Ok(false) => Ok(Taken::Repeat),
             Err(_) => Err(Refusal {
                 entry,
@@ -116,8 +105,7 @@ impl<'a> Session<'a> {
         }
     }
 
-    /// Admits these entries, one after another, and gives the refused ones in their order. Each verdict is made once, after
-    /// all of them, so this is faster than `admit` for many entries.
+    /// Admits these entries, one after another, and gives the refused ones in their order.
     ///
     /// `Err` means out of memory: a first part of the entries was admitted, and the refused ones of it are lost.
     pub fn admit_many(&mut self, entries: Vec<Entry>) -> Result<Vec<Refusal>, AllocError>
@@ -127,15 +115,13 @@ impl<'a> Session<'a> {
         ensures refused { IfOk result (λ refused. refused.items ≡ refusals self.old.revisions self.old.locks entries.items) }
         ensures stopped { OnErr result (StopsAfter self.old self.new entries.items) }
     {
-        let refused = take_in(
+        take_in(
             self.alloc,
             &self.index,
             &self.locks,
             &mut self.book,
             entries,
-        );
-        decide(&self.book, &mut self.says, self.index.count());
-        refused
+        )
     }
 
     /// What the reviewers' words on the revision come to. For programs that ask about one revision at a time.
@@ -152,12 +138,11 @@ impl<'a> Session<'a> {
         verdicts(self.alloc, &self.book, self.index.count())
     }
 
-    /// The say of each revision, in the order of their numbers: that of its verdict. For programs that show the says, which no
-    /// command does.
-    pub fn says(&self) -> &[Say]
-        ensures { result.now ≡ says self.now }
+    /// The say of each revision, in the order of their numbers: that of its verdict. `Err` means out of memory.
+    pub fn says(&self) -> Result<Vec<Say>, AllocError>
+        ensures { IfOk result (λ said. said.items ≡ says self.now) }
     {
-        &self.says
+        book_says(self.alloc, &self.book, self.index.count())
     }
 
     /// The entries that were admitted.
@@ -202,7 +187,7 @@ impl<'a> Session<'a> {
     pub fn write<K: Sink>(&self, out: &mut K) -> Result<(), SessionWriteError>
         ensures { Writes K.told K.faults K.settled K.lenders out.old out.new (text (pass_package (says self.now) self.now.nodes)) result }
     {
-        let Ok(nodes) = pass(self.alloc, self.original.nodes(), &self.says) else {
+        let Ok(nodes) = self.passed() else {
             return Err(SessionWriteError::NoMemory);
         };
         match write_nodes(&nodes, out) {
@@ -220,6 +205,15 @@ impl<'a> Session<'a> {
         ensures survival { IfOk result (λ passed. map text_pieces (stories (nodes_of passed.items)) ≡ map (survivors (says self.entry)) (stories self.entry.nodes)) }
         ensures soundness { IfOk result (λ passed. broken_rule (nodes_of passed.items) ≡ None) }
     {
-        into_passed(self.alloc, self.original.into_nodes(), &self.says)
+        let says = self.says()?;
+        into_passed(self.alloc, self.original.into_nodes(), &says)
+    }
+
+    // A copy of the nodes that are left of the package under the says.
+    fn passed(&self) -> Result<Vec<Node<'a>>, AllocError>
+        ensures { IfOk result (λ passed. nodes_of passed.items ≡ pass_package (says self.now) self.now.nodes) }
+    {
+        let says = self.says()?;
+        pass(self.alloc, self.original.nodes(), &says)
     }
 }

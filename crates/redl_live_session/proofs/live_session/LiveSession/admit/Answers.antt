@@ -38,18 +38,18 @@ returns-in-Err-set-clause-untouched c =
 pub invariant_of-self-in-Ok-false : goal.invariant_of-self-in-Ok-false
 invariant_of-self-in-Ok-false c =
     let same : c.add_copy.new.book ≡ c.self.inside.book =
-    book-repeat c.self.inside.book c.add_copy.new.book c.args.entry c.self.invariant.ordered c.in-Ok-false.ensures.added (sym c.in-Ok-false.field-0-test ∙ c.in-Ok-false.ensures.was_new) in
+    book-repeat c.self.inside.book c.add_copy.new.book c.args.entry c.self.invariant.session.ordered c.in-Ok-false.ensures.added (sym c.in-Ok-false.field-0-test ∙ c.in-Ok-false.ensures.was_new) in
     rw same c.self.invariant
 
 pub invariant_of-self-in-Ok-false-2 : goal.invariant_of-self-in-Ok-false-2
 invariant_of-self-in-Ok-false-2 c =
     let same : c.add_copy.new.book ≡ c.self.inside.book =
-    book-repeat c.self.inside.book c.add_copy.new.book c.args.entry c.self.invariant.ordered c.in-Ok-false.ensures.added (sym c.in-Ok-false.field-0-test ∙ c.in-Ok-false.ensures.was_new) in
+    book-repeat c.self.inside.book c.add_copy.new.book c.args.entry c.self.invariant.session.ordered c.in-Ok-false.ensures.added (sym c.in-Ok-false.field-0-test ∙ c.in-Ok-false.ensures.was_new) in
     rw same c.self.invariant
 
 pub returns-in-Ok-false-clause-repeat : goal.returns-in-Ok-false-clause-repeat
 returns-in-Ok-false-clause-repeat c =
     let same : c.add_copy.new.book ≡ c.self.inside.book =
-    book-repeat c.self.inside.book c.add_copy.new.book c.args.entry c.self.invariant.ordered c.in-Ok-false.ensures.added (sym c.in-Ok-false.field-0-test ∙ c.in-Ok-false.ensures.was_new) in
+    book-repeat c.self.inside.book c.add_copy.new.book c.args.entry c.self.invariant.session.ordered c.in-Ok-false.ensures.added (sym c.in-Ok-false.field-0-test ∙ c.in-Ok-false.ensures.was_new) in
     let back = ap (λ (book : List Entry). state_of c.self.inside.editor c.self.inside.index c.self.inside.locks book) same ∙ c.self.view_is in
     elim c.match-entry-2.branch [ in-Long-2 w ↦ λ _. w.self-is ∙ back | in-Short-2 w ↦ λ _. w.self-is ∙ back ]

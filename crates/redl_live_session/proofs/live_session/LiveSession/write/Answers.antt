@@ -7,10 +7,10 @@ use Rattle.redl_live_session.proofs.live_session.LiveSession.write.Goals as goal
 
 pub returns-clause-survival : goal.returns-clause-survival
 returns-clause-survival g c =
-    left_survives (says c.args.self.now) c.args.self.now.nodes (subst (λ (s : SessionState). numbered_package s.nodes ≡ s.nodes) c.self.view_is c.self.invariant.numbered)
+    left_survives (says c.args.self.now) c.args.self.now.nodes (subst (λ (s : SessionState). numbered_package s.nodes ≡ s.nodes) c.self.view_is c.self.invariant.session.numbered)
 
 pub returns-clause-soundness : goal.returns-clause-soundness
 returns-clause-soundness g c =
-    let numbered = subst (λ (s : SessionState). numbered_package s.nodes ≡ s.nodes) c.self.view_is c.self.invariant.numbered in
-    let sound = subst (λ (s : SessionState). broken_rule s.nodes ≡ None) c.self.view_is c.self.invariant.sound in
+    let numbered = subst (λ (s : SessionState). numbered_package s.nodes ≡ s.nodes) c.self.view_is c.self.invariant.session.numbered in
+    let sound = subst (λ (s : SessionState). broken_rule s.nodes ≡ None) c.self.view_is c.self.invariant.session.sound in
     left_is_sound (says c.args.self.now) c.args.self.now.nodes numbered sound

@@ -17,8 +17,8 @@ returns-clause-survival c =
     let numbered : numbered_package c.args.self.nodes ≡ c.args.self.nodes = subst (λ (s : SessionState). numbered_package s.nodes ≡ s.nodes) c.self.view_is c.self.invariant.numbered in
     let all : pass_package c.deref.result.now (nodes_of c.into_nodes.result.items) ≡ pass_package (says c.args.self) c.args.self.nodes =
     ap (λ (ns : Nodes). pass_package c.deref.result.now ns) c.into_nodes.ensures.nodes
-    ∙ ap (λ (ss : List Say). pass_package ss c.self.inside.original) (c.deref.ensures.value ∙ c.self.invariant.decided)
-    ∙ ap (λ (s : SessionState). pass_package (says s) s.nodes) c.self.view_is in
+    ∙ ap (λ (ss : List Say). pass_package ss c.self.inside.original) (c.deref.ensures.value ∙ c.in_ok-says.ensures)
+    ∙ ap (λ (s : SessionState). pass_package (says c.args.self) s.nodes) c.self.view_is in
     IfOk-weaker c.into_passed.result
     (λ (passed : Vec Node Global). nodes_of passed.items ≡ pass_package c.deref.result.now (nodes_of c.into_nodes.result.items))
     (λ (passed : Vec Node Global). map text_pieces (stories (nodes_of passed.items)) ≡ map (survivors (says c.args.self)) (stories c.args.self.nodes))
@@ -31,8 +31,8 @@ returns-clause-soundness c =
     let sound : broken_rule c.args.self.nodes ≡ None = subst (λ (s : SessionState). broken_rule s.nodes ≡ None) c.self.view_is c.self.invariant.sound in
     let all : pass_package c.deref.result.now (nodes_of c.into_nodes.result.items) ≡ pass_package (says c.args.self) c.args.self.nodes =
     ap (λ (ns : Nodes). pass_package c.deref.result.now ns) c.into_nodes.ensures.nodes
-    ∙ ap (λ (ss : List Say). pass_package ss c.self.inside.original) (c.deref.ensures.value ∙ c.self.invariant.decided)
-    ∙ ap (λ (s : SessionState). pass_package (says s) s.nodes) c.self.view_is in
+    ∙ ap (λ (ss : List Say). pass_package ss c.self.inside.original) (c.deref.ensures.value ∙ c.in_ok-says.ensures)
+    ∙ ap (λ (s : SessionState). pass_package (says c.args.self) s.nodes) c.self.view_is in
     IfOk-weaker c.into_passed.result
     (λ (passed : Vec Node Global). nodes_of passed.items ≡ pass_package c.deref.result.now (nodes_of c.into_nodes.result.items))
     (λ (passed : Vec Node Global). broken_rule (nodes_of passed.items) ≡ None)
