@@ -1,0 +1,2 @@
+pub mod MaskLaws
+mod Rows
