@@ -1,20 +1,7 @@
--- Texts that are written as they are.
-use Rattle.std.proofs.Common.{◌≡◌, ℕ, List, [], ◌∷◌, ◌++◌, Bool, true, false, true≢false, ◌==◌, map, refl, sym, ap, ◌∙◌, if◌then◌else◌}
-use Rattle.std.proofs.lemmas.Bool.{eqb-true}
+-- Fields that are written as they are.
+use Rattle.std.proofs.Common.{◌≡◌, ℕ, List, [], ◌∷◌, ◌++◌, Bool, true, false, true≢false, ◌==◌, refl, sym, ap, ◌∙◌, if◌then◌else◌}
 use Rattle.std.specs.List.{flat_map, list_all}
-use Rattle.redl_formats.specs.Fields.{shown, escape, is_shown, is_unescaped}
-
-pub shown_same : (bytes : List ℕ) → list_all is_shown bytes ≡ true → map shown bytes ≡ bytes
-shown_same [] all = refl
-shown_same (byte ∷ bytes) all = by (shown byte == byte) refl (shown_same bytes)
-  where
-    by : (test : Bool) → (shown byte == byte) ≡ test → (list_all is_shown bytes ≡ true → map shown bytes ≡ bytes) → map shown (byte ∷ bytes) ≡ byte ∷ bytes
-    by true is rest =
-        let more : list_all is_shown bytes ≡ true = rw is at all in
-        ap (λ one. one ∷ map shown bytes) (eqb-true (shown byte) byte is) ∙ ap (λ bs. byte ∷ bs) (rest more)
-    by false is rest =
-        let no : false ≡ true = rw is at all in
-        absurd (true≢false (sym no))
+use Rattle.redl_formats.specs.Fields.{escape, is_unescaped}
 
 escape-here : (byte : ℕ) (a b c d : Bool) → (byte == 92) ≡ a → (byte == 9) ≡ b → (byte == 10) ≡ c → (byte == 13) ≡ d
     → (if a then false else if b then false else if c then false else if d then false else true) ≡ true → escape byte ≡ byte ∷ []

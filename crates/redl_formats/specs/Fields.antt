@@ -1,5 +1,5 @@
 -- The fields of which formats make their texts: names, columns, fields with tabs between, and dates (our own rule).
-use Rattle.std.specs.Prelude.{ℕ, ◌-◌, ◌==◌, ◌||◌, nat_lt, Bool, true, false, List, [], ◌∷◌, ◌++◌, length, replicate, codes, if◌then◌else◌, Option, Some, None, ℤ}
+use Rattle.std.specs.Prelude.{ℕ, ◌-◌, ◌==◌, Bool, true, false, List, [], ◌∷◌, ◌++◌, length, replicate, codes, if◌then◌else◌, Option, Some, None, ℤ}
 use Rattle.json.specs.Token.{Token, null as null_token, string as string_token}
 use Rattle.serde_json.specs.Data.{Data, null, string}
 use Rattle.redl_formats.specs.Dates.{moment_text}
@@ -34,14 +34,6 @@ right_in width bytes = replicate (width - length bytes) 32 ++ bytes
 -- at the left end of so many places, or longer
 abbrev pub left_in : ℕ → List ℕ → List ℕ
 left_in width bytes = bytes ++ replicate (width - length bytes) 32
-
--- a control character of ASCII is shown as a question mark
-unfoldable pub shown : ℕ → ℕ
-shown byte = if nat_lt byte 32 || byte == 127 then 63 else byte
-
--- a byte that is shown as it is
-abbrev pub is_shown : ℕ → Bool
-is_shown byte = shown byte == byte
 
 -- ---- fields with tabs between
 

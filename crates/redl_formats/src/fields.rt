@@ -1,11 +1,11 @@
 //! Fields as texts.
 
-ghost use Rattle.std.specs.Prelude.{◌≡◌, ◌≤◌, ◌++◌, OnOk, IfOk, length, map, replicate, decimal};
+ghost use Rattle.std.specs.Prelude.{◌≡◌, ◌≤◌, ◌++◌, OnOk, IfOk, length, replicate, decimal};
 ghost use Rattle.std.specs.List.{flat_map, list_all};
 ghost use Rattle.redl_journal.specs.Journals.{word_text};
 ghost use Rattle.redl_stamp.specs.Moment.{IsMoment};
 ghost use Rattle.redl_formats.specs.Dates.{date_text};
-ghost use Rattle.redl_formats.specs.Fields.{verdict_name, right_in, left_in, shown, escape, is_shown, is_unescaped};
+ghost use Rattle.redl_formats.specs.Fields.{verdict_name, right_in, left_in, escape, is_unescaped};
 ghost use Rattle.std.specs.Prelude.{IfSome};
 
 use crate::dates::moment_text;
@@ -83,34 +83,6 @@ pub fn push_date(line: &mut Vec<u8>, seconds: Option<i64>, width: usize) -> Resu
         Some(seconds) => push_left(line, &moment_text(seconds), width),
         None => push_left(line, b"-", width),
     }
-}
-
-/// Adds the bytes, with question marks for control characters of ASCII. `Err` means out of memory.
-#[tactic(auto, unfolding(crate::specs::Fields::shown), using(crate::proofs::PlainLaws::shown_same))]
-pub fn push_shown(line: &mut Vec<u8>, bytes: &[u8]) -> Result<(), AllocError>
-    ensures { OnOk result (line.new.items ≡ line.old.items ++ map shown bytes.now) }
-{
-    if are_shown(bytes) {
-        return line.extend_from_slice(bytes);
-    }
-    for byte in bytes {
-        line.push(shown(*byte))?;
-    }
-    Ok(())
-}
-
-// Whether no byte is a control character of ASCII.
-fn are_shown(bytes: &[u8]) -> bool
-    ensures { result ≡ list_all is_shown bytes.now }
-{
-    bytes.iter().all(|byte| shown(*byte) == *byte)
-}
-
-#[tactic(auto, unfolding(crate::specs::Fields::shown))]
-fn shown(byte: u8) -> u8
-    ensures { result ≡ shown byte }
-{
-    if byte < 32 || byte == 127 { b'?' } else { byte }
 }
 
 /// Adds the bytes, with two bytes for each backslash, tab and end of a line. `Err` means out of memory.

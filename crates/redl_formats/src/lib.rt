@@ -17,8 +17,8 @@ mod piece;
 pub use array_format::ArrayFormat;
 pub use dates::moment_text;
 pub use fields::{
-    push_date, push_escaped, push_left, push_number, push_right, push_shown, push_spaces,
-    verdict_name, word_name,
+    push_date, push_escaped, push_left, push_number, push_right, push_spaces, verdict_name,
+    word_name,
 };
 pub use line_format::LineFormat;
 pub use members::{put_date, put_number, put_text};

@@ -1,23 +1,25 @@
 -- The texts of the lines of what a document still holds (our own rule).
-use Rattle.std.specs.Prelude.{ℕ, List, [], ◌∷◌, ◌++◌, ◌==◌, map, decimal, codes, true, if◌then◌else◌}
+use Rattle.std.specs.Prelude.{ℕ, List, [], ◌∷◌, ◌++◌, ◌==◌, decimal, codes, true, if◌then◌else◌}
 use Rattle.std.specs.Str.{is_utf8}
 use Rattle.serde_json.specs.Data.{Data, string, number, unsigned, object, member, no_members}
 use Rattle.serde_json.specs.Written.{compact_text}
 use Rattle.redl_formats.specs.Formats.{array_of, lines_of}
-use Rattle.redl_formats.specs.Fields.{space, newline, right_in, left_in, shown}
+use Rattle.redl_formats.specs.Fields.{space, newline, right_in, left_in}
+use Rattle.redl_terminal.specs.Masks.{masked}
+use Rattle.redl_terminal.specs.declared.extent.Extent.TheVariants.{Field}
 use Rattle.redl_left.specs.Facts.{fact_name}
 use Rattle.redl_left.specs.declared.line.Line.{Line}
 
 -- what is told of the finds of a line, after a colon
 abbrev pub told : List ℕ → List ℕ
 told [] = []
-told (b ∷ bs) = codes ": " ++ map shown (b ∷ bs)
+told (b ∷ bs) = codes ": " ++ masked Field (b ∷ bs)
 
 -- the fact and the count in columns, the part, and what is told
 unfoldable pub text_line : Line → List ℕ
 text_line line =
     left_in 15 (fact_name line.fact)
-    ++ (space ++ (right_in 7 (decimal line.count) ++ (space ++ (map shown line.part ++ (told line.value ++ newline)))))
+    ++ (space ++ (right_in 7 (decimal line.count) ++ (space ++ (masked Field line.part ++ (told line.value ++ newline)))))
 
 -- a line for each
 abbrev pub left_text : List Line → List ℕ

@@ -3,8 +3,9 @@
 ghost use Rattle.std.specs.Prelude.{◌≡◌, ◌++◌, IfOk, OnOk};
 ghost use Rattle.redl_left_texts.specs.Texts.{text_line, told, left_text};
 
-use redl_formats::{push_left, push_number, push_shown};
+use redl_formats::{push_left, push_number};
 use redl_left::Line;
+use redl_terminal::{Extent, push_masked};
 use std::alloc::{AllocError, Global};
 
 /// A line of text for each line: its fact, its count, its part, and what is told. `Err` means out of memory.
@@ -27,7 +28,7 @@ fn push_line(text: &mut Vec<u8>, line: &Line) -> Result<(), AllocError>
     text.push(b' ')?;
     push_number(text, line.count, 7)?;
     text.push(b' ')?;
-    push_shown(text, line.part.as_bytes())?;
+    push_masked(text, Extent::Field, line.part.as_bytes())?;
     push_told(text, line.value.as_bytes())?;
     text.push(b'\n')?;
     Ok(())
@@ -41,5 +42,5 @@ fn push_told(text: &mut Vec<u8>, value: &[u8]) -> Result<(), AllocError>
         return Ok(());
     }
     text.extend_from_slice(b": ")?;
-    push_shown(text, value)
+    push_masked(text, Extent::Field, value)
 }

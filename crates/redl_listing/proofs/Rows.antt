@@ -7,7 +7,8 @@ use Rattle.redl_join.specs.declared.verdict.Verdict.TheVariants.{Undecided, Disp
 use Rattle.redl_details.specs.Details.{no_detail}
 use Rattle.redl_listing.specs.declared.row.Row.{Row}
 use Rattle.redl_formats.specs.Dates.{year_and_day, month_and_day}
-use Rattle.redl_formats.specs.Fields.{tab, newline, shown, escape}
+use Rattle.redl_formats.specs.Fields.{tab, newline, escape}
+use Rattle.redl_terminal.specs.Masks.{hidden_length}
 use Rattle.redl_listing.specs.Texts.{text_row, decided_columns, named_fields, decided_fields, tab_row, text_listing, tab_listing, json_listing}
 
 -- an insertion of Ann's
@@ -37,11 +38,11 @@ move = record {
 }
 
 row_text : text_listing (insertion ∷ []) true ≡ codes "      1 ins          open     2024-05-06T07:08:09Z Ann" ++ newline
-unfolding insertion text_row decided_columns shown digits year_and_day month_and_day
+unfolding insertion text_row decided_columns hidden_length digits year_and_day month_and_day
 row_text = refl
 
 row_text_long : text_listing (move ∷ []) false ≡ codes "12345678 move         disputed -                    A?\\?" ++ newline
-unfolding move text_row decided_columns shown digits
+unfolding move text_row decided_columns hidden_length digits
 row_text_long = refl
 
 row_tab : tab_listing (insertion ∷ []) true ≡ codes "1" ++ tab ++ codes "ins" ++ tab ++ codes "open" ++ tab ++ codes "2024-05-06T07:08:09Z" ++ tab ++ codes "1" ++ tab ++ codes "/word/document.xml" ++ tab ++ codes "Ann" ++ newline

@@ -1,8 +1,9 @@
 -- The end of a text that stands before the words.
-use Rattle.std.proofs.Common.{◌≡◌, ◌<◌, ◌-◌, ◌++◌, ◌∙◌, ℕ, Bool, true, false, List, map, nat_le, refl, sym, ap, arith}
+use Rattle.std.proofs.Common.{◌≡◌, ◌<◌, ◌-◌, ◌++◌, ◌∙◌, ℕ, Bool, true, false, List, [], ◌∷◌, nat_le, refl, sym, ap, arith}
 use Rattle.std.proofs.lemmas.Bool.{leb-true}
 use Rattle.redl_phrases.specs.Lines.{characters_in, without_characters}
-use Rattle.redl_formats.specs.Fields.{shown}
+use Rattle.redl_terminal.specs.Masks.{hidden_length, masked}
+use Rattle.redl_terminal.specs.declared.extent.Extent.TheVariants.{Field}
 use Rattle.redl_listing.specs.Words.{dots, near_end}
 
 near_end-long : (text : List ℕ) → 11 < characters_in text → near_end text ≡ dots ++ without_characters (characters_in text - 11) text
@@ -12,12 +13,14 @@ near_end-long text more = by (nat_le (characters_in text) 11) refl
     by true is = absurd (omega (arith, more, leb-true (characters_in text) 11 is))
     by false is = rw is refl
 
-shown-dots : (text : List ℕ) → dots ++ map shown text ≡ map shown (dots ++ text)
-unfolding shown
-shown-dots text = refl
+masked-dots : (text : List ℕ) → dots ++ masked Field text ≡ masked Field (dots ++ text)
+unfolding hidden_length
+masked-dots [] = refl
+masked-dots (c ∷ []) = refl
+masked-dots (c ∷ d ∷ text) = refl
 
 -- the last characters, with dots for those before
-pub near_end-shown : (text : List ℕ) (count : ℕ) (end : List ℕ) → 11 < characters_in text → count ≡ characters_in text → end ≡ without_characters (count - 11) text
-    → dots ++ map shown end ≡ map shown (near_end text)
-near_end-shown text count end more is end_is =
-    shown-dots end ∙ ap (λ t. map shown (dots ++ t)) (end_is ∙ ap (λ (n : ℕ). without_characters (n - 11) text) is) ∙ ap (map shown) (sym (near_end-long text more))
+pub near_end-masked : (text : List ℕ) (count : ℕ) (end : List ℕ) → 11 < characters_in text → count ≡ characters_in text → end ≡ without_characters (count - 11) text
+    → dots ++ masked Field end ≡ masked Field (near_end text)
+near_end-masked text count end more is end_is =
+    masked-dots end ∙ ap (λ t. masked Field (dots ++ t)) (end_is ∙ ap (λ (n : ℕ). without_characters (n - 11) text) is) ∙ ap (masked Field) (sym (near_end-long text more))

@@ -8,7 +8,8 @@ use Rattle.redl_join.specs.declared.verdict.Verdict.TheVariants.{Accept, Dispute
 use Rattle.redl_journal.specs.declared.entry.Word.TheVariants as word
 use Rattle.redl_phrases.specs.Phrases.{begun, heard_byte, paused}
 use Rattle.redl_listing.specs.declared.row.Row.{Row}
-use Rattle.redl_formats.specs.Fields.{newline, shown}
+use Rattle.redl_formats.specs.Fields.{newline}
+use Rattle.redl_terminal.specs.Masks.{hidden_length}
 use Rattle.redl_listing.specs.Words.{dots, numbered_columns, quoted, words_columns, words_row}
 
 -- a disputed deletion: both neighbours are cut, and who said what stands behind
@@ -32,7 +33,7 @@ deletion = record {
 
 row_disputed : words_row deletion
     ≡ codes "   32 del          disputed Bob Hay       " ++ dots ++ codes "due within [-thirty-]fourteen d" ++ dots ++ codes "  Ann Gray: accept  Bob Hay: reject" ++ newline
-unfolding deletion words_row words_columns numbered_columns quoted shown digits heard_byte paused begun
+unfolding deletion words_row words_columns numbered_columns quoted hidden_length digits heard_byte paused begun
 row_disputed = refl
 
 -- an accepted change of a paragraph by an author with a long name, and words that are cut
@@ -49,5 +50,5 @@ change = record {
 }
 
 row_change : words_row change ≡ codes "    7 para-props   accept   Dana Fox & C" ++ dots ++ codes " {=The Seller delivers the goods " ++ dots ++ codes "=}" ++ newline
-unfolding change words_row words_columns numbered_columns quoted shown digits heard_byte paused begun
+unfolding change words_row words_columns numbered_columns quoted hidden_length digits heard_byte paused begun
 row_change = refl

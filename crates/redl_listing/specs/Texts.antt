@@ -1,13 +1,15 @@
 -- The texts of the three formats (our own rule).
-use Rattle.std.specs.Prelude.{ℕ, Bool, List, ◌++◌, map, decimal, codes}
+use Rattle.std.specs.Prelude.{ℕ, Bool, List, ◌++◌, decimal, codes}
 use Rattle.std.specs.List.{flat_map}
 use Rattle.serde_json.specs.Data.{Data, string, number, unsigned, object, member, no_members}
 use Rattle.serde_json.specs.Written.{compact_text}
 use Rattle.redl_formats.specs.Dates.{date_text}
-use Rattle.redl_formats.specs.Fields.{escape, json_date, left_in, newline, right_in, shown, space, tab, verdict_name}
+use Rattle.redl_formats.specs.Fields.{escape, json_date, left_in, newline, right_in, space, tab, verdict_name}
 use Rattle.redl_formats.specs.Formats.{array_of, lines_of}
 use Rattle.redl_kinds.specs.KindNames.{kind_name}
 use Rattle.redl_listing.specs.declared.row.Row.{Row}
+use Rattle.redl_terminal.specs.Masks.{masked}
+use Rattle.redl_terminal.specs.declared.extent.Extent.TheVariants.{Field}
 
 -- ---- columns
 
@@ -18,7 +20,7 @@ decided_columns row =
 
 -- these, and date and author
 unfoldable pub text_row : Row → List ℕ
-text_row row = decided_columns row ++ (left_in 20 (date_text row.seconds) ++ (space ++ (map shown row.author ++ newline)))
+text_row row = decided_columns row ++ (left_in 20 (date_text row.seconds) ++ (space ++ (masked Field row.author ++ newline)))
 
 -- a line for each row; closing adds nothing
 abbrev pub text_listing : List Row → Bool → List ℕ

@@ -1,7 +1,7 @@
 -- The text of the format `words`: a line for each row, with its words in their paragraph between the signs of what became of them
 -- (our own rule). A terminal of 100 columns shows it: number 5, kind 12, verdict 8 and author 13 places, a space behind each; then
 -- 12 places before, 4 for the signs, 31 for the words, 11 behind. A disputed row also says who said what.
-use Rattle.std.specs.Prelude.{ℕ, ◌-◌, nat_le, false, List, [], ◌∷◌, ◌++◌, map, replicate, decimal, codes, if◌then◌else◌}
+use Rattle.std.specs.Prelude.{ℕ, ◌-◌, nat_le, false, List, [], ◌∷◌, ◌++◌, replicate, decimal, codes, if◌then◌else◌}
 use Rattle.std.specs.List.{flat_map}
 use Rattle.redl_phrases.specs.Lines.{characters_in, without_characters}
 use Rattle.redl_phrases.specs.Phrases.{heard, kept_text, nothing_heard}
@@ -15,7 +15,9 @@ use Rattle.redl_journal.specs.Journals.{word_text}
 use Rattle.redl_tree.specs.declared.kinds.Trace.{Trace}
 use Rattle.redl_tree.specs.declared.kinds.Trace.TheVariants.{Ins, Del, From, To}
 use Rattle.redl_listing.specs.declared.row.Row.{Row}
-use Rattle.redl_formats.specs.Fields.{left_in, newline, right_in, shown, space, verdict_name}
+use Rattle.redl_formats.specs.Fields.{left_in, newline, right_in, space, verdict_name}
+use Rattle.redl_terminal.specs.Masks.{masked}
+use Rattle.redl_terminal.specs.declared.extent.Extent.TheVariants.{Field}
 
 -- the signs of what was inserted, deleted, or moved
 abbrev pub opening_of : Trace → List ℕ
@@ -69,16 +71,16 @@ numbered_columns row = right_in 5 (decimal row.number) ++ (space ++ (left_in 12 
 
 unfoldable pub words_columns : Row → List ℕ
 words_columns row =
-    numbered_columns row ++ (left_in 8 (verdict_name row.verdict) ++ (space ++ (in_places 13 (shortened 12 (map shown row.author)) ++ space)))
+    numbered_columns row ++ (left_in 8 (verdict_name row.verdict) ++ (space ++ (in_places 13 (shortened 12 (masked Field row.author)) ++ space)))
 
 -- the words in their paragraph
 unfoldable pub quoted : Row → List ℕ
 quoted row =
-    map shown (near_end row.detail.before) ++ (opening row.kind ++ (map shown (shortened 30 row.detail.words) ++ (closing row.kind ++ map shown (shortened 10 row.detail.after))))
+    masked Field (near_end row.detail.before) ++ (opening row.kind ++ (masked Field (shortened 30 row.detail.words) ++ (closing row.kind ++ masked Field (shortened 10 row.detail.after))))
 
 -- who said what, with two spaces before each
 abbrev pub said_text : LastWord → List ℕ
-said_text said = codes "  " ++ (map shown said.reviewer ++ (codes ": " ++ word_text said.word))
+said_text said = codes "  " ++ (masked Field said.reviewer ++ (codes ": " ++ word_text said.word))
 
 abbrev pub says_text : Verdict → List LastWord → List ℕ
 says_text Disputed says = flat_map said_text says

@@ -5,7 +5,8 @@ ghost use Rattle.redl_listing.specs.Rows.{IsRow};
 ghost use Rattle.redl_listing.specs.Texts.{decided_columns, text_row};
 
 use crate::row::Row;
-use redl_formats::{Piece, push_date, push_left, push_number, push_shown, verdict_name};
+use redl_formats::{Piece, push_date, push_left, push_number, verdict_name};
+use redl_terminal::{Extent, push_masked};
 use std::alloc::AllocError;
 
 /// A line for each row: number, kind, verdict, date and author in columns.
@@ -40,7 +41,7 @@ fn push_text_row(line: &mut Vec<u8>, row: &Row) -> Result<(), AllocError>
     push_decided_columns(line, row)?;
     push_date(line, row.seconds, 20)?;
     line.push(b' ')?;
-    push_shown(line, row.author.as_bytes())?;
+    push_masked(line, Extent::Field, row.author.as_bytes())?;
     line.push(b'\n')?;
     Ok(())
 }

@@ -1,19 +1,19 @@
 //! The lines of the format `words`.
 
-ghost use Rattle.std.specs.Prelude.{◌≡◌, ◌++◌, OnOk, map};
+ghost use Rattle.std.specs.Prelude.{◌≡◌, ◌++◌, OnOk};
 ghost use Rattle.std.specs.List.{flat_map};
 ghost use Rattle.redl_listing.specs.Rows.{IsRow};
-ghost use Rattle.redl_formats.specs.Fields.{shown};
+ghost use Rattle.redl_terminal.specs.Masks.{masked};
+ghost use Rattle.redl_terminal.specs.declared.extent.Extent.TheVariants.{Field};
 ghost use Rattle.redl_listing.specs.Words.{closing, closing_of, in_places, near_end, numbered_columns, opening, opening_of, quoted, said_text, says_text, shortened, words_columns, words_row};
 
 use crate::row::Row;
 use redl_details::{LastWord, Says};
-use redl_formats::{
-    Piece, push_left, push_number, push_shown, push_spaces, verdict_name, word_name,
-};
+use redl_formats::{Piece, push_left, push_number, push_spaces, verdict_name, word_name};
 use redl_join::Verdict;
 use redl_kinds::RevKind;
 use redl_phrases::{characters_in, shortened, without_characters};
+use redl_terminal::{Extent, push_masked};
 use redl_tree::Trace;
 use std::alloc::{AllocError, Global};
 
@@ -29,6 +29,8 @@ pub struct WordsRows;
 
 impl Piece<Row> for WordsRows {
     ghost use Rattle.std.specs.Prelude.{codes};
+    ghost use Rattle.redl_terminal.specs.Masks.{masked};
+    ghost use Rattle.redl_terminal.specs.declared.extent.Extent.TheVariants.{Field};
     ghost use Rattle.redl_listing.specs.Words.{words_row};
 
     ghost title = { codes "words" };
@@ -88,11 +90,11 @@ fn push_numbered_columns(line: &mut Vec<u8>, row: &Row) -> Result<(), AllocError
 
 // Adds an author in 13 places. `Err` means out of memory.
 fn push_author(line: &mut Vec<u8>, author: &[u8]) -> Result<(), AllocError>
-    ensures { OnOk result (line.new.items ≡ line.old.items ++ in_places 13 (shortened 12 (map shown author.now))) }
+    ensures { OnOk result (line.new.items ≡ line.old.items ++ in_places 13 (shortened 12 (masked Field author.now))) }
 {
     let alloc = *line.allocator();
     let mut name = Vec::new(alloc);
-    push_shown(&mut name, author)?;
+    push_masked(&mut name, Extent::Field, author)?;
     let short = shortened(alloc, &name, AUTHOR as u8 - 1)?;
     let count = characters_in(short.as_bytes());
     line.extend_from_slice(short.as_bytes())?;
@@ -115,23 +117,27 @@ fn push_quoted(line: &mut Vec<u8>, row: &Row) -> Result<(), AllocError>
 
 // Adds the last 11 characters, with dots for those before. `Err` means out of memory.
 fn push_near_end(line: &mut Vec<u8>, text: &[u8]) -> Result<(), AllocError>
-    ensures { OnOk result (line.new.items ≡ line.old.items ++ map shown (near_end text.now)) }
+    ensures { OnOk result (line.new.items ≡ line.old.items ++ masked Field (near_end text.now)) }
 {
     let count = characters_in(text);
     if count <= BEFORE {
-        return push_shown(line, text);
+        return push_masked(line, Extent::Field, text);
     }
     line.extend_from_slice("\u{2026}".as_bytes())?;
-    push_shown(line, without_characters(count - BEFORE, text))?;
+    push_masked(
+        line,
+        Extent::Field,
+        without_characters(count - BEFORE, text),
+    )?;
     Ok(())
 }
 
 // Adds the first characters, with dots for the rest. `Err` means out of memory.
 fn push_shortened(line: &mut Vec<u8>, text: &[u8], room: u8) -> Result<(), AllocError>
-    ensures { OnOk result (line.new.items ≡ line.old.items ++ map shown (shortened room text.now)) }
+    ensures { OnOk result (line.new.items ≡ line.old.items ++ masked Field (shortened room text.now)) }
 {
     let short = shortened(*line.allocator(), text, room)?;
-    push_shown(line, short.as_bytes())?;
+    push_masked(line, Extent::Field, short.as_bytes())?;
     Ok(())
 }
 
@@ -158,7 +164,7 @@ fn push_said(line: &mut Vec<u8>, said: &LastWord) -> Result<(), AllocError>
     ensures { OnOk result (line.new.items ≡ line.old.items ++ said_text said.now) }
 {
     line.extend_from_slice(b"  ")?;
-    push_shown(line, said.reviewer.as_bytes())?;
+    push_masked(line, Extent::Field, said.reviewer.as_bytes())?;
     line.extend_from_slice(b": ")?;
     line.extend_from_slice(word_name(said.word).as_bytes())?;
     Ok(())

@@ -10,7 +10,7 @@ use Rattle.redl_journal.specs.declared.entry.Entry.{Entry}
 use Rattle.redl_journal.specs.declared.entry.Word.{Word}
 use Rattle.redl_journal.specs.declared.entry.Word.TheVariants as word
 use Rattle.redl_join.specs.Books.{union}
-use Rattle.redl_formats.specs.Fields.{shown}
+use Rattle.redl_terminal.specs.Masks.{hidden_length}
 use Rattle.redl_report.specs.declared.line.ReportLine.{ReportLine}
 use Rattle.redl_report.specs.declared.line.Role.{Role}
 use Rattle.redl_report.specs.declared.line.Role.TheVariants.{Reviewer, Author}
@@ -49,13 +49,13 @@ row_lines = (refl, refl)
 
 row_text : text_report five true
     ≡ codes "reviewer       1       1       0       0 Dee\nreviewer       1       0       0       0 Eve\nauthor         1       0       0       0 Ann\nauthor         0       0       1       0 Bob\nauthor         0       0       0       1 Cy & Co\n"
-unfolding text_line count_columns digits shown
+unfolding text_line count_columns digits hidden_length
 row_text = refl
 
 -- the same for a terminal
 row_table : table_report five true
     ≡ codes "role       accept   reject disputed     open name\nreviewer        1        1        0        0 Dee\nreviewer        1        0        0        0 Eve\nauthor          1        0        0        0 Ann\nauthor          0        0        1        0 Bob\nauthor          0        0        0        1 Cy & Co\nall             1        0        1        1 revisions\n"
-unfolding table_row cells digits shown
+unfolding table_row cells digits hidden_length
 row_table = refl
 
 -- older words of a reviewer don't count, nor do words of lower rank under the same seq, and a withdrawn word leaves its revision open

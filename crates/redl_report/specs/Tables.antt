@@ -1,9 +1,11 @@
 -- The text of the format `table`, for a terminal (our own rule): a head, a line for each line of the report, and when it is closed a
 -- last line that adds up the lines of the authors, so that it counts all revisions.
-use Rattle.std.specs.Prelude.{◌≡◌, ◌≤◌, ◌+◌, ℕ, Bool, true, false, List, [], ◌++◌, map, codes, decimal, vec_len, vec_capacity, Vec}
+use Rattle.std.specs.Prelude.{◌≡◌, ◌≤◌, ◌+◌, ℕ, Bool, true, false, List, [], ◌++◌, codes, decimal, vec_len, vec_capacity, Vec}
 use Rattle.std.specs.Global.{Global}
 use Rattle.std.specs.List.{flat_map, fold}
-use Rattle.redl_formats.specs.Fields.{space, newline, right_in, left_in, shown}
+use Rattle.redl_formats.specs.Fields.{space, newline, right_in, left_in}
+use Rattle.redl_terminal.specs.Masks.{masked}
+use Rattle.redl_terminal.specs.declared.extent.Extent.TheVariants.{Field}
 use Rattle.redl_report.specs.declared.line.ReportLine.{ReportLine}
 use Rattle.redl_report.specs.declared.line.Role.{Role}
 use Rattle.redl_report.specs.declared.line.Role.TheVariants.{Reviewer, Author, Kind}
@@ -52,7 +54,7 @@ unfoldable pub table_row : List ℕ → Totals → List ℕ → List ℕ
 table_row first counts last = left_in 8 first ++ (space ++ (cells counts ++ (last ++ newline)))
 
 abbrev pub table_line : ReportLine → List ℕ
-table_line line = table_row (role_name line.role) (with_counts no_revisions line) (map shown (label_of line.role line.who))
+table_line line = table_row (role_name line.role) (with_counts no_revisions line) (masked Field (label_of line.role line.who))
 
 abbrev pub last_line : Totals → List ℕ
 last_line totals = table_row (codes "all") totals (codes "revisions")

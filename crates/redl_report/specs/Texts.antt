@@ -1,11 +1,13 @@
 -- The texts of the formats of reports (our own rule).
-use Rattle.std.specs.Prelude.{ℕ, Bool, List, [], ◌∷◌, ◌++◌, map, decimal, codes}
+use Rattle.std.specs.Prelude.{ℕ, Bool, List, [], ◌∷◌, ◌++◌, decimal, codes}
 use Rattle.json.specs.Token.{Token, key, string as string_token}
 use Rattle.serde_json.specs.Data.{Data, Members, string, number, unsigned, object, member, no_members}
 use Rattle.serde_json.specs.Written.{compact_text}
 use Rattle.redl_kinds.specs.KindNames.{kind_name}
 use Rattle.redl_formats.specs.Formats.{array_of, lines_of}
-use Rattle.redl_formats.specs.Fields.{space, newline, right_in, left_in, shown}
+use Rattle.redl_formats.specs.Fields.{space, newline, right_in, left_in}
+use Rattle.redl_terminal.specs.Masks.{masked}
+use Rattle.redl_terminal.specs.declared.extent.Extent.TheVariants.{Field}
 use Rattle.redl_report.specs.declared.line.ReportLine.{ReportLine}
 use Rattle.redl_report.specs.declared.line.Role.{Role}
 use Rattle.redl_report.specs.declared.line.Role.TheVariants.{Reviewer, Author, Kind}
@@ -30,7 +32,7 @@ count_columns line = count_column line.accept ++ (count_column line.reject ++ (c
 
 -- the role, the four counts and the name, or the kind's, in columns
 unfoldable pub text_line : ReportLine → List ℕ
-text_line line = left_in 8 (role_name line.role) ++ (space ++ (count_columns line ++ (map shown (label_of line.role line.who) ++ newline)))
+text_line line = left_in 8 (role_name line.role) ++ (space ++ (count_columns line ++ (masked Field (label_of line.role line.who) ++ newline)))
 
 -- a line for each; closing adds nothing
 abbrev pub text_report : List ReportLine → Bool → List ℕ

@@ -5,7 +5,8 @@ ghost use Rattle.redl_report.specs.Counts.{IsLine};
 ghost use Rattle.redl_report.specs.Texts.{count_column, count_columns, label_of, role_name, text_line};
 
 use crate::line::{ReportLine, Role};
-use redl_formats::{Piece, push_left, push_number, push_shown};
+use redl_formats::{Piece, push_left, push_number};
+use redl_terminal::{Extent, push_masked};
 use std::alloc::AllocError;
 
 /// A line for each: role, counts and name in columns.
@@ -62,7 +63,7 @@ fn push_text_line(text: &mut Vec<u8>, line: &ReportLine) -> Result<(), AllocErro
     push_left(text, role_name(line.role).as_bytes(), 8)?;
     text.push(b' ')?;
     push_counts(text, line)?;
-    push_shown(text, label(line))?;
+    push_masked(text, Extent::Field, label(line))?;
     text.push(b'\n')?;
     Ok(())
 }

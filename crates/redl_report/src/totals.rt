@@ -7,7 +7,8 @@ ghost use Rattle.redl_report.specs.Tables.{cell, cells, last_line, no_revisions,
 use crate::line::{ReportLine, Role};
 use crate::text_lines::{label, role_name};
 use itoa::Buffer;
-use redl_formats::{push_left, push_right, push_shown};
+use redl_formats::{push_left, push_right};
+use redl_terminal::{Extent, push_masked};
 use std::alloc::{AllocError, Global};
 
 /// How many revisions are accepted, rejected, disputed and undecided.
@@ -70,7 +71,7 @@ pub(crate) fn table_line(alloc: Global, line: &ReportLine) -> Result<Vec<u8>, Al
     ensures { IfOk result (λ text. text.items ≡ table_line line.now) }
 {
     let mut name = Vec::new(alloc);
-    push_shown(&mut name, label(line))?;
+    push_masked(&mut name, Extent::Field, label(line))?;
     let counts = Totals::none().with_counts(line)?;
     table_row(alloc, role_name(line.role), counts, &name)
 }
