@@ -15,10 +15,16 @@ use Rattle.redl_session.specs.declared.refusal.AdmitError.{AdmitError}
 use Rattle.redl_session.specs.declared.refusal.AdmitError.TheVariants.{Unknown, Locked, NoMemory}
 use Rattle.redl_session.specs.declared.refusal.Bar.{Bar}
 use Rattle.redl_session.specs.declared.refusal.Bar.TheVariants.{Author, Kind, Span}
+use Rattle.redl_terminal.specs.Masks.{masked}
+use Rattle.redl_terminal.specs.declared.extent.Extent.TheVariants.{Field}
 
 -- the end of a line
 abbrev pub newline : List ℕ
 newline = 10 ∷ []
+
+-- a name between two texts, as a terminal is given it
+abbrev pub named : List ℕ → List ℕ → List ℕ → List ℕ
+named before name after = before ++ (masked Field name ++ after)
 
 -- ---- the words of the command line
 
@@ -26,7 +32,7 @@ abbrev pub usage_line : List ℕ
 usage_line = codes "redline: cannot read the command line" ++ newline
 
 abbrev pub no_format_line : List ℕ → List ℕ
-no_format_line name = codes "redline: no format " ++ (name ++ newline)
+no_format_line name = named (codes "redline: no format ") name newline
 
 -- ---- the package
 
@@ -58,13 +64,12 @@ differ_line = codes "redline: the sittings differ" ++ newline
 -- ---- the journals
 
 abbrev pub malformed_line : List ℕ → List ℕ
-malformed_line name = codes "redline: journal " ++ (name ++ (codes ": malformed" ++ newline))
+malformed_line name = named (codes "redline: journal ") name (codes ": malformed" ++ newline)
 
 -- the line of a journal that says one thing of its package where the package has another
 abbrev pub difference_line : List ℕ → List ℕ → List ℕ → List ℕ → List ℕ
 difference_line name what found expected =
-    codes "redline: journal " ++ (name ++ (codes ": " ++ (what ++ (codes " " ++ (found
-    ++ (codes ", expected " ++ (expected ++ newline)))))))
+    named (codes "redline: journal ") name (codes ": ") ++ (what ++ (codes " " ++ (found ++ (codes ", expected " ++ (expected ++ newline)))))
 
 abbrev pub other_document_line : List ℕ → List ℕ → List ℕ → List ℕ
 other_document_line name found expected = difference_line name (codes "document") (encode_lower found) (encode_lower expected)
@@ -73,7 +78,7 @@ abbrev pub other_count_line : List ℕ → ℕ → ℕ → List ℕ
 other_count_line name found expected = difference_line name (codes "revisions") (decimal found) (decimal expected)
 
 abbrev pub no_sequence_line : List ℕ → List ℕ
-no_sequence_line reviewer = codes "redline: no sequence number left for " ++ (reviewer ++ newline)
+no_sequence_line reviewer = named (codes "redline: no sequence number left for ") reviewer newline
 
 -- ---- the limits
 
@@ -105,7 +110,7 @@ cause_line (over limit) = limit_line limit
 
 -- the line for a file that could not be read
 abbrev pub unread_line : List ℕ → List ℕ
-unread_line name = codes "redline: cannot read " ++ (name ++ newline)
+unread_line name = named (codes "redline: cannot read ") name newline
 
 -- the line for memory that ran out
 abbrev pub no_memory_line : List ℕ
@@ -145,7 +150,7 @@ ranked_text rank = if rank == 0 then [] else codes " rank " ++ decimal rank
 
 -- its reviewer, and why it is refused
 abbrev pub cause_text : List ℕ → List ℕ → List ℕ
-cause_text reviewer why = codes " " ++ (reviewer ++ (codes ": " ++ (why ++ newline)))
+cause_text reviewer why = named (codes " ") reviewer (codes ": ") ++ (why ++ newline)
 
 -- the line of a refused entry, with its cause
 abbrev pub refused_line : Entry × AdmitError → List ℕ
@@ -156,6 +161,6 @@ refused_line (entry, why) =
 
 -- the line of a lock that holds no revision
 abbrev pub idle_line : Lock → List ℕ
-idle_line (lock.Author name) = codes "redline: note: nothing by " ++ (name ++ (codes " is locked" ++ newline))
+idle_line (lock.Author name) = named (codes "redline: note: nothing by ") name (codes " is locked" ++ newline)
 idle_line (lock.Kind of_kind) = codes "redline: note: a lock on a kind holds nothing" ++ newline
 idle_line (lock.Span start end) = codes "redline: note: a lock on a span holds nothing" ++ newline

@@ -7,6 +7,7 @@ ghost use Rattle.redl_lines.specs.Lines.{failure_line, cause_line, no_format_lin
 ghost use Rattle.redl_io.specs.Sink.{Puts};
 
 use crate::failure::{Cause, Failure, Limit, PackageFault};
+use crate::named::write_named;
 use itoa::Buffer;
 use redl_io::{Failed, Sink, put_piece, put_pieces};
 
@@ -53,10 +54,7 @@ fn write_cause<K: Sink>(cause: &Cause<'_>, err: &mut K) -> Result<(), Failed>
 fn write_no_format<K: Sink>(name: &str, err: &mut K) -> Result<(), Failed>
     ensures { Puts K.told K.faults K.settled K.lenders err.old err.new (no_format_line name.now) result }
 {
-    put_pieces(
-        &[b"redline: no format ".as_slice(), name.as_bytes(), b"\n"],
-        err,
-    )
+    write_named(b"redline: no format ", name.as_bytes(), b"\n", err)
 }
 
 fn write_fault<K: Sink>(title: &[u8], fault: PackageFault, err: &mut K) -> Result<(), Failed>
@@ -94,21 +92,16 @@ fn limit_line(limit: Limit) -> &'static [u8]
 fn write_unread<K: Sink>(name: &str, err: &mut K) -> Result<(), Failed>
     ensures { Puts K.told K.faults K.settled K.lenders err.old err.new (unread_line name.now) result }
 {
-    put_pieces(
-        &[b"redline: cannot read ".as_slice(), name.as_bytes(), b"\n"],
-        err,
-    )
+    write_named(b"redline: cannot read ", name.as_bytes(), b"\n", err)
 }
 
 fn write_malformed<K: Sink>(journal: &str, err: &mut K) -> Result<(), Failed>
     ensures { Puts K.told K.faults K.settled K.lenders err.old err.new (malformed_line journal.now) result }
 {
-    put_pieces(
-        &[
-            b"redline: journal ".as_slice(),
-            journal.as_bytes(),
-            b": malformed\n",
-        ],
+    write_named(
+        b"redline: journal ",
+        journal.as_bytes(),
+        b": malformed\n",
         err,
     )
 }
@@ -168,31 +161,17 @@ fn write_difference<'a, K: Sink>(
 ) -> Result<(), Failed>
     ensures { Puts K.told K.faults K.settled K.lenders err.old err.new (difference_line journal.now what.now found.now expected.now) result }
 {
-    put_pieces(
-        &[
-            b"redline: journal ".as_slice(),
-            journal,
-            b": ",
-            what,
-            b" ",
-            found,
-            b", expected ",
-            expected,
-            b"\n",
-        ],
-        err,
-    )
+    write_named(b"redline: journal ", journal, b": ", err)?;
+    put_pieces(&[what, b" ", found, b", expected ", expected, b"\n"], err)
 }
 
-fn write_no_sequence<'a, K: Sink>(reviewer: &'a [u8], err: &mut K) -> Result<(), Failed>
+fn write_no_sequence<K: Sink>(reviewer: &[u8], err: &mut K) -> Result<(), Failed>
     ensures { Puts K.told K.faults K.settled K.lenders err.old err.new (no_sequence_line reviewer.now) result }
 {
-    put_pieces(
-        &[
-            b"redline: no sequence number left for ".as_slice(),
-            reviewer,
-            b"\n",
-        ],
+    write_named(
+        b"redline: no sequence number left for ",
+        reviewer,
+        b"\n",
         err,
     )
 }

@@ -1,7 +1,7 @@
 //! How a call ends: why it fails, the status of each end, and its lines on standard error.
 //!
 //! Read `tell` first: it writes the lines of an end, which `specs/Ends.antt` and `specs/Lines.antt` define.
-//! The layer above makes the end, and its status is a function of it alone.
+//! The layer above makes the end, and its status is a function of it alone. Names in the lines are masked for a terminal.
 //! When a failure comes, and which of several counts, is not said here. A refused entry has the cause that a session gave.
 #![tactic(auto)]
 
@@ -9,6 +9,7 @@ mod causes;
 mod end;
 mod failure;
 mod lines;
+mod named;
 mod refused;
 mod remarks;
 mod status;

@@ -11,6 +11,7 @@ ghost use Rattle.redl_journal.specs.Journals.{word_text};
 
 use crate::causes::write_failure;
 use crate::end::End;
+use crate::named::write_named;
 use crate::refused::RefusedEntries;
 use crate::remarks::Remarks;
 use itoa::Buffer;
@@ -131,10 +132,11 @@ fn write_digits<K: Sink>(rank: &str, err: &mut K) -> Result<(), Failed>
 }
 
 // The reviewer of a refused entry, and why it was refused.
-fn write_cause<'a, K: Sink>(reviewer: &'a [u8], why: &'a [u8], err: &mut K) -> Result<(), Failed>
+fn write_cause<K: Sink>(reviewer: &[u8], why: &[u8], err: &mut K) -> Result<(), Failed>
     ensures { Puts K.told K.faults K.settled K.lenders err.old err.new (cause_text reviewer.now why.now) result }
 {
-    put_pieces(&[b" ".as_slice(), reviewer, b": ", why, b"\n"], err)
+    write_named(b" ", reviewer, b": ", err)?;
+    put_pieces(&[why, b"\n"], err)
 }
 
 // A line for each lock that holds nothing.
@@ -160,14 +162,7 @@ fn write_idle_lock<K: Sink>(lock: &Lock, err: &mut K) -> Result<(), Failed>
 fn write_idle_author<K: Sink>(author: &[u8], err: &mut K) -> Result<(), Failed>
     ensures { Puts K.told K.faults K.settled K.lenders err.old err.new (idle_line (Lock.Author author.now)) result }
 {
-    put_pieces(
-        &[
-            b"redline: note: nothing by ".as_slice(),
-            author,
-            b" is locked\n",
-        ],
-        err,
-    )
+    write_named(b"redline: note: nothing by ", author, b" is locked\n", err)
 }
 
 // The word as it stands in a journal.

@@ -1,4 +1,4 @@
 use Rattle.redl_lines.proofs.causes.write_malformed.Goals as goal
 
 pub returns : goal.returns
-returns g c = rw (c.as_slice.ensures, c.as_bytes.ensures.value) at c.put_pieces.ensures
+returns g c = rw c.as_bytes.ensures.value at c.write_named.ensures
