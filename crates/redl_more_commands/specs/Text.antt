@@ -13,6 +13,8 @@ use Rattle.redl_left_texts.specs.Texts.{left_json, left_text}
 use Rattle.redl_lines.specs.Failures.{Failure}
 use Rattle.redl_marked.specs.MarkedText.{marked_text}
 use Rattle.redl_shown.specs.Shown.{shown}
+use Rattle.redl_terminal.specs.Masks.{masked}
+use Rattle.redl_terminal.specs.declared.extent.Extent.TheVariants.{Lines}
 use Rattle.redl_tree.specs.Decisions.Packages.{pass_package}
 use Rattle.redl_tree.specs.Model.Nodes.{Nodes}
 use Rattle.redl_tree.specs.declared.kinds.Say.{Say}
@@ -25,11 +27,12 @@ use Rattle.redl_words.specs.declared.command.View.TheVariants.{Original, Final, 
 abbrev pub plain_under : Say → Nodes → List ℕ
 plain_under say nodes = plain_text shown (pass_package (same_says say nodes) (numbered_package nodes))
 
--- The text of a package in a view. Before its revisions all of them are rejected, and after them all are accepted.
+-- The text of a package in a view. Before its revisions all of them are rejected, and after them all are accepted. What is for a reader
+-- is as a terminal is given it; the bare text and JSON are exact.
 abbrev pub text_in : View → Nodes → List ℕ
-text_in Original nodes = plain_under Reject nodes
-text_in Final nodes = plain_under Accept nodes
-text_in Marked nodes = marked_text (numbered_package nodes)
+text_in Original nodes = masked Lines (plain_under Reject nodes)
+text_in Final nodes = masked Lines (plain_under Accept nodes)
+text_in Marked nodes = masked Lines (marked_text (numbered_package nodes))
 text_in Bare nodes = bare_text (numbered_package nodes)
 text_in Left nodes = left_text (left_lines (numbered_package nodes))
 text_in LeftJson nodes = left_json (left_lines (numbered_package nodes))

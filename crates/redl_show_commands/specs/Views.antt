@@ -2,15 +2,14 @@
 use Rattle.std.specs.Prelude.{ℕ, List}
 use Rattle.redl_bare.specs.BareText.{bare_text}
 use Rattle.redl_commands.specs.Writing.{Writing, only_bytes}
-use Rattle.redl_marked.specs.MarkedText.{marked_text}
 use Rattle.redl_show_commands.specs.declared.text.Shown.{Shown}
-use Rattle.redl_show_commands.specs.declared.text.Shown.TheVariants.{Plain, Marked, Bare, Made}
-use Rattle.redl_views.specs.Walks.{walk_text}
+use Rattle.redl_show_commands.specs.declared.text.Shown.TheVariants.{Bare, Made, Masked}
+use Rattle.redl_terminal.specs.Masks.{masked}
+use Rattle.redl_terminal.specs.declared.extent.Extent.TheVariants.{Lines}
 
--- what a reader sees of a package: its plain text under says, its marked text or its bare text, or what was made of it
+-- what a reader sees of a package: a text of it as a terminal is given it, its bare text, or what was made of it
 abbrev pub shown_text : Shown → List ℕ
-shown_text (Plain pkg says) = walk_text says.items pkg
-shown_text (Marked pkg) = marked_text pkg
+shown_text (Masked text) = masked Lines text.items
 shown_text (Bare pkg) = bare_text pkg
 shown_text (Made text) = text.items
 

@@ -1,6 +1,7 @@
 //! `text P` and `left P`.
 //!
-//! A text isn't made before it is put: it goes out while the package is walked over.
+//! The bare text isn't made before it is put: it goes out while the package is walked over. The texts for a reader are made first, and
+//! masked for a terminal while they go out.
 
 ghost use Rattle.std.specs.Prelude.{◌≡◌, Ok, IfOk, OnErr, OnOk, replicate};
 ghost use Rattle.std.specs.Io.KnownBytes.{append_known};
@@ -13,9 +14,13 @@ ghost use Rattle.redl_io.specs.Sink.{CountsPut, GrowsByFront, Puts};
 ghost use Rattle.redl_left.specs.Lines.{left_lines};
 ghost use Rattle.redl_left_texts.specs.Texts.{left_json, left_text};
 ghost use Rattle.redl_lines.specs.Ends.{end_view};
+ghost use Rattle.redl_marked.specs.MarkedText.{marked_text};
+ghost use Rattle.redl_terminal.specs.Masks.{masked};
+ghost use Rattle.redl_terminal.specs.declared.extent.Extent.TheVariants.{Lines};
 ghost use Rattle.redl_views.specs.Walks.{walk_text};
 
 use redl_bare::put_bare;
+use redl_commands::Collected;
 use redl_index::{Counted, Surveyed};
 use redl_inputs::read_package;
 use redl_io::{Failed, Sink, Staged, put_piece};
@@ -24,6 +29,7 @@ use redl_left_texts::{json_of, text_of};
 use redl_lines::{End, Failure, Remarks};
 use redl_marked::put_marked;
 use redl_opc::Package;
+use redl_terminal::{Extent, put_masked};
 use redl_tree::Say;
 use redl_words::View;
 use std::alloc::{AllocError, Global};
@@ -31,15 +37,8 @@ use std::alloc::{AllocError, Global};
 /// A package whose members have their numbers, and what its reader sees of it.
 #[derive(Drop)]
 pub enum Shown<'b> {
-    /// Its plain text under a say for each revision.
-    Plain {
-        /// The package.
-        pkg: Package<'b>,
-        /// The says.
-        says: Vec<Say>,
-    },
-    /// Its text with its changes marked.
-    Marked(Package<'b>),
+    /// This text of it, as a terminal is given it.
+    Masked(Vec<u8>),
     /// Its bare text.
     Bare(Package<'b>),
     /// This text, made of it.
@@ -72,7 +71,7 @@ fn show_package(alloc: Global, view: View, pkg: Surveyed) -> Result<Shown, Alloc
     match view {
         View::Original => show_plain(alloc, counted, Say::Reject),
         View::Final => show_plain(alloc, counted, Say::Accept),
-        View::Marked => Ok(Shown::Marked(counted.pkg)),
+        View::Marked => show_marked(alloc, counted),
         View::Bare => Ok(Shown::Bare(counted.pkg)),
         View::Left => show_left(alloc, counted),
         View::LeftJson => show_left_json(alloc, counted),
@@ -80,14 +79,26 @@ fn show_package(alloc: Global, view: View, pkg: Surveyed) -> Result<Shown, Alloc
 }
 
 // The plain text of what the pass leaves, under one say for all revisions.
-fn show_plain(alloc: Global, counted: Counted, say: Say) -> Result<Shown, AllocError>
-    ensures { IfOk result (λ shown. shown_text shown ≡ walk_text (replicate counted.entry.count say) counted.entry.pkg) }
+fn show_plain<'b>(alloc: Global, counted: Counted, say: Say) -> Result<Shown<'b>, AllocError>
+    ensures { IfOk result (λ shown. shown_text shown ≡ masked Lines (walk_text (replicate counted.entry.count say) counted.entry.pkg)) }
 {
     let says = vec![in alloc; say; counted.count as usize]?;
-    Ok(Shown::Plain {
-        pkg: counted.pkg,
-        says,
-    })
+    let mut text = Collected::new(alloc);
+    match redl_views::view(&counted.pkg, &says, &mut text) {
+        Ok(()) => Ok(Shown::Masked(text.bytes)),
+        Err(_) => Err(AllocError),
+    }
+}
+
+// The text of the package with its changes marked.
+fn show_marked<'b>(alloc: Global, counted: Counted) -> Result<Shown<'b>, AllocError>
+    ensures { IfOk result (λ shown. shown_text shown ≡ masked Lines (marked_text counted.entry.pkg)) }
+{
+    let mut text = Collected::new(alloc);
+    match put_marked(&counted.pkg, &mut text) {
+        Ok(()) => Ok(Shown::Masked(text.bytes)),
+        Err(_) => Err(AllocError),
+    }
 }
 
 // What is left in the package that a reader doesn't see.
@@ -131,8 +142,7 @@ fn put_pieces<K: Sink>(shown: &Shown, out: &mut K) -> Result<(), Failed>
     ensures { Puts K.told K.faults K.settled K.lenders out.old out.new (shown_text shown.now) result }
 {
     match shown {
-        Shown::Plain { pkg, says } => redl_views::view(pkg, says, out),
-        Shown::Marked(pkg) => put_marked(pkg, out),
+        Shown::Masked(text) => put_masked(Extent::Lines, text, out),
         Shown::Bare(pkg) => put_bare(pkg, out),
         Shown::Made(text) => put_piece(text, out),
     }

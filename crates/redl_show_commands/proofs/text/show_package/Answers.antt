@@ -1,7 +1,6 @@
 use Rattle.std.proofs.Common.{ap, sym, ◌∙◌}
 use Rattle.redl_bare.specs.BareText.{bare_text}
 use Rattle.redl_more_commands.specs.Text.{text_in}
-use Rattle.redl_marked.specs.MarkedText.{marked_text}
 use Rattle.redl_tree.specs.declared.kinds.Say.TheVariants.{Accept, Reject}
 use Rattle.redl_show_commands.proofs.TextLaws.{plain_text_of}
 use Rattle.redl_show_commands.proofs.text.show_package.Goals as goal
@@ -17,8 +16,7 @@ returns-in-Final c =
     (rw (plain_text_of Accept c.args.pkg c.into_counted-counted.result.pkg c.into_counted-counted.result.count c.into_counted-counted.ensures.nodes c.into_counted-counted.ensures.count) at c.show_plain-in-Final.ensures)
 
 pub returns-in-Marked : goal.returns-in-Marked
-returns-in-Marked c =
-    ap marked_text c.into_counted-counted.ensures.nodes ∙ ap (λ view. text_in view c.args.pkg) (sym c.in-Marked.is)
+returns-in-Marked c = rw c.in-Marked.is (rw c.into_counted-counted.ensures.nodes at c.show_marked.ensures)
 
 pub returns-in-Bare : goal.returns-in-Bare
 returns-in-Bare c =
