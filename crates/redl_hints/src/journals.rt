@@ -122,7 +122,12 @@ fn fault_of_head(front: &[u8]) -> Option<&'static str> {
 
 fn is_document(line: &[u8]) -> bool {
     let digits = line.strip_prefix(b"document ");
-    digits.is_some_and(|digits| digits.len() == 64)
+    digits.is_some_and(|digits| digits.len() == 64 && digits.iter().all(is_digit))
+}
+
+// Whether a byte is a digit of a digest, in small letters.
+fn is_digit(byte: &u8) -> bool {
+    matches!(*byte, b'0'..=b'9' | b'a'..=b'f')
 }
 
 fn is_count(line: &[u8]) -> bool {

@@ -37,7 +37,7 @@ fn text_of(word: &Text) -> &str {
 // What is meant by a word that other programs have as a command.
 fn other_command(name: &str) -> Option<&'static str> {
     match name {
-        "version" | "-v" | "-V" => Some("redline --version tells the version"),
+        "-V" => Some("redline --version tells the version"),
         "accept" => Some("redline settle accept P accepts all changes of P"),
         "reject" => Some("redline settle reject P rejects all changes of P"),
         _ => None,
