@@ -41,7 +41,7 @@ pub fn answer<F: Shelf, O: Sink, E: Sink>(
 
     // What the program tells of itself.
     ensures own { IfOk words.now (λ words. IfSome (own_of words.items) (λ _. (result ≡ Status.Done) ⊎ (result ≡ Status.WriteFault))) }
-    ensures own_text { IfOk words.now (λ words. IfSome (own_of words.items) (λ own. Writes O.told out.old out.new result (text_of texts.now own))) }
+    ensures own_text { IfOk words.now (λ words. IfSome (own_of words.items) (λ own. Writes O.told out.old out.new result (text_of texts.now own words.items))) }
     ensures own_lines { IfOk words.now (λ words. IfSome (own_of words.items) (λ _. Tells E.told E.faults err.old err.new (own_lines result))) }
     ensures own_alone { IfOk words.now (λ words. IfSome (own_of words.items) (λ _. shelf.new ≡ shelf.old)) }
 
@@ -58,7 +58,7 @@ pub fn answer<F: Shelf, O: Sink, E: Sink>(
 {
     match words {
         Ok(words) => match own_of(words) {
-            Some(own) => tell_text(alloc, texts.text_of(own), out, err),
+            Some(own) => tell_text(alloc, texts.text_of(own, words), out, err),
             None => run_words(alloc, words, shelf, out, err, skin),
         },
         Err(error) => refuse_words(*error, err),

@@ -1,13 +1,13 @@
 -- Worked rows of `own_of`.
 use Rattle.std.proofs.Common.{◌≡◌, [], ◌∷◌, None, Some, codes, refl}
 use Rattle.redl_own.specs.Own.{own_of}
-use Rattle.redl_own.specs.declared.own.Own.TheVariants.{Help, Version}
+use Rattle.redl_own.specs.declared.own.Own.TheVariants.{Help, Command, Version}
 
 no_words : own_of [] ≡ Some Help
 no_words = refl
 
-version : own_of (codes "--version" ∷ []) ≡ Some Version
-version = refl
+version : (own_of (codes "--version" ∷ []) ≡ Some Version) × (own_of (codes "-v" ∷ []) ≡ Some Version) × (own_of (codes "version" ∷ []) ≡ Some Version)
+version = (refl, refl, refl)
 
 short_help : own_of (codes "-h" ∷ []) ≡ Some Help
 short_help = refl
@@ -15,7 +15,7 @@ short_help = refl
 a_word_for_help : own_of (codes "help" ∷ []) ≡ Some Help
 a_word_for_help = refl
 
-help_of_a_command : own_of (codes "list" ∷ codes "--help" ∷ []) ≡ Some Help
+help_of_a_command : own_of (codes "list" ∷ codes "--help" ∷ []) ≡ Some Command
 help_of_a_command = refl
 
 version_of_a_command : own_of (codes "list" ∷ codes "--version" ∷ []) ≡ None

@@ -8,6 +8,6 @@ mod own;
 mod tell;
 mod words;
 
-pub use own::{Own, Texts, own_of};
+pub use own::{Own, Part, Texts, own_of};
 pub use tell::tell_text;
 pub use words::{add_word, given_words};

@@ -8,7 +8,7 @@
 
 mod help;
 
-use help::{HELP, VERSION};
+use help::{HELP, PARTS, VERSION};
 use redl_app::{WordsError, answer};
 use redl_hints::{Fetched, Told, tell_hints, tell_word_hint};
 use redl_io::{FileShelf, Shelf, Sink, StdSink, Text};
@@ -20,6 +20,7 @@ use std::process::ExitCode;
 // What the program tells of itself.
 const TEXTS: Texts<'static> = Texts {
     help: HELP,
+    parts: &PARTS,
     version: VERSION,
 };
 
