@@ -133,8 +133,8 @@ def written(package, form):
     if form == "json":
         rows = [{"count": count, "fact": fact, "part": part, "value": value} for fact, count, part, value in lines]
         return json.dumps(rows, ensure_ascii=False, separators=(",", ":")) + "\n"
-    plain = lambda text: "".join("?" if ord(character) < 32 or ord(character) == 127 else character for character in text)
-    return "".join("%-15s %7d %s%s\n" % (fact, count, plain(part), ": " + plain(value) if value else "") for fact, count, part, value in lines)
+    masked = reading.masked
+    return "".join("%-15s %7d %s%s\n" % (fact, count, masked(part), ": " + masked(value) if value else "") for fact, count, part, value in lines)
 
 
 if __name__ == "__main__":

@@ -630,9 +630,18 @@ def date_of(seconds):
     return "%04d-%02d-%02dT%sZ" % (date.year + 400 * cycles, date.month, date.day, time)
 
 
+# Characters that a terminal may take as a command, that turn the direction of a text, end a line, or have no width.
+HIDDEN = "\x00-\x08\x0b-\x1f\x7f-\x9f\u061c\u200b-\u200f\u2028-\u202e\u2060-\u206f\ufeff"
+
+
 def masked(text):
-    """A text as a line shows it: control characters of ASCII are question marks."""
-    return re.sub("[\x00-\x1f\x7f]", "?", text)
+    """A text as a line of a terminal shows it: these characters, tabs and ends of lines are question marks."""
+    return re.sub("[\t\n%s]" % HIDDEN, "?", text)
+
+
+def masked_lines(text):
+    """A text of several lines: its tabs and ends of lines stay."""
+    return re.sub("[%s]" % HIDDEN, "?", text)
 
 
 def listed(package, entries, form, locks=(), shown=None):

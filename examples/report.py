@@ -6,7 +6,6 @@ It shares no code with the program. make.py makes by it what `report` is to writ
 """
 import collections
 import json
-import re
 import sys
 
 import reading
@@ -46,7 +45,7 @@ def lines(package, entries, locks=(), by_kind=False):
 
 
 def shown(line):
-    return line.kind or re.sub("[\x00-\x1f\x7f]", "?", line.name)
+    return line.kind or reading.masked(line.name)
 
 
 def as_text(found):

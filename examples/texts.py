@@ -101,8 +101,8 @@ def marked_text(package):
 
 def text(package, view):
     if view == "marked":
-        return marked_text(package)
-    return plain_text(package, {"original": "reject", "final": "accept"}[view])
+        return reading.masked_lines(marked_text(package))
+    return reading.masked_lines(plain_text(package, {"original": "reject", "final": "accept"}[view]))
 
 
 if __name__ == "__main__":
