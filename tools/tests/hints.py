@@ -3,14 +3,18 @@
 
     hints.py PROGRAM CHECKOUT FOLDER
 
-A row is four lines: "## TITLE", "$ redline WORDS" (read by bash), "status N", and any number of lines "hint: TEXT"; each TEXT is
-a part of a hint, in their order, and where there is none no hint comes. "help" in the place of a hint: the program writes its
-help. The files that the calls name are made in FOLDER from the examples of CHECKOUT.
+A row is lines: "## TITLE", "$ CALL" (for bash, with redline, redline-docx and flatopc of CHECKOUT), "status N", and any number of
+"line: TEXT" and "hint: TEXT"; each TEXT is a part of a hint, in their order, and where there is none no hint comes. Each TEXT of a
+"line" is a part of another line on standard error. "out: TEXT": what is written begins so. The files that the calls name are made in
+FOLDER from the examples of CHECKOUT.
 """
+import base64
+import gzip
 import os
-import re
+import shutil
 import subprocess
 import sys
+import zipfile
 
 program, checkout, folder = sys.argv[1:4]
 examples = os.path.join(checkout, "examples")
@@ -28,7 +32,7 @@ def example(name):
 
 def make_files():
     contract, journal = example("contract.xml"), example("contract.ann.journal")
-    for name in ["contract.xml", "terms.xml", "unsound.xml", "contract.ann.journal"]:
+    for name in ["contract.xml", "terms.xml", "unsound.xml", "contract.ann.journal", "contract.bob.journal"]:
         put(name, example(name))
     subprocess.run(
         [sys.executable, os.path.join(checkout, "tools", "flatopc"), "pack", "contract.xml", "contract.docx"],
@@ -73,44 +77,111 @@ def make_files():
     put("j.eml", b"Return-Path: <ann@example.org>\n" + journal)
     put("bomcrlf.journal", b"\xef\xbb\xbf" + journal.replace(b"\n", b"\r\n"))
     put("tail.xml", contract + b"<!-- approved -->")
+    make_others(contract, journal)
+    make_archives()
     put("crlf.xml", contract.replace(b"\n", b"\r\n"))
     put("dt.xml", contract.replace(b"<pkg:package", b"<!DOCTYPE x><pkg:package", 1))
 
 
+def make_others(contract, journal):
+    """More files that are sent for a document or for a journal."""
+    head = journal.split(b"\n")[:3]
+    word_file, quoted = b"\xd0\xcf\x11\xe0\xa1\xb1\x1a\xe1" + bytes(504), journal.replace(b"\n", b"\n> ")
+    for name in ["contract.doc", "renamed.docx", "secret.docx"]:
+        put(name, word_file)
+    put("contract.pdf", b"%PDF-1.7\n")
+    put("contract.rtf", b"{\\rtf1 Terms}")
+    put("contract.xml.gz", gzip.compress(contract, mtime=0))
+    put("b64.docx", base64.encodebytes(b"PK\x03\x04" + bytes(200)))
+    put("empty.docx", b"")
+    put("~$lock.docx", b"\x08Ann Gray" + bytes(153))
+    put("mail.journal", b"From: Ann Gray <ann@example.org>\nSubject: journal\n\n" + journal)
+    put("attach.journal", base64.encodebytes(journal))
+    put("notepad.journal", b"\xef\xbb\xbf" + journal.replace(b"\n", b"\r\n"))
+    put("unicode.journal", journal.decode().encode("utf-16"))
+    put("quoted.journal", b"> " + quoted[:-2])
+    put("pasted.journal", b"\xef\xbb\xbf" + journal.replace(b"\t", b" ").replace(b"\n", b"\r\n"))
+    put("cat.journal", journal + example("contract.bob.journal"))
+    put("cutj.journal", journal[: len(journal) // 2])
+    put("upper.journal", journal.replace(head[1], b"document " + head[1][9:].upper()))
+    put("nbsp.journal", journal.replace(b"Ann Gray", "Ann\u00a0Gray".encode()))
+    put("two.xml", example("terms.xml").replace(b"Bob Hay", "L\u00e1szl\u00f3 N\u00e9meth".encode()))
+    os.makedirs(os.path.join(folder, "folder.docx"))
+
+
+def make_archives():
+    """Archives that are no .docx, and documents under other names."""
+    with zipfile.ZipFile(os.path.join(folder, "contract.odt"), "w") as archive:
+        archive.writestr("mimetype", "application/vnd.oasis.opendocument.text")
+        archive.writestr("content.xml", "<a/>")
+    shutil.copy(os.path.join(folder, "contract.odt"), os.path.join(folder, "odt-as.docx"))
+    with zipfile.ZipFile(os.path.join(folder, "mailed.docx"), "w") as archive:
+        archive.write(os.path.join(folder, "contract.docx"), "contract.docx")
+    with open(os.path.join(folder, "contract.docx"), "rb") as file:
+        whole = file.read()
+    put("cut.docx", whole[:-200])
+    put("-draft.docx", whole)
+    put("ann-journal.docx", whole)
+    subprocess.run(
+        [sys.executable, os.path.join(checkout, "tools", "flatopc"), "pack", "two.xml", "two.docx"],
+        cwd=folder, check=True, stdout=subprocess.DEVNULL,
+    )
+
+
 def rows():
-    title, words, status, hints = None, None, 0, []
-    for line in [*sys.stdin.read().split("\n"), "## "]:
-        if line.startswith("## "):
-            if title:
-                yield title, words, status, hints
-            title, hints = line[3:], []
-        elif line.startswith("$ redline"):
-            words = line[len("$ redline") :].strip()
-        elif line.startswith("status "):
-            status = int(line[7:])
-        elif line.startswith("hint: "):
-            hints.append(line[6:])
-        elif line == "help":
-            hints = None
+    row = None
+    for line in sys.stdin.read().split("\n"):
+        kind, _, text = line.partition(" ")
+        if kind == "##":
+            if row:
+                yield row
+            row = Row(text)
+        elif kind == "$":
+            row.call = text
+        elif kind == "status":
+            row.status = int(text)
+        elif kind in row.told:
+            row.told[kind].append(text)
+        elif line:
+            sys.exit("hints.py: cannot read the line %r" % line)
+    if row:
+        yield row
 
 
-def fault_of(done, status, hints):
-    """What is wrong with a call that was to end so, or nothing."""
-    if done.returncode != status:
-        return "status %d and not %d" % (done.returncode, status)
-    if hints is None:
-        return None if done.stdout.startswith(b"Redline decides") and not done.stderr else "it is not the help"
-    told = [line for line in done.stderr.decode("utf-8", "replace").split("\n") if line]
-    got = [line for line in told if line.startswith("redline: hint: ")]
-    if told[len(told) - len(got) :] != got:
-        return "a hint comes before a line of the program"
-    if len(got) != len(hints) or not all(want in line for want, line in zip(hints, got)):
-        return "its hints are: %s" % " | ".join(got)
-    return None
+class Row:
+    """A call, and what should come of it."""
 
+    def __init__(self, title):
+        self.title, self.call, self.status, self.told = title, "", 0, {"line:": [], "hint:": [], "out:": []}
+
+    def fault(self, done):
+        """What is wrong with what came of the call, or nothing."""
+        told = [line for line in done.stderr.decode("utf-8", "replace").split("\n") if line]
+        hints = [line for line in told if line.startswith("redline: hint: ")]
+        lines = told[: len(told) - len(hints)]
+        if done.returncode != self.status:
+            return "status %d and not %d" % (done.returncode, self.status)
+        if lines + hints != told:
+            return "a hint comes before a line of the program"
+        if len(hints) != len(self.told["hint:"]) or not all(want in line for want, line in zip(self.told["hint:"], hints)):
+            return "its hints are: %s" % " | ".join(hints)
+        if not all(any(want in line for line in lines) for want in self.told["line:"]):
+            return "its lines are: %s" % " | ".join(lines)
+        if not all(done.stdout.startswith(want.encode()) for want in self.told["out:"]):
+            return "it writes %r" % done.stdout[:80]
+        return None
+
+
+# The commands of the calls.
+COMMANDS = """
+redline() { "$REDLINE" "$@"; }
+redline-docx() { "$TOOLS/redline-docx" "$@"; }
+flatopc() { "$TOOLS/flatopc" "$@"; }
+"""
 
 make_files()
-for title, words, status, hints in rows():
-    done = subprocess.run(["bash", "-c", "exec %s %s" % (program, words)], cwd=folder, stdin=subprocess.DEVNULL, capture_output=True)
-    fault = fault_of(done, status, hints)
-    print("ok %s" % title if fault is None else "FAILED %s: %s" % (title, fault))
+settings = dict(os.environ, REDLINE=program, TOOLS=os.path.join(checkout, "tools"))
+for row in rows():
+    done = subprocess.run(["bash", "-c", COMMANDS + row.call], cwd=folder, env=settings, stdin=subprocess.DEVNULL, capture_output=True)
+    fault = row.fault(done)
+    print("ok %s" % row.title if fault is None else "FAILED %s: %s" % (row.title, fault))

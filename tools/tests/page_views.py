@@ -54,8 +54,9 @@ def text_of(file, view):
 
 
 def is_same(came, wanted):
-    """Whether a view is this text, but for hyphens that don't break and for empty paragraphs that may be gone."""
-    return re.fullmatch(re.escape(came.replace("\u2011", "")).replace("\0", "\n?"), wanted.replace("\u2011", "")) is not None
+    """Whether a view, as a terminal is given it, is this text, but for hyphens that don't break and empty paragraphs that may be gone."""
+    pieces = [re.escape(reading.masked_lines(piece.replace("\u2011", ""))) for piece in came.split("\0")]
+    return re.fullmatch("\n?".join(pieces), wanted.replace("\u2011", "")) is not None
 
 
 def is_sound(file):
