@@ -79,6 +79,7 @@ def make_files():
     put("tail.xml", contract + b"<!-- approved -->")
     make_others(contract, journal)
     make_archives()
+    make_bomb()
     put("crlf.xml", contract.replace(b"\n", b"\r\n"))
     put("dt.xml", contract.replace(b"<pkg:package", b"<!DOCTYPE x><pkg:package", 1))
 
@@ -126,6 +127,21 @@ def make_archives():
         [sys.executable, os.path.join(checkout, "tools", "flatopc"), "pack", "two.xml", "two.docx"],
         cwd=folder, check=True, stdout=subprocess.DEVNULL,
     )
+
+
+def make_bomb():
+    """A small .docx whose text has 140,000,000 spaces."""
+    with zipfile.ZipFile(os.path.join(folder, "contract.docx")) as whole:
+        parts = {name: whole.read(name) for name in whole.namelist()}
+    text, end = parts.pop("word/document.xml"), b"</w:document>"
+    with zipfile.ZipFile(os.path.join(folder, "bomb.docx"), "w", zipfile.ZIP_DEFLATED) as archive:
+        for name, part in parts.items():
+            archive.writestr(name, part)
+        with archive.open("word/document.xml", "w") as part:
+            part.write(text.replace(end, b""))
+            for _ in range(140):
+                part.write(b" " * 1000000)
+            part.write(end)
 
 
 def rows():
