@@ -1,4 +1,5 @@
 """Answers `redline-docx returned IN BACK REVIEWER [--journal J ..]`: the words, the lines and the status."""
+import gc
 import os
 import re
 import sys
@@ -49,6 +50,7 @@ def returned(words, call, find_redline):
     if not given.is_read or not is_name(given.reviewer):
         call.say(NO_NAME if given.is_read else FORM)
         return USAGE, None
+    gc.disable()  # (looking for circles among so many small things takes a fifth of the time, and there are none)
     program = Program(find_redline(), call.memory.values())
     status = refusal(program, given, call)
     if status:

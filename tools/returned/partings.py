@@ -1,7 +1,6 @@
 """Goes on where two texts part: at the next stretch without changes that both have."""
 import bisect
 import difflib
-import itertools
 
 # How many characters both texts need to have for going on there, and how far the second text is looked at.
 ANCHOR, SHORT_ANCHOR = 24, 8
@@ -121,9 +120,9 @@ def vote(search, index, first, second):
         return
     match = difflib.SequenceMatcher(None, search.stream.text[begin:end], search.second.text[its_begin:its_end], False)
     blocks = [(begin + one.a, its_begin + one.b, one.size) for one in match.get_matching_blocks() if one.size]
-    for start, stop, members, shown in itertools.islice(search.pieces, index, None):
-        if start >= end:
-            break
+    while index < len(search.pieces) and search.pieces[index][0] < end:
+        start, stop, members, shown = search.pieces[index]
+        index += 1
         start, stop = max(begin, start), min(end, stop)
         for one in members:
             if one.role == "content" or one in shown:

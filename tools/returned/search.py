@@ -135,28 +135,39 @@ class Search:
 
     def step(self, states, index, begin):
         """The states after a stretch, of those before it."""
-        _, end, members, shown = self.pieces[index]
-        following = {}
+        _, end, members, _ = self.pieces[index]
+        following, ways = {}, {}
         for (place, kept), (price, node) in states.items():
-            fixed = dict(kept)
-            for given, signs, more in ways_of(members, shown, fixed, self.behind(begin, node)):
-                to = node_to = None
-                if signs is None:
-                    to, node_to = place, Node(node, given, begin, place, 0)
-                elif self.has(place, begin, end, signs):
-                    to, node_to = place + end - begin, Node(node, given, begin, place, end - begin)
-                    if end > begin and (members or len(states) > 1):
-                        more += self.unlike(begin, place) + OTHER_CHANGE * self.strange(begin, end, place)
-                if node_to is not None:
-                    both = {**fixed, **given} if given else fixed
-                    key = (to, tuple(sorted((rev, word) for rev, word in both.items() if self.last[rev] > index)))
-                    if key not in following or following[key][0] > price + more:
-                        following[key] = (price + more, node_to)
+            behind = self.behind(begin, node)
+            if (kept, behind) not in ways:
+                ways[kept, behind] = list(self.ways_after(index, kept, behind))
+            there = None  # what it costs that the stretch is at this place, once a way asks for it
+            for given, signs, more, left in ways[kept, behind]:
+                length = 0
+                if signs is not None:
+                    if not self.has(place, begin, end, signs):
+                        continue
+                    length = end - begin
+                    if length and (members or len(states) > 1):
+                        if there is None:
+                            there = self.unlike(begin, place) + OTHER_CHANGE * self.strange(begin, end, place)
+                        more += there
+                key = (place + length, left)
+                if key not in following or following[key][0] > price + more:
+                    following[key] = (price + more, Node(node, given, begin, place, length))
         if begin in self.stream.loose_rows:
             # (a row whose cells all went goes without a word on it)
             for key, (price, node) in states.items():
                 following.setdefault(key, (price + LOST_ROW, node))
         return following
+
+    def ways_after(self, index, kept, behind):
+        """The ways of a stretch after some words, each with the words of which stretches are still to come."""
+        _, _, members, shown = self.pieces[index]
+        fixed = dict(kept)
+        for given, signs, price in ways_of(members, shown, fixed, behind):
+            both = {**fixed, **given}
+            yield given, signs, price, tuple(sorted((rev, word) for rev, word in both.items() if self.last[rev] > index))
 
     def behind(self, begin, node):
         """What comes after the paragraph that ends here: before a table an empty paragraph goes as one before a paragraph does."""
