@@ -6,6 +6,7 @@ alone has, have to have the same bare text. Where they don't, the places are tol
 from returned import compare
 from returned.bare import View
 from returned.counter import foreign_revisions, proposals
+from returned.differences import tell_clauses
 from returned.find import find, words_to_say
 from returned.pairs import pair_comments
 from returned.reader import read
@@ -76,6 +77,7 @@ def attempt(program, package, back, first, second, view):
         check(program, package, comparison, answer)
         if not answer.differences or EITHER not in answer.words.values():
             break
+    tell_clauses(answer.differences, second, left)
     return answer
 
 

@@ -3,6 +3,7 @@
 Only lines for a reader have them, and no decision depends on them. What a list of Word in a Western language has is read; a level
 with bullets has no number.
 """
+import bisect
 import re
 from xml.etree import ElementTree
 
@@ -153,3 +154,29 @@ def clauses(stream, package):
         begin = place + 1
         place = stream.text.find(PARA, begin)
     return found
+
+
+class Clauses:
+    """In which clause each place of a story is."""
+
+    def __init__(self, stream, package):
+        counted = clauses(stream, package)
+        self.stream = stream
+        self.numbered, self.numbers = [end for end, _ in counted], [text for _, text in counted]
+        self.ends = [found.start() for found in re.finditer(PARA, stream.text)]
+
+    def at(self, place):
+        """The number of the paragraph of a place, else of the nearest one above that has one, or None."""
+        index = bisect.bisect_left(self.numbered, place)
+        if index == len(self.numbered) or self.numbered[index] != self.stream.text.find(PARA, place):
+            index -= 1
+        return self.numbers[index] if index >= 0 else None
+
+    def of(self, paragraph):
+        """The same of a paragraph, which are counted from 1."""
+        return self.at(self.ends[paragraph - 1]) if 0 < paragraph <= len(self.ends) else None
+
+
+def place_of(paragraph, clause):
+    """A place in the words of a reader."""
+    return "paragraph %d%s" % (paragraph, " (clause %s)" % clause if clause else "")

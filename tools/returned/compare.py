@@ -6,7 +6,7 @@ by whoever stores a document.
 import re
 
 from returned import bare
-from returned.differences import differences
+from returned.differences import DOCUMENT, differences
 from returned.pairs import pair_stories
 from returned.partings import common
 
@@ -84,7 +84,7 @@ class Comparison:
 
     def named(self, stream):
         if stream.root == "document":
-            return "the document"
+            return DOCUMENT
         return "%s %d" % (KINDS[stream.root], self.index_of[id(stream)] + 1)
 
     def unlike(self, written):

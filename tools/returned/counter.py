@@ -1,7 +1,5 @@
 """What the document that came back alone has: tracked changes and comments of the reviewer, a proposal for a further round."""
-import bisect
-
-from returned.clauses import clauses
+from returned.clauses import Clauses, place_of
 from returned.streams import CELL, ESCAPE, OBJECT_SIGNS, PARA, ROW
 
 VERBS = {"ins": "inserted", "del": "deleted", "to": "moved here", "from": "moved away"}
@@ -28,20 +26,12 @@ class Proposal:
 
     def line(self):
         name = NAMES.get(self.stream.root, "the document")
-        place = "paragraph %d%s" % (self.stream.paragraph_of(self.begin), " (clause %s)" % self.clause if self.clause else "")
+        place = place_of(self.stream.paragraph_of(self.begin), self.clause)
         role, trace, author, _ = self.sign
         what = CHANGED[trace] + " changed" if role == "change" else MATTERS.get(role, "") + VERBS[trace]
         text = self.stream.text[self.begin : self.end].translate(SHOWN).strip()
         text = text if len(text) <= 80 else text[:50] + "\u2026" + text[-25:]
         return "new in %s, %s: %s by %s%s" % (name, place, what, author or "nobody", ', "%s"' % text if text and role == "content" else "")
-
-
-def clause_at(stream, ends, numbers, place):
-    """The number of the paragraph of a place, else of the nearest one above that has one."""
-    index = bisect.bisect_left(ends, place)
-    if index == len(ends) or ends[index] != stream.text.find(PARA, place):
-        index -= 1
-    return numbers[index] if index >= 0 else None
 
 
 def proposals(package, known, data):
@@ -51,9 +41,8 @@ def proposals(package, known, data):
         found += proposals_in(stream, known)
     for one in found:
         if one.stream not in numbered:
-            counted = clauses(one.stream, data)
-            numbered[one.stream] = [end for end, _ in counted], [text for _, text in counted]
-        one.clause = clause_at(one.stream, *numbered[one.stream], one.begin)
+            numbered[one.stream] = Clauses(one.stream, data)
+        one.clause = numbered[one.stream].at(one.begin)
     return found
 
 

@@ -2,19 +2,22 @@
 import bisect
 
 from returned import bare
+from returned.clauses import Clauses, place_of
 
 # How much of the text is shown before and after what differs, and at most.
 BEFORE, AFTER, SHOWN = 25, 12, 90
+DOCUMENT = "the document"
 
 
 class Difference:
     """One place where the document that came back is not what the decisions give."""
 
     def __init__(self, place, paragraph, wanted, got):
-        self.place, self.paragraph, self.wanted, self.got = place, paragraph, wanted, got
+        self.place, self.paragraph, self.wanted, self.got, self.clause = place, paragraph, wanted, got, None
 
     def line(self):
-        return '%s, paragraph %d: %s where the decisions give %s' % (self.place, self.paragraph, quoted(self.got), quoted(self.wanted))
+        place = place_of(self.paragraph, self.clause)
+        return "%s, %s: %s where the decisions give %s" % (self.place, place, quoted(self.got), quoted(self.wanted))
 
 
 def quoted(text):
@@ -102,3 +105,12 @@ def once(things):
     for place, what in enumerate(things):
         places[what] = None if what in places else place
     return {what: place for what, place in places.items() if place is not None}
+
+
+def tell_clauses(differences, package, data):
+    """Tells differences in the document in which clause they are. Their paragraphs are those of a package with these bytes."""
+    stream = next((one for one in package.stories() if one.root == "document"), None)
+    if stream is not None and differences:
+        clauses = Clauses(stream, data)
+        for one in differences:
+            one.clause = clauses.of(one.paragraph) if one.place == DOCUMENT else None
