@@ -1,10 +1,11 @@
 #!/usr/bin/env python3
 """Tries what redline-docx makes of documents that came back, and tells each case in a line.
 
-    came_back.py PROGRAM [SECONDS]
+    came_back.py PROGRAM [SECONDS [PAIRS [FIRST]]]
 
 Documents are decided by the program, written anew by rewriter.py as a word processor would, changed further where a case wants
-that, and found again. Packages are the examples and random ones by their numbers, as many as there are seconds for.
+that, and found again. Packages are the examples and random ones by their numbers from FIRST on, as many as there are seconds for,
+and 1,000 at most or so many.
 """
 import os
 import random
@@ -109,10 +110,10 @@ def pairs_of_examples(path):
     tell("examples, " + pairs.told(), fault)
 
 
-def pairs_by_chance(path, seconds):
+def pairs_by_chance(path, seconds, most, first):
     """Random packages by their numbers, until the time is over."""
-    pairs, number, end = Pairs(), 0, time.monotonic() + seconds
-    while time.monotonic() < end and number < 1000:
+    pairs, number, end = Pairs(), first, time.monotonic() + seconds
+    while time.monotonic() < end and number < first + most:
         pairs.add(path, "package %d" % number, small_package(random.Random(number)), number)
         number += 1
     tell("random packages give no other text", "; ".join(pairs.wrong[:5]))
@@ -219,9 +220,9 @@ def without_picture(path):
     desk.close()
 
 
-def main(path, seconds=20):
+def main(path, seconds=20, most=1000, first=0):
     pairs_of_examples(path)
-    pairs_by_chance(path, float(seconds))
+    pairs_by_chance(path, float(seconds), int(most), int(first))
     for case in (untracked_edits, tracked_edits, deleted_by_reviewer, half_decisions, without_names, without_picture):
         case(path)
 
