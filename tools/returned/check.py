@@ -6,7 +6,7 @@ alone has, have to have the same bare text. Where they don't, the places are tol
 from returned import compare
 from returned.bare import View
 from returned.counter import foreign_revisions, proposals
-from returned.differences import tell_clauses
+from returned.differences import lost_places, tell_clauses
 from returned.find import find, words_to_say
 from returned.pairs import pair_comments
 from returned.reader import read
@@ -41,6 +41,11 @@ def answer_for(program, package, back):
     names = names_kept(first, second)
     if names != "all":
         first, second = read(package[1], True, names), read(back[1], True, names)
+    answer = Answer()
+    answer.view, answer.differences = View(True, names), lost_places(first, second)
+    if answer.differences:
+        tell_clauses(answer.differences, first, package[1])
+        return answer
     answer = attempt(program, package, back, first, second, View(True, names))
     if answer.differences and answer.objects_differ:
         first, second = read(package[1], False, names), read(back[1], False, names)

@@ -13,6 +13,11 @@ SHOWN = {ord(sign): "[%s]" % name for name, sign in OBJECT_SIGNS.items()}
 SHOWN.update({ord(PARA): "\u00b6", ord(ROW): None, ord(CELL): None, ord(ESCAPE): None, ord("\n"): " ", ord("\t"): " "})
 
 
+def plain_of(text):
+    """A text of a stream for a reader."""
+    return text.translate(SHOWN).strip()
+
+
 def foreign_revisions(package, known):
     """The numbers of the revisions whose signs are none of those."""
     return [number for number, members in enumerate(package.revisions, 1) if members and members[0].sign() not in known]
@@ -29,7 +34,7 @@ class Proposal:
         place = place_of(self.stream.paragraph_of(self.begin), self.clause)
         role, trace, author, _ = self.sign
         what = CHANGED[trace] + " changed" if role == "change" else MATTERS.get(role, "") + VERBS[trace]
-        text = self.stream.text[self.begin : self.end].translate(SHOWN).strip()
+        text = plain_of(self.stream.text[self.begin : self.end])
         text = text if len(text) <= 80 else text[:50] + "\u2026" + text[-25:]
         return "new in %s, %s: %s by %s%s" % (name, place, what, author or "nobody", ', "%s"' % text if text and role == "content" else "")
 

@@ -9,8 +9,8 @@ WINDOW = 4000
 NEAR, FAR = 400, 80000
 # A short text has to be nearer than this share of the way to a long one.
 NEARER = 0.6
-# Above so many pairs of places nothing is guessed.
-PAIRS = 4000000
+# Above so many pairs of places nothing is guessed, nor where texts part more often than this: then it is another document.
+PAIRS, GUESSES = 4000000, 5000
 
 
 def common(one, at, end, other, place):
@@ -116,7 +116,8 @@ def anchor_in(search, stretch, at, its, size, cost):
 def vote(search, index, first, second):
     """Guesses at the changes between two places where the texts part, by the text that both have there."""
     (begin, end), (its_begin, its_end) = first, second
-    if (end - begin) * (its_end - its_begin) > PAIRS:
+    search.found.guesses += 1
+    if (end - begin) * (its_end - its_begin) > PAIRS or search.found.guesses > GUESSES:
         return
     match = difflib.SequenceMatcher(None, search.stream.text[begin:end], search.second.text[its_begin:its_end], False)
     blocks = [(begin + one.a, its_begin + one.b, one.size) for one in match.get_matching_blocks() if one.size]

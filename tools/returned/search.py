@@ -37,6 +37,7 @@ class Found:
         self.words = {}
         self.blocks = []  # (place in the first stream, place in the second, length), rising
         self.votes = {}  # by revision: how much text it has where the texts part, how much is seen, how much is marked
+        self.guesses = 0  # how often the texts part
 
 
 def ways_to_go(members, shown, fixed, goes):
