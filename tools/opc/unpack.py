@@ -6,9 +6,16 @@ from opc.archive import TYPES_ITEM, items_of, types_of
 from opc.tidy import tidied
 from opc.xml import DECLARATION, KEPT, MARK, PACKAGE, NotOfTheForm, counted, parse, parser_of, quoted
 
-
-# The bytes of a part that a line of Base64 has.
+# The bytes of a part that a line of Base64 has, and the name of an encoding in a declaration.
 LINE = 57
+ENCODING = re.compile(rb"""encoding\s*=\s*["']([^"']*)["']""")
+
+
+def is_read_so(declaration, data):
+    """Whether a part with this declaration is what it is read as, UTF-8: it may say so, nothing, or that all of it is ASCII."""
+    encoding = ENCODING.search(declaration)
+    name = encoding.group(1).lower() if encoding else b"utf-8"
+    return name == b"utf-8" or name == b"us-ascii" and data.isascii()
 
 
 def as_xml(data):
@@ -22,13 +29,12 @@ def as_xml(data):
         declaration, rest = b"mark", data[len(MARK) :]
     if rest.startswith(b"<?xml") and rest[5:6].isspace():
         end = rest.index(b"?>") + 2
-        if re.search(rb"""encoding\s*=\s*["'](?!utf-8["'])""", rest[:end], re.I):
+        if not is_read_so(rest[:end], data):
             return None
         if not data.startswith(MARK) and rest[:end] == DECLARATION:
             return rest[end:]
         declaration, rest = declaration.replace(b"none", b"as") + b" " + rest[5:end].rstrip(b"?>"), rest[end:]
     return KEPT + b" " + declaration + b"?>" + rest
-
 
 def unpack(data, tidy=False, say=None):
     """The package of a .docx. What has to be told goes to `say`, a sentence each."""

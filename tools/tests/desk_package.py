@@ -97,7 +97,7 @@ def parts_damaged(docx, number):
 
 PIECES = [b"<", b">", b"&", b"]]>", b"--", b"<!--", b"-->", b"<?a b?>", b"<?xml?>", b"&#0;", b"&#x110000;", b"&lt;", b"&nbsp;", b"\0", b"\x0b"]
 PIECES += [b"\xc3\xa9", b"\xff", b"\xed\xa0\x80", b"\xef\xbf\xbe", b"\xf0\x9f\x98\x80", b' xmlns:a="b"', b' xmlns:a=""', b' xmlns="x y"', b"a:b", b":", b"='", b' a="1" a="2"']
-PIECES += [b"<![CDATA[", b"\xef\xbb\xbf", b'<?xml version="1.0" encoding="latin1"?>', b"<!DOCTYPE a>", b"</", b"/>", b" ", b"\r\n", b"\xcc\x81", b"\xe2\x82\xac"]
+PIECES += [b"<![CDATA[", b"\xef\xbb\xbf", b'<?xml version="1.0" encoding="latin1"?>', b"<?xml version='1.0' encoding='US-ASCII'?>", b"<!DOCTYPE a>", b"</", b"/>", b" ", b"\r\n", b"\xcc\x81", b"\xe2\x82\xac"]
 
 
 def spoiled(data, draw):
@@ -170,6 +170,9 @@ def archives():
         "two names alike": archive(named(b"A.XML")),
         "one name twice": archive(named(b"a.xml")),
         "no list of types": archive(plain[1:]),
+        "a part that is declared as ASCII": archive(plain + [(b"b.xml", b"<?xml version='1.0' encoding='US-ASCII'?><b>&#233;</b>")]),
+        "a part that is declared so, and isn't": archive(plain + [(b"b.xml", b"<?xml version='1.0' encoding='us-ascii'?><b>\xc3\xa9</b>")]),
+        "a mark and a declaration as ASCII": archive(plain + [(b"b.xml", b"\xef\xbb\xbf<?xml version='1.0' encoding='us-ascii'?><b/>")]),
         "an OpenDocument file": archive([(b"mimetype", b"application/vnd.oasis.opendocument.text"), (b"content.xml", b"<a/>")]),
         "a document in it": archive([(b"a.txt", b"a"), (b"to sign/Offer.DOCX", b"a"), (b"b.docx", b"b")]),
         "a document in it, with signs that can't be seen": archive([("a\u00a0b\u00ad\u2028\u0085\ue000 c.docm".encode(), b"a")], flags=0x800),

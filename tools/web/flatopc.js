@@ -56,6 +56,12 @@ const flatopc = (() => {
     return [byExtension, byName];
   }
 
+  /** Whether a part with this declaration is UTF-8: it may say so, nothing, or that all of it is ASCII. @param {string} declaration @param {Uint8Array} bytes */
+  function isReadSo(declaration, bytes) {
+    const encoding = (declaration.match(/encoding\s*=\s*["']([^"']*)["']/)?.[1] ?? "utf-8").toLowerCase();
+    return encoding === "utf-8" || (encoding === "us-ascii" && bytes.every((it) => it < 0x80));
+  }
+
   /** The bytes of an XML part as they can be in a package, in pieces, or null where they can't. @param {Uint8Array} bytes */
   function asXml(bytes) {
     try {
@@ -70,7 +76,7 @@ const flatopc = (() => {
     if (/^<\?xml[ \t\r\n]/.test(plain(bytes.subarray(begin, begin + 6)))) {
       rest = begin + placeOf(bytes.subarray(begin), "?>") + 2;
       const declaration = plain(bytes.subarray(begin, rest));
-      if (/encoding\s*=\s*["'](?!utf-8["'])/i.test(declaration)) return null;
+      if (!isReadSo(declaration, bytes)) return null;
       if (!begin && declaration === DECLARATION) return [bytes.subarray(rest)];
       words = words.replace("none", "as") + " " + declaration.slice(5).replace(/[?>]+$/, "");
     }
