@@ -31,6 +31,10 @@ def answer(call):
         from returned.command import returned
 
         status, made = returned(call.words[1:], call, call.redline)
+    elif call.command == "scrub":
+        from scrub.command import scrub
+
+        status, made = scrub(call.words[1:], call, call.redline)
     else:
         status, made = call.run()
     if made is not None and status in (0, 1):

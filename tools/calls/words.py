@@ -5,7 +5,7 @@ NAME = "redline-docx"
 # Where a call's words have packages, counted from 0. Other commands have one as their second word.
 PLACES = {"settle": (2,), "resume": (1, 2), "returned": (1, 2)}
 # The commands that write a package.
-WRITES_PACKAGE = ("settle", "write")
+WRITES_PACKAGE = ("settle", "write", "scrub")
 # The commands that take a folder of journals.
 TAKES_FOLDER = ("list", "report", "page", "write", "desk")
 # What each command writes, what the names of these files end in, and how no name of another file may end.

@@ -2,9 +2,11 @@
 import os
 import re
 
+from scrub.choice import NAMES
+
 HERE = os.path.dirname(os.path.realpath(__file__))
 # The options of redline-docx itself.
-DOCX = "-o -f --package --tidy --drop-unused-notes --idle-locks"
+DOCX = "-o -f --package --tidy --drop-unused-notes --idle-locks --keep --take"
 # The commands that redline-batch has for each document of a folder.
 MANY = ("check", "list", "report", "page", "text", "write", "settle")
 
@@ -63,6 +65,7 @@ def made(name, table, offer, options, of_value):
     words = {
         "commands": " ".join(table.names()),
         "docx": DOCX,
+        "things": " ".join(NAMES),
         "many": " ".join(name for name in MANY if name in table.names()),
         "kinds_and_groups": " ".join("kind:" + kind for kind in kinds) if offer == "_redline_offer" else " ".join(kinds),
         "selections": " ".join(selections),

@@ -26,7 +26,7 @@ _redline_offer() {
         case $raw in
         \"*) text=$(sed 's/[\\"$`]/\\&/g' <<<"$text") ;;
         \'*) [[ $text != *\'* ]] || continue ;;
-        *) [[ $text != *[![:alnum:]:/.-]* ]] || printf -v text %q "$text" ;;
+        *) [[ $text != *[![:alnum:]:,/.-]* ]] || printf -v text %q "$text" ;;
         esac
         COMPREPLY+=("$text")
     done
@@ -79,6 +79,13 @@ _redline_value() {
     esac
 }
 
+# what scrub takes out or keeps: names with commas between them
+_redline_things() {
+    local things=(%(things)s)
+    [[ $word != *,* ]] || things=("${things[@]/#/${word%,*},}")
+    _redline_offer "${things[@]}"
+}
+
 _redline_options() {
     case $command in
 %(options)s
@@ -119,6 +126,7 @@ _redline() {
     compopt +o default
     case $program:$command:$before in
     redline-docx:*:-o | redline-docx:*:--package | flatopc:*:--to) compopt -o default ;;
+    redline-docx:scrub:--keep | redline-docx:scrub:--take) _redline_things ;;
     redline-batch::-[jS]) ;;
     flatopc::*) _redline_offer pack unpack --help ;;
     redline-batch::*)
@@ -126,7 +134,7 @@ _redline() {
         [[ $word != -* ]] || _redline_offer --retry -j -S --bar --help
         [[ ${#words[@]} -lt 4 ]] || _redline_offer %(many)s
         ;;
-    redline-docx::*) _redline_offer %(commands)s desk returned --help --version $(_redline_tool) ;;
+    redline-docx::*) _redline_offer %(commands)s desk returned scrub --help --version $(_redline_tool) ;;
     redline::*) _redline_offer %(commands)s --help --version ;;
     *)
         if ! _redline_value; then
