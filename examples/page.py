@@ -274,7 +274,7 @@ def policy(style, script):
 # The files of the style and of the script, in the order in which they are put together.
 STYLES = ["base", "bar", "document", "changes", "views", "list", "dialogs", "media"]
 SCRIPTS = [
-    "elements", "kinds", "facts", "bars", "dialogs", "signs", "views", "document", "dress", "excerpts", "list", "words", "verdicts",
+    "elements", "kinds", "facts", "bars", "dialogs", "signs", "views", "document", "dress", "parts", "excerpts", "list", "words", "verdicts",
     "blocks", "passes", "picture", "chosen", "decisions", "undo", "filters", "store", "opening", "names", "journal", "summary", "help",
     "keys", "outside", "copies", "start",
 ]

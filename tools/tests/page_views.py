@@ -9,7 +9,7 @@ import random
 import re
 import sys
 
-from page_seen import REDLINE, REVIEWERS, TOP, Seen, call, example, in_package, page, page_of, reading, same, told, written
+from page_seen import REDLINE, REVIEWERS, TOP, Seen, call, example, in_package, page, page_of, reading, same, told, wait, written
 
 sys.path.insert(0, os.path.join(TOP, "bench"))
 
@@ -200,4 +200,30 @@ def undecided_is_tinted(driven):
     same("with marks nothing is joined", seen.run("return document.querySelectorAll('.joined').length"), 0)
 
 
-CASES = [views_are_true, where_joining_ends, undecided_is_tinted]
+# A view comes to the parts of a long document one after the other: the view that each has, after something was done.
+SEEN_PARTS = "%s; return [...document.querySelectorAll('main .far')].map((it) => it.dataset.seen || 'marks')"
+CLICKED = "document.querySelector('input[value=%s]').click()"
+
+
+def far_parts_follow(driven):
+    change = "<w:p>%s<w:ins %s>%s</w:ins></w:p>" % (GONE, WHO, STAYS)
+    file = os.path.join(driven.folder, "long.xml")
+    with open(file, "w", encoding="utf-8") as out:
+        out.write(in_package(change * 4000))
+    seen = Seen(driven, page_of(file))
+    now = seen.run(SEEN_PARTS % (CLICKED % "final"))
+    told("what is near sight has the view at once, and what is far doesn't", now[0] == "final" and now[-1] == "marks", str(now))
+    wait(lambda: seen.run("return document.querySelector('main').ariaBusy") == "false")
+    same("the rest follows", set(seen.run(SEEN_PARTS % "")), {"final"})
+    last = "return getComputedStyle([...document.querySelectorAll('main del')].at(-1)).visibility"
+    same("and looks so", seen.run(last), "hidden")
+    now = seen.run(SEEN_PARTS % (CLICKED % "original" + "; (window.wrappedJSObject || window).redline.choose(8000)"))
+    same("what is chosen has the view too", now[-1], "original")
+    for kind in ["copy", "beforeprint"]:
+        now = seen.run(SEEN_PARTS % (CLICKED % "final" + "; dispatchEvent(new Event('%s'))" % kind))
+        same("all has it for " + kind, set(now), {"final"})
+        now = seen.run(SEEN_PARTS % (CLICKED % "marks" + "; dispatchEvent(new Event('%s'))" % kind))
+        same("and with marks for " + kind, set(now), {"marks"})
+
+
+CASES = [views_are_true, where_joining_ends, undecided_is_tinted, far_parts_follow]

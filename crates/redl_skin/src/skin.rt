@@ -2,7 +2,7 @@
 
 /// The security policy of the page: its own style and script alone, and nothing is ever fetched.
 pub const POLICY: &str =
-    "default-src 'none'; script-src 'sha256-fNJ5/ACj6dDBCpGkl6+L1pTBZzjniC+zvOOqbcXcvsc='; style-src 'sha256-jwIC+kDESEy3cdYfuR6AHIYIwd4KKVKmYTqTCchUAH8='; base-uri 'none'; form-action 'none'; require-trusted-types-for 'script'; trusted-types 'none'";
+    "default-src 'none'; script-src 'sha256-6UYG00Ql7TalE+v+chTvmvBpJIX1z7Ldo8MdAcCBQ9o='; style-src 'sha256-wFpCensai3EXyEzlIyN5d71ZIaFWWOrRUDUH2FLgxeo='; base-uri 'none'; form-action 'none'; require-trusted-types-for 'script'; trusted-types 'none'";
 
 /// The style sheet of the page.
 pub const STYLE: &str = "/* colours, and what all elements share */
@@ -127,36 +127,36 @@ tr.deleted { background: color-mix(in srgb, var(--no) 7%, transparent); }
 tr.inserted { background: color-mix(in srgb, var(--yes) 7%, transparent); }
 main [aria-current] { outline: 2px solid var(--focus); outline-offset: 2px; }
 main .text[aria-current] { background: color-mix(in srgb, var(--focus) 10%, transparent); }
-[data-view=\"marks\"] main :is(ins[data-say=\"accept\"], del[data-say=\"reject\"]) { text-decoration: underline dotted 1px; }
-[data-view=\"marks\"] main :is(ins[data-say=\"reject\"], del[data-say=\"accept\"]) { text-decoration: line-through 2px; }
+main :is(ins[data-say=\"accept\"], del[data-say=\"reject\"]) { text-decoration: underline dotted 1px; }
+main :is(ins[data-say=\"reject\"], del[data-say=\"accept\"]) { text-decoration: line-through 2px; }
 
 /* the views without marks: what is decided is as decided; the rest is as if accepted, or as if rejected, and tinted */
-:is([data-view=\"final\"], [data-view=\"original\"]) main :is(ins, del) { color: inherit; text-decoration: none; }
-:is([data-view=\"final\"], [data-view=\"original\"]) main :is(.mark, .cell, .edge, .props, a, .gone) { display: none; }
-:is([data-view=\"final\"], [data-view=\"original\"]) main :is(del.text[data-verdict=\"accept\"], ins.text[data-verdict=\"reject\"]) { display: none; }
-:is([data-view=\"final\"], [data-view=\"original\"]) main :is(ins, del):not([data-verdict=\"accept\"], [data-verdict=\"reject\"]) { background: var(--open); }
-:is([data-view=\"final\"], [data-view=\"original\"]) main :is(ins, del)[data-verdict=\"disputed\"] { background: var(--disputed); }
-:is([data-view=\"final\"], [data-view=\"original\"]) main tr { background: none; }
-:is([data-view=\"final\"], [data-view=\"original\"]) main :is(tr, td).undecided { background: var(--open); }
+main [data-seen] :is(ins, del) { color: inherit; text-decoration: none; }
+main [data-seen] :is(.mark, .cell, .edge, .props, a, .gone) { display: none; }
+main [data-seen] :is(del.text[data-verdict=\"accept\"], ins.text[data-verdict=\"reject\"]) { display: none; }
+main [data-seen] :is(ins, del):not([data-verdict=\"accept\"], [data-verdict=\"reject\"]) { background: var(--open); }
+main [data-seen] :is(ins, del)[data-verdict=\"disputed\"] { background: var(--disputed); }
+main [data-seen] tr { background: none; }
+main [data-seen] :is(tr, td).undecided { background: var(--open); }
 #view-line { flex-basis: 100%; margin: 0; color: var(--soft); }
 #view-line:empty { display: none; }
 
 /* text that goes by what isn't decided leaves a sign, and so do a row and the end of a paragraph */
-[data-view=\"final\"] main del.text:not([data-verdict=\"accept\"], [data-verdict=\"reject\"]),
-[data-view=\"original\"] main ins.text:not([data-verdict=\"accept\"], [data-verdict=\"reject\"]) { font-size: 0; visibility: hidden; }
-[data-view=\"final\"] main del.text:not([data-verdict=\"accept\"], [data-verdict=\"reject\"]) > *,
-[data-view=\"original\"] main ins.text:not([data-verdict=\"accept\"], [data-verdict=\"reject\"]) > * { display: none; }
-[data-view=\"final\"] main del.text:not([data-verdict=\"accept\"], [data-verdict=\"reject\"])::before,
-[data-view=\"original\"] main ins.text:not([data-verdict=\"accept\"], [data-verdict=\"reject\"])::before { content: \"\\2038\"; visibility: visible; font-size: 1rem; background: inherit; padding: 0 .1em; }
-:is([data-view=\"final\"], [data-view=\"original\"]) main .mark:not([data-verdict=\"accept\"], [data-verdict=\"reject\"]) { display: inline; font-size: .75rem; }
-:is([data-view=\"final\"], [data-view=\"original\"]) main tr.gone.undecided { display: block; height: .5rem; overflow: hidden; visibility: hidden; }
-:is([data-view=\"final\"], [data-view=\"original\"]) main tr.gone.undecided > * { display: none; }
-:is([data-view=\"final\"], [data-view=\"original\"]) main tr.gone.undecided::before { content: \"\"; display: block; height: 100%; visibility: visible; background: repeating-linear-gradient(135deg, var(--open) 0 4px, var(--soft) 4px 5px); }
+main [data-seen=\"final\"] del.text:not([data-verdict=\"accept\"], [data-verdict=\"reject\"]),
+main [data-seen=\"original\"] ins.text:not([data-verdict=\"accept\"], [data-verdict=\"reject\"]) { font-size: 0; visibility: hidden; }
+main [data-seen=\"final\"] del.text:not([data-verdict=\"accept\"], [data-verdict=\"reject\"]) > *,
+main [data-seen=\"original\"] ins.text:not([data-verdict=\"accept\"], [data-verdict=\"reject\"]) > * { display: none; }
+main [data-seen=\"final\"] del.text:not([data-verdict=\"accept\"], [data-verdict=\"reject\"])::before,
+main [data-seen=\"original\"] ins.text:not([data-verdict=\"accept\"], [data-verdict=\"reject\"])::before { content: \"\\2038\"; visibility: visible; font-size: 1rem; background: inherit; padding: 0 .1em; }
+main [data-seen] .mark:not([data-verdict=\"accept\"], [data-verdict=\"reject\"]) { display: inline; font-size: .75rem; }
+main [data-seen] tr.gone.undecided { display: block; height: .5rem; overflow: hidden; visibility: hidden; }
+main [data-seen] tr.gone.undecided > * { display: none; }
+main [data-seen] tr.gone.undecided::before { content: \"\"; display: block; height: 100%; visibility: visible; background: repeating-linear-gradient(135deg, var(--open) 0 4px, var(--soft) 4px 5px); }
 
 /* joined paragraphs are one, and one that may have gone says so */
 main .joined { position: relative; margin: 0 0 .6rem; min-height: 1.6em; }
 main .joined > :is(p, .p) { display: inline; font: inherit; }
-:is([data-view=\"final\"], [data-view=\"original\"]) main .doubt::after { content: \"In the written document this empty paragraph may be gone.\"; font: italic .8rem system-ui, \"Liberation Sans\", sans-serif; color: var(--soft); }
+main [data-seen] .doubt::after { content: \"In the written document this empty paragraph may be gone.\"; font: italic .8rem system-ui, \"Liberation Sans\", sans-serif; color: var(--soft); }
 
 /* the list of changes */
 aside { grid-area: list; display: flex; flex-direction: column; min-height: 0; overflow: auto; border-left: 1px solid var(--rule); background: var(--paper); font-size: .9rem; }
@@ -484,6 +484,7 @@ function viewNow() {
 
 function seeAs(view) {
   document.body.dataset.view = view;
+  seeParts();
   if (view === \"marks\") Array.from(joinedOf.keys(), takeApart);
   else {
     drawVerdicts();
@@ -611,7 +612,7 @@ function arrange() {
   for (const table of Array.from(main.querySelectorAll(\"tbody\"))) if (table.rows.length > 2 * FAR) groupRows(table);
   nextSibling.before(main);
   main.scrollTop = scrollTop;
-  dressNear();
+  watchParts();
 }
 
 // What stands at the edge of a row is no cell: it goes into the first one.
@@ -683,6 +684,11 @@ function placeOf(member) {
 let places = null;
 
 function placesOf(row) {
+  return placesAt(numberOf(row) - 1);
+}
+
+// The elements of the change at a place.
+function placesAt(at) {
   if (!places) {
     places = new Array(rows.length);
     for (const it of main.querySelectorAll(\"[data-revision]\")) {
@@ -691,7 +697,7 @@ function placesOf(row) {
       else places[at] = [it];
     }
   }
-  return places[numberOf(row) - 1] || [];
+  return places[at] || [];
 }
 
 // Shows where a change is in the document. Where a view has taken its text away, what is nearest to it is shown.
@@ -700,7 +706,7 @@ function showPlace(row) {
   if (!place) return;
   for (let it = place.closest(\"details\"); it; it = it.parentElement.closest(\"details\")) it.open = true;
   const group = place.closest(\".far\");
-  if (group) dress(group);
+  if (group) comeNear(group);
   let seen = place;
   while (seen !== main && !seen.getClientRects().length) seen = seen.previousElementSibling || seen.parentElement;
   if (seen !== main) seen.scrollIntoView({ block: \"center\" });
@@ -710,16 +716,6 @@ function showPlace(row) {
 
 const ROLES = { TABLE: \"table\", TBODY: \"rowgroup\", TR: \"row\", TD: \"cell\" };
 const dressed = new WeakSet();
-
-function dressNear() {
-  const groups = main.querySelectorAll(\"section > .far\");
-  const near = new IntersectionObserver((seen) => seen.filter((it) => it.isIntersecting).forEach((it) => {
-    near.unobserve(it.target);
-    dress(it.target);
-  }), { root: main, rootMargin: \"100%\" });
-  for (const it of groups) near.observe(it);
-  for (const story of main.children) if (!story.querySelector(\":scope > .far\")) dress(story);
-}
 
 function dress(part) {
   if (dressed.has(part)) return;
@@ -744,6 +740,64 @@ function wordsOfChange(at) {
   const { date } = rows[at].dataset;
   const kind = KINDS[kindsOf[at]];
   return \"Change \" + (at + 1) + \": \" + kind + \" by \" + spelled(authorsOf[at] || \"no name\") + (date === \"-\" ? \"\" : \", \" + date.slice(0, 10));
+}
+
+// The parts of the document: the groups of a long story, and the other stories. What is near sight is dressed and gets a view at
+// once. The others get the view soon after, some at a time, so that nobody waits for what isn't seen.
+
+const AT_A_TIME = 8;
+const nearParts = new Set();
+let seeing = 0;
+
+function allParts() {
+  const groupsOf = (story) => Array.from(story.querySelectorAll(\":scope > .far\"));
+  return Array.from(main.children).flatMap((story) => (groupsOf(story).length ? groupsOf(story) : [story]));
+}
+
+function watchParts() {
+  const near = new IntersectionObserver((found) => found.forEach(({ target, isIntersecting }) => {
+    if (!isIntersecting) return nearParts.delete(target);
+    nearParts.add(target);
+    comeNear(target);
+  }), { root: main, rootMargin: \"100%\" });
+  for (const part of allParts()) {
+    if (part.matches(\".far\")) near.observe(part);
+    else dress(part);
+  }
+}
+
+// What a part needs before it is looked at.
+function comeNear(part) {
+  dress(part);
+  seePart(part);
+}
+
+function seePart(part) {
+  if (viewNow() === \"marks\") delete part.dataset.seen;
+  else part.dataset.seen = viewNow();
+}
+
+// Gives the view to the parts near sight, and begins with the others.
+function seeParts() {
+  const isNear = (part) => nearParts.has(part) || !part.matches(\".far\");
+  const parts = allParts();
+  parts.filter(isNear).forEach(seePart);
+  seeSoon(parts.filter((it) => !isNear(it)));
+}
+
+function seeSoon(parts) {
+  clearTimeout(seeing);
+  parts.slice(0, AT_A_TIME).forEach(seePart);
+  const rest = parts.slice(AT_A_TIME);
+  main.ariaBusy = String(rest.length > 0);
+  if (rest.length) seeing = setTimeout(() => seeSoon(rest), 0);
+}
+
+// What is printed, and what is copied, is all of the view.
+function seeAll() {
+  if (main.ariaBusy !== \"true\") return;
+  allParts().forEach(seePart);
+  seeSoon([]);
 }
 
 // Excerpts: what a change is about, in a few words, with the changes around it.
@@ -888,8 +942,9 @@ function whoOf(at) {
   return make(\"span\", { className: \"who\" }, isolated(authorsOf[at]));
 }
 
-// Shows in a row which of its buttons is pressed. A word can be withdrawn only where there is one.
+// Shows in a row, where it is filled, which of its buttons is pressed. A word can be withdrawn only where there is one.
 function press(row) {
+  if (!row.hasAttribute(\"tabindex\")) return;
   const at = numberOf(row) - 1;
   for (const button of row.querySelectorAll(\"button\")) {
     button.ariaPressed = String(button.value === words[at]);
@@ -898,7 +953,7 @@ function press(row) {
 }
 
 function pressAll() {
-  for (const row of rows) if (row.hasAttribute(\"tabindex\")) press(row);
+  rows.forEach(press);
 }
 
 // Which rows are shown
@@ -1258,7 +1313,7 @@ function leftOf(list, rest) {
 
 // Places whose words changed since they were drawn, and those whose verdicts did.
 let undrawn = new Set();
-let unjudged = new Set(rows.keys());
+let unjudged = new Set(allPlaces().filter((at) => verdictsOf[at] !== \"open\"));
 
 function redraw(at) {
   if (!undrawn.size) queueMicrotask(drawWords);
@@ -1273,13 +1328,13 @@ function drawWords() {
   const now = undrawn;
   undrawn = new Set();
   for (const at of now) {
-    for (const it of [rows[at], ...placesOf(rows[at])]) set(it, \"say\", words[at]);
+    for (const it of [rows[at], ...placesAt(at)]) set(it, \"say\", words[at]);
     press(rows[at]);
     unjudged.add(at);
   }
   if (viewNow() === \"marks\") return;
   drawVerdicts();
-  const touched = new Set(Array.from(now).flatMap((at) => placesOf(rows[at]).map(listedElement)));
+  const touched = new Set(Array.from(now).flatMap((at) => placesAt(at).map(listedElement)));
   seeLists(Array.from(touched).filter((it) => withLists.has(it)));
   captionView();
 }
@@ -1287,15 +1342,16 @@ function drawWords() {
 function drawVerdicts() {
   for (const at of unjudged) {
     const verdict = verdictAt(at);
-    for (const it of placesOf(rows[at])) set(it, \"verdict\", verdict === \"open\" ? \"\" : verdict);
+    for (const it of placesAt(at)) set(it, \"verdict\", verdict === \"open\" ? \"\" : verdict);
   }
   unjudged = new Set();
 }
 
 function set(element, key, value) {
-  if ((element.dataset[key] || \"\") === value) return;
-  if (value) element.dataset[key] = value;
-  else delete element.dataset[key];
+  const name = \"data-\" + key;
+  if ((element.getAttribute(name) || \"\") === value) return;
+  if (value) element.setAttribute(name, value);
+  else element.removeAttribute(name);
 }
 
 // The change that is chosen, and the ways to the next one.
@@ -2346,6 +2402,7 @@ advance.addEventListener(\"change\", () => store(\"redline setting advance\", ad
 addEventListener(\"storage\", hearStore);
 addEventListener(\"pagehide\", () => waiting && keep());
 addEventListener(\"beforeprint\", sayPrinted);
+for (const kind of [\"beforeprint\", \"copy\"]) addEventListener(kind, seeAll);
 
 function begin() {
   build();

@@ -16,7 +16,7 @@ function arrange() {
   for (const table of Array.from(main.querySelectorAll("tbody"))) if (table.rows.length > 2 * FAR) groupRows(table);
   nextSibling.before(main);
   main.scrollTop = scrollTop;
-  dressNear();
+  watchParts();
 }
 
 // What stands at the edge of a row is no cell: it goes into the first one.
@@ -88,6 +88,11 @@ function placeOf(member) {
 let places = null;
 
 function placesOf(row) {
+  return placesAt(numberOf(row) - 1);
+}
+
+// The elements of the change at a place.
+function placesAt(at) {
   if (!places) {
     places = new Array(rows.length);
     for (const it of main.querySelectorAll("[data-revision]")) {
@@ -96,7 +101,7 @@ function placesOf(row) {
       else places[at] = [it];
     }
   }
-  return places[numberOf(row) - 1] || [];
+  return places[at] || [];
 }
 
 // Shows where a change is in the document. Where a view has taken its text away, what is nearest to it is shown.
@@ -105,7 +110,7 @@ function showPlace(row) {
   if (!place) return;
   for (let it = place.closest("details"); it; it = it.parentElement.closest("details")) it.open = true;
   const group = place.closest(".far");
-  if (group) dress(group);
+  if (group) comeNear(group);
   let seen = place;
   while (seen !== main && !seen.getClientRects().length) seen = seen.previousElementSibling || seen.parentElement;
   if (seen !== main) seen.scrollIntoView({ block: "center" });

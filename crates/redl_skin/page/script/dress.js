@@ -3,16 +3,6 @@
 const ROLES = { TABLE: "table", TBODY: "rowgroup", TR: "row", TD: "cell" };
 const dressed = new WeakSet();
 
-function dressNear() {
-  const groups = main.querySelectorAll("section > .far");
-  const near = new IntersectionObserver((seen) => seen.filter((it) => it.isIntersecting).forEach((it) => {
-    near.unobserve(it.target);
-    dress(it.target);
-  }), { root: main, rootMargin: "100%" });
-  for (const it of groups) near.observe(it);
-  for (const story of main.children) if (!story.querySelector(":scope > .far")) dress(story);
-}
-
 function dress(part) {
   if (dressed.has(part)) return;
   dressed.add(part);

@@ -44,8 +44,9 @@ function whoOf(at) {
   return make("span", { className: "who" }, isolated(authorsOf[at]));
 }
 
-// Shows in a row which of its buttons is pressed. A word can be withdrawn only where there is one.
+// Shows in a row, where it is filled, which of its buttons is pressed. A word can be withdrawn only where there is one.
 function press(row) {
+  if (!row.hasAttribute("tabindex")) return;
   const at = numberOf(row) - 1;
   for (const button of row.querySelectorAll("button")) {
     button.ariaPressed = String(button.value === words[at]);
@@ -54,7 +55,7 @@ function press(row) {
 }
 
 function pressAll() {
-  for (const row of rows) if (row.hasAttribute("tabindex")) press(row);
+  rows.forEach(press);
 }
 
 // Which rows are shown

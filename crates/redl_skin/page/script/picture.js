@@ -2,7 +2,7 @@
 
 // Places whose words changed since they were drawn, and those whose verdicts did.
 let undrawn = new Set();
-let unjudged = new Set(rows.keys());
+let unjudged = new Set(allPlaces().filter((at) => verdictsOf[at] !== "open"));
 
 function redraw(at) {
   if (!undrawn.size) queueMicrotask(drawWords);
@@ -17,13 +17,13 @@ function drawWords() {
   const now = undrawn;
   undrawn = new Set();
   for (const at of now) {
-    for (const it of [rows[at], ...placesOf(rows[at])]) set(it, "say", words[at]);
+    for (const it of [rows[at], ...placesAt(at)]) set(it, "say", words[at]);
     press(rows[at]);
     unjudged.add(at);
   }
   if (viewNow() === "marks") return;
   drawVerdicts();
-  const touched = new Set(Array.from(now).flatMap((at) => placesOf(rows[at]).map(listedElement)));
+  const touched = new Set(Array.from(now).flatMap((at) => placesAt(at).map(listedElement)));
   seeLists(Array.from(touched).filter((it) => withLists.has(it)));
   captionView();
 }
@@ -31,13 +31,14 @@ function drawWords() {
 function drawVerdicts() {
   for (const at of unjudged) {
     const verdict = verdictAt(at);
-    for (const it of placesOf(rows[at])) set(it, "verdict", verdict === "open" ? "" : verdict);
+    for (const it of placesAt(at)) set(it, "verdict", verdict === "open" ? "" : verdict);
   }
   unjudged = new Set();
 }
 
 function set(element, key, value) {
-  if ((element.dataset[key] || "") === value) return;
-  if (value) element.dataset[key] = value;
-  else delete element.dataset[key];
+  const name = "data-" + key;
+  if ((element.getAttribute(name) || "") === value) return;
+  if (value) element.setAttribute(name, value);
+  else element.removeAttribute(name);
 }

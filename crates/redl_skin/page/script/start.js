@@ -21,6 +21,7 @@ advance.addEventListener("change", () => store("redline setting advance", advanc
 addEventListener("storage", hearStore);
 addEventListener("pagehide", () => waiting && keep());
 addEventListener("beforeprint", sayPrinted);
+for (const kind of ["beforeprint", "copy"]) addEventListener(kind, seeAll);
 
 function begin() {
   build();

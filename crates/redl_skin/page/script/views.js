@@ -17,6 +17,7 @@ function viewNow() {
 
 function seeAs(view) {
   document.body.dataset.view = view;
+  seeParts();
   if (view === "marks") Array.from(joinedOf.keys(), takeApart);
   else {
     drawVerdicts();
