@@ -1,0 +1,3 @@
+pub mod Undecided
+pub mod Sums
+pub mod Idle

@@ -1,0 +1,104 @@
+//! The number of marks that no revision holds.
+
+ghost use Rattle.std.specs.Prelude.{◌≡◌, ◌-◌, ◌^◌, min};
+ghost use Rattle.redl_tree.specs.Model.IdleTexts.{idle_nodes};
+ghost use Rattle.redl_tree.specs.Model.Nodes.{in_front, no_nodes};
+ghost use Rattle.redl_tree.specs.Model.View.{nodes_of, item_of, tag_of};
+ghost use Rattle.redl_undecided.specs.Undecided.{is_undecided, one_if, undecided_marks};
+
+use crate::names::is_mark_name;
+use redl_idle::{Shows, show};
+use redl_tree::{Elem, Kind, Node, Plain, Space};
+use std::convert::Infallible;
+
+/// How many marks of changes among nodes, at every depth, are in no revision, or 18446744073709551615 where there are more. The
+/// members of revisions have their kinds. It takes no memory.
+#[cycle(count)]
+pub fn count_undecided(nodes: &[Node]) -> u64
+    ensures { result ≡ min (undecided_marks (nodes_of nodes.now)) (2 ^ 64 - 1) }
+{
+    let mut total: u64 = 0;
+    for node in nodes {
+        total = total.saturating_add(count_node(node));
+    }
+    total
+}
+
+#[cycle(count)]
+fn count_node(node: &Node) -> u64
+    ensures { result ≡ min (undecided_marks (in_front (item_of node.now) no_nodes)) (2 ^ 64 - 1) }
+{
+    match node {
+        Node::Elem(elem) => count_undecided(elem.kids()).saturating_add(count_own(elem)),
+        Node::Bytes(_) => 0,
+        Node::Plain(plain) => count_plain(plain),
+    }
+}
+
+// 1 where the element itself is such a mark, and else 0.
+fn count_own(elem: &Elem) -> u64
+    ensures { result ≡ one_if (is_undecided (tag_of elem.now)) }
+{
+    if is_undecided(elem) { 1 } else { 0 }
+}
+
+fn is_undecided(elem: &Elem) -> bool
+    ensures { result ≡ is_undecided (tag_of elem.now) }
+{
+    match (elem.kind(), elem.space()) {
+        (Kind::Plain, Space::W) => is_mark_name(elem.local()),
+        _ => false,
+    }
+}
+
+// How many of the idle elements are such marks that a list keeps as text.
+fn count_plain(plain: &Plain) -> u64
+    ensures { result ≡ min (undecided_marks (idle_nodes plain.now)) (2 ^ 64 - 1) }
+{
+    let mut marks = Marks { count: 0 };
+    match show(plain, &Idle, &mut marks) {
+        Ok(()) => marks.count,
+        Err(never) => match never {},
+    }
+}
+
+// The number of marks so far.
+#[derive(Drop)]
+struct Marks {
+    count: u64,
+}
+
+// Hands down nothing.
+#[derive(Clone, Copy)]
+struct Idle;
+
+impl Shows<Marks> for Idle {
+    ghost use Rattle.redl_undecided.specs.Idle.{by_count, idle_rule};
+
+    type Error = Infallible;
+
+    ghost rule = { idle_rule };
+
+    ghost taking = { by_count };
+
+    fn put_bytes(&self, _bytes: &[u8], _marks: &mut Marks) -> Result<(), Infallible> {
+        Ok(())
+    }
+
+    fn enter(
+        &self,
+        local: &[u8],
+        _tail: &[u8],
+        _ahead: &[u8],
+        marks: &mut Marks,
+    ) -> Result<Self, Infallible> {
+        if is_mark_name(local) {
+            marks.count = marks.count.saturating_add(1);
+        }
+        Ok(Idle)
+    }
+
+    fn leave(&self, _marks: &mut Marks) -> Result<(), Infallible> {
+        Ok(())
+    }
+}
