@@ -3,7 +3,7 @@
 use redl_io::{MemSink, Text};
 use redl_journal::Entry;
 use redl_kinds::{Lock, RevKind};
-use redl_lines::{Cause, End, Failure, Limit, PackageFault, RefusedEntries, Remarks, tell};
+use redl_lines::{Cause, End, Failure, Limit, Note, PackageFault, RefusedEntries, Remarks, tell};
 use redl_session::{AdmitError, Bar, Refusal};
 use redl_test_journals::entries_of;
 use std::alloc::{AllocError, Global};
@@ -171,6 +171,7 @@ fn tells_refused(
         refused: refused(alloc, entries)?,
         second: RefusedEntries::new(alloc),
         idle: Vec::new(alloc),
+        notes: Vec::new(alloc),
     };
     let end = if writes {
         End::Written(remarks)
@@ -237,5 +238,37 @@ fn a_lock_that_holds_nothing_has_a_line(rt: HostRuntime) -> Result<(), Fail> {
     let lines =
         "redline: note: nothing by Dana Fox is locked\nredline: note: a lock on a span holds nothing\nredline: note: a lock on a kind holds nothing\n";
     assert!(rt; ends_with(rt.alloc(), &end, 0, lines)?);
+    Ok(())
+}
+
+// The remarks on a lock that holds nothing and on so many marks.
+fn marks(alloc: Global, number: u64) -> Result<Remarks, AllocError> {
+    let mut remarks = Remarks::none(alloc);
+    remarks.idle.push(Lock::Kind(RevKind::Move))?;
+    remarks.notes.push(Note::Undecided(number))?;
+    Ok(remarks)
+}
+
+#[test]
+fn marks_that_are_left_are_told_last(rt: HostRuntime) -> Result<(), Fail> {
+    let lock = "redline: note: a lock on a kind holds nothing\n";
+    for (number, line) in [
+        (
+            1,
+            "redline: note: 1 mark is left that Redline does not decide: see redline left\n",
+        ),
+        (
+            2,
+            "redline: note: 2 marks are left that Redline does not decide: see redline left\n",
+        ),
+        (
+            18_446_744_073_709_551_615,
+            "redline: note: 18446744073709551615 marks are left that Redline does not decide: see redline left\n",
+        ),
+    ] {
+        let end = End::Written(marks(rt.alloc(), number)?);
+        let lines = format!(in rt.alloc(); "{lock}{line}")?;
+        assert!(rt; ends_with(rt.alloc(), &end, 0, lines.as_str())?, "{number}");
+    }
     Ok(())
 }

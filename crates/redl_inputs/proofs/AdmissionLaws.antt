@@ -13,6 +13,7 @@ use Rattle.redl_join.specs.Books.{union}
 use Rattle.redl_journal.specs.declared.entry.Entry.{Entry}
 use Rattle.redl_lines.proofs.RefusedLaws.{with_refusals-append}
 use Rattle.redl_lines.specs.Refused.{RefusedEntries, with_refusals}
+use Rattle.redl_lines.specs.declared.note.Note.{Note}
 use Rattle.redl_kinds.specs.declared.lock.Lock.{Lock}
 use Rattle.redl_session.specs.Refusals.{admitted, cause_of, refusal_of, refusals}
 use Rattle.redl_session.specs.Sessions.{SessionState}
@@ -50,23 +51,28 @@ pub admits_nothing : (before : Admission) → admission_with before [] ≡ befor
 admits_nothing before = refl
 
 -- an admission of these parts
-abbrev pub with_parts : DocumentId → SessionState → RefusedEntries → RefusedEntries → List Lock → Admission
-with_parts document state refused second idle = record { document = document; state = state; remarks = record { refused = refused; second = second; idle = idle } }
+abbrev pub with_parts : DocumentId → SessionState → RefusedEntries → RefusedEntries → List Lock → List Note → Admission
+with_parts document state refused second idle notes = record {
+  document = document;
+  state = state;
+  remarks = record { refused = refused; second = second; idle = idle; notes = notes };
+}
 
 -- a session after these entries, and the refusals that it gave
 pub admitted_all : (before : Admission) (entries : List Entry) (state : SessionState) (given : List Refusal) (kept : RefusedEntries)
     → state ≡ record before.state { book = union before.state.book (admitted before.state.revisions before.state.locks entries) }
     → given ≡ refusals before.state.revisions before.state.locks entries
     → kept ≡ with_refusals before.remarks.refused given
-    → with_parts before.document state kept before.remarks.second before.remarks.idle ≡ admission_with before entries
+    → with_parts before.document state kept before.remarks.second before.remarks.idle before.remarks.notes ≡ admission_with before entries
 admitted_all before entries state given kept is were added =
-    ap (λ s. with_parts before.document s kept before.remarks.second before.remarks.idle) is
-    ∙ ap (λ rs. with_parts before.document (record before.state { book = union before.state.book (admitted before.state.revisions before.state.locks entries) }) rs before.remarks.second before.remarks.idle)
+    ap (λ s. with_parts before.document s kept before.remarks.second before.remarks.idle before.remarks.notes) is
+    ∙ ap (λ rs. with_parts before.document (record before.state { book = union before.state.book (admitted before.state.revisions before.state.locks entries) }) rs before.remarks.second before.remarks.idle before.remarks.notes)
     (added ∙ ap (with_refusals before.remarks.refused) were)
 
 -- a session over a package, before any entry
-pub starts : (whole : List ℕ) (pkg : Nodes) (locks : List Lock) (nodes : Nodes) (revisions : List Revision) (held : List Lock) (state : SessionState) (refused second : RefusedEntries) (idle : List Lock) (count : ℕ)
+pub starts : (whole : List ℕ) (pkg : Nodes) (locks : List Lock) (nodes : Nodes) (revisions : List Revision) (held : List Lock) (state : SessionState) (refused second : RefusedEntries) (idle : List Lock) (notes : List Note) (count : ℕ)
     → state ≡ record { nodes = nodes; revisions = revisions; locks = held; book = [] } → nodes ≡ numbered_package pkg → revisions ≡ revisions_of pkg → held ≡ locks
-    → refused ≡ [] → second ≡ [] → idle ≡ idle_locks revisions locks → count ≡ package_revisions pkg → let document : DocumentId = record { digest = sha256 whole; count = count } in with_parts document state refused second idle ≡ no_admission whole pkg locks
-starts whole pkg locks nodes revisions held state refused second idle count is of_nodes of_revisions of_locks none nor idly counted =
-    rw (is, idly, of_nodes, of_revisions, of_locks, none, nor, counted) refl
+    → refused ≡ [] → second ≡ [] → idle ≡ idle_locks revisions locks → notes ≡ [] → count ≡ package_revisions pkg
+    → let document : DocumentId = record { digest = sha256 whole; count = count } in with_parts document state refused second idle notes ≡ no_admission whole pkg locks
+starts whole pkg locks nodes revisions held state refused second idle notes count is of_nodes of_revisions of_locks none nor idly untold counted =
+    rw (is, idly, of_nodes, of_revisions, of_locks, none, nor, untold, counted) refl

@@ -31,7 +31,7 @@ abbrev pub no_admission : List ℕ → Nodes → List Lock → Admission
 no_admission whole nodes locks = record {
   document = document_of whole nodes;
   state = record { nodes = numbered_package nodes; revisions = revisions_of nodes; locks = locks; book = [] };
-  remarks = record { refused = []; second = []; idle = idle_locks (revisions_of nodes) locks };
+  remarks = record { refused = []; second = []; idle = idle_locks (revisions_of nodes) locks; notes = [] };
 }
 
 -- after these entries too: the book has those that are not refused, and the refused ones are kept with their causes

@@ -109,6 +109,7 @@ pub fn start<'b>(
             refused: RefusedEntries::new(alloc),
             second: RefusedEntries::new(alloc),
             idle,
+            notes: Vec::new(alloc),
         },
     })
 }

@@ -5,7 +5,7 @@ use Rattle.std.specs.List.{flat_map}
 use Rattle.redl_io.specs.Faults.{Rose}
 use Rattle.redl_io.specs.Sink.{GrowsByFront}
 use Rattle.redl_lines.specs.Failures.{Failure, failure_view, failure_status}
-use Rattle.redl_lines.specs.Lines.{failure_line, idle_line, refused_line, unwritten_line}
+use Rattle.redl_lines.specs.Lines.{failure_line, idle_line, note_line, refused_line, unwritten_line}
 use Rattle.redl_lines.specs.Refused.{RefusedEntries}
 use Rattle.redl_lines.specs.Remarks.{Remarks, all_refused, remarks_view}
 use Rattle.redl_lines.specs.declared.end.End.{End as Declared}
@@ -39,9 +39,11 @@ end_status (written remarks) = written_status (all_refused remarks)
 end_status (unwritten remarks) = status.WriteFault
 end_status (failed failure) = failure_status failure
 
--- a line for each refused entry, then one for each of a second package, and then one for each lock that holds nothing
+-- a line for each refused entry, then one for each of a second package, one for each lock that holds nothing, and one for each note
 abbrev pub remark_lines : Remarks → List ℕ
-remark_lines remarks = flat_map refused_line remarks.refused ++ (flat_map refused_line remarks.second ++ flat_map idle_line remarks.idle)
+remark_lines remarks =
+    flat_map refused_line remarks.refused
+    ++ (flat_map refused_line remarks.second ++ (flat_map idle_line remarks.idle ++ flat_map note_line remarks.notes))
 
 -- the lines that a call writes to standard error
 abbrev pub end_lines : End → List ℕ

@@ -9,6 +9,8 @@ use Rattle.redl_lines.specs.declared.failure.Limit.{Limit}
 use Rattle.redl_lines.specs.declared.failure.Limit.TheVariants.{PackageBytes, JournalBytes, Depth, Nodes, Sample}
 use Rattle.redl_lines.specs.declared.failure.PackageFault.{PackageFault}
 use Rattle.redl_lines.specs.declared.failure.PackageFault.TheVariants.{NotReadable, NotPackage, PartShape, NoDocument, Rule}
+use Rattle.redl_lines.specs.declared.note.Note.{Note}
+use Rattle.redl_lines.specs.declared.note.Note.TheVariants.{Undecided}
 use Rattle.redl_kinds.specs.declared.lock.Lock.{Lock}
 use Rattle.redl_kinds.specs.declared.lock.Lock.TheVariants as lock
 use Rattle.redl_session.specs.declared.refusal.AdmitError.{AdmitError}
@@ -164,3 +166,17 @@ abbrev pub idle_line : Lock → List ℕ
 idle_line (lock.Author name) = named (codes "redline: note: nothing by ") name (codes " is locked" ++ newline)
 idle_line (lock.Kind of_kind) = codes "redline: note: a lock on a kind holds nothing" ++ newline
 idle_line (lock.Span start end) = codes "redline: note: a lock on a span holds nothing" ++ newline
+
+-- ---- notes
+
+-- the line for one mark that is never decided
+abbrev pub one_mark_line : List ℕ
+one_mark_line = codes "redline: note: 1 mark is left that Redline does not decide: see redline left" ++ newline
+
+-- the line for several of them
+abbrev pub marks_line : List ℕ → List ℕ
+marks_line number = codes "redline: note: " ++ (number ++ (codes " marks are left that Redline does not decide: see redline left" ++ newline))
+
+-- the line of a note
+abbrev pub note_line : Note → List ℕ
+note_line (Undecided number) = if number == 1 then one_mark_line else marks_line (decimal number)

@@ -4,7 +4,7 @@ ghost use Rattle.std.specs.Prelude.{◌≡◌, ◌++◌, codes, decimal, OnOk, O
 ghost use Rattle.std.specs.Io.KnownBytes.{append_known};
 ghost use Rattle.std.specs.List.{flat_map};
 ghost use Rattle.redl_lines.specs.Ends.{Tells, end_lines, end_view, remark_lines};
-ghost use Rattle.redl_lines.specs.Lines.{cause_text, decision_text, idle_line, ranked_text, refused_line, bar_text as bar_text_of, why_text as why_text_of};
+ghost use Rattle.redl_lines.specs.Lines.{cause_text, decision_text, idle_line, marks_line, note_line, one_mark_line, ranked_text, refused_line, bar_text as bar_text_of, why_text as why_text_of};
 ghost use Rattle.redl_lines.specs.Remarks.{remarks_view};
 ghost use Rattle.redl_io.specs.Sink.{Puts, GrowsByFront, CountsPut};
 ghost use Rattle.redl_journal.specs.Journals.{word_text};
@@ -12,6 +12,7 @@ ghost use Rattle.redl_journal.specs.Journals.{word_text};
 use crate::causes::write_failure;
 use crate::end::End;
 use crate::named::write_named;
+use crate::note::Note;
 use crate::refused::RefusedEntries;
 use crate::remarks::Remarks;
 use itoa::Buffer;
@@ -57,7 +58,8 @@ fn write_remarks<K: Sink>(remarks: &Remarks, err: &mut K) -> Result<(), Failed>
 {
     write_refused(&remarks.refused, err)?;
     write_refused(&remarks.second, err)?;
-    write_idle(&remarks.idle, err)
+    write_idle(&remarks.idle, err)?;
+    write_notes(&remarks.notes, err)
 }
 
 // A line for each refused entry.
@@ -163,6 +165,56 @@ fn write_idle_author<K: Sink>(author: &[u8], err: &mut K) -> Result<(), Failed>
     ensures { Puts K.told K.faults K.settled K.lenders err.old err.new (idle_line (Lock.Author author.now)) result }
 {
     write_named(b"redline: note: nothing by ", author, b" is locked\n", err)
+}
+
+// A line for each note.
+fn write_notes<K: Sink>(notes: &[Note], err: &mut K) -> Result<(), Failed>
+    ensures { Puts K.told K.faults K.settled K.lenders err.old err.new (flat_map note_line notes.now) result }
+{
+    for note in notes {
+        write_note(note, err)?;
+    }
+    Ok(())
+}
+
+fn write_note<K: Sink>(note: &Note, err: &mut K) -> Result<(), Failed>
+    ensures { Puts K.told K.faults K.settled K.lenders err.old err.new (note_line note.now) result }
+{
+    match note {
+        Note::Undecided(number) => write_undecided(*number, err),
+    }
+}
+
+fn write_undecided<K: Sink>(number: u64, err: &mut K) -> Result<(), Failed>
+    ensures { Puts K.told K.faults K.settled K.lenders err.old err.new (note_line (Note.Undecided number)) result }
+{
+    if number == 1 {
+        return write_one_mark(err);
+    }
+    let mut digits = Buffer::new();
+    write_marks(digits.format(number), err)
+}
+
+fn write_one_mark<K: Sink>(err: &mut K) -> Result<(), Failed>
+    ensures { Puts K.told K.faults K.settled K.lenders err.old err.new one_mark_line result }
+{
+    put_piece(
+        b"redline: note: 1 mark is left that Redline does not decide: see redline left\n",
+        err,
+    )
+}
+
+fn write_marks<K: Sink>(number: &str, err: &mut K) -> Result<(), Failed>
+    ensures { Puts K.told K.faults K.settled K.lenders err.old err.new (marks_line number.now) result }
+{
+    put_pieces(
+        &[
+            b"redline: note: ".as_slice(),
+            number.as_bytes(),
+            b" marks are left that Redline does not decide: see redline left\n",
+        ],
+        err,
+    )
 }
 
 // The word as it stands in a journal.

@@ -4,6 +4,7 @@ ghost use Rattle.std.specs.Prelude.{◌≡◌};
 ghost use Rattle.redl_lines.specs.Refused.{is_empty as has_none};
 ghost use Rattle.redl_lines.specs.Remarks.{all_refused, no_remarks, remarks_view};
 
+use crate::note::Note;
 use crate::refused::RefusedEntries;
 use redl_kinds::Lock;
 use std::alloc::Global;
@@ -17,6 +18,8 @@ pub struct Remarks {
     pub second: RefusedEntries,
     /// The locks that hold no revision of the package, in the order of the words.
     pub idle: Vec<Lock>,
+    /// What there is to tell of the document.
+    pub notes: Vec<Note>,
 }
 
 impl Remarks {
@@ -28,6 +31,7 @@ impl Remarks {
             refused: RefusedEntries::new(alloc),
             second: RefusedEntries::new(alloc),
             idle: Vec::new(alloc),
+            notes: Vec::new(alloc),
         }
     }
 

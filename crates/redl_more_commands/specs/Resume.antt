@@ -37,7 +37,7 @@ resumption first second =
     if bytes_eq (text_under first.state (book_of first.state second.state)) (left_text second.state)
     then Ok (record {
       bytes = book_text first.document (book_of first.state second.state);
-      remarks = record { refused = first.remarks.refused; second = second.remarks.refused; idle = [] };
+      remarks = record { refused = first.remarks.refused; second = second.remarks.refused; idle = []; notes = [] };
     })
     else Err (caused differ)
 

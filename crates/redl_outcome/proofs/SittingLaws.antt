@@ -49,7 +49,7 @@ resumption-agrees first second w e = at (bytes_eq (text_under first.state (book_
     made : Writing
     made = record {
       bytes = book_text first.document (book_of first.state second.state);
-      remarks = record { refused = first.remarks.refused; second = second.remarks.refused; idle = [] };
+      remarks = record { refused = first.remarks.refused; second = second.remarks.refused; idle = []; notes = [] };
     }
 
     at : (b : Bool) → bytes_eq (text_under first.state (book_of first.state second.state)) (left_text second.state) ≡ b
@@ -65,7 +65,7 @@ resumption-differs first second no_text = at (bytes_eq (text_under first.state (
     made : Result Writing Failure
     made = Ok (record {
       bytes = book_text first.document (book_of first.state second.state);
-      remarks = record { refused = first.remarks.refused; second = second.remarks.refused; idle = [] };
+      remarks = record { refused = first.remarks.refused; second = second.remarks.refused; idle = []; notes = [] };
     })
 
     at : (b : Bool) → bytes_eq (text_under first.state (book_of first.state second.state)) (left_text second.state) ≡ b → cond b made (Err (caused differ)) ≡ Err (caused differ)

@@ -155,7 +155,7 @@ conclude_fails whole one again second failure step =
 
 -- what is written with this document and these refused entries
 abbrev written_with : DocumentId → RefusedEntries → SecondSitting → Writing
-written_with document refused second = record { bytes = book_text document second.book; remarks = record { refused = refused; second = second.refused; idle = [] } }
+written_with document refused second = record { bytes = book_text document second.book; remarks = record { refused = refused; second = second.refused; idle = []; notes = [] } }
 
 -- the sittings come to different texts
 pub conclude_differs : (whole : List ℕ) (one : Admission) (again : IsReadAgain whole one) (second : SecondSitting) (under : List ℕ)

@@ -332,6 +332,7 @@ fn conclude<'a, 'b>(
             refused,
             second: joined.refused,
             idle: Vec::new(alloc),
+            notes: Vec::new(alloc),
         },
     })
 }

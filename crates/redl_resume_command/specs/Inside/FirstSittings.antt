@@ -64,7 +64,7 @@ resumption_of one second =
     if bytes_eq (text_under one.state second.book) second.text
     then Ok (record {
       bytes = book_text one.document second.book;
-      remarks = record { refused = one.remarks.refused; second = second.refused; idle = [] };
+      remarks = record { refused = one.remarks.refused; second = second.refused; idle = []; notes = [] };
     })
     else Err (caused differ)
 

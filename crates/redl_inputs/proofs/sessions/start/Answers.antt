@@ -18,6 +18,6 @@ start-requires c =
 
 pub returns : goal.returns
 returns c =
-    starts c.args.bytes.now c.args.pkg c.args.locks.now c.in_ok-numbered.numbered.pkg c.in_ok-numbered.numbered.index c.new-locks.result c.start.result c.new.result c.new-2.result c.in_ok-idle.idle.items c.count-count.result
+    starts c.args.bytes.now c.args.pkg c.args.locks.now c.in_ok-numbered.numbered.pkg c.in_ok-numbered.numbered.index c.new-locks.result c.start.result c.new.result c.new-2.result c.in_ok-idle.idle.items c.new-3.result.items c.count-count.result
     c.start.ensures c.in_ok-numbered.ensures.nodes c.in_ok-numbered.ensures.index (c.new-locks.ensures ∙ c.in_ok-copy_locks.ensures)
-    c.new.ensures c.new-2.ensures c.in_ok-idle.ensures (c.count-count.ensures ∙ c.in_ok-numbered.ensures.count)
+    c.new.ensures c.new-2.ensures c.in_ok-idle.ensures c.new-3.ensures.items (c.count-count.ensures ∙ c.in_ok-numbered.ensures.count)
