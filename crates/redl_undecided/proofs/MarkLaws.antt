@@ -26,7 +26,7 @@ marks-in_front (idle_item t) ys = omega (arith, marks-⊕ (idle_nodes t) ys, mar
 
 -- ---- idle elements
 
-own_idle : (in_run : Bool) (tag : Tag) → Idle in_run tag → is_undecided tag ≡ is_mark_name tag.local
+pub own_idle : (in_run : Bool) (tag : Tag) → Idle in_run tag → is_undecided tag ≡ is_mark_name tag.local
 own_idle in_run tag i =
     ap (λ (k : Kind). is_plain_kind k && (is_w tag.space && is_mark_name tag.local)) i.kind
     ∙ ap (λ b. b && is_mark_name tag.local) i.space

@@ -1,3 +1,4 @@
 pub mod Undecided
+pub mod Middles
 pub mod Sums
 pub mod Idle

@@ -1,11 +1,12 @@
 //! The number of marks that no revision holds.
 
-ghost use Rattle.std.specs.Prelude.{◌≡◌, ◌-◌, ◌^◌, min};
+ghost use Rattle.std.specs.Prelude.{◌≡◌, ◌+◌, ◌-◌, ◌^◌, min};
 ghost use Rattle.redl_tree.specs.Model.IdleTexts.{idle_nodes};
 ghost use Rattle.redl_tree.specs.Model.Nodes.{in_front, no_nodes};
 ghost use Rattle.redl_tree.specs.Model.View.{nodes_of, item_of, tag_of};
 ghost use Rattle.redl_undecided.specs.Undecided.{is_undecided, one_if, undecided_marks};
 
+use crate::middles::lacks_middles;
 use crate::names::is_mark_name;
 use redl_idle::{Shows, show};
 use redl_tree::{Elem, Kind, Node, Plain, Space};
@@ -31,7 +32,7 @@ fn count_node(node: &Node) -> u64
     match node {
         Node::Elem(elem) => count_undecided(elem.kids()).saturating_add(count_own(elem)),
         Node::Bytes(_) => 0,
-        Node::Plain(plain) => count_plain(plain),
+        Node::Plain(plain) => add_plain(0, plain),
     }
 }
 
@@ -51,13 +52,17 @@ fn is_undecided(elem: &Elem) -> bool
     }
 }
 
-// How many of the idle elements are such marks that a list keeps as text.
-fn count_plain(plain: &Plain) -> u64
-    ensures { result ≡ min (undecided_marks (idle_nodes plain.now)) (2 ^ 64 - 1) }
+// A number, and how many of the idle elements are such marks that a list keeps as text.
+fn add_plain(count: u64, plain: &Plain) -> u64
+    ensures { result ≡ min (count + undecided_marks (idle_nodes plain.now)) (2 ^ 64 - 1) }
 {
+    // Mostly there is none, and a search is quicker than a walk.
+    if lacks_middles(plain.text()) {
+        return count;
+    }
     let mut marks = Marks { count: 0 };
     match show(plain, &Idle, &mut marks) {
-        Ok(()) => marks.count,
+        Ok(()) => count.saturating_add(marks.count),
         Err(never) => match never {},
     }
 }

@@ -6,6 +6,7 @@
 #![tactic(auto)]
 
 mod count;
+mod middles;
 mod names;
 
 pub use count::count_undecided;

@@ -9,10 +9,11 @@ use Rattle.redl_undecided.proofs.count.+count.Goals as goal
 
 pub count_node-returns-in-Plain : goal.count_node-returns-in-Plain
 count_node-returns-in-Plain t c =
-    let marks : Nodes → Type 0 = λ ns. c.count_plain.result ≡ min (undecided_marks ns) (2 ^ 64 - 1) in
+    let marks : Nodes → Type 0 = λ ns. c.add_plain.result ≡ min (undecided_marks ns) (2 ^ 64 - 1) in
     let of_item : Item → Type 0 = λ item. marks (in_front item no_nodes) in
+    let own : marks (idle_nodes c.in-Plain.plain) = omega (arith, c.add_plain.ensures) in
     subst of_item (sym (ap item_of c.in-Plain.is ∙ item_of-Plain c.in-Plain.plain))
-    (subst marks (sym (⊕-no_nodes (idle_nodes c.in-Plain.plain))) c.count_plain.ensures)
+    (subst marks (sym (⊕-no_nodes (idle_nodes c.in-Plain.plain))) own)
 
 pub count_undecided-loop-node-preserved : goal.count_undecided-loop-node-preserved
 count_undecided-loop-node-preserved t c =
