@@ -33,11 +33,11 @@ shape-of : (o : Option OpcError) (tree nodes : Nodes) → refusal tree ≡ o →
 shape-of None tree nodes is e = ap refusal (sym (same_ok e)) ∙ is
 shape-of (Some error) tree nodes is e = absurd (cc e)
 
-sound-same : (o : Option ℕ) (tree nodes : Nodes) → sound_unless o tree ≡ Ok nodes → tree ≡ nodes
+pub sound-same : (o : Option ℕ) (tree nodes : Nodes) → sound_unless o tree ≡ Ok nodes → tree ≡ nodes
 sound-same None tree nodes e = same_ok e
 sound-same (Some rule) tree nodes e = absurd (cc e)
 
-shape-read : (reader : Reader) (whole : List ℕ) (nodes : Nodes) → package_in reader whole ≡ Ok nodes → refusal nodes ≡ None
+pub shape-read : (reader : Reader) (whole : List ℕ) (nodes : Nodes) → package_in reader whole ≡ Ok nodes → refusal nodes ≡ None
 shape-read reader whole nodes is =
     let tree = both_ok (tree_in (reader.tree whole)) (λ tree. shaped tree >>= (λ package_. sound package_)) nodes is in
     let shape = both_ok (shaped tree.x) (λ package_. sound package_) nodes tree.second in

@@ -53,12 +53,12 @@ after_opening reader files locks names others p next one other same is too =
 -- ---- joined journals
 
 -- the file of this name has this journal
-record HasJournal (reader : Reader) (files : Files) (name : List ℕ) (journal : Journal) : Type 0 where
+pub record HasJournal (reader : Reader) (files : Files) (name : List ℕ) (journal : Journal) : Type 0 where
   pub whole : List ℕ
   pub is_held : held name (files name) ≡ Ok whole
   pub is_read : reader.journal whole ≡ Some journal
 
-found_journal : (name : List ℕ) (found : Option Journal) (journal : Journal) → journal_or_none name found ≡ Ok journal → found ≡ Some journal
+pub found_journal : (name : List ℕ) (found : Option Journal) (journal : Journal) → journal_or_none name found ≡ Ok journal → found ≡ Some journal
 found_journal name None journal is = absurd (cc is)
 found_journal name (Some other) journal is = ap Some (same_ok is)
 
@@ -89,7 +89,7 @@ by_tests true true one two entries given is = (refl, refl)
 by_tests true false one two entries given is = absurd (cc is)
 by_tests false counts one two entries given is = absurd (cc is)
 
-same_document : (document : DocumentId) (name : List ℕ) (journal : Journal) (given : List Entry) → entries_in document name journal ≡ Ok given → document_in journal ≡ document
+pub same_document : (document : DocumentId) (name : List ℕ) (journal : Journal) (given : List Entry) → entries_in document name journal ≡ Ok given → document_in journal ≡ document
 same_document document name journal given is =
     let both = by_tests (bytes_eq journal.digest document.digest) (journal.count == document.count) _ _ journal.entries given is in
     let digests : journal.digest ≡ document.digest = (bytes_eq-Decides journal.digest document.digest).0 both.0 in
@@ -97,7 +97,7 @@ same_document document name journal given is =
     ap (λ (digest : List ℕ). let d : DocumentId = record { digest = digest; count = journal.count } in d) digests
     ∙ ap (λ (count : ℕ). let d : DocumentId = record { digest = document.digest; count = count } in d) counts
 
-of_document : (reader : Reader) (files : Files) (document : DocumentId) (name : List ℕ) (journal : Journal) (entries : List Entry)
+pub of_document : (reader : Reader) (files : Files) (document : DocumentId) (name : List ℕ) (journal : Journal) (entries : List Entry)
     → HasJournal reader files name journal → HasEntries reader files document name entries → document_in journal ≡ document
 of_document reader files document name journal entries has is =
     let same : is.whole ≡ has.whole = same_ok (sym is.is_held ∙ has.is_held) in
@@ -106,7 +106,7 @@ of_document reader files document name journal entries has is =
     same_document document name journal entries read
 
 -- what was joined: the first journal, and the entries of the others
-record Joined (reader : Reader) (files : Files) (name : List ℕ) (names : List (List ℕ)) (writing : Writing) : Type 0 where
+pub record Joined (reader : Reader) (files : Files) (name : List ℕ) (names : List (List ℕ)) (writing : Writing) : Type 0 where
   pub journal : Journal
   pub has : HasJournal reader files name journal
   pub left : ℕ
@@ -114,7 +114,7 @@ record Joined (reader : Reader) (files : Files) (name : List ℕ) (names : List 
   pub gathers : gathered reader files (document_in journal) left names ≡ Ok more
   pub written : only_bytes (book_text (document_in journal) (union [] (journal.entries ++ more))) ≡ writing
 
-was_joined : (reader : Reader) (files : Files) (most : ℕ) (name : List ℕ) (names : List (List ℕ)) (writing : Writing)
+pub was_joined : (reader : Reader) (files : Files) (most : ℕ) (name : List ℕ) (names : List (List ℕ)) (writing : Writing)
     → joined reader files most (name ∷ names) ≡ Ok writing → Joined reader files name names writing
 was_joined reader files most name names writing is =
     let first = both_ok (first_journal reader files most name) (λ one. union_of reader files most one names >>= (λ book. Ok (only_bytes (book_text (document_in one.0) book)))) writing is in
@@ -131,7 +131,7 @@ was_joined reader files most name names writing is =
     }
 
 -- each of the names has entries of the document, which are among those that were joined
-each_name : (reader : Reader) (files : Files) (name : List ℕ) (names : List (List ℕ)) (writing : Writing) (it : Joined reader files name names writing) (one : List ℕ) → Contains (name ∷ names) one
+pub each_name : (reader : Reader) (files : Files) (name : List ℕ) (names : List (List ℕ)) (writing : Writing) (it : Joined reader files name names writing) (one : List ℕ) → Contains (name ∷ names) one
     → IsGathered reader files (document_in it.journal) one (it.journal.entries ++ it.more)
 each_name reader files name names writing it one among = by (Contains-append_cases (name ∷ []) names one among)
   where
@@ -150,7 +150,7 @@ each_name reader files name names writing it one among = by (Contains-append_cas
         }
 
 -- each entry that was joined is one of some journal
-each_entry : (reader : Reader) (files : Files) (name : List ℕ) (names : List (List ℕ)) (writing : Writing) (it : Joined reader files name names writing) (entry : Entry)
+pub each_entry : (reader : Reader) (files : Files) (name : List ℕ) (names : List (List ℕ)) (writing : Writing) (it : Joined reader files name names writing) (entry : Entry)
     → Contains (it.journal.entries ++ it.more) entry → IsEntryOf reader files (document_in it.journal) (name ∷ names) entry
 each_entry reader files name names writing it entry there = by (Contains-append_cases it.journal.entries it.more entry there)
   where
