@@ -1,0 +1,27 @@
+//! What holds of calls, one of which takes what another wrote.
+
+ghost use Rattle.redl_inputs.specs.Readers.{Reader, IsReader};
+ghost use Rattle.redl_io.specs.Shelf.{Files};
+ghost use Rattle.redl_outcome.specs.Brought.{Brought};
+ghost use Rattle.redl_rounds_sound.specs.Rounds.{AlikeIsSettled, JoinedStandFor, ResumedStandsFor};
+
+/// A joined journal stands for those that it joins.
+///
+/// Where `join` wrote a file of these journals, and that file is within the limit of journal bytes, `write` with it has the status, the
+/// bytes and the lines of `write` with these journals, if that is written.
+pub fn joined_stand_for()
+    ensures { (reader : Reader) → IsReader reader → (files : Files) (brought : Brought) → JoinedStandFor reader files brought }
+{}
+
+/// A journal of two sittings stands for both.
+///
+/// Where `resume` wrote a file, and that is within the limit of journal bytes, `write` of the first package with it has status 0, and the
+/// bytes that `write` of the second package with its own journals has, if that is written.
+pub fn resumed_stands_for()
+    ensures { (reader : Reader) → IsReader reader → (files : Files) (brought : Brought) → ResumedStandsFor reader files brought }
+{}
+
+/// Journals that accept every revision, or reject every one, stand for `settle`: what is written has the same bytes.
+pub fn alike_is_settled()
+    ensures { (reader : Reader) → IsReader reader → (files : Files) (brought : Brought) → AlikeIsSettled reader files brought }
+{}
