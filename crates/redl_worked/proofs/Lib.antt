@@ -1,0 +1,7 @@
+mod Texts
+mod Packages
+mod Words
+mod Lines
+mod Steps
+pub mod Functions
+pub mod Calls
