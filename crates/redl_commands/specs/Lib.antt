@@ -1,5 +1,6 @@
 pub mod Choices
 pub mod Writing
+pub mod Notes
 pub mod Endings
 pub mod Settle
 pub mod Write

@@ -3,6 +3,7 @@ use Rattle.std.specs.Prelude.{ℕ, List, Result, Ok}
 use Rattle.redl_inputs.specs.Admission.{Admission, opened}
 use Rattle.redl_inputs.specs.Readers.{Reader}
 use Rattle.redl_inputs.specs.Steps.{◌>>=◌}
+use Rattle.redl_commands.specs.Notes.{with_marks}
 use Rattle.redl_commands.specs.Writing.{Writing}
 use Rattle.redl_io.specs.Shelf.{Files}
 use Rattle.redl_lines.specs.Failures.{Failure}
@@ -15,9 +16,10 @@ use Rattle.redl_tree.specs.Model.Text.{text}
 abbrev pub left_text : SessionState → List ℕ
 left_text state = text (pass_package (says state) state.nodes)
 
--- the package after the verdicts, with the remarks of the session
+-- the package after the verdicts, with the remarks of the session and a note of the marks that are left in the package
 abbrev pub resolved : Admission → Writing
-resolved admission = record { bytes = left_text admission.state; remarks = admission.remarks }
+resolved admission =
+    with_marks (pass_package (says admission.state) admission.state.nodes) (record { bytes = left_text admission.state; remarks = admission.remarks })
 
 -- what is written of the package with this text
 abbrev pub written : Reader → Files → List Lock → List (List ℕ) → List ℕ → Result Writing Failure

@@ -8,7 +8,9 @@
 #![tactic(auto)]
 
 mod collected;
+mod notes;
 mod output;
 
 pub use collected::Collected;
+pub use notes::note_marks;
 pub use output::{Output, Writing, put};

@@ -6,7 +6,7 @@ use Rattle.redl_outcome.specs.Answers.{IsAnswer, IsWritten, OfOutcome}
 use Rattle.redl_outcome.specs.Left.{AreSays, IsLeft, Leaves, LeavesSound, decided_package}
 use Rattle.redl_lines.proofs.CauseLaws.{by_cause}
 use Rattle.redl_inputs.specs.Admission.{Admission, admission_with, no_admission, opened_over, opened}
-use Rattle.redl_commands.specs.Settle.{passed_text, same_says, settled, settling}
+use Rattle.redl_commands.specs.Settle.{passed_text, same_says, settled, settled_under, settling}
 use Rattle.redl_commands.specs.Write.{resolved, written}
 use Rattle.redl_outcome.specs.Brought.{Brought}
 use Rattle.redl_inputs.specs.Journals.{document_of, gathered}
@@ -18,7 +18,7 @@ use Rattle.redl_inputs.proofs.ReaderLaws.{reads_command}
 use Rattle.redl_inputs.proofs.StepLaws.{both_ok, same_ok, same_some}
 use Rattle.redl_inputs.specs.Readers.{Reader}
 use Rattle.redl_inputs.specs.Steps.{◌>>=◌}
-use Rattle.redl_commands.specs.Writing.{Outcome, Writing, only_bytes, outcome_of}
+use Rattle.redl_commands.specs.Writing.{Outcome, Writing, outcome_of}
 use Rattle.redl_words.specs.Commands.{Command, settle, view_text, list, report, page, write, decide, resume, join, check, sample}
 use Rattle.redl_io.specs.Limits.{journal_bytes}
 use Rattle.redl_locks_sound.proofs.Opened.{opened-left}
@@ -102,8 +102,8 @@ leaves_settled : (reader : Reader) (files : Files) (brought : Brought) (accept :
     → carried_out reader files brought (plan (settle accept name)) ≡ Ok writing → IsLeft reader files (plan (settle accept name)) name writing.bytes
 leaves_settled reader files brought accept name writing is =
     let text_ = both_ok (package_file files name) (λ whole. settled reader accept whole) writing is in
-    let read = both_ok (package_in reader text_.x) (λ nodes. Ok (only_bytes (passed_text (same_says (settling accept) nodes) nodes))) writing text_.second in
-    let made : writing ≡ only_bytes (passed_text (same_says (settling accept) read.x) read.x) = sym (same_ok read.second) in
+    let read = both_ok (package_in reader text_.x) (λ nodes. Ok (settled_under (settling accept) nodes)) writing text_.second in
+    let made : writing ≡ settled_under (settling accept) read.x = sym (same_ok read.second) in
     left_by reader files (plan (settle accept name)) name writing.bytes text_.x read.x (same_says (settling accept) read.x)
     text_.first read.first refl (ap (λ (w : Writing). w.bytes) made)
 

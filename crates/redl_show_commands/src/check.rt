@@ -1,30 +1,33 @@
 //! `check P`.
 
-ghost use Rattle.std.specs.Prelude.{◌≡◌};
-ghost use Rattle.redl_commands.specs.Check.{checked, sound_text};
+ghost use Rattle.std.specs.Prelude.{◌≡◌, IfOk};
+ghost use Rattle.redl_commands.specs.Check.{checked, counted};
 ghost use Rattle.redl_inputs.specs.Reading.{Reads};
 ghost use Rattle.redl_commands.specs.Views.{writing_view};
 ghost use Rattle.redl_inputs.specs.Views.{result_view};
-ghost use Rattle.redl_commands.specs.Writing.{only_bytes};
-ghost use Rattle.redl_index.specs.Numbers.{package_revisions};
 
-use redl_commands::{Output, Writing};
+use redl_commands::{Output, Writing, note_marks};
 use redl_index::Surveyed;
 use redl_inputs::read_package;
-use redl_lines::Failure;
-use std::alloc::Global;
+use redl_lines::{Failure, Remarks};
+use std::alloc::{AllocError, Global};
 
-/// That the package with this text is sound, and how many revisions it has.
+/// That the package with this text is sound, how many revisions it has, and a note of the marks in it that are never decided.
 pub fn check_package<'a, 'b>(alloc: Global, bytes: &'b [u8]) -> Result<Writing<'b>, Failure<'a>>
     ensures { Reads (result_view writing_view result) (λ reader. checked reader bytes.now) }
 {
     let package = read_package(alloc, bytes)?;
-    Ok(count_revisions(alloc, package))
+    Ok(count_revisions(alloc, package)?)
 }
 
-fn count_revisions(alloc: Global, pkg: Surveyed) -> Writing
-    ensures { writing_view result ≡ only_bytes (sound_text (package_revisions pkg.entry)) }
+fn count_revisions(alloc: Global, pkg: Surveyed) -> Result<Writing, AllocError>
+    ensures { IfOk result (λ writing. writing_view writing ≡ counted pkg.entry) }
 {
     let counted = pkg.into_counted();
-    Writing::only(alloc, Output::Count(counted.count))
+    let mut remarks = Remarks::none(alloc);
+    note_marks(&mut remarks, counted.pkg.nodes())?;
+    Ok(Writing {
+        output: Output::Count(counted.count),
+        remarks,
+    })
 }

@@ -6,7 +6,7 @@ ghost use Rattle.redl_inputs.specs.Reading.{ReadsFiles};
 ghost use Rattle.redl_commands.specs.Views.{writing_view};
 ghost use Rattle.redl_inputs.specs.Views.{admission_view, result_view};
 
-use redl_commands::{Output, Writing};
+use redl_commands::Writing;
 use redl_inputs::{Admitted, open};
 use redl_io::{Shelf, Text};
 use redl_kinds::Lock;
@@ -39,8 +39,5 @@ fn resolve(admitted: Admitted) -> Result<Writing, AllocError>
         ..
     } = admitted;
     let nodes = session.into_passed()?;
-    Ok(Writing {
-        output: Output::Package(nodes),
-        remarks,
-    })
+    Writing::package(nodes, remarks)
 }

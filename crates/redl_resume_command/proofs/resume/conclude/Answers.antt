@@ -17,5 +17,5 @@ returns-then-not-is_same c = λ one of_document were again.
 
 pub returns : goal.returns
 returns c = λ one of_document were again.
-    rw c.new.ensures.items (conclude_ok c.args.bytes.now one again (document_view c.args.document) c.args.refused (joined_view c.args.joined) c.in_ok-text.text.items of_document were c.in_ok-text.ensures
+    rw (c.new.ensures.items, c.new-2.ensures.items) (conclude_ok c.args.bytes.now one again (document_view c.args.document) c.args.refused (joined_view c.args.joined) c.in_ok-text.text.items of_document were c.in_ok-text.ensures
     (rw (c.deref.ensures.value, c.deref-2.ensures.value) at (sym c.is_same.ensures ∙ c.if-not-is_same.false)))
