@@ -1,9 +1,9 @@
 -- Journals that decide every revision in one way come to what `settle` writes.
 use Rattle.std.proofs.Common.{◌≡◌, ◌≤◌, ◌<◌, ◌+◌, ℕ, zero, suc, Bool, true, false, List, ◌∷◌, length, map, replicate, Result, Ok, refl, sym, ap, ◌∙◌, arith}
 use Rattle.std.specs.List.{range_with_len}
-use Rattle.redl_commands.specs.Settle.{passed_text, same_says, settled, settling}
+use Rattle.redl_commands.specs.Settle.{passed_text, same_says, settled, settled_under, settling}
 use Rattle.redl_commands.specs.Write.{resolved, written}
-use Rattle.redl_commands.specs.Writing.{Writing, only_bytes, outcome_of}
+use Rattle.redl_commands.specs.Writing.{Writing, outcome_of}
 use Rattle.redl_index.proofs.RevisionLaws.{length-revisions_of}
 use Rattle.redl_index.specs.Numbers.{numbered_package, package_revisions}
 use Rattle.redl_inputs.proofs.StepLaws.{both_ok, same_ok}
@@ -66,10 +66,10 @@ opens_over reader files locks journals whole nodes admission read is =
 -- ---- the calls
 
 settles : (reader : Reader) (files : Files) (accept : Bool) (p whole : List ℕ) (nodes : Nodes) → package_file files p ≡ Ok whole → package_in reader whole ≡ Ok nodes
-    → package_file files p >>= settled reader accept ≡ Ok (only_bytes (passed_text (same_says (settling accept) nodes) nodes))
+    → package_file files p >>= settled reader accept ≡ Ok (settled_under (settling accept) nodes)
 settles reader files accept p whole nodes file read =
     ap (λ (made : Result (List ℕ) Failure). made >>= settled reader accept) file
-    ∙ ap (λ (made : Result Nodes Failure). made >>= (λ nodes. let r : Result Writing Failure = Ok (only_bytes (passed_text (same_says (settling accept) nodes) nodes)) in r)) read
+    ∙ ap (λ (made : Result Nodes Failure). made >>= (λ nodes. let r : Result Writing Failure = Ok (settled_under (settling accept) nodes) in r)) read
 
 pub alike_is_settled : (reader : Reader) → IsReader reader → (files : Files) (brought : Brought) → AlikeIsSettled reader files brought
 alike_is_settled reader is files brought writes others p locks journals accept is_write is_settle done alike =
@@ -85,7 +85,7 @@ alike_is_settled reader is files brought writes others p locks journals accept i
     ap (λ (w : Writing). w.bytes) (sym (same_ok opens.second))
     ∙ ap (λ (nodes : Nodes). text (pass_package (says opens.x.state) nodes)) over.nodes_of
     ∙ ap (λ (given : List Say). text (pass_package given (numbered_package read.x))) decided in
-    let settled_made : writing_of reader files brought (reader.command others) ≡ Ok (only_bytes (passed_text (same_says (settling accept) read.x) read.x)) =
+    let settled_made : writing_of reader files brought (reader.command others) ≡ Ok (settled_under (settling accept) read.x) =
     ap (writing_of reader files brought) is_settle ∙ settles reader files accept p whole.x read.x whole.first read.first in
     record {
       done = ap (λ (m : Result Writing Failure). (outcome_of m).status) settled_made;
