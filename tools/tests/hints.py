@@ -57,6 +57,8 @@ def make_files():
     for name, word in [("a1", "accept"), ("a2", "reject")]:
         put(name + ".journal", lines(*head, b"1\t1\t%s\tAnn Gray" % word.encode()))
     put("a3.journal", lines(*head, b"1\t1\taccept\tAnn  Gray"))
+    put("a4.journal", lines(*head, b"2\t1\treject\tAnn Gray"))
+    put("laszlo.journal", lines(*head, "1\t1\taccept\tLa\u0301szlo\u0301".encode()))
     put("empty.journal", b"")
     put("h1.journal", b"redline-journal 1\n")
     put("v2.journal", journal.replace(b"redline-journal 1", b"redline-journal 2"))

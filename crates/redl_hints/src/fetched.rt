@@ -1,19 +1,21 @@
-//! A shelf that remembers how the last text that it gave begins and ends.
+//! A shelf that remembers how the last text that it gave begins and ends, and the reviewers of the journals among all texts.
 
 ghost use Rattle.std.specs.Prelude.{◌≡◌};
 
+use crate::reviewers::Reviewers;
 use redl_io::{Shelf, ShelfError};
 use std::alloc::Global;
 
 // How many bytes of a text are remembered.
 const MOST: usize = 1 << 16;
 
-/// Fetches all texts from another shelf, and remembers how the last one begins and ends. So a hint on a file needs no second
-/// look at it, which a pipe does not allow.
+/// Fetches all texts from another shelf, and remembers how the last one begins and ends, and who the reviewers are of journals. So a
+/// hint on a file needs no second look at it, which a pipe does not allow.
 #[derive(Drop)]
 pub struct Fetched<F> {
     shelf: F,
     text: Ends,
+    reviewers: Reviewers,
 }
 
 /// How a text begins and ends.
@@ -69,12 +71,22 @@ impl<F: Shelf> Fetched<F> {
             length: 0,
             last: None,
         };
-        Fetched { shelf, text }
+        let reviewers = Reviewers::new(alloc);
+        Fetched {
+            shelf,
+            text,
+            reviewers,
+        }
     }
 
     /// The text that was fetched last.
     pub fn last_text(&self) -> &Ends {
         &self.text
+    }
+
+    /// The reviewers of the journals that were fetched, as far as their first 65,536 bytes name them.
+    pub fn reviewers(&self) -> &Reviewers {
+        &self.reviewers
     }
 }
 
@@ -89,6 +101,8 @@ impl<F: Shelf> Shelf for Fetched<F> {
         let fetched = self.shelf.fetch(alloc, name, cap);
         if let Ok(bytes) = &fetched {
             self.text.note(bytes);
+            // What is remembered serves hints alone, so it may be less where memory runs out.
+            let _ = self.reviewers.note(alloc, self.text.front());
         }
         fetched
     }

@@ -13,6 +13,7 @@ mod names;
 mod numbers;
 mod packages;
 mod places;
+mod reviewers;
 mod rules;
 mod tell;
 mod told;
@@ -20,5 +21,6 @@ mod usage;
 mod values;
 
 pub use fetched::{Ends, Fetched};
+pub use reviewers::Reviewers;
 pub use tell::{tell_hints, tell_word_hint};
 pub use told::Told;

@@ -6,6 +6,7 @@ use crate::hint::add_hint;
 use crate::journals::{add_journal_hint, has_no_entry};
 use crate::names::add_name_hints;
 use crate::packages::guess_of_package;
+use crate::reviewers::{Reviewers, add_alike_hint, add_contradiction_hint};
 use crate::rules::sentence_of_rule;
 use crate::told::Told;
 use crate::usage::add_usage_hints;
@@ -14,17 +15,26 @@ use redl_io::{Sink, Text};
 use std::alloc::{AllocError, Global};
 
 /// Tells what probably went wrong with a call of these words, after the lines that it told on `err`. The program's help lists
-/// its commands and options, `text` is the file that was read last, and `out` is what came out. Where memory runs out there is
-/// no hint.
+/// its commands and options, `text` is the file that was read last, `reviewers` are those of its journals, and `out` is what came out.
+/// Where memory runs out there is no hint.
 pub fn tell_hints<O: Sink, E: Sink>(
     alloc: Global,
     words: &[Text],
     help: &str,
     text: &Ends,
+    reviewers: &Reviewers,
     out: &Told<O>,
     err: &mut Told<E>,
 ) {
-    if let Ok(hints) = hints_of(alloc, words, help, text, out.first(), err.first()) {
+    if let Ok(hints) = hints_of(
+        alloc,
+        words,
+        help,
+        text,
+        reviewers,
+        out.first(),
+        err.first(),
+    ) {
         if !hints.is_empty() {
             let _ = err.put(&hints);
         }
@@ -41,11 +51,12 @@ fn hints_of(
     words: &[Text],
     help: &str,
     text: &Ends,
+    reviewers: &Reviewers,
     out: &[u8],
     lines: &[u8],
 ) -> Result<Vec<u8>, AllocError> {
     let mut hints = Vec::new(alloc);
-    match lines.lines().next() {
+    match first_line(lines) {
         Some(line) if line == b"redline: cannot read the command line".as_slice() => {
             add_usage_hints(alloc, words, help, &mut hints)?;
             return Ok(hints);
@@ -57,7 +68,32 @@ fn hints_of(
         }
     }
     add_name_hints(words, &mut hints)?;
+    if is_written(lines) {
+        add_alike_hint(alloc, reviewers, reviewer_in(words), &mut hints)?;
+        add_contradiction_hint(alloc, reviewers, &mut hints)?;
+    }
     Ok(hints)
+}
+
+// The first line, but for the note of marks that are left, which says nothing of the words.
+fn first_line(lines: &[u8]) -> Option<&[u8]> {
+    lines
+        .lines()
+        .find(|line| !line.ends_with(b": see redline left"))
+}
+
+// Whether a call that told these lines wrote its output.
+fn is_written(lines: &[u8]) -> bool {
+    lines.lines().all(|line| line.starts_with(b"redline: note: ")
+        || line.starts_with(b"redline: refused "))
+}
+
+// The reviewer whom the words name, if they do.
+fn reviewer_in(words: &[Text]) -> Option<&Text> {
+    match words {
+        [command, _, reviewer, ..] if command.as_bytes() == b"decide".as_slice() => Some(reviewer),
+        _ => None,
+    }
 }
 
 // A hint where the last journal that was read decides nothing.

@@ -57,6 +57,7 @@ fn tell_hint<F: Shelf, O: Sink, E: Sink>(
             words,
             HELP,
             shelf.last_text(),
+            shelf.reviewers(),
             out,
             err,
         ),
