@@ -25,6 +25,7 @@ from packages import small_package
 from scrub.choice import NAMES, THINGS
 from scrub.scrubbed import Scrubbed
 
+RELATIONSHIPS = b"application/vnd.openxmlformats-package.relationships+xml"
 USUAL = {name for name, is_usual, _ in THINGS if is_usual}
 EVERYTHING = ",".join(NAMES)
 SETTLED = ("contract", "letter", "moves", "joins", "terms", "plain", "rows")
@@ -124,7 +125,9 @@ def at_random(desk, many):
     for number in range(many):
         docx = scrub_whole.drawn(number)
         words = [(), ("--take", EVERYTHING), ("--take", "comment"), ("--keep", "rsid")][number % 4]
-        status, made, lines = desk.scrub("random%d" % number, docx, *words)
+        # (what is shown and was asked for by name is not compared in a word processor)
+        name = "taken" if EVERYTHING in words else "random%d" % number
+        status, made, lines = desk.scrub(name, docx, *words)
         counts[status] = counts.get(status, 0) + 1
         if status == 0:
             fault = fault_of(docx, made) if not words else None
@@ -150,12 +153,21 @@ def settled(desk, many):
                 continue
             count += 1
             name = os.path.basename(path)[:-4] + "-" + half
-            docx = pack(package)
+            docx = pack(with_way_in(package))
             status, made, lines = desk.scrub(name, docx)
             fault = lines if status else fault_of(docx, made)
             if fault:
                 faults.append("%s: %s" % (name, fault))
     tell("%d settled documents" % count, "; ".join(faults[:3]) if faults or not count else None)
+
+
+def with_way_in(package):
+    """A package with the relationship to its document, which those at random don't have and a word processor needs."""
+    if b'"/_rels/.rels"' in package:
+        return package
+    part = b'<pkg:part pkg:name="/_rels/.rels" pkg:contentType="%s"><pkg:xmlData>%s</pkg:xmlData></pkg:part>'
+    made = part % (RELATIONSHIPS, scrub_whole.rels(("a1", "officeDocument", "word/document.xml")).encode())
+    return package.replace(b"</pkg:package", made + b"</pkg:package", 1)
 
 
 def is_settled(desk, package):
@@ -169,6 +181,8 @@ def main(program, folder, many):
     desk = Desk(program, folder)
     one_of_everything(desk)
     at_random(desk, int(many))
+    for which in ("before", "after"):
+        os.unlink(os.path.join(folder, which, "taken.docx"))
     settled(desk, int(many))
 
 

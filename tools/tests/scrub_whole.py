@@ -83,7 +83,9 @@ BODY = [
     '<w:p><w:r><w:fldChar w:fldCharType="begin"/></w:r><w:r><w:instrText> DOCPRO</w:instrText></w:r><w:r><w:instrText>PERTY "qqMatter"</w:instrText></w:r>',
     '<w:r><w:fldChar w:fldCharType="separate"/></w:r><w:r><w:t>M-1</w:t></w:r><w:r><w:fldChar w:fldCharType="end"/></w:r></w:p>',
     '<w:p><w:fldSimple w:instr="docvariable  qqShownVariable"><w:r><w:t>v</w:t></w:r></w:fldSimple></w:p>',
-    '<w:p><w:sdt><w:sdtPr><w:dataBinding w:xpath="/ns1:coreProperties[1]/ns0:title[1]" w:storeItemID="{6C3C8BC8-F283-45AE-878A-BAB7291924A1}"/><w:text/></w:sdtPr>',
+    '<w:p><w:sdt><w:sdtPr><w:dataBinding w:prefixMappings="xmlns:ns0=\'http://purl.org/dc/elements/1.1/\' '
+    "xmlns:ns1='http://schemas.openxmlformats.org/package/2006/metadata/core-properties'\" "
+    'w:xpath="/ns1:coreProperties[1]/ns0:title[1]" w:storeItemID="{6C3C8BC8-F283-45AE-878A-BAB7291924A1}"/><w:text/></w:sdtPr>',
     "<w:sdtContent><w:r><w:t>qqTitle</w:t></w:r></w:sdtContent></w:sdt></w:p>",
 ]
 COMMENTS = [
