@@ -4,6 +4,7 @@
 
 It shares no code with the program. make.py makes by it what `text --view bare` is to write of the examples.
 """
+import re
 import sys
 
 import reading
@@ -21,6 +22,8 @@ OBJECTS = {
     "sym": "symbol", "ptab": "ptab", "softHyphen": "softHyphen",
 }
 FIELDS = ("begin", "separate", "end")
+# What counts pages or tells the time.
+COUNTED = ("PAGE", "NUMPAGES", "SECTIONPAGES", "DATE", "TIME", "SAVEDATE", "PRINTDATE", "CREATEDATE", "EDITTIME")
 ESCAPES = str.maketrans({"\\": "\\\\", "\t": "\\t", "\n": "\\n", "\r": "\\r"})
 
 
@@ -74,6 +77,11 @@ def is_change_of_run(element):
     return element.role == "run-props" and above[0].is_w("rPr") and above[1].is_w("r")
 
 
+def is_counted(code):
+    """Whether the first word of a field's code, before its switches, is one of these names."""
+    return re.match(r"[ \t\n\r]*([^ \t\n\r\\]*)", code).group(1).upper() in COUNTED
+
+
 def put(writer, nodes, round_it):
     for node in nodes:
         if isinstance(node, reading.Element):
@@ -93,7 +101,11 @@ def put_element(writer, element, round_it):
         round_it = dict(round_it, **{"run-props": stamp(run_change(element))})
     if is_w:
         put_begin(writer, element, round_it)
-    put(writer, element.kids, round_it)
+    is_field = is_w and local == "fldSimple"
+    if not is_field or not is_counted(element.attribute("instr") or ""):
+        put(writer, element.kids, round_it)
+    if is_field:
+        writer.text(round_it, "\\[field end]")
     if is_w and local == "p":
         writer.line(fields(round_it) + "*paragraph")
 
@@ -111,6 +123,8 @@ def put_begin(writer, element, round_it):
         writer.text(round_it, "\\[%s]" % OBJECTS[local])
     elif local == "fldChar" and element.attribute("fldCharType") in FIELDS:
         writer.text(round_it, "\\[field %s]" % element.attribute("fldCharType"))
+    elif local == "fldSimple":
+        writer.text(round_it, "\\[field begin]%s\\[field separate]" % escaped(element.attribute("instr") or ""))
 
 
 def bare_text(package):

@@ -18,20 +18,20 @@ use Rattle.redl_reading.specs.Steps.{or_else}
 use Rattle.redl_idle.specs.Shows.{shows}
 use Rattle.redl_idle.proofs.RoleLaws.{name_same, quiet_same}
 use Rattle.redl_bare.specs.Marks.{Marks, stamp_in, value_in, is_run_change, change_in, run_change, with_content, with_format, marks_inside}
-use Rattle.redl_bare.specs.Units.{Text, text, thing, member, story, BareUnit, has_line, is_other, is_left_out, is_text, open_inside, place_inside, start_texts, start_things, open_units, start_units, end_units, is_open_place, in_marks, byte_texts, units_in}
+use Rattle.redl_bare.specs.Units.{Text, text, thing, member, story, BareUnit, has_line, is_other, is_left_out, is_text, field_inside, open_inside, place_inside, field_texts, short_texts, start_texts, end_texts, start_things, open_units, start_units, end_things, end_units, is_open_place, in_marks, byte_texts, units_in}
 use Rattle.redl_bare.specs.Units.{byte, object, picture, footnote_reference, endnote_reference, symbol, place_tab, soft_hyphen, field_part}
 use Rattle.redl_bare.specs.BareText.{text_body, texts_body}
 use Rattle.redl_bare.specs.Inside.Idle.{tag_with, texts_at, open_idle, idle_inside, idle_rule, texts_in}
 use Rattle.redl_bare.specs.declared.units.Thing.TheVariants.{Paragraph, Row, Cell}
 use Rattle.redl_bare.specs.declared.units.Story.TheVariants.{Footnote, Endnote}
 use Rattle.redl_bare.specs.declared.place.Place.{Place}
-use Rattle.redl_bare.specs.declared.place.Place.TheVariants.{Open, InText, InRun, Quiet, Silent}
+use Rattle.redl_bare.specs.declared.place.Place.TheVariants.{Open, InText, InRun, InField, InCounted, Quiet, Silent}
 
 -- ---- one element
 
 -- an element of W has the texts of its local name and tail
-abbrev texts_of : Bool → List ℕ → List ℕ → List Text
-texts_of w local tail =
+abbrev short_of : Bool → List ℕ → List ℕ → List Text
+short_of w local tail =
     if w && bytes_eq local (codes "tab") then byte 9 ∷ []
     else if (w && bytes_eq local (codes "br")) || ((w && bytes_eq local (codes "cr")) || false) then byte 10 ∷ []
     else if w && bytes_eq local (codes "noBreakHyphen") then byte 226 ∷ byte 128 ∷ byte 145 ∷ []
@@ -44,11 +44,18 @@ texts_of w local tail =
     else if w && bytes_eq local (codes "fldChar") then field_part (value_in tail (codes "fldCharType"))
     else []
 
+abbrev texts_of : Bool → List ℕ → List ℕ → List Text
+texts_of w local tail =
+    if w && bytes_eq local (codes "fldSimple") then field_texts (value_in tail (codes "instr")) else short_of w local tail
+
 pub texts_w : (tag : Tag) → is_w tag.space ≡ true → start_texts tag ≡ start_texts (tag_with tag.local tag.tail)
 texts_w tag e = ap (λ w. texts_of w tag.local tag.tail) e
 
-pub texts_not_w : (tag : Tag) → is_w tag.space ≡ false → start_texts tag ≡ []
-texts_not_w tag e = ap (λ w. texts_of w tag.local tag.tail) e
+pub short_w : (tag : Tag) → is_w tag.space ≡ true → short_texts tag ≡ short_texts (tag_with tag.local tag.tail)
+short_w tag e = ap (λ w. short_of w tag.local tag.tail) e
+
+pub short_not_w : (tag : Tag) → is_w tag.space ≡ false → short_texts tag ≡ []
+short_not_w tag e = ap (λ w. short_of w tag.local tag.tail) e
 
 same_both : {X : Type 0} (b : Bool) (x : X) → (if b then x else x) ≡ x
 same_both true x = refl
@@ -85,12 +92,19 @@ start_idle Quiet marks in_run tag i =
     ap (λ kind. if has_line kind then member kind (stamp_in tag.tail) ∷ [] else []) i.kind
 start_idle InRun marks in_run tag i = open_idle_units marks in_run tag i
 start_idle InText marks in_run tag i = open_idle_units marks in_run tag i
+start_idle InField marks in_run tag i = open_idle_units marks in_run tag i
+start_idle InCounted marks in_run tag i = refl
 start_idle Open marks in_run tag i = open_idle_units marks in_run tag i
 
-end_idle : (place : Place) (marks : Marks) (in_run : Bool) (tag : Tag) → Idle in_run tag → end_units place marks tag ≡ []
-end_idle place marks in_run tag i =
+no_end_things : (place : Place) (marks : Marks) (in_run : Bool) (tag : Tag) → Idle in_run tag → end_things place marks tag ≡ []
+no_end_things place marks in_run tag i =
     ap (λ p. if is_open_place place && p then thing marks Paragraph ∷ [] else []) (has-not "p" in_run tag i refl)
     ∙ ap (λ b. if b then thing marks Paragraph ∷ [] else []) (and-false (is_open_place place))
+
+end_idle : (place : Place) (marks : Marks) (in_run : Bool) (tag : Tag) → Idle in_run tag → end_units place marks tag ≡ in_marks marks (end_texts (place_inside place tag))
+end_idle place marks in_run tag i =
+    ap (λ (us : List BareUnit). in_marks marks (end_texts (place_inside place tag)) ++ us) (no_end_things place marks in_run tag i)
+    ∙ append-nil (in_marks marks (end_texts (place_inside place tag)))
 
 not_other : (s : Space) → is_w s ≡ true → is_other s ≡ false
 not_other W e = refl
@@ -111,18 +125,25 @@ text_same in_run tag i =
     ∙ ap (λ d. is "t" tag || (is "instrText" tag || (d || false))) (has-not "delInstrText" in_run tag i refl)
     ∙ ap (λ w. (w && bytes_eq tag.local (codes "t")) || ((w && bytes_eq tag.local (codes "instrText")) || false)) i.space
 
-open_same : (in_run : Bool) (tag : Tag) → Idle in_run tag → open_inside tag ≡ open_idle tag.local
-open_same in_run tag i =
-    ap (λ l. if l then Silent else if is_quiet tag then Quiet else if is_text tag then InText else if is "r" tag then InRun else Open) (not_left_out in_run tag i)
-    ∙ ap (λ q. if q then Quiet else if is_text tag then InText else if is "r" tag then InRun else Open) (quiet_same in_run tag i)
-    ∙ ap (λ t. if is "rPr" (of_w tag.local) then Quiet else if t then InText else if is "r" tag then InRun else Open) (text_same in_run tag i)
-    ∙ ap (λ r. if is "rPr" (of_w tag.local) then Quiet else if is_any ("t" ∷ "instrText" ∷ []) (of_w tag.local) then InText else if r then InRun else Open)
-    (name_same in_run tag i (codes "r"))
+abbrev in_line : Tag → Bool → Bool → Place
+in_line tag r field = if r then InRun else if field then field_inside (value_in tag.tail (codes "instr")) else Open
 
-inside_same : (place : Place) (in_run : Bool) (tag : Tag) → Idle in_run tag → place_inside place tag ≡ idle_inside place tag.local
+open_same : (in_run : Bool) (tag : Tag) → Idle in_run tag → open_inside tag ≡ open_idle tag.local tag.tail
+open_same in_run tag i =
+    ap (λ l. if l then Silent else if is_quiet tag then Quiet else if is_text tag then InText else in_line tag (is "r" tag) (is "fldSimple" tag)) (not_left_out in_run tag i)
+    ∙ ap (λ q. if q then Quiet else if is_text tag then InText else in_line tag (is "r" tag) (is "fldSimple" tag)) (quiet_same in_run tag i)
+    ∙ ap (λ t. if is "rPr" (of_w tag.local) then Quiet else if t then InText else in_line tag (is "r" tag) (is "fldSimple" tag)) (text_same in_run tag i)
+    ∙ ap (λ r. if is "rPr" (of_w tag.local) then Quiet else if is_any ("t" ∷ "instrText" ∷ []) (of_w tag.local) then InText else in_line tag r (is "fldSimple" tag))
+    (name_same in_run tag i (codes "r"))
+    ∙ ap (λ f. if is "rPr" (of_w tag.local) then Quiet else if is_any ("t" ∷ "instrText" ∷ []) (of_w tag.local) then InText else in_line tag (is "r" (of_w tag.local)) f)
+    (name_same in_run tag i (codes "fldSimple"))
+
+inside_same : (place : Place) (in_run : Bool) (tag : Tag) → Idle in_run tag → place_inside place tag ≡ idle_inside place tag.local tag.tail
 inside_same Silent in_run tag i = refl
 inside_same Quiet in_run tag i = refl
 inside_same InText in_run tag i = open_same in_run tag i
+inside_same InField in_run tag i = open_same in_run tag i
+inside_same InCounted in_run tag i = refl
 inside_same Open in_run tag i = open_same in_run tag i
 inside_same InRun in_run tag i =
     ap (λ b. if b then Silent else open_inside tag) (name_same in_run tag i (codes "rPr"))
@@ -166,15 +187,15 @@ units_texts place marks in_run (element tag kids rest) h =
     let p = idle_parts in_run tag kids rest h in
     let inner = place_inside place tag in
     let here = texts_at place tag in
+    let below = texts_in inner kids ++ end_texts inner in
     ap (λ (us : List BareUnit). (us ++ (units_in inner (marks_inside marks tag kids) kids ++ end_units place marks tag)) ++ units_in place marks rest) (start_idle place marks in_run tag p.own)
     ∙ ap (λ (us : List BareUnit). (in_marks marks here ++ (units_in inner (marks_inside marks tag kids) kids ++ us)) ++ units_in place marks rest) (end_idle place marks in_run tag p.own)
-    ∙ ap (λ (us : List BareUnit). (in_marks marks here ++ us) ++ units_in place marks rest)
-    (append-nil (units_in inner (marks_inside marks tag kids) kids)
-    ∙ ap (λ m. units_in inner m kids) (marks_idle marks in_run tag kids p.own p.below)
-    ∙ units_texts inner marks (is "r" tag) kids p.below)
-    ∙ ap (λ (us : List BareUnit). us ++ units_in place marks rest) (sym (in_marks-append marks here (texts_in inner kids)))
-    ∙ ap (λ (us : List BareUnit). in_marks marks (here ++ texts_in inner kids) ++ us) (units_texts place marks in_run rest p.later)
-    ∙ sym (in_marks-append marks (here ++ texts_in inner kids) (texts_in place rest))
+    ∙ ap (λ (us : List BareUnit). (in_marks marks here ++ (us ++ in_marks marks (end_texts inner))) ++ units_in place marks rest)
+    (ap (λ m. units_in inner m kids) (marks_idle marks in_run tag kids p.own p.below) ∙ units_texts inner marks (is "r" tag) kids p.below)
+    ∙ ap (λ (us : List BareUnit). (in_marks marks here ++ us) ++ units_in place marks rest) (sym (in_marks-append marks (texts_in inner kids) (end_texts inner)))
+    ∙ ap (λ (us : List BareUnit). us ++ units_in place marks rest) (sym (in_marks-append marks here below))
+    ∙ ap (λ (us : List BareUnit). in_marks marks (here ++ below) ++ us) (units_texts place marks in_run rest p.later)
+    ∙ sym (in_marks-append marks (here ++ below) (texts_in place rest))
 
 body-append : (xs ys : List Text) → texts_body (xs ++ ys) ≡ texts_body xs ++ texts_body ys
 body-append xs ys = flat_map-append text_body xs ys
@@ -190,13 +211,14 @@ texts_shown place in_run (element tag kids rest) h =
     let p = idle_parts in_run tag kids rest h in
     let inner = place_inside place tag in
     let own = texts_body (texts_at place (tag_with tag.local tag.tail)) in
-    body-append (texts_at place tag ++ texts_in inner kids) (texts_in place rest)
-    ∙ ap (λ (t : List ℕ). t ++ texts_body (texts_in place rest)) (body-append (texts_at place tag) (texts_in inner kids))
-    ∙ ap (λ (ts : List Text). (texts_body ts ++ texts_body (texts_in inner kids)) ++ texts_body (texts_in place rest)) (texts_at-same place tag p.own.space)
+    let below = texts_in inner kids ++ end_texts inner in
+    body-append (texts_at place tag ++ below) (texts_in place rest)
+    ∙ ap (λ (t : List ℕ). t ++ texts_body (texts_in place rest)) (body-append (texts_at place tag) below)
+    ∙ ap (λ (ts : List Text). (texts_body ts ++ texts_body below) ++ texts_body (texts_in place rest)) (texts_at-same place tag p.own.space)
     ∙ ap (λ (t : List ℕ). (own ++ t) ++ texts_body (texts_in place rest))
-    (texts_shown inner (is "r" tag) kids p.below ∙ ap (λ i. shows idle_rule i kids) (inside_same place in_run tag p.own)
-    ∙ sym (append-nil (shows idle_rule (idle_inside place tag.local) kids)))
-    ∙ ap (λ (t : List ℕ). (own ++ (shows idle_rule (idle_inside place tag.local) kids ++ [])) ++ t) (texts_shown place in_run rest p.later)
+    (body-append (texts_in inner kids) (end_texts inner) ∙ ap (λ (t : List ℕ). t ++ texts_body (end_texts inner)) (texts_shown inner (is "r" tag) kids p.below)
+    ∙ ap (λ i. shows idle_rule i kids ++ texts_body (end_texts i)) (inside_same place in_run tag p.own))
+    ∙ ap (λ (t : List ℕ). (own ++ (shows idle_rule (idle_inside place tag.local tag.tail) kids ++ texts_body (end_texts (idle_inside place tag.local tag.tail)))) ++ t) (texts_shown place in_run rest p.later)
 
 -- what a list keeps as text
 pub units_of_idle : (place : Place) (marks : Marks) (t : List ℕ) → units_in place marks (idle_nodes t) ≡ in_marks marks (texts_in place (idle_nodes t))

@@ -68,3 +68,15 @@ escapes : bare (opened "p" (run "a\\[b] &lt;|"))
     ≡ codes "= document\n|a\\\\[b] <|\n*paragraph\n"
 unfolding attributes_of attribute_in attribute_at name_at word_at char_at name_end name_step may_start may_follow is_name_start is_name_character is_space equated_at quoted_at field_at quote_at is_value reference_at named_at encode
 escapes = refl
+
+-- a field in one element reads as one in several
+field : bare (opened "p" (one (tag_in W "w" "fldSimple" " w:instr=\" REF a \"" (End [])) (run "3")))
+    ≡ codes "= document\n|\\[field begin] REF a \\[field separate]3\\[field end]\n*paragraph\n"
+unfolding attributes_of attribute_in attribute_at name_at word_at char_at name_end name_step may_start may_follow is_name_start is_name_character is_space equated_at quoted_at field_at quote_at is_value
+field = refl
+
+-- of one that counts pages the result is left out
+counted : bare (opened "p" (one (tag_in W "w" "fldSimple" " w:instr=\"Page\\* roman\"" (End [])) (run "3")))
+    ≡ codes "= document\n|\\[field begin]Page\\\\* roman\\[field separate]\\[field end]\n*paragraph\n"
+unfolding attributes_of attribute_in attribute_at name_at word_at char_at name_end name_step may_start may_follow is_name_start is_name_character is_space equated_at quoted_at field_at quote_at is_value
+counted = refl

@@ -6,7 +6,7 @@ use Rattle.std.proofs.lemmas.List.Concat.{flat_map-append}
 use Rattle.std.proofs.lemmas.Slice.Eq.{bytes_eq-Decides}
 use Rattle.redl_reading.specs.Lists.{front, after}
 use Rattle.redl_bare.specs.Marks.{Stamp, Marks, same_stamp, same_marks}
-use Rattle.redl_bare.specs.Units.{Text, byte, object, in_marks}
+use Rattle.redl_bare.specs.Units.{Text, byte, object, field_begin, field_separate, in_marks}
 use Rattle.redl_bare.specs.BareText.{byte_escaped, escaped, text_body, texts_body, goes_on, closing, marks_text, text_begin, lines, line_after_all}
 use Rattle.redl_bare.specs.Inside.Escapes.{is_plain, is_empty}
 
@@ -88,6 +88,13 @@ texts_line line marks (t ∷ ts) e =
 pub bytes_body : (b : List ℕ) → texts_body (map byte b) ≡ escaped b
 bytes_body [] = refl
 bytes_body (x ∷ xs) = ap (λ l. byte_escaped x ++ l) (bytes_body xs)
+
+-- the begin of a field with this code
+pub field_body : (code : List ℕ) → texts_body (object field_begin ∷ (map byte code ++ (object field_separate ∷ [])))
+    ≡ codes "\\[field begin]" ++ (escaped code ++ codes "\\[field separate]")
+field_body code =
+    ap (λ l. codes "\\[field begin]" ++ l)
+    (flat_map-append text_body (map byte code) (object field_separate ∷ []) ∙ ap (λ (l : List ℕ). l ++ codes "\\[field separate]") (bytes_body code))
 
 pub bytes_empty : (b : List ℕ) → is_empty (map byte b) ≡ is_empty b
 bytes_empty [] = refl

@@ -1,10 +1,11 @@
 -- The walk goes over a list node by node.
-use Rattle.std.proofs.Common.{◌≡◌, ◌++◌, Bool, true, false, Some, None, refl, sym, ap, ◌∙◌, append_assoc, if◌then◌else◌}
+use Rattle.std.proofs.Common.{◌≡◌, ℕ, List, ◌++◌, codes, Bool, true, false, Some, None, refl, sym, ap, ◌∙◌, append_assoc, if◌then◌else◌}
 use Rattle.redl_reading.specs.Steps.{or_else}
 use Rattle.redl_tree.specs.Model.Nodes.{Tag, Nodes, no_nodes, bytes, element, Item, bytes_item, element_item, idle_item, in_front, ◌⊕◌}
 use Rattle.redl_tree.specs.Model.IdleTexts.{idle_nodes}
-use Rattle.redl_bare.specs.Marks.{Stamp, Marks, stamp_in, is_run_change, change_in, run_change, marks_inside}
-use Rattle.redl_bare.specs.Units.{in_marks, byte_texts, place_inside, start_units, end_units, units_in}
+use Rattle.redl_bare.specs.Marks.{Stamp, Marks, stamp_in, value_in, is_run_change, change_in, run_change, marks_inside}
+use Rattle.redl_tree.specs.Roles.Names.{is}
+use Rattle.redl_bare.specs.Units.{field_texts, short_texts, start_texts, in_marks, byte_texts, place_inside, start_units, end_units, units_in}
 use Rattle.redl_bare.specs.Inside.Items.{element_units, item_units, item_change_in, item_change}
 use Rattle.redl_bare.specs.declared.place.Place.{Place}
 use Rattle.redl_bare.proofs.IdleLaws.{change_in_idle, run_change_idle}
@@ -30,6 +31,14 @@ element_read place inner marks inside tag kids read e f g =
     ap (λ p. start_units place marks tag ++ (units_in p (marks_inside marks tag kids) kids ++ end_units place marks tag)) (sym e)
     ∙ ap (λ m. start_units place marks tag ++ (units_in inner m kids ++ end_units place marks tag)) (sym f)
     ∙ ap (λ n. start_units place marks tag ++ (units_in inner inside n ++ end_units place marks tag)) (sym g)
+
+-- what an element shows at its start tag, where it is a field and where it isn't
+pub start_field : (tag : Tag) (b : Bool) (code : List ℕ) → b ≡ is "fldSimple" tag → b ≡ true → code ≡ value_in tag.tail (codes "instr") → start_texts tag ≡ field_texts code
+start_field tag b code e f g =
+    ap (λ t. if t then field_texts (value_in tag.tail (codes "instr")) else short_texts tag) (sym e ∙ f) ∙ ap field_texts (sym g)
+
+pub start_short : (tag : Tag) (b : Bool) → b ≡ is "fldSimple" tag → b ≡ false → start_texts tag ≡ short_texts tag
+start_short tag b e f = ap (λ t. if t then field_texts (value_in tag.tail (codes "instr")) else short_texts tag) (sym e ∙ f)
 
 -- ---- the change of a run
 

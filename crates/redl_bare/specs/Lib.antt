@@ -1,4 +1,5 @@
 pub mod Marks
+pub mod Fields
 pub mod Units
 pub mod BareText
 pub mod Inside

@@ -14,8 +14,9 @@ use Rattle.redl_tree.specs.declared.kinds.Kind.TheVariants.{Mark, Row as RowMemb
 use Rattle.redl_shown.specs.Shown.{shown}
 use Rattle.redl_stamp.specs.Attribute.{attribute_value}
 use Rattle.redl_bare.specs.Marks.{Stamp, Marks, stamp_in, no_marks, marks_inside, value_in}
+use Rattle.redl_bare.specs.Fields.{is_counted}
 use Rattle.redl_bare.specs.declared.place.Place.{Place}
-use Rattle.redl_bare.specs.declared.place.Place.TheVariants.{Open, InText, InRun, Quiet, Silent}
+use Rattle.redl_bare.specs.declared.place.Place.TheVariants.{Open, InText, InRun, InField, InCounted, Quiet, Silent}
 use Rattle.redl_bare.specs.declared.units.Thing.{Thing}
 use Rattle.redl_bare.specs.declared.units.Thing.TheVariants.{Paragraph, Row, Cell}
 use Rattle.redl_bare.specs.declared.units.Story.{Story}
@@ -69,12 +70,17 @@ is_left_out tag =
 abbrev pub is_text : Tag → Bool
 is_text tag = is_any ("t" ∷ "delText" ∷ "instrText" ∷ "delInstrText" ∷ []) tag
 
+-- the place of the result of a field with this code
+abbrev pub field_inside : List ℕ → Place
+field_inside code = if is_counted code then InCounted else InField
+
 abbrev pub open_inside : Tag → Place
 open_inside tag =
     if is_left_out tag then Silent
     else if is_quiet tag then Quiet
     else if is_text tag then InText
     else if is "r" tag then InRun
+    else if is "fldSimple" tag then field_inside (value_in tag.tail (codes "instr"))
     else Open
 
 -- the place of what an element holds; the change of a run's properties is a mark of what is in the run, so these are silent
@@ -83,6 +89,8 @@ place_inside Silent tag = Silent
 place_inside Quiet tag = Quiet
 place_inside InRun tag = if is "rPr" tag then Silent else open_inside tag
 place_inside InText tag = open_inside tag
+place_inside InField tag = open_inside tag
+place_inside InCounted tag = Silent
 place_inside Open tag = open_inside tag
 
 -- ---- what an element is
@@ -110,12 +118,25 @@ object_texts tag =
     else if is "endnoteReference" tag then object endnote_reference ∷ []
     else sign_texts tag
 
-abbrev pub start_texts : Tag → List Text
-start_texts tag =
+abbrev pub short_texts : Tag → List Text
+short_texts tag =
     if is "tab" tag then byte 9 ∷ []
     else if is_any ("br" ∷ "cr" ∷ []) tag then byte 10 ∷ []
     else if is "noBreakHyphen" tag then byte 226 ∷ byte 128 ∷ byte 145 ∷ []
     else object_texts tag
+
+-- a field with this code that is one element reads as one in several: writers turn the one form into the other
+abbrev pub field_texts : List ℕ → List Text
+field_texts code = object field_begin ∷ (map byte (shown code) ++ (object field_separate ∷ []))
+
+abbrev pub start_texts : Tag → List Text
+start_texts tag = if is "fldSimple" tag then field_texts (value_in tag.tail (codes "instr")) else short_texts tag
+
+-- what is shown after what is at a place: the end of a field
+abbrev pub end_texts : Place → List Text
+end_texts InField = object field_end ∷ []
+end_texts InCounted = object field_end ∷ []
+end_texts _ = []
 
 -- the lines that an element begins
 abbrev pub start_things : Marks → Tag → List BareUnit
@@ -148,17 +169,23 @@ start_units Silent marks tag = []
 start_units Quiet marks tag = member_units tag
 start_units InRun marks tag = open_units marks tag
 start_units InText marks tag = open_units marks tag
+start_units InField marks tag = open_units marks tag
+start_units InCounted marks tag = []
 start_units Open marks tag = open_units marks tag
 
 abbrev pub is_open_place : Place → Bool
 is_open_place Silent = false
 is_open_place Quiet = false
+is_open_place InCounted = false
 is_open_place _ = true
 
--- and after them: a paragraph has its end
-abbrev pub end_units : Place → Marks → Tag → List BareUnit
-end_units place marks tag =
+-- and after them: a paragraph has its end, and so has a field
+abbrev pub end_things : Place → Marks → Tag → List BareUnit
+end_things place marks tag =
     if is_open_place place && is "p" tag then thing marks Paragraph ∷ [] else []
+
+abbrev pub end_units : Place → Marks → Tag → List BareUnit
+end_units place marks tag = in_marks marks (end_texts (place_inside place tag)) ++ end_things place marks tag
 
 -- the texts of bytes
 abbrev pub byte_texts : Place → List ℕ → List Text

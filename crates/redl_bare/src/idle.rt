@@ -4,7 +4,7 @@ ghost use Rattle.std.specs.Prelude.{◌≡◌, not};
 ghost use Rattle.redl_io.specs.Sink.{Puts};
 ghost use Rattle.redl_tree.specs.Model.IdleTexts.{idle_nodes};
 ghost use Rattle.redl_idle.specs.Shows.{shows};
-ghost use Rattle.redl_bare.specs.Units.{byte_texts, units_in};
+ghost use Rattle.redl_bare.specs.Units.{start_texts, byte_texts, units_in};
 ghost use Rattle.redl_bare.specs.Inside.Escapes.{is_empty};
 ghost use Rattle.redl_bare.specs.Inside.Idle.{idle_rule, tag_with, texts_at};
 ghost use Rattle.redl_bare.specs.Inside.Looks.{ShowsSo};
@@ -13,10 +13,12 @@ ghost use Rattle.redl_bare.specs.Inside.Views.{marks_view, line_view};
 ghost use Rattle.redl_bare.specs.Inside.Puts.{PutsUnits};
 
 use crate::escape::{is_shown, put_shown};
+use crate::fields::put_field_text;
 use crate::line::begin;
 use crate::marks::Marks;
 use crate::place::Place;
-use crate::starts::start_body;
+use crate::starts::{end_body, start_body};
+use crate::values::value_in;
 use redl_idle::{Shows, show};
 use redl_io::{Failed, Sink, put_piece};
 use redl_tree::Plain;
@@ -61,11 +63,11 @@ impl<K: Sink> Shows<K> for Place {
         out: &mut K,
     ) -> Result<Place, Failed> {
         put_idle_start(*self, local, tail, out)?;
-        Ok(self.inside_idle(local))
+        Ok(self.inside_idle(local, tail))
     }
 
-    fn leave(&self, _out: &mut K) -> Result<(), Failed> {
-        Ok(())
+    fn leave(&self, out: &mut K) -> Result<(), Failed> {
+        put_piece(end_body(*self), out)
     }
 }
 
@@ -87,9 +89,18 @@ fn put_idle_start<K: Sink>(
     ensures { Puts K.told K.faults K.settled K.lenders out.old out.new (texts_body (texts_at place (tag_with local.now tail.now))) result }
 {
     if place.is_open() {
-        return put_piece(start_body(local, tail), out);
+        return put_open_idle(local, tail, out);
     }
     Ok(())
+}
+
+fn put_open_idle<K: Sink>(local: &[u8], tail: &[u8], out: &mut K) -> Result<(), Failed>
+    ensures { Puts K.told K.faults K.settled K.lenders out.old out.new (texts_body (start_texts (tag_with local.now tail.now))) result }
+{
+    if local == b"fldSimple".as_slice() {
+        return put_field_text(value_in(tail, b"instr"), out);
+    }
+    put_piece(start_body(local, tail), out)
 }
 
 // Whether idle elements here show something. It reads no further than to the first text.
@@ -132,11 +143,11 @@ impl Shows<Nothing> for Place {
         _out: &mut Nothing,
     ) -> Result<Place, Something> {
         look_at_start(*self, local, tail)?;
-        Ok(self.inside_idle(local))
+        Ok(self.inside_idle(local, tail))
     }
 
     fn leave(&self, _out: &mut Nothing) -> Result<(), Something> {
-        Ok(())
+        look_at(end_body(*self))
     }
 }
 
@@ -153,9 +164,18 @@ fn look_at_start(place: Place, local: &[u8], tail: &[u8]) -> Result<(), Somethin
     ensures { ShowsSo (texts_body (texts_at place (tag_with local.now tail.now))) result }
 {
     if place.is_open() {
-        return look_at(start_body(local, tail));
+        return look_at_open(local, tail);
     }
     Ok(())
+}
+
+fn look_at_open(local: &[u8], tail: &[u8]) -> Result<(), Something>
+    ensures { ShowsSo (texts_body (start_texts (tag_with local.now tail.now))) result }
+{
+    if local == b"fldSimple".as_slice() {
+        return Err(Something);
+    }
+    look_at(start_body(local, tail))
 }
 
 fn look_at(body: &[u8]) -> Result<(), Something>

@@ -7,6 +7,7 @@
 #![tactic(auto)]
 
 mod escape;
+mod fields;
 mod idle;
 mod line;
 mod marks;

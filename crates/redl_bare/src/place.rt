@@ -3,9 +3,11 @@
 ghost use Rattle.std.specs.Prelude.{◌≡◌, ◌∷◌, []};
 ghost use Rattle.redl_tree.specs.Model.View.{tag_of};
 ghost use Rattle.redl_tree.specs.Roles.Names.{is_any};
-ghost use Rattle.redl_bare.specs.Units.{is_left_out, is_text, is_open_place, open_inside, place_inside};
+ghost use Rattle.redl_bare.specs.Units.{is_left_out, is_text, is_open_place, field_inside, open_inside, place_inside};
 ghost use Rattle.redl_bare.specs.Inside.Idle.{open_idle, idle_inside};
 
+use crate::fields::is_counted;
+use crate::values::value_in;
 use redl_stamp::has_attribute;
 use redl_tree::{Elem, Space, Word, is_named, is_quiet, is_word};
 
@@ -18,6 +20,10 @@ pub enum Place {
     InText,
     /// In a run.
     InRun,
+    /// In a field that is one element.
+    InField,
+    /// In one that counts pages or tells the time, where nothing is shown.
+    InCounted,
     /// In properties, where only members of revisions are shown.
     Quiet,
     /// Where nothing is shown.
@@ -30,8 +36,8 @@ impl Place {
         ensures { result ≡ is_open_place self }
     {
         match self {
-            Place::Silent | Place::Quiet => false,
-            Place::InRun | Place::InText | Place::Open => true,
+            Place::Silent | Place::Quiet | Place::InCounted => false,
+            Place::InRun | Place::InText | Place::InField | Place::Open => true,
         }
     }
 
@@ -40,28 +46,40 @@ impl Place {
         ensures { result ≡ place_inside self (tag_of elem.now) }
     {
         match self {
-            Place::Silent => Place::Silent,
+            Place::Silent | Place::InCounted => Place::Silent,
             Place::Quiet => Place::Quiet,
             Place::InRun if is_word(elem, Word::RPr) => Place::Silent,
-            Place::InRun | Place::InText | Place::Open => open_inside(elem),
+            Place::InRun | Place::InText | Place::InField | Place::Open => open_inside(elem),
         }
     }
 
-    /// The place of what an idle element with this local name holds.
-    pub(crate) fn inside_idle(self, local: &[u8]) -> Place
-        ensures { result ≡ idle_inside self local.now }
+    /// The place of what an idle element with this local name and tail holds.
+    pub(crate) fn inside_idle(self, local: &[u8], tail: &[u8]) -> Place
+        ensures { result ≡ idle_inside self local.now tail.now }
     {
         match self {
-            Place::Silent => Place::Silent,
+            Place::Silent | Place::InCounted => Place::Silent,
             Place::Quiet => Place::Quiet,
             Place::InRun if local == b"rPr".as_slice() => Place::Silent,
-            Place::InRun | Place::InText | Place::Open => open_inside_idle(local),
+            Place::InRun | Place::InText | Place::InField | Place::Open => open_inside_idle(
+                local, tail,
+            ),
         }
     }
 }
 
-fn open_inside_idle(local: &[u8]) -> Place
-    ensures { result ≡ open_idle local.now }
+// The place of the result of a field with this code.
+fn field_inside(code: &[u8]) -> Place
+    ensures { result ≡ field_inside code.now }
+{
+    if is_counted(code) {
+        return Place::InCounted;
+    }
+    Place::InField
+}
+
+fn open_inside_idle(local: &[u8], tail: &[u8]) -> Place
+    ensures { result ≡ open_idle local.now tail.now }
 {
     if local == b"rPr".as_slice() {
         Place::Quiet
@@ -69,6 +87,8 @@ fn open_inside_idle(local: &[u8]) -> Place
         Place::InText
     } else if local == b"r".as_slice() {
         Place::InRun
+    } else if local == b"fldSimple".as_slice() {
+        field_inside(value_in(tail, b"instr"))
     } else {
         Place::Open
     }
@@ -85,6 +105,8 @@ fn open_inside(elem: &Elem) -> Place
         Place::InText
     } else if is_word(elem, Word::R) {
         Place::InRun
+    } else if is_named(elem, b"fldSimple") {
+        field_inside(value_in(elem.tail(), b"instr"))
     } else {
         Place::Open
     }

@@ -1,16 +1,17 @@
-//! What an element shows in its line at its start tag.
+//! What an element shows in its line at its start tag, and at its end.
 
 ghost use Rattle.std.specs.Prelude.{◌≡◌, ◌∷◌, []};
 ghost use Rattle.redl_tree.specs.Roles.Names.{is_any, of_w};
 ghost use Rattle.redl_bare.specs.BareText.{texts_body};
-ghost use Rattle.redl_bare.specs.Units.{start_texts, object_texts, sign_texts, field_part};
+ghost use Rattle.redl_bare.specs.Units.{short_texts, object_texts, sign_texts, field_part, end_texts};
 ghost use Rattle.redl_bare.specs.Inside.Idle.{tag_with};
 
+use crate::place::Place;
 use crate::values::value_in;
 
-/// What an element of W with this local name and tail shows in its line, as it is written there.
+/// What an element of W with this local name and tail, which is no field, shows in its line, as it is written there.
 pub(crate) fn start_body(local: &[u8], tail: &[u8]) -> &'static [u8]
-    ensures { result.now ≡ texts_body (start_texts (tag_with local.now tail.now)) }
+    ensures { result.now ≡ texts_body (short_texts (tag_with local.now tail.now)) }
 {
     if local == b"tab".as_slice() {
         return b"\\t";
@@ -22,6 +23,16 @@ pub(crate) fn start_body(local: &[u8], tail: &[u8]) -> &'static [u8]
         return "\u{2011}".as_bytes();
     }
     object_body(local, tail)
+}
+
+/// What is shown after what is at a place, as it is written.
+pub(crate) fn end_body(place: Place) -> &'static [u8]
+    ensures { result.now ≡ texts_body (end_texts place) }
+{
+    match place {
+        Place::InField | Place::InCounted => b"\\[field end]",
+        _ => b"",
+    }
 }
 
 fn object_body(local: &[u8], tail: &[u8]) -> &'static [u8]

@@ -2,7 +2,7 @@
 
 ghost use Rattle.std.specs.Prelude.{◌≡◌, map, false};
 ghost use Rattle.redl_tree.specs.Model.View.{nodes_of, item_of, tag_of, kids_of};
-ghost use Rattle.redl_bare.specs.Units.{byte, in_marks, byte_texts, start_texts, start_things, member_units, open_units, start_units, end_units, units_in};
+ghost use Rattle.redl_bare.specs.Units.{byte, in_marks, byte_texts, start_texts, short_texts, start_things, member_units, open_units, start_units, end_things, end_units, units_in};
 ghost use Rattle.redl_bare.specs.BareText.{texts_body};
 ghost use Rattle.redl_bare.specs.Inside.Escapes.{is_empty};
 ghost use Rattle.redl_shown.specs.Shown.{shown};
@@ -11,14 +11,16 @@ ghost use Rattle.redl_bare.specs.Inside.Views.{marks_view, line_view};
 ghost use Rattle.redl_bare.specs.Inside.Puts.{PutsUnits};
 
 use crate::escape::{is_shown, put_shown};
+use crate::fields::put_field;
 use crate::idle::put_idle;
 use crate::line::{begin, put_member, put_story, put_texts, put_thing};
 use crate::marks::{Marks, Stamp};
 use crate::place::{Place, is_left_out};
-use crate::starts::start_body;
+use crate::starts::{end_body, start_body};
 use crate::units::{Story, Thing, has_line};
+use crate::values::value_in;
 use redl_io::{Failed, Sink};
-use redl_tree::{Elem, Node, Space, Word, is_word};
+use redl_tree::{Elem, Node, Space, Word, is_named, is_word};
 
 /// Puts the units of nodes at this place and with these marks, and gives the line that is open then.
 #[cycle(units)]
@@ -117,9 +119,11 @@ fn put_start<'a, K: Sink>(
     ensures { PutsUnits K.told K.faults K.settled K.lenders out.old out.new (line_view line.entry) (start_units place (marks_view marks.entry) (tag_of elem.now)) result }
 {
     match place {
-        Place::Silent => Ok(line),
+        Place::Silent | Place::InCounted => Ok(line),
         Place::Quiet => put_own_member(elem, line, out),
-        Place::InRun | Place::InText | Place::Open => put_open_start(elem, marks, line, out),
+        Place::InRun | Place::InText | Place::InField | Place::Open => {
+            put_open_start(elem, marks, line, out)
+        }
     }
 }
 
@@ -144,13 +148,27 @@ fn put_open_start<'a, K: Sink>(
 ) -> Result<Option<Marks<'a>>, Failed>
     ensures { PutsUnits K.told K.faults K.settled K.lenders out.old out.new (line_view line.entry) (open_units (marks_view marks.entry) (tag_of elem.now)) result }
 {
-    let now = put_texts(start_of(elem), marks, line, out)?;
+    let now = put_start_texts(elem, marks, line, out)?;
     put_things(elem, marks, now, out)
 }
 
-// What an element shows in its line at its start tag, as it is written there.
+fn put_start_texts<'a, K: Sink>(
+    elem: &Elem<'a>,
+    marks: Marks<'a>,
+    line: Option<Marks<'a>>,
+    out: &mut K,
+) -> Result<Option<Marks<'a>>, Failed>
+    ensures { PutsUnits K.told K.faults K.settled K.lenders out.old out.new (line_view line.entry) (in_marks (marks_view marks.entry) (start_texts (tag_of elem.now))) result }
+{
+    if is_named(elem, b"fldSimple") {
+        return put_field(value_in(elem.tail(), b"instr"), marks, line, out);
+    }
+    put_texts(start_of(elem), marks, line, out)
+}
+
+// What an element that is no field shows in its line at its start tag, as it is written there.
 fn start_of(elem: &Elem) -> &'static [u8]
-    ensures { result.now ≡ texts_body (start_texts (tag_of elem.now)) }
+    ensures { result.now ≡ texts_body (short_texts (tag_of elem.now)) }
 {
     match elem.space() {
         Space::W => start_body(elem.local(), elem.tail()),
@@ -191,6 +209,19 @@ fn put_end<'a, K: Sink>(
     out: &mut K,
 ) -> Result<Option<Marks<'a>>, Failed>
     ensures { PutsUnits K.told K.faults K.settled K.lenders out.old out.new (line_view line.entry) (end_units place (marks_view marks.entry) (tag_of elem.now)) result }
+{
+    let now = put_texts(end_body(place.inside(elem)), marks, line, out)?;
+    put_end_things(elem, place, marks, now, out)
+}
+
+fn put_end_things<'a, K: Sink>(
+    elem: &Elem<'a>,
+    place: Place,
+    marks: Marks<'a>,
+    line: Option<Marks<'a>>,
+    out: &mut K,
+) -> Result<Option<Marks<'a>>, Failed>
+    ensures { PutsUnits K.told K.faults K.settled K.lenders out.old out.new (line_view line.entry) (end_things place (marks_view marks.entry) (tag_of elem.now)) result }
 {
     if place.is_open() && is_word(elem, Word::P) {
         return put_thing(Thing::Paragraph, marks, line, out);
