@@ -6,15 +6,16 @@ left out here, and changes of properties of one paragraph come in one order.
 import itertools
 import re
 
+from returned.contents import COUNTS, VOLATILE
+
 KINDS = ("ins", "del", "move-to", "move-from", "run-props")
 # A sign of an object, or text up to the next one.
 TOKEN = re.compile(r"\\\[([^\]]*)\]|(?:[^\\]|\\[^\[])+", re.S)
 NO_DATE = ("0-00-00", "0000-", "1970-01-01T00:00")
 SHOWN = {"ins": ("{+", "+}"), "del": ("[-", "-]"), "move-to": ("{~", "~}"), "move-from": ("[~", "~]"), "run-props": ("{=", "=}")}
-# Fields whose result a word processor counts anew by itself. Of the first ones only what can be a number is left out.
-COUNTS = ("PAGE", "NUMPAGES", "SECTIONPAGES", "SECTION", "PAGEREF", "EDITTIME", "FILESIZE", "NUMWORDS", "NUMCHARS", "REVNUM")
-VOLATILE = ("DATE", "TIME", "SAVEDATE", "PRINTDATE", "CREATEDATE", "FILENAME", "LASTSAVEDBY", "STYLEREF")
-COUNTED = re.compile(r"(?:[\d\s.,:ivxlcdmIVXLCDM()\-]|\\[tnr])*")
+# (in a bare text blanks have a backslash too)
+NAME = re.compile(r"(?:\s|\\[tnr])*([^\s\\]*)")
+COUNTED = re.compile(r"\\(.)|[\d\s.,:ivxlcdmIVXLCDM()\-]", re.S)
 
 
 class View:
@@ -103,7 +104,7 @@ class Reading:
             self.fields[-1][1] = True
         elif name == "field end" and self.fields:
             self.fields.pop()
-        if self.view.with_objects and not self.is_left_out("0"):
+        if self.view.with_objects and self.uncounted("0"):
             self.add(stamps, sign)
 
     def put(self, stamps, text):
@@ -111,16 +112,20 @@ class Reading:
             self.fields[-1][0] += text
             if not self.view.with_objects:
                 return
-        if not self.is_left_out(text):
+        if self.fields:
+            text = self.uncounted(text)
+        if text:
             self.add(stamps, text)
 
-    def is_left_out(self, text):
-        """Whether a text is the result of a field that is counted anew."""
+    def uncounted(self, text):
+        """What is left of a text without the results of fields that are counted anew."""
         for code, shows in self.fields:
-            word = (code.replace("\\t", " ").split(None, 1) or [""])[0].upper()
-            if shows and (word in VOLATILE or (word in COUNTS and COUNTED.fullmatch(text))):
-                return True
-        return False
+            word = NAME.match(code).group(1).upper()
+            if shows and word in VOLATILE:
+                return ""
+            if shows and word in COUNTS:
+                text = COUNTED.sub(lambda found: "" if found.group(1) in (None, "t", "n", "r") else found.group(), text)
+        return text
 
     def add(self, stamps, text):
         if self.items and isinstance(self.items[-1][0], tuple) and self.items[-1][0] == stamps:

@@ -14,8 +14,6 @@ KINDS = {"document": "document", "hdr": "header", "ftr": "footer"}
 NOTES = ("footnote", "endnote")
 PARAGRAPH, FIELD_BEGIN, FIELD_END = "*paragraph\n", "\\[field begin]", "\\[field end]"
 TAG = re.compile(rb"""<(/?)(?:[\w.-]+:)?(Fallback|footnoteReference|endnoteReference)(?=[\s/>])((?:[^<>"']|"[^"]*"|'[^']*')*)>""")
-SIMPLE = re.compile(rb"""<(/?)((?:[\w.-]+:)?)fldSimple(?=[\s/>])((?:[^<>"']|"[^"]*"|'[^']*')*?)(/?)>""")
-CODE = re.compile(rb"""(?:^|[\s:])instr\s*=\s*(?:"([^"]*)"|'([^']*)')""")
 IDENT = re.compile(rb"""(?:^|[\s:])id\s*=\s*["']([^"']*)["']""")
 
 
@@ -32,27 +30,12 @@ def references(package):
     return found
 
 
-def with_long_fields(package):
-    """The package with each field in one element as one in several: writers turn the one form into the other."""
-
-    def long(found):
-        close, prefix, tail, is_empty = found.groups()
-        code = CODE.search(tail)
-        begin = b"<%sr><%sfldChar fldCharType='begin'/></%sr><%sr><%sinstrText>" % ((prefix,) * 5)
-        begin += (code and (code.group(1) or code.group(2))) or b""
-        begin += b"</%sinstrText></%sr><%sr><%sfldChar fldCharType='separate'/></%sr>" % ((prefix,) * 5)
-        end = b"<%sr><%sfldChar fldCharType='end'/></%sr>" % ((prefix,) * 3)
-        return end if close else begin + end if is_empty else begin
-
-    return SIMPLE.sub(long, package) if b"fldSimple" in package else package
-
-
 class Comparison:
     """What is the same for each journal that is tried: the streams of both packages, and the bare text that came back."""
 
     def __init__(self, program, first, second, back):
         self.program = program
-        self.back = bare.stories_of(program.bare_text(with_long_fields(back)))
+        self.back = bare.stories_of(program.bare_text(back))
         self.back_references = references(back)
         self.index_of = {id(one): index for package in (first, second) for index, one in indexed(package)}
         self.pairs = pair_stories(first, second)
@@ -66,7 +49,7 @@ class Comparison:
 
     def pairs_with(self, written):
         """(what the pair is called, the story as it was written, the story that came back); either may be None."""
-        made = bare.stories_of(self.program.bare_text(with_long_fields(written)))
+        made = bare.stories_of(self.program.bare_text(written))
         for one, other in self.pairs:
             yield self.named(one), self.story(made, one), other and self.story(self.back, other)
         for one in self.extra:

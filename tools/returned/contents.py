@@ -10,10 +10,16 @@ NOTES = ("footnote", "endnote", "comment")
 PROPERTIES = ("pPr", "rPr", "sectPr", "tblPr", "tblPrEx", "trPr", "tcPr", "sdtPr", "sdtEndPr", "tblGrid")
 TEXTS = {"tab": "\t", "br": "\n", "cr": "\n", "noBreakHyphen": "\u2011"}
 REFERENCES = {"footnoteReference": "footnote", "endnoteReference": "endnote", "commentReference": "comment"}
-# Fields whose result a word processor counts anew by itself; their results are left out of the text.
-COUNTS = ("PAGE", "NUMPAGES", "SECTIONPAGES", "SECTION", "PAGEREF", "EDITTIME", "FILESIZE", "NUMWORDS", "NUMCHARS", "REVNUM")
-VOLATILE = ("DATE", "TIME", "SAVEDATE", "PRINTDATE", "CREATEDATE", "FILENAME", "LASTSAVEDBY", "STYLEREF")
-COUNTED = re.compile(r"[\d\s.,:ivxlcdmIVXLCDM()\-]*")
+# Fields whose result a word processor counts anew by itself; their results are left out of the text, those of the first ones as
+# far as they can be a number. A bare text has none of the first two rows of the others where the field is one element.
+COUNTS = ("SECTION", "PAGEREF", "FILESIZE", "NUMWORDS", "NUMCHARS", "REVNUM")
+VOLATILE = (
+    "PAGE", "NUMPAGES", "SECTIONPAGES", "DATE", "TIME",
+    "SAVEDATE", "PRINTDATE", "CREATEDATE", "EDITTIME",
+    "FILENAME", "LASTSAVEDBY", "STYLEREF",
+)
+NAME = re.compile(r"\s*([^\s\\]*)")
+COUNTED = re.compile(r"[\d\s.,:ivxlcdmIVXLCDM()\-]")
 
 
 def moment_of(date):
@@ -124,17 +130,20 @@ class Contents:
             self.fields.pop()
         self.put_object("field " + kind if kind in ("begin", "separate", "end") else "field end")
 
-    def is_counted(self, text):
-        """Whether a text is the result of a field that is counted anew: of a page's number only what can be a number."""
+    def uncounted(self, text):
+        """What is left of a text, or of one sign, without the results of fields that are counted anew."""
         for name, shows in self.fields:
-            word = (name.split(None, 1) or [""])[0].upper()
-            if shows and (word in VOLATILE or (word in COUNTS and (COUNTED.fullmatch(text) or SIGNS.match(text)))):
-                return True
-        return False
+            word = NAME.match(name).group(1).upper()
+            if shows and (word in VOLATILE or (word in COUNTS and SIGNS.fullmatch(text))):
+                return ""
+            if shows and word in COUNTS:
+                # (sign by sign, since writers cut a text into pieces in their own ways)
+                text = COUNTED.sub("", text)
+        return text
 
     def put(self, text):
-        if self.fields and self.is_counted(text):
-            return
+        if self.fields:
+            text = self.uncounted(text)
         self.stream.put(text, self.round, (), self.run_props)
 
     # Objects
