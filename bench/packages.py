@@ -96,6 +96,22 @@ def small_package(pick):
     return (make.FRONT + "".join(block(4) for _ in range(pick.randint(1, 6))) + section + make.BACK).encode()
 
 
+# A run that holds no other one, and codes of fields, of which some count pages or tell the time.
+RUN = re.compile(rb"<w:r>(?:(?!</?w:r>|<w:txbx).)*</w:r>", re.S)
+CODES = [b" PAGE ", b"page", b"NumPages\\* x", b" DATE \\@ &quot;x&quot;", b"REF a&amp;b", b"PAGEREF x", b"", b" ", b"SAVEDATEX"]
+
+
+def with_fields(package, pick):
+    """The package with some of its runs in fields of one element each."""
+
+    def field(found):
+        if pick.random() > 0.2:
+            return found.group()
+        return b'<w:fldSimple w:instr="%s">%s</w:fldSimple>' % (pick.choice(CODES), found.group())
+
+    return RUN.sub(field, package)
+
+
 TAG = re.compile(rb"<[^<>]*>")
 
 

@@ -20,7 +20,7 @@ sys.dont_write_bytecode = True
 sys.path[:0] = [os.path.join(TOP, "tools"), os.path.join(TOP, "bench"), EXAMPLES, HERE]
 sys.setrecursionlimit(100000)
 
-from packages import small_package
+from packages import small_package, with_fields
 from returned import bare, reader
 from returned.check import answer_for
 from returned.program import Program
@@ -114,7 +114,8 @@ def pairs_by_chance(path, seconds, most, first):
     """Random packages by their numbers, until the time is over."""
     pairs, number, end = Pairs(), first, time.monotonic() + seconds
     while time.monotonic() < end and number < first + most:
-        pairs.add(path, "package %d" % number, small_package(random.Random(number)), number)
+        package = small_package(random.Random(number))
+        pairs.add(path, "package %d" % number, with_fields(package, random.Random(number)) if number % 4 == 3 else package, number)
         number += 1
     tell("random packages give no other text", "; ".join(pairs.wrong[:5]))
     few = pairs.refused * 1000 < REFUSED * max(pairs.count(), 400)
