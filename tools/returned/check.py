@@ -4,9 +4,10 @@ What counts is the program's answer: `write` under the words that were found, an
 alone has, have to have the same bare text. Where they don't, the places are told, and there is no journal.
 """
 from returned import compare
+from returned.another import lost_places
 from returned.bare import View
 from returned.counter import foreign_revisions, proposals
-from returned.differences import lost_places, tell_clauses
+from returned.differences import tell_clauses
 from returned.find import find, words_to_say
 from returned.pairs import pair_comments
 from returned.reader import read

@@ -3,12 +3,9 @@ import bisect
 
 from returned import bare
 from returned.clauses import Clauses, place_of
-from returned.counter import plain_of
 
 # How much of the text is shown before and after what differs, and at most.
 BEFORE, AFTER, SHOWN = 25, 12, 90
-# In a document of so many stretches without changes, each of so many characters, so many of them are looked for in what came back.
-MANY, LONG, TRIED = 2000, 24, 200
 DOCUMENT = "the document"
 
 
@@ -117,21 +114,3 @@ def tell_clauses(differences, package, data):
         clauses = Clauses(stream, data)
         for one in differences:
             one.clause = clauses.of(one.paragraph) if one.place == DOCUMENT else None
-
-
-def lost_places(first, second):
-    """Places of a large document that no decision can change, where hardly any of those that are tried is in what came back.
-
-    That is another document: what became of its changes would be searched for a minute, and nothing found.
-    """
-    mine, its = ([one for one in package.stories() if one.root == "document"] for package in (first, second))
-    if len(mine) != 1 or len(its) != 1:
-        return []
-    stretches = [(begin, end) for begin, end, members, _ in mine[0].stretches() if not members and end - begin >= LONG]
-    if len(stretches) < MANY:
-        return []
-    tried = stretches[:: len(stretches) // TRIED]
-    lost = [(begin, end) for begin, end in tried if mine[0].text[begin:end] not in its[0].text]
-    if len(lost) * 20 < len(tried) * 19:
-        return []
-    return [Difference(DOCUMENT, mine[0].paragraph_of(begin), plain_of(mine[0].text[begin:end]), "") for begin, end in lost]
