@@ -221,10 +221,25 @@ def without_picture(path):
     desk.close()
 
 
+def field_in_other_form(path):
+    """A page's number that was a field in one element, and came back as one in several with another result."""
+    desk, words, back = contract(path, 6)
+    found = re.search(rb"<w:fldSimple [^>]*>.*?</w:fldSimple>", back, re.S)
+    part = b"<w:r><w:fldChar w:fldCharType='%s'/></w:r>"
+    code = b"<w:r><w:instrText> PAGE </w:instrText></w:r>"
+    field = part % b"begin" + code + part % b"separate" + b"<w:r><w:t>17</w:t></w:r>" + part % b"end"
+    answer = desk.answer(back[: found.start()] + field + back[found.end() :])
+    other = desk.answer(back[: found.start()] + field.replace(b"PAGE", b"SEQ a") + back[found.end() :])
+    lines = [one.line() for one in answer.differences]
+    fault = None if not lines and answer.said == desk.answer(back).said and other.differences else "%s" % lines
+    tell("a page's number in another form is the same, and another field is not", fault)
+    desk.close()
+
+
 def main(path, seconds=20, most=1000, first=0):
     pairs_of_examples(path)
     pairs_by_chance(path, float(seconds), int(most), int(first))
-    for case in (untracked_edits, tracked_edits, deleted_by_reviewer, half_decisions, without_names, without_picture):
+    for case in (untracked_edits, tracked_edits, deleted_by_reviewer, half_decisions, without_names, without_picture, field_in_other_form):
         case(path)
 
 
