@@ -4,8 +4,9 @@ import sys
 
 from calls.places import find_redline
 from calls.program import Running
-from calls.words import DOCX, ENDINGS, FOREIGN, NAME, PLACES, TAKES_FOLDER, WRITES, WRITES_PACKAGE, Refused, ending, is_zip
+from calls.words import DOCX, ENDINGS, FOREIGN, PLACES, TAKES_FOLDER, WRITES, WRITES_PACKAGE, Refused, ending, is_zip, tell
 from opc import files
+from opc.terminal import masked
 from opc.unpack import unpack
 from opc.xml import NotOfTheForm
 
@@ -36,7 +37,7 @@ class Call:
         self.command = words[0] if words else ""
 
     def say(self, line):
-        sys.stderr.write("%s: %s\n" % (NAME, line))
+        tell(line)
 
     def redline(self):
         """The program to call."""
@@ -168,7 +169,7 @@ class Call:
         """A line with the names of files as they were given."""
         if FILES not in line:
             return line
-        names = {b"%d" % handle: os.fsencode(name) for name, handle in self.memory.items()}
+        names = {b"%d" % handle: masked(name).encode() for name, handle in self.memory.items()}
         first, *others = line.split(FILES)
         for piece in others:
             handle = piece[: len(piece) - len(piece.lstrip(DIGITS))]

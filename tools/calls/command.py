@@ -3,7 +3,7 @@ import os
 import sys
 
 from calls.call import Call
-from calls.words import NAME, WRITES_PACKAGE, Refused, read_words
+from calls.words import WRITES_PACKAGE, Refused, read_words, tell
 
 
 def main(words, told, here):
@@ -18,7 +18,7 @@ def main(words, told, here):
         call = Call(here, theirs, own)
         return make_desk(call) if call.command == "desk" else answer(call)
     except Refused as error:
-        sys.stderr.write("%s: %s\n" % (NAME, error))
+        tell(str(error))
         return error.status
 
 

@@ -1,6 +1,8 @@
 """Locks on authors that hold nothing. A lock is a promise: one whose name is spelled otherwise must not fail in silence."""
 import unicodedata
 
+from opc.terminal import masked
+
 
 def letters(name):
     """A name without what two spellings of it may differ in: capitals, spaces, signs that can't be seen, and Unicode's forms."""
@@ -10,7 +12,7 @@ def letters(name):
 
 def shown(name):
     """A name as it can go to a terminal."""
-    return '"%s"' % "".join(one if one.isprintable() else "?" for one in name)
+    return '"%s"' % masked(name)
 
 
 def line_on(name, authors):

@@ -1,5 +1,8 @@
 """The words of a call, and the endings of the names of files that go with them."""
 import os
+import sys
+
+from opc.terminal import masked
 
 NAME = "redline-docx"
 # Where a call's words have packages, counted from 0. Other commands have one as their second word.
@@ -21,6 +24,11 @@ ENDINGS = {DOCUMENT: DOCX + (".xml",), PAGE: (".html", ".htm")}
 FOREIGN = DOCX + (".xml", ".html", ".htm", ".doc", ".dot", ".odt", ".ott", ".rtf", ".pdf", ".zip")
 VALUES = {"-o": "out", "--package": "package"}
 SWITCHES = ("-f", "--tidy", "--drop-unused-notes", "--idle-locks")
+
+
+def tell(line):
+    """Writes a line of this script for a person."""
+    sys.stderr.write("%s: %s\n" % (NAME, masked(line)))
 
 
 class Refused(Exception):

@@ -4,6 +4,7 @@ import sys
 
 from opc.files import Fault, read, refuse_overwriting, write
 from opc.pack import pack
+from opc.terminal import masked
 from opc.unpack import unpack
 from opc.xml import NotOfTheForm
 
@@ -11,7 +12,7 @@ NAME = "flatopc"
 
 
 def tell(line):
-    sys.stderr.write("%s: %s\n" % (NAME, line))
+    sys.stderr.write("%s: %s\n" % (NAME, masked(line)))
 
 
 class Usage(Exception):

@@ -106,12 +106,7 @@ def tell(call, made, left):
     went = ["%s %d" % (one, made.counts[one]) for one in NAMES if made.counts.get(one)]
     call.say("%s: took out %s" % (name, ", ".join(went) or "nothing, since there was nothing to take"))
     for one, value in made.kept:
-        call.say("%s: kept %s, since the document shows it" % (name, one if value == one else "%s %s" % (one, shown(value))))
+        call.say("%s: kept %s, since the document shows it" % (name, one if value == one else "%s %s" % (one, value)))
     stays = ["%s %d" % (one, left[one]) for one in (*NAMES, *TOLD) if left.get(one) and one not in made.taken]
     if stays:
         call.say("%s: still there are %s (redline-docx left shows where)" % (name, ", ".join(stays)))
-
-
-def shown(text):
-    """A name as it can go to a terminal."""
-    return "".join(one if one.isprintable() else "?" for one in text)
