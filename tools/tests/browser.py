@@ -4,11 +4,37 @@ Both take the commands of W3C WebDriver by its names. Chromium takes them over i
 socket of its Marionette, so that nothing but the browsers themselves is needed.
 """
 import base64
+import glob
+import re
 import shutil
 import tempfile
 
 ELEMENT = "element-6066-11e4-a52e-4f735466cecf"
 SECONDS = 240
+
+
+def below(process):
+    """A process and all that were begun by it or by these, as Linux tells them."""
+    begun = {}
+    for entry in glob.glob("/proc/[0-9]*/stat"):
+        try:
+            with open(entry) as file:
+                begun.setdefault(int(file.read().rsplit(")", 1)[1].split()[1]), []).append(int(entry.split("/")[2]))
+        except OSError:
+            pass
+    found = [process.pid]
+    for it in found:
+        found += begun.get(it, [])
+    return found
+
+
+def held_by(number):
+    """What a process holds of memory; what it shares with others counts by its share."""
+    try:
+        with open("/proc/%d/smaps_rollup" % number) as file:
+            return 1024 * int(re.search(r"^Pss: +(\d+) kB", file.read(), re.M).group(1))
+    except OSError:
+        return 0
 
 
 class Browser:
@@ -94,6 +120,10 @@ class Browser:
     def show(self, width, height, scheme, media, zoom):
         """What `look` does in this browser, and in this tab alone."""
         raise NotImplementedError
+
+    def held(self):
+        """How many bytes of memory the system has given to all processes of the browser."""
+        return sum(held_by(it) for it in below(self.process))
 
     def complaints(self):
         """What the browser's console tells, since it was last asked."""

@@ -37,6 +37,8 @@ ARGUMENTS = ["--headless=new", "--no-sandbox", "--disable-gpu", "--hide-scrollba
 
 class Chromium(Browser):
     name = "chromium"
+    # Switches of its engine, V8.
+    flags = ""
 
     @staticmethod
     def is_there():
@@ -44,15 +46,15 @@ class Chromium(Browser):
 
     def start(self):
         command = ["chromedriver", "--port=0"]
-        self.driver = subprocess.Popen(command, stdout=subprocess.PIPE, stderr=subprocess.DEVNULL, text=True)
-        for line in self.driver.stdout:
+        self.process = subprocess.Popen(command, stdout=subprocess.PIPE, stderr=subprocess.DEVNULL, text=True)
+        for line in self.process.stdout:
             port = re.search(r"started successfully on port (\d+)", line)
             if port:
                 break
         self.base = "http://127.0.0.1:" + port.group(1)
         options = {
             "binary": shutil.which("chromium"),
-            "args": ARGUMENTS + ["--user-data-dir=" + self.folder + "/profile"],
+            "args": ARGUMENTS + ["--user-data-dir=" + self.folder + "/profile", "--js-flags=" + self.flags],
             "prefs": {"download.default_directory": self.folder, "download.prompt_for_download": False},
         }
         wanted = {"browserName": "chrome", "goog:chromeOptions": options, "goog:loggingPrefs": {"browser": "ALL"}}
@@ -88,5 +90,5 @@ class Chromium(Browser):
         try:
             self.send("DeleteSession")
         finally:
-            self.driver.terminate()
-            self.driver.wait()
+            self.process.terminate()
+            self.process.wait()

@@ -33,7 +33,7 @@ class Served:
     """The desk's program, in a process of node that answers call after call."""
 
     def __init__(self, node, program):
-        words = [node, os.path.join(HERE, "desk", "serve.js"), program]
+        words = [node, "--expose-gc", os.path.join(HERE, "desk", "serve.js"), program]
         self.process = subprocess.Popen(words, stdin=subprocess.PIPE, stdout=subprocess.PIPE)
 
     def call(self, folder, words, pages=None):
@@ -174,7 +174,7 @@ def compare_speed(pair, count):
             native = [used_by(words, pair.folder) for _ in range(count)]
             answers = [pair.served.call(pair.folder, words) for _ in range(count + 2)]
             times = min(it[0] for it in native), min(it["ms"] for it in answers) / 1000
-            memory = min(it[1] for it in native), answers[0]["memory"]
+            memory = min(it[1] for it in native), answers[0]["held"]
             print("| %d MB | %s | %.0f | %.0f | %.2f | %.0f | %.0f | %.2f |" % (size // 10**6, line, *[it * 1000 for it in times], times[1] / times[0], *[it / 1e6 for it in memory], memory[1] / memory[0]), flush=True)
             pair.calls += 1
             if times[1] > 2.5 * times[0] + 0.02 or memory[1] > 1.3 * memory[0]:

@@ -2,11 +2,11 @@
 import os
 import struct
 import subprocess
-import zipfile
+import zlib
 
-import page_hostile
-from desk_faults import TYPES, archive, contract
-from desk_seen import FLATOPC, Desk, example, read
+import desk_dangers
+from desk_faults import TYPES, archive
+from desk_seen import FLATOPC, Desk, example
 from page_hostile import EVIL, hostile_package, quoted
 from page_seen import in_package, reading, same, told
 
@@ -58,6 +58,38 @@ def names_and_texts(driven):
         went_through(it, evil)
 
 
+def dangerous_documents(driven):
+    """What leads a word processor to run, fetch or show something, one document after the other."""
+    it = Desk(driven)
+    change = "<w:ins %s><w:r><w:t>new</w:t></w:r></w:ins>" % (WHO % "Ann Gray")
+    for name, whole in desk_dangers.documents(change).items():
+        said = it.drop((name + ".xml", whole.encode()))
+        told("a document with %s opens" % name, "1 change to decide" in said, said)
+        it.decide(1, "reject")
+        it.step("written")
+        shown = it.text("#written-told")
+        is_quiet = it.run(RAN) == [None, None, None] and it.requests() == [] and it.run(STRANGE) == 0
+        told("a document with %s: nothing runs, leaves or is shown in its place" % name, is_quiet and "no change is tracked" in shown, str([it.run(RAN), it.requests(), shown]))
+        it.step("decide")
+    same("no complaint of the browser on any of them", driven.complaints(), [])
+
+
+def zeros(says):
+    """A .docx with 4 GB of zeros in it, whose directory has another size for them."""
+    count, name, block = 4000, b"word/document.xml", bytes(10**6)
+    packer = zlib.compressobj(9, zlib.DEFLATED, -15)
+    once = packer.compress(block) + packer.flush(zlib.Z_FULL_FLUSH)
+    packed = once * count + zlib.compressobj(9, zlib.DEFLATED, -15).flush()
+    checksum = 0
+    for _ in range(count):
+        checksum = zlib.crc32(block, checksum)
+    sizes = struct.pack("<IIIHH", checksum, len(packed), says, len(name), 0)
+    head = struct.pack("<IHHHHH", 0x04034B50, 20, 0, 8, 0, 33) + sizes + name
+    entry = struct.pack("<IHHHHHH", 0x02014B50, 20, 20, 0, 8, 0, 33) + sizes + struct.pack("<HHHII", 0, 0, 0, 0, 0) + name
+    end = struct.pack("<IHHHHIIH", 0x06054B50, 0, 0, 1, 1, len(entry), len(head) + len(packed), 0)
+    return head + packed + entry + end
+
+
 def archives():
     """Archives that climb, lie or swell, by name. Each is refused or opened as flatopc does."""
     docx = [("[Content_Types].xml", TYPES), ("word/document.xml", "<w:document xmlns:w='w'/>")]
@@ -72,7 +104,9 @@ def archives():
         "twin names": archive(*docx, ("word/DOCUMENT.xml", "<a/>")),
         "65,536 entries": wide,
         "wrong sizes": lying.replace(struct.pack("<I", len(docx[1][1])), struct.pack("<I", 7)),
-        "4 GB of zeros, as it says": lying.replace(struct.pack("<I", len(docx[1][1])), big),
+        "4 GB of zeros": zeros(4 * 10**9),
+        "4 GB of zeros that it calls 1,000": zeros(1000),
+        "4 GB of zeros that aren't there": lying.replace(struct.pack("<I", len(docx[1][1])), big),
         "entities that swell": archive(docx[0], ("word/document.xml", laughs)),
         "content types that swell": archive(("[Content_Types].xml", laughs)),
         "an archive in an archive": archive(*docx, ("word/more.docx", archive(*docx))),
@@ -120,4 +154,4 @@ def another_tab(driven):
     same("and the first tab keeps its own", [it.text("#name"), it.decisions()], ["contract.xml", ["3 accept"]])
 
 
-CASES = [pages_document, names_and_texts, of_archives, another_tab]
+CASES = [pages_document, names_and_texts, dangerous_documents, of_archives, another_tab]

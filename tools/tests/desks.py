@@ -13,6 +13,7 @@ import sys
 import desk_faults
 import desk_hostile
 import desk_large
+import desk_limits
 import desk_looks
 import desk_round
 from chromium import Chromium
@@ -22,7 +23,7 @@ from page_seen import told
 from webkit import WebKit
 
 BROWSERS = [Chromium, Firefox, WebKit]
-CASES = desk_round.CASES + desk_faults.CASES + desk_hostile.CASES + desk_looks.CASES + desk_large.CASES
+CASES = desk_round.CASES + desk_faults.CASES + desk_hostile.CASES + desk_limits.CASES + desk_looks.CASES + desk_large.CASES
 IN_EACH = [desk_round.package_round, desk_round.docx_round, desk_round.second_sitting]
 
 
@@ -42,7 +43,7 @@ def main(words):
         return print("skipped the desk: it hasn't been built")
     if words[:1] == ["--picture"]:
         return desk_looks.picture(words[1])
-    named = [case for case in CASES if case.__name__ in words]
+    named = [case for case in CASES + desk_large.MEASURES if case.__name__ in words]
     for kind in [kind for kind in BROWSERS if kind.name in words] or BROWSERS:
         cases = named or (CASES if kind is Chromium or words else IN_EACH)
         if not kind.is_there():

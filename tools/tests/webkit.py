@@ -31,7 +31,7 @@ class WebKit(Chromium):
             free.bind(("127.0.0.1", 0))
             port = free.getsockname()[1]
         command = ["WebKitWebDriver", "--port=%d" % port]
-        self.driver = subprocess.Popen(command, stdout=subprocess.DEVNULL, stderr=subprocess.DEVNULL, env=environment)
+        self.process = subprocess.Popen(command, stdout=subprocess.DEVNULL, stderr=subprocess.DEVNULL, env=environment)
         self.base = "http://127.0.0.1:%d" % port
         self.wait_for(self.base + "/status")
         options = {"binary": sorted(glob.glob(BINARIES))[-1], "args": ["--automation"]}

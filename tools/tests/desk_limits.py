@@ -1,0 +1,121 @@
+"""Where memory or stack end: real documents and calls, in a desk whose worker and program are as they are.
+
+Only the most that the program's memory may grow to is another number here, as on a small computer.
+"""
+import base64
+import gzip
+import os
+import re
+import sys
+
+from chromium import Chromium
+from desk_seen import Desk, built, example, read
+from page_large import large_package
+from page_seen import TOP, same, told
+
+sys.path[:0] = [os.path.join(TOP, "tools", "web"), os.path.join(TOP, "bench")]
+import make
+from wasm import number, sections_of, written
+
+PROGRAM = re.compile('(<script type="text/plain" id="program">)([^<]*)')
+MEMORY, HAS_MOST = 5, 1
+# In so many pages of 64 KB a document of 2.5 MB opens, but not one of 5: that is checked, and then there is too little for its page.
+PAGES = 270
+TOO_DEEP = "more tables in one another than this browser can follow"
+
+
+def with_most_pages(module, pages):
+    """The program with this number of pages of 64 KB as the most of its one memory."""
+    out = bytearray(module[:8])
+    for kind, content in sections_of(module):
+        if kind == MEMORY:
+            least, _ = number(content, 2)
+            content = bytes([1, HAS_MOST]) + written(least) + written(pages)
+        out += bytes([kind]) + written(len(content)) + content
+    return bytes(out)
+
+
+def limited(driven, pages):
+    """The desk whose program may have so many pages of memory."""
+    def smaller(found):
+        module = with_most_pages(gzip.decompress(base64.b64decode(found.group(2))), pages)
+        return found.group(1) + base64.b64encode(gzip.compress(module)).decode()
+
+    file = os.path.join(driven.folder, "limited.html")
+    with open(file, "w", encoding="utf-8") as out:
+        out.write(PROGRAM.sub(smaller, read(built()).decode(), count=1))
+    return file
+
+
+def begun(driven, file=""):
+    """A desk with a document on the screen and a decision."""
+    it = Desk(driven, file)
+    it.drop(("contract.xml", example("contract.xml")))
+    it.name("Eve Stone")
+    it.decide(3, "accept")
+    return it
+
+
+def stays(it, name):
+    same(name + ": what was on the screen stays", [it.text("#name"), it.decisions()], ["contract.xml", ["3 accept"]])
+
+
+def little_memory(driven):
+    """A document that is too large for the memory, and a call on another one that is."""
+    it = begun(driven, limited(driven, PAGES))
+    for size in (5, 10):
+        said = it.drop(("large.xml", large_package(2000 * size).encode()))
+        told("%d MB are too large for the memory" % size, it.is_fault() and "too little memory" in said and "redline: no memory" in said, said)
+        stays(it, "%d MB" % size)
+    it.drop(("middle.xml", large_package(5000).encode()))
+    same("a smaller one opens", it.text("#count"), "10,000 changes")
+    it.step("save")
+    it.press("#save-listing")
+    said = it.text("#save-more-told")
+    told("a listing of it is too large", "too little memory" in said and "redline: no memory" in said, said)
+    same("and nothing is saved of it", [name for name in os.listdir(driven.folder) if name.endswith(".json")], [])
+    told("but the document is", it.saves("#save-document", "middle.decided.xml").startswith(b"<pkg:package"))
+
+
+def deep_documents(driven):
+    """Documents 512 elements deep: each opens and is written, or it is told that this browser can't follow it."""
+    for name, body in make.DEEP.items():
+        it = begun(driven)
+        said = it.drop((name + ".xml", (make.FRONT + body() + make.BACK).encode()))
+        if it.is_fault():
+            told("%s 512 deep: it is told that they are too deep" % name, TOO_DEEP in said, said)
+            stays(it, name + " 512 deep")
+            continue
+        same("%s 512 deep: they open" % name, it.text("#name"), name + ".xml")
+        for step in ["standing", "written", "save"]:
+            it.step(step)
+            told("%s 512 deep: %s, or it is told why not" % (name, step), not it.is_fault() or TOO_DEEP in it.message(), it.message())
+        for what, where in [("text", "more"), ("report", "more"), ("listing", "more"), ("document", "document")]:
+            it.press("#save-" + what)
+            said = it.text("#save-%s-told" % where)
+            told("%s 512 deep: the %s is saved, or it is told why not" % (name, what), "Saved as" in said or TOO_DEEP in said, said)
+
+
+class LittleStack(Chromium):
+    """A browser whose engine has less stack for a script and for the program."""
+
+    flags = "--stack-size=100"
+
+
+def little_stack(driven):
+    """The same where there is little stack: it is told, and nothing is saved."""
+    if driven.name != "chromium":
+        return print("skipped %sa browser with little stack: it has no switch for it" % told.browser)
+    smaller = LittleStack()
+    try:
+        it = begun(smaller)
+        said = it.drop(("tables.xml", (make.FRONT + make.DEEP["tables"]() + make.BACK).encode()))
+        told("with little stack it is told that tables are too deep", it.is_fault() and TOO_DEEP in said, said)
+        stays(it, "with little stack")
+        it.step("save")
+        told("and that is saved", it.saves("#save-document", "contract.decided.xml").startswith(b"<?xml"))
+    finally:
+        smaller.close()
+
+
+CASES = [little_memory, deep_documents, little_stack]
