@@ -2,13 +2,13 @@
 use Rattle.std.proofs.Common.{◌≡◌, ◌∙◌, refl, sym, ap, ℕ, List, [], ◌∷◌, ◌++◌, length, take, drop, get_or}
 use Rattle.std.proofs.Math.Seq.{drop-append_seam, take-append_seam}
 use Rattle.redl_left.specs.declared.fact.Fact.{Fact}
-use Rattle.redl_left.specs.declared.fact.Fact.TheVariants.{Ins, Del, MoveFrom, MoveTo, MarkIns, MarkDel, MarkFrom, MarkTo, RowIns, RowDel, CellIns, CellDel, RunProps, ParaProps, SectProps, TableProps, ExceptProps, RowProps, CellProps, Undecided, LooseMarker, Comment, CommentMark, HiddenText, Tracking, Protection, Rsid, Creator, LastEditor, Title, Subject, Manager, Company, Person, CustomProperty, Variable, MailMerge, External, Embedded, Macros, CustomXml}
+use Rattle.redl_left.specs.declared.fact.Fact.TheVariants.{Ins, Del, MoveFrom, MoveTo, MarkIns, MarkDel, MarkFrom, MarkTo, RowIns, RowDel, CellIns, CellDel, RunProps, ParaProps, SectProps, TableProps, ExceptProps, RowProps, CellProps, Undecided, LooseMarker, Comment, Orphan, CommentMark, UnusedFootnote, UnusedEndnote, HiddenText, Tracking, Protection, Rsid, Creator, LastEditor, Title, Subject, Manager, Company, Person, CustomProperty, Variable, MailMerge, External, Embedded, Macros, CustomXml, Name}
 use Rattle.redl_left.specs.Facts.{fact_number}
 use Rattle.redl_left.specs.Finds.{Find}
 use Rattle.redl_left.specs.Encoded.{encoded}
 
 abbrev fact_at : ℕ → Fact
-fact_at n = get_or (Ins ∷ Del ∷ MoveFrom ∷ MoveTo ∷ MarkIns ∷ MarkDel ∷ MarkFrom ∷ MarkTo ∷ RowIns ∷ RowDel ∷ CellIns ∷ CellDel ∷ RunProps ∷ ParaProps ∷ SectProps ∷ TableProps ∷ ExceptProps ∷ RowProps ∷ CellProps ∷ Undecided ∷ LooseMarker ∷ Comment ∷ CommentMark ∷ HiddenText ∷ Tracking ∷ Protection ∷ Rsid ∷ Creator ∷ LastEditor ∷ Title ∷ Subject ∷ Manager ∷ Company ∷ Person ∷ CustomProperty ∷ Variable ∷ MailMerge ∷ External ∷ Embedded ∷ Macros ∷ CustomXml ∷ []) n Ins
+fact_at n = get_or (Ins ∷ Del ∷ MoveFrom ∷ MoveTo ∷ MarkIns ∷ MarkDel ∷ MarkFrom ∷ MarkTo ∷ RowIns ∷ RowDel ∷ CellIns ∷ CellDel ∷ RunProps ∷ ParaProps ∷ SectProps ∷ TableProps ∷ ExceptProps ∷ RowProps ∷ CellProps ∷ Undecided ∷ LooseMarker ∷ Comment ∷ Orphan ∷ CommentMark ∷ UnusedFootnote ∷ UnusedEndnote ∷ HiddenText ∷ Tracking ∷ Protection ∷ Rsid ∷ Creator ∷ LastEditor ∷ Title ∷ Subject ∷ Manager ∷ Company ∷ Person ∷ CustomProperty ∷ Variable ∷ MailMerge ∷ External ∷ Embedded ∷ Macros ∷ CustomXml ∷ Name ∷ []) n Ins
 
 there : (f : Fact) → fact_at (fact_number f) ≡ f
 there Ins = refl
@@ -33,7 +33,10 @@ there CellProps = refl
 there Undecided = refl
 there LooseMarker = refl
 there Comment = refl
+there Orphan = refl
 there CommentMark = refl
+there UnusedFootnote = refl
+there UnusedEndnote = refl
 there HiddenText = refl
 there Tracking = refl
 there Protection = refl
@@ -52,6 +55,7 @@ there External = refl
 there Embedded = refl
 there Macros = refl
 there CustomXml = refl
+there Name = refl
 
 same_fact : (f g : Fact) → fact_number f ≡ fact_number g → f ≡ g
 same_fact f g e = sym (there f) ∙ ap fact_at e ∙ there g

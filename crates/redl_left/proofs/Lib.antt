@@ -1,3 +1,4 @@
 pub mod FindLaws
+pub mod NameLaws
 pub mod EncodeLaws
 mod Worked

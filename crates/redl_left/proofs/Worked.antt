@@ -1,9 +1,11 @@
 -- Worked rows of the definitions.
-use Rattle.std.proofs.Common.{◌≡◌, List, [], ◌∷◌, ℕ, refl, codes}
+use Rattle.std.proofs.Common.{◌≡◌, List, [], ◌∷◌, ℕ, refl, codes, true, false}
 use Rattle.redl_tree.specs.Model.Nodes.{no_nodes, element}
 use Rattle.redl_tree.specs.Roles.Names.{of_w}
 use Rattle.redl_tree.specs.declared.kinds.Kind.TheVariants.{Content, Marker}
 use Rattle.redl_tree.specs.declared.kinds.Trace.TheVariants as traces
+use Rattle.redl_grammar.specs.ScanTags.{attribute_in}
+use Rattle.redl_markup.specs.Attributes.{attributes_of}
 use Rattle.redl_left.specs.declared.fact.Fact.TheVariants.{Ins, CommentMark}
 use Rattle.redl_left.specs.declared.name.Name.TheVariants as names
 use Rattle.redl_left.specs.declared.row.Place.TheVariants.{Word}
@@ -11,7 +13,7 @@ use Rattle.redl_left.specs.declared.row.When.TheVariants.{Always}
 use Rattle.redl_left.specs.declared.row.Value.TheVariants.{Nothing}
 use Rattle.redl_left.specs.declared.row.Row.{Row}
 use Rattle.redl_left.specs.declared.line.Line.{Line}
-use Rattle.redl_left.specs.Finds.{Find, finds, found}
+use Rattle.redl_left.specs.Finds.{Find, Table, finds, found}
 use Rattle.redl_left.specs.Lines.{noted}
 
 part : List ℕ
@@ -23,22 +25,25 @@ find value = record { fact = CommentMark; part = part; value = value }
 line : List ℕ → ℕ → Line
 line value count = record { fact = CommentMark; part = part; value = value; count = count }
 
+table : List Row → Table
+table rows = record { rows = rows; by_kind = true; named = λ fact value. false }
+
 rows : List Row
 rows = record { fact = CommentMark; place = Word names.CommentReference; when = Always; value = Nothing } ∷ []
 
 -- an element that a row asks for, below one that none does
-asked : finds rows part [] (element (of_w (codes "r")) (element (of_w (codes "commentReference")) no_nodes no_nodes) no_nodes) ≡ find [] ∷ []
-unfolding rows part find
+asked : finds (table rows) part [] (element (of_w (codes "r")) (element (of_w (codes "commentReference")) no_nodes no_nodes) no_nodes) ≡ find [] ∷ []
+unfolding table rows part find attributes_of attribute_in
 asked = refl
 
 -- a member of a revision, whatever the rows
-member : found [] part [] (record (of_w (codes "ins")) { kind = Content traces.Ins }) no_nodes ≡ record { fact = Ins; part = part; value = [] } ∷ []
-unfolding part
+member : found (table []) part [] (record (of_w (codes "ins")) { kind = Content traces.Ins }) no_nodes ≡ record { fact = Ins; part = part; value = [] } ∷ []
+unfolding table part attributes_of attribute_in
 member = refl
 
 -- the marker of a paired move is none
-marker : found rows part [] (record (of_w (codes "commentReference")) { kind = Marker }) no_nodes ≡ []
-unfolding rows part
+marker : found (table rows) part [] (record (of_w (codes "commentReference")) { kind = Marker }) no_nodes ≡ []
+unfolding table rows part attributes_of attribute_in
 marker = refl
 
 -- two finds of which the same is told, and two of which other things are told

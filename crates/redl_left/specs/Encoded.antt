@@ -1,11 +1,11 @@
 -- Finds as one list of numbers, by which the walk over kept text says which of them it noted.
 use Rattle.std.specs.Prelude.{◌≡◌, ℕ, List, [], ◌∷◌, ◌++◌, length, refl}
 use Rattle.std.proofs.Common.{sym, ap, ◌∙◌, append_assoc}
-use Rattle.redl_tree.specs.declared.kinds.Space.TheVariants.{W}
 use Rattle.redl_idle.specs.Shows.{ShowRule}
 use Rattle.redl_left.specs.Facts.{fact_number}
-use Rattle.redl_left.specs.Finds.{Find, found_plain}
+use Rattle.redl_left.specs.Finds.{Find, found_idle, found_text}
 use Rattle.redl_left.specs.Lines.{noted_in, noted_all}
+use Rattle.redl_left.specs.Search.{table_of}
 use Rattle.redl_left.specs.declared.line.Line.{Line}
 use Rattle.redl_left.specs.declared.walk.Below.{Below}
 
@@ -37,8 +37,8 @@ encoded-append xs ys = encoded-both xs ys ∙ encoded-then xs (encoded ys)
 -- all that idle elements show is what each of them is found to be
 abbrev pub idle_rule : ShowRule Below
 idle_rule = record {
-  bytes = λ below b. [];
-  start = λ below local tail kids. encoded (found_plain below.rows.now below.part.now [] W local tail kids);
+  bytes = λ below b. encoded (found_text (table_of below.search.now) below.part.now b);
+  start = λ below local tail kids. encoded (found_idle (table_of below.search.now) below.part.now local tail);
   inside = λ below local tail kids. below;
   end = λ below. [];
 }

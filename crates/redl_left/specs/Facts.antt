@@ -1,7 +1,7 @@
 -- The facts that are told, each with its name and its place in the order of the lines, from 0 (our own rule).
 use Rattle.std.specs.Prelude.{ℕ, List, codes}
 use Rattle.redl_left.specs.declared.fact.Fact.{Fact}
-use Rattle.redl_left.specs.declared.fact.Fact.TheVariants.{Ins, Del, MoveFrom, MoveTo, MarkIns, MarkDel, MarkFrom, MarkTo, RowIns, RowDel, CellIns, CellDel, RunProps, ParaProps, SectProps, TableProps, ExceptProps, RowProps, CellProps, Undecided, LooseMarker, Comment, CommentMark, HiddenText, Tracking, Protection, Rsid, Creator, LastEditor, Title, Subject, Manager, Company, Person, CustomProperty, Variable, MailMerge, External, Embedded, Macros, CustomXml}
+use Rattle.redl_left.specs.declared.fact.Fact.TheVariants.{Ins, Del, MoveFrom, MoveTo, MarkIns, MarkDel, MarkFrom, MarkTo, RowIns, RowDel, CellIns, CellDel, RunProps, ParaProps, SectProps, TableProps, ExceptProps, RowProps, CellProps, Undecided, LooseMarker, Comment, Orphan, CommentMark, UnusedFootnote, UnusedEndnote, HiddenText, Tracking, Protection, Rsid, Creator, LastEditor, Title, Subject, Manager, Company, Person, CustomProperty, Variable, MailMerge, External, Embedded, Macros, CustomXml, Name}
 
 abbrev pub fact_name : Fact → List ℕ
 fact_name Ins = codes "ins"
@@ -26,7 +26,10 @@ fact_name CellProps = codes "cell-props"
 fact_name Undecided = codes "undecided"
 fact_name LooseMarker = codes "loose-marker"
 fact_name Comment = codes "comment"
+fact_name Orphan = codes "orphan"
 fact_name CommentMark = codes "comment-mark"
+fact_name UnusedFootnote = codes "unused-footnote"
+fact_name UnusedEndnote = codes "unused-endnote"
 fact_name HiddenText = codes "hidden-text"
 fact_name Tracking = codes "tracking"
 fact_name Protection = codes "protection"
@@ -45,6 +48,7 @@ fact_name External = codes "external"
 fact_name Embedded = codes "embedded"
 fact_name Macros = codes "macros"
 fact_name CustomXml = codes "custom-xml"
+fact_name Name = codes "name"
 
 abbrev pub fact_number : Fact → ℕ
 fact_number Ins = 0
@@ -69,22 +73,26 @@ fact_number CellProps = 18
 fact_number Undecided = 19
 fact_number LooseMarker = 20
 fact_number Comment = 21
-fact_number CommentMark = 22
-fact_number HiddenText = 23
-fact_number Tracking = 24
-fact_number Protection = 25
-fact_number Rsid = 26
-fact_number Creator = 27
-fact_number LastEditor = 28
-fact_number Title = 29
-fact_number Subject = 30
-fact_number Manager = 31
-fact_number Company = 32
-fact_number Person = 33
-fact_number CustomProperty = 34
-fact_number Variable = 35
-fact_number MailMerge = 36
-fact_number External = 37
-fact_number Embedded = 38
-fact_number Macros = 39
-fact_number CustomXml = 40
+fact_number Orphan = 22
+fact_number CommentMark = 23
+fact_number UnusedFootnote = 24
+fact_number UnusedEndnote = 25
+fact_number HiddenText = 26
+fact_number Tracking = 27
+fact_number Protection = 28
+fact_number Rsid = 29
+fact_number Creator = 30
+fact_number LastEditor = 31
+fact_number Title = 32
+fact_number Subject = 33
+fact_number Manager = 34
+fact_number Company = 35
+fact_number Person = 36
+fact_number CustomProperty = 37
+fact_number Variable = 38
+fact_number MailMerge = 39
+fact_number External = 40
+fact_number Embedded = 41
+fact_number Macros = 42
+fact_number CustomXml = 43
+fact_number Name = 44

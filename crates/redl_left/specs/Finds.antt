@@ -1,6 +1,11 @@
 -- What elements are found to be: the rows of a table are asked in their order, and an element is a find of the first one that asks
--- for it. A member of a revision is a find by its kind, whatever the rows (our own rule).
+-- for it. A member of a revision is a find by its kind, whatever the rows. Where the name of an author stands as a text or as a
+-- value, that is a find too (our own rule).
 use Rattle.std.specs.Prelude.{ℕ, List, [], ◌∷◌, ◌++◌, Bool, true, false, not, ◌&&◌, ◌||◌, Option, Some, None, is_some, find, length, ◌==◌, bytes_eq, codes, if◌then◌else◌}
+use Rattle.std.specs.List.{list_any}
+use Rattle.redl_grammar.specs.Names.{Name as Qualified}
+use Rattle.redl_markup.specs.Attributes.{attributes_of}
+use Rattle.redl_markup.specs.Decoding.{decoded_value}
 use Rattle.redl_reading.specs.Lists.{begins}
 use Rattle.redl_shown.specs.Shown.{shown}
 use Rattle.redl_stamp.specs.Attribute.{attribute_value}
@@ -20,11 +25,11 @@ use Rattle.redl_left.specs.Names.{name_text}
 use Rattle.redl_left.specs.declared.fact.Fact.{Fact}
 use Rattle.redl_left.specs.declared.fact.Fact.TheVariants as fact
 use Rattle.redl_left.specs.declared.row.Place.{Place}
-use Rattle.redl_left.specs.declared.row.Place.TheVariants.{Word, Inside, Part}
+use Rattle.redl_left.specs.declared.row.Place.TheVariants.{Word, AnyWord, Inside, Part}
 use Rattle.redl_left.specs.declared.row.When.{When}
-use Rattle.redl_left.specs.declared.row.When.TheVariants.{Always, On, Has, Is, Begins}
+use Rattle.redl_left.specs.declared.row.When.TheVariants.{Always, On, Has, HasFront, Is, Begins, Separates, Spare}
 use Rattle.redl_left.specs.declared.row.Value.{Value}
-use Rattle.redl_left.specs.declared.row.Value.TheVariants.{Nothing, Attribute, Made, Shown}
+use Rattle.redl_left.specs.declared.row.Value.TheVariants.{Nothing, Attribute, Made, Shown, Held}
 use Rattle.redl_left.specs.declared.row.Row.{Row}
 
 -- a find: the fact, the part that it is in, and what is told of it
@@ -32,6 +37,12 @@ pub record Find : Type 0 where
   pub fact : Fact
   pub part : List ℕ
   pub value : List ℕ
+
+-- what is asked of elements: rows, whether the members of revisions are found by their kind, and which values elements name for a fact
+pub record Table : Type 0 where
+  pub rows : List Row
+  pub by_kind : Bool
+  pub named : Fact → List ℕ → Bool
 
 -- ---- which elements a row asks for
 
@@ -46,6 +57,7 @@ is_part_name space local = is_pkg space && bytes_eq local (codes "part")
 -- by its namespace and local name, and the local name of its parent
 abbrev pub asks_place : Place → List ℕ → Space → List ℕ → Bool
 asks_place (Word name) parent space local = is_w space && bytes_eq local (name_text name)
+asks_place AnyWord parent space local = is_w space
 asks_place (Inside outer name) parent space local = is_other space && (bytes_eq parent (name_text outer) && bytes_eq local (name_text name))
 asks_place Part parent space local = is_part_name space local
 
@@ -62,20 +74,36 @@ abbrev pub begins_value : List ℕ → Option (List ℕ) → Bool
 begins_value front None = false
 begins_value front (Some value) = begins front value
 
--- by an attribute
-abbrev pub asks_when : When → List ℕ → Bool
-asks_when Always tail = true
-asks_when On tail = not (is_off (attribute_value tail (codes "val")))
-asks_when (Has name) tail = is_some (attribute_value tail (name_text name))
-asks_when (Is name wanted) tail = is_value (name_text wanted) (attribute_value tail (name_text name))
-asks_when (Begins name front) tail = begins_value (name_text front) (attribute_value tail (name_text name))
+abbrev pub has_front_name : List ℕ → List ℕ → Bool
+has_front_name tail front = list_any (λ attribute. begins front attribute.0.local) (attributes_of tail)
 
-abbrev pub asks : List ℕ → Space → List ℕ → List ℕ → Row → Bool
-asks parent space local tail row = asks_place row.place parent space local && asks_when row.when tail
+-- a note has this type where it is no separator (ECMA-376 Part 1, 17.18.33)
+abbrev pub is_normal : Option (List ℕ) → Bool
+is_normal None = true
+is_normal (Some kind) = bytes_eq kind (codes "normal")
+
+-- an element with this id is named
+abbrev pub names_it : (List ℕ → Bool) → Option (List ℕ) → Bool
+names_it named None = false
+names_it named (Some id) = named id
+
+-- by an attribute
+abbrev pub asks_when : (Fact → List ℕ → Bool) → When → List ℕ → Bool
+asks_when named Always tail = true
+asks_when named On tail = not (is_off (attribute_value tail (codes "val")))
+asks_when named (Has name) tail = is_some (attribute_value tail (name_text name))
+asks_when named (HasFront name) tail = has_front_name tail (name_text name)
+asks_when named (Is name wanted) tail = is_value (name_text wanted) (attribute_value tail (name_text name))
+asks_when named (Begins name front) tail = begins_value (name_text front) (attribute_value tail (name_text name))
+asks_when named Separates tail = not (is_normal (attribute_value tail (codes "type")))
+asks_when named (Spare fact) tail = is_normal (attribute_value tail (codes "type")) && not (names_it (named fact) (attribute_value tail (codes "id")))
+
+abbrev pub asks : (Fact → List ℕ → Bool) → List ℕ → Space → List ℕ → List ℕ → Row → Bool
+asks named parent space local tail row = asks_place row.place parent space local && asks_when named row.when tail
 
 -- the first row that asks for the element
-abbrev pub first_row : List Row → List ℕ → Space → List ℕ → List ℕ → Option Row
-first_row rows parent space local tail = find (asks parent space local tail) rows
+abbrev pub first_row : (Fact → List ℕ → Bool) → List Row → List ℕ → Space → List ℕ → List ℕ → Option Row
+first_row named rows parent space local tail = find (asks named parent space local tail) rows
 
 -- ---- what is told of an element
 
@@ -96,11 +124,25 @@ front_shown _ = []
 abbrev pub shown_alone : Space → Nodes → List ℕ
 shown_alone space kids = if is_w space || has_element kids then [] else front_shown kids
 
+-- what the first element shows
+abbrev pub inner_shown : Nodes → List ℕ
+inner_shown no_nodes = []
+inner_shown (bytes b rest) = inner_shown rest
+inner_shown (element tag kids rest) = shown_alone tag.space kids
+
+abbrev pub inner_of : Space → Nodes → List ℕ
+inner_of space kids = if is_w space then [] else inner_shown kids
+
+abbrev pub after_colon : List ℕ → List ℕ
+after_colon [] = []
+after_colon (b ∷ bs) = codes ": " ++ (b ∷ bs)
+
 abbrev pub value_of : Value → Space → List ℕ → List ℕ → Nodes → List ℕ
 value_of Nothing space local tail kids = []
 value_of (Attribute name) space local tail kids = value_or_nothing (attribute_value tail (name_text name))
 value_of Made space local tail kids = local ++ by_whom (attribute_value tail (codes "author"))
 value_of Shown space local tail kids = shown_alone space kids
+value_of (Held name) space local tail kids = value_or_nothing (attribute_value tail (name_text name)) ++ after_colon (inner_of space kids)
 
 -- ---- the finds
 
@@ -157,16 +199,52 @@ abbrev pub found_row : List ℕ → Space → List ℕ → List ℕ → Nodes �
 found_row part space local tail kids None = []
 found_row part space local tail kids (Some row) = found_value part row (value_of row.value space local tail kids)
 
-abbrev pub found_plain : List Row → List ℕ → List ℕ → Space → List ℕ → List ℕ → Nodes → List Find
-found_plain rows part parent space local tail kids = found_row part space local tail kids (first_row rows parent space local tail)
+abbrev pub found_plain : Table → List ℕ → List ℕ → Space → List ℕ → List ℕ → Nodes → List Find
+found_plain table part parent space local tail kids = found_row part space local tail kids (first_row table.named table.rows parent space local tail)
 
 -- an element in this part, in a parent with this local name
-abbrev pub found_by : Kind → List Row → List ℕ → List ℕ → Space → List ℕ → List ℕ → Nodes → List Find
-found_by kinds.Plain rows part parent space local tail kids = found_plain rows part parent space local tail kids
-found_by kind rows part parent space local tail kids = found_member part (member_fact kind)
+abbrev pub found_by : Kind → Table → List ℕ → List ℕ → Space → List ℕ → List ℕ → Nodes → List Find
+found_by kinds.Plain table part parent space local tail kids = found_plain table part parent space local tail kids
+found_by kind table part parent space local tail kids = found_member part (member_fact kind)
 
-abbrev pub found : List Row → List ℕ → List ℕ → Tag → Nodes → List Find
-found rows part parent tag kids = found_by tag.kind rows part parent tag.space tag.local tag.tail kids
+abbrev pub kind_in : Table → Kind → Kind
+kind_in table kind = if table.by_kind then kind else kinds.Plain
+
+-- ---- names of authors
+
+abbrev pub is_author : Table → List ℕ → Bool
+is_author table text = not (length text == 0) && table.named fact.Name text
+
+-- a text that is the name of an author
+abbrev pub found_told : Table → List ℕ → List ℕ → List Find
+found_told table part text = if is_author table text then record { fact = fact.Name; part = part; value = text } ∷ [] else []
+
+-- a stretch of bytes that shows such a name
+abbrev pub found_text : Table → List ℕ → List ℕ → List Find
+found_text table part b = found_told table part (shown b)
+
+-- an attribute with such a name as its value, which is no `author`
+abbrev pub found_name : Table → List ℕ → Qualified × List ℕ → List Find
+found_name table part attribute =
+    if bytes_eq attribute.0.local (codes "author") then [] else found_told table part (decoded_value attribute.1)
+
+abbrev pub found_among : Table → List ℕ → List (Qualified × List ℕ) → List Find
+found_among table part [] = []
+found_among table part (attribute ∷ attributes) = found_name table part attribute ++ found_among table part attributes
+
+-- the attributes of a tail
+abbrev pub found_names : Table → List ℕ → List ℕ → List Find
+found_names table part tail = found_among table part (attributes_of tail)
+
+-- ---- elements
+
+abbrev pub found : Table → List ℕ → List ℕ → Tag → Nodes → List Find
+found table part parent tag kids =
+    found_by (kind_in table tag.kind) table part parent tag.space tag.local tag.tail kids ++ found_names table part tag.tail
+
+-- an idle element, of which its parent and its kids say nothing
+abbrev pub found_idle : Table → List ℕ → List ℕ → List ℕ → List Find
+found_idle table part local tail = found_plain table part [] spaces.W local tail no_nodes ++ found_names table part tail
 
 -- the part in which an element and all below it are, by the part round it
 abbrev pub part_of : List ℕ → Tag → List ℕ
@@ -174,12 +252,12 @@ part_of part tag =
     if is_part_name tag.space tag.local then value_or_nothing (attribute_value tag.tail (codes "name")) else part
 
 -- the finds among nodes, in the order of their start tags
-abbrev pub finds : List Row → List ℕ → List ℕ → Nodes → List Find
-finds rows part parent no_nodes = []
-finds rows part parent (bytes b rest) = finds rows part parent rest
-finds rows part parent (element tag kids rest) =
-    (found rows (part_of part tag) parent tag kids ++ finds rows (part_of part tag) tag.local kids) ++ finds rows part parent rest
+abbrev pub finds : Table → List ℕ → List ℕ → Nodes → List Find
+finds table part parent no_nodes = []
+finds table part parent (bytes b rest) = found_text table part b ++ finds table part parent rest
+finds table part parent (element tag kids rest) =
+    (found table (part_of part tag) parent tag kids ++ finds table (part_of part tag) tag.local kids) ++ finds table part parent rest
 
--- an element and all below it, and a node
-abbrev pub element_finds : List Row → List ℕ → List ℕ → Tag → Nodes → List Find
-element_finds rows part parent tag kids = found rows part parent tag kids ++ finds rows part tag.local kids
+-- an element and all below it
+abbrev pub element_finds : Table → List ℕ → List ℕ → Tag → Nodes → List Find
+element_finds table part parent tag kids = found table part parent tag kids ++ finds table part tag.local kids

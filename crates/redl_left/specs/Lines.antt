@@ -1,13 +1,13 @@
 -- Lines: the finds of each fact in the order of the document, where those that come one after the other in one part with one value
 -- are one line (our own rule).
-use Rattle.std.specs.Prelude.{List, [], ◌∷◌, ◌++◌, ◌+◌, ◌-◌, ◌^◌, min, get_or, set, replicate, length, slice_get, Bool, false, ◌&&◌, bytes_eq, Option, Some, None, if◌then◌else◌}
+use Rattle.std.specs.Prelude.{List, [], ◌∷◌, ◌++◌, ◌+◌, ◌-◌, ◌^◌, min, get_or, set, replicate, length, slice_get, Bool, true, false, ◌&&◌, bytes_eq, Option, Some, None, if◌then◌else◌}
 use Rattle.redl_tree.specs.Model.Nodes.{Nodes}
 use Rattle.redl_left.specs.Facts.{fact_number}
-use Rattle.redl_left.specs.Finds.{Find, finds}
+use Rattle.redl_left.specs.Named.{named_in}
+use Rattle.redl_left.specs.Finds.{Find, Table, finds}
 use Rattle.redl_left.specs.declared.fact.TheConstants.{FACTS}
 use Rattle.redl_left.specs.declared.line.Line.{Line}
-use Rattle.redl_left.specs.declared.row.Row.{Row}
-use Rattle.redl_left.specs.declared.rows.TheConstants.{ROWS}
+use Rattle.redl_left.specs.declared.rows.TheConstants.{NAMING, ROWS}
 
 -- the line of one find
 abbrev pub line_of : Find → Line
@@ -49,14 +49,25 @@ noted_all tables (find ∷ finds) = noted_all (noted_in tables find) finds
 abbrev pub no_lines : List (List Line)
 no_lines = replicate FACTS []
 
-abbrev pub tables_of_nodes : List Row → Nodes → List (List Line)
-tables_of_nodes rows nodes = noted_all no_lines (finds rows [] [] nodes)
+abbrev pub tables_of_nodes : Table → Nodes → List (List Line)
+tables_of_nodes table nodes = noted_all no_lines (finds table [] [] nodes)
 
 -- fact by fact
 abbrev pub all_lines : List (List Line) → List Line
 all_lines [] = []
 all_lines (lines ∷ tables) = lines ++ all_lines tables
 
+-- what elements name: ids of comments and of notes, and authors
+abbrev pub naming : Table
+naming = record { rows = NAMING; by_kind = false; named = λ fact value. false }
+
+abbrev pub naming_tables : Nodes → List (List Line)
+naming_tables nodes = tables_of_nodes naming nodes
+
+-- what is asked of the elements of a package
+abbrev pub asking : Nodes → Table
+asking nodes = record { rows = ROWS; by_kind = true; named = named_in (naming_tables nodes) }
+
 -- the lines of a package
 unfoldable pub left_lines : Nodes → List Line
-left_lines nodes = all_lines (tables_of_nodes ROWS nodes)
+left_lines nodes = all_lines (tables_of_nodes (asking nodes) nodes)

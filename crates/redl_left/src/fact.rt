@@ -28,29 +28,33 @@ pub enum Fact {
     Undecided = 19,
     LooseMarker = 20,
     Comment = 21,
-    CommentMark = 22,
-    HiddenText = 23,
-    Tracking = 24,
-    Protection = 25,
-    Rsid = 26,
-    Creator = 27,
-    LastEditor = 28,
-    Title = 29,
-    Subject = 30,
-    Manager = 31,
-    Company = 32,
-    Person = 33,
-    CustomProperty = 34,
-    Variable = 35,
-    MailMerge = 36,
-    External = 37,
-    Embedded = 38,
-    Macros = 39,
-    CustomXml = 40,
+    Orphan = 22,
+    CommentMark = 23,
+    UnusedFootnote = 24,
+    UnusedEndnote = 25,
+    HiddenText = 26,
+    Tracking = 27,
+    Protection = 28,
+    Rsid = 29,
+    Creator = 30,
+    LastEditor = 31,
+    Title = 32,
+    Subject = 33,
+    Manager = 34,
+    Company = 35,
+    Person = 36,
+    CustomProperty = 37,
+    Variable = 38,
+    MailMerge = 39,
+    External = 40,
+    Embedded = 41,
+    Macros = 42,
+    CustomXml = 43,
+    Name = 44,
 }
 
 /// How many facts there are.
-pub const FACTS: usize = 41;
+pub const FACTS: usize = 45;
 
 impl Fact {
     // Its place in the order of the lines, from 0.
@@ -87,7 +91,10 @@ impl Fact {
             Fact::Undecided => "undecided",
             Fact::LooseMarker => "loose-marker",
             Fact::Comment => "comment",
+            Fact::Orphan => "orphan",
             Fact::CommentMark => "comment-mark",
+            Fact::UnusedFootnote => "unused-footnote",
+            Fact::UnusedEndnote => "unused-endnote",
             Fact::HiddenText => "hidden-text",
             Fact::Tracking => "tracking",
             Fact::Protection => "protection",
@@ -106,6 +113,7 @@ impl Fact {
             Fact::Embedded => "embedded",
             Fact::Macros => "macros",
             Fact::CustomXml => "custom-xml",
+            Fact::Name => "name",
         }
     }
 }

@@ -1,15 +1,20 @@
 //! What an element is found to be.
 
-ghost use Rattle.std.specs.Prelude.{◌≡◌, IfOk};
+ghost use Rattle.std.specs.Prelude.{◌≡◌, IfOk, not, codes};
+ghost use Rattle.std.specs.List.{list_any};
 ghost use Rattle.std.specs.Option.{option_copied};
+ghost use Rattle.redl_markup.specs.Attributes.{attributes_of};
+ghost use Rattle.redl_reading.specs.Lists.{begins};
 ghost use Rattle.redl_stamp.specs.Attribute.{attribute_value};
 ghost use Rattle.redl_left.specs.Names.{name_text};
-ghost use Rattle.redl_left.specs.Finds.{asks, asks_place, asks_when, begins_value, first_row, is_off, is_part_name, is_value, member_fact, content_fact, mark_fact, prop_fact};
+ghost use Rattle.redl_left.specs.Named.{named_of};
+ghost use Rattle.redl_left.specs.Finds.{asks, asks_place, asks_when, begins_value, is_normal, names_it, first_row, is_off, is_part_name, is_value, member_fact, content_fact, mark_fact, prop_fact};
 
 use crate::fact::Fact;
 use crate::name::Name;
+use crate::named::Named;
 use crate::row::{Place, Row, When};
-use redl_io::Text;
+use redl_markup::next_attribute;
 use redl_reading::skip;
 use redl_stamp::{attribute, has_attribute};
 use redl_tree::{Kind, Prop, Space, Trace};
@@ -42,6 +47,7 @@ fn asks_place(place: &Place, asked: &Asked<'_>) -> bool
             Space::W => asked.local == name.text(),
             _ => false,
         },
+        Place::AnyWord => asked.space == Space::W,
         Place::Inside(outer, name) => match asked.space {
             Space::Other => asked.parent == outer.text() && asked.local == name.text(),
             _ => false,
@@ -68,7 +74,7 @@ fn begins(value: &[u8], front: &[u8]) -> bool
 
 // Whether a tag with this tail switches its property on. `Err` means out of memory.
 fn is_on(alloc: Global, tail: &[u8]) -> Result<bool, AllocError>
-    ensures { IfOk result (λ on. on ≡ asks_when When.On tail.now) }
+    ensures { IfOk result (λ on. on ≡ not (is_off (attribute_value tail.now (codes "val")))) }
 {
     match attribute(alloc, tail, b"val")? {
         Some(value) => Ok(!is_off(value.as_bytes())),
@@ -94,39 +100,87 @@ fn has_front(alloc: Global, tail: &[u8], name: Name, front: Name) -> Result<bool
     }
 }
 
+// Whether a tag with this tail has an attribute whose name begins so.
+fn has_front_name(tail: &[u8], front: &[u8]) -> bool
+    ensures { result ≡ list_any (λ attribute. begins front.now attribute.0.local) (attributes_of tail.now) }
+{
+    let mut left = tail;
+    while let Some((attribute, rest)) = next_attribute(left) {
+        if begins(attribute.name.local, front) {
+            return true;
+        }
+        left = rest;
+    }
+    false
+}
+
+// Whether a tag with this tail is of no type but the normal one. `Err` means out of memory.
+fn is_normal(alloc: Global, tail: &[u8]) -> Result<bool, AllocError>
+    ensures { IfOk result (λ normal. normal ≡ is_normal (attribute_value tail.now (codes "type"))) }
+{
+    match attribute(alloc, tail, b"type")? {
+        Some(kind) => Ok(kind.as_bytes() == b"normal".as_slice()),
+        None => Ok(true),
+    }
+}
+
+// Whether the id of a tag with this tail is named for a fact. `Err` means out of memory.
+fn is_named(alloc: Global, named: &Named<'_>, fact: Fact, tail: &[u8]) -> Result<bool, AllocError>
+    ensures { IfOk result (λ is. is ≡ names_it (named_of named.now fact) (attribute_value tail.now (codes "id"))) }
+{
+    match attribute(alloc, tail, b"id")? {
+        Some(id) => Ok(named.has(fact, id.as_bytes())),
+        None => Ok(false),
+    }
+}
+
+// Whether nothing names an element whose tag has this tail for a fact. `Err` means out of memory.
+fn is_spare(alloc: Global, named: &Named<'_>, fact: Fact, tail: &[u8]) -> Result<bool, AllocError>
+    ensures { IfOk result (λ spare. spare ≡ asks_when (named_of named.now) (When.Spare fact) tail.now) }
+{
+    if !is_normal(alloc, tail)? {
+        return Ok(false);
+    }
+    Ok(!is_named(alloc, named, fact, tail)?)
+}
+
 // Whether a row asks for elements whose tag has this tail. `Err` means out of memory.
-fn asks_when(alloc: Global, when: &When, tail: &[u8]) -> Result<bool, AllocError>
-    ensures { IfOk result (λ asks. asks ≡ asks_when when.now tail.now) }
+fn asks_when(alloc: Global, named: &Named<'_>, when: &When, tail: &[u8]) -> Result<bool, AllocError>
+    ensures { IfOk result (λ asks. asks ≡ asks_when (named_of named.now) when.now tail.now) }
 {
     match when {
         When::Always => Ok(true),
         When::On => is_on(alloc, tail),
         When::Has(name) => Ok(has_attribute(tail, name.text())),
+        When::HasFront(name) => Ok(has_front_name(tail, name.text())),
         When::Is(name, wanted) => has_value(alloc, tail, *name, *wanted),
         When::Begins(name, front) => has_front(alloc, tail, *name, *front),
+        When::Separates => Ok(!is_normal(alloc, tail)?),
+        When::Spare(fact) => is_spare(alloc, named, *fact, tail),
     }
 }
 
 // Whether a row asks for an element. `Err` means out of memory.
-fn asks(alloc: Global, row: &Row, asked: &Asked<'_>) -> Result<bool, AllocError>
-    ensures { IfOk result (λ so. so ≡ asks asked.now.parent.now asked.now.space asked.now.local.now asked.now.tail.now row.now) }
+fn asks(alloc: Global, named: &Named<'_>, row: &Row, asked: &Asked<'_>) -> Result<bool, AllocError>
+    ensures { IfOk result (λ so. so ≡ asks (named_of named.now) asked.now.parent.now asked.now.space asked.now.local.now asked.now.tail.now row.now) }
 {
     if !asks_place(&row.place, asked) {
         return Ok(false);
     }
-    asks_when(alloc, &row.when, asked.tail)
+    asks_when(alloc, named, &row.when, asked.tail)
 }
 
 /// The first row that asks for an element. `Err` means out of memory.
 pub(crate) fn first_row<'r>(
     alloc: Global,
+    named: &Named<'_>,
     rows: &'r [Row],
     asked: &Asked<'_>,
 ) -> Result<Option<&'r Row>, AllocError>
-    ensures { IfOk result (λ found. option_copied found ≡ first_row rows.now asked.now.parent.now asked.now.space asked.now.local.now asked.now.tail.now) }
+    ensures { IfOk result (λ found. option_copied found ≡ first_row (named_of named.now) rows.now asked.now.parent.now asked.now.space asked.now.local.now asked.now.tail.now) }
 {
     for row in rows {
-        if asks(alloc, row, asked)? {
+        if asks(alloc, named, row, asked)? {
             return Ok(Some(row));
         }
     }

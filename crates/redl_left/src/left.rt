@@ -2,31 +2,55 @@
 
 ghost use Rattle.std.specs.Prelude.{◌≡◌, IfOk};
 ghost use Rattle.redl_tree.specs.Model.View.{nodes_of};
-ghost use Rattle.redl_left.specs.Lines.{left_lines, tables_of_nodes};
+ghost use Rattle.redl_left.specs.Lines.{left_lines, naming_tables, tables_of_nodes};
+ghost use Rattle.redl_left.specs.Search.{table_of};
 ghost use Rattle.redl_left.specs.Seen.{tables_of};
 
 use crate::line::Line;
-use crate::row::Row;
-use crate::rows::ROWS;
+use crate::named::Named;
+use crate::rows::{NAMING, ROWS};
+use crate::search::Search;
 use crate::seen::Seen;
 use crate::walk::{Below, look_nodes};
 use redl_tree::Node;
 use std::alloc::{AllocError, Global};
 
 /// The lines of a package with these nodes, in which the members of revisions have their kinds. `Err` means out of memory.
-#[tactic(auto, unfolding(crate::specs::Lines::left_lines))]
 pub fn lines(alloc: Global, nodes: &[Node]) -> Result<Vec<Line>, AllocError>
     ensures { IfOk result (λ lines. lines.items ≡ left_lines (nodes_of nodes.now)) }
 {
-    see(alloc, &ROWS, nodes)?.into_lines()
+    let naming = see_naming(alloc, nodes)?;
+    let named = Named::of(alloc, &naming.tables)?;
+    let search = Search {
+        rows: &ROWS,
+        by_kind: true,
+        named,
+    };
+    let seen = see(alloc, &search, nodes)?;
+    seen.into_lines()
+}
+
+// What names comments, notes and authors. `Err` means out of memory.
+fn see_naming(alloc: Global, nodes: &[Node]) -> Result<Seen, AllocError>
+    ensures { IfOk result (λ seen. tables_of seen ≡ naming_tables (nodes_of nodes.now)) }
+{
+    let search = Search {
+        rows: &NAMING,
+        by_kind: false,
+        named: Named::none(alloc),
+    };
+    see(alloc, &search, nodes)
 }
 
 // What all elements are found to be. `Err` means out of memory.
-fn see(alloc: Global, rows: &[Row], nodes: &[Node]) -> Result<Seen, AllocError>
-    ensures { IfOk result (λ seen. tables_of seen ≡ tables_of_nodes rows.now (nodes_of nodes.now)) }
+fn see(alloc: Global, search: &Search<'_>, nodes: &[Node]) -> Result<Seen, AllocError>
+    ensures { IfOk result (λ seen. tables_of seen ≡ tables_of_nodes (table_of search.now) (nodes_of nodes.now)) }
 {
     let mut seen = Seen::none(alloc)?;
-    let below = Below { rows, part: b"" };
+    let below = Below {
+        search: &*search,
+        part: b"",
+    };
     look_nodes(below, b"", nodes, &mut seen)?;
     Ok(seen)
 }

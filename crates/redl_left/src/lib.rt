@@ -1,9 +1,10 @@
 //! What a document still holds that a reader doesn't see: the nodes of a package go in, lines come out.
 //!
-//! Read `lines` first. It goes once over all nodes, and asks for each element which row of a table (`ROWS`) it is a find of: a row
-//! is a fact, a test of an element, and what is told of it. `lines` promises the finds of each fact in their order, where
-//! neighbours in one part with one value are one line. Which revisions a package has, how their members are marked, and the texts
-//! of the lines are left to other crates.
+//! Read `lines` first. It goes twice over all nodes, and asks for each element which row of a table it is a find of: a row is a
+//! fact, a test of an element, and what is told of it. The first walk finds what names comments, notes and authors (`NAMING`), and
+//! the second one all that is left (`ROWS`), and where else the name of an author stands. `lines` promises the finds of each fact
+//! in their order, where neighbours in one part with one value are one line. Which revisions a package has, how their members are
+//! marked, and the texts of the lines are left to other crates.
 #![tactic(auto)]
 
 mod fact;
@@ -11,9 +12,12 @@ mod find;
 mod left;
 mod line;
 mod name;
+mod named;
+mod names_told;
 mod notes;
 mod row;
 mod rows;
+mod search;
 mod seen;
 mod told;
 mod walk;
@@ -23,4 +27,4 @@ pub use left::lines;
 pub use line::Line;
 pub use name::Name;
 pub use row::{Place, Row, Value, When};
-pub use rows::ROWS;
+pub use rows::{NAMING, ROWS};

@@ -8,6 +8,8 @@ use crate::name::Name;
 pub enum Place {
     /// Those of WordprocessingML with this local name that are in no revision.
     Word(Name),
+    /// All of WordprocessingML that are in no revision.
+    AnyWord,
     /// Those of no namespace that is known here, with this local name, in an element with that one.
     Inside(Name, Name),
     /// The parts of the package.
@@ -23,10 +25,16 @@ pub enum When {
     On,
     /// Those that have this attribute.
     Has(Name),
+    /// Those that have an attribute whose name begins so.
+    HasFront(Name),
     /// Those of which this attribute has this value.
     Is(Name, Name),
     /// Those of which this attribute begins so.
     Begins(Name, Name),
+    /// Those with another `type` than `normal`, as separators of notes have.
+    Separates,
+    /// Those with no `type` but `normal`, whose `id` no element names for this fact.
+    Spare(Fact),
 }
 
 /// What is told of an element.
@@ -40,6 +48,8 @@ pub enum Value {
     Made,
     /// What it shows, unless it is of WordprocessingML.
     Shown,
+    /// This attribute, and what the first element in it shows.
+    Held(Name),
 }
 
 /// A fact, and which elements are its finds.

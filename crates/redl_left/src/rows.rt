@@ -1,11 +1,52 @@
-//! The table.
+//! The tables.
 
 use crate::fact::Fact;
 use crate::name::Name;
 use crate::row::{Place, Row, Value, When};
 
-/// The rows. An element is a find of the first row that asks for it.
-pub static ROWS: [Row; 66] = [
+/// What names a comment, a footnote or an endnote by its id, and who is named as an author. The id of a separator counts as named,
+/// since the settings name separators by an element of the same name.
+pub static NAMING: [Row; 6] = [
+    Row {
+        fact: Fact::CommentMark,
+        place: Place::Word(Name::CommentReference),
+        when: When::Has(Name::Id),
+        value: Value::Attribute(Name::Id),
+    },
+    Row {
+        fact: Fact::UnusedFootnote,
+        place: Place::Word(Name::FootnoteReference),
+        when: When::Has(Name::Id),
+        value: Value::Attribute(Name::Id),
+    },
+    Row {
+        fact: Fact::UnusedEndnote,
+        place: Place::Word(Name::EndnoteReference),
+        when: When::Has(Name::Id),
+        value: Value::Attribute(Name::Id),
+    },
+    Row {
+        fact: Fact::UnusedFootnote,
+        place: Place::Word(Name::Footnote),
+        when: When::Separates,
+        value: Value::Attribute(Name::Id),
+    },
+    Row {
+        fact: Fact::UnusedEndnote,
+        place: Place::Word(Name::Endnote),
+        when: When::Separates,
+        value: Value::Attribute(Name::Id),
+    },
+    Row {
+        fact: Fact::Name,
+        place: Place::AnyWord,
+        when: When::Has(Name::Author),
+        value: Value::Attribute(Name::Author),
+    },
+];
+
+/// The rows of what is left. An element is a find of the first row that asks for it.
+pub static ROWS: [Row; 59] = [
     Row {
         fact: Fact::Undecided,
         place: Place::Word(Name::NumberingChange),
@@ -175,6 +216,12 @@ pub static ROWS: [Row; 66] = [
         value: Value::Made,
     },
     Row {
+        fact: Fact::Orphan,
+        place: Place::Word(Name::Comment),
+        when: When::Spare(Fact::CommentMark),
+        value: Value::Attribute(Name::Author),
+    },
+    Row {
         fact: Fact::Comment,
         place: Place::Word(Name::Comment),
         when: When::Always,
@@ -184,6 +231,18 @@ pub static ROWS: [Row; 66] = [
         fact: Fact::CommentMark,
         place: Place::Word(Name::CommentReference),
         when: When::Always,
+        value: Value::Nothing,
+    },
+    Row {
+        fact: Fact::UnusedFootnote,
+        place: Place::Word(Name::Footnote),
+        when: When::Spare(Fact::UnusedFootnote),
+        value: Value::Nothing,
+    },
+    Row {
+        fact: Fact::UnusedEndnote,
+        place: Place::Word(Name::Endnote),
+        when: When::Spare(Fact::UnusedEndnote),
         value: Value::Nothing,
     },
     Row {
@@ -225,97 +284,25 @@ pub static ROWS: [Row; 66] = [
     Row {
         fact: Fact::Rsid,
         place: Place::Word(Name::P),
-        when: When::Has(Name::RsidR),
-        value: Value::Nothing,
-    },
-    Row {
-        fact: Fact::Rsid,
-        place: Place::Word(Name::P),
-        when: When::Has(Name::RsidRPr),
-        value: Value::Nothing,
-    },
-    Row {
-        fact: Fact::Rsid,
-        place: Place::Word(Name::P),
-        when: When::Has(Name::RsidP),
-        value: Value::Nothing,
-    },
-    Row {
-        fact: Fact::Rsid,
-        place: Place::Word(Name::P),
-        when: When::Has(Name::RsidRDefault),
-        value: Value::Nothing,
-    },
-    Row {
-        fact: Fact::Rsid,
-        place: Place::Word(Name::P),
-        when: When::Has(Name::RsidDel),
+        when: When::HasFront(Name::Rsid),
         value: Value::Nothing,
     },
     Row {
         fact: Fact::Rsid,
         place: Place::Word(Name::R),
-        when: When::Has(Name::RsidR),
-        value: Value::Nothing,
-    },
-    Row {
-        fact: Fact::Rsid,
-        place: Place::Word(Name::R),
-        when: When::Has(Name::RsidRPr),
-        value: Value::Nothing,
-    },
-    Row {
-        fact: Fact::Rsid,
-        place: Place::Word(Name::R),
-        when: When::Has(Name::RsidDel),
+        when: When::HasFront(Name::Rsid),
         value: Value::Nothing,
     },
     Row {
         fact: Fact::Rsid,
         place: Place::Word(Name::Tr),
-        when: When::Has(Name::RsidR),
-        value: Value::Nothing,
-    },
-    Row {
-        fact: Fact::Rsid,
-        place: Place::Word(Name::Tr),
-        when: When::Has(Name::RsidRPr),
-        value: Value::Nothing,
-    },
-    Row {
-        fact: Fact::Rsid,
-        place: Place::Word(Name::Tr),
-        when: When::Has(Name::RsidTr),
-        value: Value::Nothing,
-    },
-    Row {
-        fact: Fact::Rsid,
-        place: Place::Word(Name::Tr),
-        when: When::Has(Name::RsidDel),
+        when: When::HasFront(Name::Rsid),
         value: Value::Nothing,
     },
     Row {
         fact: Fact::Rsid,
         place: Place::Word(Name::SectPr),
-        when: When::Has(Name::RsidR),
-        value: Value::Nothing,
-    },
-    Row {
-        fact: Fact::Rsid,
-        place: Place::Word(Name::SectPr),
-        when: When::Has(Name::RsidRPr),
-        value: Value::Nothing,
-    },
-    Row {
-        fact: Fact::Rsid,
-        place: Place::Word(Name::SectPr),
-        when: When::Has(Name::RsidSect),
-        value: Value::Nothing,
-    },
-    Row {
-        fact: Fact::Rsid,
-        place: Place::Word(Name::SectPr),
-        when: When::Has(Name::RsidDel),
+        when: When::HasFront(Name::Rsid),
         value: Value::Nothing,
     },
     Row {
@@ -364,7 +351,7 @@ pub static ROWS: [Row; 66] = [
         fact: Fact::CustomProperty,
         place: Place::Inside(Name::Properties, Name::Property),
         when: When::Always,
-        value: Value::Attribute(Name::Called),
+        value: Value::Held(Name::Called),
     },
     Row {
         fact: Fact::Variable,
@@ -391,9 +378,21 @@ pub static ROWS: [Row; 66] = [
         value: Value::Nothing,
     },
     Row {
+        fact: Fact::Embedded,
+        place: Place::Part,
+        when: When::Is(Name::ContentType, Name::OleObject),
+        value: Value::Nothing,
+    },
+    Row {
         fact: Fact::Macros,
         place: Place::Part,
-        when: When::Is(Name::ContentType, Name::VbaProject),
+        when: When::Begins(Name::ContentType, Name::VbaProject),
+        value: Value::Nothing,
+    },
+    Row {
+        fact: Fact::Macros,
+        place: Place::Part,
+        when: When::Is(Name::ContentType, Name::VbaData),
         value: Value::Nothing,
     },
     Row {

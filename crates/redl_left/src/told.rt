@@ -1,14 +1,16 @@
 //! What is told of an element.
 
-ghost use Rattle.std.specs.Prelude.{◌≡◌, ◌++◌, false, codes, IfOk};
+ghost use Rattle.std.specs.Prelude.{◌≡◌, ◌++◌, false, codes, IfOk, OnOk, unwrap_or};
 ghost use Rattle.redl_shown.specs.Shown.{shown};
 ghost use Rattle.redl_tree.specs.Model.Kids.{has_element};
 ghost use Rattle.redl_tree.specs.Model.Nodes.{Nodes, no_nodes, in_front};
 ghost use Rattle.redl_tree.specs.Model.View.{nodes_of, item_of};
 ghost use Rattle.redl_stamp.specs.Attribute.{attribute_value};
-ghost use Rattle.redl_left.specs.Finds.{value_of, value_or_nothing, by_whom, front_shown, shown_alone};
+ghost use Rattle.redl_left.specs.Names.{name_text};
+ghost use Rattle.redl_left.specs.Finds.{value_of, value_or_nothing, by_whom, front_shown, shown_alone, inner_shown, inner_of, after_colon};
 
 use crate::find::Asked;
+use crate::name::Name;
 use crate::row::Value;
 use redl_io::{MemSink, Text};
 use redl_shown::put_shown;
@@ -42,8 +44,8 @@ fn made(alloc: Global, local: &[u8], tail: &[u8]) -> Result<Text, AllocError>
     Text::copy_of(alloc, &text)
 }
 
-// What bytes show. `Err` means out of memory.
-fn shown(alloc: Global, bytes: &[u8]) -> Result<Text, AllocError>
+/// What bytes show. `Err` means out of memory.
+pub(crate) fn shown(alloc: Global, bytes: &[u8]) -> Result<Text, AllocError>
     ensures { IfOk result (λ text. text ≡ shown bytes.now) }
 {
     let mut sink = MemSink::new(alloc, bytes.len(), Vec::new(alloc))?;
@@ -78,6 +80,62 @@ fn shown_node(alloc: Global, node: &Node) -> Result<Text, AllocError>
     }
 }
 
+// What a node shows that is an element, and holds no other one. `None` exactly where it is bytes. `Err` means out of memory.
+fn element_shown(alloc: Global, node: &Node) -> Result<Option<Text>, AllocError>
+    ensures { (rest : Nodes) → IfOk result (λ text. unwrap_or text (inner_shown rest) ≡ inner_shown (in_front (item_of node.now) rest)) }
+{
+    match node {
+        Node::Elem(elem) => Ok(Some(shown_alone(alloc, elem.space(), elem.kids())?)),
+        Node::Plain(_) => Ok(Some(Text::copy_of(alloc, b"")?)),
+        Node::Bytes(_) => Ok(None),
+    }
+}
+
+// What the first element among kids shows. `Err` means out of memory.
+fn inner_shown(alloc: Global, kids: &[Node]) -> Result<Text, AllocError>
+    ensures { IfOk result (λ text. text ≡ inner_shown (nodes_of kids.now)) }
+{
+    for node in kids {
+        if let Some(text) = element_shown(alloc, node)? {
+            return Ok(text);
+        }
+    }
+    Text::copy_of(alloc, b"")
+}
+
+// The same of an element in this namespace; of WordprocessingML nothing is told here. `Err` means out of memory.
+fn inner_of(alloc: Global, space: Space, kids: &[Node]) -> Result<Text, AllocError>
+    ensures { IfOk result (λ text. text ≡ inner_of space (nodes_of kids.now)) }
+{
+    match space {
+        Space::W => Text::copy_of(alloc, b""),
+        _ => inner_shown(alloc, kids),
+    }
+}
+
+// Adds a text after a colon, unless it is empty. `Err` means out of memory.
+fn push_after_colon(front: &mut Vec<u8>, text: &[u8]) -> Result<(), AllocError>
+    ensures { OnOk result (front.new.items ≡ front.old.items ++ after_colon text.now) }
+{
+    if text.is_empty() {
+        return Ok(());
+    }
+    front.extend_from_slice(b": ")?;
+    front.extend_from_slice(text)?;
+    Ok(())
+}
+
+// An attribute, and what the first element among the kids shows. `Err` means out of memory.
+fn held(alloc: Global, name: Name, asked: &Asked<'_>, kids: &[Node]) -> Result<Text, AllocError>
+    ensures { IfOk result (λ text. text ≡ value_or_nothing (attribute_value asked.now.tail.now (name_text name)) ++ after_colon (inner_of asked.now.space (nodes_of kids.now))) }
+{
+    let called = attribute_or_nothing(alloc, asked.tail, name.text())?;
+    let inner = inner_of(alloc, asked.space, kids)?;
+    let mut text = Vec::from_slice(alloc, called.as_bytes())?;
+    push_after_colon(&mut text, inner.as_bytes())?;
+    Text::copy_of(alloc, &text)
+}
+
 /// What a row tells of an element with these kids. `Err` means out of memory.
 pub(crate) fn value_of(
     alloc: Global,
@@ -92,5 +150,6 @@ pub(crate) fn value_of(
         Value::Attribute(name) => attribute_or_nothing(alloc, asked.tail, name.text()),
         Value::Made => made(alloc, asked.local, asked.tail),
         Value::Shown => shown_alone(alloc, asked.space, kids),
+        Value::Held(name) => held(alloc, *name, asked, kids),
     }
 }

@@ -1,5 +1,6 @@
 -- A row that asks is the first of those that are left.
 use Rattle.std.proofs.Common.{sym, ◌∙◌}
+use Rattle.redl_left.specs.Named.{named_of}
 use Rattle.redl_left.specs.declared.fact.Fact.TheVariants.{Ins}
 use Rattle.redl_left.specs.declared.name.Name.TheVariants.{NumberingChange}
 use Rattle.redl_left.specs.declared.row.Place.TheVariants.{Word}
@@ -17,6 +18,6 @@ pub returns-then-branch : goal.returns-then-branch
 unfolding no_row
 returns-then-branch c =
     let asked = c.args.asked.now in
-    row_here c.args.rows.now c.loop-row.row-index no_row asked.parent.now asked.space asked.local.now asked.tail.now c.loop-row-test.true
+    row_here (named_of c.args.named.now) c.args.rows.now c.loop-row.row-index no_row asked.parent.now asked.space asked.local.now asked.tail.now c.loop-row-test.true
     (sym c.in_ok-asks.ensures ∙ c.if-branch.true)
     ∙ c.loop-row.invariant

@@ -4,6 +4,7 @@ use Rattle.std.proofs.lemmas.Result.{on_ok_weaker}
 use Rattle.redl_tree.specs.Model.IdleTexts.{idle_nodes}
 use Rattle.redl_left.specs.Finds.{Find, finds}
 use Rattle.redl_left.specs.Lines.{noted_all}
+use Rattle.redl_left.specs.Search.{table_of}
 use Rattle.redl_left.specs.Seen.{tables_of}
 use Rattle.redl_left.proofs.EncodeLaws.{same_finds}
 use Rattle.redl_left.proofs.FindLaws.{shown_idle}
@@ -14,4 +15,4 @@ returns c = λ parent.
     on_ok_weaker c.show.result (λ n.
     n.noted
     ∙ ap (λ (xs : List Find). noted_all (tables_of c.args.seen.now) xs)
-    (same_finds n.finds (finds c.args.below.rows.now c.args.below.part.now parent (idle_nodes c.args.plain.now)) (sym n.is ∙ shown_idle c.args.below parent c.args.plain.now))) c.show.ensures
+    (same_finds n.finds (finds (table_of c.args.below.search.now) c.args.below.part.now parent (idle_nodes c.args.plain.now)) (sym n.is ∙ shown_idle c.args.below parent c.args.plain.now))) c.show.ensures

@@ -1,0 +1,147 @@
+//! Where the name of an author stands as a text or as a value.
+
+ghost use Rattle.std.specs.Prelude.{◌≡◌, IfSome, OnOk};
+ghost use Rattle.redl_markup.specs.Decoding.{decoded_value};
+ghost use Rattle.redl_markup.specs.Views.{attribute_view};
+ghost use Rattle.redl_shown.specs.Shown.{shown};
+ghost use Rattle.redl_left.specs.Finds.{found_among, found_name, found_names, found_text, found_told, is_author};
+ghost use Rattle.redl_left.specs.Lines.{noted_all};
+ghost use Rattle.redl_left.specs.Search.{table_of};
+ghost use Rattle.redl_left.specs.Seen.{tables_of};
+
+use crate::fact::Fact;
+use crate::search::Search;
+use crate::seen::Seen;
+use crate::told::shown;
+use redl_markup::{Attribute, decode_value, is_literal, next_attribute};
+use redl_shown::{Piece, next_shown, start};
+use std::alloc::AllocError;
+
+fn is_author(search: &Search<'_>, text: &[u8]) -> bool
+    ensures { result ≡ is_author (table_of search.now) text.now }
+{
+    !text.is_empty() && search.named.has(Fact::Name, text)
+}
+
+// Notes a text if it is the name of an author. `Err` means out of memory.
+fn note_told(
+    search: &Search<'_>,
+    part: &[u8],
+    text: &[u8],
+    seen: &mut Seen,
+) -> Result<(), AllocError>
+    ensures { OnOk result (tables_of seen.new ≡ noted_all (tables_of seen.old) (found_told (table_of search.now) part.now text.now)) }
+{
+    if is_author(search, text) {
+        return seen.note(Fact::Name, part, text);
+    }
+    Ok(())
+}
+
+// What bytes show, where all of them are shown as they are.
+fn one_run(bytes: &[u8]) -> Option<&[u8]>
+    ensures { IfSome result (λ run. shown bytes.now ≡ run.now) }
+{
+    let step = next_shown(start(), bytes)?;
+    if !step.rest.is_empty() {
+        return None;
+    }
+    match step.piece {
+        Piece::Bytes(run) => Some(run),
+        _ => None,
+    }
+}
+
+// Notes what a stretch of bytes shows if it is the name of an author. `Err` means out of memory.
+fn note_shown(
+    search: &Search<'_>,
+    part: &[u8],
+    bytes: &[u8],
+    seen: &mut Seen,
+) -> Result<(), AllocError>
+    ensures { OnOk result (tables_of seen.new ≡ noted_all (tables_of seen.old) (found_text (table_of search.now) part.now bytes.now)) }
+{
+    if let Some(run) = one_run(bytes) {
+        return note_told(search, part, run, seen);
+    }
+    let text = shown(seen.alloc, bytes)?;
+    note_told(search, part, text.as_bytes(), seen)
+}
+
+/// The same; where nothing is named, nothing is looked at.
+pub(crate) fn note_text(
+    search: &Search<'_>,
+    part: &[u8],
+    bytes: &[u8],
+    seen: &mut Seen,
+) -> Result<(), AllocError>
+    ensures { OnOk result (tables_of seen.new ≡ noted_all (tables_of seen.old) (found_text (table_of search.now) part.now bytes.now)) }
+{
+    if search.named.is_empty() {
+        return Ok(());
+    }
+    note_shown(search, part, bytes, seen)
+}
+
+// Notes a decoded value if it is the name of an author. `Err` means out of memory.
+fn note_value(
+    search: &Search<'_>,
+    part: &[u8],
+    value: &[u8],
+    seen: &mut Seen,
+) -> Result<(), AllocError>
+    ensures { OnOk result (tables_of seen.new ≡ noted_all (tables_of seen.old) (found_told (table_of search.now) part.now (decoded_value value.now))) }
+{
+    if is_literal(value) {
+        return note_told(search, part, value, seen);
+    }
+    let text = decode_value(seen.alloc, value)?;
+    note_told(search, part, &text, seen)
+}
+
+// Notes the value of an attribute, other than an `author`, if it is the name of an author. `Err` means out of memory.
+fn note_name(
+    search: &Search<'_>,
+    part: &[u8],
+    attribute: &Attribute<'_>,
+    seen: &mut Seen,
+) -> Result<(), AllocError>
+    ensures { OnOk result (tables_of seen.new ≡ noted_all (tables_of seen.old) (found_name (table_of search.now) part.now (attribute_view attribute.now))) }
+{
+    if attribute.name.local == b"author".as_slice() {
+        return Ok(());
+    }
+    note_value(search, part, attribute.value, seen)
+}
+
+// Notes the values of a tail that are names of authors. `Err` means out of memory.
+fn note_among(
+    search: &Search<'_>,
+    part: &[u8],
+    tail: &[u8],
+    seen: &mut Seen,
+) -> Result<(), AllocError>
+    ensures { OnOk result (tables_of seen.new ≡ noted_all (tables_of seen.old) (found_names (table_of search.now) part.now tail.now)) }
+{
+    let mut left = tail;
+    while let Some((attribute, rest)) = next_attribute(left) {
+        note_name(search, part, &attribute, seen)?;
+        left = rest;
+    }
+    Ok(())
+}
+
+/// The same; where nothing is named, nothing is looked at.
+pub(crate) fn note_names(
+    search: &Search<'_>,
+    part: &[u8],
+    tail: &[u8],
+    seen: &mut Seen,
+) -> Result<(), AllocError>
+    ensures { OnOk result (tables_of seen.new ≡ noted_all (tables_of seen.old) (found_names (table_of search.now) part.now tail.now)) }
+{
+    if search.named.is_empty() {
+        return Ok(());
+    }
+    note_among(search, part, tail, seen)
+}
