@@ -3,6 +3,7 @@
     python3 left.py PACKAGE [text|json]
 """
 import json
+import re
 import sys
 
 import reading
@@ -10,16 +11,25 @@ import texts
 
 FACTS = (
     "ins del move-from move-to mark-ins mark-del mark-from mark-to row-ins row-del cell-ins cell-del run-props para-props "
-    "sect-props table-props except-props row-props cell-props undecided loose-marker comment comment-mark hidden-text tracking "
+    "sect-props table-props except-props row-props cell-props undecided loose-marker comment orphan comment-mark "
+    "unused-footnote unused-endnote hidden-text tracking "
     "protection rsid creator last-editor title subject manager company person custom-property variable mail-merge external "
-    "embedded macros custom-xml"
+    "embedded macros custom-xml name"
 ).split()
 RANGES = ["customXml%sRange%s" % (what, end) for what in ("Ins", "Del", "MoveFrom", "MoveTo") for end in ("Start", "End")]
 MARKS = {"numberingChange", "tblGridChange", "cellMerge", "cellIns", "cellDel", *RANGES, *reading.CONTENT, *reading.CHANGES}
 OFF = {"0", "false", "off"}
 CORE = {"creator": "creator", "lastModifiedBy": "last-editor", "title": "title", "subject": "subject"}
 EXTENDED = {"Manager": "manager", "Company": "company"}
-PACKAGES = {"http://schemas.microsoft.com/office/2006/xmlPackage"}
+PLACES = {
+    "commentReference": "comment-mark",
+    "footnoteReference": "unused-footnote",
+    "endnoteReference": "unused-endnote",
+}
+NOTES = {"footnote": "unused-footnote", "endnote": "unused-endnote"}
+MACROS = "application/vnd.ms-office.vbaProject"
+VBA_DATA = "application/vnd.ms-word.vbaData+xml"
+OLE_OBJECT = "application/vnd.openxmlformats-officedocument.oleObject"
 
 
 def made(element):
@@ -35,7 +45,28 @@ def alone(element):
     return texts.shown("".join(element.kids))
 
 
-def word_find(element):
+def named_in(package):
+    """Which ids elements name of comments, footnotes and endnotes, those of separators too, and who is named as an author."""
+    named = {fact: set() for fact in [*PLACES.values(), "name"]}
+    for element in reading.elements(package.nodes):
+        fact = PLACES.get(element.local)
+        if element.local in NOTES and element.attribute("type") not in (None, "normal"):
+            fact = NOTES[element.local]
+        if element.space != "W":
+            continue
+        if fact is not None and element.attribute("id") is not None:
+            named[fact].add(element.attribute("id"))
+        elif element.attribute("author") is not None:
+            named["name"].add(element.attribute("author"))
+    return named
+
+
+def is_spare(element, ids):
+    """Nothing names an element of a note or of a comment; separators of notes aren't asked for."""
+    return element.attribute("type") in (None, "normal") and element.attribute("id") not in ids
+
+
+def word_find(element, named):
     """The fact and the value of an element of WordprocessingML that is in no revision, or None."""
     local, value = element.local, element.attribute
     if local in MARKS:
@@ -43,9 +74,11 @@ def word_find(element):
     if local in reading.MARKERS:
         return "loose-marker", made(element)
     if local == "comment":
-        return "comment", value("author") or ""
+        return "orphan" if is_spare(element, named["comment-mark"]) else "comment", value("author") or ""
     if local == "commentReference":
         return "comment-mark", ""
+    if local in NOTES:
+        return (NOTES[local], "") if is_spare(element, named[NOTES[local]]) else None
     if local == "vanish" and value("val") not in OFF:
         return "hidden-text", ""
     if local == "trackRevisions" and value("val") not in OFF:
@@ -54,12 +87,23 @@ def word_find(element):
         return "protection", ""
     if local in ("rsid", "rsidRoot"):
         return "rsid", ""
-    own = {"p": "R RPr P RDefault Del", "r": "R RPr Del", "tr": "R RPr Tr Del", "sectPr": "R RPr Sect Del"}
-    if any(value("rsid" + end) is not None for end in own.get(local, "").split()):
+    if local in ("p", "r", "tr", "sectPr") and any(name.startswith("rsid") for name, _ in attributes_of(element)):
         return "rsid", ""
     if local == "docVar":
         return "variable", value("name") or ""
     return ("mail-merge", "") if local == "mailMerge" else None
+
+
+def attributes_of(element):
+    """The local names and the decoded values of the attributes."""
+    found = re.findall(r"""([\w:.-]+)\s*=\s*(["'])(.*?)\2""", element.tail, re.S)
+    return [(name.rpartition(":")[2], reading.decoded(value)) for name, _, value in found]
+
+
+def held(element):
+    """The name of a custom property, and after a colon what the first element in it shows."""
+    first = next((alone(kid) for kid in element.kids if isinstance(kid, reading.Element)), "")
+    return (element.attribute("name") or "") + (": " + first if first else "")
 
 
 def other_find(element, parent):
@@ -70,7 +114,7 @@ def other_find(element, parent):
     if (parent, element.local) == ("people", "person"):
         return "person", element.attribute("author") or ""
     if (parent, element.local) == ("Properties", "property"):
-        return "custom-property", element.attribute("name") or ""
+        return "custom-property", held(element)
     if (parent, element.local) == ("Relationships", "Relationship") and element.attribute("TargetMode") == "External":
         return "external", element.attribute("Target") or ""
     return None
@@ -78,26 +122,27 @@ def other_find(element, parent):
 
 def part_find(element):
     """The same of a part."""
-    if element.attribute("name").startswith("/word/embeddings/"):
+    name, kind = element.attribute("name"), element.attribute("contentType") or ""
+    if name.startswith("/word/embeddings/") or kind == OLE_OBJECT:
         return "embedded", ""
-    if element.attribute("contentType") == "application/vnd.ms-office.vbaProject":
+    if kind.startswith(MACROS) or kind == VBA_DATA:
         return "macros", ""
-    return ("custom-xml", "") if element.attribute("name").startswith("/customXml/") else None
+    return ("custom-xml", "") if name.startswith("/customXml/") else None
 
 
-def found(element, parent):
+def found(element, parent, named):
     if element.role == "marker":
         return None
     if element.role is not None:
         return reading.kind_name(element), ""
     if element.is_w(element.local):
-        return word_find(element)
+        return word_find(element, named)
     return other_find(element, parent) if element.space == "other" else None
 
 
 def left(package):
     """The lines, as lists of fact, count, part and value."""
-    tables = {fact: [] for fact in FACTS}
+    tables, named = {fact: [] for fact in FACTS}, named_in(package)
 
     def note(find, part):
         if find is None:
@@ -109,16 +154,21 @@ def left(package):
         else:
             lines.append([fact, 1, part, value])
 
-    def look(nodes, part, parent):
-        for kid in nodes:
-            if isinstance(kid, reading.Element):
-                note(found(kid, parent), part)
-                look(kid.kids, part, kid.local)
+    def note_names(texts, part):
+        for text in texts:
+            note(("name", text) if text and text in named["name"] else None, part)
 
-    root = next(node for node in package.nodes if isinstance(node, reading.Element))
-    for part in (kid for kid in root.kids if isinstance(kid, reading.Element)):
-        note(part_find(part), part.attribute("name"))
-        look(part.kids, part.attribute("name"), "part")
+    def look(nodes, part, parent, depth):
+        for kid in nodes:
+            if not isinstance(kid, reading.Element):
+                note_names([texts.shown(kid)], part)
+                continue
+            inner = kid.attribute("name") if depth == 1 else part
+            note(part_find(kid) if depth == 1 else found(kid, parent, named), inner)
+            note_names([value for name, value in attributes_of(kid) if name != "author"], inner)
+            look(kid.kids, inner, kid.local, depth + 1)
+
+    look(package.nodes, "", "", 0)
     return [line for fact in FACTS for line in tables[fact]]
 
 
