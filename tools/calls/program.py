@@ -1,6 +1,8 @@
 """A process of the program, over files in memory. (The library for processes would take as long to load as the program to run.)"""
 import os
-import signal
+
+# SIGPIPE and SIGXFSZ, of which Python takes no notice, and the program should.
+DEFAULT_SIGNALS = (13, 25)
 
 
 class Running:
@@ -17,8 +19,7 @@ class Running:
             actions.append((os.POSIX_SPAWN_DUP2, self.caught, 1))
         self.lines = open(read, "rb")
         try:
-            # (Python takes no notice of a reader that is gone, and the program should)
-            self.process = os.posix_spawn(words[0], words, os.environ, file_actions=actions, setsigdef=[signal.SIGPIPE, signal.SIGXFSZ])
+            self.process = os.posix_spawn(words[0], words, os.environ, file_actions=actions, setsigdef=DEFAULT_SIGNALS)
         finally:
             os.close(write)
 

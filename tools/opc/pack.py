@@ -6,7 +6,7 @@ import zipfile
 
 from opc.archive import TYPES, TYPES_ITEM
 from opc.tidy import without_unused_notes
-from opc.xml import DECLARATION, KEPT, MARK, PACKAGE, TAG, NotOfTheForm, parse, parser_of, quoted
+from opc.xml import DECLARATION, KEPT, MARK, PACKAGE, NotOfTheForm, end_of_tag, parse, parser_of, quoted
 
 RELATIONSHIPS = "application/vnd.openxmlformats-package.relationships+xml"
 
@@ -46,8 +46,8 @@ def parts_of(data):
 
 def data_of(name, element, part):
     """The bytes of a part, given the element of its data without the end tag."""
-    tag = TAG.match(element)
-    inside = element[tag.end() :] if tag else b""
+    # (an element without content is the one tag at which it ends)
+    inside = element[end_of_tag(element, 0) :] if element else b""
     if name == PACKAGE + " binaryData":
         try:
             return base64.b64decode(b"".join(inside.split()), validate=True)

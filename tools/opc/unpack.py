@@ -1,20 +1,24 @@
 """A package of a .docx."""
 import binascii
-import re
 
 from opc.archive import TYPES_ITEM, items_of, types_of
 from opc.tidy import tidied
 from opc.xml import DECLARATION, KEPT, MARK, PACKAGE, NotOfTheForm, counted, parse, parser_of, quoted
 
-# The bytes of a part that a line of Base64 has, and the name of an encoding in a declaration.
+# The bytes of a part that a line of Base64 has.
 LINE = 57
-ENCODING = re.compile(rb"""encoding\s*=\s*["']([^"']*)["']""")
+
+
+def encoding_of(declaration):
+    """The name of the encoding that a declaration tells, in small letters."""
+    _, is_told, rest = declaration.partition(b"encoding")
+    value = rest.lstrip()[1:].lstrip()
+    return value[1:].partition(value[:1])[0].lower() if is_told else b"utf-8"
 
 
 def is_read_so(declaration, data):
     """Whether a part with this declaration is what it is read as, UTF-8: it may say so, nothing, or that all of it is ASCII."""
-    encoding = ENCODING.search(declaration)
-    name = encoding.group(1).lower() if encoding else b"utf-8"
+    name = encoding_of(declaration)
     return name == b"utf-8" or name == b"us-ascii" and data.isascii()
 
 

@@ -1,5 +1,4 @@
 """What is read as XML: parsers, the names of a document's elements, and the forms of declarations."""
-import re
 from xml.parsers import expat
 
 PACKAGE = "http://schemas.microsoft.com/office/2006/xmlPackage"
@@ -12,7 +11,6 @@ WORD_SPACES = (
 DECLARATION = b'<?xml version="1.0" encoding="UTF-8" standalone="yes"?>'
 KEPT = b"<?part-declaration"
 MARK = b"\xef\xbb\xbf"
-TAG = re.compile(rb"""<(?:[^>"']|"[^"]*"|'[^']*')*>""")
 
 
 class NotOfTheForm(Exception):
@@ -65,4 +63,16 @@ def word_attribute(attributes, local):
 
 def end_of(data, begin, at):
     """The byte after an element that begins at `begin`, where the parser is `at` its end tag or at the one tag that it is."""
-    return TAG.match(data, max(begin, at)).end()
+    return end_of_tag(data, max(begin, at))
+
+
+def end_of_tag(data, begin):
+    """The byte after the start tag that begins here. A value may hold ">"."""
+    at = begin
+    while True:
+        close = data.index(b">", at)
+        tag = data[at:close]
+        if b"'" not in tag and tag.count(b'"') % 2 == 0:
+            return close + 1
+        quote = min(data.index(mark, at) for mark in (b'"', b"'") if mark in tag)
+        at = data.index(data[quote : quote + 1], quote + 1) + 1

@@ -2,6 +2,7 @@
 
 What is read was called sound by redline before, so it is well-formed, has namespaces and no document type declaration.
 """
+from opc.xml import end_of_tag
 
 # The names of the spaces that are asked for, each in a word. Another space is the word "".
 SPACES = {
@@ -83,18 +84,6 @@ def text_of(raw):
             out.append(REFERENCES[name])
         out.append(rest)
     return "".join(out)
-
-
-def end_of_tag(data, begin):
-    """The byte after the start tag that begins here. A value may hold ">"."""
-    at = begin
-    while True:
-        close = data.index(b">", at)
-        tag = data[at:close]
-        if b"'" not in tag and tag.count(b'"') % 2 == 0:
-            return close + 1
-        quote = min((data.index(mark, at) for mark in (b'"', b"'") if mark in tag))
-        at = data.index(data[quote : quote + 1], quote + 1) + 1
 
 
 def attributes_of(data, at, end):
