@@ -9,7 +9,9 @@ from scrub.scrubbed import Scrubbed
 USAGE, TRACKED, FAULTY = 2, 14, 15
 NOTHING_TRACKED = b"sound 0 revisions\n"
 # Facts of `redline left` that no name of ours takes, and that are told as left.
-TOLD = ("undecided", "hidden-text", "external", "embedded", "macros", "custom-xml")
+TOLD = ("undecided", "hidden-text", "external", "embedded", "macros", "custom-xml", "name")
+# Facts that a name of ours takes which is not theirs.
+UNUSED = ("unused-footnote", "unused-endnote")
 
 
 class Fault(Exception):
@@ -64,11 +66,13 @@ def checked(program, made, document):
     return left
 
 
-def expected(made, name):
+def expected(made, fact):
     """How often a fact may be left."""
-    if name in ("comment", "comment-mark", "orphan"):
-        return made.comments if name == "comment" else float("inf")
-    return sum(kept == name for kept, _ in made.kept) if name in made.taken else float("inf")
+    name = "note" if fact in UNUSED else fact
+    if name not in made.taken:
+        return float("inf")
+    # (comments that are kept are on nothing, where those on text are taken)
+    return made.comments if name == "comment" else sum(kept == name for kept, _ in made.kept)
 
 
 def counts_of(listed):

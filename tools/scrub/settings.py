@@ -3,8 +3,8 @@
 # The values of a property that switch it off.
 OFF = ("0", "false", "off")
 MARKED = ("p", "r", "tr", "sectPr")
-# The attributes by which one sees what was written in one sitting, and the elements that list the sittings.
-RSID_ATTRIBUTES = ("rsidR", "rsidRPr", "rsidRDefault", "rsidP", "rsidDel", "rsidSect", "rsidTr")
+# How the attributes begin by which one sees what was written in one sitting, and the elements that list the sittings.
+RSID = "rsid"
 RSID_ELEMENTS = ("rsids", "rsid", "rsidRoot")
 # By the name of what is taken, its elements.
 ELEMENTS = {
@@ -21,7 +21,7 @@ WANTED = sum(ELEMENTS.values(), ("docVars", "docVar"))
 def places_of_rsids(element):
     """The places of the attributes of sittings in an element's start tag."""
     if element.local in MARKED and element.data.find(b"rsid", element.name_end, element.inside) >= 0:
-        return [(begin, end) for _, local, _, begin, end in element.attributes() if local in RSID_ATTRIBUTES]
+        return [(begin, end) for _, local, _, begin, end in element.attributes() if local.startswith(RSID)]
     return ()
 
 
