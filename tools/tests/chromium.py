@@ -37,8 +37,6 @@ ARGUMENTS = ["--headless=new", "--no-sandbox", "--disable-gpu", "--hide-scrollba
 
 class Chromium(Browser):
     name = "chromium"
-    # Switches of its engine, V8.
-    flags = ""
 
     @staticmethod
     def is_there():
@@ -54,7 +52,7 @@ class Chromium(Browser):
         self.base = "http://127.0.0.1:" + port.group(1)
         options = {
             "binary": shutil.which("chromium"),
-            "args": ARGUMENTS + ["--user-data-dir=" + self.folder + "/profile", "--js-flags=" + self.flags],
+            "args": ARGUMENTS + ["--user-data-dir=" + self.folder + "/profile"],
             "prefs": {"download.default_directory": self.folder, "download.prompt_for_download": False},
         }
         wanted = {"browserName": "chrome", "goog:chromeOptions": options, "goog:loggingPrefs": {"browser": "ALL"}}

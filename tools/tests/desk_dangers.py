@@ -44,25 +44,6 @@ RUNS = {
     "a comment of XML that ends": "<!-- - -> %s - ->-->" % RUN,
     "an instruction": "<?xml-stylesheet type='text/xsl' href='%s'?><?php echo 1 ?>" % EVIL_PLACE,
     "a section of characters": "<w:r><w:t><![CDATA[%s</main></body>]]></w:t></w:r>" % RUN,
-    "60,000 marks on a letter": "<w:r><w:t>a%s</w:t></w:r>" % ("\u0301" * 60000),
-    "text that turns": "<w:r><w:t>\u202e%s\u202d\u2066\u2067\u061c</w:t></w:r>" % "window.ran=1"[::-1],
-    "300,000 letters without a space": "<w:r><w:t>%s</w:t></w:r>" % ("x" * 300000),
-}
-# What stands between paragraphs.
-BLOCKS = {
-    "imported HTML": '<w:altChunk %s r:id="rId1"/>' % R,
-    "a document in parts": '<w:subDoc %s r:id="rId1"/>' % R,
-    "custom XML": '<w:customXml w:uri="%s" w:element="%s"><w:p/></w:customXml>' % (EVIL_PLACE, QUOTED_RUN),
-    "tables 100 deep": "<w:tbl><w:tr><w:tc>" * 100 + "<w:p/>" + "</w:tc></w:tr></w:tbl><w:p/>" * 100,
-    "a row of 3,000 cells": "<w:tbl><w:tr>%s</w:tr></w:tbl>" % ("<w:tc><w:p/></w:tc>" * 3000),
-    "a cell over 99,999 columns": '<w:tbl><w:tr><w:tc><w:tcPr><w:gridSpan w:val="99999"/><w:vMerge/></w:tcPr><w:p/></w:tc></w:tr></w:tbl>',
-}
-# Parts beside the document, each with its root.
-PARTS = {
-    "settings with a template and data from outside": ("/word/settings.xml", "settings", '<w:attachedTemplate %s r:id="rId1"/><w:mailMerge><w:query w:val="SELECT * FROM x"/><w:dataSource %s r:id="rId1"/></w:mailMerge><w:docVars><w:docVar w:name="x" w:val="%s"/></w:docVars>' % (R, R, QUOTED_RUN)),
-    "a page that is framed": ("/word/webSettings.xml", "webSettings", '<w:frameset><w:frame><w:sourceFileName %s r:id="rId1"/></w:frame></w:frameset>' % R),
-    "fonts that are fetched": ("/word/fontTable.xml", "fonts", '<w:font w:name="%s"><w:embedRegular %s r:id="rId1"/></w:font>' % (QUOTED_RUN, R)),
-    "a glossary": ("/word/glossary/document.xml", "glossaryDocument", "<w:docParts><w:docPart><w:docPartBody><w:p><w:r><w:t>%s</w:t></w:r></w:p></w:docPartBody></w:docPart></w:docParts>" % QUOTED_RUN),
 }
 
 
@@ -77,7 +58,5 @@ def documents(change):
     """Each document with this change in it, by its name. All have relations to what is outside."""
     paragraph = "<w:p><w:r><w:t>seen</w:t></w:r>%s" + change + "</w:p>"
     wholes = {name: in_package(paragraph % inside) for name, inside in RUNS.items()}
-    wholes.update({name: in_package(block + paragraph % "") for name, block in BLOCKS.items()})
-    wholes.update({name: in_package(paragraph % "", [part]) for name, part in PARTS.items()})
     outside = related([EVIL_PLACE, "file:///etc/passwd", "javascript:window.ran=1", "\\\\evil.example\\share\\x.dotm", "data:text/html,%s" % QUOTED_RUN])
     return {name: whole.replace("</pkg:package>", outside + "</pkg:package>") for name, whole in wholes.items()}

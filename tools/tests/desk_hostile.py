@@ -71,7 +71,6 @@ def dangerous_documents(driven):
         is_quiet = it.run(RAN) == [None, None, None] and it.requests() == [] and it.run(STRANGE) == 0
         told("a document with %s: nothing runs, leaves or is shown in its place" % name, is_quiet and "no change is tracked" in shown, str([it.run(RAN), it.requests(), shown]))
         it.step("decide")
-    same("no complaint of the browser on any of them", driven.complaints(), [])
 
 
 def zeros(says):

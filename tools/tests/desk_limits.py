@@ -8,7 +8,6 @@ import os
 import re
 import sys
 
-from chromium import Chromium
 from desk_seen import Desk, built, example, read
 from page_large import large_package
 from page_seen import TOP, same, told
@@ -90,32 +89,6 @@ def deep_documents(driven):
         for step in ["standing", "written", "save"]:
             it.step(step)
             told("%s 512 deep: %s, or it is told why not" % (name, step), not it.is_fault() or TOO_DEEP in it.message(), it.message())
-        for what, where in [("text", "more"), ("report", "more"), ("listing", "more"), ("document", "document")]:
-            it.press("#save-" + what)
-            said = it.text("#save-%s-told" % where)
-            told("%s 512 deep: the %s is saved, or it is told why not" % (name, what), "Saved as" in said or TOO_DEEP in said, said)
 
 
-class LittleStack(Chromium):
-    """A browser whose engine has less stack for a script and for the program."""
-
-    flags = "--stack-size=100"
-
-
-def little_stack(driven):
-    """The same where there is little stack: it is told, and nothing is saved."""
-    if driven.name != "chromium":
-        return print("skipped %sa browser with little stack: it has no switch for it" % told.browser)
-    smaller = LittleStack()
-    try:
-        it = begun(smaller)
-        said = it.drop(("tables.xml", (make.FRONT + make.DEEP["tables"]() + make.BACK).encode()))
-        told("with little stack it is told that tables are too deep", it.is_fault() and TOO_DEEP in said, said)
-        stays(it, "with little stack")
-        it.step("save")
-        told("and that is saved", it.saves("#save-document", "contract.decided.xml").startswith(b"<?xml"))
-    finally:
-        smaller.close()
-
-
-CASES = [little_memory, deep_documents, little_stack]
+CASES = [little_memory, deep_documents]
