@@ -217,8 +217,8 @@ def far_parts_follow(driven):
     same("the rest follows", set(seen.run(SEEN_PARTS % "")), {"final"})
     last = "return getComputedStyle([...document.querySelectorAll('main del')].at(-1)).visibility"
     same("and looks so", seen.run(last), "hidden")
-    now = seen.run(SEEN_PARTS % (CLICKED % "original" + "; (window.wrappedJSObject || window).redline.choose(8000)"))
-    same("what is chosen has the view too", now[-1], "original")
+    chosen = "; (window.wrappedJSObject || window).redline.choose(8000); return document.querySelector('main [data-revision=\"8000\"]').closest('.far').dataset.seen"
+    same("what is chosen has the view too", seen.run(CLICKED % "original" + chosen), "original")
     for kind in ["copy", "beforeprint"]:
         now = seen.run(SEEN_PARTS % (CLICKED % "final" + "; dispatchEvent(new Event('%s'))" % kind))
         same("all has it for " + kind, set(now), {"final"})
