@@ -71,6 +71,9 @@ def expected(made, fact):
     name = "note" if fact in UNUSED else fact
     if name not in made.taken:
         return float("inf")
+    # (what the settings say of separators that the document doesn't have is told as notes too)
+    if fact in UNUSED:
+        return made.separators
     # (comments that are kept are on nothing, where those on text are taken)
     return made.comments if name == "comment" else sum(kept == name for kept, _ in made.kept)
 

@@ -1,4 +1,6 @@
 """Comments, with what marks their places and what other parts say of them; and notes that no reference names."""
+from collections import Counter
+
 from scrub.tokens import elements
 
 MARKS = ("commentRangeStart", "commentRangeEnd", "commentReference")
@@ -77,13 +79,50 @@ def cut_what_is_said_of(package, paragraphs):
 
 
 def take_notes(package):
-    """Cuts the notes that no reference names, and answers how many. Separators are no notes."""
-    count = 0
+    """Cuts the notes that no reference names, or only one in what goes, and answers how many. Separators are no notes."""
+    notes = {}
     for local in ("footnote", "endnote"):
-        used = {id_of(reference) for reference, _ in package.named(local + "Reference")}
         for note, part in package.named(local):
-            is_note = note.parent.is_w(local + "s") and (note.value("type") or "normal") == "normal"
-            if is_note and id_of(note) not in used:
-                package.cut(note, part)
-                count += 1
+            if note.parent.is_w(local + "s") and (note.value("type") or "normal") == "normal":
+                notes.setdefault((local, id_of(note)), []).append((note, part))
+    named, within = references_of(package)
+    count, waiting = 0, [key for key in notes if not named[key]]
+    while waiting:
+        for note, part in notes[waiting.pop()]:
+            package.cut(note, part)
+            count += 1
+            for key in within.get(id(note), ()):
+                named[key] -= 1
+                if not named[key] and key in notes:
+                    waiting.append(key)
     return count
+
+
+def separators(package):
+    """How many elements name a separator of notes, in the settings of a document, and are no notes."""
+    return sum(not element.parent.is_w(local + "s") for local in ("footnote", "endnote") for element, _ in package.named(local))
+
+
+def references_of(package):
+    """How many references that stay name each note, and which notes those in each element of a note name."""
+    cut = {id(element) for elements in package.cut_elements.values() for element in elements}
+    named, within = Counter(), {}
+    for local in ("footnote", "endnote"):
+        for reference, _ in package.named(local + "Reference"):
+            above = elements_above(reference)
+            if cut.isdisjoint(map(id, above)):
+                key = (local, id_of(reference))
+                named[key] += 1
+                for element in above:
+                    if element.local in ("footnote", "endnote"):
+                        within.setdefault(id(element), []).append(key)
+    return named, within
+
+
+def elements_above(element):
+    """The elements that an element stands in."""
+    above = []
+    while element.parent is not None:
+        element = element.parent
+        above.append(element)
+    return above

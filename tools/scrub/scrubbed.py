@@ -35,6 +35,7 @@ class Scrubbed:
             self.counts.update(going)
         if "note" in self.taken:
             self.counts["note"] = comments.take_notes(package)
+            self.separators = comments.separators(package)
 
     def note(self, name, count, kept):
         """So many went of this name, and those with these names stay."""
