@@ -3,9 +3,7 @@ import os
 import sys
 
 from opc.files import Fault, read, refuse_overwriting, write
-from opc.pack import pack
 from opc.terminal import masked
-from opc.unpack import unpack
 from opc.xml import NotOfTheForm
 
 NAME = "flatopc"
@@ -66,9 +64,14 @@ def convert(command, switches, source, target, seen):
         if "-f" not in switches:
             refuse_overwriting(target)
         data = read(source)
+        # (packing needs a library that takes long to load)
         if command == "unpack":
+            from opc.unpack import unpack
+
             made = unpack(data, "--tidy" in switches, say)
         else:
+            from opc.pack import pack
+
             made = pack(data, "--drop-unused-notes" in switches, say)
         write(target, made)
     except NotOfTheForm as error:
