@@ -1,3 +1,4 @@
 pub mod Marks
 pub mod Stories
+pub mod Decided
 mod Rows

@@ -1,5 +1,6 @@
 -- Paragraphs by hand: which marks stay.
-use Rattle.std.proofs.Common.{◌≡◌, refl, List, [], ◌∷◌}
+use Rattle.std.proofs.Common.{◌≡◌, refl, List, [], ◌∷◌, map}
+use Rattle.redl_stays_sound.specs.Decided.{decided}
 use Rattle.redl_stays_sound.specs.Kept.{kept_marks, marks}
 use Rattle.redl_tree.proofs.Model.Build.{content, deleted_run, opened, run, tag_in}
 use Rattle.redl_tree.specs.Decisions.Pass.{pass}
@@ -47,3 +48,16 @@ row_gone = (refl, refl)
 
 row_settled : both (Accept ∷ Accept ∷ Accept ∷ []) []
 row_settled = (refl, refl)
+
+-- what is decided of the story, and that none of it is in what a pass leaves
+abbrev gone : List Say → List Tag → Type 0
+gone says tags = (map (λ one. one.tag) (decided says (story text_of)) ≡ tags) × (decided says (story (pass says (root ∷ []) text_of)) ≡ [])
+
+row_none : gone [] []
+row_none = (refl, refl)
+
+row_two : gone (Accept ∷ Keep ∷ Reject ∷ []) (insertion ∷ deletion ∷ [])
+row_two = (refl, refl)
+
+row_all : gone (Reject ∷ Accept ∷ Accept ∷ []) (insertion ∷ inner ∷ deletion ∷ [])
+row_all = (refl, refl)

@@ -1,5 +1,6 @@
 //! What a pass leaves of the marks of revisions.
 
+ghost use Rattle.redl_stays_sound.specs.Decided.{DecidedGo};
 ghost use Rattle.redl_stays_sound.specs.Kept.{KeptStay};
 ghost use Rattle.redl_tree.specs.Revisions.Markers.{Value};
 
@@ -7,4 +8,10 @@ ghost use Rattle.redl_tree.specs.Revisions.Markers.{Value};
 /// with the say Keep, in their order and with their tags, but for those in what goes.
 pub fn kept_marks_stay()
     ensures { (value : Value) → KeptStay value }
+{}
+
+/// After any pass of an indexed package, no element of a story is a member of a revision that is decided, nor a marker of such a move, wherever
+/// it stands: among the content, in properties, or in what a rejected change brought back.
+pub fn decided_marks_go()
+    ensures { (value : Value) → DecidedGo value }
 {}
