@@ -1,6 +1,6 @@
 //! Which leaves hold members and markers of which revisions.
 
-ghost use Rattle.std.specs.Prelude.{◌≡◌, ◌+◌, ◌||◌, ℕ, nat_lt, OnOk, IfOk};
+ghost use Rattle.std.specs.Prelude.{◌≡◌, ◌+◌, ◌<◌, ◌^◌, ◌||◌, ℕ, nat_lt, OnOk, IfOk, IsOk};
 ghost use Rattle.std.specs.List.Sorted.{IsNonDecreasingBy};
 ghost use Rattle.redl_editor.specs.Holdings.{HoldsOf, Notes, is_held, is_touched, nodes_hold, item_holds, slots_hold, view_holds, view_count};
 ghost use Rattle.redl_leaves.specs.View.{leaf_view, leaf_model, present_of, states_of, view_of, container_of};
@@ -101,7 +101,14 @@ fn note_leaf(leaf: &Leaf, number: u32, held: &mut Vec<Held>) -> Result<u32, Allo
     ensures held { OnOk result (Notes (view_holds number (leaf_view (leaf_model leaf.now) (present_of leaf.now))) held.old.items held.new.items) }
 {
     note_nodes(&leaf.original, number, held)?;
-    // A package has fewer nodes than there are numbers.
+    number_after(number)
+}
+
+// The number of the next leaf. A package has fewer nodes than there are numbers.
+fn number_after(number: u32) -> Result<u32, AllocError>
+    ensures next { IfOk result (λ next. next ≡ number + 1) }
+    ensures fits { number + 1 < 2 ^ 32 → IsOk result }
+{
     number.checked_add(1).ok_or(AllocError)
 }
 

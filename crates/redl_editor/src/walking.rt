@@ -1,6 +1,6 @@
 //! A walk that notes the ways to the leaves of slots.
 
-ghost use Rattle.std.specs.Prelude.{◌≡◌, ◌∷◌, [], OnOk, IfOk, map};
+ghost use Rattle.std.specs.Prelude.{◌≡◌, ◌<◌, ◌^◌, ◌∷◌, [], OnOk, IfOk, IsOk, map};
 ghost use Rattle.redl_editor.specs.Places.{HasWays};
 ghost use Rattle.redl_leaves.specs.View.{states_of, view_of, container_of};
 ghost use Rattle.redl_editor.specs.Inside.Walks.{AddsWays, ways_in};
@@ -81,7 +81,8 @@ fn add_leaf(way: &mut Vec<u32>, places: &mut Places) -> Result<(), AllocError>
 
 /// A place in a list, as a number that ways and leaves are kept by.
 pub(crate) fn slot_number(at: usize) -> Result<u32, AllocError>
-    ensures { IfOk result (λ number. number ≡ at) }
+    ensures number { IfOk result (λ number. number ≡ at) }
+    ensures fits { at < 2 ^ 32 → IsOk result }
 {
     // A package has fewer nodes than there are numbers.
     match u32::try_from(at) {

@@ -10,7 +10,7 @@ pub add_slot-returns : goal.add_slot-returns
 add_slot-returns t c =
     let front = c.args.way.now.items in
     adds-slot (ways_in (view_of c.args.slot.now)) front c.push.new.self.items c.add_below.new.way.items c.pop.new.self.items c.args.at c.args.places.now c.add_below.new.places
-    (c.in_ok-push.ensures.items ∙ ap (λ n. front ++ n ∷ []) c.in_ok-number.ensures)
+    (c.in_ok-push.ensures.items ∙ ap (λ n. front ++ n ∷ []) c.in_ok-number.ensures.number)
     c.in_ok-add_below.ensures
     (λ is.
     let shorter : vec_len c.add_below.new.way - 1 ≡ length front = omega (arith, ap length is, length-append front (c.args.at ∷ [])) in
