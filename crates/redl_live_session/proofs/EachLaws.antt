@@ -3,8 +3,9 @@ use Rattle.std.proofs.Common.{◌≡◌, ◌∙◌, sym, ap, List, [], ◌∷◌
 use Rattle.redl_join.specs.Books.{with_entry}
 use Rattle.redl_journal.specs.declared.entry.Entry.{Entry}
 use Rattle.redl_session.proofs.Admissions.{after-append}
+use Rattle.redl_live_session.specs.Consistency.{StopsBefore}
 use Rattle.redl_session.specs.Refusals.{IsCause, cause_of}
-use Rattle.redl_session.specs.Sessions.{SessionState, StopsAfter, after, after_entry}
+use Rattle.redl_session.specs.Sessions.{SessionState, after, after_entry}
 use Rattle.redl_session.specs.declared.refusal.AdmitError.{AdmitError}
 use Rattle.redl_session.specs.declared.refusal.AdmitError.TheVariants.{Unknown, Locked, NoMemory}
 
@@ -35,11 +36,13 @@ after-one start old new entries entry is made =
     made ∙ ap (λ (state : SessionState). after_entry state entry) is ∙ sym (after-append start entries (entry ∷ []))
 
 -- a session that stopped before an entry
-pub stops-before : (start old new : SessionState) (entries rest all : List Entry) → old ≡ after start entries → entries ++ rest ≡ all → new ≡ old
-    → StopsAfter start new all
-stops-before start old new entries rest all is whole same = record {
+pub stops-before : (start old new : SessionState) (entries : List Entry) (next : Entry) (rest all : List Entry) → old ≡ after start entries
+    → entries ++ next ∷ rest ≡ all → new ≡ old → cause_of old.revisions old.locks next ≡ None → StopsBefore start new all
+stops-before start old new entries next rest all is whole same free = record {
   first = entries;
+  next = next;
   rest = rest;
   splits = sym whole;
   state = same ∙ is;
+  admitted = rw same free;
 }

@@ -1,8 +1,10 @@
 //! Entries that the document follows one by one.
 
-ghost use Rattle.std.specs.Prelude.{◌≡◌, All, OnOk, OnErr};
+ghost use Rattle.std.specs.Prelude.{◌≡◌, All, None, OnOk, OnErr};
 ghost use Rattle.redl_journal.specs.Journals.{IsAllowed};
-ghost use Rattle.redl_session.specs.Sessions.{StopsAfter, after, after_entry};
+ghost use Rattle.redl_live_session.specs.Consistency.{StopsBefore};
+ghost use Rattle.redl_session.specs.Refusals.{cause_of};
+ghost use Rattle.redl_session.specs.Sessions.{after, after_entry};
 
 use crate::live_session::LiveSession;
 use redl_journal::Entry;
@@ -12,11 +14,12 @@ use std::alloc::AllocError;
 /// Admits these entries, one after another, and drops the refused ones. The editor has the say of each entry before the next one
 /// comes; where only the last state is wanted, `LiveSession::admit_many` is faster.
 ///
-/// `Err` means out of memory: a first part of the entries was admitted.
+/// `Err` means out of memory: the entries before one that would be admitted are in the session, and no later one. A refused entry
+/// ends nothing.
 pub fn admit_each(session: &mut LiveSession, entries: Vec<Entry>) -> Result<(), AllocError>
     requires { All IsAllowed entries.items }
     ensures after { OnOk result (session.new ≡ after session.old entries.items) }
-    ensures stopped { OnErr result (StopsAfter session.old session.new entries.items) }
+    ensures stopped { OnErr result (StopsBefore session.old session.new entries.items) }
 {
     for entry in entries {
         admit_or_drop(session, entry)?;
@@ -29,6 +32,7 @@ fn admit_or_drop(session: &mut LiveSession, entry: Entry) -> Result<(), AllocErr
     requires { IsAllowed entry }
     ensures after { OnOk result (session.new ≡ after_entry session.old entry) }
     ensures untouched { OnErr result (session.new ≡ session.old) }
+    ensures admitted { OnErr result (cause_of session.old.revisions session.old.locks entry ≡ None) }
 {
     match session.admit(entry) {
         Ok(_) => Ok(()),
