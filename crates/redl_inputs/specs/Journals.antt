@@ -9,7 +9,9 @@ use Rattle.redl_io.specs.Shelf.{Files}
 use Rattle.redl_join.specs.Books.{union}
 use Rattle.redl_journal.specs.Journals.{Journal}
 use Rattle.redl_journal.specs.declared.entry.Entry.{Entry}
-use Rattle.redl_lines.specs.Failures.{Failure, caused, malformed, other_document, other_count}
+use Rattle.redl_journal.specs.declared.error.JournalError.{JournalError}
+use Rattle.redl_journal.specs.declared.error.JournalError.TheVariants as error
+use Rattle.redl_lines.specs.Failures.{Failure, caused, no_memory, malformed, other_document, other_count}
 use Rattle.redl_lines.specs.declared.failure.Limit.TheVariants.{JournalBytes}
 use Rattle.redl_tree.specs.Model.Nodes.{Nodes}
 
@@ -26,6 +28,11 @@ document_of whole nodes = record { digest = sha256 whole; count = package_revisi
 abbrev pub journal_or_none : List ℕ → Option Journal → Result Journal Failure
 journal_or_none name None = Err (caused (malformed name))
 journal_or_none name (Some journal) = Ok journal
+
+-- why a call ends where the journal of this name was not read
+abbrev pub journal_failure : List ℕ → JournalError → Failure
+journal_failure name error.Malformed = caused (malformed name)
+journal_failure name error.NoMemory = no_memory
 
 -- the entries of a journal that is one of this document
 abbrev pub entries_in : DocumentId → List ℕ → Journal → Result (List Entry) Failure

@@ -3,8 +3,9 @@
 ghost use Rattle.std.specs.Prelude.{◌≡◌, ◌<◌, ◌≤◌, ◌^◌, ◌∷◌, [], IfOk, IsUtf8, length};
 ghost use Rattle.redl_inputs.specs.Packages.{package_file};
 ghost use Rattle.redl_inputs.specs.Reading.{ReadsFiles, front_of};
-ghost use Rattle.redl_inputs.specs.Steps.{held, file};
+ghost use Rattle.redl_inputs.specs.Steps.{fetch_failure, held, file};
 ghost use Rattle.redl_inputs.specs.Views.{result_view};
+ghost use Rattle.redl_lines.specs.Failures.{failure_view};
 
 use redl_io::{Shelf, ShelfError, Text};
 use redl_lines::{Cause, Failure, Limit};
@@ -68,8 +69,17 @@ fn fetch_front<'a, F: Shelf>(
 {
     match shelf.fetch(alloc, name, cap) {
         Ok(bytes) => Ok(bytes),
-        Err(ShelfError::NoMemory) => Err(Failure::NoMemory),
-        Err(ShelfError::Failed) => Err(Failure::Unread(name)),
-        Err(ShelfError::Missing) => Err(Failure::Unread(name)),
+        Err(error) => Err(unread_file(name, error)),
+    }
+}
+
+// Why a call ends where the shelf gave no bytes of the file of this name.
+fn unread_file<'a>(name: &'a str, error: ShelfError) -> Failure<'a>
+    ensures { failure_view result ≡ fetch_failure name.now error }
+{
+    match error {
+        ShelfError::NoMemory => Failure::NoMemory,
+        ShelfError::Failed => Failure::Unread(name),
+        ShelfError::Missing => Failure::Unread(name),
     }
 }

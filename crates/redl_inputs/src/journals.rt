@@ -2,9 +2,10 @@
 
 ghost use Rattle.std.specs.Prelude.{◌≡◌, ◌<◌, ◌≤◌, ◌^◌, ◌∷◌, [], All, IsUtf8, IfOk, OnOk};
 ghost use Rattle.redl_inputs.specs.Admission.{admission_left, admission_of};
-ghost use Rattle.redl_inputs.specs.Journals.{entries_of, first_journal, journal_at, journal_or_none, union_with};
+ghost use Rattle.redl_inputs.specs.Journals.{entries_of, first_journal, journal_at, journal_failure, journal_or_none, union_with};
 ghost use Rattle.redl_inputs.specs.Reading.{ReadsFiles, Reads};
 ghost use Rattle.redl_inputs.specs.Views.{admission_view, document_view, known_view, result_view};
+ghost use Rattle.redl_lines.specs.Failures.{failure_view};
 ghost use Rattle.redl_join.specs.Books.{union};
 ghost use Rattle.redl_journal.specs.Journals.{IsAllowed};
 ghost use Rattle.redl_journal.specs.Views.{journal_of};
@@ -179,7 +180,16 @@ fn parse<'a>(alloc: Global, name: &'a str, bytes: &[u8]) -> Result<Journal, Fail
 {
     match read(alloc, bytes) {
         Ok(journal) => Ok(journal),
-        Err(JournalError::Malformed) => Err(Failure::Cause(Cause::Malformed(name))),
-        Err(JournalError::NoMemory) => Err(Failure::NoMemory),
+        Err(error) => Err(unread_journal(name, error)),
+    }
+}
+
+// Why a call ends where the journal of this name was not read.
+fn unread_journal<'a>(name: &'a str, error: JournalError) -> Failure<'a>
+    ensures { failure_view result ≡ journal_failure name.now error }
+{
+    match error {
+        JournalError::Malformed => Failure::Cause(Cause::Malformed(name)),
+        JournalError::NoMemory => Failure::NoMemory,
     }
 }
