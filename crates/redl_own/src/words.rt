@@ -1,16 +1,16 @@
 //! The words of a command line, as the program copies them.
 
-ghost use Rattle.std.specs.Prelude.{◌≡◌, ◌++◌, ◌∷◌, [], drop, map, All, IfOk, IsUtf8, OnOk, OnErr};
+ghost use Rattle.std.specs.Prelude.{◌≡◌, ◌++◌, ◌∷◌, [], drop, map, All, IfOk, IsErr, IsUtf8, OnOk, OnErr};
 ghost use Rattle.std.specs.String.{string_bytes};
 ghost use Rattle.std.specs.Vec.Iter.{into_iter_items};
 
 use redl_io::Text;
 use redl_words::WordsError;
 use std::alloc::{AllocError, Global};
-use std::env;
 use std::env::Args;
 use std::io::ErrorKind;
 use std::rt::Env;
+use std::{env, io};
 
 /// Adds a copy of a word. `Err` means out of memory.
 pub fn add_word(alloc: Global, words: &mut Vec<Text>, word: &str) -> Result<(), AllocError>
@@ -28,8 +28,17 @@ pub fn add_word(alloc: Global, words: &mut Vec<Text>, word: &str) -> Result<(), 
 pub fn given_words(rt: &(impl Env + AllocGlobal)) -> Result<Vec<Text>, WordsError>
     ensures { IfOk result (λ words. All IsUtf8 words.items) }
 {
-    match env::args(rt) {
-        Ok(args) => match copy_words(rt.alloc(), args) {
+    words_of(rt.alloc(), env::args(rt))
+}
+
+/// The words after the program's name, of the arguments as the system gave them. `Usage` where one of them isn't UTF-8.
+pub fn words_of(alloc: Global, args: io::Result<Args>) -> Result<Vec<Text>, WordsError>
+    ensures given { IfOk result (λ words. IfOk args (λ all. words.items ≡ map string_bytes (drop 1 (into_iter_items all)))) }
+    ensures unread { IsErr args → IsErr result }
+    ensures utf8 { IfOk result (λ words. All IsUtf8 words.items) }
+{
+    match args {
+        Ok(args) => match copy_words(alloc, args) {
             Ok(words) => Ok(words),
             Err(_) => Err(WordsError::NoMemory),
         },
