@@ -72,10 +72,10 @@ is_writing : (reader : Reader) (files : Files) (p : List ℕ) (locks : List Lock
     → package_file files p >>= written reader files locks journals ≡ Ok writing → IsWriting files p locks journals (outcome_of (Ok writing)).status writing.bytes
 is_writing reader files p locks journals writing is made =
     let file = both_ok (package_file files p) (written reader files locks journals) writing made in
-    let opens = both_ok (opened reader files locks journals file.x) (λ admission. Ok (resolved admission)) writing file.second in
+    let opens = both_ok (opened reader files locks journals file.x) (λ admission. Ok (resolved locks admission)) writing file.second in
     let read = both_ok (package_in reader file.x) (opened_over reader files locks journals file.x) opens.x opens.first in
     let entries = both_ok (gathered reader files (document_of file.x read.x) journal_bytes journals) (λ entries. Ok (admission_with (no_admission file.x read.x locks) entries)) opens.x read.second in
-    let same : resolved (admission_with (no_admission file.x read.x locks) entries.x) ≡ writing = ap resolved (same_ok entries.second) ∙ same_ok opens.second in
+    let same : resolved locks (admission_with (no_admission file.x read.x locks) entries.x) ≡ writing = ap (resolved locks) (same_ok entries.second) ∙ same_ok opens.second in
     let says = verdicts read.x locks entries.x in
     record {
       whole = file.x;

@@ -10,7 +10,7 @@ use Rattle.redl_lines.specs.declared.failure.Limit.TheVariants.{PackageBytes, Jo
 use Rattle.redl_lines.specs.declared.failure.PackageFault.{PackageFault}
 use Rattle.redl_lines.specs.declared.failure.PackageFault.TheVariants.{NotReadable, NotPackage, PartShape, NoDocument, Rule}
 use Rattle.redl_lines.specs.declared.note.Note.{Note}
-use Rattle.redl_lines.specs.declared.note.Note.TheVariants.{Undecided}
+use Rattle.redl_lines.specs.declared.note.Note.TheVariants.{Undecided, Gone}
 use Rattle.redl_kinds.specs.declared.lock.Lock.{Lock}
 use Rattle.redl_kinds.specs.declared.lock.Lock.TheVariants as lock
 use Rattle.redl_session.specs.declared.refusal.AdmitError.{AdmitError}
@@ -177,6 +177,11 @@ one_mark_line = codes "redline: note: 1 mark is left that Redline does not decid
 abbrev pub marks_line : List ℕ → List ℕ
 marks_line number = codes "redline: note: " ++ (number ++ (codes " marks are left that Redline does not decide: see redline left" ++ newline))
 
+-- the line of a locked revision of which nothing is left
+abbrev pub gone_line : List ℕ → List ℕ
+gone_line number = codes "redline: note: locked revision " ++ (number ++ (codes " went with what was around it" ++ newline))
+
 -- the line of a note
 abbrev pub note_line : Note → List ℕ
 note_line (Undecided number) = if number == 1 then one_mark_line else marks_line (decimal number)
+note_line (Gone number) = gone_line (decimal number)

@@ -4,7 +4,7 @@ ghost use Rattle.std.specs.Prelude.{◌≡◌, ◌++◌, codes, decimal, OnOk, O
 ghost use Rattle.std.specs.Io.KnownBytes.{append_known};
 ghost use Rattle.std.specs.List.{flat_map};
 ghost use Rattle.redl_lines.specs.Ends.{Tells, end_lines, end_view, remark_lines};
-ghost use Rattle.redl_lines.specs.Lines.{cause_text, decision_text, idle_line, marks_line, note_line, one_mark_line, ranked_text, refused_line, bar_text as bar_text_of, why_text as why_text_of};
+ghost use Rattle.redl_lines.specs.Lines.{cause_text, decision_text, gone_line, idle_line, marks_line, note_line, one_mark_line, ranked_text, refused_line, bar_text as bar_text_of, why_text as why_text_of};
 ghost use Rattle.redl_lines.specs.Remarks.{remarks_view};
 ghost use Rattle.redl_io.specs.Sink.{Puts, GrowsByFront, CountsPut};
 ghost use Rattle.redl_journal.specs.Journals.{word_text};
@@ -182,6 +182,7 @@ fn write_note<K: Sink>(note: &Note, err: &mut K) -> Result<(), Failed>
 {
     match note {
         Note::Undecided(number) => write_undecided(*number, err),
+        Note::Gone(number) => write_gone(*number, err),
     }
 }
 
@@ -193,6 +194,26 @@ fn write_undecided<K: Sink>(number: u64, err: &mut K) -> Result<(), Failed>
     }
     let mut digits = Buffer::new();
     write_marks(digits.format(number), err)
+}
+
+fn write_gone<K: Sink>(number: u32, err: &mut K) -> Result<(), Failed>
+    ensures { Puts K.told K.faults K.settled K.lenders err.old err.new (note_line (Note.Gone number)) result }
+{
+    let mut digits = Buffer::new();
+    write_locked(digits.format(number), err)
+}
+
+fn write_locked<K: Sink>(number: &str, err: &mut K) -> Result<(), Failed>
+    ensures { Puts K.told K.faults K.settled K.lenders err.old err.new (gone_line number.now) result }
+{
+    put_pieces(
+        &[
+            b"redline: note: locked revision ".as_slice(),
+            number.as_bytes(),
+            b" went with what was around it\n",
+        ],
+        err,
+    )
 }
 
 fn write_one_mark<K: Sink>(err: &mut K) -> Result<(), Failed>

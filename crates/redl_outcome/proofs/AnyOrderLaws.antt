@@ -219,7 +219,7 @@ carried_same reader files brought (report p format by_kind locks journals) names
 carried_same reader files brought (page p title rank locks journals) names others one other same is too =
     after_opening reader files locks names others p (λ admission. Ok (page_of brought.skin (heading_with title rank) locks admission)) one other same is too
 carried_same reader files brought (write p locks journals) names others one other same is too =
-    after_opening reader files locks names others p (λ admission. Ok (resolved admission)) one other same is too
+    after_opening reader files locks names others p (λ admission. Ok (resolved locks admission)) one other same is too
 carried_same reader files brought (decide p reviewer journals locks choices rank) names others one other same is too =
     after_opening reader files locks names others p (λ before. with_choices reviewer rank choices before >>= (λ admission. Ok (book_written admission))) one other same is too
 carried_same reader files brought (resume p q firsts journals) names others one other same is too = same_ok (sym is ∙ too)

@@ -119,9 +119,9 @@ leaves_written : (reader : Reader) (files : Files) (brought : Brought) (name : L
     → carried_out reader files brought (plan (write name locks journals)) ≡ Ok writing → IsLeft reader files (plan (write name locks journals)) name writing.bytes
 leaves_written reader files brought name locks journals writing is =
     let text_ = both_ok (package_file files name) (λ whole. written reader files locks journals whole) writing is in
-    let made = both_ok (opened reader files locks journals text_.x) (λ admission. Ok (resolved admission)) writing text_.second in
+    let made = both_ok (opened reader files locks journals text_.x) (λ admission. Ok (resolved locks admission)) writing text_.second in
     let over = opened_nodes reader files locks journals text_.x made.x made.first in
-    let bytes : writing.bytes ≡ (resolved made.x).bytes = ap (λ (w : Writing). w.bytes) (sym (same_ok made.second)) in
+    let bytes : writing.bytes ≡ (resolved locks made.x).bytes = ap (λ (w : Writing). w.bytes) (sym (same_ok made.second)) in
     left_by reader files (plan (write name locks journals)) name writing.bytes text_.x over.0 (says made.x.state)
     text_.first over.1 (made.x, made.first, refl) (bytes ∙ ap (λ nodes. text (pass_package (says made.x.state) nodes)) over.2)
 

@@ -76,7 +76,7 @@ alike_is_settled reader is files brought writes others p locks journals accept i
     let call = is_made (writing_of reader files brought (reader.command writes)) done in
     let made : package_file files p >>= written reader files locks journals ≡ Ok call.0 = ap (writing_of reader files brought) (sym is_write) ∙ call.1 in
     let whole = both_ok (package_file files p) (written reader files locks journals) call.0 made in
-    let opens = both_ok (opened reader files locks journals whole.x) (λ admission. Ok (resolved admission)) call.0 whole.second in
+    let opens = both_ok (opened reader files locks journals whole.x) (λ admission. Ok (resolved locks admission)) call.0 whole.second in
     let read = both_ok (package_in reader whole.x) (opened_over reader files locks journals whole.x) opens.x opens.first in
     let over = opens_over reader files locks journals whole.x read.x opens.x read.first read.second in
     let decided : says opens.x.state ≡ same_says (settling accept) read.x =

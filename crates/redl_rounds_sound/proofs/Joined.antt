@@ -100,7 +100,7 @@ resolves_same reader files p one name names locks joint_call all is joins there 
     let journal = joint reader files name names joint_call it in
     let text : joint_call.bytes ≡ written_text journal = ap (λ (w : Writing). w.bytes) (sym it.written) in
     let whole = both_ok (package_file files p) (written reader files locks (name ∷ names)) all makes in
-    let opens = both_ok (opened reader files locks (name ∷ names) whole.x) (λ admission. Ok (resolved admission)) all whole.second in
+    let opens = both_ok (opened reader files locks (name ∷ names) whole.x) (λ admission. Ok (resolved locks admission)) all whole.second in
     let read = both_ok (package_in reader whole.x) (opened_over reader files locks (name ∷ names) whole.x) opens.x opens.first in
     let document = document_of whole.x read.x in
     let entries = both_ok (gathered reader files document journal_bytes (name ∷ names)) (λ entries. Ok (admission_with (no_admission whole.x read.x locks) entries)) opens.x read.second in
@@ -110,9 +110,9 @@ resolves_same reader files p one name names locks joint_call all is joins there 
     (there ∙ ap Some text) (subst (λ (t : List ℕ). length t ≤ journal_bytes) text short)
     (ap (λ (d : DocumentId). d.digest) own) (ap (λ (d : DocumentId). d.count) own) in
     ap (λ (made : Result (List ℕ) Failure). made >>= written reader files locks (one ∷ [])) whole.first
-    ∙ ap (λ (made : Result Admission Failure). made >>= (λ admission. let r : Result Writing Failure = Ok (resolved admission) in r))
+    ∙ ap (λ (made : Result Admission Failure). made >>= (λ admission. let r : Result Writing Failure = Ok (resolved locks admission) in r))
     (opened_by reader files locks (one ∷ []) whole.x read.x journal.entries read.first gathers)
-    ∙ ap (λ (admission : Admission). let r : Result Writing Failure = Ok (resolved admission) in r)
+    ∙ ap (λ (admission : Admission). let r : Result Writing Failure = Ok (resolved locks admission) in r)
     (admits_same whole.x read.x locks journal.entries entries.x (joint_same reader files document name names joint_call it entries.x entries.first) ∙ same_ok entries.second)
     ∙ opens.second
 

@@ -228,7 +228,7 @@ module _ (reader : Reader) (is : IsReader reader) (files : Files) (whole second_
   same-book : under.state.book ≡ book
   same-book = ap (union []) (admits-all revisions book all-on) ∙ union-own book is-book
 
-  pub no-refusals : (outcome_of (Ok (resolved under))).status ≡ status.Done
+  pub no-refusals : (outcome_of (Ok (resolved [] under))).status ≡ status.Done
   no-refusals = ap (λ (rs : List Refusal). written_status (with_refusals [] rs ++ [])) (refuses-none revisions book all-on)
 
   pub same-text : left_text under.state ≡ text_under first.state book
@@ -277,7 +277,7 @@ second-written reader files q left journals two writing it made =
     let whole = both_ok (package_file files q) (written reader files [] journals) writing made in
     let same : whole.x ≡ it.whole = same_ok (sym whole.first ∙ it.file) in
     let again : written reader files [] journals it.whole ≡ Ok writing = subst (λ w. written reader files [] journals w ≡ Ok writing) same whole.second in
-    let opens = both_ok (opened reader files [] journals it.whole) (λ admission. Ok (resolved admission)) writing again in
+    let opens = both_ok (opened reader files [] journals it.whole) (λ admission. Ok (resolved [] admission)) writing again in
     let read = both_ok (package_in reader it.whole) (opened_over reader files [] journals it.whole) opens.x opens.first in
     let nodes : read.x ≡ it.nodes = same_ok (sym read.first ∙ it.read) in
     let over : opened_over reader files [] journals it.whole it.nodes ≡ Ok opens.x = subst (λ n. opened_over reader files [] journals it.whole n ≡ Ok opens.x) nodes read.second in
@@ -326,10 +326,10 @@ resumed_stands_for reader is files brought resumes one second p q name firsts jo
         let opens = opens-under reader is files whole second_whole nodes second_nodes read left firsts journals firsts_came seconds_came gathers later name
         (file.held ∙ ap Some own) (subst (λ (t : List ℕ). length t ≤ journal_bytes) own file.short) in
         let last : Admission = admission_with (no_admission whole nodes []) (book_of a.state b.state) in
-        let made : writing_of reader files brought (reader.command one) ≡ Ok (resolved last) =
+        let made : writing_of reader files brought (reader.command one) ≡ Ok (resolved [] last) =
         ap (writing_of reader files brought) is_one
         ∙ ap (λ (m : Result (List ℕ) Failure). m >>= written reader files [] (name ∷ [])) file_is
-        ∙ ap (λ (m : Result Admission Failure). m >>= (λ admission. let r : Result Writing Failure = Ok (resolved admission) in r)) opens in
+        ∙ ap (λ (m : Result Admission Failure). m >>= (λ admission. let r : Result Writing Failure = Ok (resolved [] admission) in r)) opens in
         record {
           done = ap (λ (m : Result Writing Failure). (outcome_of m).status) made
               ∙ no-refusals reader is files whole second_whole nodes second_nodes read left firsts journals firsts_came seconds_came gathers later;

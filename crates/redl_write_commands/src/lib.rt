@@ -6,6 +6,7 @@
 
 mod choices;
 mod decide;
+mod gone;
 mod join;
 mod settle;
 mod write;

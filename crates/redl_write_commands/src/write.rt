@@ -6,6 +6,7 @@ ghost use Rattle.redl_inputs.specs.Reading.{ReadsFiles};
 ghost use Rattle.redl_commands.specs.Views.{writing_view};
 ghost use Rattle.redl_inputs.specs.Views.{admission_view, result_view};
 
+use crate::gone::{locked_numbers, note_gone};
 use redl_commands::Writing;
 use redl_inputs::{Admitted, open};
 use redl_io::{Shelf, Text};
@@ -26,18 +27,25 @@ pub fn write_package<'a, 'b, F: Shelf>(
         (result_view writing_view result) (λ reader files. written reader files locks.now journals.now bytes.now) }
 {
     let admitted = open(alloc, locks, journals, bytes, shelf)?;
-    Ok(resolve(admitted)?)
+    Ok(resolve(alloc, locks, admitted)?)
 }
 
-// The package under the verdicts of the session.
-fn resolve(admitted: Admitted) -> Result<Writing, AllocError>
-    ensures { IfOk result (λ writing. writing_view writing ≡ resolved (admission_view admitted.entry)) }
+// The package under the verdicts of the session, which has these locks.
+fn resolve<'b>(
+    alloc: Global,
+    locks: &[Lock],
+    admitted: Admitted<'b>,
+) -> Result<Writing<'b>, AllocError>
+    ensures { IfOk result (λ writing. writing_view writing ≡ resolved locks.now (admission_view admitted.entry)) }
 {
     let Admitted {
         session,
         remarks,
         ..
     } = admitted;
+    let locked = locked_numbers(alloc, locks, session.index().revisions())?;
     let nodes = session.into_passed()?;
+    let mut remarks = remarks;
+    note_gone(alloc, &locked, &nodes, &mut remarks)?;
     Writing::package(nodes, remarks)
 }
