@@ -1,5 +1,5 @@
 -- The numbers that a selection chooses, as a list: ascending, and the right ones.
-use Rattle.std.proofs.Common.{◌≡◌, ℕ, zero, suc, ◌+◌, ◌-◌, ◌<◌, Bool, true, false, cond, List, [], ◌∷◌, ◌++◌, length, get_or, take, Some, Ordering, Less, Equal, Greater, Contains, IsTrue, fold, refl, sym, ap, subst, ◌∙◌, ◌⊎◌, inl, inr, ◌↔◌, arith, Result, Ok, Err, IfOk, Vec, Global, append-nil, ◌≤◌}
+use Rattle.std.proofs.Common.{◌≡◌, ℕ, zero, suc, ◌+◌, ◌-◌, ◌<◌, Bool, true, false, cond, List, [], ◌∷◌, ◌++◌, length, get_or, take, Some, Ordering, Less, Equal, Greater, Contains, IsTrue, fold, refl, sym, ap, subst, ◌∙◌, ◌⊎◌, inl, inr, ◌↔◌, arith, Result, Ok, Err, IfOk, Vec, Global, ◌≤◌}
 use Rattle.std.specs.Prelude.{◌&&◌, Any, IsSomeAnd, flat_map, max, min, nat_le, slice_get, slice_index_or}
 use Rattle.std.specs.List.{AllByRecursion, list_any, range_with_len}
 use Rattle.std.specs.List.Sorted.{IsStrictlyIncreasing, IsStrictlySortedBy}
@@ -11,8 +11,6 @@ use Rattle.std.proofs.lemmas.List.Elements.{Contains-append_cases, Contains-appe
 use Rattle.std.proofs.lemmas.Bool.{and_from, and_parts, eq-eqb, eqb-true, le-leb, leb-true}
 use Rattle.std.proofs.lemmas.List.Folds.{Any-from_list_any, list_any-from_Any}
 use Rattle.std.proofs.lemmas.List.FromFn.{get_or-range_with_len, length-range_with_len}
-use Rattle.std.proofs.lemmas.List.Sums.{fold-append, fold_push}
-use Rattle.std.proofs.lemmas.Grind.{flat_map-append}
 use Rattle.std.proofs.lemmas.Option.{slice_get-get_or, slice_get_within}
 use Rattle.std.proofs.lemmas.Map.Keys.{IsStrictlyIncreasing-from_sorted}
 use Rattle.std.proofs.lemmas.Map.Lookups.{exact_unsigned}
@@ -55,38 +53,16 @@ one_more s (q ∷ qs) place number t within is h =
     ap (numbers_from s 1) (take_more rs place q within) ∙ numbers_from-push s 1 number (take place rs) r size
     ∙ ap (λ (b : Bool). numbers_from s 1 (take place rs) ++ cond b (number ∷ []) []) (sym test)
 
--- the numbers with those that one item more lists
-pub in_order_more : (count : ℕ) (items : List Listed) (i : ℕ) (d : Listed) (old new : List ℕ) → i < length items
-    → old ≡ in_order (flat_map (listed_by count) (take i items)) → new ≡ fold (insert_key nat_cmp) old (listed_by count (get_or items i d))
-    → new ≡ in_order (flat_map (listed_by count) (take (i + 1) items))
-in_order_more count items i d old new within was is =
-    let item : Listed = get_or items i d in
-    let front : List ℕ = flat_map (listed_by count) (take i items) in
-    let more : flat_map (listed_by count) (take (i + 1) items) ≡ front ++ listed_by count item =
-    ap (flat_map (listed_by count)) (take_more items i d within) ∙ flat_map-append (listed_by count) (take i items) (item ∷ [])
-    ∙ ap (λ (last : List ℕ). front ++ last) (append-nil (listed_by count item)) in
-    is ∙ ap (λ (keys : List ℕ). fold (insert_key nat_cmp) keys (listed_by count item)) was
-    ∙ sym (ap in_order more ∙ fold-append (insert_key nat_cmp) [] front (listed_by count item))
-
 -- one number more of a range
-range_more : (first size : ℕ) → range_with_len first (suc size) ≡ range_with_len first size ++ (first + size) ∷ []
+pub range_more : (first size : ℕ) → range_with_len first (suc size) ≡ range_with_len first size ++ (first + size) ∷ []
 range_more first zero = let same : first ≡ first + 0 = omega arith in ap (λ (n : ℕ). n ∷ []) same
 range_more first (suc size) =
     let same : (first + 1) + size ≡ first + suc size = omega arith in
     ap (λ (l : List ℕ). first ∷ l) (range_more (first + 1) size ∙ ap (λ (n : ℕ). range_with_len (first + 1) size ++ n ∷ []) same)
 
-pub between_more : (keys : List ℕ) (first number : ℕ) → first ≤ number
-    → fold (insert_key nat_cmp) keys (range_with_len first ((number + 1) - first)) ≡ insert_key nat_cmp (fold (insert_key nat_cmp) keys (range_with_len first (number - first))) number
-between_more keys first number h =
-    let size : (number + 1) - first ≡ suc (number - first) = omega (arith, h) in
-    let last : first + (number - first) ≡ number = omega (arith, h) in
-    ap (λ (n : ℕ). fold (insert_key nat_cmp) keys (range_with_len first n)) size
-    ∙ ap (fold (insert_key nat_cmp) keys) (range_more first (number - first) ∙ ap (λ (n : ℕ). range_with_len first (number - first) ++ n ∷ []) last)
-    ∙ fold_push (insert_key nat_cmp) keys (range_with_len first (number - first)) number
-
 -- ---- ascending
 
-nat_less : (m n : ℕ) → m < n → nat_cmp m n ≡ Less
+pub nat_less : (m n : ℕ) → m < n → nat_cmp m n ≡ Less
 nat_less m n h = sym (nat_cmp_is m n Less h)
 
 numbers_above : (s : Selection) (low n : ℕ) (rs : List Revision) → low < n → AllByRecursion (λ y. nat_cmp low y ≡ Less) (numbers_from s n rs)
@@ -226,7 +202,7 @@ is_put_in (x ∷ xs) kept y (inr h) =
       | inr later ↦ is_put_in xs (insert_key nat_cmp kept x) y (inr later)
     ]
 
-in_order_numbers : (listed : List ℕ) (number : ℕ) → Contains (in_order listed) number ↔ Contains listed number
+pub in_order_numbers : (listed : List ℕ) (number : ℕ) → Contains (in_order listed) number ↔ Contains listed number
 in_order_numbers listed number = (to, λ h. is_put_in listed [] number (inr h)) where
   to : Contains (in_order listed) number → Contains listed number
   to h =
@@ -238,7 +214,7 @@ in_order_numbers listed number = (to, λ h. is_put_in listed [] number (inr h)) 
 -- ---- what the items of a list choose
 
 -- the numbers of a range
-between_numbers : (first last number : ℕ) → Contains (numbers_between first last) number ↔ ((first ≤ number) × (number ≤ last))
+pub between_numbers : (first last number : ℕ) → Contains (numbers_between first last) number ↔ ((first ≤ number) × (number ≤ last))
 between_numbers first last number = (to, from) where
   size : ℕ
   size = (last + 1) - first

@@ -1,5 +1,5 @@
 -- Which revisions of a package a selection means (our own rule).
-use Rattle.std.specs.Prelude.{◌&&◌, ◌≡◌, ◌≤◌, ◌+◌, ◌-◌, min, max, ℕ, zero, suc, ℤ, int_le, int_lt, Bool, true, false, List, [], ◌∷◌, Option, Some, None, IsSomeAnd, IsTrue, Any, flat_map, fold, length, slice_get, if◌then◌else◌}
+use Rattle.std.specs.Prelude.{◌&&◌, ◌≡◌, ◌≤◌, ◌+◌, ◌-◌, ◌++◌, min, max, ℕ, zero, suc, ℤ, int_le, int_lt, Bool, true, false, List, [], ◌∷◌, Option, Some, None, IsSomeAnd, IsTrue, Any, flat_map, fold, length, slice_get, if◌then◌else◌}
 use Rattle.std.specs.List.{list_any, range_with_len}
 use Rattle.std.specs.Str.{bytes_eq}
 use Rattle.std.specs.Ordering.{nat_cmp}
@@ -8,6 +8,7 @@ use Rattle.redl_index.specs.declared.revision.Revision.{Revision}
 use Rattle.redl_kinds.specs.declared.selection.Listed.{Listed}
 use Rattle.redl_kinds.specs.declared.selection.Listed.TheVariants.{One, Range}
 use Rattle.redl_kinds.specs.Groups.{is_in}
+use Rattle.redl_select.specs.declared.in_order.Bounds.{Bounds}
 use Rattle.redl_kinds.specs.Kinds.{is_same_kind}
 use Rattle.redl_kinds.specs.Selections.{Selection, all, numbers, author, span, kind, group, has_number}
 
@@ -84,3 +85,16 @@ in_order listed = fold (insert_key nat_cmp) [] listed
 abbrev pub chosen : List Revision → Selection → List ℕ
 chosen revisions (numbers listed) = in_order (flat_map (listed_by (length revisions)) listed)
 chosen revisions selection = numbers_from selection 1 revisions
+
+-- ---- how the code finds what items list
+
+-- the first and the last number that an item of a list chooses in a package with so many revisions; where the first is greater, none is
+abbrev pub bounds_of : ℕ → Listed → Bounds
+bounds_of count (One one) = record { first = one; last = one }
+bounds_of count (Range first last) = record { first = first; last = min last (max first (count + 1)) }
+
+-- The numbers from this one on that are within some bounds. They are ascending and each is there once, where the bounds are in the
+-- order of their first numbers.
+abbrev pub numbers_within : ℕ → List Bounds → List ℕ
+numbers_within next [] = []
+numbers_within next (here ∷ later) = numbers_between (max next here.first) here.last ++ numbers_within (max next (here.last + 1)) later

@@ -1,19 +1,17 @@
 //! The numbers that a selection chooses.
 
-ghost use Rattle.std.specs.Prelude.{◌≡◌, ◌↔◌, ◌-◌, ◌<◌, ◌≤◌, ℕ, Contains, IfOk, IsTrue, List, OnOk, Some, flat_map, fold, length, slice_get};
+ghost use Rattle.std.specs.Prelude.{◌≡◌, ◌↔◌, ◌-◌, ◌<◌, ◌≤◌, ℕ, Contains, IfOk, IsTrue, List, Some, length, slice_get};
 ghost use Rattle.std.specs.List.{list_any};
-ghost use Rattle.std.specs.BTreeSet.{insert_key};
-ghost use Rattle.std.specs.List.Sorted.{IsStrictlyIncreasing, IsStrictlySortedBy};
-ghost use Rattle.std.specs.Ordering.{nat_cmp};
+ghost use Rattle.std.specs.List.Sorted.{IsStrictlyIncreasing};
 ghost use Rattle.redl_index.specs.declared.revision.Revision.{Revision};
 ghost use Rattle.redl_kinds.specs.Selections.{has_number};
-ghost use Rattle.redl_select.specs.Selections.{IsChosen, chooses, chosen, in_order, is_within, listed_by, numbers_between, numbers_from, revision_at, selects};
+ghost use Rattle.redl_select.specs.Selections.{IsChosen, chooses, chosen, is_within, numbers_from, revision_at, selects};
 ghost use Rattle.redl_kinds.specs.Views.{selection_of};
 
+use crate::in_order::in_order;
 use redl_index::{Index, Revision};
 use redl_kinds::{Listed, Selection};
 use std::alloc::{AllocError, Global};
-use std::collections::BTreeSet;
 
 /// The numbers that the selection chooses in the package with this index, ascending, each once.
 ///
@@ -27,52 +25,6 @@ pub fn choose(alloc: Global, index: &Index, sel: &Selection) -> Result<Vec<u32>,
         Selection::Numbers(listed) => in_order(alloc, index.count(), listed),
         _ => numbers_of_selected(alloc, index, sel),
     }
-}
-
-// What the items list in a package with so many revisions, in the order of the numbers, each once.
-fn in_order(alloc: Global, count: u32, listed: &[Listed]) -> Result<Vec<u32>, AllocError>
-    ensures value { IfOk result (λ numbers. numbers.items ≡ in_order (flat_map (listed_by count) listed.now)) }
-    ensures ascending { IfOk result (λ numbers. IsStrictlySortedBy nat_cmp numbers.items) }
-{
-    let mut numbers = BTreeSet::new(alloc);
-    for item in listed {
-        add_listed(&mut numbers, count, *item)?;
-    }
-    numbers.into_iter().collect(alloc)
-}
-
-// Adds what an item lists in a package with so many revisions.
-fn add_listed(numbers: &mut BTreeSet<u32>, count: u32, item: Listed) -> Result<(), AllocError>
-    requires ordered { IsStrictlySortedBy nat_cmp numbers.old.keys }
-    ensures value { OnOk result (numbers.new.keys ≡ fold (insert_key nat_cmp) numbers.old.keys (listed_by count item)) }
-    ensures ordered { OnOk result (IsStrictlySortedBy nat_cmp numbers.new.keys) }
-{
-    match item {
-        Listed::One(number) => {
-            numbers.insert(number)?;
-        }
-        Listed::Range(first, last) => {
-            let end = last.min(first.max(count.saturating_add(1)));
-            if first <= end {
-                add_between(numbers, first, end)?;
-            }
-        }
-    }
-    Ok(())
-}
-
-// Adds the numbers from the first to the last.
-fn add_between(numbers: &mut BTreeSet<u32>, first: u32, last: u32) -> Result<(), AllocError>
-    requires some { first ≤ last }
-    requires ordered { IsStrictlySortedBy nat_cmp numbers.old.keys }
-    ensures value { OnOk result (numbers.new.keys ≡ fold (insert_key nat_cmp) numbers.old.keys (numbers_between first last)) }
-    ensures ordered { OnOk result (IsStrictlySortedBy nat_cmp numbers.new.keys) }
-{
-    for number in first..last {
-        numbers.insert(number)?;
-    }
-    numbers.insert(last)?;
-    Ok(())
 }
 
 // The numbers of the revisions that the selection means.

@@ -6,6 +6,7 @@
 #![tactic(auto)]
 
 mod chosen;
+mod in_order;
 mod locks;
 
 pub use chosen::{choose, chooses};

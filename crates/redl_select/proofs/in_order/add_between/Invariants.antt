@@ -1,0 +1,7 @@
+use Rattle.std.proofs.Common.{◌≡◌, ◌++◌, ◌-◌, ◌≤◌}
+use Rattle.std.specs.Prelude.{max}
+use Rattle.std.specs.List.{range_with_len}
+use Rattle.redl_select.proofs.in_order.add_between.Given as goal
+
+abbrev pub invariant-loop-number : goal.invariant-loop-number
+invariant-loop-number l = (l.numbers.items ≡ l.fn.numbers.items ++ range_with_len l.first (l.number - l.first)) × (l.number ≤ max l.first l.end)
