@@ -1,0 +1,47 @@
+-- References are known by their numbers.
+use Rattle.std.proofs.Common.{◌≡◌, ◌∙◌, refl, sym, ap, ℕ, List, [], ◌∷◌, ◌++◌, length, take, drop, get_or}
+use Rattle.std.proofs.Math.Seq.{drop-append_seam, take-append_seam}
+use Rattle.redl_order.specs.declared.reference.Note.{Note}
+use Rattle.redl_order.specs.declared.reference.Note.TheVariants.{Footnote, Endnote}
+use Rattle.redl_order.specs.declared.reference.Reference.{Reference}
+use Rattle.redl_order.specs.Inside.Encoded.{note_number, encoded}
+
+abbrev note_at : ℕ → Note
+note_at n = get_or (Footnote ∷ Endnote ∷ []) n Footnote
+
+there : (n : Note) → note_at (note_number n) ≡ n
+there Footnote = refl
+there Endnote = refl
+
+same_note : (m n : Note) → note_number m ≡ note_number n → m ≡ n
+same_note m n e = sym (there m) ∙ ap note_at e ∙ there n
+
+-- of two texts of one length, each with more after it
+same_front : (a b u v : List ℕ) → length a ≡ length b → a ++ u ≡ b ++ v → a ≡ b
+same_front a b u v n e = sym (take-append_seam a u) ∙ ap (take (length a)) e ∙ ap (λ k. take k (b ++ v)) n ∙ take-append_seam b v
+
+same_rest : (a b u v : List ℕ) → length a ≡ length b → a ++ u ≡ b ++ v → u ≡ v
+same_rest a b u v n e = sym (drop-append_seam a u) ∙ ap (drop (length a)) e ∙ ap (λ k. drop k (b ++ v)) n ∙ drop-append_seam b v
+
+head_same : (a b : ℕ) (u v : List ℕ) → a ∷ u ≡ b ∷ v → a ≡ b
+head_same a b u v e = cc
+
+tail_same : (a b : ℕ) (u v : List ℕ) → a ∷ u ≡ b ∷ v → u ≡ v
+tail_same a b u v e = cc
+
+abbrev reference_of : Note → List ℕ → Reference
+reference_of note id = record { note = note; id = id }
+
+pub same_references : (xs ys : List Reference) → encoded xs ≡ encoded ys → xs ≡ ys
+same_references [] [] e = refl
+same_references [] (y ∷ ys) e = cc
+same_references (x ∷ xs) [] e = cc
+same_references (x ∷ xs) (y ∷ ys) e =
+    let note = same_note x.note y.note (head_same (note_number x.note) (note_number y.note) (length x.id ∷ (x.id ++ encoded xs)) (length y.id ∷ (y.id ++ encoded ys)) e) in
+    let one = tail_same (note_number x.note) (note_number y.note) (length x.id ∷ (x.id ++ encoded xs)) (length y.id ∷ (y.id ++ encoded ys)) e in
+    let lengths = head_same (length x.id) (length y.id) (x.id ++ encoded xs) (y.id ++ encoded ys) one in
+    let two = tail_same (length x.id) (length y.id) (x.id ++ encoded xs) (y.id ++ encoded ys) one in
+    let id = same_front x.id y.id (encoded xs) (encoded ys) lengths two in
+    let rest = same_references xs ys (same_rest x.id y.id (encoded xs) (encoded ys) lengths two) in
+    let same : x ≡ y = ap (λ (n : Note). reference_of n x.id) note ∙ ap (λ (i : List ℕ). reference_of y.note i) id in
+    ap (λ (z : Reference). z ∷ xs) same ∙ ap (λ (zs : List Reference). y ∷ zs) rest

@@ -1,0 +1,5 @@
+mod Rows
+pub mod EncodeLaws
+pub mod FindLaws
+pub mod OrderLaws
+pub mod IdLaws

@@ -1,0 +1,16 @@
+-- What the walk over the text adds is the references of its nodes.
+use Rattle.std.proofs.Common.{List, ◌++◌, ap, sym, ◌∙◌}
+use Rattle.std.proofs.lemmas.Result.{on_ok_weaker}
+use Rattle.redl_tree.specs.Model.IdleTexts.{idle_nodes}
+use Rattle.redl_order.specs.References.{references}
+use Rattle.redl_order.specs.declared.reference.Reference.{Reference}
+use Rattle.redl_order.proofs.EncodeLaws.{same_references}
+use Rattle.redl_order.proofs.FindLaws.{shown_idle}
+use Rattle.redl_order.proofs.find.find_idle.Goals as goal
+
+pub returns : goal.returns
+returns c =
+    on_ok_weaker c.show.result (λ n.
+    n.added
+    ∙ ap (λ (xs : List Reference). c.args.seen.now.references.items ++ xs)
+    (same_references n.found (references (idle_nodes c.args.plain.now)) (sym n.is ∙ shown_idle _ c.args.plain.now))) c.show.ensures

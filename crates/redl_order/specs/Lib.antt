@@ -1,0 +1,5 @@
+pub mod Values
+pub mod References
+pub mod Order
+pub mod Borrowed
+pub mod Inside

@@ -1,0 +1,37 @@
+-- The references to notes among nodes (ECMA-376 Part 1, 17.11.7 and 17.11.14), in the order in which they stand.
+use Rattle.std.specs.Prelude.{ℕ, List, [], ◌∷◌, ◌++◌, codes, bytes_eq, Option, Some, None, if◌then◌else◌}
+use Rattle.redl_tree.specs.Model.Nodes.{Tag, Nodes, no_nodes, bytes, element}
+use Rattle.redl_tree.specs.Roles.Names.{is_w}
+use Rattle.redl_order.specs.Values.{value_in}
+use Rattle.redl_order.specs.declared.reference.Note.{Note}
+use Rattle.redl_order.specs.declared.reference.Note.TheVariants.{Footnote, Endnote}
+use Rattle.redl_order.specs.declared.reference.Reference.{Reference}
+
+-- the id in a tag's tail, as it is written
+abbrev pub id_in : List ℕ → List ℕ
+id_in tail = value_in tail (codes "id")
+
+-- what an element of W with this local name names
+abbrev pub named_note : List ℕ → Option Note
+named_note local =
+    if bytes_eq local (codes "footnoteReference") then Some Footnote
+    else if bytes_eq local (codes "endnoteReference") then Some Endnote
+    else None
+
+abbrev pub reference_to : List ℕ → Option Note → List Reference
+reference_to tail None = []
+reference_to tail (Some note) = record { note = note; id = id_in tail } ∷ []
+
+-- the reference that an element of W with this local name and tail is, if it is one
+abbrev pub named_by : List ℕ → List ℕ → List Reference
+named_by local tail = reference_to tail (named_note local)
+
+-- the reference that an element is, if it is one
+abbrev pub named_of : Tag → List Reference
+named_of tag = if is_w tag.space then named_by tag.local tag.tail else []
+
+-- the references among nodes, at every depth
+abbrev pub references : Nodes → List Reference
+references no_nodes = []
+references (bytes b rest) = references rest
+references (element tag kids rest) = (named_of tag ++ references kids) ++ references rest
