@@ -1,7 +1,7 @@
 -- The marks of a unit (our own rule; ECMA-376 Part 1, 17.13.5 for the changes): who inserted it, deleted it, moved it to here, moved it
 -- from here, or changed the properties of its run, and when. Of several such changes round a unit the nearest of each kind counts.
 -- Authors and dates are those that are written, before references are read.
-use Rattle.std.specs.Prelude.{ℕ, List, [], Bool, true, false, ◌&&◌, codes, take, bytes_eq, Option, Some, None, unwrap_or, if◌then◌else◌}
+use Rattle.std.specs.Prelude.{ℕ, List, Bool, true, false, ◌&&◌, codes, take, bytes_eq, Option, Some, None, if◌then◌else◌}
 use Rattle.redl_tree.specs.Model.Nodes.{Tag, Nodes, no_nodes, bytes, element}
 use Rattle.redl_tree.specs.Roles.Names.{is}
 use Rattle.redl_tree.specs.declared.kinds.Trace.{Trace}
@@ -10,16 +10,12 @@ use Rattle.redl_tree.specs.declared.kinds.Prop.TheVariants.{Run}
 use Rattle.redl_tree.specs.declared.kinds.Kind.{Kind}
 use Rattle.redl_tree.specs.declared.kinds.Kind.TheVariants.{Content, Change}
 use Rattle.redl_reading.specs.Steps.{or_else}
-use Rattle.redl_stamp.specs.Attribute.{written_value}
+pub use Rattle.redl_order.specs.Values.{value_in}
 
 -- who made a change, and the minute on the clock when: `YYYY-MM-DDThh:mm`, without seconds and zone
 pub record Stamp : Type 0 where
   pub author : List ℕ
   pub minute : List ℕ
-
--- the value of the first attribute of a tail with this local name, or the empty text without one
-abbrev pub value_in : List ℕ → List ℕ → List ℕ
-value_in tail local = unwrap_or (written_value tail local) []
 
 -- the stamp in a tag's tail
 abbrev pub stamp_in : List ℕ → Stamp

@@ -6,11 +6,11 @@ use Rattle.redl_tree.specs.Model.Nodes.{Tag, Nodes, no_nodes, bytes, element}
 use Rattle.redl_tree.specs.Model.View.{Element}
 use Rattle.redl_tree.specs.Roles.Names.{is, is_any}
 use Rattle.redl_tree.specs.Roles.Places.{is_quiet}
-use Rattle.redl_tree.specs.Decisions.Packages.{stories}
 use Rattle.redl_tree.specs.declared.kinds.Space.{Space}
 use Rattle.redl_tree.specs.declared.kinds.Space.TheVariants as space
 use Rattle.redl_tree.specs.declared.kinds.Kind.{Kind}
 use Rattle.redl_tree.specs.declared.kinds.Kind.TheVariants.{Mark, Row as RowMember, Cell as CellMember, Change}
+use Rattle.redl_order.specs.Order.{ordered}
 use Rattle.redl_shown.specs.Shown.{shown}
 use Rattle.redl_stamp.specs.Attribute.{attribute_value}
 use Rattle.redl_bare.specs.Marks.{Stamp, Marks, stamp_in, no_marks, marks_inside, value_in}
@@ -210,10 +210,10 @@ root_units tag =
     else if is "ftr" tag then story Footer ∷ []
     else []
 
--- the units of a story; comments have none
+-- the units of a story or a note: the line with which it begins, and the units of its root
 abbrev pub story_units : Element → List BareUnit
-story_units root = if is "comments" root.tag then [] else root_units root.tag ++ units_in Open no_marks root.kids
+story_units root = root_units root.tag ++ units_in Open no_marks (element root.tag root.kids no_nodes)
 
--- the units of a package, story by story, in the order of its parts
+-- the units of a package, story by story, in the order in which a reader meets them
 abbrev pub package_units : Nodes → List BareUnit
-package_units nodes = flat_map story_units (stories nodes)
+package_units nodes = flat_map story_units (ordered nodes)

@@ -57,8 +57,9 @@ fn put_node<'a, K: Sink>(
     }
 }
 
+/// The same of an element.
 #[cycle(units)]
-fn put_elem<'a, K: Sink>(
+pub(crate) fn put_elem<'a, K: Sink>(
     elem: &Elem<'a>,
     place: Place,
     marks: Marks<'a>,

@@ -4,7 +4,7 @@ use Rattle.std.specs.List.{flat_map}
 use Rattle.redl_tree.specs.Model.Nodes.{Tag, Nodes, no_nodes, bytes, element}
 use Rattle.redl_tree.specs.Model.View.{Element}
 use Rattle.redl_tree.specs.Roles.Names.{is}
-use Rattle.redl_tree.specs.Decisions.Packages.{stories}
+use Rattle.redl_order.specs.Order.{ordered}
 use Rattle.redl_bare.specs.Marks.{Marks, stamp_in, no_marks, marks_inside}
 use Rattle.redl_bare.specs.Units.{Text, BareUnit, thing, member, story, in_marks, has_line, is_left_out, is_open_place, place_inside, start_texts, end_texts, start_things, member_units, open_units, start_units, end_things, end_units, byte_texts, units_in, root_units, story_units, package_units}
 use Rattle.redl_bare.specs.declared.place.Place.{Place}
@@ -79,11 +79,12 @@ root_named tag =
 
 story_named : (root : Element) → AreNamed (story_units root)
 story_named root =
-    choice (is "comments" root.tag) [] _ tt (and_then (root_units root.tag) (units_in Open no_marks root.kids) (root_named root.tag) (units_named Open no_marks root.kids))
+    let nodes = element root.tag root.kids no_nodes in
+    and_then (root_units root.tag) (units_in Open no_marks nodes) (root_named root.tag) (units_named Open no_marks nodes)
 
 stories_named : (roots : List Element) → AreNamed (flat_map story_units roots)
 stories_named [] = tt
 stories_named (root ∷ roots) = and_then (story_units root) (flat_map story_units roots) (story_named root) (stories_named roots)
 
 pub package_named : (nodes : Nodes) → AreNamed (package_units nodes)
-package_named nodes = stories_named (stories nodes)
+package_named nodes = stories_named (ordered nodes)

@@ -1,16 +1,14 @@
 -- What a clause sees of the code's values.
 use Rattle.std.specs.Prelude.{ℕ, List}
-use Rattle.redl_bare.specs.BareText.{bare_text}
 use Rattle.redl_commands.specs.Writing.{Writing, only_bytes}
 use Rattle.redl_show_commands.specs.declared.text.Shown.{Shown}
-use Rattle.redl_show_commands.specs.declared.text.Shown.TheVariants.{Bare, Made, Masked}
+use Rattle.redl_show_commands.specs.declared.text.Shown.TheVariants.{Made, Masked}
 use Rattle.redl_terminal.specs.Masks.{masked}
 use Rattle.redl_terminal.specs.declared.extent.Extent.TheVariants.{Lines}
 
--- what a reader sees of a package: a text of it as a terminal is given it, its bare text, or what was made of it
+-- what goes out: a text as a terminal is given it, or the text itself
 abbrev pub shown_text : Shown → List ℕ
 shown_text (Masked text) = masked Lines text.items
-shown_text (Bare pkg) = bare_text pkg
 shown_text (Made text) = text.items
 
 -- it goes out, and nothing is remarked

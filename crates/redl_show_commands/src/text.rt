@@ -1,11 +1,11 @@
 //! `text P` and `left P`.
 //!
-//! The bare text isn't made before it is put: it goes out while the package is walked over. The texts for a reader are made first, and
-//! masked for a terminal while they go out.
+//! A text is made before it goes out. Those for a reader are masked for a terminal while they go out.
 
 ghost use Rattle.std.specs.Prelude.{◌≡◌, Ok, IfOk, OnErr, OnOk, replicate};
 ghost use Rattle.std.specs.Io.KnownBytes.{append_known};
 ghost use Rattle.redl_more_commands.specs.Text.{text_in, viewed};
+ghost use Rattle.redl_bare.specs.BareText.{bare_text};
 ghost use Rattle.redl_commands.specs.Endings.{EndsAlone, Finishes};
 ghost use Rattle.redl_show_commands.specs.Views.{shown_text, shown_view};
 ghost use Rattle.redl_inputs.specs.Reading.{Reads};
@@ -28,20 +28,18 @@ use redl_left::lines;
 use redl_left_texts::{json_of, text_of};
 use redl_lines::{End, Failure, Remarks};
 use redl_marked::put_marked;
-use redl_opc::Package;
+use redl_order::ordered;
 use redl_terminal::{Extent, put_masked};
 use redl_tree::Say;
 use redl_words::View;
 use std::alloc::{AllocError, Global};
 
-/// A package whose members have their numbers, and what its reader sees of it.
+/// What was made of a package.
 #[derive(Drop)]
-pub enum Shown<'b> {
-    /// This text of it, as a terminal is given it.
+pub enum Shown {
+    /// This text, as a terminal is given it.
     Masked(Vec<u8>),
-    /// Its bare text.
-    Bare(Package<'b>),
-    /// This text, made of it.
+    /// This text.
     Made(Vec<u8>),
 }
 
@@ -56,7 +54,7 @@ pub fn put_text<'a, O: Sink>(alloc: Global, view: View, bytes: &[u8], out: &mut 
 }
 
 // The package that has this text, as it is shown in a view.
-fn show_text<'a, 'b>(alloc: Global, view: View, bytes: &'b [u8]) -> Result<Shown<'b>, Failure<'a>>
+fn show_text<'a>(alloc: Global, view: View, bytes: &[u8]) -> Result<Shown, Failure<'a>>
     ensures { Reads (result_view shown_view result) (λ reader. viewed reader view bytes.now) }
 {
     let package = read_package(alloc, bytes)?;
@@ -72,14 +70,14 @@ fn show_package(alloc: Global, view: View, pkg: Surveyed) -> Result<Shown, Alloc
         View::Original => show_plain(alloc, counted, Say::Reject),
         View::Final => show_plain(alloc, counted, Say::Accept),
         View::Marked => show_marked(alloc, counted),
-        View::Bare => Ok(Shown::Bare(counted.pkg)),
+        View::Bare => show_bare(alloc, counted),
         View::Left => show_left(alloc, counted),
         View::LeftJson => show_left_json(alloc, counted),
     }
 }
 
 // The plain text of what the pass leaves, under one say for all revisions.
-fn show_plain<'b>(alloc: Global, counted: Counted, say: Say) -> Result<Shown<'b>, AllocError>
+fn show_plain(alloc: Global, counted: Counted, say: Say) -> Result<Shown, AllocError>
     ensures { IfOk result (λ shown. shown_text shown ≡ masked Lines (walk_text (replicate counted.entry.count say) counted.entry.pkg)) }
 {
     let says = vec![in alloc; say; counted.count as usize]?;
@@ -91,12 +89,24 @@ fn show_plain<'b>(alloc: Global, counted: Counted, say: Say) -> Result<Shown<'b>
 }
 
 // The text of the package with its changes marked.
-fn show_marked<'b>(alloc: Global, counted: Counted) -> Result<Shown<'b>, AllocError>
+fn show_marked(alloc: Global, counted: Counted) -> Result<Shown, AllocError>
     ensures { IfOk result (λ shown. shown_text shown ≡ masked Lines (marked_text counted.entry.pkg)) }
 {
     let mut text = Collected::new(alloc);
     match put_marked(&counted.pkg, &mut text) {
         Ok(()) => Ok(Shown::Masked(text.bytes)),
+        Err(_) => Err(AllocError),
+    }
+}
+
+// The bare text of the package.
+fn show_bare(alloc: Global, counted: Counted) -> Result<Shown, AllocError>
+    ensures { IfOk result (λ shown. shown_text shown ≡ bare_text counted.entry.pkg) }
+{
+    let stories = ordered(alloc, &counted.pkg)?;
+    let mut text = Collected::new(alloc);
+    match put_bare(stories, &mut text) {
+        Ok(()) => Ok(Shown::Made(text.bytes)),
         Err(_) => Err(AllocError),
     }
 }
@@ -143,7 +153,6 @@ fn put_pieces<K: Sink>(shown: &Shown, out: &mut K) -> Result<(), Failed>
 {
     match shown {
         Shown::Masked(text) => put_masked(Extent::Lines, text, out),
-        Shown::Bare(pkg) => put_bare(pkg, out),
         Shown::Made(text) => put_piece(text, out),
     }
 }

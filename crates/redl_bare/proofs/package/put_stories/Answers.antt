@@ -1,33 +1,35 @@
-use Rattle.std.proofs.Common.{◌+◌, ◌<◌, ◌≤◌, arith, ap, sym, ◌∙◌, length, None}
+use Rattle.std.proofs.Common.{◌≡◌, ◌∷◌, [], ap, sym, ◌∙◌, rules, refl, None}
 use Rattle.std.specs.List.{flat_map}
-use Rattle.std.proofs.lemmas.List.Concat.{flat_map-append}
-use Rattle.redl_opc.specs.Shape.{parts_of}
-use Rattle.redl_opc.specs.Stories.{stories_of_part, stories_from}
-use Rattle.redl_opc.proofs.WalkLaws.{stories_from-start, stories_from-part, stories_from-end}
+use Rattle.std.specs.Vec.Iter.{into_iter_items}
+use Rattle.std.proofs.lemmas.List.{nil_from_length}
+use Rattle.redl_opc.specs.Elements.{element_of}
+use Rattle.redl_order.specs.Borrowed.{all_borrowed}
 use Rattle.redl_bare.specs.Units.{story_units}
 use Rattle.redl_bare.proofs.LineLaws.{units_begin_by, units_go_on, units_stop, units_end}
 use Rattle.redl_bare.proofs.package.put_stories.Goals as goal
 
-pub loop-part-init : goal.loop-part-init
-loop-part-init g c = units_begin_by (ap (flat_map story_units) (sym (stories_from-start c.args.pkg.now c.parts-part-end.ensures.shape))) c.args.out.now None
+pub loop-root-init : goal.loop-root-init
+loop-root-init g c =
+    let items : into_iter_items c.into_iter-root-iterator.result ≡ c.args.stories.items = search rules in
+    units_begin_by (ap (λ roots. flat_map story_units (all_borrowed roots)) (sym items)) c.args.out.now None
 
 pub returns-in_err-line : goal.returns-in_err-line
 returns-in_err-line g c =
-    let part = c.loop-part.part in
-    let within : part < length (parts_of c.args.pkg.now) = omega (arith, c.parts-part-end.ensures.value) in
-    units_stop (flat_map story_units (stories_of_part c.args.pkg.now part)) (flat_map story_units (stories_from (part + 1) c.args.pkg.now))
-    (ap (flat_map story_units) (stories_from-part c.args.pkg.now part within) ∙ flat_map-append story_units (stories_of_part c.args.pkg.now part) (stories_from (part + 1) c.args.pkg.now))
-    c.from_residual.ensures.1 c.loop-part.invariant c.in_err-line.ensures
+    let root = c.in-Some.root in
+    let rest = into_iter_items c.next.new.self in
+    let here : into_iter_items c.loop-root.root-iterator ≡ root ∷ rest = c.in-Some.ensures.steps.0 in
+    units_stop (story_units (element_of root.now)) (flat_map story_units (all_borrowed rest)) (ap (λ roots. flat_map story_units (all_borrowed roots)) here)
+    c.from_residual.ensures.1 c.loop-root.invariant c.in_err-line.ensures
 
-pub loop-part-preserved : goal.loop-part-preserved
-loop-part-preserved g c =
-    let part = c.loop-part.part in
-    let within : part < length (parts_of c.args.pkg.now) = omega (arith, c.parts-part-end.ensures.value) in
-    units_go_on (flat_map story_units (stories_of_part c.args.pkg.now part)) (flat_map story_units (stories_from (part + 1) c.args.pkg.now))
-    (ap (flat_map story_units) (stories_from-part c.args.pkg.now part within) ∙ flat_map-append story_units (stories_of_part c.args.pkg.now part) (stories_from (part + 1) c.args.pkg.now))
-    c.loop-part.invariant c.in_ok-line.ensures
+pub loop-root-preserved : goal.loop-root-preserved
+loop-root-preserved g c =
+    let root = c.in-Some.root in
+    let rest = into_iter_items c.next.new.self in
+    let here : into_iter_items c.loop-root.root-iterator ≡ root ∷ rest = c.in-Some.ensures.steps.0 in
+    units_go_on (story_units (element_of root.now)) (flat_map story_units (all_borrowed rest)) (ap (λ roots. flat_map story_units (all_borrowed roots)) here)
+    c.loop-root.invariant c.in_ok-line.ensures
 
 pub returns : goal.returns
 returns g c =
-    let past : length (parts_of c.args.pkg.now) ≤ c.loop-part.part = omega (arith, c.parts-part-end.ensures.value, c.loop-part-test.false) in
-    units_end (ap (flat_map story_units) (stories_from-end c.args.pkg.now c.loop-part.part past)) c.loop-part.invariant
+    let none : into_iter_items c.loop-root.root-iterator ≡ [] = nil_from_length _ (sym c.loop-root.root-iterator.rest.ok.0 ∙ c.in-None.ensures.steps.0) in
+    units_end (ap (λ roots. flat_map story_units (all_borrowed roots)) none) c.loop-root.invariant

@@ -1,6 +1,3 @@
-use Rattle.std.proofs.Common.{ap, sym, ◌∙◌}
-use Rattle.redl_bare.specs.BareText.{bare_text}
-use Rattle.redl_more_commands.specs.Text.{text_in}
 use Rattle.redl_tree.specs.declared.kinds.Say.TheVariants.{Accept, Reject}
 use Rattle.redl_show_commands.proofs.TextLaws.{plain_text_of}
 use Rattle.redl_show_commands.proofs.text.show_package.Goals as goal
@@ -19,8 +16,7 @@ pub returns-in-Marked : goal.returns-in-Marked
 returns-in-Marked c = rw c.in-Marked.is (rw c.into_counted-counted.ensures.nodes at c.show_marked.ensures)
 
 pub returns-in-Bare : goal.returns-in-Bare
-returns-in-Bare c =
-    ap bare_text c.into_counted-counted.ensures.nodes ∙ ap (λ view. text_in view c.args.pkg) (sym c.in-Bare.is)
+returns-in-Bare c = rw c.in-Bare.is (rw c.into_counted-counted.ensures.nodes at c.show_bare.ensures)
 
 pub returns-in-Left : goal.returns-in-Left
 returns-in-Left c = rw c.in-Left.is (rw c.into_counted-counted.ensures.nodes at c.show_left.ensures)
