@@ -1,7 +1,7 @@
 """Compares two packages by their bare texts, story with story.
 
-Headers and footers are paired as the search paired them, notes by the order of their references: parts and ids are named anew
-by whoever stores a document.
+Headers and footers are paired as the search paired them, since parts are named anew by whoever stores a document. Notes are in the
+order of their references in both texts.
 """
 import re
 
@@ -13,21 +13,6 @@ from returned.partings import common
 KINDS = {"document": "document", "hdr": "header", "ftr": "footer"}
 NOTES = ("footnote", "endnote")
 PARAGRAPH, FIELD_BEGIN, FIELD_END = "*paragraph\n", "\\[field begin]", "\\[field end]"
-TAG = re.compile(rb"""<(/?)(?:[\w.-]+:)?(Fallback|footnoteReference|endnoteReference)(?=[\s/>])((?:[^<>"']|"[^"]*"|'[^']*')*)>""")
-IDENT = re.compile(rb"""(?:^|[\s:])id\s*=\s*["']([^"']*)["']""")
-
-
-def references(package):
-    """The ids of the notes that references name, in their order, by kind. What is kept a second time is left out."""
-    found, depth = {kind: [] for kind in NOTES}, 0
-    for close, name, tail in TAG.findall(package):
-        if name == b"Fallback":
-            depth += -1 if close else 0 if tail.endswith(b"/") else 1
-        elif not close and depth == 0:
-            ident = IDENT.search(tail)
-            if ident:
-                found[name[: -len(b"Reference")].decode()].append(ident.group(1).decode("utf-8", "replace"))
-    return found
 
 
 class Comparison:
@@ -36,11 +21,9 @@ class Comparison:
     def __init__(self, program, first, second, back):
         self.program = program
         self.back = bare.stories_of(program.bare_text(back))
-        self.back_references = references(back)
         self.index_of = {id(one): index for package in (first, second) for index, one in indexed(package)}
         self.pairs = pair_stories(first, second)
         self.extra = self.left_over(second)
-        self.note_index = [notes_by_id(package) for package in (first, second)]
 
     def left_over(self, second):
         """The stories that came back and are paired with none."""
@@ -54,10 +37,8 @@ class Comparison:
             yield self.named(one), self.story(made, one), other and self.story(self.back, other)
         for one in self.extra:
             yield self.named(one), None, self.story(self.back, one)
-        names = references(written)
         for kind in NOTES:
-            mine = notes_of(made, kind, names[kind], self.note_index[0])
-            its = notes_of(self.back, kind, self.back_references[kind], self.note_index[1])
+            mine, its = made.get(kind, []), self.back.get(kind, [])
             for place in range(max(len(mine), len(its))):
                 pair = [notes[place] if place < len(notes) else None for notes in (mine, its)]
                 yield ("%s %d" % (kind, place + 1), *pair)
@@ -89,22 +70,6 @@ def indexed(package):
         if one.root in KINDS:
             yield counts.get(one.root, 0), one
             counts[one.root] = counts.get(one.root, 0) + 1
-
-
-def notes_by_id(package):
-    """For each kind of notes the places of those without a type, by their ids."""
-    found = {}
-    for kind in NOTES:
-        notes = [one for one in package.streams if isinstance(one.name, tuple) and one.name[0] == kind and one.kind is None]
-        found[kind] = {one.name[1]: place for place, one in enumerate(notes)}
-    return found
-
-
-def notes_of(stories, kind, idents, places):
-    """The notes that some references name, in their order."""
-    notes = stories.get(kind, [])
-    indexes = [places[kind][ident] for ident in idents if ident in places[kind]]
-    return [notes[index] for index in indexes if index < len(notes)]
 
 
 def differences_of(pairs, view):
