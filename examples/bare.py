@@ -11,7 +11,7 @@ import reading
 import texts
 
 STORIES = {"document": "document", "hdr": "header", "ftr": "footer"}
-NOTES = {"footnotes": "footnote", "endnotes": "endnote"}
+NOTES = ("footnote", "endnote")
 # What is round a unit, in the order of a line.
 MARKS = ("ins", "del", "move-to", "move-from", "run-props")
 TRACES = {"inserted": "ins", "deleted": "del", "to": "move-to", "from": "move-from"}
@@ -127,17 +127,31 @@ def put_begin(writer, element, round_it):
         writer.text(round_it, "\\[field begin]%s\\[field separate]" % escaped(element.attribute("instr") or ""))
 
 
+def named(package):
+    """For each kind of notes the ids that references of the document have, in their order."""
+    found = {kind: {} for kind in NOTES}
+    for _, root in package.stories:
+        if root.local == "document":
+            for element in reading.elements(root.kids):
+                if element.is_w(*(kind + "Reference" for kind in NOTES)):
+                    found[element.local[: -len("Reference")]][element.written_value("id") or ""] = None
+    return found
+
+
 def bare_text(package):
     """The bare text, as bytes."""
-    writer = Writer()
-    for _, root in package.stories:
-        if root.local in STORIES:
-            writer.line("= " + STORIES[root.local])
-            put(writer, root.kids, {})
-        elif root.local in NOTES:
-            for note in reading.kids_named(root.kids, NOTES[root.local]):
-                if note.attribute("type") is None:
-                    writer.line("= " + NOTES[root.local])
+    writer, roots, ids = Writer(), [root for _, root in package.stories], named(package)
+    for local, kind in STORIES.items():
+        for root in roots:
+            if root.local == local:
+                writer.line("= " + kind)
+                put(writer, root.kids, {})
+    for kind in NOTES:
+        notes = [note for root in roots for note in reading.kids_named(root.kids, kind) if note.attribute("type") is None]
+        for ident in ids[kind]:
+            for note in notes:
+                if (note.written_value("id") or "") == ident:
+                    writer.line("= " + kind)
                     put(writer, note.kids, {})
     return "".join(line + "\n" for line in writer.lines).encode()
 

@@ -4,10 +4,12 @@
 
 Each by chance, drawn from the seed: runs and texts split, neighbouring runs of one look merged, rsids new and dropped, other
 ids, attributes in another order, proofing marks, bookmarks and page breaks put in, neighbouring changes of one author and date
-merged or split, properties that say nothing added, empty changes dropped, dates cut to the minute, other prefixes. The part
-that names the program says that Word wrote it.
+merged or split, properties that say nothing added, empty changes dropped, dates cut to the minute, other prefixes. Notes are
+numbered and ordered as their references are, and those that nothing names are gone; headers and footers have other names and
+come in another order. The part that names the program says that Word wrote it.
 """
 import copy
+import posixpath
 import random
 import re
 import sys
@@ -24,6 +26,12 @@ PROPERTIES = ("pPr", "rPr", "sectPr", "tblPr", "trPr", "tcPr", "tblPrEx")
 CONTENT = ("ins", "del", "moveFrom", "moveTo")
 CHANGES = ("rPrChange", "pPrChange", "sectPrChange", "tblPrChange", "tblPrExChange", "trPrChange", "tcPrChange")
 REVISIONS = CONTENT + CHANGES + ("cellIns", "cellDel")
+NOTES = {"footnotes": "footnote", "endnotes": "endnote"}
+RELATIONSHIPS = "http://schemas.openxmlformats.org/package/2006/relationships"
+OFFICE_RELATIONSHIPS = (
+    "http://schemas.openxmlformats.org/officeDocument/2006/relationships",
+    "http://purl.oclc.org/ooxml/officeDocument/relationships",
+)
 RANGES = ("moveFromRangeStart", "moveFromRangeEnd", "moveToRangeStart", "moveToRangeEnd")
 # What Word says of itself in the part docProps/app.xml.
 APPLICATION = (
@@ -53,7 +61,7 @@ def written(package):
 
 class Rewriter:
     def __init__(self, seed):
-        self.random = random.Random(seed)
+        self.seed, self.random = seed, random.Random(seed)
         self.ids, self.ranges, self.space = 90000, {}, W
         self.to_the_minute = self.chance(0.5)
 
@@ -77,6 +85,7 @@ class Rewriter:
                 self.container(story)
                 for element in story.iter():
                     self.attributes(element)
+        Numberer(package, self.seed).number()
         if package.find("{%s}part[@{%s}name='/docProps/app.xml']" % (PACKAGE, PACKAGE)) is None:
             package.append(ElementTree.fromstring(APPLICATION))
         return written(package)
@@ -223,6 +232,97 @@ class Rewriter:
                     out.append(ElementTree.Element(self.name("bookmarkEnd"), ident))
             out.append(kid)
         refill(paragraph, out)
+
+
+class Numberer:
+    """Gives notes, headers and footers of a package other numbers, names and places, as whoever stores it does."""
+
+    def __init__(self, package, seed):
+        self.package, self.random = package, random.Random("notes %d" % seed)
+        self.parts = {part.get("{%s}name" % PACKAGE): part for part in package}
+        self.roots = {name: part[0][0] for name, part in self.parts.items() if part[0].tag.endswith("}xmlData") and len(part[0])}
+
+    def number(self):
+        for name, root in self.roots.items():
+            if local_of(root) == "document":
+                for notes, note in NOTES.items():
+                    self.notes(root, notes, note)
+                self.headers(name, root)
+
+    def notes(self, document, notes, note):
+        """Notes in the order of their references, under new ids, which may change places with one another."""
+        kept = [one for root in self.roots.values() if local_of(root) == notes for one in list(root) if is_plain_note(one, note)]
+        references = [one for one in document.iter() if local_of(one) == note + "Reference"]
+        holders = [root for root in self.roots.values() if local_of(root) == notes]
+        if len(holders) != 1 or not all(ident(one) for one in kept + references):
+            return
+        named = list(dict.fromkeys(ident(one) for one in references))
+        news = {old: str(place) for place, old in enumerate(named, self.random.randint(1, 3))}
+        for one in references:
+            set_ident(one, news[ident(one)])
+        for one in kept:
+            holders[0].remove(one)
+        found = [one for old in named for one in kept if ident(one) == old]
+        for one in found:
+            set_ident(one, news[ident(one)])
+        if self.random.random() < 0.3:
+            self.random.shuffle(found)
+        holders[0].extend(found)
+
+    def headers(self, name, document):
+        """Other names for the parts of headers and footers, other ids of their relationships, and another order of parts."""
+        folder, file = posixpath.split(name)
+        relationships = self.roots.get("%s/_rels/%s.rels" % (folder, file), ())
+        news = {}
+        for one in relationships:
+            if one.get("Type", "").rpartition("/")[2] in ("header", "footer") and one.get("TargetMode") != "External":
+                part = self.parts.get(posixpath.normpath(posixpath.join(folder, one.get("Target"))))
+                if part is not None:
+                    self.rename(part, one, news, folder)
+        for one in document.iter():
+            if local_of(one) in ("headerReference", "footerReference"):
+                for space in OFFICE_RELATIONSHIPS:
+                    key = "{%s}id" % space
+                    if one.get(key) in news:
+                        one.set(key, news[one.get(key)])
+        self.shuffle()
+
+    def rename(self, part, relationship, news, folder):
+        name = part.get("{%s}name" % PACKAGE)
+        if name in self.parts:
+            kind = relationship.get("Type").rpartition("/")[2]
+            file = "%s%d.xml" % (kind, 50 + len(news) if self.random.random() < 0.5 else 90 - len(news))
+            part.set("{%s}name" % PACKAGE, posixpath.join(folder, file))
+            own = self.parts.get("%s/_rels/%s.rels" % posixpath.split(name))
+            if own is not None:
+                own.set("{%s}name" % PACKAGE, "%s/_rels/%s.rels" % (folder, file))
+        news[relationship.get("Id")] = "rId%d" % (700 + len(news))
+        relationship.set("Id", news[relationship.get("Id")])
+        relationship.set("Target", posixpath.basename(part.get("{%s}name" % PACKAGE)))
+
+    def shuffle(self):
+        """The parts of headers and footers in another order, in the places of such parts."""
+        parts = list(self.package)
+        places = [place for place, part in enumerate(parts) if len(part[0]) and local_of(part[0][0]) in ("hdr", "ftr")]
+        drawn = self.random.sample(places, len(places))
+        refill(self.package, [parts[drawn[places.index(place)]] if place in places else part for place, part in enumerate(parts)])
+
+
+def local_of(element):
+    space, _, local = element.tag[1:].partition("}") if isinstance(element.tag, str) else ("", "", "")
+    return local if space in (W, STRICT) else ""
+
+
+def is_plain_note(element, note):
+    return local_of(element) == note and element.get("{%s}type" % element.tag[1:].partition("}")[0]) is None
+
+
+def ident(element):
+    return element.get("{%s}id" % element.tag[1:].partition("}")[0])
+
+
+def set_ident(element, value):
+    element.set("{%s}id" % element.tag[1:].partition("}")[0], value)
 
 
 def rewritten(data, seed):
