@@ -112,6 +112,34 @@ def with_fields(package, pick):
     return RUN.sub(field, package)
 
 
+PART = b'<pkg:part pkg:name="/word/%s.xml" pkg:contentType="x"><pkg:xmlData><w:%s xmlns:w="%s">%s</w:%s></pkg:xmlData></pkg:part>'
+W_NAME = b"http://schemas.openxmlformats.org/wordprocessingml/2006/main"
+NOTE_IDS = [b' w:id="1"', b' w:id="2"', b" w:id='3'", b' w:x="y" w:id="4"', b' w:id="&#49;"', b' w:id=""', b""]
+
+
+def with_notes(package, pick):
+    """The package with references in some of its runs, and with notes, of which some have no reference and some the same id."""
+
+    def reference(found):
+        if pick.random() > 0.3:
+            return found.group()
+        return b"<w:r><w:%sReference%s/></w:r>%s" % (pick.choice([b"footnote", b"endnote"]), pick.choice(NOTE_IDS), found.group())
+
+    def note(kind):
+        kind_of = pick.choice([b"", b"", b"", b' w:type="separator"'])
+        return b"<w:%s%s%s><w:p><w:r><w:t>note %d</w:t></w:r></w:p></w:%s>" % (kind, kind_of, pick.choice(NOTE_IDS), pick.randrange(99), kind)
+
+    def part(root, kids):
+        return PART % (root + b"%d" % pick.randrange(999), root, W_NAME, kids, root)
+
+    parts = [part(kind + b"s", b"".join(note(kind) for _ in range(pick.randint(0, 5)))) for kind in pick.choices([b"footnote", b"endnote"], k=pick.randint(1, 3))]
+    parts += [part(root, b"<w:p/>") for root in pick.choices([b"hdr", b"ftr"], k=pick.randint(0, 2))]
+    for one in parts:
+        place = pick.choice([package.index(b"<pkg:part"), package.rindex(b"</pkg:package>")])
+        package = package[:place] + one + package[place:]
+    return RUN.sub(reference, package)
+
+
 TAG = re.compile(rb"<[^<>]*>")
 
 
