@@ -1,9 +1,9 @@
-//! The bare text of a document: a package with its revisions numbered goes in, and what a reader can see and decide goes out, with
-//! nothing of how the file is made.
+//! The bare text of a document: its stories with their revisions numbered go in, in their order, and what a reader can see and decide
+//! goes out, with nothing of how the file is made.
 //!
 //! Read `put_bare`, `specs/Units.antt` for the units of a document, `specs/Marks.antt` for who changed them, and `specs/BareText.antt`
-//! for how both are written. It goes over the original once and takes no memory.
-//! Numbers, and what is decided, are left to the crates below and above.
+//! for how both are written. It goes over each story once and takes no memory.
+//! Numbers, the order of stories, and what is decided, are left to the crates below and above.
 #![tactic(auto)]
 
 mod escape;
