@@ -114,25 +114,31 @@ def with_fields(package, pick):
 
 PART = b'<pkg:part pkg:name="/word/%s.xml" pkg:contentType="x"><pkg:xmlData><w:%s xmlns:w="%s">%s</w:%s></pkg:xmlData></pkg:part>'
 W_NAME = b"http://schemas.openxmlformats.org/wordprocessingml/2006/main"
-NOTE_IDS = [b' w:id="1"', b' w:id="2"', b" w:id='3'", b' w:x="y" w:id="4"', b' w:id="&#49;"', b' w:id=""', b""]
+PLAIN_IDS = [b' w:id="%d"' % number for number in range(1, 6)]
+NOTE_IDS = PLAIN_IDS[:2] + [b" w:id='3'", b' w:x="y" w:id="4"', b' w:id="&#49;"', b' w:id=""', b""]
 
 
-def with_notes(package, pick):
-    """The package with references in some of its runs, and with notes, of which some have no reference and some the same id."""
+def with_notes(package, pick, plain=False):
+    """The package with references in some of its runs, and with notes, of which some have no reference. Where they aren't plain, some
+    have the same id, another part or none."""
+    kinds, ids = [b"footnote", b"endnote"], PLAIN_IDS if plain else NOTE_IDS
 
     def reference(found):
         if pick.random() > 0.3:
             return found.group()
-        return b"<w:r><w:%sReference%s/></w:r>%s" % (pick.choice([b"footnote", b"endnote"]), pick.choice(NOTE_IDS), found.group())
+        return b"<w:r><w:%sReference%s/></w:r>%s" % (pick.choice(kinds), pick.choice(ids), found.group())
 
-    def note(kind):
-        kind_of = pick.choice([b"", b"", b"", b' w:type="separator"'])
-        return b"<w:%s%s%s><w:p><w:r><w:t>note %d</w:t></w:r></w:p></w:%s>" % (kind, kind_of, pick.choice(NOTE_IDS), pick.randrange(99), kind)
+    def note(kind, ident):
+        kind_of = b"" if plain or pick.random() > 0.2 else b' w:type="separator"'
+        return b"<w:%s%s%s><w:p><w:r><w:t>note %d</w:t></w:r></w:p></w:%s>" % (kind, kind_of, ident, pick.randrange(99), kind)
 
     def part(root, kids):
         return PART % (root + b"%d" % pick.randrange(999), root, W_NAME, kids, root)
 
-    parts = [part(kind + b"s", b"".join(note(kind) for _ in range(pick.randint(0, 5)))) for kind in pick.choices([b"footnote", b"endnote"], k=pick.randint(1, 3))]
+    parts = []
+    for kind in kinds if plain else pick.choices(kinds, k=pick.randint(1, 3)):
+        some = pick.sample(ids, pick.randint(0, 5)) if plain else pick.choices(ids, k=pick.randint(0, 5))
+        parts.append(part(kind + b"s", b"".join(note(kind, ident) for ident in some)))
     parts += [part(root, b"<w:p/>") for root in pick.choices([b"hdr", b"ftr"], k=pick.randint(0, 2))]
     for one in parts:
         place = pick.choice([package.index(b"<pkg:part"), package.rindex(b"</pkg:package>")])

@@ -20,7 +20,7 @@ sys.dont_write_bytecode = True
 sys.path[:0] = [os.path.join(TOP, "tools"), os.path.join(TOP, "bench"), EXAMPLES, HERE]
 sys.setrecursionlimit(100000)
 
-from packages import small_package, with_fields
+from packages import small_package, with_fields, with_notes
 from returned import bare, reader
 from returned.check import answer_for
 from returned.program import Program
@@ -68,6 +68,15 @@ def some_words(count, draw):
     return {number: word for number, word in words.items() if word}
 
 
+def read_the_same(program, one, other):
+    """Whether two packages have the same bare text, but for the order of headers and footers."""
+    kept = []
+    for data in (one, other):
+        texts = {kind: [story.text for story in found] for kind, found in bare.stories_of(program.bare_text(data)).items()}
+        kept.append({kind: sorted(found) if kind in ("header", "footer") else found for kind, found in texts.items()})
+    return kept[0] == kept[1]
+
+
 class Pairs:
     """Counts of pairs of a document and the same document decided, written anew and found again."""
 
@@ -82,7 +91,10 @@ class Pairs:
         desk = Desk(path, package)
         try:
             decided = desk.decided(some_words(desk.count, random.Random(seed)))
-            answer = desk.answer(rewritten(decided, seed))
+            back = rewritten(decided, seed)
+            if not read_the_same(desk.program, decided, back):
+                self.wrong.append("%s with seed %d, written anew, has another bare text" % (name, seed))
+            answer = desk.answer(back)
             if answer.differences:
                 self.refused += 1
                 return
@@ -115,7 +127,11 @@ def pairs_by_chance(path, seconds, most, first):
     pairs, number, end = Pairs(), first, time.monotonic() + seconds
     while time.monotonic() < end and number < first + most:
         package = small_package(random.Random(number))
-        pairs.add(path, "package %d" % number, with_fields(package, random.Random(number)) if number % 4 == 3 else package, number)
+        if number % 4 == 3:
+            package = with_fields(package, random.Random(number))
+        elif number % 4 == 1:
+            package = with_notes(package, random.Random(number), plain=True)
+        pairs.add(path, "package %d" % number, package, number)
         number += 1
     tell("random packages give no other text", "; ".join(pairs.wrong[:5]))
     few = pairs.refused * 1000 < REFUSED * max(pairs.count(), 400)
