@@ -2,7 +2,7 @@ use Rattle.std.proofs.Common.{◌∙◌, inl, inr, sym}
 use Rattle.std.proofs.lemmas.Bool.{cases_Bool}
 use Rattle.redl_reading.specs.Lists.{begins}
 use Rattle.redl_reading.proofs.Words.{begins_none, none_begins}
-use Rattle.redl_undecided.proofs.middles.begins.Goals as goal
+use Rattle.redl_pairs.proofs.word.begins.Goals as goal
 
 pub returns-in-Some : goal.returns-in-Some
 returns-in-Some c =

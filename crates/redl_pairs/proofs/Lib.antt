@@ -1,0 +1,4 @@
+pub mod PairLaws
+pub mod LaneLaws
+pub mod WordLaws
+pub mod ElementLaws
