@@ -3,6 +3,7 @@ import os
 import re
 import time
 
+import pictures
 from page_seen import ENTER, LOCK, REVIEWERS, SPACE, TAB, Seen, in_package, page_of, same, told, wait
 
 
@@ -159,11 +160,21 @@ def by_keys_alone(driven):
 
 # What a person presses or types into, and what a page is divided into.
 CONTROLS = "button, input, select, a, summary, [tabindex], main, aside"
+# Signs in the document that stand for a change, and what a screen reader is told of each.
+SIGNS = [
+    (".props[data-revision='1']", "Change 1: text formatted by Cara Lee, 2026-11-04"),
+    (".props[data-revision='9']", "Change 9: row formatted by Cara Lee, 2026-11-04"),
+    (".row[data-revision='13']", "Change 13: row deleted by Bob Hay, 2026-11-03"),
+    (".mark[data-revision='14']", "Change 14: paragraph end deleted by Bob Hay, 2026-11-03"),
+    (".cell[data-revision='27']", "Change 27: cell deleted by Bob Hay, 2026-11-03"),
+]
+# The changes in the text: whether each can have the keyboard, and what is told of it.
+REACHED = "return [...document.querySelectorAll('main :is(ins, del).text')].map((it) => (it.focus(), [document.activeElement === it, it.title]))"
 
 
 def for_readers(driven):
-    """What a screen reader is told: each control has a name, and the parts of the page their roles."""
-    Seen(driven, page_of("contract.xml", REVIEWERS))
+    """What a screen reader is told: each control has a name, the parts of the page their roles, and each change its author."""
+    seen = Seen(driven, page_of("contract.xml", REVIEWERS))
     driven.keys("jj")
     first = lambda selector: driven.spoken(selector)[0][0]
     for selector, role in [
@@ -172,6 +183,12 @@ def for_readers(driven):
         ("input[name=view]", "radio"), ("#person", "combobox"), ("#author", "combobox"),
     ]:
         same("role of " + selector, first(selector), role)
+    for selector, name in SIGNS:
+        [(role, told_name)] = driven.spoken("main " + selector)
+        same("what is told of %s" % selector, [role in ("img", "image"), told_name], [True, name])
+    same("no sign at the edge of a row is a cell", seen.run("return document.querySelectorAll('main td.edge').length"), 0)
+    reached = seen.run(REACHED)
+    told("a change in the text can have the keyboard, and has its author", len(reached) > 20 and all(has and re.match(r"Change \d+: .* by \w", title) for has, title in reached), str(reached))
     nameless = [role for role, name in driven.spoken(CONTROLS) if not name.strip()]
     same("each control has a name", [role for role in nameless if role not in ("none", "listitem")], [])
 
@@ -192,4 +209,75 @@ def saved_copy(driven):
     same("no complaint", driven.complaints(), [])
 
 
-CASES = [views, read_whole, two_forms, looks, by_keys_alone, for_readers, saved_copy]
+# A page in which this one stands, with no script of it run. What is seen of it: what it says, a row of its list, and its last paragraph.
+FRAME = '<!DOCTYPE html><iframe sandbox="allow-same-origin" width="1200" height="700" srcdoc="%s"></iframe>'
+SEEN_THERE = """
+const there = document.querySelector("iframe").contentDocument;
+const seen = (it) => (it && it.getClientRects().length ? it.innerText.replace(/\\s+/g, " ").trim() : "");
+return [seen(there.querySelector("noscript p")), seen(there.querySelector("#revision-33")), Boolean(seen([...there.querySelectorAll("section > p")].at(-1)))];
+"""
+
+
+def without_scripts(driven):
+    """Where no script runs the page says so, and shows the whole document, and in the list each word with its reviewer."""
+    body = "<w:p><w:r><w:t>one of many</w:t></w:r></w:p>" * 500
+    long = os.path.join(driven.folder, "long.xml")
+    with open(long, "w", encoding="utf-8") as out:
+        out.write(in_package(body))
+    for name, journals, words in [("contract.xml", REVIEWERS, "Ann Gray: accepted Bob Hay: rejected"), (long, [], "")]:
+        whole = page_of(name, journals).decode().replace("&", "&amp;").replace('"', "&quot;")
+        seen = Seen(driven, (FRAME % whole).encode())
+        said, row, has_end = seen.run(SEEN_THERE)
+        told("without scripts it says so", "which does not run here" in said, said)
+        same("the words have names", row, words)
+        told("and the document is whole", has_end)
+
+
+def smaller_forms(driven):
+    """Text from right to left, merged cells, symbols, carriage returns, and headings in words."""
+    cell = "<w:tc><w:tcPr>%s</w:tcPr><w:p><w:r><w:t>c</w:t></w:r></w:p></w:tc>"
+    rows = [['<w:gridSpan w:val="2"/>', '<w:vMerge w:val="restart"/>'], ["", "", "<w:vMerge/>"]]
+    body = (
+        "<w:p><w:pPr><w:bidi/></w:pPr><w:r><w:t>\u05e9\u05dc\u05d5\u05dd 12</w:t></w:r></w:p>"
+        '<w:p><w:r><w:sym w:font="Wingdings" w:char="F0FC"/><w:sym w:font="Symbol" w:char="263A"/><w:t>a&#xD;b</w:t></w:r></w:p>'
+        "<w:tbl>%s</w:tbl><w:p/>" % "".join("<w:tr>%s</w:tr>" % "".join(cell % it for it in row) for row in rows))
+    note = '<w:footnote w:id="1"><w:p><w:r><w:t>a note</w:t></w:r></w:p></w:footnote>'
+    more = [("/word/footnotes.xml", "footnotes", note), ("/word/header1.xml", "hdr", "<w:p/>"), ("/word/header2.xml", "hdr", "<w:p/>")]
+    file = os.path.join(driven.folder, "forms.xml")
+    with open(file, "w", newline="", encoding="utf-8") as out:
+        out.write(in_package(body, more))
+    seen = Seen(driven, page_of(file))
+    same("a paragraph from right to left", seen.run("return getComputedStyle(document.querySelector('main p')).direction"), "rtl")
+    same("symbols", seen.run("return [...document.querySelectorAll('main .symbol')].map((it) => it.textContent)"), ["\u25a1", "\u263a"])
+    told("a carriage return stays one", seen.run("return document.querySelectorAll('main p')[1].textContent").endswith("a\rb"))
+    same("cells side by side are one", seen.run("return [...document.querySelectorAll('main tr')].map((it) => [...it.cells].map((cell) => cell.colSpan))"), [[2, 1], [1, 1, 1]])
+    top = "const it = getComputedStyle(document.querySelector('main tr:last-child td:last-child')); return it.borderTopStyle"
+    same("and one below the other have no line between them", seen.run(top), "hidden")
+    headings = seen.run("return [...document.querySelectorAll('main h2')].map((it) => [it.textContent, it.title])")
+    same("what a part is stands in words", headings, [["Footnotes", "/word/footnotes.xml"], ["Header 1", "/word/header1.xml"], ["Header 2", "/word/header2.xml"]])
+
+
+def pictured(driven, file):
+    """The picture of a page for the manual."""
+    driven.look(1120, 700)
+    seen = Seen(driven, page_of("contract.xml", REVIEWERS))
+    seen.name("Eve Stone")
+    driven.keys("ja")
+    seen.press(2, "accept")
+    driven.keys("ja")
+    seen.run("document.querySelector('main').scrollTop = 0; document.querySelector('aside > ol').scrollTop = 105")
+    time.sleep(0.3)
+    driven.picture(file)
+    driven.look(1280, 800)
+
+
+def papers_picture(driven):
+    """The manual shows the page as it is."""
+    if driven.name != "chromium":
+        return
+    made = os.path.join(driven.folder, "page.png")
+    pictured(driven, made)
+    pictures.is_of_now(driven, "page.png", made)
+
+
+CASES = [views, read_whole, two_forms, looks, by_keys_alone, for_readers, saved_copy, without_scripts, smaller_forms, papers_picture]

@@ -9,7 +9,6 @@
 The cases are in page_*.py; page_seen.py says whose pages they are.
 """
 import sys
-import time
 
 import page_hostile
 import page_large
@@ -22,7 +21,7 @@ import page_views
 import page_work
 from chromium import Chromium
 from firefox import Firefox
-from page_seen import IS_OWN, LOCK, REVIEWERS, Seen, page_of, second_page, told
+from page_seen import IS_OWN, LOCK, REVIEWERS, page_of, second_page, told
 
 BROWSERS = [Chromium, Firefox]
 MODULES = [page_round, page_store, page_work, page_looks, page_sizes, page_signs, page_views, page_hostile, page_large]
@@ -42,22 +41,6 @@ def same_pages():
         told("the page of " + said, page_of(name, journals, locks, *given) == second_page(name, journals, locks, *given), "other bytes")
 
 
-def picture(file):
-    driven = Chromium()
-    try:
-        driven.look(1120, 700)
-        seen = Seen(driven, page_of("contract.xml", REVIEWERS))
-        seen.name("Eve Stone")
-        driven.keys("ja")
-        seen.press(2, "accept")
-        driven.keys("ja")
-        seen.run("document.querySelector('main').scrollTop = 0; document.querySelector('aside > ol').scrollTop = 105")
-        time.sleep(0.3)
-        driven.picture(file)
-    finally:
-        driven.close()
-
-
 def run(case, kind):
     """A case in a browser of its own."""
     driven = kind()
@@ -71,7 +54,7 @@ def run(case, kind):
 
 def main(words):
     if words[:1] == ["--picture"]:
-        return picture(words[1])
+        return run(lambda driven: page_looks.pictured(driven, words[1]), Chromium)
     if IS_OWN:
         same_pages()
     named = [case for case in CASES + page_large.MEASURES if case.__name__ in words]
