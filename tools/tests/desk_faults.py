@@ -212,4 +212,14 @@ def stops(driven):
     told("and the next call goes well", it.saves("#save-document", "contract.decided.xml").startswith(b"<?xml"))
 
 
-CASES = [documents, journals, two_words, too_little, stops]
+def before_it_starts(driven):
+    """A file that comes before the program is ready is opened once it is, and where it never is, that is told again."""
+    it = Desk(driven, altered(driven, "for (const end = Date.now() + 3000; Date.now() < end; );"), waits=False)
+    it.drop(("contract.xml", example("contract.xml")))
+    told("a file that came too early is opened", it.wait("document.getElementById('name').textContent === 'contract.xml'"), it.message())
+    it = Desk(driven, altered(driven, "WebAssembly = undefined;"))
+    said = it.drop(("contract.xml", example("contract.xml")))
+    told("in a browser that can't run it, no file is opened", it.is_fault() and "can't run Redline" in said, said)
+
+
+CASES = [documents, journals, two_words, too_little, stops, before_it_starts]

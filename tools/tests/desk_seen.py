@@ -56,9 +56,13 @@ def for_package(journal, package):
 class Desk:
     """The desk in a browser."""
 
-    def __init__(self, driven, file=""):
+    def __init__(self, driven, file="", waits=True):
         self.driven = driven
         driven.open(file or built())
+        if waits:
+            self.wait_for_start()
+
+    def wait_for_start(self):
         self.wait("document.body.dataset.state !== 'starting' || document.querySelector('.is-fault') !== null")
         self.rest()
 

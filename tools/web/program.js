@@ -12,15 +12,15 @@ class ActionError extends Error {
 
 class Program {
   /**
-   * `make` makes a new worker, and `packed` is the program as the page holds it. `watch` is told of each action that begins, is
-   * on its way (how many bytes were read and written so far) and ends.
+   * `make` makes a new worker, and `module` comes to the bytes of the program. `watch` is told of each action that begins, is on
+   * its way (how many bytes were read and written so far) and ends.
    * @param {() => Worker} make
-   * @param {string} packed
+   * @param {Promise<Uint8Array>} module
    * @param {(state: { action: string, words: any[], read: number, written: number, begun: number, isDone: boolean }) => void} watch
    */
-  constructor(make, packed, watch = () => {}) {
+  constructor(make, module, watch = () => {}) {
     this.make = make;
-    this.packed = packed;
+    this.module = module;
     this.watch = watch;
     this.waiting = new Map();
     this.last = 0;
@@ -37,8 +37,8 @@ class Program {
   }
 
   /** Makes the program ready; answers its version. @returns {Promise<string>} */
-  start() {
-    return this.ask("start", this.packed);
+  async start() {
+    return this.ask("start", await this.module);
   }
 
   /** Asks the worker for one of its actions. @param {string} action @param {any[]} words @returns {Promise<any>} */
@@ -84,7 +84,7 @@ class Program {
     this.worker.terminate();
     this.fail("stopped", "stopped");
     this.worker = this.begin();
-    await this.send("start", [this.packed]);
+    await this.send("start", [await this.module]);
     for (const [action, ...words] of this.history) await this.send(action, words);
   }
 }

@@ -81,10 +81,10 @@ async function packageOf(bytes, tidy) {
 }
 
 const actions = {
-  /** Makes the program ready, given as Base64 of gzip. Answers its version. @param {string} packed */
-  async start(packed) {
+  /** Makes the program of these bytes ready. Answers its version. @param {Uint8Array} module */
+  async start(module) {
     if (typeof WebAssembly === "undefined") throw new Refused("browser", "this browser runs no WebAssembly: a setting of it or of its administrator forbids it");
-    program = await WebAssembly.compile(pako.ungzip(Uint8Array.from(atob(packed.trim()), (it) => it.charCodeAt(0))));
+    program = await WebAssembly.compile(module);
     return done(["--version"]).out.text().trim();
   },
 

@@ -6,7 +6,6 @@
 const fs = require("fs");
 const path = require("path");
 const vm = require("vm");
-const zlib = require("zlib");
 require("./scripts.js");
 const { withMostPages } = require("./limits.js");
 
@@ -38,7 +37,6 @@ function ask(action, ...words) {
 function tell(name, holds, got) {
   console.log(holds ? "ok " + name : "FAILED " + name + ": " + JSON.stringify(got).slice(0, 300));
 }
-const packed = (bytes) => zlib.gzipSync(bytes).toString("base64");
 
 /** The action is refused as this kind, with a line like this. */
 async function refuses(name, kind, line, ...asked) {
@@ -48,7 +46,7 @@ async function refuses(name, kind, line, ...asked) {
 
 async function round() {
   const begun = process.cpuUsage();
-  const version = await ask("start", packed(code));
+  const version = await ask("start", code);
   tell("start", /^redline \d/.test(version.answer), version);
   const { user } = process.cpuUsage(begun);
   tell("it starts in less than a second of processor time", user < 1e6, user);
@@ -84,7 +82,7 @@ async function faults() {
   await refuses("no such file to pack", "fault", /no file/, "pack", "none");
   const still = await ask("call", ["check", "document.xml"]);
   tell("the document before is still there", still.answer?.out === "sound 49 revisions\n", still);
-  await ask("start", packed(withMostPages(code, 40)));
+  await ask("start", withMostPages(code, 40));
   await refuses("too little memory", "memory", /^redline: no memory/, "open", file("large.xml"));
   const small = await ask("call", ["check", "document.xml"]);
   tell("a small document still opens then", small.answer?.out === "sound 49 revisions\n", small);
@@ -92,7 +90,7 @@ async function faults() {
 
 /** In a process with little stack. */
 async function stack() {
-  await ask("start", packed(code));
+  await ask("start", code);
   await ask("open", file("contract.xml"));
   const deep = { deep: file("deep.xml") };
   await refuses("too little stack", "stack", /stack/, "call", ["write", "deep"], { files: deep });

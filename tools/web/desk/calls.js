@@ -47,7 +47,18 @@ function watch(state) {
   if (former) showProgress();
 }
 
-const program = new Program(() => new Worker(policy.createScriptURL(WORKER)), element("program").textContent, watch);
+/**
+ * What keeps the program from starting is the browser's.
+ * @param {any} error
+ * @returns {never}
+ */
+function cannotRun(error) {
+  throw new ActionError("browser", String(error?.message ?? error));
+}
+
+const program = new Program(() => new Worker(policy.createScriptURL(WORKER)), unpacked(element("program").textContent), watch);
+/** The program's version, once it is ready. */
+const started = program.start().catch(cannotRun);
 /**
  * The end of what was asked so far, and of the last making of a new worker.
  * @type {Promise<any>[]}
@@ -61,7 +72,7 @@ let [queue, restarted] = [Promise.resolve(), Promise.resolve()];
  * @returns {Promise<any>}
  */
 function ask(action, ...words) {
-  const next = queue.then(() => restarted).then(() => program.ask(action, ...words));
+  const next = Promise.all([started, queue]).then(() => restarted).then(() => program.ask(action, ...words));
   queue = next.catch(() => {});
   return next;
 }

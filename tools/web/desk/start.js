@@ -168,34 +168,6 @@ function acceptDrops(where) {
     });
 }
 
-// Files that come with the page
-
-/**
- * Bytes of Base64 of gzip.
- * @param {string} text
- */
-async function unpacked(text) {
-  const bytes = Uint8Array.from(atob(text.trim()), (it) => it.charCodeAt(0));
-  const stream = new DecompressionStream("gzip");
-  const writer = stream.writable.getWriter();
-  writer.write(bytes);
-  writer.close();
-  return new Uint8Array(await new Response(stream.readable).arrayBuffer());
-}
-
-const exampleFiles = () => Promise.all(Array.from(document.querySelectorAll("script.example"), async (/** @type {any} */ it) => ({ name: it.dataset.name, bytes: await unpacked(it.textContent) })));
-
-/**
- * The document and the journals that `redline-docx desk` puts into the page.
- * @returns {Promise<Given[]>}
- */
-async function givenFiles() {
-  const text = element("given").textContent.trim();
-  if (!text) return [];
-  const { document: one, journals } = JSON.parse(text);
-  return Promise.all([one, ...journals].map(async ({ name, bytes, tidy }) => ({ name, bytes: await unpacked(bytes), isTidy: tidy })));
-}
-
 // The start
 
 function prepareButtons() {
@@ -226,15 +198,6 @@ function ownDecisions() {
 
 addEventListener("keydown", printFrame);
 
-/**
- * What keeps the program from starting is the browser's.
- * @param {any} error
- * @returns {never}
- */
-function cannotRun(error) {
-  throw new ActionError("browser", String(error?.message ?? error));
-}
-
 guarded(async () => {
   acceptDrops(window);
   prepareSteps();
@@ -242,7 +205,7 @@ guarded(async () => {
   prepareSaving();
   prepareSittings();
   prepareButtons();
-  element("version").textContent = (await program.start().catch(cannotRun)).replace("\n", ", ");
+  element("version").textContent = (await started).replace("\n", ", ");
   document.body.dataset.state = "ready";
   performance.mark("ready");
   const given = await givenFiles();
