@@ -1,6 +1,6 @@
 """Where memory or stack end: real documents and calls, in a desk whose worker and program are as they are.
 
-Only the most that the program's memory may grow to is another number here, as on a small computer.
+Only the most that the program's memory may grow to, or where its stack begins, is another number here, as on a small computer.
 """
 import base64
 import gzip
@@ -14,12 +14,16 @@ from page_seen import TOP, same, told
 
 sys.path[:0] = [os.path.join(TOP, "tools", "web"), os.path.join(TOP, "bench")]
 import make
-from wasm import number, sections_of, written
+from wasm import number, sections_of, written, written_signed
 
 PROGRAM = re.compile('(<script type="text/plain" id="program">)([^<]*)')
-MEMORY, HAS_MOST = 5, 1
+MEMORY, GLOBALS, HAS_MOST = 5, 6, 1
+# The first of the globals says where the stack begins, from which it goes down to 0: a number of 64 bits that changes, as a constant.
+STACK_POINTER = b"\x7e\x01\x42"
 # In so many pages of 64 KB a document of 2.5 MB opens, but not one of 5: that is checked, and then there is too little for its page.
 PAGES = 270
+# With so many bytes of stack the example is decided, but a document nested 512 deep isn't read.
+STACK = 32768
 TOO_DEEP = "more tables in one another than this browser can follow"
 
 
@@ -34,10 +38,24 @@ def with_most_pages(module, pages):
     return bytes(out)
 
 
-def limited(driven, pages):
-    """The desk whose program may have so many pages of memory."""
+def with_stack(module, size):
+    """The program with this many bytes of stack. Below its end there is no memory, so what overflows it ends the call."""
+    out = bytearray(module[:8])
+    for kind, content in sections_of(module):
+        if kind == GLOBALS:
+            _, at = number(content, 0)
+            if content[at : at + 3] != STACK_POINTER:
+                raise ValueError("the program's first global isn't where its stack begins")
+            _, end = number(content, at + 3)
+            content = content[: at + 3] + written_signed(size) + content[end:]
+        out += bytes([kind]) + written(len(content)) + content
+    return bytes(out)
+
+
+def limited(driven, change, size):
+    """The desk whose program is changed to this size."""
     def smaller(found):
-        module = with_most_pages(gzip.decompress(base64.b64decode(found.group(2))), pages)
+        module = change(gzip.decompress(base64.b64decode(found.group(2))), size)
         return found.group(1) + base64.b64encode(gzip.compress(module)).decode()
 
     file = os.path.join(driven.folder, "limited.html")
@@ -61,7 +79,7 @@ def stays(it, name):
 
 def little_memory(driven):
     """A document that is too large for the memory, and a call on another one that is."""
-    it = begun(driven, limited(driven, PAGES))
+    it = begun(driven, limited(driven, with_most_pages, PAGES))
     for size in (5, 10):
         said = it.drop(("large.xml", large_package(2000 * size).encode()))
         told("%d MB are too large for the memory" % size, it.is_fault() and "too little memory" in said and "redline: no memory" in said, said)
@@ -91,4 +109,15 @@ def deep_documents(driven):
             told("%s 512 deep: %s, or it is told why not" % (name, step), not it.is_fault() or TOO_DEEP in it.message(), it.message())
 
 
-CASES = [little_memory, deep_documents]
+def little_stack(driven):
+    """A document whose depth overflows the stack: the call ends, it is told, and what was on the screen stays and can be saved."""
+    it = begun(driven, limited(driven, with_stack, STACK))
+    for name in ("tables", "insertions"):
+        said = it.drop((name + ".xml", (make.FRONT + make.DEEP[name]() + make.BACK).encode()))
+        told("%s 512 deep overflow the stack, and it is told" % name, it.is_fault() and TOO_DEEP in said and "the program's stack is too small" in said, said)
+        stays(it, name + " 512 deep")
+    it.step("save")
+    told("the next call goes well", it.saves("#save-document", "contract.decided.xml").startswith(b"<?xml"))
+
+
+CASES = [little_memory, little_stack, deep_documents]

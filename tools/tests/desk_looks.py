@@ -1,6 +1,8 @@
 """How the desk looks and is heard: contrast, size, keyboard, screen reader, print; and its picture for README."""
+import os
 import time
 
+import pictures
 from desk_round import JOURNALS
 from desk_seen import Desk, example
 from page_looks import CONTRAST
@@ -101,22 +103,27 @@ def printed(driven):
     driven.look(1280, 800)
 
 
-def picture(file):
-    from chromium import Chromium
-
-    driven = Chromium()
-    try:
-        it = contract(driven)
-        driven.look(1120, 760)
-        it.name("Eve Stone")
-        for number in (2, 3):
-            it.decide(number, "accept")
-        it.run("document.getElementById('dismiss').click()")
-        it.in_page("page.document.querySelector('main').scrollTop = 0")
-        time.sleep(0.5)
-        driven.picture(file)
-    finally:
-        driven.close()
+def pictured(driven, file):
+    """The picture of the desk for README."""
+    it = contract(driven)
+    driven.look(1120, 760)
+    it.name("Eve Stone")
+    for number in (2, 3):
+        it.decide(number, "accept")
+    it.run("document.getElementById('dismiss').click()")
+    it.in_page("page.document.querySelector('main').scrollTop = 0")
+    time.sleep(0.5)
+    driven.picture(file)
+    driven.look(1280, 800)
 
 
-CASES = [looks, sizes, by_keys, for_readers, printed]
+def papers_picture(driven):
+    """README shows the desk as it is."""
+    if driven.name != "chromium":
+        return
+    made = os.path.join(driven.folder, "desk.png")
+    pictured(driven, made)
+    pictures.is_of_now(driven, "desk.png", made)
+
+
+CASES = [looks, sizes, by_keys, for_readers, printed, papers_picture]

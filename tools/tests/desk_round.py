@@ -1,9 +1,11 @@
 """A whole round at the desk: opened, decided, joined, disputed, written, saved, and gone on with; each file is what the commands give."""
 import os
 import subprocess
+import time
 
+import desk_faults
 from desk_seen import DOCX, FLATOPC, REDLINE, Desk, built, example, for_package, output, read, unpacked
-from page_seen import EXAMPLES, same, told, wait
+from page_seen import EXAMPLES, in_package, same, told, wait
 
 NAMES = ["ann", "bob", "cara"]
 JOURNALS = ["contract.%s.journal" % name for name in NAMES]
@@ -105,6 +107,85 @@ def same_as_command_line(it, docx, frozen, journals):
     same("as written: the program's page of what it writes", shown.split("<main", 1)[1], page.split("<main", 1)[1])
 
 
+def example_at_hand(driven):
+    """Who has nothing at hand begins with the example, which comes with the page."""
+    it = Desk(driven)
+    said = it.press("#example")
+    told("the example opens with its journals", "3 journals were added" in said, said)
+    same("it is the contract", [it.text("#name"), it.text("#count"), it.text("#others-badge")], ["contract.xml", "49 changes", "3"])
+    it.step("save")
+    same("with its bytes", it.saves("#save-document", "contract.decided.xml"), example("contract.written.xml"))
+
+
+MAIN_OF_DOCM = "application/vnd.ms-word.document.macroEnabled.main+xml"
+
+
+def other_forms(driven):
+    """A .docm stays one, and what was opened as an archive can be saved as a package."""
+    package, docm = os.path.join(driven.folder, "macros.xml"), os.path.join(driven.folder, "contract.docm")
+    with open(package, "wb") as out:
+        out.write(example("contract.xml").replace(desk_faults.MAIN.encode(), MAIN_OF_DOCM.encode()))
+    subprocess.run([FLATOPC, "pack", "-f", package, docm], check=True)
+    it = Desk(driven)
+    said = it.give(docm)
+    told("a .docm opens", "49 changes" in said, said)
+    it.step("save")
+    it.run("document.querySelector('input[name=how][value=accept]').click()")
+    saved = it.saves("#save-document", "contract.accepted.docm")
+    told("and is saved as one", saved[:2] == b"PK" and MAIN_OF_DOCM.encode() in unpacked(os.path.join(driven.folder, "contract.accepted.docm"), driven.folder), str(saved[:60]))
+    it.run("const it = document.getElementById('form'); it.value = 'xml'; it.dispatchEvent(new Event('change'))")
+    same("unused notes are left out of archives alone", it.run("return document.getElementById('drop-notes-label').hidden"), True)
+    saved = it.saves("#save-document", "contract.accepted.xml")
+    same("the package of the same", saved, unpacked(os.path.join(driven.folder, "contract.accepted.docm"), driven.folder))
+
+
+def unused_notes(driven):
+    """Notes that no text refers to any more are left out, where that is wished."""
+    docx = os.path.join(driven.folder, "notes.docx")
+    who = 'w:id="1" w:author="Ann" w:date="2026-11-03T14:30:00Z"'
+    body = '<w:p><w:r><w:t>a</w:t></w:r><w:del %s><w:r><w:footnoteReference w:id="2"/></w:r></w:del></w:p><w:p/>' % who
+    note = '<w:footnote w:id="2"><w:p><w:r><w:t>only a draft</w:t></w:r></w:p></w:footnote>'
+    whole = in_package(body, [("/word/footnotes.xml", "footnotes", note)])
+    for root, content in [("document", desk_faults.MAIN), ("footnotes", desk_faults.MAIN.replace("document.main", "footnotes"))]:
+        whole = whole.replace('contentType="x"><pkg:xmlData><w:' + root, 'contentType="%s"><pkg:xmlData><w:%s' % (content, root))
+    package = os.path.join(driven.folder, "notes.xml")
+    with open(package, "w", encoding="utf-8") as out:
+        out.write(whole)
+    subprocess.run([FLATOPC, "pack", "-f", package, docx], check=True)
+    it = Desk(driven)
+    it.give(docx)
+    it.step("save")
+    it.run("document.querySelector('input[name=how][value=accept]').click()")
+    for is_dropped in (False, True):
+        it.run("document.getElementById('drop-notes').checked = arguments[0]", is_dropped)
+        it.saves("#save-document", "notes.accepted.docx")
+        there = b"only a draft" in unpacked(os.path.join(driven.folder, "notes.accepted.docx"), driven.folder)
+        same("a note without a reference is " + ("left out" if is_dropped else "kept"), there, not is_dropped)
+
+
+QUESTION = "const it = page.document.querySelector('dialog[open]'); return it ? it.innerText : ''"
+
+
+def kept_at_the_desk(driven):
+    """What was decided is kept by the browser, as in a page by itself, and is asked about when the document is opened again."""
+    it = Desk(driven)
+    it.drop(("contract.xml", example("contract.xml")))
+    it.name("Eve Stone")
+    it.decide(3, "accept")
+    it.decide(5, "reject")
+    time.sleep(0.8)
+    it = Desk(driven)
+    it.drop(("contract.xml", example("contract.xml")))
+    told("what is found is asked about", wait(lambda: "Eve Stone: 2 words" in it.in_page(QUESTION)), it.in_page(QUESTION))
+    same("and not used before", it.decisions(), [])
+    it.in_page("page.document.querySelector('dialog[open] .answer[value=use]').click()")
+    told("then it is there again", wait(lambda: it.decisions() == ["3 accept", "5 reject"]), str(it.decisions()))
+    it.in_page("page.document.getElementById('undo').click()")
+    same("and can be undone as one", it.decisions(), [])
+    it.drop(("plain.xml", example("plain.xml")))
+    same("another document has none", it.decisions(), [])
+
+
 def locks_and_ranks(driven):
     it = Desk(driven)
     it.drop(*[(name, example(name)) for name in ["contract.xml", *JOURNALS]])
@@ -164,4 +245,4 @@ def sent_along(driven):
     same("which are those", [it.text("#name"), it.text("#count"), it.text("#others-badge")], ["contract.xml", "49 changes", "1"])
 
 
-CASES = [package_round, docx_round, locks_and_ranks, second_sitting] + [sent_along] * bool(REDLINE)
+CASES = [package_round, docx_round, example_at_hand, other_forms, unused_notes, kept_at_the_desk, locks_and_ranks, second_sitting] + [sent_along] * bool(REDLINE)

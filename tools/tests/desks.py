@@ -42,7 +42,7 @@ def main(words):
     if not built():
         return print("skipped the desk: it hasn't been built")
     if words[:1] == ["--picture"]:
-        return desk_looks.picture(words[1])
+        return run(lambda driven: desk_looks.pictured(driven, words[1]), Chromium)
     named = [case for case in CASES + desk_large.MEASURES if case.__name__ in words]
     for kind in [kind for kind in BROWSERS if kind.name in words] or BROWSERS:
         cases = named or (CASES if kind is Chromium or words else IN_EACH)
