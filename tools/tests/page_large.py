@@ -4,6 +4,7 @@
     python3 pages.py largest authors     200,000 changes in a package of 60 MB, and 10,000 authors: measured, three times
 """
 import os
+import time
 
 from page_seen import Seen, in_package, page_of, same, told, told_times
 
@@ -82,6 +83,9 @@ def least(driven, package, count, steps=STEPS):
     """The least times of three rounds, each in a page of its own."""
     rounds = []
     for _ in range(3):
+        # (to leave a page with 200,000 rows takes a while too, which is no part of the next one's time)
+        driven.send("Navigate", url="about:blank")
+        time.sleep(1)
         _, first = opened(driven, package)
         rounds.append(first + timed(driven, count, steps))
         driven.run("localStorage.clear()")

@@ -226,4 +226,33 @@ def far_parts_follow(driven):
         same("and with marks for " + kind, set(now), {"marks"})
 
 
-CASES = [views_are_true, where_joining_ends, undecided_is_tinted, far_parts_follow]
+# What the last elements of a document and the first ones show of the words on them, after something was done.
+SHOWN_WORDS = "%s; await null; const it = [...document.querySelectorAll('main :is(ins, del)')].map((it) => it.dataset.say || ''); done([it[0], it.at(-1)])"
+IN_TIME = "const done = arguments[arguments.length - 1]; (async () => { %s })()"
+
+
+def far_words_follow(driven):
+    """Words come to what is near sight at once, to what is far soon, and to all of it before it is printed or copied."""
+    change = "<w:p>%s<w:ins %s>%s</w:ins></w:p>" % (GONE, WHO, STAYS)
+    file = os.path.join(driven.folder, "long.xml")
+    with open(file, "w", encoding="utf-8") as out:
+        out.write(in_package(change * 4000))
+    seen = Seen(driven, page_of(file))
+    words = lambda script: driven.run_async(IN_TIME % (SHOWN_WORDS % script))
+    same("words are near sight at once", words("document.querySelector('#accept-all').click()"), ["accept", ""])
+    wait(lambda: seen.run("return document.querySelector('main').ariaBusy") == "false")
+    same("and soon far from it", words(""), ["accept", "accept"])
+    same("a far change that is chosen has its word at once", words("document.querySelector('#undo').click(); await null; (window.wrappedJSObject || window).redline.choose(8000)"), ["", ""])
+    wait(lambda: seen.run("return document.querySelector('main').ariaBusy") == "false")
+    for kind in ["copy", "beforeprint"]:
+        same("all have it for " + kind, words("document.querySelector('#accept-all').click(); await null; dispatchEvent(new Event('%s'))" % kind), ["accept", "accept"])
+        same("and lose it for " + kind, words("document.querySelector('#undo').click(); await null; dispatchEvent(new Event('%s'))" % kind), ["", ""])
+    driven.click("input[value=final]")
+    wait(lambda: seen.run("return document.querySelector('main').ariaBusy") == "false")
+    words("document.querySelector('#reject-all').click()")
+    wait(lambda: seen.run("return document.querySelector('main').ariaBusy") == "false")
+    looks = "return [...document.querySelectorAll('main del')].at(-1).checkVisibility({ visibilityProperty: true }) && ![...document.querySelectorAll('main ins')].at(-1).checkVisibility()"
+    told("in a view what is far looks as it was decided", seen.run(looks))
+
+
+CASES = [far_words_follow, views_are_true, where_joining_ends, undecided_is_tinted, far_parts_follow]

@@ -2,7 +2,7 @@
 
 /// The security policy of the page: its own style and script alone, and nothing is ever fetched.
 pub const POLICY: &str =
-    "default-src 'none'; script-src 'sha256-6UYG00Ql7TalE+v+chTvmvBpJIX1z7Ldo8MdAcCBQ9o='; style-src 'sha256-wFpCensai3EXyEzlIyN5d71ZIaFWWOrRUDUH2FLgxeo='; base-uri 'none'; form-action 'none'; require-trusted-types-for 'script'; trusted-types 'none'";
+    "default-src 'none'; script-src 'sha256-MePxmD9QQeh1Wgutd1cO3GpGgR49vRZdwQTDKB3+hLY='; style-src 'sha256-wFpCensai3EXyEzlIyN5d71ZIaFWWOrRUDUH2FLgxeo='; base-uri 'none'; form-action 'none'; require-trusted-types-for 'script'; trusted-types 'none'";
 
 /// The style sheet of the page.
 pub const STYLE: &str = "/* colours, and what all elements share */
@@ -487,7 +487,6 @@ function seeAs(view) {
   seeParts();
   if (view === \"marks\") Array.from(joinedOf.keys(), takeApart);
   else {
-    drawVerdicts();
     withLists = new Set(Array.from(main.querySelectorAll(\".mark, .row, .cell\"), listedElement));
     seeLists(withLists);
   }
@@ -548,7 +547,8 @@ function isSame(one, other) {
   return other !== undefined && one.length === other.length && one.at(-1) === other.at(-1);
 }
 
-// What is between the paragraphs goes in with them, but for line ends of the page itself.
+// What is between the paragraphs goes in with them, but for line ends of the page itself. Some come from a part that is behind,
+// and some go back to one that isn't, so what they show is drawn anew.
 function join(group) {
   const last = group.at(-1);
   const around = make(\"div\", { className: \"joined\" });
@@ -563,10 +563,12 @@ function join(group) {
   if (last.dataset.style) around.dataset.style = last.dataset.style;
   around.dir = last.dir;
   head(around);
+  drawIn(around);
   return { group, around, froms };
 }
 
 function undoJoin({ group, around, froms }) {
+  drawIn(around);
   const [[, ahead], ...others] = Array.from(froms);
   around.replaceWith(...ahead);
   for (const [parent, nodes] of others) parent.prepend(...nodes);
@@ -586,7 +588,7 @@ const SEEN_AS = { final: [\"The text that is written once the rest is accepted\"
 
 function captionView() {
   const [text, rest] = SEEN_AS[viewNow()] || [];
-  const verdicts = text ? Array.from(rows.keys(), verdictAt) : [];
+  const verdicts = text ? rows.map((_, at) => verdictAt(at)) : [];
   const [open, disputed] = [\"open\", \"disputed\"].map((it) => verdicts.filter((verdict) => verdict === it).length);
   const some = [open ? open + \" open\" : \"\", disputed ? disputed + \" disputed\" : \"\"].filter(Boolean).join(\" and \");
   viewLine.textContent = !text ? \"\" : text + \". \" + (some ? \"Tinted: \" + some + \", shown as \" + rest + \".\" : \"All is decided.\") +
@@ -705,8 +707,7 @@ function showPlace(row) {
   const [place] = placesOf(row);
   if (!place) return;
   for (let it = place.closest(\"details\"); it; it = it.parentElement.closest(\"details\")) it.open = true;
-  const group = place.closest(\".far\");
-  if (group) comeNear(group);
+  comeNear(partOf(place));
   let seen = place;
   while (seen !== main && !seen.getClientRects().length) seen = seen.previousElementSibling || seen.parentElement;
   if (seen !== main) seen.scrollIntoView({ block: \"center\" });
@@ -742,16 +743,29 @@ function wordsOfChange(at) {
   return \"Change \" + (at + 1) + \": \" + kind + \" by \" + spelled(authorsOf[at] || \"no name\") + (date === \"-\" ? \"\" : \", \" + date.slice(0, 10));
 }
 
-// The parts of the document: the groups of a long story, and the other stories. What is near sight is dressed and gets a view at
-// once. The others get the view soon after, some at a time, so that nobody waits for what isn't seen.
+// The parts of the document: the groups of a long story, and the other stories. What is near sight is dressed, and shows words
+// and view as they are now. The others follow soon after, some at a time, so that nobody waits for what isn't seen.
 
-const AT_A_TIME = 8;
+const AT_A_TIME = 4;
+// So many milliseconds after something was done the others begin to follow: until then it is shown.
+const PAUSE = 100;
 const nearParts = new Set();
-let seeing = 0;
+// The parts whose words, verdicts or view aren't those of now.
+const behind = new Set();
+let following = 0;
 
 function allParts() {
   const groupsOf = (story) => Array.from(story.querySelectorAll(\":scope > .far\"));
   return Array.from(main.children).flatMap((story) => (groupsOf(story).length ? groupsOf(story) : [story]));
+}
+
+// The part that an element of the document stands in.
+function partOf(element) {
+  return element.closest(\"section > .far, main > *\");
+}
+
+function isNear(part) {
+  return nearParts.has(part) || !part.matches(\".far\");
 }
 
 function watchParts() {
@@ -769,35 +783,40 @@ function watchParts() {
 // What a part needs before it is looked at.
 function comeNear(part) {
   dress(part);
-  seePart(part);
+  if (behind.has(part)) catchUp(part);
 }
 
-function seePart(part) {
+function catchUp(part) {
+  behind.delete(part);
   if (viewNow() === \"marks\") delete part.dataset.seen;
   else part.dataset.seen = viewNow();
+  drawIn(part);
 }
 
-// Gives the view to the parts near sight, and begins with the others.
+// Gives the view to the parts near sight, and soon to the others.
 function seeParts() {
-  const isNear = (part) => nearParts.has(part) || !part.matches(\".far\");
-  const parts = allParts();
-  parts.filter(isNear).forEach(seePart);
-  seeSoon(parts.filter((it) => !isNear(it)));
+  for (const part of allParts()) {
+    if (isNear(part)) catchUp(part);
+    else behind.add(part);
+  }
+  followSoon();
 }
 
-function seeSoon(parts) {
-  clearTimeout(seeing);
-  parts.slice(0, AT_A_TIME).forEach(seePart);
-  const rest = parts.slice(AT_A_TIME);
-  main.ariaBusy = String(rest.length > 0);
-  if (rest.length) seeing = setTimeout(() => seeSoon(rest), 0);
+function followSoon(after = PAUSE) {
+  clearTimeout(following);
+  if (behind.size) following = setTimeout(catchUpSome, after);
+  if (behind.size || main.ariaBusy) main.ariaBusy = String(behind.size > 0);
 }
 
-// What is printed, and what is copied, is all of the view.
+function catchUpSome() {
+  Array.from(behind).slice(0, AT_A_TIME).forEach(catchUp);
+  followSoon(0);
+}
+
+// What is printed, and what is copied, is all as it is now.
 function seeAll() {
-  if (main.ariaBusy !== \"true\") return;
-  allParts().forEach(seePart);
-  seeSoon([]);
+  Array.from(behind, catchUp);
+  followSoon();
 }
 
 // Excerpts: what a change is about, in a few words, with the changes around it.
@@ -1144,6 +1163,7 @@ const ownRank = Number(document.body.dataset.rank || 0);
 function verdictAt(at) {
   if (!words[at]) return verdictsOf[at];
   const others = saysOn(at).filter((it) => it.who !== reviewer);
+  if (!others.length) return words[at] === \"withdraw\" ? \"open\" : words[at];
   const said = [...others, { word: words[at], rank: ownRank }].filter((it) => it.word !== \"withdraw\");
   const highest = Math.max(...said.map((it) => it.rank));
   const deciding = new Set(said.filter((it) => it.rank === highest).map((it) => it.word));
@@ -1228,10 +1248,6 @@ const REST = { final: \"accept\", original: \"reject\" };
 // Whether a paragraph that shows nothing has a comment `holds` where it holds an element in no change.
 const TELLS_HELD = false;
 
-function isDecided(verdict) {
-  return verdict === \"accept\" || verdict === \"reject\";
-}
-
 // A pass decides some changes: the first one those with a verdict, and the second one the rest. It has a word on the
 // change of a member, or none.
 function passes(rest) {
@@ -1311,9 +1327,8 @@ function leftOf(list, rest) {
 
 // How words and verdicts are shown: on the row of a change, on its buttons, and on its elements in the document.
 
-// Places whose words changed since they were drawn, and those whose verdicts did.
+// Places whose words changed since they were drawn.
 let undrawn = new Set();
-let unjudged = new Set(allPlaces().filter((at) => verdictsOf[at] !== \"open\"));
 
 function redraw(at) {
   if (!undrawn.size) queueMicrotask(drawWords);
@@ -1325,26 +1340,38 @@ function redrawAll() {
 }
 
 function drawWords() {
-  const now = undrawn;
+  const now = Array.from(undrawn);
   undrawn = new Set();
   for (const at of now) {
-    for (const it of [rows[at], ...placesAt(at)]) set(it, \"say\", words[at]);
+    set(rows[at], \"say\", words[at]);
     press(rows[at]);
-    unjudged.add(at);
+    placesAt(at).forEach(drawWhereNear);
   }
+  followSoon();
   if (viewNow() === \"marks\") return;
-  drawVerdicts();
-  const touched = new Set(Array.from(now).flatMap((at) => placesAt(at).map(listedElement)));
+  const touched = new Set(now.flatMap((at) => placesAt(at).map(listedElement)));
   seeLists(Array.from(touched).filter((it) => withLists.has(it)));
   captionView();
 }
 
-function drawVerdicts() {
-  for (const at of unjudged) {
-    const verdict = verdictAt(at);
-    for (const it of placesAt(at)) set(it, \"verdict\", verdict === \"open\" ? \"\" : verdict);
-  }
-  unjudged = new Set();
+// What is far from sight is drawn when its part catches up.
+function drawWhereNear(place) {
+  const part = partOf(place);
+  if (isNear(part)) draw(place);
+  else behind.add(part);
+}
+
+function drawIn(root) {
+  root.querySelectorAll(\"[data-revision]\").forEach(draw);
+}
+
+// Shows on an element of a change its word, and in a view without marks its verdict.
+function draw(place) {
+  const at = placeOf(place);
+  set(place, \"say\", words[at]);
+  if (viewNow() === \"marks\") return;
+  const verdict = verdictAt(at);
+  set(place, \"verdict\", verdict === \"open\" ? \"\" : verdict);
 }
 
 function set(element, key, value) {

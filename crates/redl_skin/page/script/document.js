@@ -109,8 +109,7 @@ function showPlace(row) {
   const [place] = placesOf(row);
   if (!place) return;
   for (let it = place.closest("details"); it; it = it.parentElement.closest("details")) it.open = true;
-  const group = place.closest(".far");
-  if (group) comeNear(group);
+  comeNear(partOf(place));
   let seen = place;
   while (seen !== main && !seen.getClientRects().length) seen = seen.previousElementSibling || seen.parentElement;
   if (seen !== main) seen.scrollIntoView({ block: "center" });

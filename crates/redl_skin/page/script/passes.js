@@ -6,10 +6,6 @@ const REST = { final: "accept", original: "reject" };
 // Whether a paragraph that shows nothing has a comment `holds` where it holds an element in no change.
 const TELLS_HELD = false;
 
-function isDecided(verdict) {
-  return verdict === "accept" || verdict === "reject";
-}
-
 // A pass decides some changes: the first one those with a verdict, and the second one the rest. It has a word on the
 // change of a member, or none.
 function passes(rest) {

@@ -1,8 +1,7 @@
 // How words and verdicts are shown: on the row of a change, on its buttons, and on its elements in the document.
 
-// Places whose words changed since they were drawn, and those whose verdicts did.
+// Places whose words changed since they were drawn.
 let undrawn = new Set();
-let unjudged = new Set(allPlaces().filter((at) => verdictsOf[at] !== "open"));
 
 function redraw(at) {
   if (!undrawn.size) queueMicrotask(drawWords);
@@ -14,26 +13,38 @@ function redrawAll() {
 }
 
 function drawWords() {
-  const now = undrawn;
+  const now = Array.from(undrawn);
   undrawn = new Set();
   for (const at of now) {
-    for (const it of [rows[at], ...placesAt(at)]) set(it, "say", words[at]);
+    set(rows[at], "say", words[at]);
     press(rows[at]);
-    unjudged.add(at);
+    placesAt(at).forEach(drawWhereNear);
   }
+  followSoon();
   if (viewNow() === "marks") return;
-  drawVerdicts();
-  const touched = new Set(Array.from(now).flatMap((at) => placesAt(at).map(listedElement)));
+  const touched = new Set(now.flatMap((at) => placesAt(at).map(listedElement)));
   seeLists(Array.from(touched).filter((it) => withLists.has(it)));
   captionView();
 }
 
-function drawVerdicts() {
-  for (const at of unjudged) {
-    const verdict = verdictAt(at);
-    for (const it of placesAt(at)) set(it, "verdict", verdict === "open" ? "" : verdict);
-  }
-  unjudged = new Set();
+// What is far from sight is drawn when its part catches up.
+function drawWhereNear(place) {
+  const part = partOf(place);
+  if (isNear(part)) draw(place);
+  else behind.add(part);
+}
+
+function drawIn(root) {
+  root.querySelectorAll("[data-revision]").forEach(draw);
+}
+
+// Shows on an element of a change its word, and in a view without marks its verdict.
+function draw(place) {
+  const at = placeOf(place);
+  set(place, "say", words[at]);
+  if (viewNow() === "marks") return;
+  const verdict = verdictAt(at);
+  set(place, "verdict", verdict === "open" ? "" : verdict);
 }
 
 function set(element, key, value) {

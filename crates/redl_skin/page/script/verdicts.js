@@ -8,6 +8,7 @@ const ownRank = Number(document.body.dataset.rank || 0);
 function verdictAt(at) {
   if (!words[at]) return verdictsOf[at];
   const others = saysOn(at).filter((it) => it.who !== reviewer);
+  if (!others.length) return words[at] === "withdraw" ? "open" : words[at];
   const said = [...others, { word: words[at], rank: ownRank }].filter((it) => it.word !== "withdraw");
   const highest = Math.max(...said.map((it) => it.rank));
   const deciding = new Set(said.filter((it) => it.rank === highest).map((it) => it.word));

@@ -20,7 +20,6 @@ function seeAs(view) {
   seeParts();
   if (view === "marks") Array.from(joinedOf.keys(), takeApart);
   else {
-    drawVerdicts();
     withLists = new Set(Array.from(main.querySelectorAll(".mark, .row, .cell"), listedElement));
     seeLists(withLists);
   }
@@ -81,7 +80,8 @@ function isSame(one, other) {
   return other !== undefined && one.length === other.length && one.at(-1) === other.at(-1);
 }
 
-// What is between the paragraphs goes in with them, but for line ends of the page itself.
+// What is between the paragraphs goes in with them, but for line ends of the page itself. Some come from a part that is behind,
+// and some go back to one that isn't, so what they show is drawn anew.
 function join(group) {
   const last = group.at(-1);
   const around = make("div", { className: "joined" });
@@ -96,10 +96,12 @@ function join(group) {
   if (last.dataset.style) around.dataset.style = last.dataset.style;
   around.dir = last.dir;
   head(around);
+  drawIn(around);
   return { group, around, froms };
 }
 
 function undoJoin({ group, around, froms }) {
+  drawIn(around);
   const [[, ahead], ...others] = Array.from(froms);
   around.replaceWith(...ahead);
   for (const [parent, nodes] of others) parent.prepend(...nodes);
@@ -119,7 +121,7 @@ const SEEN_AS = { final: ["The text that is written once the rest is accepted", 
 
 function captionView() {
   const [text, rest] = SEEN_AS[viewNow()] || [];
-  const verdicts = text ? Array.from(rows.keys(), verdictAt) : [];
+  const verdicts = text ? rows.map((_, at) => verdictAt(at)) : [];
   const [open, disputed] = ["open", "disputed"].map((it) => verdicts.filter((verdict) => verdict === it).length);
   const some = [open ? open + " open" : "", disputed ? disputed + " disputed" : ""].filter(Boolean).join(" and ");
   viewLine.textContent = !text ? "" : text + ". " + (some ? "Tinted: " + some + ", shown as " + rest + "." : "All is decided.") +
