@@ -32,9 +32,13 @@ def escaped(text):
 
 
 def stamp(element):
-    """Author and minute of a member, each as a field of a line."""
+    """Author and minute of a member."""
     minute = (element.attribute("date") or "").encode()[:16].decode(errors="ignore")
-    return "%s\t%s" % (escaped(element.attribute("author") or ""), escaped(minute))
+    return element.attribute("author") or "", minute
+
+
+def mark(kind, element):
+    return (MARKS.index(kind),) + stamp(element)
 
 
 class Writer:
@@ -48,7 +52,7 @@ class Writer:
         self.marks = None
 
     def text(self, round_it, text):
-        """Units of text, under the stamps of what is round them by kind."""
+        """Units of text, under the marks of what is round them."""
         if not text:
             return
         marks = fields(round_it)
@@ -60,7 +64,8 @@ class Writer:
 
 
 def fields(round_it):
-    return "".join("%s\t%s\t" % (kind, round_it[kind]) for kind in MARKS if kind in round_it)
+    """The marks round a unit, in order of kind, author and minute."""
+    return "".join("%s\t%s\t%s\t" % (MARKS[place], escaped(author), escaped(minute)) for place, author, minute in sorted(round_it))
 
 
 def run_change(run):
@@ -93,12 +98,13 @@ def put_element(writer, element, round_it):
     if element.space == "other" and local == "Fallback":
         return
     if element.role == "content":
-        round_it = dict(round_it, **{TRACES[element.trace]: stamp(element)})
+        round_it = round_it | {mark(TRACES[element.trace], element)}
     elif element.role not in (None, "marker") and not is_change_of_run(element):
-        writer.line("+%s\t%s" % (reading.kind_name(element), stamp(element)))
+        author, minute = stamp(element)
+        writer.line("+%s\t%s\t%s" % (reading.kind_name(element), escaped(author), escaped(minute)))
     is_w = element.space == "W" and reading.is_open(element) and not reading.is_quiet(element)
     if is_w and local == "r" and run_change(element) is not None:
-        round_it = dict(round_it, **{"run-props": stamp(run_change(element))})
+        round_it = round_it | {mark("run-props", run_change(element))}
     if is_w:
         put_begin(writer, element, round_it)
     is_field = is_w and local == "fldSimple"
@@ -145,14 +151,14 @@ def bare_text(package):
         for root in roots:
             if root.local == local:
                 writer.line("= " + kind)
-                put(writer, root.kids, {})
+                put(writer, root.kids, frozenset())
     for kind in NOTES:
         notes = [note for root in roots for note in reading.kids_named(root.kids, kind) if note.attribute("type") is None]
         for ident in ids[kind]:
             for note in notes:
                 if (note.written_value("id") or "") == ident:
                     writer.line("= " + kind)
-                    put(writer, note.kids, {})
+                    put(writer, note.kids, frozenset())
     return "".join(line + "\n" for line in writer.lines).encode()
 
 

@@ -17,7 +17,7 @@ use Rattle.redl_stamp.specs.Attribute.{attribute_value}
 use Rattle.redl_reading.specs.Steps.{or_else}
 use Rattle.redl_idle.specs.Shows.{shows}
 use Rattle.redl_idle.proofs.RoleLaws.{name_same, quiet_same}
-use Rattle.redl_bare.specs.Marks.{Marks, stamp_in, value_in, is_run_change, change_in, run_change, with_content, with_format, marks_inside}
+use Rattle.redl_bare.specs.Marks.{Marks, stamp_in, value_in, is_run_change, change_in, run_change, format_mark, own_mark, with_own, marks_inside}
 use Rattle.redl_bare.specs.Units.{Text, text, thing, member, story, BareUnit, has_line, is_other, is_left_out, is_text, field_inside, open_inside, place_inside, field_texts, short_texts, start_texts, end_texts, start_things, open_units, start_units, end_things, end_units, is_open_place, in_marks, byte_texts, units_in}
 use Rattle.redl_bare.specs.Units.{byte, object, picture, footnote_reference, endnote_reference, symbol, place_tab, soft_hyphen, field_part}
 use Rattle.redl_bare.specs.BareText.{text_body, texts_body}
@@ -168,9 +168,9 @@ run_none in_run (element tag kids rest) h =
 
 marks_idle : (marks : Marks) (in_run : Bool) (tag : Tag) (kids : Nodes) → Idle in_run tag → is_idle_in (is "r" tag) kids ≡ true → marks_inside marks tag kids ≡ marks
 marks_idle marks in_run tag kids i h =
-    ap (λ kind. with_format (with_content marks kind tag.tail) (if is "r" tag then run_change kids else None)) i.kind
-    ∙ ap (λ c. with_format marks (if is "r" tag then c else None)) (run_none (is "r" tag) kids h)
-    ∙ ap (λ c. with_format marks c) (same_both (is "r" tag) None)
+    ap (λ kind. with_own marks (own_mark kind tag kids)) i.kind
+    ∙ ap (λ c. with_own marks (format_mark (if is "r" tag then c else None))) (run_none (is "r" tag) kids h)
+    ∙ ap (λ c. with_own marks (format_mark c)) (same_both (is "r" tag) None)
 
 -- ---- nodes
 

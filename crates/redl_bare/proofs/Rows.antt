@@ -2,7 +2,7 @@
 use Rattle.std.proofs.Common.{◌≡◌, ℕ, List, [], codes, refl}
 use Rattle.redl_tree.specs.Model.Nodes.{Nodes, no_nodes, Empty, End, ◌⊕◌}
 use Rattle.redl_tree.specs.declared.kinds.Kind.TheVariants.{Mark, Row, Change}
-use Rattle.redl_tree.specs.declared.kinds.Trace.TheVariants.{Ins, Del}
+use Rattle.redl_tree.specs.declared.kinds.Trace.TheVariants.{Ins, Del, To}
 use Rattle.redl_tree.specs.declared.kinds.Space.TheVariants.{W, Other}
 use Rattle.redl_tree.specs.declared.kinds.Prop.TheVariants.{Run}
 use Rattle.redl_tree.proofs.Model.Build.{tag_in, one, opened, closed, member, content, words, run, deleted_run}
@@ -39,6 +39,24 @@ nested : bare (opened "p" (content Ins 1 "ins" " w:id=\"1\" w:author=\"Ann Gray\
 unfolding attributes_of attribute_in attribute_at name_at word_at char_at name_end name_step may_start may_follow is_name_start is_name_character is_space equated_at quoted_at field_at quote_at is_value
 nested = refl
 
+-- an insertion in one by another author has both marks, in the order of the authors
+two_authors : bare (opened "p" (content Ins 1 "ins" " w:author=\"Bob\"" (run "a" ⊕ content Ins 2 "ins" " w:author=\"Ann\"" (run "b"))))
+    ≡ codes "= document\nins\tBob\t\t|a\nins\tAnn\t\tins\tBob\t\t|b\n*paragraph\n"
+unfolding attributes_of attribute_in attribute_at name_at word_at char_at name_end name_step may_start may_follow is_name_start is_name_character is_space equated_at quoted_at field_at quote_at is_value
+two_authors = refl
+
+-- and one by the same author in the same minute has the mark once, so that its text goes on in the line
+one_author : bare (opened "p" (content Ins 1 "ins" " w:author=\"Ann\"" (run "a" ⊕ content Ins 2 "ins" " w:author=\"Ann\"" (run "b"))))
+    ≡ codes "= document\nins\tAnn\t\t|ab\n*paragraph\n"
+unfolding attributes_of attribute_in attribute_at name_at word_at char_at name_end name_step may_start may_follow is_name_start is_name_character is_space equated_at quoted_at field_at quote_at is_value
+one_author = refl
+
+-- the order in which elements are nested is of no account
+either_order : bare (opened "p" (content To 1 "moveTo" " w:author=\"Bob\"" (content Ins 2 "ins" " w:author=\"Bob\"" (run "a")) ⊕ content Ins 3 "ins" " w:author=\"Bob\"" (content To 4 "moveTo" " w:author=\"Bob\"" (run "b"))))
+    ≡ codes "= document\nins\tBob\t\tmove-to\tBob\t\t|ab\n*paragraph\n"
+unfolding attributes_of attribute_in attribute_at name_at word_at char_at name_end name_step may_start may_follow is_name_start is_name_character is_space equated_at quoted_at field_at quote_at is_value
+either_order = refl
+
 -- the mark of a paragraph's end has a line at the begin of the paragraph
 marked : bare (opened "p" (opened "pPr" (opened "rPr" (member (Mark Del) 1 "del" " w:author=\"Bob\"" Empty no_nodes)) ⊕ run "a"))
     ≡ codes "= document\n+mark-del\tBob\t\n|a\n*paragraph\n"
@@ -57,11 +75,17 @@ row : bare (opened "tbl" (opened "tr" (opened "trPr" (member (Row Ins) 1 "ins" "
 unfolding attributes_of attribute_in attribute_at name_at word_at char_at name_end name_step may_start may_follow is_name_start is_name_character is_space equated_at quoted_at field_at quote_at is_value
 row = refl
 
--- a picture and the parts of a field; the second form of what is kept twice is left out
-objects : bare (opened "p" (opened "r" (opened "drawing" no_nodes ⊕ closed "fldChar" " w:fldCharType=\"begin\"") ⊕ one (tag_in Other "mc" "Fallback" "" (End [])) (run "no")))
+-- a picture and a part of a field
+objects : bare (opened "p" (opened "r" (opened "drawing" no_nodes ⊕ closed "fldChar" " w:fldCharType=\"begin\"")))
     ≡ codes "= document\n|\\[picture]\\[field begin]\n*paragraph\n"
 unfolding attributes_of attribute_in attribute_at name_at word_at char_at name_end name_step may_start may_follow is_name_start is_name_character is_space equated_at quoted_at field_at quote_at is_value
 objects = refl
+
+-- of content that is kept twice the second form is left out, with what it holds
+kept_twice : bare (opened "p" (one (tag_in Other "mc" "AlternateContent" "" (End [])) (one (tag_in Other "mc" "Choice" " Requires=\"wps\"" (End [])) (opened "r" (opened "drawing" (opened "p" (run "a")))) ⊕ one (tag_in Other "mc" "Fallback" "" (End [])) (opened "r" (opened "pict" (opened "p" (run "a")))))))
+    ≡ codes "= document\n|\\[picture]a\n*paragraph\n*paragraph\n"
+unfolding attributes_of attribute_in attribute_at name_at word_at char_at name_end name_step may_start may_follow is_name_start is_name_character is_space equated_at quoted_at field_at quote_at is_value
+kept_twice = refl
 
 -- what would be taken for a sign is escaped, and a reference is its character
 escapes : bare (opened "p" (run "a\\[b] &lt;|"))

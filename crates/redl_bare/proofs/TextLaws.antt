@@ -1,13 +1,15 @@
 -- Texts with equal marks are one line.
-use Rattle.std.proofs.Common.{◌≡◌, ℕ, List, [], ◌∷◌, ◌++◌, map, length, ◌≤◌, ◌<◌, arith, Bool, true, false, ◌||◌, not, codes, bytes_eq, Option, Some, None, refl, sym, ap, ◌∙◌, append_assoc, eqb, if◌then◌else◌}
+use Rattle.std.proofs.Common.{◌≡◌, ℕ, List, [], ◌∷◌, ◌++◌, map, length, ◌≤◌, ◌<◌, arith, Bool, true, false, ◌&&◌, ◌||◌, not, codes, bytes_eq, Option, Some, refl, sym, ap, ◌∙◌, append_assoc, eqb, if◌then◌else◌}
 use Rattle.std.proofs.lemmas.Bool.{and_from, eqb-true}
 use Rattle.std.proofs.lemmas.List.{nil_from_length}
 use Rattle.std.proofs.lemmas.List.Concat.{flat_map-append}
 use Rattle.std.proofs.lemmas.Slice.Eq.{bytes_eq-Decides}
 use Rattle.redl_reading.specs.Lists.{front, after}
-use Rattle.redl_bare.specs.Marks.{Stamp, Marks, same_stamp, same_marks}
+use Rattle.redl_bare.specs.Marks.{Mark, Marks, sign_place, same_mark, same_marks}
 use Rattle.redl_bare.specs.Units.{Text, byte, object, field_begin, field_separate, in_marks}
 use Rattle.redl_bare.specs.BareText.{byte_escaped, escaped, text_body, texts_body, goes_on, closing, marks_text, text_begin, lines, line_after_all}
+use Rattle.redl_marks.specs.declared.sign.Sign.{Sign}
+use Rattle.redl_marks.specs.declared.sign.Sign.TheVariants.{Inserted, Deleted, MovedTo, MovedFrom, Formatted}
 use Rattle.redl_bare.specs.Inside.Escapes.{is_plain, is_empty}
 
 -- ---- marks are the same as themselves
@@ -15,12 +17,21 @@ use Rattle.redl_bare.specs.Inside.Escapes.{is_plain, is_empty}
 bytes_same : (xs : List ℕ) → bytes_eq xs xs ≡ true
 bytes_same xs = (bytes_eq-Decides xs xs).1 refl
 
-stamp_same : (slot : Option Stamp) → same_stamp slot slot ≡ true
-stamp_same None = refl
-stamp_same (Some stamp) = and_from (bytes_eq stamp.author stamp.author) (bytes_eq stamp.minute stamp.minute) (bytes_same stamp.author) (bytes_same stamp.minute)
+mark_same : (mark : Mark) → same_mark mark mark ≡ true
+mark_same mark =
+    and_from (eqb (sign_place mark.sign) (sign_place mark.sign)) (bytes_eq mark.stamp.author mark.stamp.author && bytes_eq mark.stamp.minute mark.stamp.minute) (sign_same mark.sign)
+    (and_from (bytes_eq mark.stamp.author mark.stamp.author) (bytes_eq mark.stamp.minute mark.stamp.minute) (bytes_same mark.stamp.author) (bytes_same mark.stamp.minute))
+  where
+    sign_same : (sign : Sign) → eqb (sign_place sign) (sign_place sign) ≡ true
+    sign_same Inserted = refl
+    sign_same Deleted = refl
+    sign_same MovedTo = refl
+    sign_same MovedFrom = refl
+    sign_same Formatted = refl
 
 pub marks_same : (marks : Marks) → same_marks marks marks ≡ true
-marks_same marks = rw (stamp_same marks.inserted, stamp_same marks.deleted, stamp_same marks.moved_to, stamp_same marks.moved_from, stamp_same marks.formatted) refl
+marks_same [] = refl
+marks_same (mark ∷ marks) = and_from (same_mark mark mark) (same_marks marks marks) (mark_same mark) (marks_same marks)
 
 -- ---- a text is never empty
 

@@ -1,13 +1,14 @@
 -- The walk goes over a list node by node.
-use Rattle.std.proofs.Common.{◌≡◌, ℕ, List, ◌++◌, codes, Bool, true, false, Some, None, refl, sym, ap, ◌∙◌, append_assoc, if◌then◌else◌}
+use Rattle.std.proofs.Common.{◌≡◌, ℕ, List, [], ◌++◌, append-nil, codes, Bool, true, false, Some, None, refl, sym, ap, ◌∙◌, append_assoc, if◌then◌else◌}
 use Rattle.redl_reading.specs.Steps.{or_else}
 use Rattle.redl_tree.specs.Model.Nodes.{Tag, Nodes, no_nodes, bytes, element, Item, bytes_item, element_item, idle_item, in_front, ◌⊕◌}
 use Rattle.redl_tree.specs.Model.IdleTexts.{idle_nodes}
 use Rattle.redl_bare.specs.Marks.{Stamp, Marks, stamp_in, value_in, is_run_change, change_in, run_change, marks_inside}
 use Rattle.redl_tree.specs.Roles.Names.{is}
-use Rattle.redl_bare.specs.Units.{field_texts, short_texts, start_texts, in_marks, byte_texts, place_inside, start_units, end_units, units_in}
-use Rattle.redl_bare.specs.Inside.Items.{element_units, item_units, item_change_in, item_change}
+use Rattle.redl_bare.specs.Units.{field_texts, short_texts, start_texts, in_marks, byte_texts, place_inside, units_in}
+use Rattle.redl_bare.specs.Inside.Items.{held_units, element_units, item_units, item_change_in, item_change}
 use Rattle.redl_bare.specs.declared.place.Place.{Place}
+use Rattle.redl_marks.specs.declared.marks.Marks as code_marks
 use Rattle.redl_bare.proofs.IdleLaws.{change_in_idle, run_change_idle}
 
 units-⊕ : (place : Place) (marks : Marks) (xs ys : Nodes) → units_in place marks (xs ⊕ ys) ≡ units_in place marks xs ++ units_in place marks ys
@@ -24,15 +25,22 @@ units-in_front place marks (bytes_item b) rest = refl
 units-in_front place marks (element_item tag kids) rest = refl
 units-in_front place marks (idle_item t) rest = units-⊕ place marks (idle_nodes t) rest
 
--- an element's units, with its kids, their place and their marks as the code has them
-pub element_read : (place inner : Place) (marks inside : Marks) (tag : Tag) (kids read : Nodes) → inner ≡ place_inside place tag → inside ≡ marks_inside marks tag kids → read ≡ kids
-    → element_units place marks tag kids ≡ start_units place marks tag ++ (units_in inner inside read ++ end_units place marks tag)
-element_read place inner marks inside tag kids read e f g =
-    ap (λ p. start_units place marks tag ++ (units_in p (marks_inside marks tag kids) kids ++ end_units place marks tag)) (sym e)
-    ∙ ap (λ m. start_units place marks tag ++ (units_in inner m kids ++ end_units place marks tag)) (sym f)
-    ∙ ap (λ n. start_units place marks tag ++ (units_in inner inside n ++ end_units place marks tag)) (sym g)
+-- the units of what an element holds, with its kids, their place and their marks as the code has them
+pub held_read : (place inner : Place) (marks inside : Marks) (tag : Tag) (kids read : Nodes) → inner ≡ place_inside place tag → inside ≡ marks_inside marks tag kids → read ≡ kids
+    → held_units place marks tag kids ≡ units_in inner inside read
+held_read place inner marks inside tag kids read e f g =
+    ap (λ p. units_in p (marks_inside marks tag kids) kids) (sym e) ∙ ap (λ m. units_in inner m kids) (sym f) ∙ ap (units_in inner inside) (sym g)
 
--- what an element shows at its start tag, where it is a field and where it isn't
+-- and nothing after them
+pub held_alone : (place inner : Place) (marks inside : Marks) (tag : Tag) (kids read : Nodes) → inner ≡ place_inside place tag → inside ≡ marks_inside marks tag kids → read ≡ kids
+    → held_units place marks tag kids ≡ units_in inner inside read ++ []
+held_alone place inner marks inside tag kids read e f g =
+    held_read place inner marks inside tag kids read e f g ∙ sym (append-nil (units_in inner inside read))
+
+-- marks are told by their list
+pub marks_by_items : (m k : code_marks.Marks) → m.list.items ≡ k.list.items → m ≡ k
+marks_by_items m k e = ap (λ l. record { list = record { items = l } }) e
+
 pub start_field : (tag : Tag) (b : Bool) (code : List ℕ) → b ≡ is "fldSimple" tag → b ≡ true → code ≡ value_in tag.tail (codes "instr") → start_texts tag ≡ field_texts code
 start_field tag b code e f g =
     ap (λ t. if t then field_texts (value_in tag.tail (codes "instr")) else short_texts tag) (sym e ∙ f) ∙ ap field_texts (sym g)

@@ -6,12 +6,14 @@ use Rattle.redl_tree.specs.Model.Nodes.{Nodes}
 use Rattle.redl_tree.specs.declared.kinds.Trace.{Trace}
 use Rattle.redl_tree.specs.declared.kinds.Trace.TheVariants.{Ins, Del, From, To}
 use Rattle.redl_tree.specs.declared.kinds.Kind.{Kind}
-use Rattle.redl_tree.specs.declared.kinds.Kind.TheVariants.{Mark, Row as RowMember, Cell as CellMember, Change}
+use Rattle.redl_tree.specs.declared.kinds.Kind.TheVariants.{Mark as MarkMember, Row as RowMember, Cell as CellMember, Change}
 use Rattle.redl_tree.specs.declared.kinds.Prop.{Prop}
 use Rattle.redl_tree.specs.declared.kinds.Prop.TheVariants as props
 use Rattle.redl_shown.specs.Shown.{shown}
-use Rattle.redl_bare.specs.Marks.{Stamp, Marks, same_marks}
+use Rattle.redl_bare.specs.Marks.{Stamp, Mark, Marks, same_marks}
 use Rattle.redl_bare.specs.Units.{Object, picture, footnote_reference, endnote_reference, symbol, place_tab, soft_hyphen, field_begin, field_separate, field_end, Text, byte, object, BareUnit, text, thing, member, story, package_units}
+use Rattle.redl_marks.specs.declared.sign.Sign.{Sign}
+use Rattle.redl_marks.specs.declared.sign.Sign.TheVariants.{Inserted, Deleted, MovedTo, MovedFrom, Formatted}
 use Rattle.redl_bare.specs.declared.units.Thing.{Thing}
 use Rattle.redl_bare.specs.declared.units.Thing.TheVariants.{Paragraph, Row, Cell}
 use Rattle.redl_bare.specs.declared.units.Story.{Story}
@@ -56,16 +58,19 @@ texts_body texts = flat_map text_body texts
 abbrev pub stamp_text : Stamp → List ℕ
 stamp_text stamp = escaped (shown stamp.author) ++ (9 ∷ escaped (shown stamp.minute))
 
-abbrev pub mark_text : List ℕ → Option Stamp → List ℕ
-mark_text name None = []
-mark_text name (Some stamp) = name ++ (9 ∷ (stamp_text stamp ++ (9 ∷ [])))
+abbrev pub sign_name : Sign → List ℕ
+sign_name Inserted = codes "ins"
+sign_name Deleted = codes "del"
+sign_name MovedTo = codes "move-to"
+sign_name MovedFrom = codes "move-from"
+sign_name Formatted = codes "run-props"
+
+-- a mark has a tab after each of its fields
+abbrev pub mark_text : Mark → List ℕ
+mark_text mark = sign_name mark.sign ++ (9 ∷ (stamp_text mark.stamp ++ (9 ∷ [])))
 
 abbrev pub marks_text : Marks → List ℕ
-marks_text marks =
-    mark_text (codes "ins") marks.inserted
-    ++ (mark_text (codes "del") marks.deleted
-    ++ (mark_text (codes "move-to") marks.moved_to
-    ++ (mark_text (codes "move-from") marks.moved_from ++ mark_text (codes "run-props") marks.formatted)))
+marks_text marks = flat_map mark_text marks
 
 -- ---- lines
 
@@ -98,7 +103,7 @@ prop_name props.Cell = codes "cell-props"
 
 -- the name that a member of this kind has in listings
 abbrev pub member_name : Kind → List ℕ
-member_name (Mark trace) = codes "mark-" ++ trace_name trace
+member_name (MarkMember trace) = codes "mark-" ++ trace_name trace
 member_name (RowMember trace) = codes "row-" ++ trace_name trace
 member_name (CellMember trace) = codes "cell-" ++ trace_name trace
 member_name (Change prop) = prop_name prop

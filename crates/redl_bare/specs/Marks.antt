@@ -1,7 +1,7 @@
 -- The marks of a unit (our own rule; ECMA-376 Part 1, 17.13.5 for the changes): who inserted it, deleted it, moved it to here, moved it
--- from here, or changed the properties of its run, and when. Of several such changes round a unit the nearest of each kind counts.
--- Authors and dates are those that are written, before references are read.
-use Rattle.std.specs.Prelude.{ℕ, List, Bool, true, false, ◌&&◌, codes, take, bytes_eq, Option, Some, None, if◌then◌else◌}
+-- from here, or changed the properties of its run, and when. They are the set of these changes round the unit.
+use Rattle.std.specs.Prelude.{ℕ, List, Bool, true, false, codes, take, Option, Some, None, if◌then◌else◌}
+use Rattle.std.specs.Option.{option_map}
 use Rattle.redl_tree.specs.Model.Nodes.{Tag, Nodes, no_nodes, bytes, element}
 use Rattle.redl_tree.specs.Roles.Names.{is}
 use Rattle.redl_tree.specs.declared.kinds.Trace.{Trace}
@@ -10,44 +10,22 @@ use Rattle.redl_tree.specs.declared.kinds.Prop.TheVariants.{Run}
 use Rattle.redl_tree.specs.declared.kinds.Kind.{Kind}
 use Rattle.redl_tree.specs.declared.kinds.Kind.TheVariants.{Content, Change}
 use Rattle.redl_reading.specs.Steps.{or_else}
+use Rattle.redl_marks.specs.declared.sign.Sign.{Sign}
+use Rattle.redl_marks.specs.declared.sign.Sign.TheVariants.{Inserted, Deleted, MovedTo, MovedFrom, Formatted}
+pub use Rattle.redl_marks.specs.Marks.{Stamp, Mark, Marks, no_marks, sign_place, with_mark, same_mark, same_marks}
 pub use Rattle.redl_order.specs.Values.{value_in}
-
--- who made a change, and the minute on the clock when: `YYYY-MM-DDThh:mm`, without seconds and zone
-pub record Stamp : Type 0 where
-  pub author : List ℕ
-  pub minute : List ℕ
 
 -- the stamp in a tag's tail
 abbrev pub stamp_in : List ℕ → Stamp
 stamp_in tail = record { author = value_in tail (codes "author"); minute = take 16 (value_in tail (codes "date")) }
 
--- one mark of each kind, or none
-pub record Marks : Type 0 where
-  pub inserted : Option Stamp
-  pub deleted : Option Stamp
-  pub moved_to : Option Stamp
-  pub moved_from : Option Stamp
-  pub formatted : Option Stamp
-
-abbrev pub no_marks : Marks
-no_marks = record { inserted = None; deleted = None; moved_to = None; moved_from = None; formatted = None }
-
 -- ---- the marks inside an element
 
-abbrev pub with_trace : Marks → Trace → Stamp → Marks
-with_trace marks Ins stamp = record marks { inserted = Some stamp }
-with_trace marks Del stamp = record marks { deleted = Some stamp }
-with_trace marks To stamp = record marks { moved_to = Some stamp }
-with_trace marks From stamp = record marks { moved_from = Some stamp }
-
--- inside an element of this kind and with this tail: content that was inserted, deleted or moved marks what it holds
-abbrev pub with_content : Marks → Kind → List ℕ → Marks
-with_content marks (Content trace) tail = with_trace marks trace (stamp_in tail)
-with_content marks _ tail = marks
-
-abbrev pub with_format : Marks → Option Stamp → Marks
-with_format marks None = marks
-with_format marks (Some stamp) = record marks { formatted = Some stamp }
+abbrev pub sign_of : Trace → Sign
+sign_of Ins = Inserted
+sign_of Del = Deleted
+sign_of To = MovedTo
+sign_of From = MovedFrom
 
 abbrev pub is_run_change : Kind → Bool
 is_run_change (Change Run) = true
@@ -65,19 +43,23 @@ run_change no_nodes = None
 run_change (bytes b rest) = run_change rest
 run_change (element tag kids rest) = or_else (if is "rPr" tag then change_in kids else None) (run_change rest)
 
+-- the change of its properties, where an element is a run that has one
+abbrev pub own_change : Tag → Nodes → Option Stamp
+own_change tag kids = if is "r" tag then run_change kids else None
+
+abbrev pub format_mark : Option Stamp → Option Mark
+format_mark change = option_map (λ stamp. record { sign = Formatted; stamp = stamp }) change
+
+-- The mark that an element of this kind gives what it holds: content that was inserted, deleted or moved, and a run whose properties
+-- were changed, give one.
+abbrev pub own_mark : Kind → Tag → Nodes → Option Mark
+own_mark (Content trace) tag kids = Some (record { sign = sign_of trace; stamp = stamp_in tag.tail })
+own_mark _ tag kids = format_mark (own_change tag kids)
+
+abbrev pub with_own : Marks → Option Mark → Marks
+with_own marks None = marks
+with_own marks (Some mark) = with_mark marks mark
+
 -- the marks of what an element holds
 abbrev pub marks_inside : Marks → Tag → Nodes → Marks
-marks_inside marks tag kids = with_format (with_content marks tag.kind tag.tail) (if is "r" tag then run_change kids else None)
-
--- ---- equal marks
-
-abbrev pub same_stamp : Option Stamp → Option Stamp → Bool
-same_stamp None None = true
-same_stamp (Some a) (Some b) = bytes_eq a.author b.author && bytes_eq a.minute b.minute
-same_stamp _ _ = false
-
-abbrev pub same_marks : Marks → Marks → Bool
-same_marks a b =
-    same_stamp a.inserted b.inserted
-    && (same_stamp a.deleted b.deleted
-    && (same_stamp a.moved_to b.moved_to && (same_stamp a.moved_from b.moved_from && same_stamp a.formatted b.formatted)))
+marks_inside marks tag kids = with_own marks (own_mark tag.kind tag kids)

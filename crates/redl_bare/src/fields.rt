@@ -10,23 +10,22 @@ ghost use Rattle.redl_bare.specs.Inside.Views.{marks_view, line_view};
 ghost use Rattle.redl_bare.specs.Inside.Puts.{PutsUnits};
 
 use crate::escape::put_shown;
-use crate::line::begin;
-use crate::marks::Marks;
+use crate::line::{Line, begin};
 use redl_io::{Failed, Sink, put_piece};
+use redl_marks::Marks;
 use redl_reading::run;
 
 /// Puts the begin of a field with this code and these marks.
 pub(crate) fn put_field<'a, K: Sink>(
     code: &[u8],
-    marks: Marks<'a>,
-    line: Option<Marks<'a>>,
+    marks: &Marks<'a>,
+    line: &mut Line<'a>,
     out: &mut K,
-) -> Result<Option<Marks<'a>>, Failed>
-    ensures { PutsUnits K.told K.faults K.settled K.lenders out.old out.new (line_view line.entry) (in_marks (marks_view marks.entry) (field_texts code.now)) result }
+) -> Result<(), Failed>
+    ensures { PutsUnits K.told K.faults K.settled K.lenders out.old out.new (line_view line.old) (line_view line.new) (in_marks (marks_view marks.now) (field_texts code.now)) result }
 {
-    let now = begin(marks, line, out)?;
-    put_field_text(code, out)?;
-    Ok(now)
+    begin(marks, line, out)?;
+    put_field_text(code, out)
 }
 
 /// Puts the begin of a field with this code in the line that is open.

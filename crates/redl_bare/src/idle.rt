@@ -14,31 +14,30 @@ ghost use Rattle.redl_bare.specs.Inside.Puts.{PutsUnits};
 
 use crate::escape::{is_shown, put_shown};
 use crate::fields::put_field_text;
-use crate::line::begin;
-use crate::marks::Marks;
+use crate::line::{Line, begin};
 use crate::place::Place;
 use crate::starts::{end_body, start_body};
 use crate::values::value_in;
 use redl_idle::{Shows, show};
 use redl_io::{Failed, Sink, put_piece};
+use redl_marks::Marks;
 use redl_tree::Plain;
 
 /// Puts the texts of idle elements with these marks. It takes no memory.
 pub(crate) fn put_idle<'a, K: Sink>(
     plain: &Plain<'_>,
     place: Place,
-    marks: Marks<'a>,
-    line: Option<Marks<'a>>,
+    marks: &Marks<'a>,
+    line: &mut Line<'a>,
     out: &mut K,
-) -> Result<Option<Marks<'a>>, Failed>
-    ensures { PutsUnits K.told K.faults K.settled K.lenders out.old out.new (line_view line.entry) (units_in place (marks_view marks.entry) (idle_nodes plain.now)) result }
+) -> Result<(), Failed>
+    ensures { PutsUnits K.told K.faults K.settled K.lenders out.old out.new (line_view line.old) (line_view line.new) (units_in place (marks_view marks.now) (idle_nodes plain.now)) result }
 {
     if !shows_something(plain, place) {
-        return Ok(line);
+        return Ok(());
     }
-    let now = begin(marks, line, out)?;
-    show(plain, &place, out)?;
-    Ok(now)
+    begin(marks, line, out)?;
+    show(plain, &place, out)
 }
 
 impl<K: Sink> Shows<K> for Place {

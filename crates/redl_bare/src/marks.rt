@@ -1,34 +1,26 @@
-//! The marks of a unit: who changed it, and when.
+//! The marks of a unit: those round it that a document has.
 
-ghost use Rattle.std.specs.Prelude.{◌≡◌, None, take, if◌then◌else◌};
+ghost use Rattle.std.specs.Prelude.{◌≡◌, ◌<◌, take, IfSome};
+ghost use Rattle.arrayvec.specs.ArrayVec.{array_vec_len};
 ghost use Rattle.redl_tree.specs.Model.View.{nodes_of, item_of, tag_of, kids_of};
-ghost use Rattle.redl_tree.specs.Roles.Names.{is};
-ghost use Rattle.redl_bare.specs.Marks.{stamp_in, no_marks, with_trace, with_content, with_format, is_run_change, change_in, run_change, marks_inside, same_stamp, same_marks};
-ghost use Rattle.redl_bare.specs.Inside.Views.{stamp_view, slot_view, marks_view};
+ghost use Rattle.redl_bare.specs.Marks.{stamp_in, sign_of, own_change, format_mark, own_mark, is_run_change, change_in, run_change, marks_inside};
+ghost use Rattle.redl_bare.specs.Inside.Views.{stamp_view, slot_view, own_view, marks_view, without_at};
 ghost use Rattle.redl_bare.specs.Inside.Items.{item_change_in, item_change};
 
 use crate::values::value_in;
+use redl_marks::{Mark, Marks, Sign, Stamp};
 use redl_tree::{Elem, Kind, Node, Prop, Trace, Word, is_word};
 
 // The bytes of `YYYY-MM-DDThh:mm`.
 const MINUTE: usize = 16;
 
-/// Who made a change, and the minute when, as they are written.
-#[derive(Clone, Copy)]
-pub(crate) struct Stamp<'a> {
-    pub author: &'a [u8],
-    pub minute: &'a [u8],
-}
-
-impl<'a> Stamp<'a> {
-    /// The stamp in a tag's tail.
-    pub(crate) fn in_tail(tail: &'a [u8]) -> Stamp<'a>
-        ensures { stamp_view result ≡ stamp_in tail.now }
-    {
-        Stamp {
-            author: value_in(tail, b"author"),
-            minute: minute_of(value_in(tail, b"date")),
-        }
+/// The stamp in a tag's tail.
+pub(crate) fn stamp_in<'a>(tail: &'a [u8]) -> Stamp<'a>
+    ensures { stamp_view result ≡ stamp_in tail.now }
+{
+    Stamp {
+        author: value_in(tail, b"author"),
+        minute: minute_of(value_in(tail, b"date")),
     }
 }
 
@@ -41,107 +33,57 @@ fn minute_of(date: &[u8]) -> &[u8]
     &date[..MINUTE]
 }
 
-/// Who inserted a unit, deleted it, moved it to here or from here, and changed the properties of its run: the nearest of each.
-#[derive(Clone, Copy)]
-pub(crate) struct Marks<'a> {
-    pub inserted: Option<Stamp<'a>>,
-    pub deleted: Option<Stamp<'a>>,
-    pub moved_to: Option<Stamp<'a>>,
-    pub moved_from: Option<Stamp<'a>>,
-    pub formatted: Option<Stamp<'a>>,
-}
-
-impl<'a> Marks<'a> {
-    /// Those where nothing was changed.
-    pub(crate) fn none() -> Marks<'a>
-        ensures { marks_view result ≡ no_marks }
-    {
-        Marks {
-            inserted: None,
-            deleted: None,
-            moved_to: None,
-            moved_from: None,
-            formatted: None,
-        }
-    }
-
-    /// The marks of what an element with these marks holds.
-    pub(crate) fn inside(self, elem: &Elem<'a>) -> Marks<'a>
-        ensures { marks_view result ≡ marks_inside (marks_view self.entry) (tag_of elem.now) (kids_of elem.now) }
-    {
-        self.with_content(elem.kind(), elem.tail())
-            .with_format(own_change(elem))
-    }
-
-    fn with_content(self, kind: Kind, tail: &'a [u8]) -> Marks<'a>
-        ensures { marks_view result ≡ with_content (marks_view self.entry) kind tail.now }
-    {
-        match kind {
-            Kind::Content(trace) => self.with_trace(trace, Stamp::in_tail(tail)),
-            _ => self,
-        }
-    }
-
-    fn with_trace(self, trace: Trace, stamp: Stamp<'a>) -> Marks<'a>
-        ensures { marks_view result ≡ with_trace (marks_view self.entry) trace (stamp_view stamp.entry) }
-    {
-        match trace {
-            Trace::Ins => Marks {
-                inserted: Some(stamp),
-                ..self
-            },
-            Trace::Del => Marks {
-                deleted: Some(stamp),
-                ..self
-            },
-            Trace::To => Marks {
-                moved_to: Some(stamp),
-                ..self
-            },
-            Trace::From => Marks {
-                moved_from: Some(stamp),
-                ..self
-            },
-        }
-    }
-
-    fn with_format(self, change: Option<Stamp<'a>>) -> Marks<'a>
-        ensures { marks_view result ≡ with_format (marks_view self.entry) (slot_view change.entry) }
-    {
-        match change {
-            Some(stamp) => Marks {
-                formatted: Some(stamp),
-                ..self
-            },
-            None => self,
-        }
-    }
-
-    /// Whether both are the same.
-    pub(crate) fn same(self, other: Marks<'a>) -> bool
-        ensures { result ≡ same_marks (marks_view self.entry) (marks_view other.entry) }
-    {
-        same_stamp(self.inserted, other.inserted)
-            && same_stamp(self.deleted, other.deleted)
-            && same_stamp(self.moved_to, other.moved_to)
-            && same_stamp(self.moved_from, other.moved_from)
-            && same_stamp(self.formatted, other.formatted)
-    }
-}
-
-fn same_stamp(first: Option<Stamp<'_>>, second: Option<Stamp<'_>>) -> bool
-    ensures { result ≡ same_stamp (slot_view first.entry) (slot_view second.entry) }
+/// Makes marks those of what an element with these marks holds, and gives the place of the one that came to them, if one did.
+pub(crate) fn enter<'a>(marks: &mut Marks<'a>, elem: &Elem<'a>) -> Option<usize>
+    ensures marks { marks_view marks.new ≡ marks_inside (marks_view marks.old) (tag_of elem.now) (kids_of elem.now) }
+    ensures back { without_at result marks.new.list.items ≡ marks.old.list.items }
+    ensures within { IfSome result (λ at. at < array_vec_len marks.new.list) }
 {
-    match (first, second) {
-        (None, None) => true,
-        (Some(one), Some(other)) => one.author == other.author && one.minute == other.minute,
-        _ => false,
+    match own_mark(elem.kind(), elem) {
+        Some(mark) => marks.add(mark),
+        None => None,
+    }
+}
+
+// The mark that an element of this kind gives what it holds.
+fn own_mark<'a>(kind: Kind, elem: &Elem<'a>) -> Option<Mark<'a>>
+    ensures { own_view result ≡ own_mark kind (tag_of elem.now) (kids_of elem.now) }
+{
+    match kind {
+        Kind::Content(trace) => Some(Mark {
+            sign: sign_of(trace),
+            stamp: stamp_in(elem.tail()),
+        }),
+        _ => format_mark(elem),
+    }
+}
+
+fn sign_of(trace: Trace) -> Sign
+    ensures { result ≡ sign_of trace }
+{
+    match trace {
+        Trace::Ins => Sign::Inserted,
+        Trace::Del => Sign::Deleted,
+        Trace::To => Sign::MovedTo,
+        Trace::From => Sign::MovedFrom,
+    }
+}
+
+fn format_mark<'a>(elem: &Elem<'a>) -> Option<Mark<'a>>
+    ensures { own_view result ≡ format_mark (own_change (tag_of elem.now) (kids_of elem.now)) }
+{
+    match own_change(elem) {
+        Some(stamp) => Some(Mark {
+            sign: Sign::Formatted,
+            stamp,
+        }),
+        None => None,
     }
 }
 
 // The change of its properties, where an element is a run that has one.
 fn own_change<'a>(elem: &Elem<'a>) -> Option<Stamp<'a>>
-    ensures { slot_view result ≡ (if is "r" (tag_of elem.now) then run_change (kids_of elem.now) else None) }
+    ensures { slot_view result ≡ own_change (tag_of elem.now) (kids_of elem.now) }
 {
     if is_word(elem, Word::R) {
         return run_change(elem.kids());
@@ -184,7 +126,7 @@ fn node_change_in<'a>(node: &Node<'a>) -> Option<Stamp<'a>>
     ensures { slot_view result ≡ item_change_in (item_of node.now) }
 {
     match node {
-        Node::Elem(elem) if is_run_change(elem.kind()) => Some(Stamp::in_tail(elem.tail())),
+        Node::Elem(elem) if is_run_change(elem.kind()) => Some(stamp_in(elem.tail())),
         _ => None,
     }
 }

@@ -1,13 +1,13 @@
 //! Stamps and marks, as they are written.
 
-ghost use Rattle.std.specs.Prelude.{Some};
+ghost use Rattle.std.specs.Prelude.{◌≡◌, map};
 ghost use Rattle.redl_io.specs.Sink.{Puts};
-ghost use Rattle.redl_bare.specs.BareText.{stamp_text, mark_text, marks_text};
-ghost use Rattle.redl_bare.specs.Inside.Views.{stamp_view, slot_view, marks_view};
+ghost use Rattle.redl_bare.specs.BareText.{stamp_text, sign_name, mark_text, marks_text};
+ghost use Rattle.redl_bare.specs.Inside.Views.{stamp_view, mark_view, marks_view};
 
 use crate::escape::put_shown;
-use crate::marks::{Marks, Stamp};
 use redl_io::{Failed, Sink, put_piece};
+use redl_marks::{Mark, Marks, Sign, Stamp};
 
 /// Puts the author and the minute of a stamp, with a tab between them.
 pub(crate) fn put_stamp<K: Sink>(stamp: Stamp<'_>, out: &mut K) -> Result<(), Failed>
@@ -19,30 +19,38 @@ pub(crate) fn put_stamp<K: Sink>(stamp: Stamp<'_>, out: &mut K) -> Result<(), Fa
 }
 
 /// Puts marks.
-pub(crate) fn put_marks<K: Sink>(marks: Marks<'_>, out: &mut K) -> Result<(), Failed>
-    ensures { Puts K.told K.faults K.settled K.lenders out.old out.new (marks_text (marks_view marks.entry)) result }
+pub(crate) fn put_marks<K: Sink>(marks: &Marks<'_>, out: &mut K) -> Result<(), Failed>
+    ensures { Puts K.told K.faults K.settled K.lenders out.old out.new (marks_text (marks_view marks.now)) result }
 {
-    put_mark(b"ins", marks.inserted, out)?;
-    put_mark(b"del", marks.deleted, out)?;
-    put_mark(b"move-to", marks.moved_to, out)?;
-    put_mark(b"move-from", marks.moved_from, out)?;
-    put_mark(b"run-props", marks.formatted, out)
+    put_list(marks.list.as_slice(), out)
 }
 
-fn put_mark<K: Sink>(name: &[u8], slot: Option<Stamp<'_>>, out: &mut K) -> Result<(), Failed>
-    ensures { Puts K.told K.faults K.settled K.lenders out.old out.new (mark_text name.now (slot_view slot.entry)) result }
+fn put_list<K: Sink>(list: &[Mark<'_>], out: &mut K) -> Result<(), Failed>
+    ensures { Puts K.told K.faults K.settled K.lenders out.old out.new (marks_text (map mark_view list.now)) result }
 {
-    match slot {
-        Some(stamp) => put_stamped(name, stamp, out),
-        None => Ok(()),
+    for at in 0..list.len() {
+        put_mark(list[at], out)?;
     }
+    Ok(())
 }
 
-fn put_stamped<K: Sink>(name: &[u8], stamp: Stamp<'_>, out: &mut K) -> Result<(), Failed>
-    ensures { Puts K.told K.faults K.settled K.lenders out.old out.new (mark_text name.now (Some (stamp_view stamp.entry))) result }
+fn put_mark<K: Sink>(mark: Mark<'_>, out: &mut K) -> Result<(), Failed>
+    ensures { Puts K.told K.faults K.settled K.lenders out.old out.new (mark_text (mark_view mark.entry)) result }
 {
-    put_piece(name, out)?;
+    put_piece(sign_name(mark.sign), out)?;
     put_piece(b"\t", out)?;
-    put_stamp(stamp, out)?;
+    put_stamp(mark.stamp, out)?;
     put_piece(b"\t", out)
+}
+
+fn sign_name(sign: Sign) -> &'static [u8]
+    ensures { result.now ≡ sign_name sign }
+{
+    match sign {
+        Sign::Inserted => b"ins",
+        Sign::Deleted => b"del",
+        Sign::MovedTo => b"move-to",
+        Sign::MovedFrom => b"move-from",
+        Sign::Formatted => b"run-props",
+    }
 }

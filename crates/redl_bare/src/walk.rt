@@ -1,54 +1,56 @@
 //! The walk over the nodes of a story, which puts their units.
 
-ghost use Rattle.std.specs.Prelude.{◌≡◌, map, false};
+ghost use Rattle.std.specs.Prelude.{◌≡◌, map, false, OnOk};
 ghost use Rattle.redl_tree.specs.Model.View.{nodes_of, item_of, tag_of, kids_of};
 ghost use Rattle.redl_bare.specs.Units.{byte, in_marks, byte_texts, start_texts, short_texts, start_things, member_units, open_units, start_units, end_things, end_units, units_in};
 ghost use Rattle.redl_bare.specs.BareText.{texts_body};
 ghost use Rattle.redl_bare.specs.Inside.Escapes.{is_empty};
 ghost use Rattle.redl_shown.specs.Shown.{shown};
-ghost use Rattle.redl_bare.specs.Inside.Items.{element_units, item_units};
+ghost use Rattle.redl_bare.specs.Inside.Items.{held_units, element_units, item_units};
 ghost use Rattle.redl_bare.specs.Inside.Views.{marks_view, line_view};
 ghost use Rattle.redl_bare.specs.Inside.Puts.{PutsUnits};
 
 use crate::escape::{is_shown, put_shown};
 use crate::fields::put_field;
 use crate::idle::put_idle;
-use crate::line::{begin, put_member, put_story, put_texts, put_thing};
-use crate::marks::{Marks, Stamp};
+use crate::line::{Line, begin, put_member, put_story, put_texts, put_thing};
+use crate::marks::{enter, stamp_in};
 use crate::place::{Place, is_left_out};
 use crate::starts::{end_body, start_body};
 use crate::units::{Story, Thing, has_line};
 use crate::values::value_in;
 use redl_io::{Failed, Sink};
+use redl_marks::Marks;
 use redl_tree::{Elem, Node, Space, Word, is_named, is_word};
 
-/// Puts the units of nodes at this place and with these marks, and gives the line that is open then.
+/// Puts the units of nodes at this place and with these marks, which are the same again after them.
 #[cycle(units)]
 pub(crate) fn put_nodes<'a, K: Sink>(
     nodes: &[Node<'a>],
     place: Place,
-    marks: Marks<'a>,
-    line: Option<Marks<'a>>,
+    marks: &mut Marks<'a>,
+    line: &mut Line<'a>,
     out: &mut K,
-) -> Result<Option<Marks<'a>>, Failed>
-    ensures { PutsUnits K.told K.faults K.settled K.lenders out.old out.new (line_view line.entry) (units_in place (marks_view marks.entry) (nodes_of nodes.now)) result }
+) -> Result<(), Failed>
+    ensures puts { PutsUnits K.told K.faults K.settled K.lenders out.old out.new (line_view line.old) (line_view line.new) (units_in place (marks_view marks.old) (nodes_of nodes.now)) result }
+    ensures marks { OnOk result (marks.new ≡ marks.old) }
 {
-    let mut now = line;
     for node in nodes {
-        now = put_node(node, place, marks, now, out)?;
+        put_node(node, place, marks, line, out)?;
     }
-    Ok(now)
+    Ok(())
 }
 
 #[cycle(units)]
 fn put_node<'a, K: Sink>(
     node: &Node<'a>,
     place: Place,
-    marks: Marks<'a>,
-    line: Option<Marks<'a>>,
+    marks: &mut Marks<'a>,
+    line: &mut Line<'a>,
     out: &mut K,
-) -> Result<Option<Marks<'a>>, Failed>
-    ensures { PutsUnits K.told K.faults K.settled K.lenders out.old out.new (line_view line.entry) (item_units place (marks_view marks.entry) (item_of node.now)) result }
+) -> Result<(), Failed>
+    ensures puts { PutsUnits K.told K.faults K.settled K.lenders out.old out.new (line_view line.old) (line_view line.new) (item_units place (marks_view marks.old) (item_of node.now)) result }
+    ensures marks { OnOk result (marks.new ≡ marks.old) }
 {
     match node {
         Node::Elem(elem) => put_elem(elem, place, marks, line, out),
@@ -62,65 +64,77 @@ fn put_node<'a, K: Sink>(
 pub(crate) fn put_elem<'a, K: Sink>(
     elem: &Elem<'a>,
     place: Place,
-    marks: Marks<'a>,
-    line: Option<Marks<'a>>,
+    marks: &mut Marks<'a>,
+    line: &mut Line<'a>,
     out: &mut K,
-) -> Result<Option<Marks<'a>>, Failed>
-    ensures { PutsUnits K.told K.faults K.settled K.lenders out.old out.new (line_view line.entry) (element_units place (marks_view marks.entry) (tag_of elem.now) (kids_of elem.now)) result }
+) -> Result<(), Failed>
+    ensures puts { PutsUnits K.told K.faults K.settled K.lenders out.old out.new (line_view line.old) (line_view line.new) (element_units place (marks_view marks.old) (tag_of elem.now) (kids_of elem.now)) result }
+    ensures marks { OnOk result (marks.new ≡ marks.old) }
 {
-    let begun = put_start(elem, place, marks, line, out)?;
-    let walked = put_nodes(
-        elem.kids(),
-        place.inside(elem),
-        marks.inside(elem),
-        begun,
-        out,
-    )?;
-    put_end(elem, place, marks, walked, out)
+    put_start(elem, place, marks, line, out)?;
+    put_held(elem, place, marks, line, out)?;
+    put_end(elem, place, marks, line, out)
+}
+
+// Puts the units of what an element holds.
+#[cycle(units)]
+fn put_held<'a, K: Sink>(
+    elem: &Elem<'a>,
+    place: Place,
+    marks: &mut Marks<'a>,
+    line: &mut Line<'a>,
+    out: &mut K,
+) -> Result<(), Failed>
+    ensures puts { PutsUnits K.told K.faults K.settled K.lenders out.old out.new (line_view line.old) (line_view line.new) (held_units place (marks_view marks.old) (tag_of elem.now) (kids_of elem.now)) result }
+    ensures marks { OnOk result (marks.new ≡ marks.old) }
+{
+    let came = enter(marks, elem);
+    put_nodes(elem.kids(), place.inside(elem), marks, line, out)?;
+    marks.leave(came);
+    Ok(())
 }
 
 // Puts the texts of bytes.
 fn put_bytes<'a, K: Sink>(
     bytes: &[u8],
     place: Place,
-    marks: Marks<'a>,
-    line: Option<Marks<'a>>,
+    marks: &Marks<'a>,
+    line: &mut Line<'a>,
     out: &mut K,
-) -> Result<Option<Marks<'a>>, Failed>
-    ensures { PutsUnits K.told K.faults K.settled K.lenders out.old out.new (line_view line.entry) (in_marks (marks_view marks.entry) (byte_texts place bytes.now)) result }
+) -> Result<(), Failed>
+    ensures { PutsUnits K.told K.faults K.settled K.lenders out.old out.new (line_view line.old) (line_view line.new) (in_marks (marks_view marks.now) (byte_texts place bytes.now)) result }
 {
     match place {
         Place::InText if is_shown(bytes) => put_shown_bytes(bytes, marks, line, out),
-        _ => Ok(line),
+        _ => Ok(()),
     }
 }
 
 fn put_shown_bytes<'a, K: Sink>(
     bytes: &[u8],
-    marks: Marks<'a>,
-    line: Option<Marks<'a>>,
+    marks: &Marks<'a>,
+    line: &mut Line<'a>,
     out: &mut K,
-) -> Result<Option<Marks<'a>>, Failed>
+) -> Result<(), Failed>
     requires { is_empty (shown bytes.now) ≡ false }
-    ensures { PutsUnits K.told K.faults K.settled K.lenders out.old out.new (line_view line.entry) (in_marks (marks_view marks.entry) (map byte (shown bytes.now))) result }
+    ensures { PutsUnits K.told K.faults K.settled K.lenders out.old out.new (line_view line.old) (line_view line.new) (in_marks (marks_view marks.now) (map byte (shown bytes.now))) result }
 {
-    let now = begin(marks, line, out)?;
-    put_shown(bytes, out)?;
-    Ok(now)
+    begin(marks, line, out)?;
+    put_shown(bytes, out)
 }
 
 // Puts the units of an element before those that it holds.
 fn put_start<'a, K: Sink>(
     elem: &Elem<'a>,
     place: Place,
-    marks: Marks<'a>,
-    line: Option<Marks<'a>>,
+    marks: &Marks<'a>,
+    line: &mut Line<'a>,
     out: &mut K,
-) -> Result<Option<Marks<'a>>, Failed>
-    ensures { PutsUnits K.told K.faults K.settled K.lenders out.old out.new (line_view line.entry) (start_units place (marks_view marks.entry) (tag_of elem.now)) result }
+) -> Result<(), Failed>
+    ensures { PutsUnits K.told K.faults K.settled K.lenders out.old out.new (line_view line.old) (line_view line.new) (start_units place (marks_view marks.now) (tag_of elem.now)) result }
 {
     match place {
-        Place::Silent | Place::InCounted => Ok(line),
+        Place::Silent | Place::InCounted => Ok(()),
         Place::Quiet => put_own_member(elem, line, out),
         Place::InRun | Place::InText | Place::InField | Place::Open => {
             put_open_start(elem, marks, line, out)
@@ -128,38 +142,34 @@ fn put_start<'a, K: Sink>(
     }
 }
 
-fn put_own_member<'a, K: Sink>(
-    elem: &Elem<'_>,
-    line: Option<Marks<'a>>,
-    out: &mut K,
-) -> Result<Option<Marks<'a>>, Failed>
-    ensures { PutsUnits K.told K.faults K.settled K.lenders out.old out.new (line_view line.entry) (member_units (tag_of elem.now)) result }
+fn put_own_member<K: Sink>(elem: &Elem<'_>, line: &mut Line<'_>, out: &mut K) -> Result<(), Failed>
+    ensures { PutsUnits K.told K.faults K.settled K.lenders out.old out.new (line_view line.old) (line_view line.new) (member_units (tag_of elem.now)) result }
 {
     if has_line(elem.kind()) {
-        return put_member(elem.kind(), Stamp::in_tail(elem.tail()), line, out);
+        return put_member(elem.kind(), stamp_in(elem.tail()), line, out);
     }
-    Ok(line)
+    Ok(())
 }
 
 fn put_open_start<'a, K: Sink>(
     elem: &Elem<'a>,
-    marks: Marks<'a>,
-    line: Option<Marks<'a>>,
+    marks: &Marks<'a>,
+    line: &mut Line<'a>,
     out: &mut K,
-) -> Result<Option<Marks<'a>>, Failed>
-    ensures { PutsUnits K.told K.faults K.settled K.lenders out.old out.new (line_view line.entry) (open_units (marks_view marks.entry) (tag_of elem.now)) result }
+) -> Result<(), Failed>
+    ensures { PutsUnits K.told K.faults K.settled K.lenders out.old out.new (line_view line.old) (line_view line.new) (open_units (marks_view marks.now) (tag_of elem.now)) result }
 {
-    let now = put_start_texts(elem, marks, line, out)?;
-    put_things(elem, marks, now, out)
+    put_start_texts(elem, marks, line, out)?;
+    put_things(elem, marks, line, out)
 }
 
 fn put_start_texts<'a, K: Sink>(
     elem: &Elem<'a>,
-    marks: Marks<'a>,
-    line: Option<Marks<'a>>,
+    marks: &Marks<'a>,
+    line: &mut Line<'a>,
     out: &mut K,
-) -> Result<Option<Marks<'a>>, Failed>
-    ensures { PutsUnits K.told K.faults K.settled K.lenders out.old out.new (line_view line.entry) (in_marks (marks_view marks.entry) (start_texts (tag_of elem.now))) result }
+) -> Result<(), Failed>
+    ensures { PutsUnits K.told K.faults K.settled K.lenders out.old out.new (line_view line.old) (line_view line.new) (in_marks (marks_view marks.now) (start_texts (tag_of elem.now))) result }
 {
     if is_named(elem, b"fldSimple") {
         return put_field(value_in(elem.tail(), b"instr"), marks, line, out);
@@ -180,24 +190,24 @@ fn start_of(elem: &Elem) -> &'static [u8]
 // Puts the lines that an element begins.
 fn put_things<'a, K: Sink>(
     elem: &Elem<'a>,
-    marks: Marks<'a>,
-    line: Option<Marks<'a>>,
+    marks: &Marks<'a>,
+    line: &mut Line<'a>,
     out: &mut K,
-) -> Result<Option<Marks<'a>>, Failed>
-    ensures { PutsUnits K.told K.faults K.settled K.lenders out.old out.new (line_view line.entry) (start_things (marks_view marks.entry) (tag_of elem.now)) result }
+) -> Result<(), Failed>
+    ensures { PutsUnits K.told K.faults K.settled K.lenders out.old out.new (line_view line.old) (line_view line.new) (start_things (marks_view marks.now) (tag_of elem.now)) result }
 {
     if is_word(elem, Word::Tr) {
         put_thing(Thing::Row, marks, line, out)
     } else if is_word(elem, Word::Tc) {
         put_thing(Thing::Cell, marks, line, out)
     } else if is_left_out(elem) {
-        Ok(line)
+        Ok(())
     } else if is_word(elem, Word::Footnote) {
         put_story(Story::Footnote, line, out)
     } else if is_word(elem, Word::Endnote) {
         put_story(Story::Endnote, line, out)
     } else {
-        Ok(line)
+        Ok(())
     }
 }
 
@@ -205,27 +215,27 @@ fn put_things<'a, K: Sink>(
 fn put_end<'a, K: Sink>(
     elem: &Elem<'a>,
     place: Place,
-    marks: Marks<'a>,
-    line: Option<Marks<'a>>,
+    marks: &Marks<'a>,
+    line: &mut Line<'a>,
     out: &mut K,
-) -> Result<Option<Marks<'a>>, Failed>
-    ensures { PutsUnits K.told K.faults K.settled K.lenders out.old out.new (line_view line.entry) (end_units place (marks_view marks.entry) (tag_of elem.now)) result }
+) -> Result<(), Failed>
+    ensures { PutsUnits K.told K.faults K.settled K.lenders out.old out.new (line_view line.old) (line_view line.new) (end_units place (marks_view marks.now) (tag_of elem.now)) result }
 {
-    let now = put_texts(end_body(place.inside(elem)), marks, line, out)?;
-    put_end_things(elem, place, marks, now, out)
+    put_texts(end_body(place.inside(elem)), marks, line, out)?;
+    put_end_things(elem, place, marks, line, out)
 }
 
 fn put_end_things<'a, K: Sink>(
     elem: &Elem<'a>,
     place: Place,
-    marks: Marks<'a>,
-    line: Option<Marks<'a>>,
+    marks: &Marks<'a>,
+    line: &mut Line<'a>,
     out: &mut K,
-) -> Result<Option<Marks<'a>>, Failed>
-    ensures { PutsUnits K.told K.faults K.settled K.lenders out.old out.new (line_view line.entry) (end_things place (marks_view marks.entry) (tag_of elem.now)) result }
+) -> Result<(), Failed>
+    ensures { PutsUnits K.told K.faults K.settled K.lenders out.old out.new (line_view line.old) (line_view line.new) (end_things place (marks_view marks.now) (tag_of elem.now)) result }
 {
     if place.is_open() && is_word(elem, Word::P) {
         return put_thing(Thing::Paragraph, marks, line, out);
     }
-    Ok(line)
+    Ok(())
 }

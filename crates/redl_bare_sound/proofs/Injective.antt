@@ -1,9 +1,9 @@
 -- Two lists of units with the same text are the same units.
-use Rattle.std.proofs.Common.{◌≡◌, ℕ, List, [], ◌∷◌, ◌++◌, map, Bool, true, false, ◌&&◌, codes, bytes_eq, Option, Some, None, refl, sym, ap, ◌∙◌, append_assoc, if◌then◌else◌}
+use Rattle.std.proofs.Common.{◌≡◌, ℕ, List, [], ◌∷◌, ◌++◌, map, Bool, true, false, ◌&&◌, codes, bytes_eq, Option, Some, None, refl, sym, ap, ◌∙◌, append_assoc, eqb, if◌then◌else◌}
 use Rattle.std.specs.Option.{option_map}
-use Rattle.std.proofs.lemmas.Bool.{and_parts, eqb-false}
+use Rattle.std.proofs.lemmas.Bool.{and_parts, eqb-false, eqb-true}
 use Rattle.std.proofs.lemmas.Slice.Eq.{bytes_eq-Decides}
-use Rattle.redl_bare.specs.Marks.{Stamp, Marks, same_stamp, same_marks}
+use Rattle.redl_bare.specs.Marks.{Stamp, Mark, Marks, sign_place, same_mark, same_marks}
 use Rattle.redl_bare.specs.Units.{Text, BareUnit, text, thing, member, story}
 use Rattle.redl_bare.specs.BareText.{text_body, stamp_text, marks_text, thing_name, story_name, member_name, closing, lines, line_after_all, units_text}
 use Rattle.redl_bare.specs.declared.units.Thing.{Thing}
@@ -11,34 +11,27 @@ use Rattle.redl_bare.specs.declared.units.Story.{Story}
 use Rattle.redl_tree.specs.declared.kinds.Kind.{Kind}
 use Rattle.redl_bare_sound.specs.Said.{said_stamp, said_marks, said_unit, AreNamed}
 use Rattle.redl_bare_sound.proofs.Splits.{head_of, tail_of, text_split, text_no_line}
-use Rattle.redl_bare_sound.proofs.MarkSplits.{of_text, of_thing, marks_split, stamp_before_line, sort_of, sort_marks}
+use Rattle.redl_bare_sound.proofs.MarkSplits.{same_sign, of_text, of_thing, marks_split, stamp_before_line, sort_of, sort_marks}
 use Rattle.redl_bare_sound.proofs.Names.{thing_split, story_split, kind_split}
 
 -- ---- equal marks are one
 
-stamp_is : (s t : Option Stamp) → same_stamp s t ≡ true → s ≡ t
-stamp_is None None e = refl
-stamp_is None (Some t) e = absurd cc
-stamp_is (Some s) None e = absurd cc
-stamp_is (Some s) (Some t) e =
-    let parts = and_parts (bytes_eq s.author t.author) (bytes_eq s.minute t.minute) e in
-    ap (λ a. Some (record { author = a; minute = s.minute })) ((bytes_eq-Decides s.author t.author).0 parts.0)
-    ∙ ap (λ m. Some (record { author = t.author; minute = m })) ((bytes_eq-Decides s.minute t.minute).0 parts.1)
+mark_is : (m k : Mark) → same_mark m k ≡ true → m ≡ k
+mark_is m k e =
+    let outer = and_parts (eqb (sign_place m.sign) (sign_place k.sign)) (bytes_eq m.stamp.author k.stamp.author && bytes_eq m.stamp.minute k.stamp.minute) e in
+    let inner = and_parts (bytes_eq m.stamp.author k.stamp.author) (bytes_eq m.stamp.minute k.stamp.minute) outer.1 in
+    let sign : m.sign ≡ k.sign = same_sign m.sign k.sign (eqb-true (sign_place m.sign) (sign_place k.sign) outer.0) in
+    ap (λ s. record { sign = s; stamp = m.stamp }) sign
+    ∙ ap (λ a. record { sign = k.sign; stamp = record { author = a; minute = m.stamp.minute } }) ((bytes_eq-Decides m.stamp.author k.stamp.author).0 inner.0)
+    ∙ ap (λ n. record { sign = k.sign; stamp = record { author = k.stamp.author; minute = n } }) ((bytes_eq-Decides m.stamp.minute k.stamp.minute).0 inner.1)
 
 marks_are : (m k : Marks) → same_marks m k ≡ true → m ≡ k
-marks_are m k e =
-    let one = and_parts (same_stamp m.inserted k.inserted) (same_stamp m.deleted k.deleted && (same_stamp m.moved_to k.moved_to && (same_stamp m.moved_from k.moved_from && same_stamp m.formatted k.formatted))) e in
-    let two = and_parts (same_stamp m.deleted k.deleted) (same_stamp m.moved_to k.moved_to && (same_stamp m.moved_from k.moved_from && same_stamp m.formatted k.formatted)) one.1 in
-    let three = and_parts (same_stamp m.moved_to k.moved_to) (same_stamp m.moved_from k.moved_from && same_stamp m.formatted k.formatted) two.1 in
-    let four = and_parts (same_stamp m.moved_from k.moved_from) (same_stamp m.formatted k.formatted) three.1 in
-    all (stamp_is m.inserted k.inserted one.0) (stamp_is m.deleted k.deleted two.0) (stamp_is m.moved_to k.moved_to three.0) (stamp_is m.moved_from k.moved_from four.0) (stamp_is m.formatted k.formatted four.1)
-  where
-    all : m.inserted ≡ k.inserted → m.deleted ≡ k.deleted → m.moved_to ≡ k.moved_to → m.moved_from ≡ k.moved_from → m.formatted ≡ k.formatted → m ≡ k
-    all a b c d f =
-        ap (λ s. record m { inserted = s }) a ∙ ap (λ s. record m { inserted = k.inserted; deleted = s }) b
-        ∙ ap (λ s. record m { inserted = k.inserted; deleted = k.deleted; moved_to = s }) c
-        ∙ ap (λ s. record m { inserted = k.inserted; deleted = k.deleted; moved_to = k.moved_to; moved_from = s }) d
-        ∙ ap (λ s. record k { formatted = s }) f
+marks_are [] [] e = refl
+marks_are [] (b ∷ k) e = absurd cc
+marks_are (a ∷ m) [] e = absurd cc
+marks_are (a ∷ m) (b ∷ k) e =
+    let both = and_parts (same_mark a b) (same_marks m k) e in
+    ap (λ x. x ∷ m) (mark_is a b both.0) ∙ ap (λ l. b ∷ l) (marks_are m k both.1)
 
 -- ---- what follows a line that is open or none
 

@@ -1,24 +1,17 @@
 -- What a bare text says of a unit: its marks and stamps with their references read.
-use Rattle.std.specs.Prelude.{◌≡◌, List, [], ◌∷◌, Bool, true, Option}
-use Rattle.std.specs.Option.{option_map}
+use Rattle.std.specs.Prelude.{◌≡◌, List, [], ◌∷◌, map, Bool, true}
 use Rattle.redl_shown.specs.Shown.{shown}
-use Rattle.redl_bare.specs.Marks.{Stamp, Marks}
+use Rattle.redl_bare.specs.Marks.{Stamp, Mark, Marks}
 use Rattle.redl_bare.specs.Units.{BareUnit, text, thing, member, story, has_line}
 
 abbrev pub said_stamp : Stamp → Stamp
 said_stamp stamp = record { author = shown stamp.author; minute = shown stamp.minute }
 
-abbrev pub said_slot : Option Stamp → Option Stamp
-said_slot slot = option_map said_stamp slot
+abbrev pub said_mark : Mark → Mark
+said_mark mark = record { sign = mark.sign; stamp = said_stamp mark.stamp }
 
 abbrev pub said_marks : Marks → Marks
-said_marks marks = record {
-  inserted = said_slot marks.inserted;
-  deleted = said_slot marks.deleted;
-  moved_to = said_slot marks.moved_to;
-  moved_from = said_slot marks.moved_from;
-  formatted = said_slot marks.formatted;
-}
+said_marks marks = map said_mark marks
 
 abbrev pub said_unit : BareUnit → BareUnit
 said_unit (text marks t) = text (said_marks marks) t

@@ -1,25 +1,18 @@
--- The code's stamps and marks as plain data.
-use Rattle.std.specs.Prelude.{Option}
+-- The code's stamps, marks and lines as plain data.
+use Rattle.std.specs.Prelude.{Option, Some, None, if◌then◌else◌}
 use Rattle.std.specs.Option.{option_map}
-use Rattle.redl_bare.specs.Marks.{Stamp, Marks}
-use Rattle.redl_bare.specs.declared.marks.Stamp as code_stamp
-use Rattle.redl_bare.specs.declared.marks.Marks as code_marks
-
-abbrev pub stamp_view : code_stamp.Stamp → Stamp
-stamp_view stamp = record { author = stamp.author.now; minute = stamp.minute.now }
+use Rattle.redl_marks.specs.declared.mark.Stamp as code_stamp
+use Rattle.redl_marks.specs.declared.mark.Mark as code_mark
+pub use Rattle.redl_marks.specs.Views.{stamp_view, mark_view, marks_view, without_at}
+use Rattle.redl_bare.specs.Marks.{Stamp, Mark, Marks}
+use Rattle.redl_bare.specs.declared.line.Line as code_line
 
 abbrev pub slot_view : Option code_stamp.Stamp → Option Stamp
 slot_view slot = option_map stamp_view slot
 
-abbrev pub marks_view : code_marks.Marks → Marks
-marks_view marks = record {
-  inserted = slot_view marks.inserted;
-  deleted = slot_view marks.deleted;
-  moved_to = slot_view marks.moved_to;
-  moved_from = slot_view marks.moved_from;
-  formatted = slot_view marks.formatted;
-}
+abbrev pub own_view : Option code_mark.Mark → Option Mark
+own_view mark = option_map mark_view mark
 
 -- the line that is open, if one is
-abbrev pub line_view : Option code_marks.Marks → Option Marks
-line_view line = option_map marks_view line
+abbrev pub line_view : code_line.Line → Option Marks
+line_view line = if line.is_open then Some (marks_view line.marks) else None

@@ -1,4 +1,3 @@
-use Rattle.std.specs.Prelude.{None}
 use Rattle.std.specs.List.{flat_map}
 use Rattle.std.specs.Vec.Iter.{into_iter_items}
 use Rattle.redl_order.specs.Borrowed.{all_borrowed}
@@ -9,5 +8,5 @@ use Rattle.redl_bare.proofs.package.put_stories.Given as goal
 
 abbrev pub invariant-loop-root : goal.invariant-loop-root
 invariant-loop-root g l =
-    UnitsSoFar g.K.Sink.told g.K.Sink.faults g.K.Sink.settled g.K.Sink.lenders l.initial.out l.out None (flat_map story_units (all_borrowed l.fn.stories.items))
+    UnitsSoFar g.K.Sink.told g.K.Sink.faults g.K.Sink.settled g.K.Sink.lenders l.initial.out l.out (line_view l.initial.line) (flat_map story_units (all_borrowed l.fn.stories.items))
     (line_view l.line) (flat_map story_units (all_borrowed (into_iter_items l.root-iterator)))

@@ -12,7 +12,7 @@ pub returns-then-is_named : goal.returns-then-is_named
 returns-then-is_named g c =
     let tag = tag_of c.args.elem.now in
     let code = c.value_in.ensures ∙ ap (λ tail. value_in tail (codes "instr")) c.tail.ensures in
-    units_by (ap (in_marks (marks_view c.args.marks)) (start_field tag c.is_named.result c.value_in.result.now c.is_named.ensures c.if-is_named.true code))
+    units_by (ap (in_marks (marks_view c.args.marks.now)) (start_field tag c.is_named.result c.value_in.result.now c.is_named.ensures c.if-is_named.true code))
     c.put_field.ensures
 
 pub returns : goal.returns
