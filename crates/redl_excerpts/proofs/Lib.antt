@@ -2,4 +2,5 @@ pub mod MentionLaws
 pub mod FlatLaws
 pub mod TellLaws
 pub mod MemberLaws
+pub mod AroundLaws
 mod Rows

@@ -45,12 +45,12 @@ tells-then old mid new first second before after =
 
 -- ---- one excerpt alone
 
-slice_get-here : (xs : List Excerpt) (i : ℕ) (x : Excerpt) → i < length xs → slice_get (set xs i x) i ≡ Some x
+pub slice_get-here : (xs : List Excerpt) (i : ℕ) (x : Excerpt) → i < length xs → slice_get (set xs i x) i ≡ Some x
 slice_get-here [] i x within = absurd (omega (arith, within))
 slice_get-here (y ∷ xs) zero x within = refl
 slice_get-here (y ∷ xs) (suc i) x within = slice_get-here xs i x (omega (arith, within))
 
-slice_get-elsewhere : (xs : List Excerpt) (i k : ℕ) (x : Excerpt) → k ≢ i → slice_get (set xs i x) k ≡ slice_get xs k
+pub slice_get-elsewhere : (xs : List Excerpt) (i k : ℕ) (x : Excerpt) → k ≢ i → slice_get (set xs i x) k ≡ slice_get xs k
 slice_get-elsewhere [] i k x other = refl
 slice_get-elsewhere (y ∷ xs) zero zero x other = absurd (other refl)
 slice_get-elsewhere (y ∷ xs) zero (suc k) x other = refl

@@ -82,8 +82,8 @@ impl Excerpt {
         Ok(())
     }
 
-    // The first member tells its id, and what stands before it. `Err` means out of memory.
-    fn begin(
+    /// The first member tells its id, and what stands before it. `Err` means out of memory.
+    pub(crate) fn begin(
         &mut self,
         alloc: Global,
         elem: &Elem,

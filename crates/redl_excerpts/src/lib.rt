@@ -5,6 +5,7 @@
 //! How a listing shows them is left to the crates above.
 #![tactic(auto)]
 
+mod around;
 mod excerpt;
 mod flat;
 mod members;

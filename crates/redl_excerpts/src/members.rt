@@ -1,12 +1,13 @@
 //! The walk over the nodes of a story: each member tells the excerpt of its revision.
 
-ghost use Rattle.std.specs.Prelude.{◌≡◌, ◌<◌, IfOk, IfSome, IsSome, OnOk, false, true};
+ghost use Rattle.std.specs.Prelude.{◌≡◌, ◌<◌, ◌∷◌, [], IfOk, IfSome, IsSome, IsTrue, OnOk, false, length, true};
 ghost use Rattle.redl_tree.specs.Model.IdleTexts.{idle_nodes};
 ghost use Rattle.redl_tree.specs.Model.View.{nodes_of, item_of, tag_of, kids_of};
 ghost use Rattle.redl_excerpts.specs.Excerpts.{TellsEach, is_moved, told_all};
 ghost use Rattle.redl_phrases.specs.Lines.{along, line_of};
-ghost use Rattle.redl_excerpts.specs.Mentions.{bytes_said, element_mentions, in_paragraph, item_mentions, member_told, mentions, told_by};
+ghost use Rattle.redl_excerpts.specs.Mentions.{Where, bytes_said, element_mentions, in_paragraph, item_mentions, member_told, mentions, stretch_in, told_by};
 ghost use Rattle.redl_phrases.specs.Said.{element_said, holds_text, item_said, said, start_said};
+ghost use Rattle.redl_excerpts.specs.Inside.Around.{IsAround};
 ghost use Rattle.redl_excerpts.specs.Inside.Flat.{are_flat};
 ghost use Rattle.redl_excerpts.specs.Inside.Views.{where_of};
 
@@ -106,6 +107,10 @@ fn tell_member_elem(
     ensures told { OnOk result (TellsEach excerpts.old.items excerpts.new.items (λ v. element_mentions (is_moved revisions.now v) v (where_of here.entry place) (tag_of elem.now) (kids_of elem.now))) }
     ensures place { IfOk result (λ behind. behind ≡ along place (element_said true (tag_of elem.now) (kids_of elem.now))) }
 {
+    if stands_around(revisions, elem, place, excerpts.len())? {
+        let behind = tell_around(alloc, revisions, elem, here, place, excerpts)?;
+        return Ok(behind);
+    }
     let end = tell_member(alloc, revisions, elem, here, place, excerpts)?;
     if is_paragraph(elem) {
         tell_paragraph(alloc, revisions, elem, excerpts)?;
@@ -134,6 +139,66 @@ fn tell_member_elem(
     };
     let behind = tell_members(alloc, revisions, held, inside, begin, excerpts)?;
     Ok(behind)
+}
+
+// Whether an element is a member that tells of what it holds, among so many revisions, and other members or paragraphs stand inside
+// it. It says nothing at its start tag. `Err` means out of memory.
+fn stands_around(
+    revisions: &[Revision],
+    elem: &Elem,
+    place: Place,
+    count: usize,
+) -> Result<bool, AllocError>
+    ensures { IfOk result (λ around. IsTrue around → IsAround revisions.now (tag_of elem.now) (kids_of elem.now) place count) }
+{
+    let number = elem.rev() as usize;
+    if number == 0 || count < number || !tells_of_kids(is_moved(revisions, number), elem) {
+        return Ok(false);
+    }
+    if is_paragraph(elem) || is_quiet(elem) || holds_text(elem) || are_flat(elem.kids()) {
+        return Ok(false);
+    }
+    let begin = past_start(elem, place)?;
+    Ok(begin == place)
+}
+
+// Whether a member tells of what it holds.
+fn tells_of_kids(moved: bool, elem: &Elem) -> bool
+    ensures { IsTrue result → (here : Where) → told_by moved here (tag_of elem.now).kind (tag_of elem.now) (kids_of elem.now) ≡ stretch_in here.whole (tag_of elem.now) here.place (kids_of elem.now) ∷ [] }
+{
+    match elem.kind() {
+        Kind::Content(trace) => !(moved && trace == Trace::To),
+        _ => false,
+    }
+}
+
+// A member with others inside it tells: its words before they tell, and what stands behind it once its end is known. So what it
+// holds is not gone over for that.
+#[cycle(members)]
+fn tell_around(
+    alloc: Global,
+    revisions: &[Revision],
+    elem: &Elem,
+    here: Here<'_, '_>,
+    place: Place,
+    excerpts: &mut Vec<Excerpt>,
+) -> Result<Place, AllocError>
+    requires around { IsAround revisions.now (tag_of elem.now) (kids_of elem.now) place (length excerpts.old.items) }
+    ensures told { OnOk result (TellsEach excerpts.old.items excerpts.new.items (λ v. element_mentions (is_moved revisions.now v) v (where_of here.entry place) (tag_of elem.now) (kids_of elem.now))) }
+    ensures place { IfOk result (λ behind. behind ≡ along place (element_said true (tag_of elem.now) (kids_of elem.now))) }
+{
+    let at = elem.rev() as usize - 1;
+    let held = elem.kids();
+    let inside = Here {
+        in_text: false,
+        owner: held,
+        owner_place: place,
+        whole: here.whole,
+    };
+    let away = excerpts[at].begin_around(alloc, elem, here.whole, place)?;
+    let end = tell_members(alloc, revisions, held, inside, place, excerpts)?;
+    excerpts[at].end_around(alloc, here.whole, end, away)?;
+    Ok(end)
 }
 
 fn past_start(elem: &Elem, place: Place) -> Result<Place, AllocError>

@@ -1,17 +1,21 @@
 -- Each node tells after those before it.
-use Rattle.std.proofs.Common.{◌≤◌, ◌∙◌, ◌+◌, ◌++◌, ℕ, zero, suc, List, [], ◌∷◌, append-nil, drop, take, refl, sym, ap, arith, true}
+use Rattle.std.proofs.Common.{◌≡◌, ◌<◌, ◌≤◌, ◌∙◌, ◌+◌, ◌-◌, ◌++◌, ℕ, zero, suc, List, [], ◌∷◌, append-nil, drop, length, take, refl, sym, ap, subst, arith, false, true}
+use Rattle.std.proofs.Math.ListN.{set}
+use Rattle.std.proofs.lemmas.Option.{slice_get_read}
 use denote.Param.Weighed.{most}
 use Rattle.redl_tree.specs.Model.View.{item_of, kids_of, nodes_of, tag_of}
 use Rattle.redl_tree.specs.declared.node.Node.{Node, size-Node}
 use Rattle.redl_tree.proofs.Model.Laws.{nodes_here}
 use Rattle.redl_phrases.specs.Ears.{along-more}
-use Rattle.redl_excerpts.specs.Excerpts.{is_moved}
-use Rattle.redl_phrases.specs.Lines.{along}
-use Rattle.redl_excerpts.specs.Mentions.{Mention, element_mentions, inside, item_mentions, member_told, mentions}
+use Rattle.redl_excerpts.specs.Excerpts.{TellsEach, is_moved}
+use Rattle.redl_excerpts.specs.Inside.Around.{closed, first_of}
+use Rattle.redl_phrases.specs.Lines.{along, behind}
+use Rattle.redl_excerpts.specs.Mentions.{Mention, Where, element_mentions, inside, item_mentions, member_told, mentions, stretch_in}
 use Rattle.redl_phrases.specs.Said.{item_said, said}
 use Rattle.redl_excerpts.specs.Inside.Views.{where_of}
 use Rattle.redl_excerpts.proofs.FlatLaws.{flat_mentions}
-use Rattle.redl_excerpts.proofs.TellLaws.{tells-from_one}
+use Rattle.redl_excerpts.proofs.AroundLaws.{inside-around, member-around, tells-around, tells-keep}
+use Rattle.redl_excerpts.proofs.TellLaws.{tells-as, tells-from_one}
 use Rattle.redl_excerpts.proofs.MemberLaws.{mentions-in_front, tells-begins, tells-goes_on}
 use Rattle.redl_phrases.proofs.SaidLaws.{said-in_front}
 use Rattle.redl_excerpts.proofs.members.+members.Goals as goal
@@ -65,3 +69,44 @@ tell_paragraph-tell_members-requires t c =
     let fewer : most (λ node. size-Node node) (take c.count_telling-count.result c.kids-held.result.now) ≤ most (λ node. size-Node node) c.kids-held.result.now =
     most_take (λ node. size-Node node) c.kids-held.result.now c.count_telling-count.result in
     (omega (arith, fewer, c.kids-held.ensures.below, c.decreases), tt)
+
+pub tell_around-index_mut-requires-2 : goal.tell_around-index_mut-requires-2
+tell_around-index_mut-requires-2 t c =
+    let at : ℕ = c.rev.result - 1 in
+    let below = nodes_of c.kids-held.result.now in
+    let there : Where = record { in_text = false; owner = below; owner_place = c.args.place; place = c.args.place; whole = c.args.here.whole.now } in
+    let inner : ℕ → List Mention = λ v. mentions (is_moved c.args.revisions.now v) v there below in
+    let bound : at < length c.args.excerpts.now.items = omega (arith, c.rev.ensures, c.requires.around.numbered, c.requires.around.within) in
+    let kept : at < length c.tell_members.new.excerpts.items = tells-keep c.args.excerpts.now.items c.tell_members.new.excerpts.items at c.begin_around.new.self inner bound c.in_ok-end.ensures.told in
+    omega (arith, kept, c.tell_members.new.excerpts.ok.0)
+
+pub tell_around-returns-clause-told : goal.tell_around-returns-clause-told
+tell_around-returns-clause-told t c =
+    let old = c.args.excerpts.now.items in
+    let mid = c.tell_members.new.excerpts.items in
+    let tag = tag_of c.args.elem.now in
+    let kids = kids_of c.args.elem.now in
+    let below = nodes_of c.kids-held.result.now in
+    let here = where_of c.args.here c.args.place in
+    let around = c.requires.around in
+    let moved = λ (v : ℕ). is_moved c.args.revisions.now v in
+    let at : ℕ = c.rev.result - 1 in
+    let own : Mention = stretch_in here.whole tag here.place kids in
+    let there : Where = record { in_text = false; owner = below; owner_place = here.place; place = here.place; whole = here.whole } in
+    let first : ℕ → List Mention = λ v. member_told (moved v) v here tag kids in
+    let inner : ℕ → List Mention = λ v. mentions (moved v) v there below in
+    let bound : at < length old = omega (arith, c.rev.ensures, around.numbered, around.within) in
+    let number : suc at ≡ tag.rev = omega (arith, c.rev.ensures, around.numbered) in
+    let kept : at < length mid = tells-keep old mid at c.begin_around.new.self inner bound c.in_ok-end.ensures.told in
+    let found = slice_get_read old (length old) at c.index_mut.result.now refl bound c.index_mut.ensures.value in
+    let within = slice_get_read mid (length mid) at c.index_mut-2.result.now refl kept c.index_mut-2.ensures.value in
+    let opened_told = subst (λ x. TellsEach (set old at x) mid inner) c.in_ok-away.ensures.opened c.in_ok-end.ensures.told in
+    let end : c.in_ok-end.end ≡ along here.place (said true false kids) = c.in_ok-end.ensures.place ∙ ap (λ ns. along here.place (said true false ns)) c.kids-held.ensures.kids in
+    let is : c.end_around.new.self ≡ closed c.index_mut-2.result.now (first_of c.index_mut.result.now own) own.behind =
+    c.in_ok-end_around.ensures ∙ ap (λ a. closed c.index_mut-2.result.now a (behind here.whole c.in_ok-end.end)) c.in_ok-away.ensures.away
+    ∙ ap (λ p. closed c.index_mut-2.result.now (first_of c.index_mut.result.now own) (behind here.whole p)) end in
+    let inside_is = inside-around c.args.revisions.now (length old) here tag kids below around c.kids-held.ensures.kids in
+    tells-as old (set mid at c.end_around.new.self) (λ v. first v ++ inner v) (λ v. element_mentions (moved v) v here tag kids)
+    (λ v. ap (λ w. first v ++ mentions (moved v) v w below) inside_is ∙ ap (λ ns. first v ++ mentions (moved v) v (inside here tag kids) ns) c.kids-held.ensures.kids)
+    (tells-around old mid at c.index_mut.result.now c.index_mut-2.result.now c.end_around.new.self own first inner bound found opened_told within
+    (member-around c.args.revisions.now at (length old) here tag kids around number) is)

@@ -1,0 +1,54 @@
+-- An excerpt while members inside one of its own tell.
+use Rattle.std.specs.Prelude.{◌≡◌, ◌<◌, ◌≤◌, ◌∷◌, ℕ, true, false, List, [], None, if◌then◌else◌}
+use Rattle.redl_index.specs.declared.revision.Revision.{Revision}
+use Rattle.redl_tree.specs.Model.Nodes.{Nodes, Tag}
+use Rattle.redl_tree.specs.Roles.Names.{is}
+use Rattle.redl_tree.specs.Roles.Places.{is_quiet}
+use Rattle.redl_excerpts.specs.Excerpts.{is_moved}
+use Rattle.redl_excerpts.specs.Mentions.{Mention, Where, stretch_in, told_by}
+use Rattle.redl_excerpts.specs.declared.around.Away.{Away}
+use Rattle.redl_phrases.specs.Lines.{along}
+use Rattle.redl_phrases.specs.Said.{holds_text, start_said}
+use Rattle.redl_phrases.specs.declared.line.Place.{Place}
+use Rattle.redl_excerpts.specs.declared.excerpt.Excerpt.{Excerpt}
+use Rattle.redl_phrases.specs.Phrases.{heard}
+
+-- A member told these words. What the first member tells is put away, what stands behind it is not told so far, and `begun` says whether
+-- a member inside it told.
+abbrev pub opened : Excerpt → List ℕ → Excerpt
+opened excerpt words = record {
+  words = heard excerpt.words words;
+  id = None;
+  before = [];
+  behind = excerpt.behind;
+  begun = false;
+}
+
+-- what the first member tells, where this is told: what an earlier one told stays
+abbrev pub first_of : Excerpt → Mention → Away
+first_of excerpt mention = record {
+  id = if excerpt.begun then excerpt.id else mention.id;
+  before = if excerpt.begun then excerpt.before else mention.before;
+}
+
+-- The member ended, with this behind it, and what was put away is back. A member inside it that told stands later, so what stands
+-- behind that one stays.
+abbrev pub closed : Excerpt → Away → List ℕ → Excerpt
+closed excerpt away behind = record {
+  words = excerpt.words;
+  id = away.id;
+  before = away.before;
+  behind = if excerpt.begun then excerpt.behind else behind;
+  begun = true;
+}
+
+-- An element at this place is a member of one of so many revisions that tells of what it holds, and an element of run content: no
+-- paragraph, no properties and no text, and it says nothing at its start tag.
+pub record IsAround (revisions : List Revision) (tag : Tag) (kids : Nodes) (place : Place) (count : ℕ) : Type 0 where
+  pub numbered : 0 < tag.rev
+  pub within : tag.rev ≤ count
+  pub tells : (here : Where) → told_by (is_moved revisions tag.rev) here tag.kind tag kids ≡ stretch_in here.whole tag here.place kids ∷ []
+  pub no_paragraph : is "p" tag ≡ false
+  pub no_properties : is_quiet tag ≡ false
+  pub no_text : holds_text tag ≡ false
+  pub says_nothing : along place (start_said tag) ≡ place
