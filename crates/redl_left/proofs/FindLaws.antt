@@ -1,6 +1,6 @@
 -- What idle elements are found to be, which are kept as text, is what the walk over the text shows; and finds of nodes one after
 -- the other.
-use Rattle.std.proofs.Common.{◌≡◌, ◌∙◌, refl, sym, ap, ℕ, List, [], ◌∷◌, ◌++◌, append_assoc, append-nil, Bool, true, false, true≢false, Option, None, Some, ◌&&◌, if◌then◌else◌, codes, ◌<◌, ◌+◌, length, get_or, drop}
+use Rattle.std.proofs.Common.{◌≡◌, ◌∙◌, refl, sym, ap, ℕ, List, [], ◌∷◌, ◌++◌, append_assoc, append-nil, Bool, true, false, true≢false, Option, None, Some, ◌&&◌, if◌then◌else◌, codes, ◌<◌, ◌+◌, length, get_or, drop, map}
 use Rattle.std.proofs.lemmas.List.{drop_more}
 use Rattle.redl_tree.specs.Model.Nodes.{Tag, Nodes, no_nodes, bytes, element, ◌⊕◌}
 use Rattle.redl_tree.specs.Model.IdleTexts.{idle_nodes}
@@ -22,13 +22,17 @@ use Rattle.redl_left.specs.declared.row.Value.{Value}
 use Rattle.redl_left.specs.declared.row.Value.TheVariants.{Nothing, Attribute, Made, Shown, Held}
 use Rattle.redl_left.specs.declared.walk.Below.{Below}
 use Rattle.redl_left.specs.Finds.{Find, Table, asks, asks_place, asks_when, first_row, found, found_by, found_idle, found_names, found_plain, found_row, found_text, found_value, inner_shown, kind_in, shown_alone, part_of, is_part_name, value_of, value_or_nothing, finds}
-use Rattle.redl_left.specs.Search.{table_of}
+use Rattle.redl_left.specs.Named.{named_of}
+use Rattle.redl_left.specs.Search.{rows_at, table_of}
+use Rattle.redl_left.specs.declared.search.Search.{Search}
+use Rattle.redl_left.specs.declared.search.Search.TheVariants.{Naming, Asking}
+use Rattle.redl_left.specs.declared.rows.TheConstants.{NAMING, ROWS}
 use Rattle.redl_left.specs.declared.fact.Fact.{Fact}
 use Rattle.redl_left.specs.Encoded.{encoded, encoded-append, idle_rule}
 
 -- ---- of an element of W the parent and the kids do not matter
 
-is_space_w : (s : Space) → is_w s ≡ true → s ≡ spaces.W
+pub is_space_w : (s : Space) → is_w s ≡ true → s ≡ spaces.W
 is_space_w spaces.W h = refl
 is_space_w spaces.M h = absurd (true≢false (sym h))
 is_space_w spaces.Pkg h = absurd (true≢false (sym h))
@@ -59,11 +63,16 @@ kids_same : (part local tail : List ℕ) (kids : Nodes) (row : Option Row)
 kids_same part local tail kids None = refl
 kids_same part local tail kids (Some row) = ap (found_value part row) (value_same row.value local tail kids)
 
-plain_same : (table : Table) (part p local tail : List ℕ) (kids : Nodes)
-    → found_plain table part p spaces.W local tail kids ≡ found_plain table part [] spaces.W local tail no_nodes
-plain_same table part p local tail kids =
-    ap (found_row part spaces.W local tail kids) (row_same table.named table.rows p [] local tail)
-    ∙ kids_same part local tail kids (first_row table.named table.rows [] spaces.W local tail)
+plain_same : (search : Search) (part p local tail : List ℕ) (kids : Nodes)
+    → found_plain (table_of search) part p spaces.W local tail kids ≡ found_plain (table_of search) part [] spaces.W local tail no_nodes
+plain_same Naming part p local tail kids =
+    let none : Fact → List ℕ → Bool = λ fact value. false in
+    ap (found_row part spaces.W local tail kids) (row_same none NAMING p [] local tail)
+    ∙ kids_same part local tail kids (first_row none NAMING [] spaces.W local tail)
+plain_same (Asking by_length named) part p local tail kids =
+    let rows = rows_at (map (λ own. own.items) by_length.items) ROWS (length local) in
+    ap (found_row part spaces.W local tail kids) (row_same (named_of named) rows p [] local tail)
+    ∙ kids_same part local tail kids (first_row (named_of named) rows [] spaces.W local tail)
 
 -- the row that asks is the first one
 pub row_here : (named : Fact → List ℕ → Bool) (rows : List Row) (i : ℕ) (d : Row) (parent : List ℕ) (space : Space) (local tail : List ℕ) → i < length rows
@@ -78,7 +87,10 @@ plain_kind : (b : Bool) → (if b then kinds.Plain else kinds.Plain) ≡ kinds.P
 plain_kind true = refl
 plain_kind false = refl
 
-module _ (table : Table) (part parent : List ℕ) (in_run : Bool) (tag : Tag) (kids : Nodes) (i : Idle in_run tag) where
+module _ (search : Search) (part parent : List ℕ) (in_run : Bool) (tag : Tag) (kids : Nodes) (i : Idle in_run tag) where
+  abbrev table : Table
+  table = table_of search
+
   kind_idle : kind_in table tag.kind ≡ kinds.Plain
   kind_idle = ap (kind_in table) i.kind ∙ plain_kind table.by_kind
 
@@ -86,7 +98,7 @@ module _ (table : Table) (part parent : List ℕ) (in_run : Bool) (tag : Tag) (k
   found_so =
       ap (λ (k : Kind). found_by k table part parent tag.space tag.local tag.tail kids ++ found_names table part tag.tail) kind_idle
       ∙ ap (λ (s : Space). found_plain table part parent s tag.local tag.tail kids ++ found_names table part tag.tail) (is_space_w tag.space i.space)
-      ∙ ap (λ (f : List Find). f ++ found_names table part tag.tail) (plain_same table part parent tag.local tag.tail kids)
+      ∙ ap (λ (f : List Find). f ++ found_names table part tag.tail) (plain_same search part parent tag.local tag.tail kids)
 
   part_idle : part_of part tag ≡ part
   part_idle = ap (λ (s : Space). if is_part_name s tag.local then value_or_nothing (attribute_value tag.tail (codes "name")) else part) (is_space_w tag.space i.space)
@@ -110,8 +122,8 @@ shown_by below in_run parent (element tag kids rest) h =
     ∙ ap (λ (s : List ℕ). (encoded own ++ encoded (finds table part tag.local kids)) ++ s) later
     ∙ ap (λ (s : List ℕ). s ++ encoded (finds table part parent rest)) (sym (encoded-append own (finds table part tag.local kids)))
     ∙ sym (encoded-append (own ++ finds table part tag.local kids) (finds table part parent rest))
-    ∙ ap (λ (f : List Find). encoded ((f ++ finds table part tag.local kids) ++ finds table part parent rest)) (sym (found_so table part parent in_run tag kids p.own))
-    ∙ ap (λ (q : List ℕ). encoded ((found table q parent tag kids ++ finds table q tag.local kids) ++ finds table part parent rest)) (sym (part_idle table part parent in_run tag kids p.own))
+    ∙ ap (λ (f : List Find). encoded ((f ++ finds table part tag.local kids) ++ finds table part parent rest)) (sym (found_so below.search.now part parent in_run tag kids p.own))
+    ∙ ap (λ (q : List ℕ). encoded ((found table q parent tag kids ++ finds table q tag.local kids) ++ finds table part parent rest)) (sym (part_idle below.search.now part parent in_run tag kids p.own))
 
 -- the walk over a kept text shows what its nodes are found to be
 pub shown_idle : (below : Below) (parent t : List ℕ) → shows idle_rule below (idle_nodes t) ≡ encoded (finds (table_of below.search.now) below.part.now parent (idle_nodes t))

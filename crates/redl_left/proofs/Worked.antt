@@ -13,7 +13,7 @@ use Rattle.redl_left.specs.declared.row.When.TheVariants.{Always}
 use Rattle.redl_left.specs.declared.row.Value.TheVariants.{Nothing}
 use Rattle.redl_left.specs.declared.row.Row.{Row}
 use Rattle.redl_left.specs.declared.line.Line.{Line}
-use Rattle.redl_left.specs.Finds.{Find, Table, finds, found}
+use Rattle.redl_left.specs.Finds.{Find, Table, rows_table, finds, found}
 use Rattle.redl_left.specs.Lines.{noted}
 
 part : List ℕ
@@ -26,7 +26,7 @@ line : List ℕ → ℕ → Line
 line value count = record { fact = CommentMark; part = part; value = value; count = count }
 
 table : List Row → Table
-table rows = record { rows = rows; by_kind = true; named = λ fact value. false }
+table rows = rows_table rows true (λ fact value. false)
 
 rows : List Row
 rows = record { fact = CommentMark; place = Word names.CommentReference; when = Always; value = Nothing } ∷ []

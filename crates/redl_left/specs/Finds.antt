@@ -38,12 +38,6 @@ pub record Find : Type 0 where
   pub part : List ℕ
   pub value : List ℕ
 
--- what is asked of elements: rows, whether the members of revisions are found by their kind, and which values elements name for a fact
-pub record Table : Type 0 where
-  pub rows : List Row
-  pub by_kind : Bool
-  pub named : Fact → List ℕ → Bool
-
 -- ---- which elements a row asks for
 
 -- a namespace that is not known here
@@ -104,6 +98,17 @@ asks named parent space local tail row = asks_place row.place parent space local
 -- the first row that asks for the element
 abbrev pub first_row : (Fact → List ℕ → Bool) → List Row → List ℕ → Space → List ℕ → List ℕ → Option Row
 first_row named rows parent space local tail = find (asks named parent space local tail) rows
+
+-- What is asked of elements: which row asks first, by the local name of the parent, the namespace, the local name and the tail; whether
+-- the members of revisions are found by their kind; and which values elements name for a fact.
+pub record Table : Type 0 where
+  pub first : List ℕ → Space → List ℕ → List ℕ → Option Row
+  pub by_kind : Bool
+  pub named : Fact → List ℕ → Bool
+
+-- the first of these rows that asks
+abbrev pub rows_table : List Row → Bool → (Fact → List ℕ → Bool) → Table
+rows_table rows by_kind named = record { first = first_row named rows; by_kind = by_kind; named = named }
 
 -- ---- what is told of an element
 
@@ -200,7 +205,7 @@ found_row part space local tail kids None = []
 found_row part space local tail kids (Some row) = found_value part row (value_of row.value space local tail kids)
 
 abbrev pub found_plain : Table → List ℕ → List ℕ → Space → List ℕ → List ℕ → Nodes → List Find
-found_plain table part parent space local tail kids = found_row part space local tail kids (first_row table.named table.rows parent space local tail)
+found_plain table part parent space local tail kids = found_row part space local tail kids (table.first parent space local tail)
 
 -- an element in this part, in a parent with this local name
 abbrev pub found_by : Kind → Table → List ℕ → List ℕ → Space → List ℕ → List ℕ → Nodes → List Find

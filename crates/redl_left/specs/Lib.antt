@@ -3,6 +3,7 @@ pub mod Names
 pub mod Named
 pub mod Finds
 pub mod Lines
+pub mod Naming
 pub mod Search
 pub mod Encoded
 pub mod Seen

@@ -4,7 +4,7 @@ use Rattle.std.specs.Prelude.{List, [], ◌∷◌, ◌++◌, ◌+◌, ◌-◌, �
 use Rattle.redl_tree.specs.Model.Nodes.{Nodes}
 use Rattle.redl_left.specs.Facts.{fact_number}
 use Rattle.redl_left.specs.Named.{named_in}
-use Rattle.redl_left.specs.Finds.{Find, Table, finds}
+use Rattle.redl_left.specs.Finds.{Find, Table, finds, rows_table}
 use Rattle.redl_left.specs.declared.fact.TheConstants.{FACTS}
 use Rattle.redl_left.specs.declared.line.Line.{Line}
 use Rattle.redl_left.specs.declared.rows.TheConstants.{NAMING, ROWS}
@@ -59,14 +59,14 @@ all_lines (lines ∷ tables) = lines ++ all_lines tables
 
 -- what elements name: ids of comments and of notes, and authors
 abbrev pub naming : Table
-naming = record { rows = NAMING; by_kind = false; named = λ fact value. false }
+naming = rows_table NAMING false (λ fact value. false)
 
 abbrev pub naming_tables : Nodes → List (List Line)
 naming_tables nodes = tables_of_nodes naming nodes
 
 -- what is asked of the elements of a package
 abbrev pub asking : Nodes → Table
-asking nodes = record { rows = ROWS; by_kind = true; named = named_in (naming_tables nodes) }
+asking nodes = rows_table ROWS true (named_in (naming_tables nodes))
 
 -- the lines of a package
 unfoldable pub left_lines : Nodes → List Line

@@ -8,7 +8,6 @@ ghost use Rattle.redl_left.specs.Seen.{tables_of};
 
 use crate::line::Line;
 use crate::named::Named;
-use crate::rows::{NAMING, ROWS};
 use crate::search::Search;
 use crate::seen::Seen;
 use crate::walk::{Below, look_nodes};
@@ -21,11 +20,7 @@ pub fn lines(alloc: Global, nodes: &[Node]) -> Result<Vec<Line>, AllocError>
 {
     let naming = see_naming(alloc, nodes)?;
     let named = Named::of(alloc, &naming.tables)?;
-    let search = Search {
-        rows: &ROWS,
-        by_kind: true,
-        named,
-    };
+    let search = Search::asking(alloc, named)?;
     let seen = see(alloc, &search, nodes)?;
     seen.into_lines()
 }
@@ -34,12 +29,7 @@ pub fn lines(alloc: Global, nodes: &[Node]) -> Result<Vec<Line>, AllocError>
 fn see_naming(alloc: Global, nodes: &[Node]) -> Result<Seen, AllocError>
     ensures { IfOk result (λ seen. tables_of seen ≡ naming_tables (nodes_of nodes.now)) }
 {
-    let search = Search {
-        rows: &NAMING,
-        by_kind: false,
-        named: Named::none(alloc),
-    };
-    see(alloc, &search, nodes)
+    see(alloc, &Search::Naming, nodes)
 }
 
 // What all elements are found to be. `Err` means out of memory.

@@ -20,7 +20,7 @@ use std::alloc::AllocError;
 fn is_author(search: &Search<'_>, text: &[u8]) -> bool
     ensures { result ≡ is_author (table_of search.now) text.now }
 {
-    !text.is_empty() && search.named.has(Fact::Name, text)
+    !text.is_empty() && search.has(Fact::Name, text)
 }
 
 // Notes a text if it is the name of an author. `Err` means out of memory.
@@ -77,7 +77,7 @@ pub(crate) fn note_text(
 ) -> Result<(), AllocError>
     ensures { OnOk result (tables_of seen.new ≡ noted_all (tables_of seen.old) (found_text (table_of search.now) part.now bytes.now)) }
 {
-    if search.named.is_empty() {
+    if search.names_nothing() {
         return Ok(());
     }
     note_shown(search, part, bytes, seen)
@@ -140,7 +140,7 @@ pub(crate) fn note_names(
 ) -> Result<(), AllocError>
     ensures { OnOk result (tables_of seen.new ≡ noted_all (tables_of seen.old) (found_names (table_of search.now) part.now tail.now)) }
 {
-    if search.named.is_empty() {
+    if search.names_nothing() {
         return Ok(());
     }
     note_among(search, part, tail, seen)

@@ -9,7 +9,7 @@ ghost use Rattle.redl_left.specs.Lines.{noted_all};
 ghost use Rattle.redl_left.specs.Search.{table_of};
 ghost use Rattle.redl_left.specs.Seen.{tables_of};
 
-use crate::find::{Asked, first_row, is_part_name, member_fact};
+use crate::find::{Asked, is_part_name, member_fact};
 use crate::names_told::{note_names, note_text};
 use crate::row::{Row, Value};
 use crate::search::Search;
@@ -56,7 +56,7 @@ fn note_plain(
         ≡ noted_all (tables_of seen.old) (found_plain (table_of below.entry.search.now) below.entry.part.now asked.now.parent.now asked.now.space asked.now.local.now asked.now.tail.now (nodes_of kids.now))) }
 {
     let alloc = seen.alloc;
-    match first_row(alloc, &below.search.named, below.search.rows, asked)? {
+    match below.search.first(alloc, asked)? {
         Some(row) => {
             let value = value_of(alloc, &row.value, asked, kids)?;
             note_value(below.part, row, value.as_bytes(), seen)
@@ -69,7 +69,7 @@ fn note_plain(
 fn kind_in(search: &Search<'_>, kind: Kind) -> Kind
     ensures { result ≡ kind_in (table_of search.now) kind }
 {
-    if search.by_kind { kind } else { Kind::Plain }
+    if search.by_kind() { kind } else { Kind::Plain }
 }
 
 // Notes what an element is by its kind, or by the rows, in a parent with this local name. `Err` means out of memory.
@@ -170,6 +170,9 @@ fn look_plain(
 ) -> Result<(), AllocError>
     ensures { (parent : List ℕ) → OnOk result (tables_of seen.new ≡ noted_all (tables_of seen.old) (finds (table_of below.entry.search.now) below.entry.part.now parent (idle_nodes plain.now))) }
 {
+    if below.search.passes(plain.text()) {
+        return Ok(());
+    }
     show(plain, &below, seen)
 }
 

@@ -7,7 +7,7 @@ use Rattle.redl_left.specs.declared.fact.Fact.TheVariants.{Name}
 use Rattle.redl_left.proofs.NameLaws.{none_told}
 use Rattle.redl_left.proofs.names_told.note_text.Goals as goal
 
-pub returns-then-is_empty : goal.returns-then-is_empty
-returns-then-is_empty c =
+pub returns-then-names_nothing : goal.returns-then-names_nothing
+returns-then-names_nothing c =
     ap (λ (found : List Find). noted_all (tables_of c.args.seen.now) found)
-    (sym (none_told (table_of c.args.search.now) (λ value. c.if-is_empty.ensures refl Name value) c.args.part.now c.args.bytes.now))
+    (sym (none_told (table_of c.args.search.now) (λ value. c.if-names_nothing.ensures refl Name value) c.args.part.now c.args.bytes.now))
