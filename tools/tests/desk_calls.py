@@ -167,7 +167,7 @@ def used_by(words, folder):
 
 def compare_speed(pair, count):
     """The least of some calls each: what they take in both programs. Where a call takes more than 2.5 times, that differs."""
-    for size, made in ((5_000_000, make.reviewed_package), (20_000_000, make.reviewed_package), (60_000_000, make.package)):
+    for size, made in ((5_000_000, make.reviewed_package), (20_000_000, make.reviewed_package), (5_000_000, make.package), (60_000_000, make.package)):
         pair.put(P=made(size).encode())
         for line in ("check P", "write P", "settle accept P", "list P", "page P"):
             words = line.split()

@@ -41,6 +41,8 @@ function heldOf(memory) {
 function answer({ folder, words, pages }) {
   process.chdir(folder);
   const [out, lines] = [new Gathered(), new Gathered()];
+  // (the memory of the call before goes first, so that this one's is known by its size)
+  last = undefined;
   globalThis.gc?.();
   const begin = process.cpuUsage();
   try {
