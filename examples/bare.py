@@ -38,7 +38,9 @@ def stamp(element):
 
 
 def mark(kind, element):
-    return (MARKS.index(kind),) + stamp(element)
+    """A mark, which has its place by what was done and by the bytes that are written, before its author and minute as they read."""
+    author, date = (element.written_value(name) or "" for name in ("author", "date"))
+    return (MARKS.index(kind), author.encode(), date.encode()[:16]) + stamp(element)
 
 
 class Writer:
@@ -55,17 +57,16 @@ class Writer:
         """Units of text, under the marks of what is round them."""
         if not text:
             return
-        marks = fields(round_it)
-        if marks == self.marks:
+        if round_it == self.marks:
             self.lines[-1] += text
         else:
-            self.lines.append(marks + "|" + text)
-        self.marks = marks
+            self.lines.append(fields(round_it) + "|" + text)
+        self.marks = round_it
 
 
 def fields(round_it):
-    """The marks round a unit, in order of kind, author and minute."""
-    return "".join("%s\t%s\t%s\t" % (MARKS[place], escaped(author), escaped(minute)) for place, author, minute in sorted(round_it))
+    """The marks round a unit, in their order."""
+    return "".join("%s\t%s\t%s\t" % (MARKS[one[0]], escaped(one[3]), escaped(one[4])) for one in sorted(round_it))
 
 
 def run_change(run):
